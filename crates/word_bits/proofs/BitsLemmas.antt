@@ -1,10 +1,10 @@
 -- Lemmas on the set of a word's bits.
-use Rattle.std.proofs.Common.{◌≡◌, ℕ, zero, suc, ◌+◌, ◌-◌, ◌*◌, ◌/◌, ◌%◌, ◌^◌, ◌<◌, ◌≤◌, min, max, Bool, true, false, not, ◌&&◌, ◌||◌, List, [], ◌∷◌, length, nat_eq, bit_and, bit_or, sym, ◌∙◌, refl, ap, subst, ⊎_elim, if◌then◌else◌, arith}
+use Rattle.std.proofs.Common.{◌≡◌, ℕ, zero, suc, ◌+◌, ◌-◌, ◌*◌, ◌/◌, ◌%◌, ◌^◌, ◌<◌, ◌≤◌, min, max, Bool, true, false, not, ◌&&◌, ◌||◌, List, [], ◌∷◌, length, nat_eq, bit_and, bit_or, sym, ◌∙◌, refl, ap, subst, ⊎_elim, ne_eqb, if◌then◌else◌, arith}
 use Rattle.std.specs.Int.{w32, bit_at, bit_not, trailing_zeros, leading_zeros}
 use Rattle.std.proofs.lemmas.Bool.{cases_eq, cases_lt}
-use Rattle.std.proofs.lemmas.Nat.{one_shl, leading_top}
+use Rattle.std.proofs.lemmas.Nat.{pow_pos, one_shl, leading_top}
 use Rattle.std.proofs.Math.Nat.{pow-suc}
-use Rattle.std.proofs.lemmas.Nat.Bits.{bit_at-lt, bit_at_lowest, bit_at-suc, bit_at-zero, bit_at_above, bit_at_cat_high, bit_at-trailing_zeros, bit_at_and, bit_at_or, bit_at_not, bit_at-pow_same, bit_at-pow_other, bit_at_ones, bit_at_ones_above, bit_at_set_same, bit_at_set_other, bit_at_clear_same, bit_at_clear_other, same_from_bits_below, shr_and_one}
+use Rattle.std.proofs.lemmas.Nat.Bits.{bit_at-lt, bit_at_lowest, bit_at-suc, bit_at-zero, bit_at_above, bit_at_cat_high, bit_at-trailing_zeros, bit_at_and, bit_at_or, bit_at_not, bit_at-pow_same, bit_at-pow_other, bit_at_ones, bit_at_ones_above, bit_at_set_same, bit_at_set_other, bit_at_clear_same, bit_at_clear_other, same_from_bits_below, shr_and_one, and_pow}
 use Rattle.word_bits.specs.Places.{bits, word_of, has_place, no_places, all_places, with_place, without_place, union, intersection, minus, only_below, IsLowest, IsHighest}
 use Rattle.word_bits.proofs.PlacesLemmas.{length-places, length-no_places, length-all_places, length-with_place, length-without_place, length-union, length-intersection, length-minus, length-only_below, has_place_past, has_place-places, has_place-no_places, has_place-all_places, has_place-with_same, has_place-with_other, has_place-without_same, has_place-without_other, has_place-union, has_place-intersection, has_place-minus, has_place-only_below, has_place-only_below_past, same_sets, and_true, and_false}
 
@@ -132,6 +132,17 @@ bits_one t b = ap bits (one_shl t 32 b) ∙ bits_pow t b
 -- `(w >> t) & 1 == 1`
 pub test_shifted : (w t : ℕ) → t < 32 → nat_eq (bit_and (w / 2 ^ t) 1) 1 ≡ has_place (bits w) t
 test_shifted w t b = ap (λ x. nat_eq x 1) (shr_and_one w t) ∙ sym (has_place-bits w t b)
+
+masked_bit : (x n : ℕ) → x < 2 → 0 < n → not (nat_eq (x * n) 0) ≡ nat_eq x 1
+masked_bit zero n p q = let e : 0 * n ≡ 0 = omega arith in ap (λ y. not (nat_eq y 0)) e
+masked_bit (suc zero) n p q = ap not (ne_eqb (1 * n) 0 (λ e. absurd (omega arith)))
+masked_bit (suc (suc x)) n p q = absurd (omega arith)
+
+-- `w & (1 << t) != 0`
+pub test_masked : (w t : ℕ) → t < 32 → not (nat_eq (bit_and w (1 * 2 ^ t % 2 ^ 32)) 0) ≡ has_place (bits w) t
+test_masked w t b =
+    ap (λ x. not (nat_eq (bit_and w x) 0)) (one_shl t 32 b) ∙ ap (λ x. not (nat_eq x 0)) (and_pow w t)
+    ∙ masked_bit (bit_at w t) (2 ^ t) (bit_at-lt w t) (pow_pos t) ∙ sym (has_place-bits w t b)
 
 -- `w & ((1 << d) - 1)`
 pub bits_below : (w d : ℕ) → d ≤ 32 → bits (bit_and w (2 ^ d - 1)) ≡ only_below d (bits w)
