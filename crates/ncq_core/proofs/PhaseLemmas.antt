@@ -1,0 +1,76 @@
+-- Phases, requests and answers of lawful journals, by induction on the journal.
+use Rattle.std.proofs.Common.{◌≡◌, ◌≢◌, ℕ, ◌+◌, ◌-◌, ◌<◌, ◌≤◌, Bool, true, false, cond, ◌==◌, List, [], ◌∷◌, ◌++◌, length, take, drop, ap, sym, refl, subst, ◌∙◌, Option, None, Some, is_some, IsSome, IsSomeAnd, arith, inl, inr, suc, zero}
+use Rattle.std.specs.Option.{option_or}
+use Rattle.std.proofs.lemmas.Bool.{cond_both, eqb-true, eqb-false, cases_lt, cond-true, eq-eqb, false≢true}
+use Rattle.ncq_core.specs.declared.phase.Phase.{Phase}
+use Rattle.ncq_core.specs.declared.phase.Phase.TheVariants.{Free, Issued, Accepted, Rejected, Broken, Held, Done}
+use Rattle.ncq_core.specs.Answer.{Answer, answer, given, completes}
+use Rattle.ncq_core.specs.Entry.{Entry, Issue, Accept, Complete, Fail, Recover, Reissue, Collect, Unqueued}
+use Rattle.ncq_core.specs.History.{entry_at, first_of}
+use Rattle.ncq_core.specs.Lawful.{IsAllowed, IsLawful, Fails}
+use Rattle.ncq_core.specs.Laws.{is_answered, OwnedHasRequest}
+use Rattle.ncq_core.specs.Phase.{phase, phase_after, failed, recovered, is_failed}
+use Rattle.ncq_core.specs.Request.{Request, request}
+use Rattle.ncq_core.specs.Work.{Work}
+
+-- a choice by two tags
+pub cond_at : {X : Type 0} (t tag : ℕ) (x y : X) (P : X → Type 0) → (t ≡ tag → P x) → (t ≢ tag → P y) → P (cond (t == tag) x y)
+cond_at t tag x y P same other = cond_both (t == tag) x y P (λ e. same (eqb-true t tag e)) (λ e. other (eqb-false t tag e))
+
+-- what holds of the phase of one tag holds of the other's, where they are one tag
+moved : (past : List Entry) (t tag : ℕ) (p : Phase) → t ≡ tag → phase past t ≡ p → phase past tag ≡ p
+moved past t tag p same h = subst (λ u. phase past u ≡ p) same h
+
+-- a step that leaves a free tag free, where the entry's own tag is not free
+stays_free : (past : List Entry) (t tag : ℕ) (p q : Phase) → phase past tag ≡ Free → phase past t ≡ p → p ≢ Free → cond (t == tag) q (phase past tag) ≡ Free
+stays_free past t tag p q free own taken =
+    cond_at t tag q (phase past tag) (λ x. x ≡ Free) (λ same. absurd (taken (sym (moved past t tag p same own) ∙ free))) (λ _. free)
+
+-- a command that fails had been issued
+pub fails_not_free : (s : ℕ) (o : Option Request) (p : Phase) (error lba : ℕ) → IsSomeAnd o (λ r. Fails s p r.work error lba) → p ≢ Free
+fails_not_free s None p error lba h = absurd h
+fails_not_free s (Some r) p error lba h = λ free. subst (λ q. Fails s q r.work error lba) free h
+
+recovered_not_free : (p : Phase) → is_failed p ≡ true → p ≢ Free
+recovered_not_free p failed = λ free. false≢true (sym (ap is_failed free) ∙ failed)
+
+-- a tag at or above the depth is free
+pub free_past_depth : (s d : ℕ) (past : List Entry) (tag : ℕ) → IsLawful s d past → d ≤ tag → phase past tag ≡ Free
+free_past_depth s d [] tag h l = refl
+free_past_depth s d (Issue t work ∷ past) tag h l =
+    cond_at t tag Issued (phase past tag) (λ p. p ≡ Free) (λ same. absurd (let below : t < d = h.1.0 in omega arith)) (λ _. free_past_depth s d past tag h.0 l)
+free_past_depth s d (Accept t ∷ past) tag h l = stays_free past t tag Issued Accepted (free_past_depth s d past tag h.0 l) h.1.0 (λ e. absurd (cc))
+free_past_depth s d (Complete t ∷ past) tag h l = stays_free past t tag Accepted Done (free_past_depth s d past tag h.0 l) h.1.0 (λ e. absurd (cc))
+free_past_depth s d (Fail t error lba ∷ past) tag h l =
+    let free = free_past_depth s d past tag h.0 l in
+    stays_free past t tag (phase past t) (failed (phase past tag)) free refl (fails_not_free s (request past t) (phase past t) error lba h.1.1)
+free_past_depth s d (Recover t ∷ past) tag h l = ap recovered (free_past_depth s d past tag h.0 l)
+free_past_depth s d (Reissue t ∷ past) tag h l = stays_free past t tag Held Issued (free_past_depth s d past tag h.0 l) h.1.0 (λ e. absurd (cc))
+free_past_depth s d (Collect t ∷ past) tag h l = cond_at t tag Free (phase past tag) (λ p. p ≡ Free) (λ _. refl) (λ _. free_past_depth s d past tag h.0 l)
+free_past_depth s d (Unqueued command ∷ past) tag h l = free_past_depth s d past tag h.0 l
+
+issue_none : (b : Bool) (r : Request) (o : Option Request) (p : Phase) → cond b (Some r) o ≡ None → (o ≡ None → p ≡ Free) → cond b Issued p ≡ Free
+issue_none true r o p none older = absurd (cc)
+issue_none false r o p none older = older none
+
+-- a tag without a request is free
+pub no_request : (s d : ℕ) (past : List Entry) (tag : ℕ) → IsLawful s d past → request past tag ≡ None → phase past tag ≡ Free
+no_request s d [] tag h none = refl
+no_request s d (Issue t work ∷ past) tag h none =
+    issue_none (t == tag) (record { number = length past; work = work }) (request past tag) (phase past tag) none (no_request s d past tag h.0)
+no_request s d (Accept t ∷ past) tag h none = stays_free past t tag Issued Accepted (no_request s d past tag h.0 none) h.1.0 (λ e. absurd (cc))
+no_request s d (Complete t ∷ past) tag h none = stays_free past t tag Accepted Done (no_request s d past tag h.0 none) h.1.0 (λ e. absurd (cc))
+no_request s d (Fail t error lba ∷ past) tag h none =
+    let free = no_request s d past tag h.0 none in
+    stays_free past t tag (phase past t) (failed (phase past tag)) free refl (fails_not_free s (request past t) (phase past t) error lba h.1.1)
+no_request s d (Recover t ∷ past) tag h none = ap recovered (no_request s d past tag h.0 none)
+no_request s d (Reissue t ∷ past) tag h none = stays_free past t tag Held Issued (no_request s d past tag h.0 none) h.1.0 (λ e. absurd (cc))
+no_request s d (Collect t ∷ past) tag h none = cond_at t tag Free (phase past tag) (λ p. p ≡ Free) (λ _. refl) (λ _. no_request s d past tag h.0 none)
+no_request s d (Unqueued command ∷ past) tag h none = no_request s d past tag h.0 none
+
+some_unless_none : (o : Option Request) → (o ≡ None → ⊥) → IsSome o
+some_unless_none None h = absurd (h refl)
+some_unless_none (Some r) h = refl
+
+pub owned_has_request : OwnedHasRequest
+owned_has_request s d past tag h owned = some_unless_none (request past tag) (λ none. owned (no_request s d past tag h none))
