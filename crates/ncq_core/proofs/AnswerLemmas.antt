@@ -1,14 +1,12 @@
 -- Answers, entry by entry.
-use Rattle.std.proofs.Common.{◌≡◌, ℕ, ◌+◌, ◌<◌, ◌≤◌, List, [], ◌∷◌, ◌++◌, length, take, map, ap, sym, refl, ◌∙◌, Option, Some, None, arith, append_assoc, append-nil, ◌-◌, suc, drop, get_or, subst}
-use Rattle.std.specs.List.{flat_map, range_with_len, slice_get}
-use Rattle.std.specs.Option.{option_map}
+use Rattle.std.proofs.Common.{◌≡◌, ℕ, ◌+◌, ◌<◌, List, [], ◌∷◌, ◌++◌, length, take, ap, sym, refl, ◌∙◌, Some, arith, append_assoc, append-nil, ◌-◌, suc, drop, get_or, subst}
+use Rattle.std.specs.List.{flat_map, range_with_len}
 use Rattle.ncq_core.specs.declared.event.Event.{Event}
 use Rattle.ncq_core.specs.Answer.{sectors_at}
-use Rattle.ncq_core.specs.Entry.{Entry, entry_of}
+use Rattle.ncq_core.specs.Entry.{Entry}
 use Rattle.ncq_core.specs.History.{history_of, entry_at}
 use Rattle.ncq_core.specs.Sector.{sector}
 use Rattle.ncq_core.proofs.TagLemmas.{range_more}
-use Rattle.ncq_core.proofs.HistoryLemmas.{entry_at-history}
 use Rattle.ncq_core.proofs.LawfulLemmas.{history-append}
 use Rattle.ncq_core.specs.Lawful.{AllProper, IsProperEntry}
 use Rattle.std.proofs.lemmas.List.{take-append-drop, length-reverse, get_or-reverse}

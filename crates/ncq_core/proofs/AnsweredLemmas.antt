@@ -1,7 +1,7 @@
 -- When a request has its answer, and what a Complete answers.
-use Rattle.std.proofs.Common.{◌≡◌, ◌≢◌, ℕ, ◌+◌, ◌-◌, ◌<◌, ◌≤◌, Bool, true, false, cond, ◌==◌, List, [], ◌∷◌, ◌++◌, length, ap, sym, refl, subst, ◌∙◌, Option, None, Some, is_some, IsSome, IsSomeAnd, arith, inl, inr, suc}
+use Rattle.std.proofs.Common.{◌≡◌, ◌≢◌, ℕ, ◌<◌, ◌≤◌, Bool, true, false, cond, ◌==◌, List, [], ◌∷◌, length, ap, sym, refl, subst, ◌∙◌, Option, None, Some, is_some, IsSomeAnd, arith, inl, inr, suc}
 use Rattle.std.specs.Option.{option_or}
-use Rattle.std.proofs.lemmas.Bool.{eqb-true, eqb-false, eq-eqb, cases_Bool, cond-true, false≢true}
+use Rattle.std.proofs.lemmas.Bool.{eqb-false, eq-eqb, cond-true}
 use Rattle.std.proofs.lemmas.Option.{same_Some}
 use Rattle.ncq_core.specs.declared.outcome.Outcome.TheVariants as outcome
 use Rattle.ncq_core.specs.declared.phase.Phase.{Phase}
@@ -9,9 +9,9 @@ use Rattle.ncq_core.specs.declared.phase.Phase.TheVariants.{Free, Issued, Accept
 use Rattle.ncq_core.specs.Answer.{Answer, answer, given, completes}
 use Rattle.ncq_core.specs.Entry.{Entry, Issue, Accept, Complete, Fail, Recover, Reissue, Collect, Unqueued}
 use Rattle.ncq_core.specs.History.{entry_at, first_of}
-use Rattle.ncq_core.specs.Lawful.{IsAllowed, IsLawful}
+use Rattle.ncq_core.specs.Lawful.{IsLawful}
 use Rattle.ncq_core.specs.Laws.{is_answered, AnsweredByPhase, CompletedIsAnswered, is_failure}
-use Rattle.ncq_core.specs.Phase.{phase, phase_after, failed, recovered, is_failed}
+use Rattle.ncq_core.specs.Phase.{phase, failed, recovered}
 use Rattle.ncq_core.specs.Request.{Request, request}
 use Rattle.ncq_core.specs.Work.{Work, Read, Write}
 use Rattle.ncq_core.proofs.EntryLemmas.{entry_at-past, entry_at-within, entry_at_cases, first_of-older, first_of-newest, request_is_its_issue}

@@ -1,5 +1,5 @@
 -- A journal's entries, one event after another.
-use Rattle.std.proofs.Common.{◌≡◌, ℕ, ◌+◌, ◌<◌, ◌≤◌, List, [], ◌∷◌, ◌++◌, length, get_or, take, map, ap, sym, refl, ◌∙◌, arith, Option, Some, None, Bor}
+use Rattle.std.proofs.Common.{◌≡◌, ℕ, ◌+◌, ◌<◌, ◌≤◌, List, [], ◌∷◌, ◌++◌, length, get_or, take, map, ap, sym, refl, ◌∙◌, Option, Some, None, Bor}
 use Rattle.std.proofs.lemmas.List.{map-append, reverse-append, reverse-reverse, take_more, take_all, length-reverse, length-map}
 use Rattle.std.proofs.lemmas.Option.{slice_get-map, slice_get_past, slice_get_read}
 use Rattle.std.specs.List.{slice_get}
@@ -7,7 +7,7 @@ use Rattle.std.specs.Option.{option_map, option_copied}
 use Rattle.std.specs.Slice.{IsGetResult}
 use mathlib.Core.List.{reverse}
 use Rattle.ncq_core.specs.declared.event.Event.{Event}
-use Rattle.ncq_core.specs.Entry.{Entry, entry_of}
+use Rattle.ncq_core.specs.Entry.{entry_of}
 use Rattle.ncq_core.specs.History.{history_of, entry_at}
 
 -- an event more is an entry more

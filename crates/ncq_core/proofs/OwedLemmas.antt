@@ -1,13 +1,13 @@
 -- What requests can still need, entry by entry.
-use Rattle.std.proofs.Common.{◌≡◌, ◌≢◌, ℕ, ◌+◌, ◌*◌, ◌<◌, ◌≤◌, Bool, true, false, cond, ◌==◌, List, [], ◌∷◌, ap, sym, refl, subst, ◌∙◌, Option, None, Some, IsSomeAnd, arith, inl, inr}
+use Rattle.std.proofs.Common.{◌≡◌, ◌≢◌, ℕ, ◌+◌, ◌<◌, ◌≤◌, Bool, true, false, cond, ◌==◌, List, ◌∷◌, ap, sym, refl, ◌∙◌, Option, None, Some, IsSomeAnd, arith, inl, inr}
 use Rattle.std.specs.List.{sum_by}
 use Rattle.std.proofs.lemmas.Bool.{eqb-true, eq-eqb, cond-true, cond-false, ne_eqb}
 use Rattle.ncq_core.specs.declared.phase.Phase.{Phase}
 use Rattle.ncq_core.specs.declared.phase.Phase.TheVariants.{Free, Issued, Accepted, Rejected, Broken, Held, Done}
 use Rattle.ncq_core.specs.Entry.{Entry, Issue, Accept, Complete, Fail, Recover, Reissue, Collect, Unqueued}
 use Rattle.ncq_core.specs.Halted.{tags}
-use Rattle.ncq_core.specs.Lawful.{IsAllowed, IsLawful, Fails}
-use Rattle.ncq_core.specs.Laws.{OwedIsFew, OwedMoves, MovesOwed, owed_more, owed_less}
+use Rattle.ncq_core.specs.Lawful.{IsLawful, Fails}
+use Rattle.ncq_core.specs.Laws.{OwedIsFew, OwedMoves, owed_more, owed_less}
 use Rattle.ncq_core.specs.Owed.{owed, owed_in}
 use Rattle.ncq_core.specs.Phase.{phase, failed, recovered}
 use Rattle.ncq_core.specs.Request.{Request, request}

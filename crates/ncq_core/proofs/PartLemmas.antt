@@ -1,20 +1,19 @@
 -- Two parts of a journal with every tag free between them, and sets of tags within one another.
-use Rattle.std.proofs.Common.{◌≡◌, ◌≢◌, ℕ, ◌+◌, ◌<◌, ◌≤◌, Bool, true, false, not, ◌&&◌, cond, ◌==◌, List, [], ◌∷◌, ◌++◌, length, ap, sym, refl, subst, ◌∙◌, Option, None, Some, IsSome, IsSomeAnd, arith, inl, inr}
-use Rattle.std.specs.Option.{option_map}
-use Rattle.std.proofs.lemmas.Bool.{cases_lt, false≢true, and_parts}
+use Rattle.std.proofs.Common.{◌≡◌, ℕ, Bool, true, false, not, ◌&&◌, cond, ◌==◌, List, [], ◌∷◌, ◌++◌, length, ap, sym, refl, subst, ◌∙◌, Option, None, Some, IsSome, IsSomeAnd, arith, inl, inr}
+use Rattle.std.proofs.lemmas.Bool.{cases_lt, false≢true}
 use Rattle.word_bits.specs.Places.{places, has_place}
 use Rattle.word_bits.proofs.PlacesLemmas.{has_place-places, has_place_past, length-places}
 use Rattle.ncq_core.specs.declared.phase.Phase.{Phase}
 use Rattle.ncq_core.specs.declared.phase.Phase.TheVariants.{Free, Issued, Accepted, Rejected, Broken, Held, Done}
 use Rattle.ncq_core.specs.Entry.{Entry, Issue, Accept, Complete, Fail, Recover, Reissue, Collect, Unqueued}
-use Rattle.ncq_core.specs.Halted.{halted, busy, tags}
+use Rattle.ncq_core.specs.Halted.{halted, busy}
 use Rattle.ncq_core.specs.Image.{sector_at}
 use Rattle.ncq_core.specs.Lawful.{IsAllowed, IsLawful, Fails, Fits}
 use Rattle.ncq_core.specs.Laws.{AllFree, TwoParts, DeviceTagsInSact, CiInSact}
 use Rattle.ncq_core.specs.Phase.{phase, phase_after, is_failed, is_busy}
 use Rattle.ncq_core.specs.Request.{Request, request}
 use Rattle.ncq_core.specs.Sector.{sector, completed}
-use Rattle.ncq_core.specs.Tags.{sact, ci, device_tags, in_sact, in_ci, in_device}
+use Rattle.ncq_core.specs.Tags.{in_sact, in_ci, in_device}
 use Rattle.ncq_core.specs.Work.{Work}
 use Rattle.ncq_core.proofs.PhaseLemmas.{owned_has_request, fails_not_free}
 use Rattle.ncq_core.proofs.TagLemmas.{same_tags}

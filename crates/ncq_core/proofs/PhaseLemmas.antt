@@ -1,17 +1,13 @@
 -- Phases, requests and answers of lawful journals, by induction on the journal.
-use Rattle.std.proofs.Common.{◌≡◌, ◌≢◌, ℕ, ◌+◌, ◌-◌, ◌<◌, ◌≤◌, Bool, true, false, cond, ◌==◌, List, [], ◌∷◌, ◌++◌, length, take, drop, ap, sym, refl, subst, ◌∙◌, Option, None, Some, is_some, IsSome, IsSomeAnd, arith, inl, inr, suc, zero}
-use Rattle.std.specs.Option.{option_or}
-use Rattle.std.proofs.lemmas.Bool.{cond_both, eqb-true, eqb-false, cases_lt, cond-true, eq-eqb, false≢true}
+use Rattle.std.proofs.Common.{◌≡◌, ◌≢◌, ℕ, ◌<◌, ◌≤◌, Bool, true, false, cond, ◌==◌, List, [], ◌∷◌, length, ap, sym, refl, subst, ◌∙◌, Option, None, Some, IsSome, IsSomeAnd, arith}
+use Rattle.std.proofs.lemmas.Bool.{cond_both, eqb-true, eqb-false, false≢true}
 use Rattle.ncq_core.specs.declared.phase.Phase.{Phase}
-use Rattle.ncq_core.specs.declared.phase.Phase.TheVariants.{Free, Issued, Accepted, Rejected, Broken, Held, Done}
-use Rattle.ncq_core.specs.Answer.{Answer, answer, given, completes}
+use Rattle.ncq_core.specs.declared.phase.Phase.TheVariants.{Free, Issued, Accepted, Held, Done}
 use Rattle.ncq_core.specs.Entry.{Entry, Issue, Accept, Complete, Fail, Recover, Reissue, Collect, Unqueued}
-use Rattle.ncq_core.specs.History.{entry_at, first_of}
-use Rattle.ncq_core.specs.Lawful.{IsAllowed, IsLawful, Fails}
-use Rattle.ncq_core.specs.Laws.{is_answered, OwnedHasRequest}
-use Rattle.ncq_core.specs.Phase.{phase, phase_after, failed, recovered, is_failed}
+use Rattle.ncq_core.specs.Lawful.{IsLawful, Fails}
+use Rattle.ncq_core.specs.Laws.{OwnedHasRequest}
+use Rattle.ncq_core.specs.Phase.{phase, failed, recovered, is_failed}
 use Rattle.ncq_core.specs.Request.{Request, request}
-use Rattle.ncq_core.specs.Work.{Work}
 
 -- a choice by two tags
 pub cond_at : {X : Type 0} (t tag : ℕ) (x y : X) (P : X → Type 0) → (t ≡ tag → P x) → (t ≢ tag → P y) → P (cond (t == tag) x y)

@@ -1,7 +1,7 @@
 -- A set of tags that a scan collects in a word.
-use Rattle.std.proofs.Common.{◌≡◌, ◌≢◌, ℕ, ◌+◌, ◌<◌, ◌≤◌, Bool, true, false, ◌&&◌, ltb, List, ap, sym, refl, ◌∙◌, arith, inl, inr}
+use Rattle.std.proofs.Common.{◌≡◌, ◌≢◌, ℕ, ◌+◌, ◌<◌, Bool, true, false, ◌&&◌, ltb, List, ap, sym, ◌∙◌, arith, inl, inr}
 use Rattle.std.proofs.lemmas.Bool.{cases_eq, cases_lt, lt-ltb, le-ltb, and_right}
-use Rattle.word_bits.specs.Places.{places, bits, no_places, with_place}
+use Rattle.word_bits.specs.Places.{places, bits, with_place}
 use Rattle.word_bits.proofs.PlacesLemmas.{same_places, places_none, with_place-places}
 use Rattle.word_bits.proofs.BitsLemmas.{bits_zero}
 

@@ -1,7 +1,7 @@
 -- What holds of some tag, of no tag, and of the sum over all tags.
-use Rattle.std.proofs.Common.{◌≡◌, ◌≢◌, ℕ, ◌+◌, ◌*◌, ◌<◌, ◌≤◌, Bool, true, false, ◌||◌, List, [], ◌∷◌, ◌++◌, length, map, ap, sym, refl, ◌∙◌, arith, inl, inr, suc, zero, zero-add}
+use Rattle.std.proofs.Common.{◌≡◌, ◌≢◌, ℕ, ◌+◌, ◌*◌, ◌<◌, ◌≤◌, Bool, true, false, [], ◌∷◌, ◌++◌, ap, sym, refl, ◌∙◌, arith, inl, inr, suc, zero, zero-add}
 use Rattle.std.specs.List.{list_any, sum_by, range_with_len}
-use Rattle.std.proofs.lemmas.Bool.{cases_eq, or_left, or_right, or_parts, or_from, or_cases, false≢true, false_from_ne_true, both_ways, cases_Bool}
+use Rattle.std.proofs.lemmas.Bool.{cases_eq, or_left, or_right, or_from, or_cases, false≢true, false_from_ne_true, both_ways, cases_Bool}
 use Rattle.std.proofs.lemmas.List.Sums.{sum_by-cons, sum_by_push}
 use Rattle.std.proofs.lemmas.List.{map-id}
 use Rattle.std.proofs.lemmas.List.FromFn.{map-range_with_len_more}

@@ -1,10 +1,10 @@
 -- What a request is answered: its entry, its outcome and, for a read, the sectors as they were at that entry.
-use Rattle.std.specs.Prelude.{ℕ, ◌+◌, ◌==◌, ◌++◌, if◌then◌else◌, List, [], ◌∷◌, length, Option, None, Some}
+use Rattle.std.specs.Prelude.{ℕ, ◌==◌, if◌then◌else◌, List, [], ◌∷◌, length, Option, None, Some}
 use Rattle.std.specs.List.{flat_map, range_with_len}
 use Rattle.std.specs.Option.{option_or}
 use Rattle.ncq_core.specs.declared.outcome.Outcome.{Outcome}
 use Rattle.ncq_core.specs.declared.outcome.Outcome.TheVariants as outcome
-use Rattle.ncq_core.specs.Entry.{Entry, Issue, Accept, Complete, Fail, Recover, Reissue, Collect, Unqueued}
+use Rattle.ncq_core.specs.Entry.{Entry, Issue, Complete, Fail}
 use Rattle.ncq_core.specs.History.{entry_at}
 use Rattle.ncq_core.specs.Sector.{sector}
 use Rattle.ncq_core.specs.Work.{Work, Read, Write}

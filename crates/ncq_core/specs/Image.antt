@@ -1,5 +1,5 @@
 -- Sectors of 512 bytes in a list of bytes (ACS-3, "Logical sector").
-use Rattle.std.specs.Prelude.{ℕ, ◌-◌, ◌*◌, ◌+◌, Bool, ◌&&◌, nat_le, nat_lt, true, false, List, [], take, drop}
+use Rattle.std.specs.Prelude.{◌≡◌, if◌then◌else◌, ℕ, ◌-◌, ◌*◌, ◌+◌, Bool, ◌&&◌, nat_le, nat_lt, true, false, List, [], take, drop}
 use Rattle.ncq_core.specs.Work.{Work, Read, Write, lba_of, sectors_of}
 
 -- sector s of an image, or of the bytes of a write
@@ -19,3 +19,8 @@ written_at (Write lba bytes) s = sector_at bytes (s - lba)
 abbrev pub is_write : Work → Bool
 is_write (Read lba sectors) = false
 is_write (Write lba bytes) = true
+
+-- each sector of these bytes stands in the new image from the LBA on, and every other sector stays
+abbrev pub IsWrittenOver : ℕ → List ℕ → List ℕ → List ℕ → Type 0
+IsWrittenOver lba bytes old new =
+    (s : ℕ) → sector_at new s ≡ (if covers (Write lba bytes) s then sector_at bytes (s - lba) else sector_at old s)

@@ -1,15 +1,15 @@
 -- Which journals can come about on a port of a disk with so many sectors and so many slots
 -- (AHCI 1.3.1, "Native Command Queuing" and section 6.2.2; ACS-3, READ and WRITE FPDMA QUEUED).
-use Rattle.std.specs.Prelude.{◌≡◌, ℕ, ◌+◌, ◌*◌, ◌/◌, ◌^◌, ◌<◌, ◌≤◌, ◌⊎◌, max, Bool, true, false, List, [], ◌∷◌, length, Option, None, Some, IsSomeAnd, IsTrue, All}
+use Rattle.std.specs.Prelude.{◌≡◌, ℕ, ◌+◌, ◌*◌, ◌/◌, ◌^◌, ◌<◌, ◌≤◌, max, true, false, List, [], ◌∷◌, length, IsSomeAnd, IsTrue, All}
 use Rattle.ncq_core.specs.declared.phase.Phase.{Phase}
-use Rattle.ncq_core.specs.declared.phase.Phase.TheVariants.{Free, Issued, Accepted, Rejected, Broken, Held, Done}
+use Rattle.ncq_core.specs.declared.phase.Phase.TheVariants.{Free, Issued, Accepted, Held, Done}
 use Rattle.ncq_core.specs.declared.plain.Plain.{Plain}
 use Rattle.ncq_core.specs.declared.plain.Plain.TheVariants.{Identify, Flush, ReadLog}
 use Rattle.ncq_core.specs.Entry.{Entry, Issue, Accept, Complete, Fail, Recover, Reissue, Collect, Unqueued}
 use Rattle.ncq_core.specs.Halted.{halted, busy}
 use Rattle.ncq_core.specs.Image.{covers}
 use Rattle.ncq_core.specs.Phase.{phase, is_failed}
-use Rattle.ncq_core.specs.Request.{Request, request}
+use Rattle.ncq_core.specs.Request.{request}
 use Rattle.ncq_core.specs.Work.{Work, Read, Write, lba_of, sectors_of}
 
 -- the most sectors of one command
@@ -46,11 +46,7 @@ Refuses s work error lba = (s < end_of work) × (error ≡ 0x10) × (lba ≡ max
 abbrev pub Fails : ℕ → Phase → Work → ℕ → ℕ → Type 0
 Fails s Accepted work error lba = IsTrue (covers work lba)
 Fails s Issued work error lba = Refuses s work error lba
-Fails s Free work error lba = ⊥
-Fails s Rejected work error lba = ⊥
-Fails s Broken work error lba = ⊥
-Fails s Held work error lba = ⊥
-Fails s Done work error lba = ⊥
+Fails s p work error lba = ⊥
 
 -- a READ LOG EXT has no entry of its own
 abbrev pub IsJournalled : Plain → Type 0
@@ -89,13 +85,7 @@ IsLawful s d (entry ∷ past) = IsLawful s d past × IsAllowed s d past entry
 -- an entry that issues a command issues one that can be issued
 abbrev pub IsProperEntry : Entry → Type 0
 IsProperEntry (Issue t work) = IsProper work
-IsProperEntry (Accept t) = Unit {0}
-IsProperEntry (Complete t) = Unit {0}
-IsProperEntry (Fail t error lba) = Unit {0}
-IsProperEntry (Recover t) = Unit {0}
-IsProperEntry (Reissue t) = Unit {0}
-IsProperEntry (Collect t) = Unit {0}
-IsProperEntry (Unqueued command) = Unit {0}
+IsProperEntry entry = Unit {0}
 
 -- every command of the journal is one that can be issued
 abbrev pub AllProper : List Entry → Type 0

@@ -1,12 +1,12 @@
 -- What holds of every lawful journal: the laws behind the definitions.
-use Rattle.std.specs.Prelude.{◌≡◌, ◌≢◌, ◌↔◌, ℕ, ◌+◌, ◌<◌, ◌≤◌, Bool, true, false, if◌then◌else◌, List, [], ◌∷◌, ◌++◌, length, Option, None, Some, is_some, IsSome, IsSomeAnd}
+use Rattle.std.specs.Prelude.{◌≡◌, ◌≢◌, ◌↔◌, ℕ, ◌+◌, ◌≤◌, Bool, true, false, if◌then◌else◌, List, ◌∷◌, ◌++◌, None, Some, is_some, IsSome, IsSomeAnd}
 use Rattle.std.specs.List.{sum_by}
 use Rattle.word_bits.specs.Places.{has_place}
 use Rattle.ncq_core.specs.declared.outcome.Outcome.{Outcome}
 use Rattle.ncq_core.specs.declared.outcome.Outcome.TheVariants as outcome
 use Rattle.ncq_core.specs.declared.phase.Phase.{Phase}
-use Rattle.ncq_core.specs.declared.phase.Phase.TheVariants.{Free, Issued, Accepted, Rejected, Broken, Held, Done}
-use Rattle.ncq_core.specs.Answer.{Answer, answer}
+use Rattle.ncq_core.specs.declared.phase.Phase.TheVariants.{Free, Issued, Accepted, Held}
+use Rattle.ncq_core.specs.Answer.{answer}
 use Rattle.ncq_core.specs.Entry.{Entry, Issue, Accept, Complete, Fail, Recover, Reissue, Collect, Unqueued}
 use Rattle.ncq_core.specs.Halted.{tags}
 use Rattle.ncq_core.specs.History.{entry_at, first_of}
@@ -37,13 +37,10 @@ RequestIsItsIssue = (past : List Entry) (tag : ℕ) (r : Request) → request pa
 
 -- the request has its answer; one whose tag is free again was answered before it was collected
 abbrev pub is_answered : Phase → Bool
-is_answered Free = true
-is_answered Rejected = true
-is_answered Broken = true
-is_answered Done = true
 is_answered Issued = false
 is_answered Accepted = false
 is_answered Held = false
+is_answered p = true
 
 -- a tag's request is answered exactly when the tag is done, broken or rejected since, or collected after that
 abbrev pub AnsweredByPhase : Type 0
@@ -58,21 +55,13 @@ OwedIsFew = (past : List Entry) → owed past ≤ 128
 abbrev pub owed_more : Phase → ℕ
 owed_more Issued = 1
 owed_more Accepted = 2
-owed_more Free = 0
-owed_more Rejected = 0
-owed_more Broken = 0
-owed_more Held = 0
-owed_more Done = 0
+owed_more p = 0
 
 -- how many entries fewer a tag needs once its command has failed
 abbrev pub owed_less : Phase → ℕ
 owed_less Issued = 2
 owed_less Accepted = 1
-owed_less Free = 0
-owed_less Rejected = 0
-owed_less Broken = 0
-owed_less Held = 0
-owed_less Done = 0
+owed_less p = 0
 
 -- how one more entry moves what the requests can still need
 abbrev pub MovesOwed : List Entry → Entry → Type 0

@@ -7,12 +7,7 @@ use Rattle.ncq_core.specs.Entry.{Entry, Issue, Accept, Complete, Fail, Recover, 
 -- an error before acceptance rejects the command, and one after it breaks it
 abbrev pub failed : Phase → Phase
 failed Issued = Rejected
-failed Free = Broken
-failed Accepted = Broken
-failed Rejected = Broken
-failed Broken = Broken
-failed Held = Broken
-failed Done = Broken
+failed p = Broken
 
 -- a recovery answers the failed command, and holds those that the error ended
 abbrev pub recovered : Phase → Phase
@@ -20,9 +15,7 @@ recovered Rejected = Done
 recovered Broken = Done
 recovered Issued = Held
 recovered Accepted = Held
-recovered Free = Free
-recovered Held = Held
-recovered Done = Done
+recovered p = p
 
 -- the phase of a tag after one more entry
 abbrev pub phase_after : ℕ → Phase → Entry → Phase
@@ -44,18 +37,10 @@ phase (entry ∷ past) tag = phase_after tag (phase past tag) entry
 abbrev pub is_failed : Phase → Bool
 is_failed Rejected = true
 is_failed Broken = true
-is_failed Free = false
-is_failed Issued = false
-is_failed Accepted = false
-is_failed Held = false
-is_failed Done = false
+is_failed p = false
 
 -- the command waits for the device or is outstanding in it
 abbrev pub is_busy : Phase → Bool
 is_busy Issued = true
 is_busy Accepted = true
-is_busy Free = false
-is_busy Rejected = false
-is_busy Broken = false
-is_busy Held = false
-is_busy Done = false
+is_busy p = false

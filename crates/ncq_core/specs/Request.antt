@@ -1,6 +1,6 @@
 -- The request that a tag was last issued for. A request is known by the number of its Issue entry.
 use Rattle.std.specs.Prelude.{ℕ, ◌==◌, if◌then◌else◌, List, [], ◌∷◌, length, Option, None, Some}
-use Rattle.ncq_core.specs.Entry.{Entry, Issue, Accept, Complete, Fail, Recover, Reissue, Collect, Unqueued}
+use Rattle.ncq_core.specs.Entry.{Entry, Issue}
 use Rattle.ncq_core.specs.Work.{Work}
 
 pub record Request : Type 0 where
@@ -11,10 +11,4 @@ pub record Request : Type 0 where
 abbrev pub request : List Entry → ℕ → Option Request
 request [] tag = None
 request (Issue t work ∷ past) tag = if t == tag then Some (record { number = length past; work = work }) else request past tag
-request (Accept t ∷ past) tag = request past tag
-request (Complete t ∷ past) tag = request past tag
-request (Fail t error lba ∷ past) tag = request past tag
-request (Recover t ∷ past) tag = request past tag
-request (Reissue t ∷ past) tag = request past tag
-request (Collect t ∷ past) tag = request past tag
-request (Unqueued command ∷ past) tag = request past tag
+request (entry ∷ past) tag = request past tag

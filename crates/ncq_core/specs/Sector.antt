@@ -1,6 +1,6 @@
 -- The bytes of one sector after a journal: those of the last write that was completed over it, else the image's.
 use Rattle.std.specs.Prelude.{ℕ, ◌&&◌, if◌then◌else◌, List, [], ◌∷◌, Option, None, Some}
-use Rattle.ncq_core.specs.Entry.{Entry, Issue, Accept, Complete, Fail, Recover, Reissue, Collect, Unqueued}
+use Rattle.ncq_core.specs.Entry.{Entry, Complete}
 use Rattle.ncq_core.specs.Image.{sector_at, covers, written_at, is_write}
 use Rattle.ncq_core.specs.Request.{Request, request}
 
@@ -13,10 +13,4 @@ completed (Some r) s before = if is_write r.work && covers r.work s then written
 abbrev pub sector : List ℕ → List Entry → ℕ → List ℕ
 sector image [] s = sector_at image s
 sector image (Complete t ∷ past) s = completed (request past t) s (sector image past s)
-sector image (Issue t work ∷ past) s = sector image past s
-sector image (Accept t ∷ past) s = sector image past s
-sector image (Fail t error lba ∷ past) s = sector image past s
-sector image (Recover t ∷ past) s = sector image past s
-sector image (Reissue t ∷ past) s = sector image past s
-sector image (Collect t ∷ past) s = sector image past s
-sector image (Unqueued command ∷ past) s = sector image past s
+sector image (entry ∷ past) s = sector image past s

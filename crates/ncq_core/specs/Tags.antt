@@ -1,9 +1,9 @@
 -- The sets of tags that software and the device hold, by the journal (AHCI 1.3.1, sections 3.3.13 and 3.3.14,
 -- "Native Command Queuing" and section 6.2.2). A set is 32 truth values, one for each tag.
-use Rattle.std.specs.Prelude.{ℕ, Bool, true, false, not, ◌&&◌, List}
+use Rattle.std.specs.Prelude.{Bool, true, false, not, ◌&&◌, List}
 use Rattle.word_bits.specs.Places.{places}
 use Rattle.ncq_core.specs.declared.phase.Phase.{Phase}
-use Rattle.ncq_core.specs.declared.phase.Phase.TheVariants.{Free, Issued, Accepted, Rejected, Broken, Held, Done}
+use Rattle.ncq_core.specs.declared.phase.Phase.TheVariants.{Issued, Accepted, Rejected, Broken}
 use Rattle.ncq_core.specs.Entry.{Entry}
 use Rattle.ncq_core.specs.Halted.{halted}
 use Rattle.ncq_core.specs.Phase.{phase}
@@ -14,29 +14,18 @@ in_sact Issued = true
 in_sact Accepted = true
 in_sact Rejected = true
 in_sact Broken = true
-in_sact Free = false
-in_sact Held = false
-in_sact Done = false
+in_sact p = false
 
 -- the command was issued, and the device has not taken it
 abbrev pub in_ci : Phase → Bool
 in_ci Issued = true
 in_ci Rejected = true
-in_ci Free = false
-in_ci Accepted = false
-in_ci Broken = false
-in_ci Held = false
-in_ci Done = false
+in_ci p = false
 
 -- the device has taken the command
 abbrev pub in_device : Phase → Bool
 in_device Accepted = true
-in_device Free = false
-in_device Issued = false
-in_device Rejected = false
-in_device Broken = false
-in_device Held = false
-in_device Done = false
+in_device p = false
 
 -- PxSACT
 abbrev pub sact : List Entry → List Bool

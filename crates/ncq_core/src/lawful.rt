@@ -1,7 +1,7 @@
 ghost use Rattle.std.specs.Prelude.{◌≡◌, ◌↔◌, IsTrue};
 ghost use Rattle.ncq_core.specs.Entry.{entry_of};
 ghost use Rattle.ncq_core.specs.History.{history_of};
-ghost use Rattle.ncq_core.specs.Lawful.{IsAllowed, IsLawful, IsProper, MayIssue, MayAccept, MayFail, Fails, Refuses};
+ghost use Rattle.ncq_core.specs.Lawful.{AllProper, IsAllowed, IsLawful, IsProper, MayIssue, MayAccept, MayFail, Fails, Refuses};
 ghost use Rattle.ncq_core.specs.Work.{work_of};
 
 use crate::event::Event;
@@ -97,9 +97,10 @@ fn refuses<A: Allocator>(sectors: u32, op: &Op<A>, error: u8, lba: u64) -> bool
 }
 
 /// Whether these events, the oldest first, can come about on a disk of so many sectors with so many slots.
-#[tactic(auto, using(crate::proofs::HistoryLemmas::history_more, crate::proofs::HistoryLemmas::history_all, crate::proofs::LawfulLemmas::allowed_at))]
+#[tactic(auto, using(crate::proofs::HistoryLemmas::history_more, crate::proofs::HistoryLemmas::history_all, crate::proofs::LawfulLemmas::allowed_at, crate::proofs::LawfulLemmas::lawful_proper))]
 pub fn is_lawful<A: Allocator>(sectors: u32, depth: u32, events: &[Event<A>]) -> bool
-    ensures { IsTrue result ↔ IsLawful sectors depth (history_of events.now) }
+    ensures lawful { IsTrue result ↔ IsLawful sectors depth (history_of events.now) }
+    ensures proper { IsTrue result → AllProper (history_of events.now) }
 {
     for (number, event) in events.iter().enumerate() {
         if !is_allowed(sectors, depth, &events[..number], event) {

@@ -1,6 +1,6 @@
-ghost use Rattle.std.specs.Prelude.{◌≡◌};
+ghost use Rattle.std.specs.Prelude.{◌≡◌, ◌+◌, ◌*◌, ◌/◌, ◌≤◌, length, take, drop};
 ghost use Rattle.ncq_core.specs.History.{history_of};
-ghost use Rattle.ncq_core.specs.Image.{sector_at, covers};
+ghost use Rattle.ncq_core.specs.Image.{sector_at, covers, IsWrittenOver};
 ghost use Rattle.ncq_core.specs.Sector.{sector, completed};
 ghost use Rattle.ncq_core.specs.Work.{work_of};
 
@@ -16,6 +16,28 @@ pub fn sector_in(bytes: &[u8], number: u64) -> &[u8]
     let start = (number as usize).saturating_mul(512).min(bytes.len());
     let rest = &bytes[start..];
     &rest[..rest.len().min(512)]
+}
+
+/// Reads sectors of an image from `lba` on, as many bytes as `out` has.
+pub fn read_sectors(image: &[u8], lba: u64, out: &mut [u8])
+    requires { 512 * lba + length out.old ≤ length image.now }
+    ensures { out.new ≡ take (length out.old) (drop (512 * lba) image.now) }
+{
+    let start = lba as usize * 512;
+    let end = start + out.len();
+    out.copy_from_slice(&image[start..end]);
+}
+
+/// Writes these bytes, whole sectors, over those of an image from `lba` on. Every other sector stays.
+pub fn write_sectors(image: &mut [u8], lba: u64, bytes: &[u8])
+    requires whole { length bytes.now ≡ 512 * (length bytes.now / 512) }
+    requires fits { 512 * lba + length bytes.now ≤ length image.old }
+    ensures len { length image.new ≡ length image.old }
+    ensures sectors { IsWrittenOver lba bytes.now image.old image.new }
+{
+    let start = lba as usize * 512;
+    let end = start + bytes.len();
+    image[start..end].copy_from_slice(bytes);
 }
 
 /// Whether the sector at `lba` is one that the command reads or writes.

@@ -1,5 +1,5 @@
 -- the tags so far
-use Rattle.std.proofs.Common.{◌≡◌, ◌&&◌, not}
+use Rattle.std.proofs.Common.{◌≡◌}
 use Rattle.word_bits.specs.Places.{bits}
 use Rattle.ncq_core.specs.History.{history_of}
 use Rattle.ncq_core.specs.Phase.{phase}
