@@ -18,7 +18,7 @@ slots-from d s l above = record {
       (λ i h. ⊎_elim (λ b. has_place-only_below d s i b) (λ b. has_place-only_below_past d s i b ∙ sym (above i b)) (cases_lt i d));
 }
 
-slots_above : (d : ℕ) (s : List Bool) → IsSlots d s → (i : ℕ) → d ≤ i → has_place s i ≡ false
+pub slots_above : (d : ℕ) (s : List Bool) → IsSlots d s → (i : ℕ) → d ≤ i → has_place s i ≡ false
 slots_above d s h i b = ap (λ t. has_place t i) (sym h.within) ∙ has_place-only_below_past d s i b
 
 pub slots-none : (d : ℕ) → IsSlots d no_places

@@ -4,6 +4,7 @@
 
 mod fault;
 mod flags;
+pub mod laws;
 mod port_regs;
 mod register;
 

@@ -1,4 +1,4 @@
-ghost use Rattle.std.specs.Prelude.{◌≡◌, ◌≤◌, ◌<◌, not, ◌&&◌, OnOk, OnErr, IfErr};
+ghost use Rattle.std.specs.Prelude.{◌≡◌, ◌≤◌, ◌<◌, true, false, not, ◌&&◌, OnOk, OnErr, IfErr, MatchResult};
 ghost use Rattle.word_bits.specs.Places.{bits, has_place, union, intersection, minus, only_below};
 ghost use Rattle.ahci_regs.specs.PortState.{first_state, implemented, IsLawful};
 ghost use Rattle.ahci_regs.specs.Reading.{capabilities_word, task_file_word, read_of};
@@ -117,6 +117,14 @@ impl PortRegs {
             Register::PxSact => self.write_sact(value),
             Register::PxCi => self.write_ci(value),
         }
+    }
+
+    /// What every state of a port's registers keeps: no slot at or above the depth, only this model's interrupts, no
+    /// command while the port is stopped, and aligned bases.
+    pub fn keeps_its_rules(&self)
+        ensures { IsLawful self.now }
+    {
+        let _ = &self.depth;
     }
 
     /// PxSACT: a bit for each slot whose queued command is outstanding.
@@ -256,10 +264,7 @@ impl PortRegs {
     fn write_sact(&mut self, value: u32) -> Result<(), RegFault>
         ensures { Follows result self.old self.new (with_sact self.old value) }
     {
-        if !self.started {
-            return Err(RegFault::NotStarted);
-        }
-        self.sact = gained(self.sact, value, self.depth);
+        self.sact = gained(self.started, self.sact, value, self.depth)?;
         Ok(())
     }
 
@@ -267,10 +272,7 @@ impl PortRegs {
     fn write_ci(&mut self, value: u32) -> Result<(), RegFault>
         ensures { Follows result self.old self.new (with_ci self.old value) }
     {
-        if !self.started {
-            return Err(RegFault::NotStarted);
-        }
-        self.ci = gained(self.ci, value, self.depth);
+        self.ci = gained(self.started, self.ci, value, self.depth)?;
         Ok(())
     }
 }
@@ -311,13 +313,19 @@ fn remaining(word: u32, started: bool, starts: bool) -> u32
     if started && !starts { 0 } else { word }
 }
 
-/// The slots of a word with those of a value that the port has.
+/// The slots of a word with those of a value that the port has, while it is started.
 #[tactic(auto, using(word_bits::proofs::BitsLemmas::bits_or, word_bits::proofs::BitsLemmas::bits_below))]
-fn gained(word: u32, value: u32, depth: u32) -> u32
+fn gained(started: bool, word: u32, value: u32, depth: u32) -> Result<u32, RegFault>
     requires { depth ≤ 32 }
-    ensures { bits result ≡ union (bits word) (only_below depth (bits value)) }
+    ensures { MatchResult
+        result
+        (λ slots. (started ≡ true) × (bits slots ≡ union (bits word) (only_below depth (bits value))))
+        (λ fault. (started ≡ false) × (fault ≡ RegFault.NotStarted)) }
 {
-    word | (value & below(depth))
+    if !started {
+        return Err(RegFault::NotStarted);
+    }
+    Ok(word | (value & below(depth)))
 }
 
 /// The slots of a word without those of another.
@@ -327,3 +335,6 @@ fn lost(word: u32, other: u32) -> u32
 {
     word & !other
 }
+
+#[cfg(test)]
+mod tests;

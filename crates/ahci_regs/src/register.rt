@@ -1,4 +1,4 @@
-ghost use Rattle.std.specs.Prelude.{◌≡◌};
+ghost use Rattle.std.specs.Prelude.{◌≡◌, IfOk};
 ghost use Rattle.ahci_regs.specs.RegisterTable.{offset_of, register_at};
 
 use crate::fault::RegFault;
@@ -45,10 +45,39 @@ pub enum Register {
 }
 
 impl Register {
-    /// The register at an offset into the HBA's memory, in bytes.
+    /// The register's offset from the beginning of the HBA's registers, in bytes.
+    #[tactic(auto, unfolding(crate::specs::RegisterTable::register_at))]
+    pub fn offset(self) -> u32
+        ensures place { result ≡ offset_of self }
+        ensures found { register_at result ≡ Ok self }
+    {
+        match self {
+            Register::Cap => 0x000,
+            Register::Ghc => 0x004,
+            Register::Pi => 0x00c,
+            Register::Vs => 0x010,
+            Register::PxClb => 0x100,
+            Register::PxClbu => 0x104,
+            Register::PxFb => 0x108,
+            Register::PxFbu => 0x10c,
+            Register::PxIs => 0x110,
+            Register::PxIe => 0x114,
+            Register::PxCmd => 0x118,
+            Register::PxTfd => 0x120,
+            Register::PxSig => 0x124,
+            Register::PxSsts => 0x128,
+            Register::PxSctl => 0x12c,
+            Register::PxSerr => 0x130,
+            Register::PxSact => 0x134,
+            Register::PxCi => 0x138,
+        }
+    }
+
+    /// The register at an offset: `Unaligned` where it isn't a multiple of 4, else `NoSuchRegister` where none stands.
     #[tactic(auto, unfolding(crate::specs::RegisterTable::register_at))]
     pub fn at(off: u32) -> Result<Register, RegFault>
-        ensures { result ≡ register_at off }
+        ensures answer { result ≡ register_at off }
+        ensures place { IfOk result (λ register. offset_of register ≡ off) }
     {
         if off % 4 != 0 {
             return Err(RegFault::Unaligned);
