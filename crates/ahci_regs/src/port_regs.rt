@@ -1,6 +1,6 @@
 ghost use Rattle.std.specs.Prelude.{◌≡◌, ◌≤◌, ◌<◌, true, false, not, ◌&&◌, OnOk, OnErr, IfErr, MatchResult};
 ghost use Rattle.word_bits.specs.Places.{bits, has_place, union, intersection, minus, only_below};
-ghost use Rattle.ahci_regs.specs.PortState.{first_state, implemented, IsLawful};
+ghost use Rattle.ahci_regs.specs.PortState.{first_state, implemented};
 ghost use Rattle.ahci_regs.specs.Reading.{capabilities_word, task_file_word, read_of};
 ghost use Rattle.ahci_regs.specs.Writing.{with_clb, with_fb, with_command, with_sact, with_ci, remaining, Follows, IsWritten, RefusesWrite};
 ghost use Rattle.ahci_regs.specs.Receiving.{ended, after_register, after_bits, after_pio, after_pio_end};
@@ -11,6 +11,8 @@ use crate::register::Register;
 use bitflags::Flags;
 use std::marker::Model;
 use word_bits::{below, without_bit};
+
+mod state;
 
 /// The registers of one port, with the HBA's registers that a driver reads before it.
 #[derive(Debug, Drop)]
@@ -64,16 +66,17 @@ impl PortRegs {
     }
 
     /// The word that a read of the register at an offset gives (AHCI 1.3.1, sections 3.1 and 3.3). The offset is in
-    /// bytes from the beginning of the HBA's registers.
+    /// bytes from the beginning of the HBA's registers: `Unaligned` where it isn't a multiple of 4, `NoSuchRegister`
+    /// where no register of this model stands.
     #[tactic(auto, using(word_bits::proofs::BitsLemmas::words_back))]
     pub fn read(&self, off: u32) -> Result<u32, RegFault>
         ensures { result ≡ read_of self.now off }
     {
         Ok(match Register::at(off)? {
             Register::Cap => capabilities(self.depth),
-            Register::Ghc => 0x8000_0000,
-            Register::Pi => 0x0000_0001,
-            Register::Vs => 0x0001_0301,
+            Register::Ghc => 0x8000_0000, // AE: the HBA has no legacy mode
+            Register::Pi => 0x0000_0001, // one port
+            Register::Vs => 0x0001_0301, // 1.3.1
             Register::PxClb => self.clb,
             Register::PxClbu => 0,
             Register::PxFb => self.fb,
@@ -82,8 +85,8 @@ impl PortRegs {
             Register::PxIe => self.ie.bits(),
             Register::PxCmd => PortCommand::of(self.started, self.receiving).bits(),
             Register::PxTfd => task_file(self.status, self.error),
-            Register::PxSig => 0x0000_0101,
-            Register::PxSsts => 0x0000_0123,
+            Register::PxSig => 0x0000_0101, // an ATA device
+            Register::PxSsts => 0x0000_0123, // present, at generation 2, active
             Register::PxSctl => 0,
             Register::PxSerr => 0,
             Register::PxSact => self.sact(),
@@ -92,7 +95,10 @@ impl PortRegs {
     }
 
     /// Takes a word that software writes to the register at an offset (AHCI 1.3.1, section 3.3). A read-only register
-    /// takes it and stays as it is.
+    /// takes it and stays as it is. Refused are: an offset that isn't a multiple of 4 (`Unaligned`) or is no
+    /// register's (`NoSuchRegister`); PxSACT and PxCI while ST is 0 (`NotStarted`); PxCMD where it sets ST while FRE
+    /// is 0 now or in the value (`NotReceiving`), or clears FRE while ST is 1 (`Running`); PxCLB and PxFB where they
+    /// would change while ST is 1 (`Running`).
     pub fn write(&mut self, off: u32, value: u32) -> Result<(), RegFault>
         ensures ok { OnOk result (IsWritten off value self.old self.new) }
         ensures fault { IfErr result (RefusesWrite off value self.old) }
@@ -117,35 +123,6 @@ impl PortRegs {
             Register::PxSact => self.write_sact(value),
             Register::PxCi => self.write_ci(value),
         }
-    }
-
-    /// What every state of a port's registers keeps: no slot at or above the depth, only this model's interrupts, no
-    /// command while the port is stopped, and aligned bases.
-    pub fn keeps_its_rules(&self)
-        ensures { IsLawful self.now }
-    {
-        let _ = &self.depth;
-    }
-
-    /// PxSACT: a bit for each slot whose queued command is outstanding.
-    pub fn sact(&self) -> u32
-        ensures { bits result ≡ self.now.sact }
-    {
-        self.sact
-    }
-
-    /// PxCI: a bit for each slot whose command the device hasn't taken.
-    pub fn ci(&self) -> u32
-        ensures { bits result ≡ self.now.ci }
-    {
-        self.ci
-    }
-
-    /// PxCMD.ST: whether the port processes its command list.
-    pub fn started(&self) -> bool
-        ensures { result ≡ self.now.st }
-    {
-        self.started
     }
 
     /// Takes a D2H Register FIS for the command of slot `tag`, below 32 (AHCI 1.3.1, sections 3.3.8 and 3.3.14): its
