@@ -1,5 +1,5 @@
 -- What a test of one named bit says of the set of a word's bits.
-use Rattle.std.proofs.Common.{◌≡◌, ℕ, ◌<◌, nat_eq, bit_and, lit<}
+use Rattle.std.proofs.Common.{◌≡◌, ℕ, nat_eq, bit_and, lit<}
 use Rattle.word_bits.specs.Places.{bits, has_place}
 use Rattle.word_bits.proofs.BitsLemmas.{test_contains}
 

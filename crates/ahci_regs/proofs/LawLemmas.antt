@@ -1,5 +1,5 @@
 -- Lemmas on writes that change little.
-use Rattle.std.proofs.Common.{◌≡◌, ℕ, Bool, true, false, not, ◌&&◌, if◌then◌else◌, List, length, Result, Ok, Err, IfOk, refl, ◌∙◌, ap, sym, lit<}
+use Rattle.std.proofs.Common.{◌≡◌, ℕ, Bool, true, false, not, ◌&&◌, if◌then◌else◌, List, length, Ok, Err, IfOk, refl, ◌∙◌, ap, lit<}
 use Rattle.word_bits.specs.Places.{bits, has_place, no_places, union, minus, only_below}
 use Rattle.word_bits.proofs.PlacesLemmas.{union-no_places, minus-no_places, only_below-no_places}
 use Rattle.word_bits.proofs.BitsLemmas.{has_place-bits, bits_zero}
@@ -8,7 +8,7 @@ use Rattle.ahci_regs.specs.declared.fault.RegFault.TheVariants.{NotStarted, NotR
 use Rattle.ahci_regs.specs.PortState.{PortState, IsLawful}
 use Rattle.ahci_regs.specs.RegisterTable.{register_at}
 use Rattle.ahci_regs.specs.Reading.{command_word, read_of}
-use Rattle.ahci_regs.specs.Writing.{write_of, with_command, with_sact, with_ci, remaining, commanded}
+use Rattle.ahci_regs.specs.Writing.{write_of, with_command, commanded}
 use Rattle.ahci_regs.proofs.StateLemmas.{remaining_of_stopped}
 
 -- ---- a written 0

@@ -2,10 +2,10 @@
 use Rattle.std.proofs.Common.{◌≡◌, ℕ, ◌^◌, ◌<◌, ◌≤◌, Bool, true, false, not, ◌&&◌, ◌||◌, if◌then◌else◌, List, length, sym, ◌∙◌, refl, ap, ⊎_elim, subst, bit_and, arith}
 use Rattle.std.proofs.lemmas.Bool.{cases_eq, cases_lt}
 use Rattle.std.proofs.lemmas.Nat.{or_of_8, and_le_l}
-use Rattle.word_bits.specs.Places.{bits, has_place, no_places, with_place, without_place, union, intersection, minus, only_below}
+use Rattle.word_bits.specs.Places.{bits, has_place, no_places, without_place, union, intersection, minus, only_below}
 use Rattle.word_bits.proofs.PlacesLemmas.{length-no_places, length-without_place, length-union, length-intersection, length-minus, length-only_below, has_place-no_places, has_place-without_same, has_place-without_other, has_place-union, has_place-intersection, has_place-minus, has_place-only_below, has_place-only_below_past, same_sets, and_true, and_false}
 use Rattle.word_bits.proofs.BitsLemmas.{length-bits, bits_and, bits_zero}
-use Rattle.ahci_regs.specs.PortState.{PortState, IsLawful, IsSlots, IsInterrupts, IsBase, implemented, first_state}
+use Rattle.ahci_regs.specs.PortState.{PortState, IsLawful, IsSlots, IsInterrupts, implemented, first_state}
 use Rattle.ahci_regs.specs.Writing.{remaining}
 use Rattle.ahci_regs.specs.Receiving.{raised, ended, is_done, status_after_bits, dhrs, pss, sdbs, tfes}
 

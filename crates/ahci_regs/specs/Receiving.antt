@@ -7,7 +7,7 @@ use Rattle.ahci_regs.specs.PortState.{PortState}
 abbrev pub has_error : ℕ → Bool
 has_error status = has_place (bits status) 0
 
--- a status with BSY, DRQ and ERR 0: the command has been taken off the device's hands
+-- a status with BSY, DRQ and ERR 0: the device has ended the command, or has queued it
 abbrev pub is_done : ℕ → Bool
 is_done status = not (has_place (bits status) 7 || has_place (bits status) 3 || has_place (bits status) 0)
 

@@ -1,5 +1,5 @@
 -- Where the registers stand (AHCI 1.3.1, sections 3.1 and 3.3). The registers of the port begin at 100h.
-use Rattle.std.specs.Prelude.{ℕ, ◌%◌, List, [], ◌∷◌, Option, Some, None, Result, Ok, Err, nat_eq, find, ok_or, if◌then◌else◌}
+use Rattle.std.specs.Prelude.{ℕ, ◌%◌, List, [], ◌∷◌, Result, Err, nat_eq, find, ok_or, if◌then◌else◌}
 use Rattle.ahci_regs.specs.declared.fault.RegFault.{RegFault}
 use Rattle.ahci_regs.specs.declared.fault.RegFault.TheVariants.{Unaligned, NoSuchRegister}
 use Rattle.ahci_regs.specs.declared.register.Register.{Register}

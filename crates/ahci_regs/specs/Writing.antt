@@ -1,5 +1,5 @@
 -- What a write to each register does (AHCI 1.3.1, section 3.3).
-use Rattle.std.specs.Prelude.{◌≡◌, ℕ, ◌*◌, ◌/◌, ◌^◌, Bool, true, false, not, ◌&&◌, List, Result, Ok, Err, nat_eq, MatchResult, if◌then◌else◌}
+use Rattle.std.specs.Prelude.{◌≡◌, ℕ, ◌*◌, ◌/◌, ◌^◌, Bool, not, ◌&&◌, List, Result, Ok, Err, nat_eq, MatchResult, if◌then◌else◌}
 use Rattle.word_bits.specs.Places.{bits, has_place, no_places, union, intersection, minus, only_below}
 use Rattle.ahci_regs.specs.PortState.{PortState, implemented}
 use Rattle.ahci_regs.specs.RegisterTable.{register_at}

@@ -150,7 +150,7 @@ impl Status {
         self.contains(Status::ERR)
     }
 
-    /// Whether the device neither works on the command nor reports an error.
+    /// Whether BSY, DRQ and ERR are 0: the device has ended the command, or has queued it.
     #[tactic(auto, using(crate::proofs::FlagLemmas::test_err, crate::proofs::FlagLemmas::test_drq, crate::proofs::FlagLemmas::test_bsy))]
     pub fn is_done(self) -> bool
         ensures { result ≡ is_done self.0 }

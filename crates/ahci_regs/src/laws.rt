@@ -1,10 +1,11 @@
-//! What follows from the contracts of `PortRegs`. The functions do nothing: each stands for its clauses.
-ghost use Rattle.std.specs.Prelude.{◌≡◌, ◌≤◌, ℕ, Bool, true, false, IfOk};
+//! What follows from the contracts of `PortRegs`. The functions change nothing: each stands for its clauses.
+ghost use Rattle.std.specs.Prelude.{◌≡◌, ◌≤◌, ℕ, true, false, IfOk};
 ghost use Rattle.word_bits.specs.Places.{bits, has_place, no_places};
 ghost use Rattle.ahci_regs.specs.RegisterTable.{offset_of};
 ghost use Rattle.ahci_regs.specs.Reading.{command_word, read_of};
 ghost use Rattle.ahci_regs.specs.Writing.{write_of};
 
+use crate::fault::RegFault;
 use crate::port_regs::PortRegs;
 use crate::register::Register;
 
@@ -17,10 +18,11 @@ pub fn no_slot_past_the_depth(regs: &PortRegs)
 }
 
 /// Reading changes nothing, at any offset.
-pub fn reading_changes_nothing(regs: &mut PortRegs, off: u32)
-    ensures { regs.new ≡ regs.old }
+pub fn reading_changes_nothing(regs: &mut PortRegs, off: u32) -> Result<u32, RegFault>
+    ensures answer { result ≡ read_of regs.old off }
+    ensures same { regs.new ≡ regs.old }
 {
-    let _ = regs.read(off);
+    regs.read(off)
 }
 
 /// A 0 written to PxIS, PxSACT or PxCI changes nothing.

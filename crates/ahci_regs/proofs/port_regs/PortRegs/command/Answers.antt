@@ -1,5 +1,5 @@
 -- A started port receives, and a stopped one has no slot.
-use Rattle.std.proofs.Common.{true, false, not, ◌&&◌, sym, ◌∙◌, subst, arith}
+use Rattle.std.proofs.Common.{sym, ◌∙◌, subst, arith}
 use Rattle.ahci_regs.specs.PortState.{IsSlots}
 use Rattle.ahci_regs.specs.Fields.{state_of}
 use Rattle.ahci_regs.proofs.StateLemmas.{kept_by_command, slots-remaining, remaining_of_stopped}
