@@ -1,5 +1,5 @@
 -- Lemmas on the set of a word's bits.
-use Rattle.std.proofs.Common.{◌≡◌, ℕ, zero, suc, ◌+◌, ◌-◌, ◌*◌, ◌/◌, ◌%◌, ◌^◌, ◌<◌, ◌≤◌, min, max, Bool, true, false, not, ◌&&◌, ◌||◌, List, [], ◌∷◌, length, nat_eq, bit_and, bit_or, sym, ◌∙◌, refl, ap, subst, ⊎_elim, ne_eqb, if◌then◌else◌, arith}
+use Rattle.std.proofs.Common.{◌≡◌, ℕ, zero, suc, ◌+◌, ◌-◌, ◌*◌, ◌/◌, ◌%◌, ◌^◌, ◌<◌, ◌≤◌, min, max, Bool, true, false, not, ◌&&◌, ◌||◌, List, [], ◌∷◌, length, nat_eq, bit_and, bit_or, sym, ◌∙◌, refl, ap, subst, ⊎_elim, eq-eqb, ne_eqb, if◌then◌else◌, arith}
 use Rattle.std.specs.Int.{w32, bit_at, bit_not, trailing_zeros, leading_zeros}
 use Rattle.std.proofs.lemmas.Bool.{cases_eq, cases_lt}
 use Rattle.std.proofs.lemmas.Nat.{pow_pos, one_shl, leading_top}
@@ -144,6 +144,16 @@ test_masked w t b =
     ap (λ x. not (nat_eq (bit_and w x) 0)) (one_shl t 32 b) ∙ ap (λ x. not (nat_eq x 0)) (and_pow w t)
     ∙ masked_bit (bit_at w t) (2 ^ t) (bit_at-lt w t) (pow_pos t) ∙ sym (has_place-bits w t b)
 
+contained_bit : (x n : ℕ) → x < 2 → 0 < n → nat_eq (x * n) n ≡ nat_eq x 1
+contained_bit zero n p q = let e : 0 * n ≡ 0 = omega arith in ap (λ y. nat_eq y n) e ∙ ne_eqb 0 n (λ e. absurd (omega arith))
+contained_bit (suc zero) n p q = eq-eqb (1 * n) n (omega arith)
+contained_bit (suc (suc x)) n p q = absurd (omega arith)
+
+-- `w & m == m`, where m has one bit
+pub test_contains : (w t : ℕ) → t < 32 → nat_eq (bit_and w (2 ^ t)) (2 ^ t) ≡ has_place (bits w) t
+test_contains w t b =
+    ap (λ x. nat_eq x (2 ^ t)) (and_pow w t) ∙ contained_bit (bit_at w t) (2 ^ t) (bit_at-lt w t) (pow_pos t) ∙ sym (has_place-bits w t b)
+
 -- `w & ((1 << d) - 1)`
 pub bits_below : (w d : ℕ) → d ≤ 32 → bits (bit_and w (2 ^ d - 1)) ≡ only_below d (bits w)
 bits_below w d l =
@@ -209,3 +219,6 @@ word_of-bits w q =
     let P : ℕ → Type 0 = λ n. word_of (bits w) < 2 ^ n in
     let b : word_of (bits w) < 2 ^ 32 = subst P (length-bits w) (word_of-lt (bits w)) in
     same_word (word_of (bits w)) w b q (bits-word_of (bits w) (length-bits w))
+
+-- for an attribute, which takes no name with a dash
+pub ruleset words_back = (word_of-bits, bits-word_of)
