@@ -1,0 +1,25 @@
+use std::marker::Model;
+
+/// READ or WRITE FPDMA QUEUED (ACS-3): a tag below 32, an LBA below 2^48, 1 to 65,536 sectors.
+#[derive(Clone, Copy, Debug, PartialEq, Eq)]
+pub struct Queued {
+    pub write: bool,
+    pub tag: u8,
+    pub lba: u64,
+    pub sectors: u32,
+    /// Forced unit access.
+    pub fua: bool,
+}
+
+impl Model for Queued {
+    ghost use Rattle.std.specs.Prelude.{◌<◌, ◌≤◌, ◌^◌};
+    ghost use Rattle.sata_fis.specs.Fields.{QueuedFields};
+
+    ghost Value = { QueuedFields };
+
+    ghost view = { λ q. record { write = q.write; tag = q.tag; lba = q.lba; sectors = q.sectors; fua = q.fua } };
+
+    ghost invariant = { λ q. (q.tag < 32) × (q.lba < 2 ^ 48) × (1 ≤ q.sectors) × (q.sectors ≤ 65536) };
+
+    ghost inverse = { λ q. record { write = q.write; tag = q.tag; lba = q.lba; sectors = q.sectors; fua = q.fua } };
+}

@@ -1,0 +1,32 @@
+ghost use Rattle.std.specs.Prelude.{◌≡◌, List, ℕ, Ok};
+ghost use Rattle.sata_fis.specs.declared.fis.Fis.{Fis as AnyFis};
+ghost use Rattle.sata_fis.specs.Spelling.{Spells};
+ghost use Rattle.sata_fis.specs.Fault.{Decodes};
+
+use crate::d2h::D2h;
+use crate::dma_setup::DmaSetup;
+use crate::fault::FisFault;
+use crate::fis::Fis;
+use crate::h2d::H2d;
+use crate::payload::Payload;
+use crate::pio_setup::PioSetup;
+use crate::set_bits::SetBits;
+
+/// Reads one FIS, all of the bytes.
+pub fn decode(bytes: &[u8]) -> Result<Fis<'_>, FisFault>
+    ensures reads { Decodes bytes.now result }
+    ensures only { (f : AnyFis) → Spells bytes.now f → result ≡ Ok f }
+{
+    let kind = *bytes.first().ok_or(FisFault::Empty)?;
+    match (kind, bytes.len()) {
+        (0x27, 20) => Ok(Fis::H2d(H2d::at(bytes))),
+        (0x34, 20) => Ok(Fis::D2h(D2h::at(bytes))),
+        (0x39, 4) => Ok(Fis::DmaActivate),
+        (0x41, 28) => Ok(Fis::DmaSetup(DmaSetup::at(bytes))),
+        (0x5F, 20) => Ok(Fis::PioSetup(PioSetup::at(bytes))),
+        (0xA1, 8) => Ok(Fis::SetBits(SetBits::at(bytes))),
+        (0x46, 8..=8196) if bytes.len() % 4 == 0 => Ok(Fis::Data(Payload { bytes: &bytes[4..] })),
+        (0x27 | 0x34 | 0x39 | 0x41 | 0x46 | 0x5F | 0xA1, len) => Err(FisFault::WrongLength(len)),
+        _ => Err(FisFault::UnknownType(kind)),
+    }
+}

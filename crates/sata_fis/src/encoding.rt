@@ -1,0 +1,50 @@
+ghost use Rattle.std.specs.Prelude.{◌≡◌, ◌≤◌, ◌++◌, ℕ, List, length, Result, Ok};
+ghost use Rattle.sata_fis.specs.declared.fis.Fis.{Fis as AnyFis};
+ghost use Rattle.sata_fis.specs.declared.fis.Fis.TheVariants.{Data};
+ghost use Rattle.sata_fis.specs.declared.fault.FisFault.{FisFault as AnyFault};
+ghost use Rattle.sata_fis.specs.Payload.{IsPayload};
+ghost use Rattle.sata_fis.specs.Spelling.{Spells};
+ghost use Rattle.sata_fis.specs.Fault.{Decodes};
+ghost use Rattle.sata_fis.specs.Encoding.{encoded, data_head_bytes, IsNotData};
+
+use crate::fis::Fis;
+use arrayvec::ArrayVec;
+
+/// The first dword of a Data FIS, which its payload follows.
+pub fn data_head() -> [u8; 4]
+    ensures bytes { result ≡ data_head_bytes }
+    ensures spells { (xs : List ℕ) → IsPayload xs → Spells (result ++ xs) (Data xs) }
+{
+    [0x46, 0, 0, 0]
+}
+
+/// The bytes as a list of at most 28.
+fn listed(bytes: &[u8]) -> ArrayVec<u8, 28>
+    requires { length bytes.now ≤ 28 }
+    ensures { result.items ≡ bytes.now }
+{
+    let mut list = ArrayVec::new();
+    list.try_extend_from_slice(bytes).unwrap();
+    list
+}
+
+impl Fis<'_> {
+    /// The bytes of the FIS, reserved bits 0. The bytes of Data are those of `data_head` and of its
+    /// payload.
+    pub fn encode(&self) -> ArrayVec<u8, 28>
+        requires { IsNotData self.now }
+        ensures bytes { result.items ≡ encoded self.now }
+        ensures spells { Spells result.items self.now }
+        ensures back { (r : Result AnyFis AnyFault) → Decodes result.items r → r ≡ Ok self.now }
+    {
+        match self {
+            Fis::H2d(f) => listed(&f.bytes()),
+            Fis::D2h(f) => listed(&f.bytes()),
+            Fis::DmaActivate => listed(&[0x39, 0, 0, 0]),
+            Fis::DmaSetup(f) => listed(&f.bytes()),
+            Fis::PioSetup(f) => listed(&f.bytes()),
+            Fis::SetBits(f) => listed(&f.bytes()),
+            Fis::Data(_) => unreachable!(),
+        }
+    }
+}

@@ -1,0 +1,35 @@
+//! The bytes of Serial ATA's frame information structures (FIS), read and written, and the queued
+//! command in a Register FIS - Host to Device.
+//!
+//! The types keep their ranges: a value of `H2d`, `D2h` or `PioSetup` has an LBA below 2^48, a
+//! `DmaSetup` and a `Queued` a tag below 32, a `SetBits` a status without bits 7 and 3, a `Queued` 1
+//! to 65,536 sectors, and a `Payload` 4 to 8,192 bytes, a multiple of 4. A literal is accepted where
+//! the values are known to be in range. For values of unknown origin each type has a checked `new`.
+#![tactic(auto)]
+
+mod command;
+mod d2h;
+mod decoding;
+mod dma_setup;
+mod encoding;
+mod fault;
+mod fis;
+mod h2d;
+mod payload;
+mod pio_setup;
+mod places;
+mod queueing;
+mod set_bits;
+
+pub use command::Queued;
+pub use d2h::D2h;
+pub use decoding::decode;
+pub use dma_setup::DmaSetup;
+pub use encoding::data_head;
+pub use fault::FisFault;
+pub use fis::Fis;
+pub use h2d::H2d;
+pub use payload::Payload;
+pub use pio_setup::PioSetup;
+pub use queueing::{h2d_of, queued};
+pub use set_bits::SetBits;

@@ -1,0 +1,40 @@
+//! Fields by their places in a FIS.
+
+ghost use Rattle.std.specs.Prelude.{◌≡◌, ◌+◌, ◌<◌, ◌≤◌, ◌^◌, length};
+ghost use Rattle.sata_fis.specs.Places.{bit, flag, lba_at, number};
+
+use byteorder::{ByteOrder, LittleEndian};
+
+/// Whether a bit of a byte is 1.
+pub(crate) fn is_set(byte: u8, place: u8) -> bool
+    requires { place < 8 }
+    ensures { result ≡ bit place byte }
+{
+    byte >> place & 1 == 1
+}
+
+/// A byte with one bit, or 0.
+pub(crate) fn flag(set: bool, place: u8) -> u8
+    requires { place < 8 }
+    ensures { result ≡ flag place set }
+{
+    if set { 1 << place } else { 0 }
+}
+
+/// The 24 bits at a place.
+fn low_24(bytes: &[u8], place: usize) -> u32
+    requires { place + 3 ≤ length bytes.now }
+    ensures value { result ≡ number place 3 bytes.now }
+    ensures fits { result < 2 ^ 24 }
+{
+    LittleEndian::read_u24(&bytes[place..])
+}
+
+/// The LBA, whose halves of 24 bits stand in bytes 4 to 6 and 8 to 10.
+pub(crate) fn lba_of(bytes: &[u8]) -> u64
+    requires { 11 ≤ length bytes.now }
+    ensures value { result ≡ lba_at bytes.now }
+    ensures fits { result < 2 ^ 48 }
+{
+    u64::from(low_24(bytes, 4)) + (u64::from(low_24(bytes, 8)) << 24)
+}

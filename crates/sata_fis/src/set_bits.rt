@@ -1,0 +1,59 @@
+use crate::places::{flag, is_set};
+use byteorder::{ByteOrder, LittleEndian};
+use std::marker::Model;
+
+/// Set Device Bits FIS - Device to Host: the tags that are done. Bits 7 and 3 of the status, BSY and
+/// DRQ, aren't in the FIS and are 0.
+#[derive(Clone, Copy, Debug, PartialEq, Eq)]
+pub struct SetBits {
+    /// Bit I: the FIS asks for an interrupt.
+    pub i: bool,
+    pub status: u8,
+    pub error: u8,
+    /// SActive: a 1 for each tag that is done.
+    pub sactive: u32,
+}
+
+impl Model for SetBits {
+    ghost use Rattle.std.specs.Prelude.{◌≡◌, bit_and};
+    ghost use Rattle.sata_fis.specs.Fields.{SetBitsFields};
+
+    ghost Value = { SetBitsFields };
+
+    ghost view = { λ f. record { i = f.i; status = f.status; error = f.error; sactive = f.sactive } };
+
+    ghost invariant = { λ f. bit_and f.status 0x88 ≡ 0 };
+
+    ghost inverse = { λ f. record { i = f.i; status = f.status; error = f.error; sactive = f.sactive } };
+}
+
+impl SetBits {
+    ghost use Rattle.std.specs.Prelude.{◌≡◌, length};
+    ghost use Rattle.sata_fis.specs.Layout.{set_bits_at};
+    ghost use Rattle.sata_fis.specs.Encoding.{set_bits_bytes};
+
+    /// What 8 bytes say, by their places.
+    pub(crate) fn at(bytes: &[u8]) -> SetBits
+        requires { length bytes.now ≡ 8 }
+        ensures { result ≡ set_bits_at bytes.now }
+    {
+        SetBits {
+            i: is_set(bytes[1], 6),
+            status: bytes[2] & 0x77,
+            error: bytes[3],
+            sactive: LittleEndian::read_u32(&bytes[4..]),
+        }
+    }
+
+    /// The 8 bytes, reserved bits 0.
+    pub(crate) fn bytes(&self) -> [u8; 8]
+        ensures { result ≡ set_bits_bytes self.now }
+    {
+        let [sactive_0, sactive_1, sactive_2, sactive_3] = self.sactive.to_le_bytes();
+        let i = flag(self.i, 6);
+        [
+            0xA1, i, self.status, self.error,
+            sactive_0, sactive_1, sactive_2, sactive_3,
+        ]
+    }
+}
