@@ -1,7 +1,7 @@
 -- READ FPDMA QUEUED and WRITE FPDMA QUEUED in a Register FIS - Host to Device (ACS-3, by the commands'
 -- titles).
-use Rattle.std.specs.Prelude.{ℕ, ◌+◌, ◌*◌, ◌/◌, ◌%◌, Bool, true, ◌==◌, ◌&&◌, ◌||◌, Option, Some, None, if◌then◌else◌}
-use Rattle.sata_fis.specs.Places.{bit, flag}
+use Rattle.std.specs.Prelude.{ℕ, ◌*◌, ◌/◌, ◌%◌, Bool, true, ◌==◌, ◌&&◌, ◌||◌, Option, Some, None, if◌then◌else◌}
+use Rattle.sata_fis.specs.Places.{bit}
 use Rattle.sata_fis.specs.Fields.{H2dFields, QueuedFields}
 
 -- READ FPDMA QUEUED is 60h and WRITE FPDMA QUEUED 61h; C marks a command, and device bit 6 is 1
@@ -33,7 +33,7 @@ h2d_for q = record {
   command = if q.write then 0x61 else 0x60;
   features = q.sectors % 65536;
   lba = q.lba;
-  device = 64 + flag 7 q.fua;
+  device = if q.fua then 0xC0 else 0x40;
   count = 8 * q.tag;
   control = 0;
 }

@@ -1,49 +1,49 @@
 -- The bytes of each FIS, one line a dword, reserved bits 0 (Serial ATA, "FIS types").
-use Rattle.std.specs.Prelude.{ℕ, ◌+◌, List, [], ◌∷◌, ◌++◌, ⊤}
+use Rattle.std.specs.Prelude.{ℕ, false, List, [], ◌∷◌, ◌++◌, ⊤}
 use Rattle.std.specs.Int.{byte_at}
 use Rattle.sata_fis.specs.declared.fis.Fis.{Fis}
 use Rattle.sata_fis.specs.declared.fis.Fis.TheVariants.{H2d, D2h, DmaActivate, DmaSetup, PioSetup, SetBits, Data}
-use Rattle.sata_fis.specs.Places.{flag}
+use Rattle.sata_fis.specs.Places.{flags}
 use Rattle.sata_fis.specs.Fields.{H2dFields, D2hFields, PioSetupFields, DmaSetupFields, SetBitsFields}
 
 abbrev pub h2d_bytes : H2dFields → List ℕ
 h2d_bytes f =
-  0x27 ∷ flag 7 f.c ∷ f.command ∷ byte_at 0 f.features
-  ∷ byte_at 0 f.lba ∷ byte_at 1 f.lba ∷ byte_at 2 f.lba ∷ f.device
-  ∷ byte_at 3 f.lba ∷ byte_at 4 f.lba ∷ byte_at 5 f.lba ∷ byte_at 1 f.features
-  ∷ byte_at 0 f.count ∷ byte_at 1 f.count ∷ 0 ∷ f.control
-  ∷ 0 ∷ 0 ∷ 0 ∷ 0 ∷ []
+    0x27 ∷ flags f.c false false ∷ f.command ∷ byte_at 0 f.features
+    ∷ byte_at 0 f.lba ∷ byte_at 1 f.lba ∷ byte_at 2 f.lba ∷ f.device
+    ∷ byte_at 3 f.lba ∷ byte_at 4 f.lba ∷ byte_at 5 f.lba ∷ byte_at 1 f.features
+    ∷ byte_at 0 f.count ∷ byte_at 1 f.count ∷ 0 ∷ f.control
+    ∷ 0 ∷ 0 ∷ 0 ∷ 0 ∷ []
 
 abbrev pub d2h_bytes : D2hFields → List ℕ
 d2h_bytes f =
-  0x34 ∷ flag 6 f.i ∷ f.status ∷ f.error
-  ∷ byte_at 0 f.lba ∷ byte_at 1 f.lba ∷ byte_at 2 f.lba ∷ f.device
-  ∷ byte_at 3 f.lba ∷ byte_at 4 f.lba ∷ byte_at 5 f.lba ∷ 0
-  ∷ byte_at 0 f.count ∷ byte_at 1 f.count ∷ 0 ∷ 0
-  ∷ 0 ∷ 0 ∷ 0 ∷ 0 ∷ []
+    0x34 ∷ flags false f.i false ∷ f.status ∷ f.error
+    ∷ byte_at 0 f.lba ∷ byte_at 1 f.lba ∷ byte_at 2 f.lba ∷ f.device
+    ∷ byte_at 3 f.lba ∷ byte_at 4 f.lba ∷ byte_at 5 f.lba ∷ 0
+    ∷ byte_at 0 f.count ∷ byte_at 1 f.count ∷ 0 ∷ 0
+    ∷ 0 ∷ 0 ∷ 0 ∷ 0 ∷ []
 
 abbrev pub dma_setup_bytes : DmaSetupFields → List ℕ
 dma_setup_bytes f =
-  0x41 ∷ (flag 7 f.a + flag 6 f.i + flag 5 f.d) ∷ 0 ∷ 0
-  ∷ f.tag ∷ 0 ∷ 0 ∷ 0
-  ∷ 0 ∷ 0 ∷ 0 ∷ 0
-  ∷ 0 ∷ 0 ∷ 0 ∷ 0
-  ∷ byte_at 0 f.offset ∷ byte_at 1 f.offset ∷ byte_at 2 f.offset ∷ byte_at 3 f.offset
-  ∷ byte_at 0 f.count ∷ byte_at 1 f.count ∷ byte_at 2 f.count ∷ byte_at 3 f.count
-  ∷ 0 ∷ 0 ∷ 0 ∷ 0 ∷ []
+    0x41 ∷ flags f.a f.i f.d ∷ 0 ∷ 0
+    ∷ f.tag ∷ 0 ∷ 0 ∷ 0
+    ∷ 0 ∷ 0 ∷ 0 ∷ 0
+    ∷ 0 ∷ 0 ∷ 0 ∷ 0
+    ∷ byte_at 0 f.offset ∷ byte_at 1 f.offset ∷ byte_at 2 f.offset ∷ byte_at 3 f.offset
+    ∷ byte_at 0 f.count ∷ byte_at 1 f.count ∷ byte_at 2 f.count ∷ byte_at 3 f.count
+    ∷ 0 ∷ 0 ∷ 0 ∷ 0 ∷ []
 
 abbrev pub pio_setup_bytes : PioSetupFields → List ℕ
 pio_setup_bytes f =
-  0x5F ∷ (flag 6 f.i + flag 5 f.d) ∷ f.status ∷ f.error
-  ∷ byte_at 0 f.lba ∷ byte_at 1 f.lba ∷ byte_at 2 f.lba ∷ f.device
-  ∷ byte_at 3 f.lba ∷ byte_at 4 f.lba ∷ byte_at 5 f.lba ∷ 0
-  ∷ byte_at 0 f.count ∷ byte_at 1 f.count ∷ 0 ∷ f.e_status
-  ∷ byte_at 0 f.bytes ∷ byte_at 1 f.bytes ∷ 0 ∷ 0 ∷ []
+    0x5F ∷ flags false f.i f.d ∷ f.status ∷ f.error
+    ∷ byte_at 0 f.lba ∷ byte_at 1 f.lba ∷ byte_at 2 f.lba ∷ f.device
+    ∷ byte_at 3 f.lba ∷ byte_at 4 f.lba ∷ byte_at 5 f.lba ∷ 0
+    ∷ byte_at 0 f.count ∷ byte_at 1 f.count ∷ 0 ∷ f.e_status
+    ∷ byte_at 0 f.bytes ∷ byte_at 1 f.bytes ∷ 0 ∷ 0 ∷ []
 
 abbrev pub set_bits_bytes : SetBitsFields → List ℕ
 set_bits_bytes f =
-  0xA1 ∷ flag 6 f.i ∷ f.status ∷ f.error
-  ∷ byte_at 0 f.sactive ∷ byte_at 1 f.sactive ∷ byte_at 2 f.sactive ∷ byte_at 3 f.sactive ∷ []
+    0xA1 ∷ flags false f.i false ∷ f.status ∷ f.error
+    ∷ byte_at 0 f.sactive ∷ byte_at 1 f.sactive ∷ byte_at 2 f.sactive ∷ byte_at 3 f.sactive ∷ []
 
 -- the first dword of Data, which its payload follows
 abbrev pub data_head_bytes : List ℕ

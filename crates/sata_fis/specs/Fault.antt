@@ -13,18 +13,18 @@ is_type t = t == 0x27 || t == 0x34 || t == 0x39 || t == 0x41 || t == 0x46 || t =
 -- a FIS of the type may have this many bytes
 abbrev pub is_length : ℕ → ℕ → Bool
 is_length type len =
-  if type == 0x39 then len == 4
-  else (if type == 0xA1 then len == 8
-  else (if type == 0x41 then len == 28
-  else (if type == 0x46 then nat_le 8 len && nat_le len 8196 && len % 4 == 0
-  else len == 20)))
+    if type == 0x39 then len == 4
+    else (if type == 0xA1 then len == 8
+    else (if type == 0x41 then len == 28
+    else (if type == 0x46 then nat_le 8 len && nat_le len 8196 && len % 4 == 0
+    else len == 20)))
 
 -- the first of the three faults that the bytes have
 abbrev pub IsFault : List ℕ → FisFault → Type 0
 IsFault bytes Empty = bytes ≡ []
 IsFault bytes (UnknownType t) = (0 < length bytes) × (t ≡ byte 0 bytes) × (is_type t ≡ false)
 IsFault bytes (WrongLength n) =
-  (0 < length bytes) × (n ≡ length bytes) × (is_type (byte 0 bytes) ≡ true) × (is_length (byte 0 bytes) n ≡ false)
+    (0 < length bytes) × (n ≡ length bytes) × (is_type (byte 0 bytes) ≡ true) × (is_length (byte 0 bytes) n ≡ false)
 
 -- what reading the bytes answers
 abbrev pub Decodes : List ℕ → Result Fis FisFault → Type 0

@@ -20,6 +20,6 @@ number i n bytes = little_from i n bytes
 abbrev pub lba_at : List ℕ → ℕ
 lba_at bytes = number 4 3 bytes + 2 ^ 24 * number 8 3 bytes
 
--- a number with bit k alone, or 0
-abbrev pub flag : ℕ → Bool → ℕ
-flag k b = if b then 2 ^ k else 0
+-- byte 1 of a FIS: bit 7 (C or A), bit 6 (I) and bit 5 (D)
+abbrev pub flags : Bool → Bool → Bool → ℕ
+flags bit_7 bit_6 bit_5 = (if bit_7 then 128 else 0) + (if bit_6 then 64 else 0) + (if bit_5 then 32 else 0)

@@ -1,4 +1,4 @@
-use crate::places::{flag, is_set, lba_of};
+use crate::places::{flags, is_set, lba_of};
 use byteorder::{ByteOrder, LittleEndian};
 use std::marker::Model;
 
@@ -21,13 +21,23 @@ impl Model for D2h {
     ghost Value = { D2hFields };
 
     ghost view = { λ f. record {
-        i = f.i; status = f.status; error = f.error; lba = f.lba; device = f.device; count = f.count;
+      i = f.i;
+      status = f.status;
+      error = f.error;
+      lba = f.lba;
+      device = f.device;
+      count = f.count;
     } };
 
     ghost invariant = { λ f. f.lba < 2 ^ 48 };
 
     ghost inverse = { λ f. record {
-        i = f.i; status = f.status; error = f.error; lba = f.lba; device = f.device; count = f.count;
+      i = f.i;
+      status = f.status;
+      error = f.error;
+      lba = f.lba;
+      device = f.device;
+      count = f.count;
     } };
 }
 
@@ -53,17 +63,33 @@ impl D2h {
 
     /// The 20 bytes, reserved bits 0.
     pub(crate) fn bytes(&self) -> [u8; 20]
-        ensures { result ≡ d2h_bytes self.now }
+        ensures bytes { result ≡ d2h_bytes self.now }
+        ensures back { d2h_at result ≡ self.now }
     {
-        let [lba_0, lba_1, lba_2, lba_3, lba_4, lba_5, _, _] = self.lba.to_le_bytes();
-        let [count_low, count_high] = self.count.to_le_bytes();
-        let i = flag(self.i, 6);
+        let D2h { i, status, error, lba, device, count } = *self;
+        let [lba_0, lba_1, lba_2, lba_3, lba_4, lba_5, _, _] = lba.to_le_bytes();
+        let [count_low, count_high] = count.to_le_bytes();
         [
-            0x34, i, self.status, self.error,
-            lba_0, lba_1, lba_2, self.device,
-            lba_3, lba_4, lba_5, 0,
-            count_low, count_high, 0, 0,
-            0, 0, 0, 0,
+            0x34,
+            flags(false, i, false),
+            status,
+            error,
+            lba_0,
+            lba_1,
+            lba_2,
+            device,
+            lba_3,
+            lba_4,
+            lba_5,
+            0,
+            count_low,
+            count_high,
+            0,
+            0,
+            0,
+            0,
+            0,
+            0,
         ]
     }
 }

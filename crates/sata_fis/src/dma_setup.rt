@@ -1,4 +1,4 @@
-use crate::places::{flag, is_set};
+use crate::places::{flags, is_set};
 use byteorder::{ByteOrder, LittleEndian};
 use std::marker::Model;
 
@@ -53,19 +53,41 @@ impl DmaSetup {
 
     /// The 28 bytes, reserved bits 0.
     pub(crate) fn bytes(&self) -> [u8; 28]
-        ensures { result ≡ dma_setup_bytes self.now }
+        ensures bytes { result ≡ dma_setup_bytes self.now }
+        ensures back { dma_setup_at result ≡ self.now }
     {
-        let [offset_0, offset_1, offset_2, offset_3] = self.offset.to_le_bytes();
-        let [count_0, count_1, count_2, count_3] = self.count.to_le_bytes();
-        let flags = flag(self.a, 7) | flag(self.i, 6) | flag(self.d, 5);
+        let DmaSetup { a, i, d, tag, offset, count } = *self;
+        let [offset_0, offset_1, offset_2, offset_3] = offset.to_le_bytes();
+        let [count_0, count_1, count_2, count_3] = count.to_le_bytes();
         [
-            0x41, flags, 0, 0,
-            self.tag, 0, 0, 0,
-            0, 0, 0, 0,
-            0, 0, 0, 0,
-            offset_0, offset_1, offset_2, offset_3,
-            count_0, count_1, count_2, count_3,
-            0, 0, 0, 0,
+            0x41,
+            flags(a, i, d),
+            0,
+            0,
+            tag,
+            0,
+            0,
+            0,
+            0,
+            0,
+            0,
+            0,
+            0,
+            0,
+            0,
+            0,
+            offset_0,
+            offset_1,
+            offset_2,
+            offset_3,
+            count_0,
+            count_1,
+            count_2,
+            count_3,
+            0,
+            0,
+            0,
+            0,
         ]
     }
 }

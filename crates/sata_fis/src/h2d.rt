@@ -1,4 +1,4 @@
-use crate::places::{flag, is_set, lba_of};
+use crate::places::{flags, is_set, lba_of};
 use byteorder::{ByteOrder, LittleEndian};
 use std::marker::Model;
 
@@ -22,15 +22,25 @@ impl Model for H2d {
     ghost Value = { H2dFields };
 
     ghost view = { λ f. record {
-        c = f.c; command = f.command; features = f.features; lba = f.lba;
-        device = f.device; count = f.count; control = f.control;
+      c = f.c;
+      command = f.command;
+      features = f.features;
+      lba = f.lba;
+      device = f.device;
+      count = f.count;
+      control = f.control;
     } };
 
     ghost invariant = { λ f. f.lba < 2 ^ 48 };
 
     ghost inverse = { λ f. record {
-        c = f.c; command = f.command; features = f.features; lba = f.lba;
-        device = f.device; count = f.count; control = f.control;
+      c = f.c;
+      command = f.command;
+      features = f.features;
+      lba = f.lba;
+      device = f.device;
+      count = f.count;
+      control = f.control;
     } };
 }
 
@@ -57,18 +67,34 @@ impl H2d {
 
     /// The 20 bytes, reserved bits 0.
     pub(crate) fn bytes(&self) -> [u8; 20]
-        ensures { result ≡ h2d_bytes self.now }
+        ensures bytes { result ≡ h2d_bytes self.now }
+        ensures back { h2d_at result ≡ self.now }
     {
-        let [features_low, features_high] = self.features.to_le_bytes();
-        let [lba_0, lba_1, lba_2, lba_3, lba_4, lba_5, _, _] = self.lba.to_le_bytes();
-        let [count_low, count_high] = self.count.to_le_bytes();
-        let c = flag(self.c, 7);
+        let H2d { c, command, features, lba, device, count, control } = *self;
+        let [features_low, features_high] = features.to_le_bytes();
+        let [lba_0, lba_1, lba_2, lba_3, lba_4, lba_5, _, _] = lba.to_le_bytes();
+        let [count_low, count_high] = count.to_le_bytes();
         [
-            0x27, c, self.command, features_low,
-            lba_0, lba_1, lba_2, self.device,
-            lba_3, lba_4, lba_5, features_high,
-            count_low, count_high, 0, self.control,
-            0, 0, 0, 0,
+            0x27,
+            flags(c, false, false),
+            command,
+            features_low,
+            lba_0,
+            lba_1,
+            lba_2,
+            device,
+            lba_3,
+            lba_4,
+            lba_5,
+            features_high,
+            count_low,
+            count_high,
+            0,
+            control,
+            0,
+            0,
+            0,
+            0,
         ]
     }
 }

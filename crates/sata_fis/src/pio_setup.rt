@@ -1,4 +1,4 @@
-use crate::places::{flag, is_set, lba_of};
+use crate::places::{flags, is_set, lba_of};
 use byteorder::{ByteOrder, LittleEndian};
 use std::marker::Model;
 
@@ -28,15 +28,29 @@ impl Model for PioSetup {
     ghost Value = { PioSetupFields };
 
     ghost view = { λ f. record {
-        i = f.i; d = f.d; status = f.status; error = f.error; lba = f.lba; device = f.device;
-        count = f.count; e_status = f.e_status; bytes = f.bytes;
+      i = f.i;
+      d = f.d;
+      status = f.status;
+      error = f.error;
+      lba = f.lba;
+      device = f.device;
+      count = f.count;
+      e_status = f.e_status;
+      bytes = f.bytes;
     } };
 
     ghost invariant = { λ f. f.lba < 2 ^ 48 };
 
     ghost inverse = { λ f. record {
-        i = f.i; d = f.d; status = f.status; error = f.error; lba = f.lba; device = f.device;
-        count = f.count; e_status = f.e_status; bytes = f.bytes;
+      i = f.i;
+      d = f.d;
+      status = f.status;
+      error = f.error;
+      lba = f.lba;
+      device = f.device;
+      count = f.count;
+      e_status = f.e_status;
+      bytes = f.bytes;
     } };
 }
 
@@ -65,18 +79,34 @@ impl PioSetup {
 
     /// The 20 bytes, reserved bits 0.
     pub(crate) fn bytes(&self) -> [u8; 20]
-        ensures { result ≡ pio_setup_bytes self.now }
+        ensures bytes { result ≡ pio_setup_bytes self.now }
+        ensures back { pio_setup_at result ≡ self.now }
     {
-        let [lba_0, lba_1, lba_2, lba_3, lba_4, lba_5, _, _] = self.lba.to_le_bytes();
-        let [count_low, count_high] = self.count.to_le_bytes();
-        let [bytes_low, bytes_high] = self.bytes.to_le_bytes();
-        let flags = flag(self.i, 6) | flag(self.d, 5);
+        let PioSetup { i, d, status, error, lba, device, count, e_status, bytes } = *self;
+        let [lba_0, lba_1, lba_2, lba_3, lba_4, lba_5, _, _] = lba.to_le_bytes();
+        let [count_low, count_high] = count.to_le_bytes();
+        let [bytes_low, bytes_high] = bytes.to_le_bytes();
         [
-            0x5F, flags, self.status, self.error,
-            lba_0, lba_1, lba_2, self.device,
-            lba_3, lba_4, lba_5, 0,
-            count_low, count_high, 0, self.e_status,
-            bytes_low, bytes_high, 0, 0,
+            0x5F,
+            flags(false, i, d),
+            status,
+            error,
+            lba_0,
+            lba_1,
+            lba_2,
+            device,
+            lba_3,
+            lba_4,
+            lba_5,
+            0,
+            count_low,
+            count_high,
+            0,
+            e_status,
+            bytes_low,
+            bytes_high,
+            0,
+            0,
         ]
     }
 }

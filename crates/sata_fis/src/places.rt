@@ -1,7 +1,7 @@
 //! Fields by their places in a FIS.
 
 ghost use Rattle.std.specs.Prelude.{◌≡◌, ◌+◌, ◌<◌, ◌≤◌, ◌^◌, length};
-ghost use Rattle.sata_fis.specs.Places.{bit, flag, lba_at, number};
+ghost use Rattle.sata_fis.specs.Places.{bit, flags, lba_at, number};
 
 use byteorder::{ByteOrder, LittleEndian};
 
@@ -13,12 +13,11 @@ pub(crate) fn is_set(byte: u8, place: u8) -> bool
     byte >> place & 1 == 1
 }
 
-/// A byte with one bit, or 0.
-pub(crate) fn flag(set: bool, place: u8) -> u8
-    requires { place < 8 }
-    ensures { result ≡ flag place set }
+/// Byte 1 of a FIS: bit 7 (C or A), bit 6 (I) and bit 5 (D).
+pub(crate) fn flags(bit_7: bool, bit_6: bool, bit_5: bool) -> u8
+    ensures { result ≡ flags bit_7 bit_6 bit_5 }
 {
-    if set { 1 << place } else { 0 }
+    u8::from(bit_7) << 7 | u8::from(bit_6) << 6 | u8::from(bit_5) << 5
 }
 
 /// The 24 bits at a place.

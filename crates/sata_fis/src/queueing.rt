@@ -22,7 +22,11 @@ pub fn queued(h2d: &H2d) -> Option<Queued>
         write: h2d.command == WRITE,
         tag: (h2d.count >> 3 & 31) as u8,
         lba: h2d.lba,
-        sectors: if h2d.features == 0 { 65_536 } else { u32::from(h2d.features) },
+        sectors: if h2d.features == 0 {
+            65_536
+        } else {
+            u32::from(h2d.features)
+        },
         fua: is_set(h2d.device, 7),
     })
 }

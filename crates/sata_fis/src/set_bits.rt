@@ -1,4 +1,4 @@
-use crate::places::{flag, is_set};
+use crate::places::{flags, is_set};
 use byteorder::{ByteOrder, LittleEndian};
 use std::marker::Model;
 
@@ -22,7 +22,7 @@ impl Model for SetBits {
 
     ghost view = { λ f. record { i = f.i; status = f.status; error = f.error; sactive = f.sactive } };
 
-    ghost invariant = { λ f. bit_and f.status 0x88 ≡ 0 };
+    ghost invariant = { λ f. bit_and f.status 0x77 ≡ f.status };
 
     ghost inverse = { λ f. record { i = f.i; status = f.status; error = f.error; sactive = f.sactive } };
 }
@@ -47,13 +47,20 @@ impl SetBits {
 
     /// The 8 bytes, reserved bits 0.
     pub(crate) fn bytes(&self) -> [u8; 8]
-        ensures { result ≡ set_bits_bytes self.now }
+        ensures bytes { result ≡ set_bits_bytes self.now }
+        ensures back { set_bits_at result ≡ self.now }
     {
-        let [sactive_0, sactive_1, sactive_2, sactive_3] = self.sactive.to_le_bytes();
-        let i = flag(self.i, 6);
+        let SetBits { i, status, error, sactive } = *self;
+        let [sactive_0, sactive_1, sactive_2, sactive_3] = sactive.to_le_bytes();
         [
-            0xA1, i, self.status, self.error,
-            sactive_0, sactive_1, sactive_2, sactive_3,
+            0xA1,
+            flags(false, i, false),
+            status,
+            error,
+            sactive_0,
+            sactive_1,
+            sactive_2,
+            sactive_3,
         ]
     }
 }
