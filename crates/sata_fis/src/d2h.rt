@@ -66,7 +66,14 @@ impl D2h {
         ensures bytes { result ≡ d2h_bytes self.now }
         ensures back { d2h_at result ≡ self.now }
     {
-        let D2h { i, status, error, lba, device, count } = *self;
+        let D2h {
+            i,
+            status,
+            error,
+            lba,
+            device,
+            count,
+        } = *self;
         let [lba_0, lba_1, lba_2, lba_3, lba_4, lba_5, _, _] = lba.to_le_bytes();
         let [count_low, count_high] = count.to_le_bytes();
         [

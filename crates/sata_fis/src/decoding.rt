@@ -1,5 +1,6 @@
-ghost use Rattle.std.specs.Prelude.{◌≡◌, List, ℕ, Ok};
+ghost use Rattle.std.specs.Prelude.{◌≡◌, List, ℕ, Result, Ok};
 ghost use Rattle.sata_fis.specs.declared.fis.Fis.{Fis as AnyFis};
+ghost use Rattle.sata_fis.specs.declared.fault.FisFault.{FisFault as AnyFault};
 ghost use Rattle.sata_fis.specs.Spelling.{Spells};
 ghost use Rattle.sata_fis.specs.Fault.{Decodes};
 
@@ -30,3 +31,9 @@ pub fn decode(bytes: &[u8]) -> Result<Fis<'_>, FisFault>
         _ => Err(FisFault::UnknownType(kind)),
     }
 }
+
+/// Law: bytes spell one FIS at most, and `decode`'s contract allows one answer for them.
+pub fn one_answer()
+    ensures spelling { (bytes : List ℕ) (f g : AnyFis) → Spells bytes f → Spells bytes g → f ≡ g }
+    ensures answer { (bytes : List ℕ) (r s : Result AnyFis AnyFault) → Decodes bytes r → Decodes bytes s → r ≡ s }
+{}

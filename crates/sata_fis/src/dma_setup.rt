@@ -56,7 +56,14 @@ impl DmaSetup {
         ensures bytes { result ≡ dma_setup_bytes self.now }
         ensures back { dma_setup_at result ≡ self.now }
     {
-        let DmaSetup { a, i, d, tag, offset, count } = *self;
+        let DmaSetup {
+            a,
+            i,
+            d,
+            tag,
+            offset,
+            count,
+        } = *self;
         let [offset_0, offset_1, offset_2, offset_3] = offset.to_le_bytes();
         let [count_0, count_1, count_2, count_3] = count.to_le_bytes();
         [

@@ -6,7 +6,7 @@ use crate::pio_setup::PioSetup;
 use crate::set_bits::SetBits;
 
 /// A frame information structure (Serial ATA, "FIS types").
-#[derive(Debug, Drop)]
+#[derive(Debug, PartialEq, Eq, Drop)]
 pub enum Fis<'a> {
     /// Type 27h, Register FIS - Host to Device.
     H2d(H2d),

@@ -70,7 +70,15 @@ impl H2d {
         ensures bytes { result ≡ h2d_bytes self.now }
         ensures back { h2d_at result ≡ self.now }
     {
-        let H2d { c, command, features, lba, device, count, control } = *self;
+        let H2d {
+            c,
+            command,
+            features,
+            lba,
+            device,
+            count,
+            control,
+        } = *self;
         let [features_low, features_high] = features.to_le_bytes();
         let [lba_0, lba_1, lba_2, lba_3, lba_4, lba_5, _, _] = lba.to_le_bytes();
         let [count_low, count_high] = count.to_le_bytes();

@@ -1,3 +1,9 @@
+ghost use Rattle.std.specs.Prelude.{◌≡◌, ◌==◌, ◌↔◌, IsSome, IfSome};
+ghost use Rattle.std.proofs.Common.{rules};
+ghost use Rattle.std.specs.Cmp.Lexicographic.{pointwise};
+ghost use Rattle.std.specs.Cmp.Rules.{comparing};
+ghost use Rattle.sata_fis.specs.Payload.{IsPayload};
+
 use std::marker::Model;
 
 /// The payload of a Data FIS: 4 to 8,192 bytes, a multiple of 4.
@@ -8,12 +14,40 @@ pub struct Payload<'a> {
 
 impl<'a> Model for Payload<'a> {
     ghost use Rattle.std.specs.Prelude.{ℕ, List};
+    ghost use Rattle.sata_fis.specs.Payload.{IsPayload};
 
     ghost Value = { List ℕ };
-
-    ghost use Rattle.sata_fis.specs.Payload.{IsPayload};
 
     ghost view = { λ p. p.bytes.now };
 
     ghost invariant = { λ p. IsPayload p.bytes.now };
+}
+
+impl<'a> Payload<'a> {
+    /// The payload, where the bytes are 4 to 8,192 and a multiple of 4.
+    pub fn new(bytes: &'a [u8]) -> Option<Payload<'a>>
+        ensures valid { IsSome result ↔ IsPayload bytes.now }
+        ensures value { IfSome result (λ p. p ≡ bytes.now) }
+    {
+        let len = bytes.len();
+        if (4..=8192).contains(&len) && len % 4 == 0 {
+            Some(Payload { bytes })
+        } else {
+            None
+        }
+    }
+}
+
+impl PartialEq for Payload<'_> {
+    ghost eq = { pointwise ◌==◌ };
+
+    ghost laws = { Prim.search (comparing, rules) };
+
+    fn eq(&self, other: &Self) -> bool {
+        self.bytes == other.bytes
+    }
+}
+
+impl Eq for Payload<'_> {
+    ghost laws = { Prim.search (comparing, rules) };
 }

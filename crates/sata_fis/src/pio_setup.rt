@@ -82,7 +82,17 @@ impl PioSetup {
         ensures bytes { result ≡ pio_setup_bytes self.now }
         ensures back { pio_setup_at result ≡ self.now }
     {
-        let PioSetup { i, d, status, error, lba, device, count, e_status, bytes } = *self;
+        let PioSetup {
+            i,
+            d,
+            status,
+            error,
+            lba,
+            device,
+            count,
+            e_status,
+            bytes,
+        } = *self;
         let [lba_0, lba_1, lba_2, lba_3, lba_4, lba_5, _, _] = lba.to_le_bytes();
         let [count_low, count_high] = count.to_le_bytes();
         let [bytes_low, bytes_high] = bytes.to_le_bytes();

@@ -50,7 +50,12 @@ impl SetBits {
         ensures bytes { result ≡ set_bits_bytes self.now }
         ensures back { set_bits_at result ≡ self.now }
     {
-        let SetBits { i, status, error, sactive } = *self;
+        let SetBits {
+            i,
+            status,
+            error,
+            sactive,
+        } = *self;
         let [sactive_0, sactive_1, sactive_2, sactive_3] = sactive.to_le_bytes();
         [
             0xA1,
