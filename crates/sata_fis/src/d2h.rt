@@ -1,4 +1,5 @@
-use crate::places::{flags, is_set, lba_of};
+use crate::places::{flags, from_dwords, is_set, lba_of};
+use arrayvec::ArrayVec;
 use byteorder::{ByteOrder, LittleEndian};
 use std::marker::Model;
 
@@ -62,9 +63,9 @@ impl D2h {
     }
 
     /// The 20 bytes, reserved bits 0.
-    pub(crate) fn bytes(&self) -> [u8; 20]
-        ensures bytes { result ≡ d2h_bytes self.now }
-        ensures back { d2h_at result ≡ self.now }
+    pub(crate) fn bytes(&self) -> ArrayVec<u8, 28>
+        ensures bytes { result.items ≡ d2h_bytes self.now }
+        ensures back { d2h_at result.items ≡ self.now }
     {
         let D2h {
             i,
@@ -76,27 +77,12 @@ impl D2h {
         } = *self;
         let [lba_0, lba_1, lba_2, lba_3, lba_4, lba_5, _, _] = lba.to_le_bytes();
         let [count_low, count_high] = count.to_le_bytes();
-        [
-            0x34,
-            flags(false, i, false),
-            status,
-            error,
-            lba_0,
-            lba_1,
-            lba_2,
-            device,
-            lba_3,
-            lba_4,
-            lba_5,
-            0,
-            count_low,
-            count_high,
-            0,
-            0,
-            0,
-            0,
-            0,
-            0,
-        ]
+        from_dwords(&[
+            [0x34, flags(false, i, false), status, error],
+            [lba_0, lba_1, lba_2, device],
+            [lba_3, lba_4, lba_5, 0],
+            [count_low, count_high, 0, 0],
+            [0, 0, 0, 0],
+        ])
     }
 }

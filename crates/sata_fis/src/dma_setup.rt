@@ -1,4 +1,5 @@
-use crate::places::{flags, is_set};
+use crate::places::{flags, from_dwords, is_set};
+use arrayvec::ArrayVec;
 use byteorder::{ByteOrder, LittleEndian};
 use std::marker::Model;
 
@@ -52,9 +53,9 @@ impl DmaSetup {
     }
 
     /// The 28 bytes, reserved bits 0.
-    pub(crate) fn bytes(&self) -> [u8; 28]
-        ensures bytes { result ≡ dma_setup_bytes self.now }
-        ensures back { dma_setup_at result ≡ self.now }
+    pub(crate) fn bytes(&self) -> ArrayVec<u8, 28>
+        ensures bytes { result.items ≡ dma_setup_bytes self.now }
+        ensures back { dma_setup_at result.items ≡ self.now }
     {
         let DmaSetup {
             a,
@@ -64,37 +65,14 @@ impl DmaSetup {
             offset,
             count,
         } = *self;
-        let [offset_0, offset_1, offset_2, offset_3] = offset.to_le_bytes();
-        let [count_0, count_1, count_2, count_3] = count.to_le_bytes();
-        [
-            0x41,
-            flags(a, i, d),
-            0,
-            0,
-            tag,
-            0,
-            0,
-            0,
-            0,
-            0,
-            0,
-            0,
-            0,
-            0,
-            0,
-            0,
-            offset_0,
-            offset_1,
-            offset_2,
-            offset_3,
-            count_0,
-            count_1,
-            count_2,
-            count_3,
-            0,
-            0,
-            0,
-            0,
-        ]
+        from_dwords(&[
+            [0x41, flags(a, i, d), 0, 0],
+            [tag, 0, 0, 0],
+            [0, 0, 0, 0],
+            [0, 0, 0, 0],
+            offset.to_le_bytes(),
+            count.to_le_bytes(),
+            [0, 0, 0, 0],
+        ])
     }
 }

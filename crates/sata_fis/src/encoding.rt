@@ -8,6 +8,7 @@ ghost use Rattle.sata_fis.specs.Fault.{Decodes};
 ghost use Rattle.sata_fis.specs.Encoding.{encoded, data_head_bytes, IsNotData};
 
 use crate::fis::Fis;
+use crate::places::from_dwords;
 use arrayvec::ArrayVec;
 
 /// The first dword of a Data FIS, which its payload follows.
@@ -16,16 +17,6 @@ pub fn data_head() -> [u8; 4]
     ensures spells { (xs : List ℕ) → IsPayload xs → Spells (result ++ xs) (Data xs) }
 {
     [0x46, 0, 0, 0]
-}
-
-/// The bytes as a list of at most 28.
-fn listed(bytes: &[u8]) -> ArrayVec<u8, 28>
-    requires { length bytes.now ≤ 28 }
-    ensures { result.items ≡ bytes.now }
-{
-    let mut list = ArrayVec::new();
-    list.try_extend_from_slice(bytes).unwrap();
-    list
 }
 
 impl Fis<'_> {
@@ -38,12 +29,12 @@ impl Fis<'_> {
         ensures back { (r : Result AnyFis AnyFault) → Decodes result.items r → r ≡ Ok self.now }
     {
         match self {
-            Fis::H2d(f) => listed(&f.bytes()),
-            Fis::D2h(f) => listed(&f.bytes()),
-            Fis::DmaActivate => listed(&[0x39, 0, 0, 0]),
-            Fis::DmaSetup(f) => listed(&f.bytes()),
-            Fis::PioSetup(f) => listed(&f.bytes()),
-            Fis::SetBits(f) => listed(&f.bytes()),
+            Fis::H2d(f) => f.bytes(),
+            Fis::D2h(f) => f.bytes(),
+            Fis::DmaActivate => from_dwords(&[[0x39, 0, 0, 0]]),
+            Fis::DmaSetup(f) => f.bytes(),
+            Fis::PioSetup(f) => f.bytes(),
+            Fis::SetBits(f) => f.bytes(),
             Fis::Data(_) => unreachable!(),
         }
     }

@@ -1,4 +1,5 @@
-use crate::places::{flags, is_set, lba_of};
+use crate::places::{flags, from_dwords, is_set, lba_of};
+use arrayvec::ArrayVec;
 use byteorder::{ByteOrder, LittleEndian};
 use std::marker::Model;
 
@@ -66,9 +67,9 @@ impl H2d {
     }
 
     /// The 20 bytes, reserved bits 0.
-    pub(crate) fn bytes(&self) -> [u8; 20]
-        ensures bytes { result ≡ h2d_bytes self.now }
-        ensures back { h2d_at result ≡ self.now }
+    pub(crate) fn bytes(&self) -> ArrayVec<u8, 28>
+        ensures bytes { result.items ≡ h2d_bytes self.now }
+        ensures back { h2d_at result.items ≡ self.now }
     {
         let H2d {
             c,
@@ -82,27 +83,12 @@ impl H2d {
         let [features_low, features_high] = features.to_le_bytes();
         let [lba_0, lba_1, lba_2, lba_3, lba_4, lba_5, _, _] = lba.to_le_bytes();
         let [count_low, count_high] = count.to_le_bytes();
-        [
-            0x27,
-            flags(c, false, false),
-            command,
-            features_low,
-            lba_0,
-            lba_1,
-            lba_2,
-            device,
-            lba_3,
-            lba_4,
-            lba_5,
-            features_high,
-            count_low,
-            count_high,
-            0,
-            control,
-            0,
-            0,
-            0,
-            0,
-        ]
+        from_dwords(&[
+            [0x27, flags(c, false, false), command, features_low],
+            [lba_0, lba_1, lba_2, device],
+            [lba_3, lba_4, lba_5, features_high],
+            [count_low, count_high, 0, control],
+            [0, 0, 0, 0],
+        ])
     }
 }

@@ -1,4 +1,5 @@
-use crate::places::{flags, is_set, lba_of};
+use crate::places::{flags, from_dwords, is_set, lba_of};
+use arrayvec::ArrayVec;
 use byteorder::{ByteOrder, LittleEndian};
 use std::marker::Model;
 
@@ -78,9 +79,9 @@ impl PioSetup {
     }
 
     /// The 20 bytes, reserved bits 0.
-    pub(crate) fn bytes(&self) -> [u8; 20]
-        ensures bytes { result ≡ pio_setup_bytes self.now }
-        ensures back { pio_setup_at result ≡ self.now }
+    pub(crate) fn bytes(&self) -> ArrayVec<u8, 28>
+        ensures bytes { result.items ≡ pio_setup_bytes self.now }
+        ensures back { pio_setup_at result.items ≡ self.now }
     {
         let PioSetup {
             i,
@@ -96,27 +97,12 @@ impl PioSetup {
         let [lba_0, lba_1, lba_2, lba_3, lba_4, lba_5, _, _] = lba.to_le_bytes();
         let [count_low, count_high] = count.to_le_bytes();
         let [bytes_low, bytes_high] = bytes.to_le_bytes();
-        [
-            0x5F,
-            flags(false, i, d),
-            status,
-            error,
-            lba_0,
-            lba_1,
-            lba_2,
-            device,
-            lba_3,
-            lba_4,
-            lba_5,
-            0,
-            count_low,
-            count_high,
-            0,
-            e_status,
-            bytes_low,
-            bytes_high,
-            0,
-            0,
-        ]
+        from_dwords(&[
+            [0x5F, flags(false, i, d), status, error],
+            [lba_0, lba_1, lba_2, device],
+            [lba_3, lba_4, lba_5, 0],
+            [count_low, count_high, 0, e_status],
+            [bytes_low, bytes_high, 0, 0],
+        ])
     }
 }

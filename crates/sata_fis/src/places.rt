@@ -1,8 +1,10 @@
 //! Fields by their places in a FIS.
 
 ghost use Rattle.std.specs.Prelude.{◌≡◌, ◌+◌, ◌<◌, ◌≤◌, ◌^◌, length};
+ghost use Rattle.std.specs.List.{concat};
 ghost use Rattle.sata_fis.specs.Places.{bit, flags, lba_at, number};
 
+use arrayvec::ArrayVec;
 use byteorder::{ByteOrder, LittleEndian};
 
 /// Whether a bit of a byte is 1.
@@ -36,4 +38,16 @@ pub(crate) fn lba_of(bytes: &[u8]) -> u64
     ensures fits { result < 2 ^ 48 }
 {
     u64::from(low_24(bytes, 4)) + (u64::from(low_24(bytes, 8)) << 24)
+}
+
+/// The bytes of at most seven dwords, in their order.
+pub(crate) fn from_dwords(dwords: &[[u8; 4]]) -> ArrayVec<u8, 28>
+    requires { length dwords.now ≤ 7 }
+    ensures { result.items ≡ concat dwords.now }
+{
+    let mut bytes = ArrayVec::new();
+    for dword in dwords {
+        bytes.try_extend_from_slice(dword).unwrap();
+    }
+    bytes
 }

@@ -1,4 +1,5 @@
-use crate::places::{flags, is_set};
+use crate::places::{flags, from_dwords, is_set};
+use arrayvec::ArrayVec;
 use byteorder::{ByteOrder, LittleEndian};
 use std::marker::Model;
 
@@ -46,9 +47,9 @@ impl SetBits {
     }
 
     /// The 8 bytes, reserved bits 0.
-    pub(crate) fn bytes(&self) -> [u8; 8]
-        ensures bytes { result ≡ set_bits_bytes self.now }
-        ensures back { set_bits_at result ≡ self.now }
+    pub(crate) fn bytes(&self) -> ArrayVec<u8, 28>
+        ensures bytes { result.items ≡ set_bits_bytes self.now }
+        ensures back { set_bits_at result.items ≡ self.now }
     {
         let SetBits {
             i,
@@ -56,16 +57,9 @@ impl SetBits {
             error,
             sactive,
         } = *self;
-        let [sactive_0, sactive_1, sactive_2, sactive_3] = sactive.to_le_bytes();
-        [
-            0xA1,
-            flags(false, i, false),
-            status,
-            error,
-            sactive_0,
-            sactive_1,
-            sactive_2,
-            sactive_3,
-        ]
+        from_dwords(&[
+            [0xA1, flags(false, i, false), status, error],
+            sactive.to_le_bytes(),
+        ])
     }
 }

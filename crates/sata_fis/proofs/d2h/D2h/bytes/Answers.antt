@@ -5,4 +5,4 @@ use Rattle.sata_fis.proofs.d2h.D2h.bytes.Goals as goal
 
 pub returns-clause-back : goal.returns-clause-back
 returns-clause-back c =
-    rw (c.flags.ensures, c.to_le_bytes.ensures, c.to_le_bytes-2.ensures, ← c.self.view_is) (d2h_at-d2h_bytes _ c.self.invariant (omega arith))
+    rw (c.from_dwords.ensures, c.flags.ensures, c.to_le_bytes.ensures, c.to_le_bytes-2.ensures, ← c.self.view_is) (d2h_at-d2h_bytes _ c.self.invariant (omega arith))

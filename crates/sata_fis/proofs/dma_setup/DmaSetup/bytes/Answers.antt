@@ -5,4 +5,4 @@ use Rattle.sata_fis.proofs.dma_setup.DmaSetup.bytes.Goals as goal
 
 pub returns-clause-back : goal.returns-clause-back
 returns-clause-back c =
-    rw (c.flags.ensures, c.to_le_bytes.ensures, c.to_le_bytes-2.ensures, ← c.self.view_is) (dma_setup_at-dma_setup_bytes _ c.self.invariant (omega arith) (omega arith))
+    rw (c.from_dwords.ensures, c.flags.ensures, c.to_le_bytes.ensures, c.to_le_bytes-2.ensures, ← c.self.view_is) (dma_setup_at-dma_setup_bytes _ c.self.invariant (omega arith) (omega arith))

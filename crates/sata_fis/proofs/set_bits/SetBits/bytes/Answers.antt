@@ -5,4 +5,4 @@ use Rattle.sata_fis.proofs.set_bits.SetBits.bytes.Goals as goal
 
 pub returns-clause-back : goal.returns-clause-back
 returns-clause-back c =
-    rw (c.flags.ensures, c.to_le_bytes.ensures, ← c.self.view_is) (set_bits_at-set_bits_bytes _ c.self.invariant (omega arith))
+    rw (c.from_dwords.ensures, c.flags.ensures, c.to_le_bytes.ensures, ← c.self.view_is) (set_bits_at-set_bits_bytes _ c.self.invariant (omega arith))
