@@ -1,8 +1,8 @@
-ghost use Rattle.std.specs.Prelude.{◌≡◌, List, ℕ, Result, Ok};
+ghost use Rattle.std.specs.Prelude.{◌≡◌, List, ℕ, Result, Ok, IfOk, IfErr};
 ghost use Rattle.sata_fis.specs.declared.fis.Fis.{Fis as AnyFis};
 ghost use Rattle.sata_fis.specs.declared.fault.FisFault.{FisFault as AnyFault};
 ghost use Rattle.sata_fis.specs.Spelling.{Spells};
-ghost use Rattle.sata_fis.specs.Fault.{Decodes};
+ghost use Rattle.sata_fis.specs.Fault.{IsFault, Decodes};
 
 use crate::d2h::D2h;
 use crate::dma_setup::DmaSetup;
@@ -15,8 +15,9 @@ use crate::set_bits::SetBits;
 
 /// Reads one FIS, all of the bytes.
 pub fn decode(bytes: &[u8]) -> Result<Fis<'_>, FisFault>
-    ensures reads { Decodes bytes.now result }
+    ensures ok { IfOk result (λ f. Spells bytes.now f) }
     ensures only { (f : AnyFis) → Spells bytes.now f → result ≡ Ok f }
+    ensures err { IfErr result (λ e. IsFault bytes.now e) }
 {
     let kind = *bytes.first().ok_or(FisFault::Empty)?;
     match (kind, bytes.len()) {
