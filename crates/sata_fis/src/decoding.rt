@@ -1,6 +1,6 @@
 ghost use Rattle.std.specs.Prelude.{◌≡◌, List, ℕ, Result, Ok, IfOk, IfErr};
-ghost use Rattle.sata_fis.specs.declared.fis.Fis.{Fis as AnyFis};
-ghost use Rattle.sata_fis.specs.declared.fault.FisFault.{FisFault as AnyFault};
+ghost use Rattle.sata_fis.specs.declared.fis.Fis.{Fis};
+ghost use Rattle.sata_fis.specs.declared.fault.FisFault.{FisFault};
 ghost use Rattle.sata_fis.specs.Spelling.{Spells};
 ghost use Rattle.sata_fis.specs.Fault.{IsFault, Decodes};
 
@@ -16,7 +16,7 @@ use crate::set_bits::SetBits;
 /// Reads one FIS, all of the bytes.
 pub fn decode(bytes: &[u8]) -> Result<Fis<'_>, FisFault>
     ensures ok { IfOk result (λ f. Spells bytes.now f) }
-    ensures only { (f : AnyFis) → Spells bytes.now f → result ≡ Ok f }
+    ensures only { (f : Fis) → Spells bytes.now f → result ≡ Ok f }
     ensures err { IfErr result (λ e. IsFault bytes.now e) }
 {
     let kind = *bytes.first().ok_or(FisFault::Empty)?;
@@ -35,6 +35,6 @@ pub fn decode(bytes: &[u8]) -> Result<Fis<'_>, FisFault>
 
 /// Law: bytes spell one FIS at most, and `decode`'s contract allows one answer for them.
 pub fn one_answer()
-    ensures spelling { (bytes : List ℕ) (f g : AnyFis) → Spells bytes f → Spells bytes g → f ≡ g }
-    ensures answer { (bytes : List ℕ) (r s : Result AnyFis AnyFault) → Decodes bytes r → Decodes bytes s → r ≡ s }
+    ensures spelling { (bytes : List ℕ) (f g : Fis) → Spells bytes f → Spells bytes g → f ≡ g }
+    ensures answer { (bytes : List ℕ) (r s : Result Fis FisFault) → Decodes bytes r → Decodes bytes s → r ≡ s }
 {}

@@ -1,7 +1,7 @@
 ghost use Rattle.std.specs.Prelude.{◌≡◌, ◌≤◌, ◌++◌, ℕ, List, length, Result, Ok};
-ghost use Rattle.sata_fis.specs.declared.fis.Fis.{Fis as AnyFis};
+ghost use Rattle.sata_fis.specs.declared.fis.Fis.{Fis};
 ghost use Rattle.sata_fis.specs.declared.fis.Fis.TheVariants.{Data};
-ghost use Rattle.sata_fis.specs.declared.fault.FisFault.{FisFault as AnyFault};
+ghost use Rattle.sata_fis.specs.declared.fault.FisFault.{FisFault};
 ghost use Rattle.sata_fis.specs.Payload.{IsPayload};
 ghost use Rattle.sata_fis.specs.Spelling.{Spells};
 ghost use Rattle.sata_fis.specs.Fault.{Decodes};
@@ -26,7 +26,7 @@ impl Fis<'_> {
         requires { IsNotData self.now }
         ensures bytes { result.items ≡ encoded self.now }
         ensures spells { Spells result.items self.now }
-        ensures back { (r : Result AnyFis AnyFault) → Decodes result.items r → r ≡ Ok self.now }
+        ensures back { (r : Result Fis FisFault) → Decodes result.items r → r ≡ Ok self.now }
     {
         match self {
             Fis::H2d(f) => f.bytes(),

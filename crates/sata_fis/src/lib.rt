@@ -1,10 +1,12 @@
 //! The bytes of Serial ATA's frame information structures (FIS), read and written, and the queued
 //! command in a Register FIS - Host to Device.
 //!
-//! The types keep their ranges: a value of `H2d`, `D2h` or `PioSetup` has an LBA below 2^48, a
-//! `DmaSetup` and a `Queued` a tag below 32, a `SetBits` a status without bits 7 and 3, a `Queued` 1
-//! to 65,536 sectors, and a `Payload` 4 to 8,192 bytes, a multiple of 4. A literal is accepted where
-//! the values are known to be in range. For values of unknown origin each type has a checked `new`.
+//! The types keep their ranges. An LBA is below 2^48, a tag below 32, a `Queued` has 1 to 65,536
+//! sectors, a `SetBits` a status without bits 7 and 3, and a `Payload` 4 to 8,192 bytes, a multiple of 4.
+//! A literal is accepted where the values are known to be in range. For values of unknown origin the
+//! tests are `is_lba`, `is_tag`, `is_sector_count`, `is_set_bits_status` and `Payload::new`.
+//!
+//! No call takes memory, and each returns on every byte string.
 #![tactic(auto)]
 
 mod command;

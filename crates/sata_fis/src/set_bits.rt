@@ -1,3 +1,5 @@
+ghost use Rattle.std.specs.Prelude.{◌≡◌, bit_and};
+
 use crate::places::{flags, from_dwords, is_set};
 use arrayvec::ArrayVec;
 use byteorder::{ByteOrder, LittleEndian};
@@ -13,6 +15,15 @@ pub struct SetBits {
     pub error: u8,
     /// SActive: a 1 for each tag that is done.
     pub sactive: u32,
+}
+
+/// The bits 6:4 and 2:0 of a status at their places.
+#[tactic(auto, using(crate::proofs::FieldLemmas::kept_twice))]
+fn without_bsy_and_drq(status: u8) -> u8
+    ensures value { result ≡ bit_and status 0x77 }
+    ensures kept { bit_and result 0x77 ≡ result }
+{
+    status & 0x77
 }
 
 impl Model for SetBits {
@@ -40,7 +51,7 @@ impl SetBits {
     {
         SetBits {
             i: is_set(bytes[1], 6),
-            status: bytes[2] & 0x77,
+            status: without_bsy_and_drq(bytes[2]),
             error: bytes[3],
             sactive: LittleEndian::read_u32(&bytes[4..]),
         }
