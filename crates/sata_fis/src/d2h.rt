@@ -3,7 +3,7 @@ use arrayvec::ArrayVec;
 use byteorder::{ByteOrder, LittleEndian};
 use std::marker::Model;
 
-/// Register FIS - Device to Host: the device's status. The LBA is below 2^48.
+/// Register FIS - Device to Host (Serial ATA): the device's status. The LBA is below 2^48.
 #[derive(Clone, Copy, Debug, PartialEq, Eq)]
 pub struct D2h {
     /// Bit I: the FIS asks for an interrupt.

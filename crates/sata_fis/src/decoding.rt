@@ -13,7 +13,12 @@ use crate::payload::Payload;
 use crate::pio_setup::PioSetup;
 use crate::set_bits::SetBits;
 
-/// Reads one FIS, all of the bytes.
+/// Reads one FIS, which takes all of the bytes (Serial ATA, "FIS types"). Reserved bits and bytes are
+/// ignored, among them the port multiplier port.
+///
+/// # Errors
+/// `Empty` where there are no bytes; `UnknownType` where byte 0 is none of the seven types; else
+/// `WrongLength` where the type doesn't have this many bytes.
 pub fn decode(bytes: &[u8]) -> Result<Fis<'_>, FisFault>
     ensures ok { IfOk result (λ f. Spells bytes.now f) }
     ensures only { (f : Fis) → Spells bytes.now f → result ≡ Ok f }
@@ -33,7 +38,8 @@ pub fn decode(bytes: &[u8]) -> Result<Fis<'_>, FisFault>
     }
 }
 
-/// Law: bytes spell one FIS at most, and `decode`'s contract allows one answer for them.
+/// A law, and no work: two values that the same bytes spell are equal, and the contract of `decode`
+/// allows one answer for each byte string.
 pub fn one_answer()
     ensures spelling { (bytes : List ℕ) (f g : Fis) → Spells bytes f → Spells bytes g → f ≡ g }
     ensures answer { (bytes : List ℕ) (r s : Result Fis FisFault) → Decodes bytes r → Decodes bytes s → r ≡ s }

@@ -3,7 +3,7 @@ use arrayvec::ArrayVec;
 use byteorder::{ByteOrder, LittleEndian};
 use std::marker::Model;
 
-/// DMA Setup FIS: the command whose data comes next. The tag is below 32.
+/// DMA Setup FIS (Serial ATA): the command whose data comes next. The tag is below 32.
 #[derive(Clone, Copy, Debug, PartialEq, Eq)]
 pub struct DmaSetup {
     /// Bit A: auto-activate.

@@ -11,7 +11,7 @@ use crate::fis::Fis;
 use crate::places::from_dwords;
 use arrayvec::ArrayVec;
 
-/// The first dword of a Data FIS, which its payload follows.
+/// The first dword of a Data FIS, which its payload follows (Serial ATA, "Data FIS").
 pub fn data_head() -> [u8; 4]
     ensures bytes { result ≡ data_head_bytes }
     ensures spells { (xs : List ℕ) → IsPayload xs → Spells (result ++ xs) (Data xs) }
@@ -20,8 +20,8 @@ pub fn data_head() -> [u8; 4]
 }
 
 impl Fis<'_> {
-    /// The bytes of the FIS, reserved bits 0. The bytes of Data are those of `data_head` and of its
-    /// payload.
+    /// The bytes of a FIS that isn't Data, reserved bits and bytes 0. Those of Data are `data_head` and
+    /// its payload.
     pub fn encode(&self) -> ArrayVec<u8, 28>
         requires { IsNotData self.now }
         ensures bytes { result.items ≡ encoded self.now }

@@ -3,7 +3,7 @@ use arrayvec::ArrayVec;
 use byteorder::{ByteOrder, LittleEndian};
 use std::marker::Model;
 
-/// Register FIS - Host to Device: a command or a control of the device. The LBA is below 2^48.
+/// Register FIS - Host to Device (Serial ATA): a command or a control of the device. The LBA is below 2^48.
 #[derive(Clone, Copy, Debug, PartialEq, Eq)]
 pub struct H2d {
     /// Bit C: the FIS carries a command, rather than a device control.

@@ -1,12 +1,11 @@
 ghost use Rattle.std.specs.Prelude.{◌≡◌, ◌==◌, ◌↔◌, IsSome, IfSome};
-ghost use Rattle.std.proofs.Common.{rules};
-ghost use Rattle.std.specs.Cmp.Lexicographic.{pointwise};
-ghost use Rattle.std.specs.Cmp.Rules.{comparing};
+ghost use Rattle.std.specs.Cmp.{partial_equiv_from_equiv};
+ghost use Rattle.std.specs.Cmp.Lexicographic.{pointwise, nat_list_eq_equiv};
 ghost use Rattle.sata_fis.specs.Payload.{IsPayload};
 
 use std::marker::Model;
 
-/// The payload of a Data FIS: 4 to 8,192 bytes, a multiple of 4.
+/// The payload of a Data FIS (Serial ATA, "Data FIS"): 4 to 8,192 bytes, a multiple of 4.
 #[derive(Debug, Drop)]
 pub struct Payload<'a> {
     pub bytes: &'a [u8],
@@ -24,7 +23,7 @@ impl<'a> Model for Payload<'a> {
 }
 
 impl<'a> Payload<'a> {
-    /// The payload, where the bytes are 4 to 8,192 and a multiple of 4.
+    /// The payload, or None where the bytes aren't 4 to 8,192 in number and a multiple of 4.
     pub fn new(bytes: &'a [u8]) -> Option<Payload<'a>>
         ensures valid { IsSome result ↔ IsPayload bytes.now }
         ensures value { IfSome result (λ p. p ≡ bytes.now) }
@@ -41,7 +40,7 @@ impl<'a> Payload<'a> {
 impl PartialEq for Payload<'_> {
     ghost eq = { pointwise ◌==◌ };
 
-    ghost laws = { Prim.search (comparing, rules) };
+    ghost laws = { partial_equiv_from_equiv nat_list_eq_equiv };
 
     fn eq(&self, other: &Self) -> bool {
         self.bytes == other.bytes
@@ -49,5 +48,5 @@ impl PartialEq for Payload<'_> {
 }
 
 impl Eq for Payload<'_> {
-    ghost laws = { Prim.search (comparing, rules) };
+    ghost laws = { nat_list_eq_equiv };
 }

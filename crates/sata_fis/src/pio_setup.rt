@@ -3,7 +3,7 @@ use arrayvec::ArrayVec;
 use byteorder::{ByteOrder, LittleEndian};
 use std::marker::Model;
 
-/// PIO Setup FIS - Device to Host: a transfer by PIO, and the status before and after it. The LBA is
+/// PIO Setup FIS - Device to Host (Serial ATA): a transfer by PIO, and the status before and after it. The LBA is
 /// below 2^48.
 #[derive(Clone, Copy, Debug, PartialEq, Eq)]
 pub struct PioSetup {

@@ -10,8 +10,9 @@ const READ: u8 = 0x60;
 /// WRITE FPDMA QUEUED.
 const WRITE: u8 = 0x61;
 
-/// The queued command that a FIS asks for: where C is 1, the command is READ or WRITE FPDMA QUEUED
-/// and device bit 6 is 1.
+/// The queued command that a FIS asks for, or None where C is 0, the command is neither READ nor WRITE
+/// FPDMA QUEUED (ACS-3), or device bit 6 is 0. Features 0000h mean 65,536 sectors; the priority in
+/// count 15:14 and the control byte are ignored.
 pub fn queued(h2d: &H2d) -> Option<Queued>
     ensures { result ≡ queued_in h2d.now }
 {
@@ -31,7 +32,7 @@ pub fn queued(h2d: &H2d) -> Option<Queued>
     })
 }
 
-/// The FIS that asks for a queued command, with priority and control 0.
+/// The FIS that asks for a queued command: C is 1, priority and control are 0.
 pub fn h2d_of(queued: &Queued) -> H2d
     ensures fields { result ≡ h2d_for queued.now }
     ensures back { queued_in result ≡ Some queued.now }

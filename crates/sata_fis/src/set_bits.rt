@@ -5,7 +5,7 @@ use arrayvec::ArrayVec;
 use byteorder::{ByteOrder, LittleEndian};
 use std::marker::Model;
 
-/// Set Device Bits FIS - Device to Host: the tags that are done. Bits 7 and 3 of the status, BSY and
+/// Set Device Bits FIS - Device to Host (Serial ATA): the tags that are done. Bits 7 and 3 of the status, BSY and
 /// DRQ, aren't in the FIS and are 0.
 #[derive(Clone, Copy, Debug, PartialEq, Eq)]
 pub struct SetBits {
