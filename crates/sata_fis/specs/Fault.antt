@@ -1,5 +1,5 @@
 -- Why bytes are no FIS.
-use Rattle.std.specs.Prelude.{◌≡◌, ◌<◌, ◌≤◌, ℕ, ◌%◌, Bool, false, true, ◌==◌, ◌||◌, ◌&&◌, nat_le, List, [], length, Result, Ok, Err, if◌then◌else◌}
+use Rattle.std.specs.Prelude.{◌≡◌, ◌<◌, ℕ, ◌%◌, Bool, false, true, ◌==◌, ◌||◌, ◌&&◌, nat_le, List, [], length, Result, Ok, Err, if◌then◌else◌}
 use Rattle.sata_fis.specs.declared.fis.Fis.{Fis}
 use Rattle.sata_fis.specs.declared.fault.FisFault.{FisFault}
 use Rattle.sata_fis.specs.declared.fault.FisFault.TheVariants.{Empty, UnknownType, WrongLength}

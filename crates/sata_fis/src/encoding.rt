@@ -1,4 +1,4 @@
-ghost use Rattle.std.specs.Prelude.{◌≡◌, ◌≤◌, ◌++◌, ℕ, List, length, Result, Ok};
+ghost use Rattle.std.specs.Prelude.{◌≡◌, ◌++◌, ℕ, List, Result, Ok};
 ghost use Rattle.sata_fis.specs.declared.fis.Fis.{Fis};
 ghost use Rattle.sata_fis.specs.declared.fis.Fis.TheVariants.{Data};
 ghost use Rattle.sata_fis.specs.declared.fault.FisFault.{FisFault};

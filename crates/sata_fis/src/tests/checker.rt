@@ -1,7 +1,5 @@
 //! A slow reading of each field, which shares nothing with the decoder: every bit by itself.
 
-ghost use Rattle.std.specs.Prelude.{◌<◌, ◌≤◌};
-
 use crate::{D2h, DmaSetup, Fis, H2d, PioSetup, SetBits};
 
 /// Bit `k` of byte `i` is 1.
