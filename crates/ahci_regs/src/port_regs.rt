@@ -220,7 +220,9 @@ impl PortRegs {
 
     /// Starts and stops the port, and its reception of FISes (section 3.3.7).
     fn command(&mut self, command: PortCommand) -> Result<(), RegFault>
-        ensures { Follows result self.old self.new (with_command self.old (has_place (bits command.0) 0) (has_place (bits command.0) 4)) }
+        ensures { let st = has_place (bits command.0) 0 in
+            let fre = has_place (bits command.0) 4 in
+            Follows result self.old self.new (with_command self.old st fre) }
     {
         let starts = command.starts();
         let receives = command.receives();
