@@ -121,7 +121,8 @@ completes_well : (image : List ℕ) (past : List Entry) (work : Work) → ((comp
 completes_well image past (Read lba sectors) = (refl, refl)
 completes_well image past (Write lba bytes) = (refl, refl)
 
-completed_now : (s d : ℕ) (image : List ℕ) (past : List Entry) (tag : ℕ) (r : Request) → IsLawful s d (Complete tag ∷ past) → request past tag ≡ Some r → answer image (Complete tag ∷ past) r.number ≡ Some (completes image past r.work)
+-- the answer that a Complete gives to its request
+pub completed_now : (s d : ℕ) (image : List ℕ) (past : List Entry) (tag : ℕ) (r : Request) → IsLawful s d (Complete tag ∷ past) → request past tag ≡ Some r → answer image (Complete tag ∷ past) r.number ≡ Some (completes image past r.work)
 completed_now s d image past tag r h e =
     let quiet = none_yet (answer image past r.number) (answered_by_phase s d image past tag r h.0 e ∙ ap is_answered h.1.0) in
     ap (λ o. option_or o (given image past (Complete tag) (entry_at past r.number))) quiet

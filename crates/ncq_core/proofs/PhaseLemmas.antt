@@ -1,10 +1,10 @@
 -- Phases, requests and answers of lawful journals, by induction on the journal.
-use Rattle.std.proofs.Common.{◌≡◌, ◌≢◌, ℕ, ◌<◌, ◌≤◌, Bool, true, false, cond, ◌==◌, List, [], ◌∷◌, length, ap, sym, refl, subst, ◌∙◌, Option, None, Some, IsSome, IsSomeAnd, arith}
-use Rattle.std.proofs.lemmas.Bool.{cond_both, eqb-true, eqb-false, false≢true}
+use Rattle.std.proofs.Common.{◌≡◌, ◌≢◌, ℕ, ◌<◌, ◌≤◌, Bool, true, false, cond, ◌==◌, List, [], ◌∷◌, length, ap, sym, refl, subst, ◌∙◌, Option, None, Some, IsSome, IsSomeAnd, arith, inl, inr}
+use Rattle.std.proofs.lemmas.Bool.{cond_both, eqb-true, eqb-false, false≢true, cases_lt}
 use Rattle.ncq_core.specs.declared.phase.Phase.{Phase}
-use Rattle.ncq_core.specs.declared.phase.Phase.TheVariants.{Free, Issued, Accepted, Held, Done}
+use Rattle.ncq_core.specs.declared.phase.Phase.TheVariants.{Free, Issued, Accepted, Rejected, Broken, Held, Done}
 use Rattle.ncq_core.specs.Entry.{Entry, Issue, Accept, Complete, Fail, Recover, Reissue, Collect, Unqueued}
-use Rattle.ncq_core.specs.Lawful.{IsLawful, Fails}
+use Rattle.ncq_core.specs.Lawful.{IsLawful, Fails, Fits}
 use Rattle.ncq_core.specs.Laws.{OwnedHasRequest}
 use Rattle.ncq_core.specs.Phase.{phase, failed, recovered, is_failed}
 use Rattle.ncq_core.specs.Request.{Request, request}
@@ -70,3 +70,60 @@ some_unless_none (Some r) h = refl
 
 pub owned_has_request : OwnedHasRequest
 owned_has_request s d past tag h owned = some_unless_none (request past tag) (λ none. owned (no_request s d past tag h none))
+
+not_accepted : (p : Phase) → recovered p ≢ Accepted
+not_accepted Free e = absurd (cc)
+not_accepted Issued e = absurd (cc)
+not_accepted Accepted e = absurd (cc)
+not_accepted Rejected e = absurd (cc)
+not_accepted Broken e = absurd (cc)
+not_accepted Held e = absurd (cc)
+not_accepted Done e = absurd (cc)
+
+not_failed : (p : Phase) → failed p ≢ Accepted
+not_failed Free e = absurd (cc)
+not_failed Issued e = absurd (cc)
+not_failed Accepted e = absurd (cc)
+not_failed Rejected e = absurd (cc)
+not_failed Broken e = absurd (cc)
+not_failed Held e = absurd (cc)
+not_failed Done e = absurd (cc)
+
+-- a step after which an accepted tag was accepted before
+was_accepted : (t tag : ℕ) (q p : Phase) → q ≢ Accepted → cond (t == tag) q p ≡ Accepted → p ≡ Accepted
+was_accepted t tag q p other e = by (t == tag) e
+  where
+    by : (b : Bool) → cond b q p ≡ Accepted → p ≡ Accepted
+    by true e = absurd (other e)
+    by false e = e
+
+issue_fits : (s : ℕ) (b : Bool) (r : Request) (o : Option Request) (p : Phase) → cond b Issued p ≡ Accepted → (p ≡ Accepted → IsSomeAnd o (λ q. Fits s q.work)) → IsSomeAnd (cond b (Some r) o) (λ q. Fits s q.work)
+issue_fits s true r o p e older = absurd (let z : Issued ≡ Accepted = e in cc)
+issue_fits s false r o p e older = older e
+
+accept_fits : (s t tag : ℕ) (past : List Entry) → IsSomeAnd (request past t) (λ r. Fits s r.work) → (phase past tag ≡ Accepted → IsSomeAnd (request past tag) (λ r. Fits s r.work)) → cond (t == tag) Accepted (phase past tag) ≡ Accepted → IsSomeAnd (request past tag) (λ r. Fits s r.work)
+accept_fits s t tag past own older e = by (t == tag) refl e
+  where
+    by : (b : Bool) → (t == tag) ≡ b → cond b Accepted (phase past tag) ≡ Accepted → IsSomeAnd (request past tag) (λ r. Fits s r.work)
+    by true same e = subst (λ u. IsSomeAnd (request past u) (λ r. Fits s r.work)) (eqb-true t tag same) own
+    by false other e = older e
+
+-- an accepted command ends at the disk's last sector or before it
+pub accepted_fits : (s d : ℕ) (past : List Entry) (tag : ℕ) → IsLawful s d past → phase past tag ≡ Accepted → IsSomeAnd (request past tag) (λ r. Fits s r.work)
+accepted_fits s d [] tag h e = absurd (let z : Free ≡ Accepted = e in cc)
+accepted_fits s d (Issue t work ∷ past) tag h e = issue_fits s (t == tag) _ (request past tag) (phase past tag) e (accepted_fits s d past tag h.0)
+accepted_fits s d (Accept t ∷ past) tag h e = accept_fits s t tag past h.1.2 (accepted_fits s d past tag h.0) e
+accepted_fits s d (Complete t ∷ past) tag h e = accepted_fits s d past tag h.0 (was_accepted t tag Done (phase past tag) (λ z. absurd (cc)) e)
+accepted_fits s d (Fail t error lba ∷ past) tag h e = accepted_fits s d past tag h.0 (was_accepted t tag (failed (phase past tag)) (phase past tag) (not_failed (phase past tag)) e)
+accepted_fits s d (Recover t ∷ past) tag h e = absurd (not_accepted (phase past tag) e)
+accepted_fits s d (Reissue t ∷ past) tag h e = accepted_fits s d past tag h.0 (was_accepted t tag Issued (phase past tag) (λ z. absurd (cc)) e)
+accepted_fits s d (Collect t ∷ past) tag h e = accepted_fits s d past tag h.0 (was_accepted t tag Free (phase past tag) (λ z. absurd (cc)) e)
+accepted_fits s d (Unqueued command ∷ past) tag h e = accepted_fits s d past tag h.0 e
+
+-- a tag that isn't free is below the depth
+pub below_depth : (s d : ℕ) (past : List Entry) (tag : ℕ) (p : Phase) → IsLawful s d past → phase past tag ≡ p → p ≢ Free → tag < d
+below_depth s d past tag p h own taken =
+    elim (cases_lt tag d) [
+      inl low ↦ low
+    | inr high ↦ absurd (taken (sym own ∙ free_past_depth s d past tag h high))
+    ]
