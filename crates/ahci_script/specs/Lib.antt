@@ -2,3 +2,4 @@ pub mod Number
 pub mod Words
 pub mod Lines
 pub mod Answers
+pub mod Unread
