@@ -6,3 +6,6 @@ mod request;
 
 pub use reading::{asked, not_text};
 pub use request::Asked;
+
+#[cfg(test)]
+mod tests;

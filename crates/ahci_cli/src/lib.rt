@@ -9,3 +9,6 @@ pub use ahci_args::{Asked, asked, not_text};
 pub use fault::CliFault;
 pub use first_port::FirstPort;
 pub use replaying::replay;
+
+#[cfg(test)]
+mod tests;

@@ -1,9 +1,7 @@
 ghost use Rattle.std.specs.Prelude.{◌≡◌, ◌≤◌, ◌*◌, IfOk, replicate};
 
 use ahci_script::{Answer, Command, Output, Refusal};
-use first_port::{
-    CollectFault, DeviceStep, FirstFault, FirstPort, Outcome, StepFault, Stepped,
-};
+use first_port::{CollectFault, DeviceStep, FirstFault, FirstPort, Outcome, StepFault, Stepped};
 use ncq_core::{Bytes, DiskFault, Op};
 use std::alloc::{AllocError, Allocator};
 

@@ -1,5 +1,5 @@
 -- The answers of a script, as they are written.
-use Rattle.std.specs.Prelude.{ℕ, zero, suc, ◌+◌, ◌*◌, ◌/◌, ◌%◌, List, [], ◌∷◌, ◌++◌, length, slice_index, codes, false}
+use Rattle.std.specs.Prelude.{ℕ, zero, suc, ◌*◌, ◌/◌, ◌%◌, List, [], ◌∷◌, ◌++◌, length, slice_index, codes, false}
 use Rattle.std.specs.Fmt.{decimal, digit_glyph}
 use Rattle.ahci_script.specs.declared.answer.Answer.{Answer}
 use Rattle.ahci_script.specs.declared.answer.Answer.TheVariants.{Disk, Issued, Accepted, Completed, Wrote, Read, Sector, Journal, Refused}

@@ -1,8 +1,8 @@
 -- What a script's reader holds: the bytes that came and were not yet taken as lines.
-use Rattle.std.specs.Prelude.{◌≡◌, ℕ, ◌+◌, ◌<◌, List, [], ◌∷◌, ◌++◌, Option, Some, None, length, take, position, nat_le, ◌==◌, if◌then◌else◌}
+use Rattle.std.specs.Prelude.{◌≡◌, ℕ, ◌+◌, ◌<◌, List, ◌++◌, Option, Some, None, length, take, position, nat_le, ◌==◌, if◌then◌else◌}
 use Rattle.ahci_script.specs.declared.input.Found.{Found}
 use Rattle.ahci_script.specs.declared.input.Found.TheVariants.{Line, TooLong, Unfinished}
-use Rattle.std.specs.Io.KnownBytes.{Consumes, IsAtEnd}
+use Rattle.std.specs.Io.KnownBytes.{Consumes}
 
 -- bytes that came and were not yet taken, and how many came in all
 pub record Unread : Type 0 where

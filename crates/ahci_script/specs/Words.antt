@@ -1,5 +1,5 @@
 -- How a script's line falls into words.
-use Rattle.std.specs.Prelude.{ℕ, ◌+◌, List, Option, Some, position, option_map, take, drop, ◌==◌}
+use Rattle.std.specs.Prelude.{ℕ, ◌+◌, List, Option, position, option_map, take, drop, ◌==◌}
 
 -- the text before its first space, and the text behind that space
 abbrev pub cut_of : List ℕ → Option (List ℕ × List ℕ)

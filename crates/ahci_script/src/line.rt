@@ -18,7 +18,10 @@ pub enum Line {
 #[derive(Clone, Copy, Debug, PartialEq, Eq)]
 pub enum Command {
     /// `disk S D`: a new port over a disk of zeros.
-    Disk { sectors: u64, depth: u64 },
+    Disk {
+        sectors: u64,
+        depth: u64,
+    },
     /// `write T LBA N BB`: issues a write of sectors that are filled with one byte.
     Write {
         tag: u8,
@@ -27,15 +30,28 @@ pub enum Command {
         fill: u8,
     },
     /// `read T LBA N`: issues a read.
-    Read { tag: u8, lba: u64, sectors: u32 },
+    Read {
+        tag: u8,
+        lba: u64,
+        sectors: u32,
+    },
     /// `accept T`: the device takes the tag's command.
-    Accept { tag: u8 },
+    Accept {
+        tag: u8,
+    },
     /// `serve T`: the device moves the data of the tag's command, and completes it.
-    Serve { tag: u8 },
+    Serve {
+        tag: u8,
+    },
     /// `collect T K`: takes the answer of the request with number K.
-    Collect { tag: u8, number: u64 },
+    Collect {
+        tag: u8,
+        number: u64,
+    },
     /// `show LBA`: a sector of the disk as it is.
-    Show { lba: u64 },
+    Show {
+        lba: u64,
+    },
     /// `journal`: how many entries the journal has.
     Journal,
 }

@@ -46,7 +46,11 @@ pub(crate) fn tag(word: &[u8]) -> Option<u8>
     ensures { result ≡ decimal_below 32 word.now }
 {
     let number = decimal(word)?;
-    if number < 32 { Some(number as u8) } else { None }
+    if number < 32 {
+        Some(number as u8)
+    } else {
+        None
+    }
 }
 
 /// A number of sectors: a decimal number from 0 to 65,536.
@@ -54,7 +58,11 @@ pub(crate) fn sectors(word: &[u8]) -> Option<u32>
     ensures { result ≡ decimal_below 65537 word.now }
 {
     let number = decimal(word)?;
-    if number < 65_537 { Some(number as u32) } else { None }
+    if number < 65_537 {
+        Some(number as u32)
+    } else {
+        None
+    }
 }
 
 /// The value of a hexadecimal digit, in either case.

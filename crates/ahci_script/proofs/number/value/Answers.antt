@@ -1,5 +1,4 @@
-use Rattle.std.proofs.Common.{rules, arith, sym, ◌≡◌, None, Some, Fits, w64}
-use Rattle.ahci_script.specs.Number.{below, decimal_value, with_digit}
+use Rattle.std.proofs.Common.{rules, arith, sym}
 use Rattle.ahci_script.proofs.DecimalLemmas.{overflows, whole_value}
 use Rattle.ahci_script.proofs.number.value.Goals as goal
 
