@@ -1,8 +1,8 @@
 ghost use Rattle.std.specs.Prelude.{◌≡◌, ◌≤◌, ◌*◌, IfOk, replicate};
 
 use ahci_script::{Answer, Command, Output, Refusal};
-use first_port::{CollectFault, DeviceStep, FirstFault, FirstPort, Outcome, StepFault, Stepped};
-use ncq_core::{Bytes, DiskFault, Op};
+use first_port::{CollectFault, DeviceStep, FirstFault, FirstPort, StepFault, Stepped};
+use ncq_core::{Bytes, DiskFault, Op, Outcome};
 use std::alloc::{AllocError, Allocator};
 
 /// How many bytes a sector has.
@@ -177,10 +177,8 @@ fn step<A: Allocator + Clone>(
     match port.step(step) {
         Ok(Stepped::Accepted(entry)) => answer(output, &Answer::Accepted(entry)),
         Ok(Stepped::Completed(entry)) => answer(output, &Answer::Completed(entry)),
-        Err(StepFault::Halted) => refuse(output, Refusal::Halted),
         Err(StepFault::NotIssued) => refuse(output, Refusal::NotIssued),
         Err(StepFault::NotAccepted) => refuse(output, Refusal::NotAccepted),
-        Err(StepFault::OutsideCommand) => refuse(output, Refusal::OutsideCommand),
         Err(StepFault::OutOfRange) => refuse(output, Refusal::OutOfRange),
     }
 }
@@ -201,6 +199,14 @@ fn collect<A: Allocator + Clone>(
                 },
             ),
             Outcome::Wrote => answer(output, &Answer::Wrote(reply.entry)),
+            Outcome::Failed { error, lba } => answer(
+                output,
+                &Answer::Failed {
+                    entry: reply.entry,
+                    error,
+                    lba,
+                },
+            ),
         },
         Err(CollectFault::Stranger) => refuse(output, Refusal::Stranger),
         Err(CollectFault::NotYet) => refuse(output, Refusal::NotYet),

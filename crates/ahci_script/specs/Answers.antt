@@ -2,7 +2,7 @@
 use Rattle.std.specs.Prelude.{ℕ, zero, suc, ◌*◌, ◌/◌, ◌%◌, List, [], ◌∷◌, ◌++◌, length, slice_index, codes, false}
 use Rattle.std.specs.Fmt.{decimal, digit_glyph}
 use Rattle.ahci_script.specs.declared.answer.Answer.{Answer}
-use Rattle.ahci_script.specs.declared.answer.Answer.TheVariants.{Disk, Issued, Accepted, Completed, Wrote, Read, Sector, Journal, Refused}
+use Rattle.ahci_script.specs.declared.answer.Answer.TheVariants.{Disk, Issued, Accepted, Completed, Wrote, Read, Failed, Sector, Journal, Refused}
 use Rattle.ahci_script.specs.declared.refusal.Refusal.{Refusal}
 use Rattle.ahci_script.specs.declared.refusal.Refusal.TheVariants.{BadSize, BadDepth, BadCount, BadLba, NoSuchTag, SlotOwned, Halted, NotIssued, NotAccepted, OutsideCommand, OutOfRange, Stranger, NotYet, NoSuchSector}
 
@@ -36,6 +36,10 @@ name_of Stranger = codes "Stranger"
 name_of NotYet = codes "NotYet"
 name_of NoSuchSector = codes "NoSuchSector"
 
+-- a finished read: its entry and its sectors
+abbrev pub read_text : ℕ → List ℕ → List ℕ
+read_text entry bytes = codes "read " ++ (decimal entry ++ sectors_text bytes (length bytes / 512))
+
 -- an answer, without its line feed
 abbrev pub answer_text : Answer → List ℕ
 answer_text (Disk sectors depth) = codes "disk " ++ (decimal sectors ++ (codes " " ++ decimal depth))
@@ -43,7 +47,9 @@ answer_text (Issued entry) = codes "issued " ++ decimal entry
 answer_text (Accepted entry) = codes "accepted " ++ decimal entry
 answer_text (Completed entry) = codes "completed " ++ decimal entry
 answer_text (Wrote entry) = codes "wrote " ++ decimal entry
-answer_text (Read entry bytes) = codes "read " ++ (decimal entry ++ sectors_text bytes.now (length bytes.now / 512))
+answer_text (Read entry bytes) = read_text entry bytes.now
+answer_text (Failed entry error lba) =
+    codes "failed " ++ (decimal entry ++ (codes " " ++ (hex_of error ++ (codes " " ++ decimal lba))))
 answer_text (Sector lba byte) = codes "sector " ++ (decimal lba ++ (codes " " ++ hex_of byte))
 answer_text (Journal entries) = codes "journal " ++ decimal entries
 answer_text (Refused refusal) = codes "refused " ++ name_of refusal

@@ -20,6 +20,8 @@ pub enum Answer<'a> {
     Wrote(u64),
     /// The entry that completed the read, and its sectors of 512 bytes, joined.
     Read { entry: u64, bytes: &'a [u8] },
+    /// The entry that failed the request, with the error register's byte and the LBA of the sector.
+    Failed { entry: u64, error: u8, lba: u64 },
     /// A sector of the disk, by its first byte.
     Sector { lba: u64, byte: u8 },
     /// How many entries the journal has.
@@ -42,6 +44,9 @@ impl fmt::Display for Answer<'_> {
             Answer::Completed(entry) => write!(f, "completed {entry}"),
             Answer::Wrote(entry) => write!(f, "wrote {entry}"),
             Answer::Read { entry, bytes } => write!(f, "read {entry}{}", Sectors { bytes }),
+            Answer::Failed { entry, error, lba } => {
+                write!(f, "failed {entry} {} {lba}", HexByte { byte: error })
+            }
             Answer::Sector { lba, byte } => write!(f, "sector {lba} {}", HexByte { byte }),
             Answer::Journal(entries) => write!(f, "journal {entries}"),
             Answer::Refused(refusal) => write!(f, "refused {}", name(refusal)),

@@ -1,5 +1,5 @@
 ghost use Rattle.std.specs.Prelude.{◌≡◌, ℕ, ◌+◌, ◌<◌, ◌≤◌, [], ◌∷◌, ◌++◌, drop, length, IfOk, OnErr, Some, None, MatchBool, vec_capacity, vec_len};
-ghost use Rattle.std.specs.Io.KnownBytes.{IsAtEnd};
+ghost use Rattle.std.specs.Io.KnownBytes.{Consumes, IsAtEnd};
 ghost use Rattle.ahci_script.specs.Unread.{Grows, found_of, line_end, shown};
 
 use std::alloc::{AllocError, Allocator, Global};
@@ -95,7 +95,8 @@ impl<A: Allocator> Input<A> {
         requires { length self.old.bytes ≤ LINE_LIMIT }
         ensures ok { IfOk result (λ more. MatchBool more
             (Grows self.old self.new (R.remaining reader.old) (R.remaining reader.new))
-            ((self.new ≡ self.old) × IsAtEnd (R.remaining reader.new))) }
+            ((self.new ≡ self.old) × IsAtEnd (R.remaining reader.new)
+                × Consumes (R.remaining reader.old) (R.remaining reader.new) [])) }
         ensures limit { self.new.came ≤ INPUT_LIMIT }
         ensures err { OnErr result (self.new ≡ self.old) }
     {
