@@ -1,0 +1,58 @@
+use crate::request::Asked;
+use clap::error::ErrorKind;
+use clap::{Command, Error};
+use std::alloc::Global;
+
+const VERSION: &str = "0.1.0";
+
+const ABOUT: &str = "A reference model of one AHCI port with native command queueing.
+It runs a script of commands against the port and answers each of them.";
+
+const EXAMPLE: &str = "Example:
+  printf 'disk 8 4\\nwrite 0 3 1 aa\\njournal\\n' | ahci replay";
+
+const REPLAY_ABOUT: &str = "Read a script on standard input, and answer it on standard output";
+
+const REPLAY_LONG_ABOUT: &str = "Read a script on standard input, and answer it on standard output.
+Each line is one command, and each command has one line as its answer.";
+
+const REPLAY_HELP: &str = "Commands of a script:
+  disk S D         a disk of S sectors of zeros, and D slots
+  write T LBA N BB issue a write of N sectors of the byte BB with tag T
+  read T LBA N     issue a read of N sectors with tag T
+  accept T         the device takes the command of tag T
+  serve T          the device moves the data of tag T, and completes it
+  collect T K      take the answer of the request with number K
+  show LBA         a sector of the disk, by its first byte
+  journal          how many entries the journal has
+
+Example:
+  printf 'disk 8 4\\nwrite 0 3 1 aa\\naccept 0\\nserve 0\\ncollect 0 0\\n' | ahci replay";
+
+/// Reads a command line, whose first word is the program's name. Help and the version that were
+/// asked for come as an error too, as `clap` has it: its `exit_code` is then 0.
+pub fn asked<'a>(alloc: Global, words: &'a [String]) -> Result<Asked, Error> {
+    let _matches = command(alloc)?.try_get_matches_from(words)?;
+    Ok(Asked::Replay)
+}
+
+/// The usage fault of a word that isn't text in UTF-8, which `asked` can't be given.
+pub fn not_text(alloc: Global) -> Result<Error, Error> {
+    let mut command = command(alloc)?;
+    Ok(command.error(ErrorKind::InvalidValue, "an argument is not text in UTF-8")?)
+}
+
+fn command<'a>(alloc: Global) -> Result<Command<'a>, Error> {
+    let replay = Command::new(alloc, "replay")
+        .about(REPLAY_ABOUT)
+        .long_about(REPLAY_LONG_ABOUT)
+        .after_help(REPLAY_HELP);
+    let ahci = Command::new(alloc, "ahci")
+        .bin_name("ahci")?
+        .version(VERSION)
+        .about(ABOUT)
+        .after_help(EXAMPLE)
+        .subcommand_required(true)
+        .subcommand(replay)?;
+    Ok(ahci)
+}

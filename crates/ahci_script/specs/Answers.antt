@@ -1,0 +1,55 @@
+-- The answers of a script, as they are written.
+use Rattle.std.specs.Prelude.{ℕ, zero, suc, ◌*◌, ◌/◌, ◌%◌, List, [], ◌∷◌, ◌++◌, length, slice_index, codes, false}
+use Rattle.std.specs.Fmt.{decimal, digit_glyph}
+use Rattle.ahci_script.specs.declared.answer.Answer.{Answer}
+use Rattle.ahci_script.specs.declared.answer.Answer.TheVariants.{Disk, Issued, Accepted, Completed, Wrote, Read, Failed, Sector, Journal, Refused}
+use Rattle.ahci_script.specs.declared.refusal.Refusal.{Refusal}
+use Rattle.ahci_script.specs.declared.refusal.Refusal.TheVariants.{BadSize, BadDepth, BadCount, BadLba, NoSuchTag, SlotOwned, Halted, NotIssued, NotAccepted, OutsideCommand, OutOfRange, Stranger, NotYet, NoSuchSector}
+
+-- a byte as two hexadecimal digits, in lower case
+abbrev pub hex_of : ℕ → List ℕ
+hex_of b = digit_glyph false (b / 16) ∷ digit_glyph false (b % 16) ∷ []
+
+-- a sector among these bytes, by its first byte and behind a space
+abbrev pub sector_text : List ℕ → ℕ → List ℕ
+sector_text bytes i = 32 ∷ hex_of (slice_index bytes (512 * i))
+
+-- the first n sectors of the bytes
+abbrev pub sectors_text : List ℕ → ℕ → List ℕ
+sectors_text bytes zero = []
+sectors_text bytes (suc n) = sectors_text bytes n ++ sector_text bytes n
+
+-- the fault's name
+abbrev pub name_of : Refusal → List ℕ
+name_of BadSize = codes "BadSize"
+name_of BadDepth = codes "BadDepth"
+name_of BadCount = codes "BadCount"
+name_of BadLba = codes "BadLba"
+name_of NoSuchTag = codes "NoSuchTag"
+name_of SlotOwned = codes "SlotOwned"
+name_of Halted = codes "Halted"
+name_of NotIssued = codes "NotIssued"
+name_of NotAccepted = codes "NotAccepted"
+name_of OutsideCommand = codes "OutsideCommand"
+name_of OutOfRange = codes "OutOfRange"
+name_of Stranger = codes "Stranger"
+name_of NotYet = codes "NotYet"
+name_of NoSuchSector = codes "NoSuchSector"
+
+-- a finished read: its entry and its sectors
+abbrev pub read_text : ℕ → List ℕ → List ℕ
+read_text entry bytes = codes "read " ++ (decimal entry ++ sectors_text bytes (length bytes / 512))
+
+-- an answer, without its line feed
+abbrev pub answer_text : Answer → List ℕ
+answer_text (Disk sectors depth) = codes "disk " ++ (decimal sectors ++ (codes " " ++ decimal depth))
+answer_text (Issued entry) = codes "issued " ++ decimal entry
+answer_text (Accepted entry) = codes "accepted " ++ decimal entry
+answer_text (Completed entry) = codes "completed " ++ decimal entry
+answer_text (Wrote entry) = codes "wrote " ++ decimal entry
+answer_text (Read entry bytes) = read_text entry bytes.now
+answer_text (Failed entry error lba) =
+    codes "failed " ++ (decimal entry ++ (codes " " ++ (hex_of error ++ (codes " " ++ decimal lba))))
+answer_text (Sector lba byte) = codes "sector " ++ (decimal lba ++ (codes " " ++ hex_of byte))
+answer_text (Journal entries) = codes "journal " ++ decimal entries
+answer_text (Refused refusal) = codes "refused " ++ name_of refusal

@@ -1,0 +1,5 @@
+pub mod Number
+pub mod Words
+pub mod Lines
+pub mod Answers
+pub mod Unread

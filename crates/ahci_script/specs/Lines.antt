@@ -1,0 +1,98 @@
+-- The lines of a script: what each of them spells.
+use Rattle.std.specs.Prelude.{ℕ, ◌==◌, Bool, List, [], ◌∷◌, Option, Some, None, option_and_then, nat_lt, codes, if◌then◌else◌}
+use Rattle.std.specs.List.{list_all}
+use Rattle.std.specs.Str.{bytes_eq}
+use Rattle.ahci_script.specs.declared.line.Command.{Command}
+use Rattle.ahci_script.specs.declared.line.Command.TheVariants.{Disk, Write, Read, Accept, Serve, Collect, Show, Journal}
+use Rattle.ahci_script.specs.declared.line.Line.{Line}
+use Rattle.ahci_script.specs.declared.line.Line.TheVariants as the-line
+use Rattle.ahci_script.specs.Number.{byte_of, decimal_below, decimal_of}
+use Rattle.ahci_script.specs.Words.{cut_of}
+
+infixl 10 ◌>>=◌
+abbrev pub ◌>>=◌ : {A B : Type 0} → Option A → (A → Option B) → Option B
+o >>= f = option_and_then f o
+
+-- a tag: 0 to 31
+abbrev pub tag_of : List ℕ → Option ℕ
+tag_of = decimal_below 32
+
+-- a number of sectors: 0 to 65,536
+abbrev pub sectors_of : List ℕ → Option ℕ
+sectors_of = decimal_below 65537
+
+-- disk S D
+abbrev pub disk_of : List ℕ → Option Command
+disk_of arguments = do
+  s ← cut_of arguments
+  sectors ← decimal_of s.0
+  depth ← decimal_of s.1
+  Some (Disk sectors depth)
+
+-- write T LBA N BB
+abbrev pub write_of : List ℕ → Option Command
+write_of arguments = do
+  t ← cut_of arguments
+  l ← cut_of t.1
+  n ← cut_of l.1
+  tag ← tag_of t.0
+  lba ← decimal_of l.0
+  sectors ← sectors_of n.0
+  fill ← byte_of n.1
+  Some (Write tag lba sectors fill)
+
+-- read T LBA N
+abbrev pub read_of : List ℕ → Option Command
+read_of arguments = do
+  t ← cut_of arguments
+  l ← cut_of t.1
+  tag ← tag_of t.0
+  lba ← decimal_of l.0
+  sectors ← sectors_of l.1
+  Some (Read tag lba sectors)
+
+-- accept T
+abbrev pub accept_of : List ℕ → Option Command
+accept_of arguments = do
+  tag ← tag_of arguments
+  Some (Accept tag)
+
+-- serve T
+abbrev pub serve_of : List ℕ → Option Command
+serve_of arguments = do
+  tag ← tag_of arguments
+  Some (Serve tag)
+
+-- collect T K
+abbrev pub collect_of : List ℕ → Option Command
+collect_of arguments = do
+  t ← cut_of arguments
+  tag ← tag_of t.0
+  number ← decimal_of t.1
+  Some (Collect tag number)
+
+-- show LBA
+abbrev pub show_of : List ℕ → Option Command
+show_of arguments = do
+  lba ← decimal_of arguments
+  Some (Show lba)
+
+-- a command by its name, which stands before its arguments
+abbrev pub named : List ℕ → List ℕ → Option Command
+named name arguments =
+    if bytes_eq name (codes "disk") then disk_of arguments else (if bytes_eq name (codes "write") then write_of arguments else (if bytes_eq name (codes "read") then read_of arguments else (if bytes_eq name (codes "accept") then accept_of arguments else (if bytes_eq name (codes "serve") then serve_of arguments else (if bytes_eq name (codes "collect") then collect_of arguments else (if bytes_eq name (codes "show") then show_of arguments else None))))))
+
+-- a command: `journal` alone, or a name, a space and the arguments
+abbrev pub command_of : List ℕ → Option Command
+command_of line =
+    if bytes_eq line (codes "journal") then Some Journal else (cut_of line >>= λ c. named c.0 c.1)
+
+-- a comment may hold any byte below 128
+abbrev pub is_ascii : List ℕ → Bool
+is_ascii = list_all (λ b. nat_lt b 128)
+
+-- a line: nothing, a comment behind `#`, or a command
+abbrev pub line_of : List ℕ → Option Line
+line_of [] = Some the-line.Skip
+line_of (b ∷ bs) =
+    if b == 35 then (if is_ascii bs then Some the-line.Skip else None) else (command_of (b ∷ bs) >>= λ c. Some (the-line.Run c))

@@ -1,0 +1,42 @@
+-- What a script's reader holds: the bytes that came and were not yet taken as lines.
+use Rattle.std.specs.Prelude.{◌≡◌, ℕ, ◌+◌, ◌<◌, List, ◌++◌, Option, Some, None, length, take, position, nat_le, ◌==◌, if◌then◌else◌}
+use Rattle.ahci_script.specs.declared.input.Found.{Found}
+use Rattle.ahci_script.specs.declared.input.Found.TheVariants.{Line, TooLong, Unfinished}
+use Rattle.std.specs.Io.KnownBytes.{Consumes}
+
+-- bytes that came and were not yet taken, and how many came in all
+pub record Unread : Type 0 where
+  pub bytes : List ℕ
+  pub came : ℕ
+
+-- where the first line feed stands
+abbrev pub line_end : List ℕ → Option ℕ
+line_end bytes = position (λ b. b == 10) bytes
+
+-- what unread bytes begin with, as plain bytes
+pub data Begins : Type 0 where
+  whole : List ℕ → Begins
+  too_long : Begins
+  unfinished : Begins
+
+-- a line of at most 4,096 bytes before a line feed, more bytes than that, or neither
+abbrev pub found_of : List ℕ → Begins
+found_of bytes =
+    elim (line_end bytes) as (λ _. Begins) [
+      | None ↦ if nat_le (length bytes) 4096 then unfinished else too_long
+      | Some end ↦ if nat_le end 4096 then whole (take end bytes) else too_long
+    ]
+
+-- what the code found, as plain bytes
+abbrev pub shown : Found → Begins
+shown (Line line) = whole line.now
+shown TooLong = too_long
+shown Unfinished = unfinished
+
+-- some bytes came from the reader, behind those that are unread
+pub record Grows (old new : Unread) (remaining_old remaining_new : Option (List ℕ)) : Type 0 where
+  pub came : List ℕ
+  pub some : 0 < length came
+  pub consumed : Consumes remaining_old remaining_new came
+  pub bytes : new.bytes ≡ old.bytes ++ came
+  pub count : new.came ≡ old.came + length came

@@ -1,0 +1,91 @@
+ghost use Rattle.std.specs.Prelude.{◌≡◌, ◌∷◌, ◌++◌, ◌↔◌, ◌≤◌, ℕ, [], IfOk, IsTrue, OnErr, OnOk, length, take};
+ghost use Rattle.std.specs.Io.KnownBytes.{Appends};
+ghost use Rattle.ahci_script.specs.Answers.{answer_text};
+
+use crate::answer::Answer;
+use std::alloc::{AllocError, Allocator, Global};
+use std::io::Write;
+use std::marker::Model;
+
+/// How much text waits before it is worth a write.
+const FULL: usize = 16384;
+
+/// The output took no more bytes: a write or a flush failed, or a write took no byte of some.
+#[derive(Clone, Copy, Debug, PartialEq, Eq)]
+pub struct OutputFailed;
+
+/// The answers that wait for the output, as text. Each ends in a line feed.
+#[derive(Drop)]
+pub struct Output<A: Allocator = Global> {
+    waiting: String<A>,
+    line: String<A>,
+}
+
+impl<A: Allocator> Model for Output<A> {
+    ghost use Rattle.std.specs.Prelude.{List, ℕ};
+    ghost use Rattle.std.specs.String.{string_bytes};
+
+    ghost Value = { List ℕ };
+
+    ghost view = { λ o. string_bytes o.waiting };
+}
+
+impl<A: Allocator> Output<A> {
+    /// No answer waits.
+    pub fn new(alloc: A) -> Result<Self, AllocError>
+    where
+        A: Clone,
+        ensures { IfOk result (λ o. o ≡ []) }
+    {
+        Ok(Output {
+            waiting: String::new(alloc.clone()?),
+            line: String::new(alloc),
+        })
+    }
+
+    /// Whether enough text waits to be sent.
+    pub fn is_full(&self) -> bool
+        ensures { IsTrue result ↔ (16384 ≤ length self.now) }
+    {
+        self.waiting.len() >= FULL
+    }
+
+    /// Appends an answer and its line feed. After a refused growth no byte of it waits.
+    pub fn put(&mut self, answer: &Answer<'_>) -> Result<(), AllocError>
+        ensures ok { OnOk result (self.new ≡ self.old ++ (answer_text answer.now ++ 10 ∷ [])) }
+        ensures err { OnErr result (self.new ≡ self.old) }
+    {
+        self.line.clear();
+        writeln!(self.line, "{answer}")?;
+        self.waiting.push_str(self.line.as_str())
+    }
+
+    /// Writes all that waits, and flushes. After a failure some first part of it was written.
+    pub fn send<W: Write>(&mut self, writer: &mut W) -> Result<(), OutputFailed>
+        ensures ok { OnOk result (self.new ≡ []) }
+        ensures written { OnOk result (Appends (W.contents writer.old) (W.contents writer.new) self.old) }
+        ensures err { OnErr result (self.new ≡ self.old) }
+        ensures part { OnErr result
+            ((n : ℕ) × Appends (W.contents writer.old) (W.contents writer.new) (take n self.old)) }
+    {
+        write_whole(writer, self.waiting.as_bytes())?;
+        self.waiting.clear();
+        Ok(())
+    }
+}
+
+/// Writes all of the bytes, and flushes. After a failure some first part of them was written.
+fn write_whole<W: Write>(writer: &mut W, bytes: &[u8]) -> Result<(), OutputFailed>
+    ensures written { OnOk result (Appends (W.contents writer.old) (W.contents writer.new) bytes.now) }
+    ensures part { OnErr result
+        ((n : ℕ) × Appends (W.contents writer.old) (W.contents writer.new) (take n bytes.now)) }
+{
+    let mut sent = 0;
+    while sent < bytes.len() {
+        match writer.write(&bytes[sent..]) {
+            Ok(n) if n > 0 => sent += n,
+            _ => return Err(OutputFailed),
+        }
+    }
+    writer.flush().map_err(|_| OutputFailed)
+}

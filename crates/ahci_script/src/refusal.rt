@@ -1,0 +1,43 @@
+ghost use Rattle.std.specs.Prelude.{◌≡◌};
+ghost use Rattle.ahci_script.specs.Answers.{name_of};
+
+/// Why a call refused what a line asked for. The script goes on.
+#[derive(Clone, Copy, Debug, PartialEq, Eq)]
+pub enum Refusal {
+    BadSize,
+    BadDepth,
+    BadCount,
+    BadLba,
+    NoSuchTag,
+    SlotOwned,
+    Halted,
+    NotIssued,
+    NotAccepted,
+    OutsideCommand,
+    OutOfRange,
+    Stranger,
+    NotYet,
+    NoSuchSector,
+}
+
+/// The refusal's name, as a script's answer shows it.
+pub fn name(refusal: Refusal) -> &'static str
+    ensures { result.now ≡ name_of refusal }
+{
+    match refusal {
+        Refusal::BadSize => "BadSize",
+        Refusal::BadDepth => "BadDepth",
+        Refusal::BadCount => "BadCount",
+        Refusal::BadLba => "BadLba",
+        Refusal::NoSuchTag => "NoSuchTag",
+        Refusal::SlotOwned => "SlotOwned",
+        Refusal::Halted => "Halted",
+        Refusal::NotIssued => "NotIssued",
+        Refusal::NotAccepted => "NotAccepted",
+        Refusal::OutsideCommand => "OutsideCommand",
+        Refusal::OutOfRange => "OutOfRange",
+        Refusal::Stranger => "Stranger",
+        Refusal::NotYet => "NotYet",
+        Refusal::NoSuchSector => "NoSuchSector",
+    }
+}
