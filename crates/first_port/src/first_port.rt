@@ -165,7 +165,7 @@ fn has_bad_count<A: Allocator>(op: &Op<A>) -> bool
 }
 
 impl<A: Allocator + Clone> FirstPort<A> {
-    /// A port over this image, which it copies, with an empty journal. `BadSize` and `BadDepth` come exactly where they
+    /// A port that works on this image and keeps a copy of it as it began, with an empty journal. `BadSize` and `BadDepth` come exactly where they
     /// hold, in this order; else only a refused growth fails.
     pub fn new(alloc: A, image: Vec<u8, A>, depth: u32) -> Result<Self, DiskFault>
         ensures ok { IfOk result (λ p. p ≡ record { starting = image.items; depth = depth; past = [] }) }
