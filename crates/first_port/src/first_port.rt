@@ -165,8 +165,8 @@ fn has_bad_count<A: Allocator>(op: &Op<A>) -> bool
 }
 
 impl<A: Allocator + Clone> FirstPort<A> {
-    /// A port that works on this image and keeps a copy of it as it began, with an empty journal. `BadSize` and `BadDepth` come exactly where they
-    /// hold, in this order; else only a refused growth fails.
+    /// A port that works on this image and keeps a copy of it as it began, with an empty journal. `BadSize` and
+    /// `BadDepth` come exactly where they hold, in this order; else only a refused growth fails.
     pub fn new(alloc: A, image: Vec<u8, A>, depth: u32) -> Result<Self, DiskFault>
         ensures ok { IfOk result (λ p. p ≡ record { starting = image.items; depth = depth; past = [] }) }
         ensures fault { AnswersOr result (new_fault image.items depth) DiskFault.OutOfMemory }
