@@ -1,0 +1,3 @@
+pub mod KeepingLemmas
+pub mod ServingLemmas
+pub mod CollectingLemmas
