@@ -96,7 +96,7 @@ impl<A: Allocator> Input<A> {
         ensures ok { IfOk result (λ more. MatchBool more
             (Grows self.old self.new (R.remaining reader.old) (R.remaining reader.new))
             ((self.new ≡ self.old) × IsAtEnd (R.remaining reader.new)
-                × Consumes (R.remaining reader.old) (R.remaining reader.new) [])) }
+            × Consumes (R.remaining reader.old) (R.remaining reader.new) [])) }
         ensures limit { self.new.came ≤ INPUT_LIMIT }
         ensures err { OnErr result (self.new ≡ self.old) }
     {
