@@ -1,35 +1,21 @@
 -- The first port keeps what it keeps when an answer is collected.
-use Rattle.std.proofs.Common.{◌-◌, ◌&&◌, ◌||◌, not, nat_eq, take, drop, eqb, ◌≡◌, ◌≢◌, ℕ, ◌+◌, ◌*◌, ◌/◌, ◌<◌, ◌≤◌, Bool, true, false, cond, ◌==◌, List, [], ◌∷◌, ◌++◌, length, set, get_or, ap, sym, refl, subst, ◌∙◌, Option, None, Some, IsSomeAnd, arith, inl, inr, zero, suc, IsSome}
-use Rattle.std.specs.Option.{option_or}
-use Rattle.std.proofs.lemmas.Bool.{eqb-true, cases_eq, cases_lt, cond-true, cond-false, eq-eqb, ne_eqb, false≢true, ltb-false}
-use Rattle.std.proofs.lemmas.List.{length-set, set-set, get_or-set_same, get_or-set_other}
+use Rattle.std.proofs.Common.{◌||◌, not, nat_eq, ◌≡◌, ℕ, ◌+◌, ◌<◌, Bool, true, false, cond, List, ◌∷◌, length, set, get_or, ap, sym, refl, subst, ◌∙◌, Option, None, Some, IsSomeAnd, arith, IsSome}
+use Rattle.std.proofs.lemmas.Bool.{eqb-true, cond-true, cond-false, false≢true}
 use Rattle.ncq_core.specs.declared.phase.Phase.{Phase}
 use Rattle.ncq_core.specs.declared.phase.Phase.TheVariants.{Free, Issued, Accepted, Rejected, Broken, Held, Done}
-use Rattle.ncq_core.specs.Answer.{Answer, answer, given, completes, sectors_at}
-use Rattle.ncq_core.specs.Entry.{Entry, Issue, Accept, Complete, Fail, Recover, Reissue, Collect, Unqueued}
-use Rattle.ncq_core.specs.Halted.{halted}
-use Rattle.ncq_core.specs.History.{entry_at}
-use Rattle.ncq_core.specs.Image.{sector_at, covers, written_at, is_write, IsWrittenOver}
-use Rattle.ncq_core.specs.Lawful.{IsAllowed, IsLawful, IsProper, Fits, end_of, IsWhole}
-use Rattle.ncq_core.specs.Owed.{owed, owed_in}
-use Rattle.ncq_core.specs.Phase.{phase, is_failed}
+use Rattle.ncq_core.specs.Answer.{answer}
+use Rattle.ncq_core.specs.Entry.{Entry, Collect}
+use Rattle.ncq_core.specs.Phase.{phase}
 use Rattle.ncq_core.specs.Request.{Request, request}
-use Rattle.ncq_core.specs.Sector.{sector, completed}
-use Rattle.ncq_core.specs.Work.{Work, Read, Write, lba_of, sectors_of}
-use Rattle.ncq_core.proofs.HaltedLemmas.{not_halted}
-use Rattle.ncq_core.proofs.OwedLemmas.{owed_is_few, owed_moves}
-use Rattle.ncq_core.proofs.PhaseLemmas.{free_past_depth, owned_has_request, below_depth, accepted_fits}
-use Rattle.ncq_core.proofs.TagLemmas.{sum_le}
-use Rattle.first_port.specs.First.{SlotState, FirstState, step_fault, is_issued, passes, disk_sectors, collect_fault, is_free, is_done, has_number}
-use Rattle.first_port.specs.Moves.{accepted, served, moved_buffer, CanMove, HasMoved, MovesFor, slot_collect_fault}
-use Rattle.first_port.specs.declared.step.DeviceStep.TheVariants as step
-use Rattle.first_port.specs.declared.fault.StepFault.{StepFault}
-use Rattle.first_port.specs.declared.fault.StepFault.TheVariants.{NotIssued, NotAccepted, OutOfRange}
-use Rattle.first_port.specs.Keeping.{Keeps, Holds, HasSlot, HasPhase, HasBuffer, IsOf, outcome_of}
-use Rattle.first_port.proofs.KeepingLemmas.{cond_other, cond_own, keeps_step, calm}
+use Rattle.ncq_core.specs.Work.{Work, Read, Write}
+use Rattle.ncq_core.proofs.OwedLemmas.{owed_moves}
+use Rattle.ncq_core.proofs.PhaseLemmas.{below_depth}
+use Rattle.first_port.specs.First.{SlotState, FirstState, collect_fault, is_free, is_done, has_number}
+use Rattle.first_port.specs.Moves.{slot_collect_fault}
+use Rattle.first_port.specs.Keeping.{Keeps, Holds, HasSlot, HasPhase, IsOf, outcome_of}
+use Rattle.first_port.proofs.KeepingLemmas.{cond_other, cond_own, keeps_step}
 use Rattle.first_port.specs.declared.fault.CollectFault.{CollectFault}
 use Rattle.first_port.specs.declared.fault.CollectFault.TheVariants.{Stranger, NotYet}
-use Rattle.ncq_core.specs.declared.outcome.Outcome.{Outcome}
 use Rattle.ncq_core.specs.declared.outcome.Outcome.TheVariants as outcome
 
 -- why a request is not collected, by the tag's phase and its request

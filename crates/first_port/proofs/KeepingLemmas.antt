@@ -5,28 +5,28 @@ use Rattle.std.proofs.lemmas.Bool.{cases_eq, cases_lt, cond-true, cond-false, eq
 use Rattle.std.proofs.lemmas.List.{length-set, set-set, get_or-set_same, get_or-set_other}
 use Rattle.ncq_core.specs.declared.phase.Phase.{Phase}
 use Rattle.ncq_core.specs.declared.phase.Phase.TheVariants.{Free, Issued, Accepted, Rejected, Broken, Held, Done}
-use Rattle.ncq_core.specs.Answer.{Answer, answer, given}
-use Rattle.ncq_core.specs.Entry.{Entry, Issue, Accept, Complete, Fail, Recover, Reissue, Collect, Unqueued}
+use Rattle.ncq_core.specs.Answer.{given}
+use Rattle.ncq_core.specs.Entry.{Entry, Issue, Accept}
 use Rattle.ncq_core.specs.Halted.{halted}
 use Rattle.ncq_core.specs.History.{entry_at}
 use Rattle.ncq_core.specs.Image.{sector_at}
-use Rattle.ncq_core.specs.Lawful.{IsAllowed, IsLawful, IsProper, Fits, end_of}
+use Rattle.ncq_core.specs.Lawful.{IsAllowed, IsProper, Fits, end_of}
 use Rattle.ncq_core.specs.Owed.{owed, owed_in}
 use Rattle.ncq_core.specs.Phase.{phase, is_failed}
 use Rattle.ncq_core.specs.Request.{Request, request}
 use Rattle.ncq_core.specs.Sector.{sector}
-use Rattle.ncq_core.specs.Work.{Work, Read, Write, lba_of, sectors_of}
+use Rattle.ncq_core.specs.Work.{Work, Read, Write, lba_of}
 use Rattle.ncq_core.proofs.HaltedLemmas.{not_halted}
 use Rattle.ncq_core.proofs.OwedLemmas.{owed_is_few, owed_moves}
-use Rattle.ncq_core.proofs.PhaseLemmas.{free_past_depth, owned_has_request, below_depth, accepted_fits}
+use Rattle.ncq_core.proofs.PhaseLemmas.{free_past_depth, owned_has_request, below_depth}
 use Rattle.ncq_core.proofs.TagLemmas.{sum_le}
 use Rattle.first_port.specs.First.{SlotState, FirstState, issue_fault, has_bad_count, is_free, step_fault, is_issued, passes, disk_sectors}
 use Rattle.first_port.specs.Moves.{accepted}
 use Rattle.first_port.specs.declared.step.DeviceStep.TheVariants as step
 use Rattle.first_port.specs.declared.fault.FirstFault.TheVariants.{BadCount, BadLba, NoSuchTag, SlotOwned}
 use Rattle.first_port.specs.declared.fault.StepFault.{StepFault}
-use Rattle.first_port.specs.declared.fault.StepFault.TheVariants.{NotIssued, NotAccepted, OutOfRange}
-use Rattle.first_port.specs.Keeping.{Keeps, Holds, HasSlot, HasPhase, HasBuffer, IsOf}
+use Rattle.first_port.specs.declared.fault.StepFault.TheVariants.{NotIssued, OutOfRange}
+use Rattle.first_port.specs.Keeping.{Keeps, HasSlot, HasPhase, HasBuffer, IsOf}
 
 pub cond_other : {X : Type 0} (t u : ℕ) (x y : X) → u ≢ t → cond (t == u) x y ≡ y
 cond_other t u x y other = cond-false (t == u) x y (ne_eqb t u (λ e. other (sym e)))

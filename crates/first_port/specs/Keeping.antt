@@ -1,17 +1,17 @@
 -- What the first port keeps: its journal is lawful, its image and the buffer of each finished read are those that the
 -- journal gives, and there is room for every entry that its requests can still need.
-use Rattle.std.specs.Prelude.{◌≡◌, ℕ, ◌*◌, ◌/◌, ◌<◌, ◌≤◌, true, List, [], length, Option, None, Some, slice_index_or, IsSomeAnd}
+use Rattle.std.specs.Prelude.{◌≡◌, ℕ, ◌*◌, ◌/◌, ◌<◌, ◌≤◌, List, length, Option, None, Some, slice_index_or}
 use Rattle.ncq_core.specs.declared.outcome.Outcome.{Outcome}
 use Rattle.ncq_core.specs.declared.outcome.Outcome.TheVariants as outcome
 use Rattle.ncq_core.specs.declared.phase.Phase.{Phase}
-use Rattle.ncq_core.specs.declared.phase.Phase.TheVariants.{Free, Issued, Accepted, Rejected, Broken, Held, Done}
-use Rattle.ncq_core.specs.Answer.{Answer, answer}
+use Rattle.ncq_core.specs.declared.phase.Phase.TheVariants.{Free, Issued, Accepted, Done}
+use Rattle.ncq_core.specs.Answer.{answer}
 use Rattle.ncq_core.specs.Entry.{Entry}
 use Rattle.ncq_core.specs.Image.{sector_at, is_write}
 use Rattle.ncq_core.specs.Lawful.{IsLawful}
 use Rattle.ncq_core.specs.Owed.{owed}
 use Rattle.ncq_core.specs.Phase.{phase}
-use Rattle.ncq_core.specs.Request.{Request, request}
+use Rattle.ncq_core.specs.Request.{request}
 use Rattle.ncq_core.specs.Sector.{sector}
 use Rattle.ncq_core.specs.Work.{Work, Read, Write, lba_of, sectors_of}
 use Rattle.first_port.specs.First.{SlotState}

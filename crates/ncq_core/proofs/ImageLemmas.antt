@@ -1,5 +1,5 @@
 -- Sectors as parts of a list of bytes.
-use Rattle.std.proofs.Common.{◌≡◌, ℕ, ◌+◌, ◌-◌, ◌*◌, ◌<◌, ◌≤◌, min, List, length, take, drop, ap, sym, ◌∙◌, arith, length-drop, inl, inr, Bool, cond, ◌&&◌, leb, ltb, ◌++◌, zero, suc, refl}
+use Rattle.std.proofs.Common.{◌≡◌, ℕ, ◌+◌, ◌-◌, ◌*◌, ◌<◌, ◌≤◌, min, List, length, take, drop, ap, sym, ◌∙◌, arith, length-drop, inl, inr, cond, ◌&&◌, leb, ltb, ◌++◌, zero, suc, refl}
 use Rattle.std.proofs.lemmas.List.{take_all, drop_all, drop-take, drop-drop, take-append-le, length-take-le}
 use Rattle.std.proofs.lemmas.Bool.{cases_lt, cond-true, cond-false, and_left, and_right, and_from, lt-leb, le-leb, lt-ltb, le-ltb}
 use Rattle.std.proofs.Math.Seq.{drop-append-add, take-add}

@@ -124,6 +124,6 @@ accepted_fits s d (Unqueued command ∷ past) tag h e = accepted_fits s d past t
 pub below_depth : (s d : ℕ) (past : List Entry) (tag : ℕ) (p : Phase) → IsLawful s d past → phase past tag ≡ p → p ≢ Free → tag < d
 below_depth s d past tag p h own taken =
     elim (cases_lt tag d) [
-      inl low ↦ low
-    | inr high ↦ absurd (taken (sym own ∙ free_past_depth s d past tag h high))
+      | inl low ↦ low
+      | inr high ↦ absurd (taken (sym own ∙ free_past_depth s d past tag h high))
     ]

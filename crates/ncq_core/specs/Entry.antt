@@ -1,4 +1,5 @@
--- What one atomic step of the port adds to its journal. Numbers are tags, errors and LBAs.
+-- What one atomic step of the port adds to its journal. Numbers are tags, errors and LBAs. A command that is not queued
+-- is the code's Event::Plain.
 use Rattle.std.specs.Prelude.{ℕ}
 use Rattle.ncq_core.specs.declared.plain.Plain.{Plain}
 use Rattle.ncq_core.specs.declared.event.Event.{Event}

@@ -1,4 +1,4 @@
--- How many entries the requests of a journal can still need before each has its answer.
+-- How many entries the requests of a journal still need until each is collected, if no further error comes.
 use Rattle.std.specs.Prelude.{ℕ, List}
 use Rattle.std.specs.List.{sum_by}
 use Rattle.ncq_core.specs.declared.phase.Phase.{Phase}

@@ -8,9 +8,9 @@ use std::alloc::{Allocator, Global};
 pub enum Event<A: Allocator = Global> {
     /// Software sets PxSACT and PxCI for a tag (AHCI 1.3.1, "Building a Command").
     Issue(u8, Op<A>),
-    /// The device takes the command (Serial ATA, "Register Device to Host").
+    /// The device takes the command (Serial ATA, "Register FIS - Device to Host").
     Accept(u8),
-    /// The device has moved the command's data and reports it (Serial ATA, "Set Device Bits").
+    /// The device has moved the command's data and reports it (Serial ATA, "Set Device Bits FIS - Device to Host").
     Complete(u8),
     /// The device reports an error, with the error register's byte and the LBA of the failing sector.
     Fail { tag: u8, error: u8, lba: u64 },

@@ -45,7 +45,8 @@ fn may_accept<A: Allocator>(sectors: u32, past: &[Event<A>], tag: u8) -> bool
         && request.op().sectors() <= u64::from(sectors) - request.op().lba()
 }
 
-/// Whether the event may come next after these, the oldest first, on a disk of so many sectors with so many slots.
+/// Whether the event may come next after these, the oldest first, on a disk of so many sectors with so many slots, at
+/// most 32.
 pub fn is_allowed<A: Allocator>(
     sectors: u32,
     depth: u32,
@@ -96,7 +97,8 @@ fn refuses<A: Allocator>(sectors: u32, op: &Op<A>, error: u8, lba: u64) -> bool
     passes && error == 0x10 && lba == op.lba().max(size)
 }
 
-/// Whether these events, the oldest first, can come about on a disk of so many sectors with so many slots.
+/// Whether these events, the oldest first, can come about on a disk of so many sectors with so many slots, at
+/// most 32.
 #[tactic(auto, using(crate::proofs::HistoryLemmas::history_more, crate::proofs::HistoryLemmas::history_all, crate::proofs::LawfulLemmas::allowed_at, crate::proofs::LawfulLemmas::lawful_proper))]
 pub fn is_lawful<A: Allocator>(sectors: u32, depth: u32, events: &[Event<A>]) -> bool
     ensures lawful { IsTrue result ↔ IsLawful sectors depth (history_of events.now) }

@@ -34,8 +34,8 @@ pub fn only_a_completed_write_changes_sectors()
     ensures others { OthersWriteNothing }
 {}
 
-/// Each Complete answers the request whose command it completes: so a command that failed was never completed, and
-/// has changed no sector.
+/// Each Complete answers the request whose command it completes, and not with an error. Since only the Complete of a
+/// write changes a sector, a command that failed has changed none.
 pub fn a_failed_command_has_changed_no_sector()
     ensures { CompletedIsAnswered }
 {}
@@ -46,8 +46,8 @@ pub fn outstanding_tags_are_active()
     ensures ci { CiInSact }
 {}
 
-/// Where every tag is free between two parts of a journal, the image after both is that of the later part over the
-/// image after the earlier one.
+/// Where every tag is free between two parts of a journal, the later part is a lawful journal of its own, and the image
+/// after both is that of the later part over the image after the earlier one.
 pub fn a_journal_may_be_cut_where_all_tags_are_free()
     ensures { TwoParts }
 {}

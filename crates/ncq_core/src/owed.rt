@@ -20,7 +20,8 @@ fn owed_in(phase: Phase) -> u32
     }
 }
 
-/// How many entries the requests of these events can still need before each has its answer: at most 128.
+/// How many entries the requests of these events still need until each is collected, if no further error comes: at
+/// most 128.
 #[tactic(auto, using(crate::proofs::TagLemmas::sum_tags_none, crate::proofs::TagLemmas::sum_tags_more, crate::proofs::TagLemmas::sum_tags_all))]
 pub fn owed_by<A: Allocator>(events: &[Event<A>]) -> u32
     ensures owed { result ≡ owed (history_of events.now) }

@@ -77,8 +77,8 @@ fn recovered(before: Phase) -> Phase
     }
 }
 
-#[tactic(auto, using(crate::proofs::HistoryLemmas::history_more, crate::proofs::HistoryLemmas::history_all))]
 /// The phase of a tag after these events, the oldest first.
+#[tactic(auto, using(crate::proofs::HistoryLemmas::history_more, crate::proofs::HistoryLemmas::history_all))]
 pub fn phase_of<A: Allocator>(events: &[Event<A>], tag: u8) -> Phase
     ensures { result ≡ phase (history_of events.now) tag }
 {

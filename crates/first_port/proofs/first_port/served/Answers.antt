@@ -1,5 +1,4 @@
-use Rattle.std.proofs.Common.{List, ℕ, subst, sym, rules}
-use Rattle.first_port.specs.First.{SlotState}
+use Rattle.std.proofs.Common.{subst, sym}
 use Rattle.first_port.specs.Moves.{CanMove}
 use Rattle.first_port.proofs.first_port.served.Goals as goal
 

@@ -1,5 +1,4 @@
-use Rattle.std.proofs.Common.{◌≡◌, ◌/◌, length, ap, subst, arith}
-use borrow.Rule.Slice.PartMut.{put_mid}
+use Rattle.std.proofs.Common.{◌/◌, length, arith}
 use Rattle.ncq_core.proofs.ImageLemmas.{sector_at-put_mid}
 use Rattle.ncq_core.proofs.sector.write_sectors.Goals as goal
 

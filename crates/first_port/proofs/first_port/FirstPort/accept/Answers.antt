@@ -1,7 +1,6 @@
-use Rattle.std.proofs.Common.{◌≡◌, ◌<◌, ◌+◌, None, Some, length, get_or, ap, sym, refl, ◌∙◌, arith, rules}
+use Rattle.std.proofs.Common.{◌≡◌, None, get_or, ap, sym, ◌∙◌, rules}
 use Rattle.std.proofs.lemmas.List.{get_or_read}
-use Rattle.ncq_core.specs.Phase.{phase}
-use Rattle.first_port.specs.First.{FirstState, step_fault, collect_fault}
+use Rattle.first_port.specs.First.{FirstState, step_fault}
 use Rattle.first_port.specs.declared.step.DeviceStep.TheVariants as step
 use Rattle.first_port.proofs.KeepingLemmas.{keeps_accept, accept_in}
 use Rattle.first_port.proofs.first_port.FirstPort.accept.Goals as goal

@@ -1,8 +1,6 @@
-use Rattle.std.proofs.Common.{◌≡◌, ◌<◌, ◌+◌, None, Some, length, get_or, ap, sym, refl, ◌∙◌, arith, rules, subst, IsSome, IsSomeAnd}
+use Rattle.std.proofs.Common.{◌≡◌, None, Some, get_or, ap, sym, ◌∙◌, rules, subst, IsSome, IsSomeAnd}
 use Rattle.std.proofs.lemmas.List.{get_or_read}
-use Rattle.ncq_core.specs.Phase.{phase}
-use Rattle.first_port.specs.First.{FirstState, step_fault, collect_fault}
-use Rattle.first_port.specs.declared.step.DeviceStep.TheVariants as step
+use Rattle.first_port.specs.First.{FirstState, collect_fault}
 use Rattle.first_port.proofs.CollectingLemmas.{keeps_collect, collect_in, collect_may, some_of, Collected}
 use Rattle.first_port.proofs.first_port.FirstPort.collect.Goals as goal
 

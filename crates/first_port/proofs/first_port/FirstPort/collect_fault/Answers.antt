@@ -1,4 +1,4 @@
-use Rattle.std.proofs.Common.{refl, ap, sym, ◌∙◌, arith, get_or, None, ◌≡◌}
+use Rattle.std.proofs.Common.{refl, ap, ◌∙◌, arith, get_or, None, ◌≡◌}
 use Rattle.std.proofs.lemmas.List.{get_or_read}
 use Rattle.ncq_core.proofs.PhaseLemmas.{free_past_depth}
 use Rattle.first_port.proofs.CollectingLemmas.{collect_agrees}

@@ -1,8 +1,5 @@
-use Rattle.std.proofs.Common.{◌≡◌, ◌<◌, ◌+◌, None, Some, length, get_or, ap, sym, refl, ◌∙◌, arith, rules}
-use Rattle.std.proofs.lemmas.List.{get_or_read}
-use Rattle.ncq_core.specs.Phase.{phase}
+use Rattle.std.proofs.Common.{◌≡◌, None, length, ap, sym, refl, ◌∙◌, arith}
 use Rattle.first_port.specs.First.{FirstState, issue_fault}
-use Rattle.first_port.specs.declared.step.DeviceStep.TheVariants as step
 use Rattle.ncq_core.specs.Work.{work_of}
 use Rattle.first_port.proofs.KeepingLemmas.{keeps_issue, issue_may}
 use Rattle.first_port.proofs.first_port.FirstPort.issue.Goals as goal

@@ -1,8 +1,7 @@
-use Rattle.std.proofs.Common.{◌≡◌, ◌<◌, ◌+◌, None, Some, length, get_or, ap, sym, refl, ◌∙◌, arith, rules, subst}
+use Rattle.std.proofs.Common.{◌≡◌, None, length, get_or, ap, sym, ◌∙◌, rules, subst}
 use Rattle.std.proofs.lemmas.List.{get_or_read}
 use Rattle.ncq_core.specs.Phase.{phase}
-use Rattle.first_port.specs.First.{FirstState, step_fault, collect_fault}
-use Rattle.first_port.specs.declared.step.DeviceStep.TheVariants as step
+use Rattle.first_port.specs.First.{FirstState}
 use Rattle.ncq_core.specs.declared.phase.Phase.TheVariants.{Accepted}
 use Rattle.first_port.proofs.ServingLemmas.{keeps_serve, serve_in, can_move, whole_write}
 use Rattle.first_port.specs.Moves.{HasMoved}
