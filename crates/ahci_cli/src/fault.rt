@@ -46,6 +46,18 @@ impl CliFault {
     }
 }
 
+impl CliFault {
+    ghost use Rattle.std.specs.Prelude.{◌≡◌};
+    ghost use Rattle.ahci_cli.specs.Fault.{is_of_output};
+
+    /// Whether the output takes no more bytes.
+    pub(crate) fn is_of_output(self) -> bool
+        ensures { result ≡ is_of_output self }
+    {
+        matches!(self, CliFault::Write)
+    }
+}
+
 impl From<InputFailed> for CliFault {
     ghost from_gives = { λ _ fault. fault ≡ the-fault.Read };
 

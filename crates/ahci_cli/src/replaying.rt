@@ -1,10 +1,13 @@
-ghost use Rattle.std.specs.Prelude.{◌≡◌, ◌≤◌, ◌+◌, length, OnOk};
+ghost use Rattle.std.specs.Prelude.{◌≡◌, ◌≤◌, ◌+◌, ◌*◌, ◌-◌, ◌<◌, [], length, false, true, IfErr, IfOk, None, OnErr, OnOk};
+ghost use Rattle.std.specs.Io.KnownBytes.{IsAtEnd};
+ghost use Rattle.ahci_script.specs.Lines.{line_of};
 ghost use Rattle.ahci_script.specs.declared.input.TheConstants.{INPUT_LIMIT, LINE_LIMIT};
+ghost use Rattle.ahci_cli.specs.Transcript.{Ends, EndsWith, Grown, IsLineFault, Progress, Replayed, ReplayedTo, Stops, place};
 
 use crate::fault::CliFault;
 use crate::session::{Session, Unanswered};
 use ahci_script::{Found, INPUT_LIMIT, Input, Line, Output, parse};
-use std::alloc::Allocator;
+use std::alloc::{AllocError, Allocator};
 use std::io::{Read, Write};
 
 /// Runs the script that the reader gives, and writes an answer for each command. The first fault
@@ -13,18 +16,24 @@ pub fn replay<R: Read, W: Write, A: Allocator + Clone>(
     alloc: A,
     reader: &mut R,
     writer: &mut W,
-) -> Result<(), CliFault> {
-    let mut script = Script {
-        input: Input::new(alloc.clone()?)?,
-        output: Output::new(alloc.clone()?)?,
-        session: Session::new(alloc),
-        line: 0,
-    };
+) -> Result<(), CliFault>
+    ensures ok { OnOk result (Replayed (R.remaining reader.old) (R.remaining reader.new)
+        (W.contents writer.old) (W.contents writer.new)) }
+    ensures err { IfErr result
+        (ReplayedTo (R.remaining reader.old) (W.contents writer.old) (W.contents writer.new)) }
+{
+    let mut script = Script::new(alloc)?;
     match script.run(reader, writer) {
-        Err(CliFault::Write) => Err(CliFault::Write),
-        outcome => {
+        Ok(()) => {
             script.output.send(writer)?;
-            outcome
+            Ok(())
+        }
+        Err(fault) => {
+            if fault.is_of_output() {
+                return Err(fault);
+            }
+            script.output.send(writer)?;
+            Err(fault)
         }
     }
 }
@@ -43,43 +52,91 @@ struct Script<A: Allocator> {
 }
 
 impl<A: Allocator + Clone> Script<A> {
-    /// Reads to the end of the input. What is answered is written before each read, which may
-    /// wait for whoever writes the script.
-    fn run<R: Read, W: Write>(&mut self, reader: &mut R, writer: &mut W) -> Result<(), CliFault> {
-        loop {
-            self.answer_whole_lines(writer)?;
-            self.output.send(writer)?;
-            if !self.input.fill(reader)? {
-                break;
-            }
-        }
+    /// A script of which nothing came yet.
+    fn new(alloc: A) -> Result<Self, AllocError>
+        ensures { IfOk result (λ s. (s.input.bytes ≡ []) × (s.output ≡ []) × (s.line ≡ 0)) }
+    {
+        Ok(Script {
+            input: Input::new(alloc.clone()?)?,
+            output: Output::new(alloc.clone()?)?,
+            session: Session::new(alloc),
+            line: 0,
+        })
+    }
+
+    /// Reads to the end of the input.
+    fn run<R: Read, W: Write>(&mut self, reader: &mut R, writer: &mut W) -> Result<(), CliFault>
+        ensures ok { OnOk result (Ends
+            (place (R.remaining reader.old) (W.contents writer.old) self.old.input.bytes self.old.output self.old.line)
+            (place (R.remaining reader.new) (W.contents writer.new) self.new.input.bytes self.new.output self.new.line)) }
+        ensures err { IfErr result (Stops
+            (place (R.remaining reader.old) (W.contents writer.old) self.old.input.bytes self.old.output self.old.line)
+            (place (R.remaining reader.new) (W.contents writer.new) self.new.input.bytes self.new.output self.new.line)) }
+    {
+        while self.turn(reader, writer)? {}
         self.answer_rest()
     }
 
-    /// Answers the whole lines that came.
-    fn answer_whole_lines<W: Write>(&mut self, writer: &mut W) -> Result<(), CliFault>
-        ensures came { self.new.input.came ≡ self.old.input.came }
-        ensures unfinished { OnOk result (length self.new.input.bytes ≤ LINE_LIMIT) }
+    /// Answers the next line, or reads more where none is whole. `false` at the end of the input.
+    fn turn<R: Read, W: Write>(&mut self, reader: &mut R, writer: &mut W) -> Result<bool, CliFault>
+        ensures ok { OnOk result (Progress
+            (place (R.remaining reader.old) (W.contents writer.old) self.old.input.bytes self.old.output self.old.line)
+            (place (R.remaining reader.new) (W.contents writer.new) self.new.input.bytes self.new.output self.new.line)) }
+        ensures err { IfErr result (Stops
+            (place (R.remaining reader.old) (W.contents writer.old) self.old.input.bytes self.old.output self.old.line)
+            (place (R.remaining reader.new) (W.contents writer.new) self.new.input.bytes self.new.output self.new.line)) }
+        ensures end { IfOk result (λ more. more ≡ false → IsAtEnd (R.remaining reader.new)) }
+        ensures less { IfOk result (λ more. more ≡ true
+            → 2 * (INPUT_LIMIT - self.new.input.came) + length self.new.input.bytes
+            < 2 * (INPUT_LIMIT - self.old.input.came) + length self.old.input.bytes) }
     {
-        loop {
-            let length = match self.input.find_line() {
-                Found::Unfinished => return Ok(()),
-                Found::TooLong => return Err(CliFault::Line(self.line + 1)),
-                Found::Line(line) => {
-                    answer_line(&mut self.session, &mut self.output, self.line + 1, line)?;
-                    line.len()
-                }
-            };
-            self.input.skip(length + 1);
-            self.line += 1;
-            if self.output.is_full() {
-                self.output.send(writer)?;
+        let length = match self.input.find_line() {
+            Found::TooLong => return Err(CliFault::Line(self.line + 1)),
+            Found::Unfinished => return self.read_more(reader, writer),
+            Found::Line(line) => {
+                answer_line(&mut self.session, &mut self.output, self.line + 1, line)?;
+                line.len()
             }
+        };
+        self.input.skip(length + 1);
+        self.line += 1;
+        if self.output.is_full() {
+            self.output.send(writer)?;
         }
+        Ok(true)
+    }
+
+    /// Reads more of the input. What is answered is written before, since the read may wait for
+    /// whoever writes the script. `false` at the end of the input.
+    fn read_more<R: Read, W: Write>(
+        &mut self,
+        reader: &mut R,
+        writer: &mut W,
+    ) -> Result<bool, CliFault>
+        requires { length self.old.input.bytes ≤ LINE_LIMIT }
+        ensures ok { OnOk result (Progress
+            (place (R.remaining reader.old) (W.contents writer.old) self.old.input.bytes self.old.output self.old.line)
+            (place (R.remaining reader.new) (W.contents writer.new) self.new.input.bytes self.new.output self.new.line)) }
+        ensures err { IfErr result (Stops
+            (place (R.remaining reader.old) (W.contents writer.old) self.old.input.bytes self.old.output self.old.line)
+            (place (R.remaining reader.new) (W.contents writer.new) self.new.input.bytes self.new.output self.new.line)) }
+        ensures end { IfOk result (λ more. more ≡ false → IsAtEnd (R.remaining reader.new)) }
+        ensures less { IfOk result (λ more. more ≡ true
+            → 2 * (INPUT_LIMIT - self.new.input.came) + length self.new.input.bytes
+            < 2 * (INPUT_LIMIT - self.old.input.came) + length self.old.input.bytes) }
+    {
+        self.output.send(writer)?;
+        Ok(self.input.fill(reader)?)
     }
 
     /// Answers the last line, where it lacks its line feed.
-    fn answer_rest(&mut self) -> Result<(), CliFault> {
+    fn answer_rest(&mut self) -> Result<(), CliFault>
+        ensures ok { OnOk result (EndsWith self.old.input.bytes self.old.output self.new.output) }
+        ensures err { OnErr result (self.new.output ≡ self.old.output) }
+        ensures fault { IfErr result (IsLineFault (self.old.line + 1)) }
+        ensures input { self.new.input ≡ self.old.input }
+        ensures line { self.new.line ≡ self.old.line }
+    {
         let rest = self.input.unread();
         if rest.is_empty() {
             return Ok(());
@@ -94,7 +151,12 @@ fn answer_line<A: Allocator + Clone>(
     output: &mut Output<A>,
     number: u64,
     line: &[u8],
-) -> Result<(), CliFault> {
+) -> Result<(), CliFault>
+    ensures ok { OnOk result (Grown line.now output.old output.new) }
+    ensures err { OnErr result (output.new ≡ output.old) }
+    ensures fault { IfErr result (IsLineFault number) }
+    ensures wrong { line_of line.now ≡ None → result ≡ Err (CliFault.Line number) }
+{
     match parse(line) {
         None => Err(CliFault::Line(number)),
         Some(Line::Skip) => Ok(()),

@@ -1,4 +1,6 @@
-ghost use Rattle.std.specs.Prelude.{◌≡◌, ◌≤◌, ◌*◌, IfOk, replicate};
+ghost use Rattle.std.specs.Prelude.{◌≡◌, ◌≤◌, ◌*◌, ◌++◌, ◌∷◌, [], IfOk, OnErr, OnOk, replicate};
+ghost use Rattle.ahci_script.specs.Answers.{answer_text};
+ghost use Rattle.ahci_cli.specs.Transcript.{Answered};
 
 use ahci_script::{Answer, Command, Output, Refusal};
 use first_port::{CollectFault, DeviceStep, FirstFault, FirstPort, StepFault, Stepped};
@@ -47,11 +49,10 @@ impl<A: Allocator + Clone> Session<A> {
     }
 
     /// Runs a command, and puts its answer into the output.
-    pub(crate) fn run(
-        &mut self,
-        command: Command,
-        output: &mut Output<A>,
-    ) -> Result<(), Unanswered> {
+    pub(crate) fn run(&mut self, command: Command, output: &mut Output<A>) -> Result<(), Unanswered>
+        ensures ok { OnOk result (Answered output.old output.new) }
+        ensures err { OnErr result (output.new ≡ output.old) }
+    {
         match &mut self.port {
             None => {
                 let Command::Disk { sectors, depth } = command else {
@@ -69,7 +70,10 @@ impl<A: Allocator + Clone> Session<A> {
         sectors: u64,
         depth: u64,
         output: &mut Output<A>,
-    ) -> Result<(), Unanswered> {
+    ) -> Result<(), Unanswered>
+        ensures ok { OnOk result (Answered output.old output.new) }
+        ensures err { OnErr result (output.new ≡ output.old) }
+    {
         if sectors == 0 || sectors > MAX_SECTORS {
             return refuse(output, Refusal::BadSize);
         }
@@ -95,7 +99,10 @@ fn run_on<A: Allocator + Clone>(
     alloc: &A,
     command: Command,
     output: &mut Output<A>,
-) -> Result<(), Unanswered> {
+) -> Result<(), Unanswered>
+    ensures ok { OnOk result (Answered output.old output.new) }
+    ensures err { OnErr result (output.new ≡ output.old) }
+{
     match command {
         Command::Disk { .. } => Err(Unanswered::OutOfPlace),
         Command::Write {
@@ -113,12 +120,19 @@ fn run_on<A: Allocator + Clone>(
     }
 }
 
-fn answer<A: Allocator>(output: &mut Output<A>, answer: &Answer<'_>) -> Result<(), Unanswered> {
+fn answer<A: Allocator>(output: &mut Output<A>, answer: &Answer<'_>) -> Result<(), Unanswered>
+    ensures text { OnOk result (output.new ≡ output.old ++ (answer_text answer.now ++ 10 ∷ [])) }
+    ensures ok { OnOk result (Answered output.old output.new) }
+    ensures err { OnErr result (output.new ≡ output.old) }
+{
     output.put(answer)?;
     Ok(())
 }
 
-fn refuse<A: Allocator>(output: &mut Output<A>, refusal: Refusal) -> Result<(), Unanswered> {
+fn refuse<A: Allocator>(output: &mut Output<A>, refusal: Refusal) -> Result<(), Unanswered>
+    ensures ok { OnOk result (Answered output.old output.new) }
+    ensures err { OnErr result (output.new ≡ output.old) }
+{
     answer(output, &Answer::Refused(refusal))
 }
 
@@ -140,7 +154,10 @@ fn write<A: Allocator + Clone>(
     lba: u64,
     sectors: u32,
     fill: u8,
-) -> Result<(), Unanswered> {
+) -> Result<(), Unanswered>
+    ensures ok { OnOk result (Answered output.old output.new) }
+    ensures err { OnErr result (output.new ≡ output.old) }
+{
     if sectors == 0 || sectors > MAX_COUNT {
         return refuse(output, Refusal::BadCount);
     }
@@ -156,7 +173,10 @@ fn issue<A: Allocator + Clone>(
     output: &mut Output<A>,
     tag: u8,
     op: Op<A>,
-) -> Result<(), Unanswered> {
+) -> Result<(), Unanswered>
+    ensures ok { OnOk result (Answered output.old output.new) }
+    ensures err { OnErr result (output.new ≡ output.old) }
+{
     match port.issue(tag, op) {
         Ok(number) => answer(output, &Answer::Issued(number)),
         Err((_op, fault)) => match fault {
@@ -173,7 +193,10 @@ fn step<A: Allocator + Clone>(
     port: &mut FirstPort<A>,
     output: &mut Output<A>,
     step: DeviceStep,
-) -> Result<(), Unanswered> {
+) -> Result<(), Unanswered>
+    ensures ok { OnOk result (Answered output.old output.new) }
+    ensures err { OnErr result (output.new ≡ output.old) }
+{
     match port.step(step) {
         Ok(Stepped::Accepted(entry)) => answer(output, &Answer::Accepted(entry)),
         Ok(Stepped::Completed(entry)) => answer(output, &Answer::Completed(entry)),
@@ -188,7 +211,10 @@ fn collect<A: Allocator + Clone>(
     output: &mut Output<A>,
     tag: u8,
     number: u64,
-) -> Result<(), Unanswered> {
+) -> Result<(), Unanswered>
+    ensures ok { OnOk result (Answered output.old output.new) }
+    ensures err { OnErr result (output.new ≡ output.old) }
+{
     match port.collect(tag, number) {
         Ok((reply, bytes)) => match reply.outcome {
             Outcome::Read => answer(
@@ -217,7 +243,10 @@ fn show<A: Allocator + Clone>(
     port: &FirstPort<A>,
     output: &mut Output<A>,
     lba: u64,
-) -> Result<(), Unanswered> {
+) -> Result<(), Unanswered>
+    ensures ok { OnOk result (Answered output.old output.new) }
+    ensures err { OnErr result (output.new ≡ output.old) }
+{
     if lba >= u64::from(port.sectors()) {
         return refuse(output, Refusal::NoSuchSector);
     }

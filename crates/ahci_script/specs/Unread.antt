@@ -19,13 +19,13 @@ pub data Begins : Type 0 where
   too_long : Begins
   unfinished : Begins
 
--- a line of at most 4,096 bytes before a line feed, more bytes than that, or neither
+-- where the first line feed is known: a line of at most 4,096 bytes before it, more bytes than that, or neither
+abbrev pub found_at : Option ℕ → List ℕ → Begins
+found_at None bytes = if nat_le (length bytes) 4096 then unfinished else too_long
+found_at (Some end) bytes = if nat_le end 4096 then whole (take end bytes) else too_long
+
 abbrev pub found_of : List ℕ → Begins
-found_of bytes =
-    elim (line_end bytes) as (λ _. Begins) [
-      | None ↦ if nat_le (length bytes) 4096 then unfinished else too_long
-      | Some end ↦ if nat_le end 4096 then whole (take end bytes) else too_long
-    ]
+found_of bytes = found_at (line_end bytes) bytes
 
 -- what the code found, as plain bytes
 abbrev pub shown : Found → Begins
