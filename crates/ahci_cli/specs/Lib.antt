@@ -1,2 +1,3 @@
 pub mod Fault
+pub mod Script
 pub mod Transcript

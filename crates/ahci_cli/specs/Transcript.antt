@@ -1,49 +1,58 @@
 -- What a script's lines add to the output, and how far a script has come.
-use Rattle.std.specs.Prelude.{◌≡◌, ℕ, ◌+◌, List, [], ◌∷◌, ◌++◌, Option, Some, length, take, ◌⊎◌}
+use Rattle.std.specs.Prelude.{◌≡◌, ℕ, ◌+◌, List, [], ◌∷◌, ◌++◌, Option, Some, None, length, take, option_and_then, ◌⊎◌}
 use Rattle.std.specs.Io.KnownBytes.{Appends, Consumes, IsAtEnd}
 use Rattle.ahci_cli.specs.declared.fault.CliFault.{CliFault}
-use Rattle.ahci_cli.specs.declared.fault.CliFault.TheVariants.{Line, Read, Write, OutOfMemory}
-use Rattle.ahci_script.specs.Answers.{answer_text}
+use Rattle.ahci_cli.specs.declared.fault.CliFault.TheVariants as fault
+use Rattle.ahci_cli.specs.Script.{Said, said_by}
 use Rattle.ahci_script.specs.Lines.{line_of}
-use Rattle.ahci_script.specs.declared.answer.Answer.{Answer}
-use Rattle.ahci_script.specs.declared.line.Command.{Command}
-use Rattle.ahci_script.specs.declared.line.Line.TheVariants.{Skip, Run}
+use Rattle.ahci_script.specs.Unread.{Begins, found_of, too_long, unfinished, whole}
+use Rattle.ahci_script.specs.declared.line.Line.{Line}
+use Rattle.ahci_script.specs.declared.line.Line.TheVariants as line
+use Rattle.first_port.specs.First.{FirstState}
 
--- the text grew by an answer and its line feed
-pub record Answered (old new : List ℕ) : Type 0 where
-  pub answer : Answer
-  pub text : new ≡ old ++ (answer_text answer ++ 10 ∷ [])
+-- an answer with its line feed
+abbrev pub with_feed : Said → Said
+with_feed s = record s { text = s.text ++ 10 ∷ [] }
 
--- what a line adds: nothing where it is skipped, an answer and a line feed where it is a command
-pub data Adds (line : List ℕ) : List ℕ → Type 0 where
-  skipped : line_of line ≡ Some Skip → Adds line []
-  answered : (c : Command) (a : Answer) → line_of line ≡ Some (Run c) → Adds line (answer_text a ++ 10 ∷ [])
+-- what a line adds: nothing where it is skipped, an answer where it is a command
+abbrev pub read_adds : Option FirstState → Line → Option Said
+read_adds port line.Skip = Some (record { text = []; port = port })
+read_adds port (line.Run command) = option_and_then (λ s. Some (with_feed s)) (said_by port command)
 
--- lines that were read in turn, and the text that they added
-pub data Transcript : List (List ℕ) → List ℕ → Type 0 where
-  nothing : Transcript [] []
-  line_more : (line added : List ℕ) (lines : List (List ℕ)) (text : List ℕ) → Adds line added → Transcript lines text → Transcript (line ∷ lines) (added ++ text)
+-- what a line adds, and the port behind it; none where it is not understood or out of place
+abbrev pub line_adds : Option FirstState → List ℕ → Option Said
+line_adds port text = option_and_then (read_adds port) (line_of text)
+
+-- lines, one after the other: the text that they add, and the port behind them
+pub data Adds : Option FirstState → List (List ℕ) → List ℕ → Option FirstState → Type 0 where
+  no_line : (port : Option FirstState) → Adds port [] [] port
+  one_more : (port : Option FirstState) (first : List ℕ) (said : Said) (more : List (List ℕ)) (text : List ℕ) (last : Option FirstState) → line_adds port first ≡ Some said → Adds said.port more text last → Adds port (first ∷ more) (said.text ++ text) last
 
 -- lines with their line feeds, joined
 abbrev pub with_feeds : List (List ℕ) → List ℕ
 with_feeds [] = []
-with_feeds (line ∷ lines) = line ++ 10 ∷ with_feeds lines
+with_feeds (text ∷ more) = text ++ 10 ∷ with_feeds more
 
--- where a script stands: what the reader has left and the writer holds, where that is known, what came and
--- was not read, what was answered and not written, and how many lines were read
+-- where a script stands: what the reader has left and the writer holds, where that is known, what came and was not
+-- read, what was answered and not written, the port, and how many lines were read
 pub record Place : Type 0 where
   pub remaining : Option (List ℕ)
   pub contents : Option (List ℕ)
   pub unread : List ℕ
   pub waiting : List ℕ
+  pub port : Option FirstState
   pub line : ℕ
 
--- from one place to a later one: lines were read, and what they added is written or waits
+-- a place, part by part
+abbrev pub place : Option (List ℕ) → Option (List ℕ) → List ℕ → List ℕ → Option FirstState → ℕ → Place
+place r c u w p n = record { remaining = r; contents = c; unread = u; waiting = w; port = p; line = n }
+
+-- from one place to a later one: lines were read, and what they add is written or waits
 pub record Progress (from to : Place) : Type 0 where
   pub lines : List (List ℕ)
   pub text : List ℕ
   pub came : List ℕ
-  pub answered : Transcript lines text
+  pub answered : Adds from.port lines text to.port
   pub consumed : Consumes from.remaining to.remaining came
   pub read : from.unread ++ came ≡ with_feeds lines ++ to.unread
   pub counted : to.line ≡ from.line + length lines
@@ -52,75 +61,89 @@ pub record Progress (from to : Place) : Type 0 where
   pub said : from.waiting ++ text ≡ sent ++ to.waiting
 
 -- the text grew by what a line adds
-pub record Grown (line old new : List ℕ) : Type 0 where
-  pub added : List ℕ
-  pub adds : Adds line added
-  pub text : new ≡ old ++ added
+pub record Grown (port_old : Option FirstState) (text : List ℕ) (port_new : Option FirstState) (old new : List ℕ) : Type 0 where
+  pub said : Said
+  pub adds : line_adds port_old text ≡ Some said
+  pub left : port_new ≡ said.port
+  pub grown : new ≡ old ++ said.text
 
--- the faults of a line: it isn't understood, or there is no memory for it
-abbrev pub IsLineFault : ℕ → CliFault → Type 0
-IsLineFault n (Line k) = k ≡ n
-IsLineFault n OutOfMemory = Unit {0}
-IsLineFault n _ = ⊥
+-- the faults of a line: it is not understood or out of place, or there is no memory for it
+abbrev pub IsLineFault : Option FirstState → List ℕ → ℕ → CliFault → Type 0
+IsLineFault port text n (fault.Line k) = (k ≡ n) × (line_adds port text ≡ None)
+IsLineFault port text n fault.OutOfMemory = Unit {0}
+IsLineFault port text n _ = ⊥
 
--- a place, part by part
-abbrev pub place : Option (List ℕ) → Option (List ℕ) → List ℕ → List ℕ → ℕ → Place
-place r c u w n = record { remaining = r; contents = c; unread = u; waiting = w; line = n }
+-- the line that what is unread begins with is too long, or adds nothing
+abbrev pub IsFaultyAs : Option FirstState → List ℕ → Begins → Type 0
+IsFaultyAs port unread (whole text) = line_adds port text ≡ None
+IsFaultyAs port unread too_long = Unit {0}
+IsFaultyAs port unread unfinished = line_adds port unread ≡ None
 
--- a first part of what lines added is written
+abbrev pub IsFaulty : Option FirstState → List ℕ → Type 0
+IsFaulty port unread = IsFaultyAs port unread (found_of unread)
+
+-- a first part of what lines add is written
 pub record WritesPart (from to : Place) : Type 0 where
   pub lines : List (List ℕ)
   pub text : List ℕ
+  pub port : Option FirstState
   pub count : ℕ
-  pub answered : Transcript lines text
+  pub answered : Adds from.port lines text port
   pub written : Appends from.contents to.contents (take count (from.waiting ++ text))
 
--- where a fault stops a script: behind lines that were answered, and before the line that it names
+-- where a fault stops a script: behind lines that are answered, and before the line that it names
 abbrev pub Stops : Place → Place → CliFault → Type 0
-Stops from to (Line n) = Progress from to × (n ≡ to.line + 1)
-Stops from to Read = (r : Option (List ℕ)) × Progress from (place r to.contents to.unread to.waiting to.line)
-Stops from to OutOfMemory = Progress from to
-Stops from to Write = WritesPart from to
+Stops from to (fault.Line n) =
+    (p : Option FirstState) × Progress from (place to.remaining to.contents to.unread to.waiting p to.line) × (n ≡ to.line + 1) × IsFaulty p to.unread
+Stops from to fault.Read = (r : Option (List ℕ)) × Progress from (place r to.contents to.unread to.waiting to.port to.line)
+Stops from to fault.OutOfMemory = (p : Option FirstState) × Progress from (place to.remaining to.contents to.unread to.waiting p to.line)
+Stops from to fault.Write = WritesPart from to
 Stops from to _ = ⊥
 
 -- the last line is answered, where it lacks its line feed
-abbrev pub EndsWith : List ℕ → List ℕ → List ℕ → Type 0
-EndsWith rest old new = ((rest ≡ []) × (new ≡ old)) ⊎ Grown rest old new
+abbrev pub EndsWith : Option FirstState → List ℕ → Option FirstState → List ℕ → List ℕ → Type 0
+EndsWith port rest port_new old new =
+    ((rest ≡ []) × (port_new ≡ port) × (new ≡ old)) ⊎ Grown port rest port_new old new
 
 -- the whole input was read and answered
 pub record Ends (from to : Place) : Type 0 where
   pub before : List ℕ
-  pub progress : Progress from (place to.remaining to.contents to.unread before to.line)
-  pub last : EndsWith to.unread before to.waiting
+  pub port : Option FirstState
+  pub progress : Progress from (place to.remaining to.contents to.unread before port to.line)
+  pub last : EndsWith port to.unread to.port before to.waiting
   pub end : IsAtEnd to.remaining
 
--- the lines of a whole input, the last of which may lack its line feed, and their text, which was written
+-- the lines of a whole input, the last of which may lack its line feed, and the text that they add, which is written
 pub record Replayed (remaining_old remaining_new contents_old contents_new : Option (List ℕ)) : Type 0 where
   pub lines : List (List ℕ)
   pub rest : List ℕ
   pub text : List ℕ
   pub all : List ℕ
-  pub answered : Transcript lines text
-  pub last : EndsWith rest text all
+  pub port : Option FirstState
+  pub last_port : Option FirstState
+  pub answered : Adds None lines text port
+  pub last : EndsWith port rest last_port text all
   pub consumed : Consumes remaining_old remaining_new (with_feeds lines ++ rest)
   pub end : IsAtEnd remaining_new
   pub written : Appends contents_old contents_new all
 
--- lines at the front of an input, and their text, which was written
-pub record ReplayedFirst (remaining_old contents_old contents_new : Option (List ℕ)) (count : ℕ) : Type 0 where
+-- lines at the front of an input, and the text that they add, which is written
+pub record ReplayedFirst (remaining_old contents_old contents_new : Option (List ℕ)) (count : ℕ) (P : Option FirstState → List ℕ → Type 0) : Type 0 where
   pub lines : List (List ℕ)
   pub rest : List ℕ
   pub remaining : Option (List ℕ)
   pub text : List ℕ
-  pub answered : Transcript lines text
+  pub port : Option FirstState
+  pub answered : Adds None lines text port
   pub counted : length lines ≡ count
   pub consumed : Consumes remaining_old remaining (with_feeds lines ++ rest)
+  pub holds : P port rest
   pub written : Appends contents_old contents_new text
 
 -- how a fault ends a script: the answers to the lines before it are written, and a failed write leaves a first part of them
 abbrev pub ReplayedTo : Option (List ℕ) → Option (List ℕ) → Option (List ℕ) → CliFault → Type 0
-ReplayedTo r c d (Line n) = (count : ℕ) × (n ≡ count + 1) × ReplayedFirst r c d count
-ReplayedTo r c d Read = (count : ℕ) × ReplayedFirst r c d count
-ReplayedTo r c d OutOfMemory = (count : ℕ) × ReplayedFirst r c d count
-ReplayedTo r c d Write = WritesPart (place r c [] [] 0) (place r d [] [] 0)
+ReplayedTo r c d (fault.Line n) = (count : ℕ) × (n ≡ count + 1) × ReplayedFirst r c d count IsFaulty
+ReplayedTo r c d fault.Read = (count : ℕ) × ReplayedFirst r c d count (λ _ _. Unit {0})
+ReplayedTo r c d fault.OutOfMemory = (count : ℕ) × ReplayedFirst r c d count (λ _ _. Unit {0})
+ReplayedTo r c d fault.Write = WritesPart (place r c [] [] None 0) (place r d [] [] None 0)
 ReplayedTo r c d _ = ⊥

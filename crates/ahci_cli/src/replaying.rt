@@ -1,8 +1,8 @@
 ghost use Rattle.std.specs.Prelude.{◌≡◌, ◌≤◌, ◌+◌, ◌*◌, ◌-◌, ◌<◌, [], length, false, true, IfErr, IfOk, None, OnErr, OnOk};
 ghost use Rattle.std.specs.Io.KnownBytes.{IsAtEnd};
-ghost use Rattle.ahci_script.specs.Lines.{line_of};
+ghost use Rattle.ahci_script.specs.Unread.{found_of, unfinished};
 ghost use Rattle.ahci_script.specs.declared.input.TheConstants.{INPUT_LIMIT, LINE_LIMIT};
-ghost use Rattle.ahci_cli.specs.Transcript.{Ends, EndsWith, Grown, IsLineFault, Progress, Replayed, ReplayedTo, Stops, place};
+ghost use Rattle.ahci_cli.specs.Transcript.{Ends, EndsWith, Grown, IsLineFault, Progress, Replayed, ReplayedTo, Stops, line_adds, place};
 
 use crate::fault::CliFault;
 use crate::session::{Session, Unanswered};
@@ -54,7 +54,8 @@ struct Script<A: Allocator> {
 impl<A: Allocator + Clone> Script<A> {
     /// A script of which nothing came yet.
     fn new(alloc: A) -> Result<Self, AllocError>
-        ensures { IfOk result (λ s. (s.input.bytes ≡ []) × (s.output ≡ []) × (s.line ≡ 0)) }
+        ensures { IfOk result (λ s.
+            (s.input.bytes ≡ []) × (s.output ≡ []) × (s.session.port ≡ None) × (s.line ≡ 0)) }
     {
         Ok(Script {
             input: Input::new(alloc.clone()?)?,
@@ -67,11 +68,11 @@ impl<A: Allocator + Clone> Script<A> {
     /// Reads to the end of the input.
     fn run<R: Read, W: Write>(&mut self, reader: &mut R, writer: &mut W) -> Result<(), CliFault>
         ensures ok { OnOk result (Ends
-            (place (R.remaining reader.old) (W.contents writer.old) self.old.input.bytes self.old.output self.old.line)
-            (place (R.remaining reader.new) (W.contents writer.new) self.new.input.bytes self.new.output self.new.line)) }
+            (place (R.remaining reader.old) (W.contents writer.old) self.old.input.bytes self.old.output self.old.session.port self.old.line)
+            (place (R.remaining reader.new) (W.contents writer.new) self.new.input.bytes self.new.output self.new.session.port self.new.line)) }
         ensures err { IfErr result (Stops
-            (place (R.remaining reader.old) (W.contents writer.old) self.old.input.bytes self.old.output self.old.line)
-            (place (R.remaining reader.new) (W.contents writer.new) self.new.input.bytes self.new.output self.new.line)) }
+            (place (R.remaining reader.old) (W.contents writer.old) self.old.input.bytes self.old.output self.old.session.port self.old.line)
+            (place (R.remaining reader.new) (W.contents writer.new) self.new.input.bytes self.new.output self.new.session.port self.new.line)) }
     {
         while self.turn(reader, writer)? {}
         self.answer_rest()
@@ -80,12 +81,13 @@ impl<A: Allocator + Clone> Script<A> {
     /// Answers the next line, or reads more where none is whole. `false` at the end of the input.
     fn turn<R: Read, W: Write>(&mut self, reader: &mut R, writer: &mut W) -> Result<bool, CliFault>
         ensures ok { OnOk result (Progress
-            (place (R.remaining reader.old) (W.contents writer.old) self.old.input.bytes self.old.output self.old.line)
-            (place (R.remaining reader.new) (W.contents writer.new) self.new.input.bytes self.new.output self.new.line)) }
+            (place (R.remaining reader.old) (W.contents writer.old) self.old.input.bytes self.old.output self.old.session.port self.old.line)
+            (place (R.remaining reader.new) (W.contents writer.new) self.new.input.bytes self.new.output self.new.session.port self.new.line)) }
         ensures err { IfErr result (Stops
-            (place (R.remaining reader.old) (W.contents writer.old) self.old.input.bytes self.old.output self.old.line)
-            (place (R.remaining reader.new) (W.contents writer.new) self.new.input.bytes self.new.output self.new.line)) }
-        ensures end { IfOk result (λ more. more ≡ false → IsAtEnd (R.remaining reader.new)) }
+            (place (R.remaining reader.old) (W.contents writer.old) self.old.input.bytes self.old.output self.old.session.port self.old.line)
+            (place (R.remaining reader.new) (W.contents writer.new) self.new.input.bytes self.new.output self.new.session.port self.new.line)) }
+        ensures end { IfOk result (λ more. more ≡ false
+            → IsAtEnd (R.remaining reader.new) × (found_of self.new.input.bytes ≡ unfinished)) }
         ensures less { IfOk result (λ more. more ≡ true
             → 2 * (INPUT_LIMIT - self.new.input.came) + length self.new.input.bytes
             < 2 * (INPUT_LIMIT - self.old.input.came) + length self.old.input.bytes) }
@@ -113,14 +115,16 @@ impl<A: Allocator + Clone> Script<A> {
         reader: &mut R,
         writer: &mut W,
     ) -> Result<bool, CliFault>
-        requires { length self.old.input.bytes ≤ LINE_LIMIT }
+        requires short { length self.old.input.bytes ≤ LINE_LIMIT }
+        requires unfinished { found_of self.old.input.bytes ≡ unfinished }
         ensures ok { OnOk result (Progress
-            (place (R.remaining reader.old) (W.contents writer.old) self.old.input.bytes self.old.output self.old.line)
-            (place (R.remaining reader.new) (W.contents writer.new) self.new.input.bytes self.new.output self.new.line)) }
+            (place (R.remaining reader.old) (W.contents writer.old) self.old.input.bytes self.old.output self.old.session.port self.old.line)
+            (place (R.remaining reader.new) (W.contents writer.new) self.new.input.bytes self.new.output self.new.session.port self.new.line)) }
         ensures err { IfErr result (Stops
-            (place (R.remaining reader.old) (W.contents writer.old) self.old.input.bytes self.old.output self.old.line)
-            (place (R.remaining reader.new) (W.contents writer.new) self.new.input.bytes self.new.output self.new.line)) }
-        ensures end { IfOk result (λ more. more ≡ false → IsAtEnd (R.remaining reader.new)) }
+            (place (R.remaining reader.old) (W.contents writer.old) self.old.input.bytes self.old.output self.old.session.port self.old.line)
+            (place (R.remaining reader.new) (W.contents writer.new) self.new.input.bytes self.new.output self.new.session.port self.new.line)) }
+        ensures end { IfOk result (λ more. more ≡ false
+            → IsAtEnd (R.remaining reader.new) × (found_of self.new.input.bytes ≡ unfinished)) }
         ensures less { IfOk result (λ more. more ≡ true
             → 2 * (INPUT_LIMIT - self.new.input.came) + length self.new.input.bytes
             < 2 * (INPUT_LIMIT - self.old.input.came) + length self.old.input.bytes) }
@@ -131,9 +135,10 @@ impl<A: Allocator + Clone> Script<A> {
 
     /// Answers the last line, where it lacks its line feed.
     fn answer_rest(&mut self) -> Result<(), CliFault>
-        ensures ok { OnOk result (EndsWith self.old.input.bytes self.old.output self.new.output) }
+        ensures ok { OnOk result (EndsWith self.old.session.port self.old.input.bytes
+            self.new.session.port self.old.output self.new.output) }
         ensures err { OnErr result (self.new.output ≡ self.old.output) }
-        ensures fault { IfErr result (IsLineFault (self.old.line + 1)) }
+        ensures fault { IfErr result (IsLineFault self.old.session.port self.old.input.bytes (self.old.line + 1)) }
         ensures input { self.new.input ≡ self.old.input }
         ensures line { self.new.line ≡ self.old.line }
     {
@@ -152,10 +157,10 @@ fn answer_line<A: Allocator + Clone>(
     number: u64,
     line: &[u8],
 ) -> Result<(), CliFault>
-    ensures ok { OnOk result (Grown line.now output.old output.new) }
+    ensures ok { OnOk result (Grown session.old.port line.now session.new.port output.old output.new) }
     ensures err { OnErr result (output.new ≡ output.old) }
-    ensures fault { IfErr result (IsLineFault number) }
-    ensures wrong { line_of line.now ≡ None → result ≡ Err (CliFault.Line number) }
+    ensures fault { IfErr result (IsLineFault session.old.port line.now number) }
+    ensures wrong { line_adds session.old.port line.now ≡ None → result ≡ Err (CliFault.Line number) }
 {
     match parse(line) {
         None => Err(CliFault::Line(number)),

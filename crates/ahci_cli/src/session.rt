@@ -1,10 +1,12 @@
-ghost use Rattle.std.specs.Prelude.{◌≡◌, ◌≤◌, ◌*◌, ◌++◌, ◌∷◌, [], IfOk, OnErr, OnOk, replicate};
+ghost use Rattle.std.specs.Prelude.{◌≡◌, ◌≤◌, ◌*◌, ◌++◌, ◌∷◌, [], IfErr, IfOk, OnErr, OnOk, None, Some, replicate};
+ghost use Rattle.ncq_core.specs.Work.{work_of};
+ghost use Rattle.ncq_core.specs.Work as work;
 ghost use Rattle.ahci_script.specs.Answers.{answer_text};
-ghost use Rattle.ahci_cli.specs.Transcript.{Answered};
+ghost use Rattle.ahci_cli.specs.Script.{Says, SaysBy, collect_of, disk_by, disk_fault, issue, of_collect, of_step, outcome_text, said_by, said_on, show_of, shown_issue, step_of, stepped_text};
 
 use ahci_script::{Answer, Command, Output, Refusal};
-use first_port::{CollectFault, DeviceStep, FirstFault, FirstPort, StepFault, Stepped};
-use ncq_core::{Bytes, DiskFault, Op, Outcome};
+use first_port::{CollectFault, DeviceStep, FirstFault, FirstPort, Reply, StepFault, Stepped};
+use ncq_core::{Bytes, Op, Outcome};
 use std::alloc::{AllocError, Allocator};
 
 /// How many bytes a sector has.
@@ -31,6 +33,11 @@ pub(crate) enum Unanswered {
 }
 
 impl From<AllocError> for Unanswered {
+    ghost use Rattle.std.specs.Prelude.{◌≡◌};
+    ghost use Rattle.ahci_cli.specs.declared.session.Unanswered.TheVariants as unanswered;
+
+    ghost from_gives = { λ _ e. e ≡ unanswered.OutOfMemory };
+
     fn from(_refused: AllocError) -> Unanswered {
         Unanswered::OutOfMemory
     }
@@ -44,23 +51,26 @@ pub(crate) struct Session<A: Allocator> {
 }
 
 impl<A: Allocator + Clone> Session<A> {
-    pub(crate) fn new(alloc: A) -> Self {
+    /// No disk yet.
+    pub(crate) fn new(alloc: A) -> Self
+        ensures { result.port ≡ None }
+    {
         Session { alloc, port: None }
     }
 
     /// Runs a command, and puts its answer into the output.
     pub(crate) fn run(&mut self, command: Command, output: &mut Output<A>) -> Result<(), Unanswered>
-        ensures ok { OnOk result (Answered output.old output.new) }
+        ensures ok { OnOk result (SaysBy (said_by self.old.port command) self.new.port output.old output.new) }
+        ensures misplaced { IfErr result (λ e. e ≡ Unanswered.OutOfPlace → said_by self.old.port command ≡ None) }
+        ensures refused { said_by self.old.port command ≡ None → result ≡ Err Unanswered.OutOfPlace }
         ensures err { OnErr result (output.new ≡ output.old) }
     {
         match &mut self.port {
-            None => {
-                let Command::Disk { sectors, depth } = command else {
-                    return Err(Unanswered::OutOfPlace);
-                };
-                self.make_disk(sectors, depth, output)
-            }
             Some(port) => run_on(port, &self.alloc, command, output),
+            None => match command {
+                Command::Disk { sectors, depth } => self.make_disk(sectors, depth, output),
+                _ => Err(Unanswered::OutOfPlace),
+            },
         }
     }
 
@@ -71,7 +81,9 @@ impl<A: Allocator + Clone> Session<A> {
         depth: u64,
         output: &mut Output<A>,
     ) -> Result<(), Unanswered>
-        ensures ok { OnOk result (Answered output.old output.new) }
+        requires { self.old.port ≡ None }
+        ensures ok { OnOk result (Says (disk_by (disk_fault sectors depth) sectors depth) self.new.port output.old output.new) }
+        ensures memory { IfErr result (λ e. e ≡ Unanswered.OutOfMemory) }
         ensures err { OnErr result (output.new ≡ output.old) }
     {
         if sectors == 0 || sectors > MAX_SECTORS {
@@ -86,9 +98,7 @@ impl<A: Allocator + Clone> Session<A> {
                 self.port = Some(port);
                 answer(output, &Answer::Disk { sectors, depth })
             }
-            Err(DiskFault::BadSize) => refuse(output, Refusal::BadSize),
-            Err(DiskFault::BadDepth) => refuse(output, Refusal::BadDepth),
-            Err(DiskFault::OutOfMemory) => Err(Unanswered::OutOfMemory),
+            Err(_) => Err(Unanswered::OutOfMemory),
         }
     }
 }
@@ -100,7 +110,9 @@ fn run_on<A: Allocator + Clone>(
     command: Command,
     output: &mut Output<A>,
 ) -> Result<(), Unanswered>
-    ensures ok { OnOk result (Answered output.old output.new) }
+    ensures ok { OnOk result (SaysBy (said_on port.old command) (Some port.new) output.old output.new) }
+    ensures misplaced { IfErr result (λ e. e ≡ Unanswered.OutOfPlace → said_on port.old command ≡ None) }
+    ensures refused { said_on port.old command ≡ None → result ≡ Err Unanswered.OutOfPlace }
     ensures err { OnErr result (output.new ≡ output.old) }
 {
     match command {
@@ -122,7 +134,7 @@ fn run_on<A: Allocator + Clone>(
 
 fn answer<A: Allocator>(output: &mut Output<A>, answer: &Answer<'_>) -> Result<(), Unanswered>
     ensures text { OnOk result (output.new ≡ output.old ++ (answer_text answer.now ++ 10 ∷ [])) }
-    ensures ok { OnOk result (Answered output.old output.new) }
+    ensures memory { IfErr result (λ e. e ≡ Unanswered.OutOfMemory) }
     ensures err { OnErr result (output.new ≡ output.old) }
 {
     output.put(answer)?;
@@ -130,7 +142,8 @@ fn answer<A: Allocator>(output: &mut Output<A>, answer: &Answer<'_>) -> Result<(
 }
 
 fn refuse<A: Allocator>(output: &mut Output<A>, refusal: Refusal) -> Result<(), Unanswered>
-    ensures ok { OnOk result (Answered output.old output.new) }
+    ensures text { OnOk result (output.new ≡ output.old ++ (answer_text (Answer.Refused refusal) ++ 10 ∷ [])) }
+    ensures memory { IfErr result (λ e. e ≡ Unanswered.OutOfMemory) }
     ensures err { OnErr result (output.new ≡ output.old) }
 {
     answer(output, &Answer::Refused(refusal))
@@ -155,7 +168,8 @@ fn write<A: Allocator + Clone>(
     sectors: u32,
     fill: u8,
 ) -> Result<(), Unanswered>
-    ensures ok { OnOk result (Answered output.old output.new) }
+    ensures ok { OnOk result (Says (issue port.old tag (work.Write lba (replicate (sectors * SECTOR) fill))) (Some port.new) output.old output.new) }
+    ensures memory { IfErr result (λ e. e ≡ Unanswered.OutOfMemory) }
     ensures err { OnErr result (output.new ≡ output.old) }
 {
     if sectors == 0 || sectors > MAX_COUNT {
@@ -174,18 +188,29 @@ fn issue<A: Allocator + Clone>(
     tag: u8,
     op: Op<A>,
 ) -> Result<(), Unanswered>
-    ensures ok { OnOk result (Answered output.old output.new) }
+    ensures ok { OnOk result (Says (issue port.old tag (work_of op)) (Some port.new) output.old output.new) }
+    ensures memory { IfErr result (λ e. e ≡ Unanswered.OutOfMemory) }
     ensures err { OnErr result (output.new ≡ output.old) }
 {
     match port.issue(tag, op) {
         Ok(number) => answer(output, &Answer::Issued(number)),
-        Err((_op, fault)) => match fault {
-            FirstFault::BadCount => refuse(output, Refusal::BadCount),
-            FirstFault::BadLba => refuse(output, Refusal::BadLba),
-            FirstFault::NoSuchTag => refuse(output, Refusal::NoSuchTag),
-            FirstFault::SlotOwned => refuse(output, Refusal::SlotOwned),
-            FirstFault::OutOfMemory => Err(Unanswered::OutOfMemory),
+        Err((_op, fault)) => match issue_refusal(fault) {
+            Some(refusal) => refuse(output, refusal),
+            None => Err(Unanswered::OutOfMemory),
         },
+    }
+}
+
+/// How a fault of issue is shown. Want of memory is none.
+fn issue_refusal(fault: FirstFault) -> Option<Refusal>
+    ensures { result ≡ shown_issue fault }
+{
+    match fault {
+        FirstFault::BadCount => Some(Refusal::BadCount),
+        FirstFault::BadLba => Some(Refusal::BadLba),
+        FirstFault::NoSuchTag => Some(Refusal::NoSuchTag),
+        FirstFault::SlotOwned => Some(Refusal::SlotOwned),
+        FirstFault::OutOfMemory => None,
     }
 }
 
@@ -194,15 +219,32 @@ fn step<A: Allocator + Clone>(
     output: &mut Output<A>,
     step: DeviceStep,
 ) -> Result<(), Unanswered>
-    ensures ok { OnOk result (Answered output.old output.new) }
+    ensures ok { OnOk result (Says (step_of port.old step) (Some port.new) output.old output.new) }
+    ensures memory { IfErr result (λ e. e ≡ Unanswered.OutOfMemory) }
     ensures err { OnErr result (output.new ≡ output.old) }
 {
     match port.step(step) {
-        Ok(Stepped::Accepted(entry)) => answer(output, &Answer::Accepted(entry)),
-        Ok(Stepped::Completed(entry)) => answer(output, &Answer::Completed(entry)),
-        Err(StepFault::NotIssued) => refuse(output, Refusal::NotIssued),
-        Err(StepFault::NotAccepted) => refuse(output, Refusal::NotAccepted),
-        Err(StepFault::OutOfRange) => refuse(output, Refusal::OutOfRange),
+        Ok(done) => answer(output, &stepped(done)),
+        Err(fault) => refuse(output, step_refusal(fault)),
+    }
+}
+
+fn stepped(done: Stepped) -> Answer<'static>
+    ensures { answer_text result ≡ stepped_text done }
+{
+    match done {
+        Stepped::Accepted(entry) => Answer::Accepted(entry),
+        Stepped::Completed(entry) => Answer::Completed(entry),
+    }
+}
+
+fn step_refusal(fault: StepFault) -> Refusal
+    ensures { result ≡ of_step fault }
+{
+    match fault {
+        StepFault::NotIssued => Refusal::NotIssued,
+        StepFault::NotAccepted => Refusal::NotAccepted,
+        StepFault::OutOfRange => Refusal::OutOfRange,
     }
 }
 
@@ -212,30 +254,34 @@ fn collect<A: Allocator + Clone>(
     tag: u8,
     number: u64,
 ) -> Result<(), Unanswered>
-    ensures ok { OnOk result (Answered output.old output.new) }
+    ensures ok { OnOk result (Says (collect_of port.old tag number) (Some port.new) output.old output.new) }
+    ensures memory { IfErr result (λ e. e ≡ Unanswered.OutOfMemory) }
     ensures err { OnErr result (output.new ≡ output.old) }
 {
     match port.collect(tag, number) {
-        Ok((reply, bytes)) => match reply.outcome {
-            Outcome::Read => answer(
-                output,
-                &Answer::Read {
-                    entry: reply.entry,
-                    bytes: bytes.as_slice(),
-                },
-            ),
-            Outcome::Wrote => answer(output, &Answer::Wrote(reply.entry)),
-            Outcome::Failed { error, lba } => answer(
-                output,
-                &Answer::Failed {
-                    entry: reply.entry,
-                    error,
-                    lba,
-                },
-            ),
-        },
-        Err(CollectFault::Stranger) => refuse(output, Refusal::Stranger),
-        Err(CollectFault::NotYet) => refuse(output, Refusal::NotYet),
+        Ok((reply, bytes)) => answer(output, &replied(reply, bytes.as_slice())),
+        Err(fault) => refuse(output, collect_refusal(fault)),
+    }
+}
+
+/// A request's answer, with the sectors of a finished read.
+fn replied<'a>(reply: Reply, bytes: &'a [u8]) -> Answer<'a>
+    ensures { answer_text result ≡ outcome_text reply.outcome reply.entry bytes.entry.now }
+{
+    let entry = reply.entry;
+    match reply.outcome {
+        Outcome::Read => Answer::Read { entry, bytes },
+        Outcome::Wrote => Answer::Wrote(entry),
+        Outcome::Failed { error, lba } => Answer::Failed { entry, error, lba },
+    }
+}
+
+fn collect_refusal(fault: CollectFault) -> Refusal
+    ensures { result ≡ of_collect fault }
+{
+    match fault {
+        CollectFault::Stranger => Refusal::Stranger,
+        CollectFault::NotYet => Refusal::NotYet,
     }
 }
 
@@ -244,7 +290,8 @@ fn show<A: Allocator + Clone>(
     output: &mut Output<A>,
     lba: u64,
 ) -> Result<(), Unanswered>
-    ensures ok { OnOk result (Answered output.old output.new) }
+    ensures ok { OnOk result (Says (show_of port.now lba) (Some port.now) output.old output.new) }
+    ensures memory { IfErr result (λ e. e ≡ Unanswered.OutOfMemory) }
     ensures err { OnErr result (output.new ≡ output.old) }
 {
     if lba >= u64::from(port.sectors()) {
@@ -252,11 +299,6 @@ fn show<A: Allocator + Clone>(
     }
     let mut sector = [0; SECTOR];
     port.copy(lba, &mut sector);
-    answer(
-        output,
-        &Answer::Sector {
-            lba,
-            byte: sector[0],
-        },
-    )
+    let byte = sector[0];
+    answer(output, &Answer::Sector { lba, byte })
 }

@@ -6,17 +6,17 @@ use Rattle.ahci_cli.proofs.replaying.Script.read_more.Goals as goal
 
 pub returns-in_err-send-clause-err : goal.returns-in_err-send-clause-err
 returns-in_err-send-clause-err g c =
-    if_err_from _ Write (Stops _ _) c.from_residual.ensures.1 (stops_sending _ _ _ _ _ _ _ _ _ _ c.in_err-send.ensures.part)
+    if_err_from _ Write (Stops _ _) c.from_residual.ensures.1 (stops_sending _ _ _ _ _ _ _ _ _ _ _ _ c.in_err-send.ensures.part)
 
 pub returns-in_err-fill-clause-err : goal.returns-in_err-fill-clause-err
 returns-in_err-fill-clause-err g c =
     let s = c.args.self.now in
     if_err_from _ Read (Stops _ _) c.from_residual-in_err-fill.ensures.1
-    (g.R.Read.remaining c.args.reader.now, Progress-sent_same (g.R.Read.remaining c.args.reader.now) (g.W.Write.contents c.args.writer.now) (g.W.Write.contents c.send.new.writer) s.input.bytes c.fill.new.self.bytes s.output c.send.new.self s.line c.in_ok-send.ensures.written c.in_ok-send.ensures.ok (ap (λ u. u.bytes) c.in_err-fill.ensures.err))
+    (g.R.Read.remaining c.args.reader.now, Progress-sent_same (g.R.Read.remaining c.args.reader.now) (g.W.Write.contents c.args.writer.now) (g.W.Write.contents c.send.new.writer) s.input.bytes c.fill.new.self.bytes s.output c.send.new.self s.session.port s.line c.in_ok-send.ensures.written c.in_ok-send.ensures.ok (ap (λ u. u.bytes) c.in_err-fill.ensures.err))
 
 pub returns-clause-ok : goal.returns-clause-ok
 returns-clause-ok g c =
     let s = c.args.self.now in
-    Progress-trans _ (place (g.R.Read.remaining c.args.reader.now) (g.W.Write.contents c.send.new.writer) s.input.bytes c.send.new.self s.line) _
-    (Progress-sent_same (g.R.Read.remaining c.args.reader.now) (g.W.Write.contents c.args.writer.now) (g.W.Write.contents c.send.new.writer) s.input.bytes s.input.bytes s.output c.send.new.self s.line c.in_ok-send.ensures.written c.in_ok-send.ensures.ok refl)
-    (Progress-filled _ s.input c.fill.new.self (g.R.Read.remaining c.args.reader.now) (g.R.Read.remaining c.fill.new.reader) (g.W.Write.contents c.send.new.writer) c.send.new.self s.line c.in_ok-fill.ensures.ok)
+    Progress-trans _ (place (g.R.Read.remaining c.args.reader.now) (g.W.Write.contents c.send.new.writer) s.input.bytes c.send.new.self s.session.port s.line) _
+    (Progress-sent_same (g.R.Read.remaining c.args.reader.now) (g.W.Write.contents c.args.writer.now) (g.W.Write.contents c.send.new.writer) s.input.bytes s.input.bytes s.output c.send.new.self s.session.port s.line c.in_ok-send.ensures.written c.in_ok-send.ensures.ok refl)
+    (Progress-filled _ s.input c.fill.new.self (g.R.Read.remaining c.args.reader.now) (g.R.Read.remaining c.fill.new.reader) (g.W.Write.contents c.send.new.writer) c.send.new.self s.session.port s.line c.in_ok-fill.ensures.ok)
