@@ -215,7 +215,7 @@ pub stops_after : (f : CliFault) (a b c : Place) → Progress a b → Stops b c 
 stops_after (Line n) a b c p s =
     (s.0, Progress-trans a b (place c.remaining c.contents c.unread c.waiting s.0 c.line) p s.1, s.2, s.3)
 stops_after Read a b c p s =
-    (s.0, Progress-trans a b (place s.0 c.contents c.unread c.waiting c.port c.line) p s.1)
+    (s.0, Progress-trans a b (place s.0 c.contents c.unread c.waiting c.port c.line) p s.1, s.2)
 stops_after OutOfMemory a b c p s =
     (s.0, Progress-trans a b (place c.remaining c.contents c.unread c.waiting s.0 c.line) p s.1)
 stops_after Write a b c p s = part_after a b c p s
@@ -295,7 +295,7 @@ pub fault_written : (f : CliFault) (r c d : Known) (to : Place) → is_of_output
 fault_written (Line n) r c d to other s sent =
     (to.line, s.2, first_written IsFaulty r c d (place to.remaining to.contents to.unread to.waiting s.0 to.line) s.1 s.3 sent)
 fault_written Read r c d to other s sent =
-    (to.line, first_written (λ _ _. Unit {0}) r c d (place s.0 to.contents to.unread to.waiting to.port to.line) s.1 tt sent)
+    (to.line, first_written (λ _ rest. found_of rest ≡ unfinished) r c d (place s.0 to.contents to.unread to.waiting to.port to.line) s.1 s.2 sent)
 fault_written OutOfMemory r c d to other s sent =
     (to.line, first_written (λ _ _. Unit {0}) r c d (place to.remaining to.contents to.unread to.waiting s.0 to.line) s.1 tt sent)
 fault_written Write r c d to other s sent = absurd (true_false other)

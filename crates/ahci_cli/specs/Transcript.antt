@@ -95,7 +95,8 @@ pub record WritesPart (from to : Place) : Type 0 where
 abbrev pub Stops : Place → Place → CliFault → Type 0
 Stops from to (fault.Line n) =
     (p : Option FirstState) × Progress from (place to.remaining to.contents to.unread to.waiting p to.line) × (n ≡ to.line + 1) × IsFaulty p to.unread
-Stops from to fault.Read = (r : Option (List ℕ)) × Progress from (place r to.contents to.unread to.waiting to.port to.line)
+Stops from to fault.Read =
+    (r : Option (List ℕ)) × Progress from (place r to.contents to.unread to.waiting to.port to.line) × (found_of to.unread ≡ unfinished)
 Stops from to fault.OutOfMemory = (p : Option FirstState) × Progress from (place to.remaining to.contents to.unread to.waiting p to.line)
 Stops from to fault.Write = WritesPart from to
 Stops from to _ = ⊥
@@ -143,7 +144,8 @@ pub record ReplayedFirst (remaining_old contents_old contents_new : Option (List
 -- how a fault ends a script: the answers to the lines before it are written, and a failed write leaves a first part of them
 abbrev pub ReplayedTo : Option (List ℕ) → Option (List ℕ) → Option (List ℕ) → CliFault → Type 0
 ReplayedTo r c d (fault.Line n) = (count : ℕ) × (n ≡ count + 1) × ReplayedFirst r c d count IsFaulty
-ReplayedTo r c d fault.Read = (count : ℕ) × ReplayedFirst r c d count (λ _ _. Unit {0})
+ReplayedTo r c d fault.Read =
+    (count : ℕ) × ReplayedFirst r c d count (λ _ rest. found_of rest ≡ unfinished)
 ReplayedTo r c d fault.OutOfMemory = (count : ℕ) × ReplayedFirst r c d count (λ _ _. Unit {0})
 ReplayedTo r c d fault.Write = WritesPart (place r c [] [] None 0) (place r d [] [] None 0)
 ReplayedTo r c d _ = ⊥

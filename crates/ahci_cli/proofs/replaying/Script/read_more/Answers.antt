@@ -1,5 +1,6 @@
-use Rattle.std.proofs.Common.{ap, refl}
+use Rattle.std.proofs.Common.{ap, refl, ◌∙◌}
 use Rattle.ahci_cli.specs.declared.fault.CliFault.TheVariants.{Read, Write}
+use Rattle.ahci_script.specs.Unread.{found_of}
 use Rattle.ahci_cli.specs.Transcript.{Stops, place}
 use Rattle.ahci_cli.proofs.TranscriptLemmas.{Progress-filled, Progress-sent_same, Progress-trans, if_err_from, stops_sending}
 use Rattle.ahci_cli.proofs.replaying.Script.read_more.Goals as goal
@@ -12,7 +13,7 @@ pub returns-in_err-fill-clause-err : goal.returns-in_err-fill-clause-err
 returns-in_err-fill-clause-err g c =
     let s = c.args.self.now in
     if_err_from _ Read (Stops _ _) c.from_residual-in_err-fill.ensures.1
-    (g.R.Read.remaining c.args.reader.now, Progress-sent_same (g.R.Read.remaining c.args.reader.now) (g.W.Write.contents c.args.writer.now) (g.W.Write.contents c.send.new.writer) s.input.bytes c.fill.new.self.bytes s.output c.send.new.self s.session.port s.line c.in_ok-send.ensures.written c.in_ok-send.ensures.ok (ap (λ u. u.bytes) c.in_err-fill.ensures.err))
+    (g.R.Read.remaining c.args.reader.now, Progress-sent_same (g.R.Read.remaining c.args.reader.now) (g.W.Write.contents c.args.writer.now) (g.W.Write.contents c.send.new.writer) s.input.bytes c.fill.new.self.bytes s.output c.send.new.self s.session.port s.line c.in_ok-send.ensures.written c.in_ok-send.ensures.ok (ap (λ u. u.bytes) c.in_err-fill.ensures.err), ap (λ u. found_of u.bytes) c.in_err-fill.ensures.err ∙ c.requires.unfinished)
 
 pub returns-clause-ok : goal.returns-clause-ok
 returns-clause-ok g c =
