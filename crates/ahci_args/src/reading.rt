@@ -1,3 +1,6 @@
+ghost use Rattle.std.specs.Prelude.{◌≡◌, IfErr, IfOk};
+ghost use Rattle.clap.specs.Words.{kind_of};
+
 use crate::request::Asked;
 use clap::error::ErrorKind;
 use clap::{Command, Error};
@@ -37,12 +40,17 @@ pub fn asked<'a>(alloc: Global, words: &'a [String]) -> Result<Asked, Error> {
 }
 
 /// The usage fault of a word that isn't text in UTF-8, which `asked` can't be given.
-pub fn not_text(alloc: Global) -> Result<Error, Error> {
+pub fn not_text(alloc: Global) -> Result<Error, Error>
+    ensures ok { IfOk result (λ e. kind_of e ≡ ErrorKind.InvalidValue) }
+    ensures err { IfErr result (λ e. kind_of e ≡ ErrorKind.OutOfMemory) }
+{
     let mut command = command(alloc)?;
     Ok(command.error(ErrorKind::InvalidValue, "an argument is not text in UTF-8")?)
 }
 
-fn command<'a>(alloc: Global) -> Result<Command<'a>, Error> {
+fn command<'a>(alloc: Global) -> Result<Command<'a>, Error>
+    ensures { IfErr result (λ e. kind_of e ≡ ErrorKind.OutOfMemory) }
+{
     let replay = Command::new(alloc, "replay")
         .about(REPLAY_ABOUT)
         .long_about(REPLAY_LONG_ABOUT)
