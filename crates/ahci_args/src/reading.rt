@@ -1,5 +1,7 @@
-ghost use Rattle.std.specs.Prelude.{◌≡◌, IfErr, IfOk};
-ghost use Rattle.clap.specs.Words.{kind_of};
+ghost use Rattle.std.specs.Prelude.{◌≡◌, IfErr, IfOk, OnOk, map};
+ghost use Rattle.std.specs.String.{string_bytes};
+ghost use Rattle.clap.specs.Words.{FailsBy, app_of, kind_of};
+ghost use Rattle.ahci_args.specs.CommandLine.{AsksReplay, ahci, usage_faults};
 
 use crate::request::Asked;
 use clap::error::ErrorKind;
@@ -34,7 +36,11 @@ Example:
 
 /// Reads a command line, whose first word is the program's name. Help and the version that were
 /// asked for come as an error too, as `clap` has it: its `exit_code` is then 0.
-pub fn asked<'a>(alloc: Global, words: &'a [String]) -> Result<Asked, Error> {
+pub fn asked<'a>(alloc: Global, words: &'a [String]) -> Result<Asked, Error>
+    ensures ok { OnOk result (AsksReplay (map string_bytes words.now)) }
+    ensures memory { IfErr result (λ e. AsksReplay (map string_bytes words.now) → kind_of e ≡ ErrorKind.OutOfMemory) }
+    ensures faults { FailsBy (usage_faults (map string_bytes words.now)) result }
+{
     let _matches = command(alloc)?.try_get_matches_from(words)?;
     Ok(Asked::Replay)
 }
@@ -49,7 +55,8 @@ pub fn not_text(alloc: Global) -> Result<Error, Error>
 }
 
 fn command<'a>(alloc: Global) -> Result<Command<'a>, Error>
-    ensures { IfErr result (λ e. kind_of e ≡ ErrorKind.OutOfMemory) }
+    ensures ok { IfOk result (λ c. app_of c ≡ ahci) }
+    ensures err { IfErr result (λ e. kind_of e ≡ ErrorKind.OutOfMemory) }
 {
     let replay = Command::new(alloc, "replay")
         .about(REPLAY_ABOUT)
