@@ -10,7 +10,7 @@ use Rattle.ahci_cli.specs.declared.fault.CliFault.{CliFault}
 use Rattle.ahci_cli.specs.declared.fault.CliFault.TheVariants.{Line, Job, Read, Write, Unsettled, Lost, OutOfMemory}
 use Rattle.ahci_cli.specs.Fault.{is_of_output}
 use Rattle.ahci_cli.specs.Script.{Said}
-use Rattle.ahci_cli.specs.Transcript.{Adds, Ends, EndsWith, Grown, IsFaulty, IsFaultyAs, IsLineFault, Place, Progress, Replayed, ReplayedFirst, ReplayedTo, Stops, WritesPart, line_adds, no_line, one_more, place, with_feeds}
+use Rattle.ahci_cli.specs.Transcript.{Adds, Ends, EndsWith, Grown, IsFaulty, IsFaultyAs, IsLineFault, MayEnd, Place, Progress, Replayed, ReplayedFirst, ReplayedTo, Stops, WritesPart, line_adds, no_line, one_more, place, with_feeds}
 use Rattle.first_port.specs.First.{FirstState}
 
 abbrev Bytes : Type 0
@@ -127,40 +127,64 @@ pub Progress-line_sent : (r c c' : Known) (u u' w w1 w' : Bytes) (p p' : Port) (
 Progress-line_sent r c c' u u' w w1 w' p p' n e found grown same sent empty =
     Progress-trans (place r c u w p n) (place r c (drop (e + 1) u) w1 p' (n + 1)) (place r c' u' w' p' (n + 1)) (Progress-line r c u w w1 p p' n e found grown) (Progress-sent_same r c c' (drop (e + 1) u) u' w1 w' p' (n + 1) sent empty same)
 
+-- a last line that was answered, behind text that was written before
+grown_after : (p q : Port) (rest before after text sent : Bytes) → text ≡ sent ++ before → Grown p rest q before after → Grown p rest q text (sent ++ after)
+grown_after p q rest before after text sent said last = record {
+  said = last.said;
+  adds = last.adds;
+  left = last.left;
+  grown = ap (λ l. sent ++ l) last.grown ∙ sym (append_assoc sent before last.said.text) ∙ ap (λ l. l ++ last.said.text) (sym said);
+}
+
+may_end_after : (r : Known) (p q : Port) (rest before after text sent : Bytes) → text ≡ sent ++ before → MayEnd r p rest q before after → MayEnd r p rest q text (sent ++ after)
+may_end_after r p q rest before after text sent said (inl same) =
+    inl (ap (λ l. sent ++ l) same ∙ sym said)
+may_end_after r p q rest before after text sent said (inr last) =
+    inr (last.0, grown_after p q rest before after text sent said last.1)
+
 -- a first part is written, behind a part that went well
 part_after : (a b c : Place) → Progress a b → WritesPart b c → WritesPart a c
 part_after a b c p q = record {
   lines = p.lines ++ q.lines;
+  rest = q.rest;
   text = p.text ++ q.text;
+  all = p.sent ++ q.all;
+  came = p.came ++ q.came;
+  remaining = q.remaining;
   port = q.port;
+  last_port = q.last_port;
   count = length p.sent + q.count;
   answered = Adds-append a.port b.port q.port p.lines q.lines p.text q.text p.answered q.answered;
-  written =
-      let all : a.waiting ++ (p.text ++ q.text) ≡ p.sent ++ (b.waiting ++ q.text) = sym (append_assoc a.waiting p.text q.text) ∙ ap (λ l. l ++ q.text) p.said ∙ append_assoc p.sent b.waiting q.text in
-      rw (all, take-append-add p.sent (b.waiting ++ q.text) q.count) (Appends-trans a.contents b.contents c.contents p.sent (take q.count (b.waiting ++ q.text)) p.written q.written);
+  consumed = Consumes-trans a.remaining b.remaining q.remaining p.came q.came p.consumed q.consumed;
+  read = sym (append_assoc a.unread p.came q.came) ∙ ap (λ l. l ++ q.came) p.read ∙ append_assoc (with_feeds p.lines) b.unread q.came ∙ ap (λ l. with_feeds p.lines ++ l) q.read ∙ sym (append_assoc (with_feeds p.lines) (with_feeds q.lines) q.rest) ∙ ap (λ l. l ++ q.rest) (sym (with_feeds-append p.lines q.lines));
+  last = may_end_after q.remaining q.port q.last_port q.rest (b.waiting ++ q.text) q.all (a.waiting ++ (p.text ++ q.text)) p.sent (sym (append_assoc a.waiting p.text q.text) ∙ ap (λ l. l ++ q.text) p.said ∙ append_assoc p.sent b.waiting q.text) q.last;
+  written = rw (take-append-add p.sent q.all q.count) (Appends-trans a.contents b.contents c.contents p.sent (take q.count q.all) p.written q.written);
 }
 
 -- some first part of what waited is written
 pub stops_sending : (r r' c c' : Known) (u u' w w' : Bytes) (p p' : Port) (n n' : ℕ) → (k : ℕ) × Appends c c' (take k w) → WritesPart (place r c u w p n) (place r' c' u' w' p' n')
 stops_sending r r' c c' u u' w w' p p' n n' part = record {
   lines = [];
+  rest = u;
   text = [];
+  all = w;
+  came = [];
+  remaining = r;
   port = p;
+  last_port = p;
   count = part.0;
   answered = no_line p;
-  written = rw (append-nil w) part.1;
+  consumed = Consumes-nil r;
+  read = append-nil u;
+  last = inl (sym (append-nil w));
+  written = part.1;
 }
 
 -- the same behind a line that was answered
-pub stops_sending_line : (r r' c c' : Known) (u u' w w1 w' l : Bytes) (p p1 p' : Port) (n n' : ℕ) → Grown p l p1 w w1 → (k : ℕ) × Appends c c' (take k w1) → WritesPart (place r c u w p n) (place r' c' u' w' p' n')
-stops_sending_line r r' c c' u u' w w1 w' l p p1 p' n n' grown part = record {
-  lines = l ∷ [];
-  text = grown.said.text ++ [];
-  port = p1;
-  count = part.0;
-  answered = one_line p p1 l grown.said grown.adds grown.left;
-  written = rw (append-nil grown.said.text, ← grown.grown) part.1;
-}
+pub stops_sending_line : (r r' c c' : Known) (u u' w w1 w' : Bytes) (p p1 p' : Port) (n n' e : ℕ) → line_end u ≡ Some e → Grown p (take e u) p1 w w1 → (k : ℕ) × Appends c c' (take k w1) → WritesPart (place r c u w p n) (place r' c' u' w' p' n')
+stops_sending_line r r' c c' u u' w w1 w' p p1 p' n n' e found grown part =
+    part_after (place r c u w p n) (place r c (drop (e + 1) u) w1 p1 (n + 1)) (place r' c' u' w' p' n') (Progress-line r c u w w1 p p1 n e found grown)
+    (stops_sending r r' c c' (drop (e + 1) u) u' w1 w' p1 p' (n + 1) n' part)
 
 -- a line stops the script where it stands
 pub stops_at_line : (f : CliFault) (a : Place) (r c : Known) (u w w' l : Bytes) (p q : Port) (n : ℕ) → Progress a (place r c u w p n) → IsLineFault p l (n + 1) f → (line_adds p l ≡ None → IsFaulty p u) → w' ≡ w → Stops a (place r c u w' q n) f
@@ -251,12 +275,7 @@ end_text : (p q : Port) (rest before waiting text sent : Bytes) → text ≡ sen
 end_text p q rest before waiting text sent said (inl same) =
     inl (same.0, same.1, ap (λ l. sent ++ l) same.2 ∙ sym said)
 end_text p q rest before waiting text sent said (inr last) =
-    inr (record {
-      said = last.said;
-      adds = last.adds;
-      left = last.left;
-      grown = ap (λ l. sent ++ l) last.grown ∙ sym (append_assoc sent before last.said.text) ∙ ap (λ l. l ++ last.said.text) (sym said);
-    })
+    inr (grown_after p q rest before waiting text sent said last)
 
 -- a whole input was read, and its answers are written
 pub all_written : (r c d : Known) (to : Place) → Ends (beginning r c) to → Appends to.contents d to.waiting → Replayed r to.remaining c d
@@ -276,16 +295,35 @@ all_written r c d to e sent =
       written = Appends-trans c to.contents d p.sent to.waiting p.written sent;
     }
 
-end_part : (to : Place) (d r' : Known) (before : Bytes) (p : Port) → EndsWith p to.unread to.port before to.waiting → (k : ℕ) × Appends to.contents d (take k to.waiting) → WritesPart (place to.remaining to.contents to.unread before p to.line) (beginning r' d)
-end_part to d r' before p (inl same) part =
+-- a first part of what waited is written, where the last line was answered
+part_with_rest : (r r' c d : Known) (u w w' : Bytes) (p q : Port) (n : ℕ) → IsAtEnd r → Grown p u q w w' → (k : ℕ) × Appends c d (take k w') → WritesPart (place r c u w p n) (beginning r' d)
+part_with_rest r r' c d u w w' p q n ended last part = record {
+  lines = [];
+  rest = u;
+  text = [];
+  all = w';
+  came = [];
+  remaining = r;
+  port = p;
+  last_port = q;
+  count = part.0;
+  answered = no_line p;
+  consumed = Consumes-nil r;
+  read = append-nil u;
+  last = inr (ended, subst (λ t. Grown p u q t w') (sym (append-nil w)) last);
+  written = part.1;
+}
+
+end_part : (to : Place) (d r' : Known) (before : Bytes) (p : Port) → IsAtEnd to.remaining → EndsWith p to.unread to.port before to.waiting → (k : ℕ) × Appends to.contents d (take k to.waiting) → WritesPart (place to.remaining to.contents to.unread before p to.line) (beginning r' d)
+end_part to d r' before p ended (inl same) part =
     stops_sending to.remaining r' to.contents d to.unread [] before [] p None to.line 0 (part.0, subst (λ w. Appends to.contents d (take part.0 w)) same.2 part.1)
-end_part to d r' before p (inr last) part =
-    stops_sending_line to.remaining r' to.contents d to.unread [] before to.waiting [] to.unread p to.port None to.line 0 last part
+end_part to d r' before p ended (inr last) part =
+    part_with_rest to.remaining r' to.contents d to.unread before to.waiting p to.port to.line ended last part
 
 -- a whole input was read, and a first part of its answers is written
 pub all_part_written : (r c d : Known) (to : Place) → Ends (beginning r c) to → (k : ℕ) × Appends to.contents d (take k to.waiting) → ReplayedTo r c d Write
 all_part_written r c d to e part =
-    part_after (beginning r c) (place to.remaining to.contents to.unread e.before e.port to.line) (beginning r d) e.progress (end_part to d r e.before e.port e.last part)
+    part_after (beginning r c) (place to.remaining to.contents to.unread e.before e.port to.line) (beginning r d) e.progress (end_part to d r e.before e.port e.end e.last part)
 
 true_false : true ≡ false → ⊥
 true_false e = cc

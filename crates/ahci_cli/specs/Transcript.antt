@@ -82,14 +82,27 @@ IsFaultyAs port unread unfinished = line_adds port unread ≡ None
 abbrev pub IsFaulty : Option FirstState → List ℕ → Type 0
 IsFaulty port unread = IsFaultyAs port unread (found_of unread)
 
--- a first part of what lines add is written
+-- the last line may have been answered too: it lacks its line feed, so nothing may come behind it
+abbrev pub MayEnd : Option (List ℕ) → Option FirstState → List ℕ → Option FirstState → List ℕ → List ℕ → Type 0
+MayEnd remaining port rest port_new old new =
+    (new ≡ old) ⊎ (IsAtEnd remaining × Grown port rest port_new old new)
+
+-- lines were read, and a first part of what they add is written
 pub record WritesPart (from to : Place) : Type 0 where
   pub lines : List (List ℕ)
+  pub rest : List ℕ
   pub text : List ℕ
+  pub all : List ℕ
+  pub came : List ℕ
+  pub remaining : Option (List ℕ)
   pub port : Option FirstState
+  pub last_port : Option FirstState
   pub count : ℕ
   pub answered : Adds from.port lines text port
-  pub written : Appends from.contents to.contents (take count (from.waiting ++ text))
+  pub consumed : Consumes from.remaining remaining came
+  pub read : from.unread ++ came ≡ with_feeds lines ++ rest
+  pub last : MayEnd remaining port rest last_port (from.waiting ++ text) all
+  pub written : Appends from.contents to.contents (take count all)
 
 -- where a fault stops a script: behind lines that are answered, and before the line that it names
 abbrev pub Stops : Place → Place → CliFault → Type 0

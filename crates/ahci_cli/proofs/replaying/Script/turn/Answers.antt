@@ -21,7 +21,7 @@ returns-in_err-send-clause-err g c =
     let s = c.args.self.now in
     let (e, found, is, len) = found_line s.input.bytes c.in-Line.line.now c.in-Line.ensures in
     let grown = subst (λ l. Grown s.session.port l c.answer_line.new.session.port s.output c.answer_line.new.output) is c.in_ok-answer_line-in-Line.ensures.ok in
-    if_err_from _ Write (Stops _ _) c.from_residual-in_err-send.ensures.1 (stops_sending_line _ _ _ _ s.input.bytes _ s.output c.answer_line.new.output _ _ s.session.port c.answer_line.new.session.port _ _ _ grown c.in_err-send.ensures.part)
+    if_err_from _ Write (Stops _ _) c.from_residual-in_err-send.ensures.1 (stops_sending_line _ _ _ _ s.input.bytes _ s.output c.answer_line.new.output _ s.session.port c.answer_line.new.session.port _ _ _ e found grown c.in_err-send.ensures.part)
 
 pub returns-in_ok-send-clause-ok : goal.returns-in_ok-send-clause-ok
 returns-in_ok-send-clause-ok g c =
