@@ -8,13 +8,17 @@ use Rattle.sata_fis.specs.Encoding.{d2h_bytes, pio_setup_bytes, dma_setup_bytes,
 abbrev pub accepted_fis : D2hFields
 accepted_fis = record { i = false; status = 0x40; error = 0; lba = 0; device = 0; count = 0 }
 
--- a command is refused with ABRT: Register, Device to Host
-abbrev pub aborted_fis : D2hFields
-aborted_fis = record { i = true; status = 0x41; error = 0x04; lba = 0; device = 0; count = 0 }
+-- a command is refused with an error, at an LBA: Register, Device to Host
+abbrev pub refused_fis : ℕ → ℕ → D2hFields
+refused_fis error lba = record { i = true; status = 0x41; error = error; lba = lba; device = 0; count = 0 }
 
--- a command is refused with IDNF, from this LBA on: Register, Device to Host
+-- it is refused with ABRT
+abbrev pub aborted_fis : D2hFields
+aborted_fis = refused_fis 0x04 0
+
+-- it is refused with IDNF, since the disk has no sector at the LBA
 abbrev pub not_found_fis : ℕ → D2hFields
-not_found_fis lba = record { i = true; status = 0x41; error = 0x10; lba = lba; device = 0; count = 0 }
+not_found_fis lba = refused_fis 0x10 lba
 
 -- a flush is done: Register, Device to Host
 abbrev pub flushed_fis : D2hFields

@@ -1,6 +1,5 @@
 -- The page that IDENTIFY DEVICE reads, word by word (ACS-3, "IDENTIFY DEVICE").
-use Rattle.std.specs.Prelude.{ℕ, ◌+◌, ◌-◌, ◌*◌, ◌/◌, ◌%◌, ◌^◌, Bool, ◌==◌, ◌&&◌, nat_le, if◌then◌else◌, List, [], ◌∷◌, slice_index_or}
-use Rattle.std.specs.Prelude.{codes}
+use Rattle.std.specs.Prelude.{ℕ, ◌+◌, ◌-◌, ◌*◌, ◌/◌, ◌%◌, ◌^◌, Bool, ◌==◌, ◌&&◌, nat_le, if◌then◌else◌, List, [], ◌∷◌, map, slice_index_or, codes}
 use Rattle.std.specs.Int.{byte_at}
 use Rattle.std.specs.List.{flat_map, range_with_len}
 
@@ -44,4 +43,4 @@ word_bytes w = byte_at 0 w ∷ byte_at 1 w ∷ []
 
 -- the 256 words
 unfoldable pub identify_page : ℕ → ℕ → List ℕ
-identify_page s d = flat_map (λ w. word_bytes (identify_word s d w)) (range_with_len 0 256)
+identify_page s d = flat_map word_bytes (map (identify_word s d) (range_with_len 0 256))

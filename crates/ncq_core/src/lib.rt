@@ -5,6 +5,7 @@
 
 mod answer;
 mod bytes;
+mod disk;
 mod disk_fault;
 mod event;
 mod halted;
@@ -25,6 +26,7 @@ mod taken;
 
 pub use answer::{Answer, answer_of};
 pub use bytes::Bytes;
+pub use disk::Disk;
 pub use disk_fault::DiskFault;
 pub use event::Event;
 pub use halted::{is_busy, is_halted};
