@@ -1,16 +1,15 @@
 -- What holds of every disk, and that each call leaves it so.
-use Rattle.std.proofs.Common.{◌≡◌, ◌≢◌, ℕ, ◌+◌, ◌*◌, ◌/◌, ◌%◌, ◌^◌, ◌<◌, ◌≤◌, Bool, true, false, ◌&&◌, leb, ltb, List, length, map, get_or, set, Option, Some, None, refl, ap, sym, ◌∙◌, arith, subst, inl, inr}
+use Rattle.std.proofs.Common.{◌≡◌, ℕ, ◌+◌, ◌*◌, ◌/◌, ◌^◌, ◌<◌, ◌≤◌, Bool, true, false, ◌&&◌, leb, ltb, List, length, map, get_or, set, Option, Some, None, refl, ap, sym, ◌∙◌, arith, subst, inl, inr}
 use Rattle.std.proofs.lemmas.Bool.{cases_lt, cases_eq, ltb-true}
 use Rattle.std.proofs.lemmas.List.{get_or-replicate, get_or_past, length-replicate, get_or-set_same, get_or-set_other, length-set, get_or-map, length-map}
 use Rattle.std.specs.Option.{is_some}
-use Rattle.std.specs.List.{range_with_len}
-use Rattle.word_bits.specs.Places.{places, has_place}
+use Rattle.word_bits.specs.Places.{places}
 use Rattle.word_bits.proofs.PlacesLemmas.{same_sets, length-places, has_place-places}
 use Rattle.sata_fis.specs.Fields.{QueuedFields}
 use Rattle.ncq_core.specs.declared.serve_fault.ServeFault.{ServeFault}
 use Rattle.ncq_core.specs.declared.serve_fault.ServeFault.TheVariants.{Stopped, NotAccepted}
 use Rattle.std.specs.Bool.{if◌then◌else◌}
-use Rattle.ncq_core.specs.DiskState.{DiskState, DiskError, IsDisk, IsOutstanding, IsStanding, disk_sectors, command_of, no_commands, new_disk, new_fault}
+use Rattle.ncq_core.specs.DiskState.{DiskState, DiskError, IsDisk, IsOutstanding, IsStanding, command_of, no_commands, new_disk}
 use Rattle.ncq_core.specs.Verdict.{stopped_by}
 use Rattle.ncq_core.specs.Serving.{served, serve_fault, has_sector}
 

@@ -1,12 +1,12 @@
 -- Data FISes, one after another: what has moved after some of them, and what all of them have moved.
-use Rattle.std.proofs.Common.{◌≡◌, ℕ, ◌+◌, ◌-◌, ◌*◌, ◌/◌, ◌<◌, ◌≤◌, ◌&&◌, leb, ltb, cond, List, ◌++◌, length, take, drop, ap, sym, ◌∙◌, arith, length-append, length-drop, length-take, append-nil, subst}
+use Rattle.std.proofs.Common.{◌≡◌, ℕ, ◌+◌, ◌-◌, ◌*◌, ◌/◌, ◌≤◌, List, ◌++◌, length, take, drop, ap, sym, ◌∙◌, arith, length-append, length-drop, length-take, append-nil, subst}
 use Rattle.std.proofs.lemmas.List.{take_at, length-take-le, take_all, drop_all}
 use Rattle.std.proofs.lemmas.Slice.{take-put_mid, drop-append-drop}
 use Rattle.std.proofs.Math.Seq.{take-add}
 use Rattle.std.specs.List.{replace_range, slice_range}
 use borrow.Rule.Slice.PartMut.{put_mid, post_of}
 use Rattle.sata_fis.specs.Fields.{QueuedFields}
-use Rattle.ncq_core.specs.Image.{sector_at, IsWrittenOver}
+use Rattle.ncq_core.specs.Image.{IsWrittenOver}
 use Rattle.ncq_core.specs.Serving.{IsWritten, byte_count}
 use Rattle.ncq_core.proofs.ImageLemmas.{sector_at-put_mid}
 

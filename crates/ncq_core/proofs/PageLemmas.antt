@@ -1,15 +1,15 @@
 -- The pages that the disk tells of itself: what a loop has written of them, and the sum of one.
-use Rattle.std.proofs.Common.{◌≡◌, ℕ, ◌+◌, ◌-◌, ◌*◌, ◌%◌, ◌<◌, ◌≤◌, List, [], ◌∷◌, ◌++◌, length, take, drop, get_or, set, map, replicate, refl, ap, sym, ◌∙◌, arith, length-append, append_assoc, append-nil}
-use Rattle.std.proofs.lemmas.List.{drop-replicate, length-replicate, take_at, drop_at, set_at, drop-drop, replicate_more, length-map}
+use Rattle.std.proofs.Common.{◌≡◌, ℕ, ◌+◌, ◌-◌, ◌*◌, ◌%◌, ◌<◌, List, [], ◌∷◌, ◌++◌, length, take, drop, get_or, set, map, replicate, refl, ap, sym, ◌∙◌, arith, length-append, append_assoc, append-nil}
+use Rattle.std.proofs.lemmas.List.{drop-replicate, length-replicate, take_at, drop_at, set_at, replicate_more, length-map}
 use Rattle.std.proofs.lemmas.List.Sums.{sum_by_more, sum_by-append}
 use Rattle.std.proofs.lemmas.List.FromFn.{map-range_with_len_more, length-range_with_len}
 use Rattle.std.proofs.lemmas.Grind.{flat_map-append}
 use Rattle.std.specs.List.{flat_map, range_with_len, sum}
-use borrow.Rule.Slice.PartMut.{put_mid, post_of}
+use borrow.Rule.Slice.PartMut.{put_mid}
 use Rattle.ncq_core.specs.DiskState.{DiskError}
 use Rattle.ncq_core.specs.Identify.{identify_word, identify_page, word_bytes}
 use Rattle.ncq_core.specs.DiskLaws.{LogAddsUp}
-use Rattle.ncq_core.specs.Log.{log_head, log_page, log_body, checksum}
+use Rattle.ncq_core.specs.Log.{log_page, log_body, checksum}
 
 -- the sum of one byte more
 pub sum_more : (bytes : List ℕ) (i total : ℕ) → i < length bytes → total ≡ sum (take i bytes) % 256 → (total + get_or bytes i 0) % 256 ≡ sum (take (i + 1) bytes) % 256

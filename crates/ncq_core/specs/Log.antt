@@ -1,5 +1,5 @@
 -- Page 0 of log 10h, the NCQ Command Error log, byte by byte (ACS-3, "NCQ Command Error log").
-use Rattle.std.specs.Prelude.{ℕ, ◌+◌, ◌-◌, ◌%◌, List, [], ◌∷◌, ◌++◌, replicate}
+use Rattle.std.specs.Prelude.{ℕ, ◌-◌, ◌%◌, List, [], ◌∷◌, ◌++◌, replicate}
 use Rattle.std.specs.Int.{byte_at}
 use Rattle.std.specs.List.{sum}
 use Rattle.ncq_core.specs.DiskState.{DiskError}

@@ -11,7 +11,7 @@ use Rattle.ncq_core.specs.declared.plain.Plain.TheVariants as plain
 use Rattle.ncq_core.specs.declared.taken.Taken.{Taken}
 use Rattle.ncq_core.specs.declared.taken.Taken.TheVariants.{Accepted, Refused}
 use Rattle.ncq_core.specs.declared.taken.Taken.TheVariants as taken
-use Rattle.ncq_core.specs.DiskState.{DiskState, DiskError, disk_sectors, command_of, is_stopped, outstanding, no_commands}
+use Rattle.ncq_core.specs.DiskState.{DiskState, DiskError, disk_sectors, command_of, is_stopped, no_commands}
 use Rattle.ncq_core.specs.DiskFis.{accepted_bytes, aborted_bytes, not_found_bytes}
 
 -- what the disk answers, and the disk afterwards

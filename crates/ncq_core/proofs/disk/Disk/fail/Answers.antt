@@ -1,4 +1,4 @@
-use Rattle.std.proofs.Common.{sym, ◌∙◌}
+use Rattle.std.proofs.Common.{sym}
 use Rattle.ncq_core.proofs.DiskLemmas.{sector-lt}
 use Rattle.ncq_core.proofs.disk.Disk.fail.Goals as goal
 

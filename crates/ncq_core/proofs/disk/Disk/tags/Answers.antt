@@ -1,4 +1,4 @@
-use Rattle.std.proofs.Common.{◌≡◌, ℕ, None, get_or, map, ap, sym, ◌∙◌, arith}
+use Rattle.std.proofs.Common.{◌≡◌, ℕ, None, get_or, ap, ◌∙◌, arith}
 use Rattle.std.specs.Option.{is_some}
 use Rattle.ncq_core.specs.DiskState.{outstanding}
 use Rattle.ncq_core.proofs.SetLemmas.{among, among_all}

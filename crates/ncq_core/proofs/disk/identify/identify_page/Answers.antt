@@ -1,4 +1,4 @@
-use Rattle.std.proofs.Common.{arith, ◌∙◌, sym, ap}
+use Rattle.std.proofs.Common.{arith, ◌∙◌, ap}
 use Rattle.ncq_core.specs.Identify.{word_bytes}
 use Rattle.ncq_core.proofs.PageLemmas.{written_none, written_more, written_all}
 use Rattle.ncq_core.proofs.disk.identify.identify_page.Goals as goal

@@ -1,4 +1,4 @@
-use Rattle.std.proofs.Common.{◌≡◌, ◌+◌, ◌-◌, ◌≤◌, length, take, drop, ap, sym, ◌∙◌, arith, length-take, length-drop}
+use Rattle.std.proofs.Common.{◌≡◌, ◌+◌, ◌-◌, length, take, drop, ap, ◌∙◌, arith, length-take, length-drop}
 use Rattle.std.specs.List.{replace_range}
 use Rattle.ncq_core.proofs.MovingLemmas.{delivered_more}
 use Rattle.ncq_core.proofs.disk.moving.deliver.Goals as goal

@@ -1,5 +1,5 @@
 -- what has been sent so far
-use Rattle.std.proofs.Common.{◌≡◌, ℕ, ◌-◌, ◌*◌, ◌/◌, ◌≤◌, ◌++◌, length, take, drop}
+use Rattle.std.proofs.Common.{◌≡◌, ◌-◌, ◌*◌, ◌/◌, ◌≤◌, ◌++◌, length, take, drop}
 use Rattle.ncq_core.proofs.disk.moving.deliver.Given as goal
 
 abbrev pub invariant-loop-sent : goal.invariant-loop-sent

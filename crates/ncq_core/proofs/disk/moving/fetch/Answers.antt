@@ -1,4 +1,4 @@
-use Rattle.std.proofs.Common.{◌≡◌, ◌+◌, ◌-◌, ◌≤◌, length, take, drop, ap, sym, ◌∙◌, arith, length-take, length-drop}
+use Rattle.std.proofs.Common.{◌≡◌, ◌+◌, ◌-◌, ◌≤◌, length, take, drop, ap, ◌∙◌, arith, length-take, length-drop}
 use Rattle.std.specs.List.{slice_range}
 use Rattle.ncq_core.proofs.MovingLemmas.{fetched_more, length-put_mid}
 use Rattle.ncq_core.proofs.disk.moving.fetch.Goals as goal

@@ -1,5 +1,5 @@
 -- what has been filled so far
-use Rattle.std.proofs.Common.{◌≡◌, ℕ, ◌-◌, ◌*◌, ◌/◌, ◌≤◌, length, take, drop}
+use Rattle.std.proofs.Common.{◌≡◌, ◌-◌, ◌*◌, ◌/◌, ◌≤◌, length, take}
 use Rattle.ncq_core.proofs.disk.moving.fetch.Given as goal
 
 abbrev pub invariant-loop-filled : goal.invariant-loop-filled

@@ -1,4 +1,4 @@
-use Rattle.std.proofs.Common.{arith, ◌∙◌, sym, ap}
+use Rattle.std.proofs.Common.{arith}
 use Rattle.ncq_core.proofs.MovingLemmas.{write_moves}
 use Rattle.ncq_core.proofs.disk.moving.move_data.Goals as goal
 
