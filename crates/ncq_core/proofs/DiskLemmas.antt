@@ -2,16 +2,16 @@
 use Rattle.std.proofs.Common.{◌≡◌, ℕ, ◌+◌, ◌*◌, ◌/◌, ◌^◌, ◌<◌, ◌≤◌, Bool, true, false, ◌&&◌, leb, ltb, List, length, map, get_or, set, Option, Some, None, refl, ap, sym, ◌∙◌, arith, subst, inl, inr}
 use Rattle.std.proofs.lemmas.Bool.{cases_lt, cases_eq, ltb-true}
 use Rattle.std.proofs.lemmas.List.{get_or-replicate, get_or_past, length-replicate, get_or-set_same, get_or-set_other, length-set, get_or-map, length-map}
-use Rattle.std.specs.Option.{is_some}
+use Rattle.std.specs.Option.{is_some, IfSome}
 use Rattle.word_bits.specs.Places.{places}
 use Rattle.word_bits.proofs.PlacesLemmas.{same_sets, length-places, has_place-places}
 use Rattle.sata_fis.specs.Fields.{QueuedFields}
 use Rattle.ncq_core.specs.declared.serve_fault.ServeFault.{ServeFault}
 use Rattle.ncq_core.specs.declared.serve_fault.ServeFault.TheVariants.{Stopped, NotAccepted}
 use Rattle.std.specs.Bool.{if◌then◌else◌}
-use Rattle.ncq_core.specs.DiskState.{DiskState, DiskError, IsDisk, IsOutstanding, IsStanding, command_of, no_commands, new_disk}
+use Rattle.ncq_core.specs.DiskState.{DiskState, DiskError, IsDisk, IsOutstanding, IsStanding, disk_sectors, command_of, no_commands, new_disk}
 use Rattle.ncq_core.specs.Verdict.{stopped_by}
-use Rattle.ncq_core.specs.Serving.{served, serve_fault, has_sector}
+use Rattle.ncq_core.specs.Serving.{served, serve_fault, has_sector, byte_count}
 
 pub length-no_commands : length no_commands ≡ 32
 unfolding no_commands
@@ -99,3 +99,11 @@ sector-lt disk tag q lba d o inside =
     and_true_right : (a b : Bool) → (a && b) ≡ true → b ≡ true
     and_true_right true b e = e
     and_true_right false b e = absurd (cc)
+
+-- a text as long as the image has room for the command of any tag
+room_at : (disk : DiskState) (tag n : ℕ) (o : Option QueuedFields) → ((q : QueuedFields) → o ≡ Some q → IsOutstanding disk tag q) → 512 * disk_sectors disk ≤ n → IfSome o (λ q. byte_count q ≤ n)
+room_at disk tag n None each long = tt
+room_at disk tag n (Some q) each long = omega (arith, (each q refl).fits)
+
+pub room_for_any : (disk : DiskState) (tag n : ℕ) → IsDisk disk → 512 * disk_sectors disk ≤ n → IfSome (command_of disk tag) (λ q. byte_count q ≤ n)
+room_for_any disk tag n d long = room_at disk tag n (command_of disk tag) (d.each tag) long
