@@ -91,8 +91,8 @@ places-commands commands count =
     (λ i h. let low : i < 32 = omega (arith, length-places p) in has_place-places p i low ∙ sym (get_or-map is_some commands i None false (omega arith)))
 
 -- a sector of a command that fits has 48 bits
-pub sector-lt : (disk : DiskState) (tag : ℕ) (q : QueuedFields) (lba : ℕ) → IsDisk disk → IsOutstanding disk tag q → has_sector q lba ≡ true → lba < 2 ^ 48
-sector-lt disk tag q lba d o inside =
+pub sector_fits : (disk : DiskState) (tag : ℕ) (q : QueuedFields) (lba : ℕ) → IsDisk disk → IsOutstanding disk tag q → has_sector q lba ≡ true → lba < 2 ^ 48
+sector_fits disk tag q lba d o inside =
     let below : lba < q.lba + q.sectors = ltb-true lba (q.lba + q.sectors) (and_true_right (leb q.lba lba) (ltb lba (q.lba + q.sectors)) inside) in
     omega (arith, d.most, o.fits)
   where

@@ -1,5 +1,5 @@
 -- Data FISes, one after another: what has moved after some of them, and what all of them have moved.
-use Rattle.std.proofs.Common.{◌≡◌, ℕ, ◌+◌, ◌-◌, ◌*◌, ◌/◌, ◌≤◌, List, ◌++◌, length, take, drop, ap, sym, ◌∙◌, arith, length-append, length-drop, length-take, append-nil, subst}
+use Rattle.std.proofs.Common.{◌≡◌, ℕ, ◌+◌, ◌-◌, ◌*◌, ◌/◌, ◌≤◌, List, ◌++◌, length, take, drop, ap, sym, ◌∙◌, arith, length-append, length-drop, length-take, append-nil, subst, refl}
 use Rattle.std.proofs.lemmas.List.{take_at, length-take-le, take_all, drop_all}
 use Rattle.std.proofs.lemmas.Slice.{take-put_mid, drop-append-drop}
 use Rattle.std.proofs.Math.Seq.{take-add}
@@ -7,7 +7,7 @@ use Rattle.std.specs.List.{replace_range, slice_range}
 use borrow.Rule.Slice.PartMut.{put_mid, post_of}
 use Rattle.sata_fis.specs.Fields.{QueuedFields}
 use Rattle.ncq_core.specs.Image.{IsWrittenOver}
-use Rattle.ncq_core.specs.Serving.{IsWritten, byte_count}
+use Rattle.ncq_core.specs.Serving.{IsRead, IsWritten, byte_count, bytes_at}
 use Rattle.ncq_core.proofs.ImageLemmas.{sector_at-put_mid}
 
 -- the first part of the text after n bytes more, where the host had put the bytes before them at its beginning
@@ -51,19 +51,31 @@ length-put_mid start k xs ys fits len =
     let three : length (post_of start k xs) ≡ length xs - start - k = length-drop k (drop start xs) ∙ ap (λ m. m - k) (length-drop start xs) in
     omega arith
 
+-- a read has moved its data once its sectors stand at the beginning of the text
+pub read_moves : (q : QueuedFields) (image text text' bytes : List ℕ) (start k : ℕ)
+    → start ≡ 512 * q.lba → k ≡ byte_count q → 512 * (q.lba + q.sectors) ≤ length image → bytes ≡ take k (drop start image) → text' ≡ bytes ++ drop (length bytes) text
+    → IsRead q image image text text'
+read_moves q image text text' bytes start k place size fits part is =
+    let whole : bytes ≡ bytes_at q image = part ∙ ap (λ a. take k (drop a image)) place ∙ ap (λ n. take n (drop (512 * q.lba) image)) size in
+    let len : length bytes ≡ byte_count q = ap length part ∙ length-take k (drop start image) ∙ (let d = length-drop start image in omega arith) in
+    record { image_same = refl; text_read = is ∙ ap (λ xs. xs ++ drop (length bytes) text) whole ∙ ap (λ n. bytes_at q image ++ drop n text) len }
+
 -- a write has moved its data once its sectors are the first bytes of the text
-pub write_moves : (q : QueuedFields) (image text text' out : List ℕ) (k : ℕ)
-    → 512 * (q.lba + q.sectors) ≤ length image → byte_count q ≤ length text → k ≡ byte_count q → text' ≡ text → out ≡ take (length (take k (drop (q.lba * 512) image))) text
-    → IsWritten q image (put_mid (q.lba * 512) k image out) text text'
-write_moves q image text text' out k fits room size same is =
-    let part : length (take k (drop (q.lba * 512) image)) ≡ byte_count q = length-take k (drop (q.lba * 512) image) ∙ (let d = length-drop (q.lba * 512) image in omega arith) in
+pub write_moves : (q : QueuedFields) (image image' text text' out : List ℕ) (start k : ℕ)
+    → start ≡ 512 * q.lba → k ≡ byte_count q → 512 * (q.lba + q.sectors) ≤ length image → byte_count q ≤ length text → text' ≡ text → out ≡ take (length (take k (drop start image))) text
+    → image' ≡ put_mid start k image out → IsWritten q image image' text text'
+write_moves q image image' text text' out start k place size fits room same is put =
+    let part : length (take k (drop start image)) ≡ byte_count q = length-take k (drop start image) ∙ (let d = length-drop start image in omega arith) in
     let bytes : out ≡ take (byte_count q) text = is ∙ ap (λ n. take n text) part in
     let len : length out ≡ byte_count q = ap length bytes ∙ length-take-le (byte_count q) text room in
-    record {
+    let begin : q.lba * 512 ≡ start = omega arith in
+    let over = subst (λ a. IsWrittenOver q.lba out image (put_mid a k image out)) begin (written_over q.lba q.sectors image out fits len k size) in
+    let written : IsWritten q image (put_mid start k image out) text text' = record {
       text_same = same;
-      size_same = length-put_mid (q.lba * 512) k image out (omega arith) (len ∙ sym size);
-      sectors_written = subst (λ xs. IsWrittenOver q.lba xs image (put_mid (q.lba * 512) k image out)) bytes (written_over q.lba q.sectors image out fits len k size);
-    }
+      size_same = length-put_mid start k image out (omega arith) (len ∙ sym size);
+      sectors_written = subst (λ xs. IsWrittenOver q.lba xs image (put_mid start k image out)) bytes over;
+    } in
+    subst (λ xs. IsWritten q image xs text text') (sym put) written
 
 -- an image that was written as a whole
 pub whole_write : (items after : List ℕ) (len : ℕ) → len ≡ length items → length after ≡ length items → take len (after ++ drop (length after) items) ≡ after

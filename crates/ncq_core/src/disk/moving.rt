@@ -4,7 +4,7 @@
 ghost use Rattle.std.specs.Prelude.{◌≡◌, ◌+◌, ◌*◌, ◌/◌, ◌%◌, ◌≤◌, ◌++◌, length, take, drop, slice_range};
 ghost use Rattle.std.specs.List.{replace_range};
 ghost use Rattle.sata_fis.specs.Payload.{IsPayload};
-ghost use Rattle.ncq_core.specs.Serving.{HasMoved, byte_count};
+ghost use Rattle.ncq_core.specs.Serving.{HasMoved, IsRead, IsWritten, byte_count};
 
 use crate::host::Host;
 use sata_fis::{Queued, data_head};
@@ -93,6 +93,49 @@ pub(super) fn fetch<H: Host>(host: &mut H, out: &mut [u8])
     }
 }
 
+/// Where a command's first sector begins in an image.
+fn first_byte(command: &Queued) -> usize
+    ensures { result ≡ 512 * command.now.lba }
+{
+    command.lba as usize * 512
+}
+
+/// How many bytes a command moves.
+fn byte_count(command: &Queued) -> usize
+    ensures { result ≡ byte_count command.now }
+{
+    command.sectors as usize * 512
+}
+
+/// Moves the data of a read: its sectors stand at the beginning of the host's text afterwards.
+#[tactic(auto, using(crate::proofs::MovingLemmas::read_moves))]
+fn read_data<H: Host>(host: &mut H, command: &Queued, image: &[u8])
+    requires sectors { 512 * (command.now.lba + command.now.sectors) ≤ length image.now }
+    requires start { H.offset host.old ≡ 0 }
+    requires room { byte_count command.now ≤ length (H.text host.old) }
+    ensures data { IsRead command.now image.now image.now (H.text host.old) (H.text host.new) }
+    ensures offset { H.offset host.new ≡ byte_count command.now }
+    ensures setup { H.last_setup host.new ≡ H.last_setup host.old }
+    ensures others { H.keeps host.old host.new }
+{
+    let start = first_byte(command);
+    deliver(host, &image[start..start + byte_count(command)]);
+}
+
+/// Moves the data of a write: its sectors are the first bytes of the host's text afterwards.
+fn write_data<H: Host>(host: &mut H, command: &Queued, image: &mut [u8])
+    requires sectors { 512 * (command.now.lba + command.now.sectors) ≤ length image.old }
+    requires start { H.offset host.old ≡ 0 }
+    requires room { byte_count command.now ≤ length (H.text host.old) }
+    ensures data { IsWritten command.now image.old image.new (H.text host.old) (H.text host.new) }
+    ensures offset { H.offset host.new ≡ byte_count command.now }
+    ensures setup { H.last_setup host.new ≡ H.last_setup host.old }
+    ensures others { H.keeps host.old host.new }
+{
+    let start = first_byte(command);
+    fetch(host, &mut image[start..start + byte_count(command)]);
+}
+
 /// Moves the data of a command between an image and the host, whose last DMA Setup is the command's.
 pub(super) fn move_data<H: Host>(host: &mut H, command: &Queued, image: &mut [u8])
     requires sectors { 512 * (command.now.lba + command.now.sectors) ≤ length image.old }
@@ -103,12 +146,9 @@ pub(super) fn move_data<H: Host>(host: &mut H, command: &Queued, image: &mut [u8
     ensures setup { H.last_setup host.new ≡ H.last_setup host.old }
     ensures others { H.keeps host.old host.new }
 {
-    let start = command.lba as usize * 512;
-    let end = start + command.sectors as usize * 512;
-    let sectors = &mut image[start..end];
     if command.write {
-        fetch(host, sectors);
+        write_data(host, command, image);
     } else {
-        deliver(host, sectors);
+        read_data(host, command, image);
     }
 }

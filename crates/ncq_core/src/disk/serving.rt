@@ -53,6 +53,7 @@ impl<A: Allocator> Disk<A> {
     /// # Errors
     /// `Stopped` where an error stands, `NotAccepted` where nothing is outstanding at the tag, `OutsideCommand` where `at`
     /// is not a sector of its command.
+    #[tactic(auto, using(crate::proofs::DiskLemmas::sector_fits))]
     pub fn fail(&mut self, tag: u8, error: u8, at: u64) -> Result<[u8; 8], ServeFault>
         ensures answer { result ≡ answered (fail_fault self.old tag at) (failed_bytes error) }
         ensures state { OnOk result (self.new ≡ stopped_by self.old (record { tag = tag; error = error; lba = at })) }
