@@ -59,8 +59,7 @@ impl<A: Allocator> Disk<A> {
         ensures state { OnOk result (self.new ≡ stopped_by self.old (record { tag = tag; error = error; lba = at })) }
         ensures err { OnErr result (self.new ≡ self.old) }
     {
-        let command = self.outstanding(tag)?;
-        if !has_sector(&command, at) {
+        if !has_sector(&self.outstanding(tag)?, at) {
             return Err(ServeFault::OutsideCommand);
         }
         self.stop(tag, error, at);
