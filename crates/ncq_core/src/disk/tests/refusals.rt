@@ -59,6 +59,7 @@ fn each_of_32_tags_is_taken_once(rt: HostRuntime) -> Result<(), Fail> {
         assert_eq!(&rt; disk.take(&queued(0x61, tag, tag, 1)), ACCEPTED);
     }
     for tag in 0..32u8 {
+        assert_eq!(&rt; disk.take(&queued(0x61, tag, tag, 1)), ABORTED);
         assert_eq!(&rt; disk.take(&queued(0x60, tag, 63, 2)), ABORTED);
         assert_eq!(&rt; disk.tags(), u32::MAX);
     }
