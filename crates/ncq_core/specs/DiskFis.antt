@@ -1,28 +1,28 @@
 -- The FISes that the disk sends (Serial ATA, "FIS types"; the status and error bits: ACS-3, "Status field" and "Error
 -- field"). Status 40h is DRDY, 48h DRDY with DRQ, 41h DRDY with ERR; error 04h is ABRT, 10h IDNF.
-use Rattle.std.specs.Prelude.{ℕ, ◌*◌, ◌^◌, true, false, not, List}
+use Rattle.std.specs.Prelude.{ℕ, Bool, ◌*◌, ◌^◌, true, false, not, List}
 use Rattle.sata_fis.specs.Fields.{D2hFields, PioSetupFields, DmaSetupFields, SetBitsFields, QueuedFields}
 use Rattle.sata_fis.specs.Encoding.{d2h_bytes, pio_setup_bytes, dma_setup_bytes, set_bits_bytes}
 
--- a queued command is accepted: Register, Device to Host, with no interrupt
+-- Register, Device to Host, with a status, an error and an LBA, and all else 0
+abbrev pub register_fis : Bool → ℕ → ℕ → ℕ → D2hFields
+register_fis i status error lba = record { i = i; status = status; error = error; lba = lba; device = 0; count = 0 }
+
+-- a queued command is accepted, with no interrupt
 abbrev pub accepted_fis : D2hFields
-accepted_fis = record { i = false; status = 0x40; error = 0; lba = 0; device = 0; count = 0 }
+accepted_fis = register_fis false 0x40 0 0
 
--- a command is refused with an error, at an LBA: Register, Device to Host
-abbrev pub refused_fis : ℕ → ℕ → D2hFields
-refused_fis error lba = record { i = true; status = 0x41; error = error; lba = lba; device = 0; count = 0 }
-
--- it is refused with ABRT
+-- a command is refused with ABRT
 abbrev pub aborted_fis : D2hFields
-aborted_fis = refused_fis 0x04 0
+aborted_fis = register_fis true 0x41 0x04 0
 
--- it is refused with IDNF, since the disk has no sector at the LBA
+-- a command is refused with IDNF, since the disk has no sector at the LBA
 abbrev pub not_found_fis : ℕ → D2hFields
-not_found_fis lba = refused_fis 0x10 lba
+not_found_fis lba = register_fis true 0x41 0x10 lba
 
--- a flush is done: Register, Device to Host
+-- a flush is done
 abbrev pub flushed_fis : D2hFields
-flushed_fis = record { i = true; status = 0x40; error = 0; lba = 0; device = 0; count = 0 }
+flushed_fis = register_fis true 0x40 0 0
 
 -- one page of 512 bytes comes by PIO: PIO Setup, Device to Host
 abbrev pub pio_fis : PioSetupFields
@@ -32,13 +32,17 @@ pio_fis = record { i = true; d = true; status = 0x48; error = 0; lba = 0; device
 abbrev pub dma_setup_fis : QueuedFields → DmaSetupFields
 dma_setup_fis q = record { a = false; i = false; d = not q.write; tag = q.tag; offset = 0; count = 512 * q.sectors }
 
--- a tag's command is completed: Set Device Bits
-abbrev pub completed_fis : ℕ → SetBitsFields
-completed_fis tag = record { i = true; status = 0x40; error = 0; sactive = 2 ^ tag }
+-- Set Device Bits, with a status, an error and the tags that are done
+abbrev pub done_fis : ℕ → ℕ → ℕ → SetBitsFields
+done_fis status error sactive = record { i = true; status = status; error = error; sactive = sactive }
 
--- a command failed with an error, and none is completed: Set Device Bits
+-- a tag's command is completed
+abbrev pub completed_fis : ℕ → SetBitsFields
+completed_fis tag = done_fis 0x40 0 (2 ^ tag)
+
+-- a command failed with an error, and none is completed
 abbrev pub failed_fis : ℕ → SetBitsFields
-failed_fis error = record { i = true; status = 0x41; error = error; sactive = 0 }
+failed_fis error = done_fis 0x41 error 0
 
 -- the bytes of each of them
 abbrev pub accepted_bytes : List ℕ

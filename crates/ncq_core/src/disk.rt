@@ -50,6 +50,7 @@ impl<A: Allocator> Disk<A> {
     ///
     /// # Errors
     /// `BadSize` where the image is not 1 to 131,072 whole sectors of 512 bytes, `BadDepth` where the depth is not 1 to 32.
+    #[tactic(auto, using(crate::proofs::DiskLemmas::is_disk_new))]
     pub fn new(image: Vec<u8, A>, depth: u32) -> Result<Self, DiskFault>
         ensures ok { IfOk result (λ d. (new_fault image.items depth ≡ None) × (d ≡ new_disk image.items depth)) }
         ensures err { IfErr result (λ e. new_fault image.items depth ≡ Some e) }

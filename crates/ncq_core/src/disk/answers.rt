@@ -1,8 +1,8 @@
 //! The FISes that the disk sends, by their bytes (Serial ATA, "FIS types").
 
-ghost use Rattle.std.specs.Prelude.{◌≡◌, ◌*◌, ◌^◌, ◌<◌, ◌≤◌, length};
+ghost use Rattle.std.specs.Prelude.{◌≡◌, ◌^◌, ◌<◌, bit_and, length};
 ghost use Rattle.sata_fis.specs.Encoding.{encoded, d2h_bytes, set_bits_bytes, IsNotData};
-ghost use Rattle.ncq_core.specs.DiskFis.{accepted_bytes, aborted_bytes, not_found_bytes, flushed_bytes, pio_bytes, setup_bytes, completed_bytes, failed_bytes, refused_fis};
+ghost use Rattle.ncq_core.specs.DiskFis.{accepted_bytes, aborted_bytes, not_found_bytes, flushed_bytes, pio_bytes, setup_bytes, completed_bytes, failed_bytes, register_fis, done_fis};
 
 use sata_fis::{D2h, DmaSetup, Fis, PioSetup, Queued, SetBits};
 use word_bits::place;
@@ -29,52 +29,46 @@ fn bytes_of<const N: usize>(fis: &Fis<'_>) -> [u8; N]
     bytes
 }
 
-fn register(fis: D2h) -> [u8; 20]
-    ensures { result ≡ d2h_bytes fis }
+/// A Register FIS - Device to Host with a status, an error and an LBA.
+fn register(i: bool, status: u8, error: u8, lba: u64) -> [u8; 20]
+    requires { lba < 2 ^ 48 }
+    ensures { result ≡ d2h_bytes (register_fis i status error lba) }
 {
-    bytes_of(&Fis::D2h(fis))
+    bytes_of(&Fis::D2h(D2h {
+        i,
+        status,
+        error,
+        lba,
+        device: 0,
+        count: 0,
+    }))
 }
 
-fn set_bits(fis: SetBits) -> [u8; 8]
-    ensures { result ≡ set_bits_bytes fis }
+/// A Set Device Bits FIS with a status, an error and the tags that are done.
+fn set_bits(status: u8, error: u8, sactive: u32) -> [u8; 8]
+    requires { bit_and status 0x77 ≡ status }
+    ensures { result ≡ set_bits_bytes (done_fis status error sactive) }
 {
-    bytes_of(&Fis::SetBits(fis))
+    bytes_of(&Fis::SetBits(SetBits {
+        i: true,
+        status,
+        error,
+        sactive,
+    }))
 }
 
 /// A queued command is accepted.
 pub(super) fn accepted() -> [u8; 20]
     ensures { result ≡ accepted_bytes }
 {
-    register(D2h {
-        i: false,
-        status: READY,
-        error: 0,
-        lba: 0,
-        device: 0,
-        count: 0,
-    })
-}
-
-/// A command is refused with an error, at an LBA.
-fn refused(error: u8, lba: u64) -> [u8; 20]
-    requires { lba < 2 ^ 48 }
-    ensures { result ≡ d2h_bytes (refused_fis error lba) }
-{
-    register(D2h {
-        i: true,
-        status: FAILED,
-        error,
-        lba,
-        device: 0,
-        count: 0,
-    })
+    register(false, READY, 0, 0)
 }
 
 /// A command is refused with ABRT.
 pub(super) fn aborted() -> [u8; 20]
     ensures { result ≡ aborted_bytes }
 {
-    refused(ABRT, 0)
+    register(true, FAILED, ABRT, 0)
 }
 
 /// A command that passes the last sector is refused with IDNF.
@@ -82,21 +76,14 @@ pub(super) fn not_found(lba: u64) -> [u8; 20]
     requires { lba < 2 ^ 48 }
     ensures { result ≡ not_found_bytes lba }
 {
-    refused(IDNF, lba)
+    register(true, FAILED, IDNF, lba)
 }
 
 /// A flush is done.
 pub(super) fn flushed() -> [u8; 20]
     ensures { result ≡ flushed_bytes }
 {
-    register(D2h {
-        i: true,
-        status: READY,
-        error: 0,
-        lba: 0,
-        device: 0,
-        count: 0,
-    })
+    register(true, READY, 0, 0)
 }
 
 /// 512 bytes come by PIO.
@@ -135,22 +122,12 @@ pub(super) fn completed(tag: u8) -> [u8; 8]
     requires { tag < 32 }
     ensures { result ≡ completed_bytes tag }
 {
-    set_bits(SetBits {
-        i: true,
-        status: READY,
-        error: 0,
-        sactive: place(tag),
-    })
+    set_bits(READY, 0, place(tag))
 }
 
 /// A command failed, and none is completed.
 pub(super) fn failed(error: u8) -> [u8; 8]
     ensures { result ≡ failed_bytes error }
 {
-    set_bits(SetBits {
-        i: true,
-        status: FAILED,
-        error,
-        sactive: 0,
-    })
+    set_bits(FAILED, error, 0)
 }

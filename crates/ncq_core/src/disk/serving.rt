@@ -1,7 +1,7 @@
 //! How the disk ends a command that is outstanding: by serving it, or by an error, which a page of the log tells.
 
-ghost use Rattle.std.specs.Prelude.{◌≡◌, ◌≤◌, None, Some, length, IfOk, IfErr, IfSome, OnOk, OnErr, IsSome, IsSomeAnd};
-ghost use Rattle.ncq_core.specs.DiskState.{IsDisk, IsOutstanding, command_of};
+ghost use Rattle.std.specs.Prelude.{◌≡◌, ◌+◌, ◌<◌, ◌≤◌, slice_set, None, Some, length, IfOk, IfErr, IfSome, OnOk, OnErr, IsSome, IsSomeAnd};
+ghost use Rattle.ncq_core.specs.DiskState.{IsDisk, IsOutstanding, command_of, disk_sectors};
 ghost use Rattle.ncq_core.specs.DiskFis.{setup_bytes, completed_bytes, failed_bytes};
 ghost use Rattle.ncq_core.specs.Verdict.{stopped_by};
 ghost use Rattle.ncq_core.specs.Log.{log_page};
@@ -42,8 +42,8 @@ impl<A: Allocator> Disk<A> {
     {
         let command = self.outstanding(tag)?;
         host.setup(&dma_setup(&command));
-        move_data(host, &command, self.image.as_mut_slice());
-        self.commands[usize::from(tag)] = None;
+        self.move_sectors(&command, host);
+        self.free(tag);
         Ok(completed(tag))
     }
 
@@ -89,5 +89,28 @@ impl<A: Allocator> Disk<A> {
             Some(command) => Ok(command),
             None => Err(ServeFault::NotAccepted),
         }
+    }
+
+    /// Moves the sectors of a command between the image and the host. Nothing else of the disk changes.
+    #[tactic(auto, using(crate::proofs::DiskLemmas::is_disk_moved))]
+    fn move_sectors<H: Host>(&mut self, command: &Queued, host: &mut H)
+        requires sectors { command.now.lba + command.now.sectors ≤ disk_sectors self.old }
+        requires start { H.offset host.old ≡ 0 }
+        requires room { byte_count command.now ≤ length (H.text host.old) }
+        ensures state { self.new ≡ record self.old { image = self.new.image } }
+        ensures data { HasMoved command.now self.old.image self.new.image (H.text host.old) (H.text host.new) }
+        ensures offset { H.offset host.new ≡ byte_count command.now }
+        ensures setup { H.last_setup host.new ≡ H.last_setup host.old }
+        ensures others { H.keeps host.old host.new }
+    {
+        move_data(host, command, self.image.as_mut_slice());
+    }
+
+    /// Ends the command at a tag. The others stay.
+    fn free(&mut self, tag: u8)
+        requires { tag < 32 }
+        ensures { self.new ≡ record self.old { commands = slice_set self.old.commands tag None } }
+    {
+        self.commands[usize::from(tag)] = None;
     }
 }
