@@ -6,12 +6,9 @@ use Rattle.std.specs.Option.{is_some, IfSome}
 use Rattle.word_bits.specs.Places.{places}
 use Rattle.word_bits.proofs.PlacesLemmas.{same_sets, length-places, has_place-places}
 use Rattle.sata_fis.specs.Fields.{QueuedFields}
-use Rattle.ncq_core.specs.declared.serve_fault.ServeFault.{ServeFault}
-use Rattle.ncq_core.specs.declared.serve_fault.ServeFault.TheVariants.{Stopped, NotAccepted}
-use Rattle.std.specs.Bool.{if◌then◌else◌}
-use Rattle.ncq_core.specs.DiskState.{DiskState, DiskError, IsDisk, IsOutstanding, IsStanding, disk_sectors, command_of, no_commands, new_disk}
+use Rattle.ncq_core.specs.DiskState.{DiskState, DiskError, IsDisk, IsOutstanding, IsStanding, disk_sectors, command_of, no_commands}
 use Rattle.ncq_core.proofs.MovingLemmas.{whole_write}
-use Rattle.ncq_core.specs.Serving.{served, serve_fault, has_sector, byte_count}
+use Rattle.ncq_core.specs.Serving.{has_sector, byte_count}
 
 pub length-no_commands : length no_commands ≡ 32
 unfolding no_commands
