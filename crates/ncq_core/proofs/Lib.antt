@@ -10,3 +10,6 @@ pub mod EntryLemmas
 pub mod AnsweredLemmas
 pub mod OwedLemmas
 pub mod PartLemmas
+pub mod MovingLemmas
+pub mod DiskLemmas
+pub mod PageLemmas

@@ -1,4 +1,5 @@
 //! Laws: each function is empty, and its clause holds of all journals.
+ghost use Rattle.ncq_core.specs.DiskLaws.{CommandIsSpelled, AnswersAreTheseBytes, AnswersSpell, LogAddsUp};
 ghost use Rattle.ncq_core.specs.Laws.{LawfulAtEach, FreePastDepth, OwnedHasRequest, RequestIsItsIssue, AnsweredByPhase, OwedIsFew, OwedMoves, WritesItsSectors, OthersWriteNothing, CompletedIsAnswered, DeviceTagsInSact, CiInSact, TwoParts};
 
 /// A journal is lawful exactly where each of its entries was allowed by the entries before it.
@@ -50,4 +51,20 @@ pub fn outstanding_tags_are_active()
 /// after both is that of the later part over the image after the earlier one.
 pub fn a_journal_may_be_cut_where_all_tags_are_free()
     ensures { TwoParts }
+{}
+
+/// Bytes carry a command exactly where they spell a Register FIS - Host to Device whose C is 1.
+pub fn a_command_is_a_register_fis_with_c()
+    ensures { CommandIsSpelled }
+{}
+
+/// The bytes of the disk's answers one by one, and that each spells its FIS.
+pub fn the_disks_answers_are_these_bytes()
+    ensures bytes { AnswersAreTheseBytes }
+    ensures spell { AnswersSpell }
+{}
+
+/// The bytes of a page of log 10h add up to 0 modulo 256.
+pub fn a_log_page_adds_up_to_zero()
+    ensures { LogAddsUp }
 {}

@@ -5,9 +5,11 @@
 
 mod answer;
 mod bytes;
+mod disk;
 mod disk_fault;
 mod event;
 mod halted;
+mod host;
 mod journal;
 mod lawful;
 pub mod laws;
@@ -18,13 +20,17 @@ mod phase;
 mod plain;
 mod request;
 mod sector;
+mod serve_fault;
 mod tags;
+mod taken;
 
 pub use answer::{Answer, answer_of};
 pub use bytes::Bytes;
+pub use disk::Disk;
 pub use disk_fault::DiskFault;
 pub use event::Event;
 pub use halted::{is_busy, is_halted};
+pub use host::Host;
 pub use journal::{Journal, entry_in};
 pub use lawful::{is_allowed, is_lawful, is_proper};
 pub use op::Op;
@@ -34,7 +40,9 @@ pub use phase::{Phase, phase_of};
 pub use plain::Plain;
 pub use request::{Request, request_of};
 pub use sector::{is_covered, read_sectors, sector_in, sector_of, write_sectors};
+pub use serve_fault::ServeFault;
 pub use tags::{ci_of, device_tags_of, sact_of};
+pub use taken::Taken;
 
 #[cfg(test)]
 mod tests;

@@ -1,6 +1,6 @@
 //! The worked stories of the model, from events written by hand: orders, strangers, errors and recoveries.
 use crate::{
-    Bytes, Event, Journal, Op, Outcome, Phase, Plain, answer_of, ci_of, device_tags_of, is_allowed,
+    Bytes, Event, Op, Outcome, Phase, Plain, answer_of, ci_of, device_tags_of, is_allowed,
     is_lawful, owed_by, phase_of, sact_of, sector_of,
 };
 use std::alloc::{AllocError, Global};
@@ -389,25 +389,5 @@ fn a_queue_of_32_loses_one_command_and_serves_the_others(rt: HostRuntime) -> Res
     assert_eq!(rt; story.events.len(), 191);
     assert_eq!(rt; story.byte_at(17), Some(0));
     assert_eq!(rt; story.byte_at(16), Some(1));
-    Ok(())
-}
-
-#[test]
-fn a_journal_counts_its_entries_and_its_room(rt: HostRuntime) -> Result<(), Fail> {
-    let alloc = rt.alloc();
-    let mut journal = Journal::new(alloc);
-    assert!(rt; journal.is_empty());
-    journal.reserve(2)?;
-    if journal.room() == 2 {
-        journal.push_reserved(event_of(alloc, Write(5, 1, 7))?);
-    }
-    assert_eq!(rt; (journal.len(), journal.room()), (1, 1));
-    assert!(rt;
-        matches!(
-            journal.get(0),
-            Some(Event::Issue(5, Op::Write { lba: 1, .. }))
-        )
-    );
-    assert!(rt; journal.get(1).is_none());
     Ok(())
 }

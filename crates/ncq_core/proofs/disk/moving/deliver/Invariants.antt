@@ -1,0 +1,16 @@
+-- what has been sent so far
+use Rattle.std.proofs.Common.{◌≡◌, ◌-◌, ◌*◌, ◌/◌, ◌≤◌, ◌++◌, length, take, drop}
+use Rattle.ncq_core.proofs.disk.moving.deliver.Given as goal
+
+abbrev pub invariant-loop-sent : goal.invariant-loop-sent
+invariant-loop-sent g l = record {
+  within : l.sent ≤ length l.bytes;
+  whole : l.sent ≡ 512 * (l.sent / 512);
+  offset : g.H.Host.offset l.host ≡ l.sent;
+  text : g.H.Host.text l.host ≡ take l.sent l.bytes ++ drop l.sent (g.H.Host.text l.fn.host);
+  setup : g.H.Host.last_setup l.host ≡ g.H.Host.last_setup l.fn.host;
+  others : g.H.Host.keeps l.fn.host l.host;
+}
+
+abbrev pub decreases-loop-sent : goal.decreases-loop-sent
+decreases-loop-sent g l = length l.bytes - l.sent

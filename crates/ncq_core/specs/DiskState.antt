@@ -1,0 +1,75 @@
+-- The queueing disk as contracts see it (ACS-3, "Native Command Queuing feature set"): an image, the command of each tag
+-- or none, and the error that stands or none.
+use Rattle.std.specs.Prelude.{◌≡◌, ℕ, ◌+◌, ◌*◌, ◌/◌, ◌%◌, ◌^◌, ◌<◌, ◌≤◌, Bool, ◌||◌, nat_eq, nat_lt, if◌then◌else◌, List, length, map, replicate, Option, None, Some, is_some, slice_index_or}
+use Rattle.sata_fis.specs.Fields.{QueuedFields}
+use Rattle.ncq_core.specs.declared.disk_fault.DiskFault.{DiskFault}
+use Rattle.ncq_core.specs.declared.disk_fault.DiskFault.TheVariants.{BadSize, BadDepth}
+
+-- the error that stopped the disk: the tag of the command that failed, the error byte and the LBA of the failing sector
+pub record DiskError : Type 0 where
+  pub tag : ℕ
+  pub error : ℕ
+  pub lba : ℕ
+
+-- the bytes of all sectors, how many tags there are, the command outstanding at each of 32 tags, and the error
+pub record DiskState : Type 0 where
+  pub image : List ℕ
+  pub depth : ℕ
+  pub commands : List (Option QueuedFields)
+  pub error : Option DiskError
+
+-- how many sectors of 512 bytes the disk has
+abbrev pub disk_sectors : DiskState → ℕ
+disk_sectors disk = length disk.image / 512
+
+-- the command outstanding at a tag
+abbrev pub command_of : DiskState → ℕ → Option QueuedFields
+command_of disk tag = slice_index_or disk.commands tag None
+
+-- the tags at which a command is outstanding, as 32 truth values
+abbrev pub outstanding : DiskState → List Bool
+outstanding disk = map is_some disk.commands
+
+-- an error stands
+abbrev pub is_stopped : DiskState → Bool
+is_stopped disk = is_some disk.error
+
+-- no command at any of the 32 tags
+unfoldable pub no_commands : List (Option QueuedFields)
+no_commands = replicate 32 None
+
+-- a disk on which nothing has happened yet
+abbrev pub new_disk : List ℕ → ℕ → DiskState
+new_disk image depth = record { image = image; depth = depth; commands = no_commands; error = None }
+
+-- why no disk is made: the image is not 1 to 131,072 whole sectors, or the depth is not 1 to 32
+abbrev pub new_fault : List ℕ → ℕ → Option DiskFault
+new_fault image depth =
+    if nat_eq (length image) 0 || nat_lt 0 (length image % 512) || nat_lt 131072 (length image / 512) then Some BadSize
+    else if nat_eq depth 0 || nat_lt 32 depth then Some BadDepth
+    else None
+
+-- a command outstanding at a tag: its own, below the depth, and of at least one sector, all of them on the disk
+pub record IsOutstanding (disk : DiskState) (tag : ℕ) (q : QueuedFields) : Type 0 where
+  pub own : q.tag ≡ tag
+  pub below : tag < disk.depth
+  pub some : 1 ≤ q.sectors
+  pub fits : q.lba + q.sectors ≤ disk_sectors disk
+
+-- an error that the disk can have, which has ended every command
+pub record IsStanding (disk : DiskState) (e : DiskError) : Type 0 where
+  pub tag : e.tag < 32
+  pub code : e.error < 256
+  pub lba : e.lba < 2 ^ 48
+  pub none : disk.commands ≡ no_commands
+
+-- what holds of every disk
+pub record IsDisk (disk : DiskState) : Type 0 where
+  pub whole : length disk.image ≡ 512 * disk_sectors disk
+  pub least : 1 ≤ disk_sectors disk
+  pub most : disk_sectors disk ≤ 131072
+  pub deep : 1 ≤ disk.depth
+  pub shallow : disk.depth ≤ 32
+  pub count : length disk.commands ≡ 32
+  pub each : (tag : ℕ) (q : QueuedFields) → command_of disk tag ≡ Some q → IsOutstanding disk tag q
+  pub stands : (e : DiskError) → disk.error ≡ Some e → IsStanding disk e

@@ -1,0 +1,164 @@
+mod answers;
+mod error;
+mod identify;
+mod log;
+mod moving;
+mod serving;
+mod taking;
+#[cfg(test)]
+mod tests;
+
+ghost use Rattle.std.specs.Prelude.{◌≡◌, ◌<◌, ◌^◌, None, Some, length, IfOk, IfErr};
+ghost use Rattle.word_bits.specs.Places.{bits};
+ghost use Rattle.ncq_core.specs.Image.{sector_at};
+ghost use Rattle.ncq_core.specs.DiskState.{IsDisk, disk_sectors, command_of, outstanding, is_stopped, new_disk, new_fault, no_commands};
+ghost use Rattle.ncq_core.specs.DiskFis.{pio_bytes, flushed_bytes};
+ghost use Rattle.ncq_core.specs.Verdict.{stopped_by};
+ghost use Rattle.ncq_core.specs.Identify.{identify_page};
+
+use crate::disk::error::DiskError;
+use crate::disk::identify::identify_page;
+use crate::disk_fault::DiskFault;
+use crate::sector::read_sectors;
+use sata_fis::Queued;
+use std::alloc::{Allocator, Global};
+use std::marker::Model;
+use word_bits::with_bit;
+
+/// A queueing disk over an image in memory (ACS-3, "Native Command Queuing feature set"). Commands are taken by their
+/// FISes, and served or failed in any order. Contracts see a `DiskState`, of which `IsDisk` holds.
+#[derive(Drop)]
+pub struct Disk<A: Allocator = Global> {
+    image: Vec<u8, A>,
+    depth: u32,
+    commands: [Option<Queued>; 32],
+    error: Option<DiskError>,
+}
+
+impl<A: Allocator> Model for Disk<A> {
+    ghost use Rattle.ncq_core.specs.DiskState.{DiskState, IsDisk};
+
+    ghost Value = { DiskState };
+
+    ghost view = { λ d. record { image = d.image.items; depth = d.depth; commands = d.commands; error = d.error } };
+
+    ghost invariant = { λ d. IsDisk (record { image = d.image.items; depth = d.depth; commands = d.commands; error = d.error }) };
+}
+
+impl<A: Allocator> Disk<A> {
+    /// A disk over this image, with nothing outstanding and no error. It takes no memory.
+    ///
+    /// # Errors
+    /// `BadSize` where the image is not 1 to 131,072 whole sectors of 512 bytes, `BadDepth` where the depth is not 1 to 32.
+    #[tactic(auto, using(crate::proofs::DiskLemmas::is_disk_new))]
+    pub fn new(image: Vec<u8, A>, depth: u32) -> Result<Self, DiskFault>
+        ensures ok { IfOk result (λ d. (new_fault image.items depth ≡ None) × (d ≡ new_disk image.items depth)) }
+        ensures err { IfErr result (λ e. new_fault image.items depth ≡ Some e) }
+    {
+        let len = image.len();
+        if len == 0 || len % 512 != 0 || len / 512 > 131_072 {
+            return Err(DiskFault::BadSize);
+        }
+        if depth == 0 || depth > 32 {
+            return Err(DiskFault::BadDepth);
+        }
+        Ok(Disk {
+            image,
+            depth,
+            commands: no_commands(),
+            error: None,
+        })
+    }
+
+    /// Whether an error stands. `read_log` ends it.
+    pub fn stopped(&self) -> bool
+        ensures { result ≡ is_stopped self.now }
+    {
+        self.error.is_some()
+    }
+
+    /// How many sectors of 512 bytes the image has.
+    pub fn sectors(&self) -> u32
+        ensures sectors { result ≡ disk_sectors self.now }
+        ensures disk { IsDisk self.now }
+    {
+        (self.image.len() / 512) as u32
+    }
+
+    /// How many tags there are.
+    pub fn depth(&self) -> u32
+        ensures depth { result ≡ self.now.depth }
+        ensures disk { IsDisk self.now }
+    {
+        self.depth
+    }
+
+    /// The word with the bit of each tag at which a command is outstanding.
+    #[tactic(auto, using(crate::proofs::SetLemmas::among_none, crate::proofs::SetLemmas::among_with, crate::proofs::SetLemmas::among_without))]
+    pub fn tags(&self) -> u32
+        ensures { bits result ≡ outstanding self.now }
+    {
+        let mut word = 0;
+        for tag in 0..32u8 {
+            if self.commands[usize::from(tag)].is_some() {
+                word = with_bit(word, tag);
+            }
+        }
+        word
+    }
+
+    /// Copies a sector, whose LBA is below `sectors`, into 512 bytes.
+    pub fn copy(&self, lba: u64, out: &mut [u8])
+        requires sector { lba < disk_sectors self.now }
+        requires room { length out.old ≡ 512 }
+        ensures { out.new ≡ sector_at self.now.image lba }
+    {
+        read_sectors(self.image.as_slice(), lba, out);
+    }
+
+    /// The page that IDENTIFY DEVICE reads (ACS-3, "IDENTIFY DEVICE").
+    pub fn identify(&self) -> [u8; 512]
+        ensures { result ≡ identify_page (disk_sectors self.now) self.now.depth }
+    {
+        identify_page(self.sectors(), self.depth())
+    }
+
+    /// The PIO Setup FIS before the 512 bytes of a page.
+    pub fn pio_setup() -> [u8; 20]
+        ensures { result ≡ pio_bytes }
+    {
+        answers::pio_setup()
+    }
+
+    /// The Register FIS - Device to Host that ends a FLUSH CACHE EXT.
+    pub fn flushed() -> [u8; 20]
+        ensures { result ≡ flushed_bytes }
+    {
+        answers::flushed()
+    }
+
+    /// The command outstanding at a tag.
+    fn command(&self, tag: u8) -> Option<Queued>
+        ensures { result ≡ command_of self.now tag }
+    {
+        self.commands.get(usize::from(tag)).copied().flatten()
+    }
+
+    /// Lets an error stand, which ends every command.
+    fn stop(&mut self, tag: u8, error: u8, lba: u64)
+        requires tag { tag < 32 }
+        requires lba { lba < 2 ^ 48 }
+        ensures { self.new ≡ stopped_by self.old (record { tag = tag; error = error; lba = lba }) }
+    {
+        self.commands = no_commands();
+        self.error = Some(DiskError { tag, error, lba });
+    }
+}
+
+/// No command at any of the 32 tags.
+#[tactic(auto, unfolding(crate::specs::DiskState::no_commands))]
+fn no_commands() -> [Option<Queued>; 32]
+    ensures { result ≡ no_commands }
+{
+    [None; 32]
+}

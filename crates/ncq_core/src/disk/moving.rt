@@ -1,0 +1,154 @@
+//! Data FISes between the disk and a host (Serial ATA, "Data FIS" and "DMA Activate FIS"). Each has 8,192 bytes of
+//! payload, the last one the rest. Every byte is copied once here: into a Data FIS, or out of one.
+
+ghost use Rattle.std.specs.Prelude.{◌≡◌, ◌+◌, ◌*◌, ◌/◌, ◌%◌, ◌≤◌, ◌++◌, length, take, drop, slice_range};
+ghost use Rattle.std.specs.List.{replace_range};
+ghost use Rattle.sata_fis.specs.Payload.{IsPayload};
+ghost use Rattle.ncq_core.specs.Serving.{HasMoved, IsRead, IsWritten, byte_count};
+
+use crate::host::Host;
+use sata_fis::{Queued, data_head};
+
+/// The most bytes that one Data FIS carries.
+const MOST_PAYLOAD: usize = 8192;
+
+/// The bytes of a DMA Activate.
+const ACTIVATE: [u8; 4] = [0x39, 0, 0, 0];
+
+/// Room for the largest Data FIS.
+fn data_room() -> [u8; 8196]
+    ensures { length result ≡ 8196 }
+{
+    [0; 8196]
+}
+
+/// Sends a payload in one Data FIS, which is put together in `room`.
+fn deliver_one<H: Host>(host: &mut H, room: &mut [u8], payload: &[u8])
+    requires room { length room.old ≡ 8196 }
+    requires payload { IsPayload payload.now }
+    requires text { H.offset host.old + length payload.now ≤ length (H.text host.old) }
+    ensures text { H.text host.new ≡ replace_range (H.text host.old) (H.offset host.old) (H.offset host.old + length payload.now) payload.now }
+    ensures offset { H.offset host.new ≡ H.offset host.old + length payload.now }
+    ensures setup { H.last_setup host.new ≡ H.last_setup host.old }
+    ensures others { H.keeps host.old host.new }
+{
+    let fis = &mut room[..4 + payload.len()];
+    fis[..4].copy_from_slice(&data_head());
+    fis[4..].copy_from_slice(payload);
+    host.deliver(fis);
+}
+
+/// Fills `out` by one Data FIS, for which a DMA Activate asks and which comes into `room`.
+fn fetch_one<H: Host>(host: &mut H, room: &mut [u8], out: &mut [u8])
+    requires room { length room.old ≡ 8196 }
+    requires payload { IsPayload out.old }
+    requires text { H.offset host.old + length out.old ≤ length (H.text host.old) }
+    ensures out { out.new ≡ slice_range (H.text host.old) (H.offset host.old) (H.offset host.old + length out.old) }
+    ensures text { H.text host.new ≡ H.text host.old }
+    ensures offset { H.offset host.new ≡ H.offset host.old + length out.old }
+    ensures setup { H.last_setup host.new ≡ H.last_setup host.old }
+    ensures others { H.keeps host.old host.new }
+{
+    let fis = &mut room[..4 + out.len()];
+    host.activate(&ACTIVATE, fis);
+    out.copy_from_slice(&fis[4..]);
+}
+
+/// Puts whole sectors at the beginning of the host's text.
+pub(super) fn deliver<H: Host>(host: &mut H, bytes: &[u8])
+    requires whole { length bytes.now ≡ 512 * (length bytes.now / 512) }
+    requires start { H.offset host.old ≡ 0 }
+    requires room { length bytes.now ≤ length (H.text host.old) }
+    ensures text { H.text host.new ≡ bytes.now ++ drop (length bytes.now) (H.text host.old) }
+    ensures offset { H.offset host.new ≡ length bytes.now }
+    ensures setup { H.last_setup host.new ≡ H.last_setup host.old }
+    ensures others { H.keeps host.old host.new }
+{
+    let mut room = data_room();
+    let mut sent = 0;
+    while sent < bytes.len() {
+        let end = bytes.len().min(sent + MOST_PAYLOAD);
+        deliver_one(host, &mut room, &bytes[sent..end]);
+        sent = end;
+    }
+}
+
+/// Makes whole sectors the first bytes of the host's text.
+pub(super) fn fetch<H: Host>(host: &mut H, out: &mut [u8])
+    requires whole { length out.old ≡ 512 * (length out.old / 512) }
+    requires start { H.offset host.old ≡ 0 }
+    requires room { length out.old ≤ length (H.text host.old) }
+    ensures out { out.new ≡ take (length out.old) (H.text host.old) }
+    ensures text { H.text host.new ≡ H.text host.old }
+    ensures offset { H.offset host.new ≡ length out.old }
+    ensures setup { H.last_setup host.new ≡ H.last_setup host.old }
+    ensures others { H.keeps host.old host.new }
+{
+    let mut room = data_room();
+    let mut filled = 0;
+    while filled < out.len() {
+        let end = out.len().min(filled + MOST_PAYLOAD);
+        fetch_one(host, &mut room, &mut out[filled..end]);
+        filled = end;
+    }
+}
+
+/// Where a command's first sector begins in an image.
+fn first_byte(command: &Queued) -> usize
+    ensures { result ≡ 512 * command.now.lba }
+{
+    command.lba as usize * 512
+}
+
+/// How many bytes a command moves.
+fn byte_count(command: &Queued) -> usize
+    ensures { result ≡ byte_count command.now }
+{
+    command.sectors as usize * 512
+}
+
+/// Moves the data of a read: its sectors stand at the beginning of the host's text afterwards.
+#[tactic(auto, using(crate::proofs::MovingLemmas::read_moves))]
+fn read_data<H: Host>(host: &mut H, command: &Queued, image: &[u8])
+    requires sectors { 512 * (command.now.lba + command.now.sectors) ≤ length image.now }
+    requires start { H.offset host.old ≡ 0 }
+    requires room { byte_count command.now ≤ length (H.text host.old) }
+    ensures data { IsRead command.now image.now image.now (H.text host.old) (H.text host.new) }
+    ensures offset { H.offset host.new ≡ byte_count command.now }
+    ensures setup { H.last_setup host.new ≡ H.last_setup host.old }
+    ensures others { H.keeps host.old host.new }
+{
+    let start = first_byte(command);
+    deliver(host, &image[start..start + byte_count(command)]);
+}
+
+/// Moves the data of a write: its sectors are the first bytes of the host's text afterwards.
+fn write_data<H: Host>(host: &mut H, command: &Queued, image: &mut [u8])
+    requires sectors { 512 * (command.now.lba + command.now.sectors) ≤ length image.old }
+    requires start { H.offset host.old ≡ 0 }
+    requires room { byte_count command.now ≤ length (H.text host.old) }
+    ensures data { IsWritten command.now image.old image.new (H.text host.old) (H.text host.new) }
+    ensures offset { H.offset host.new ≡ byte_count command.now }
+    ensures setup { H.last_setup host.new ≡ H.last_setup host.old }
+    ensures others { H.keeps host.old host.new }
+{
+    let start = first_byte(command);
+    fetch(host, &mut image[start..start + byte_count(command)]);
+}
+
+/// Moves the data of a command between an image and the host, whose last DMA Setup is the command's.
+pub(super) fn move_data<H: Host>(host: &mut H, command: &Queued, image: &mut [u8])
+    requires sectors { 512 * (command.now.lba + command.now.sectors) ≤ length image.old }
+    requires start { H.offset host.old ≡ 0 }
+    requires room { byte_count command.now ≤ length (H.text host.old) }
+    ensures data { HasMoved command.now image.old image.new (H.text host.old) (H.text host.new) }
+    ensures offset { H.offset host.new ≡ byte_count command.now }
+    ensures setup { H.last_setup host.new ≡ H.last_setup host.old }
+    ensures others { H.keeps host.old host.new }
+{
+    if command.write {
+        write_data(host, command, image);
+    } else {
+        read_data(host, command, image);
+    }
+}

@@ -1,0 +1,116 @@
+//! How the disk ends a command that is outstanding: by serving it, or by an error, which a page of the log tells.
+
+ghost use Rattle.std.specs.Prelude.{◌≡◌, ◌+◌, ◌<◌, ◌≤◌, slice_set, None, Some, length, IfOk, IfErr, IfSome, OnOk, OnErr, IsSome, IsSomeAnd};
+ghost use Rattle.ncq_core.specs.DiskState.{IsDisk, IsOutstanding, command_of, disk_sectors};
+ghost use Rattle.ncq_core.specs.DiskFis.{setup_bytes, completed_bytes, failed_bytes};
+ghost use Rattle.ncq_core.specs.Verdict.{stopped_by};
+ghost use Rattle.ncq_core.specs.Log.{log_page};
+ghost use Rattle.ncq_core.specs.Serving.{HasMoved, answered, byte_count, fail_fault, has_sector, serve_fault, served};
+
+use crate::disk::Disk;
+use crate::disk::answers::{completed, dma_setup, failed};
+use crate::disk::log::log_page;
+use crate::disk::moving::move_data;
+use crate::host::Host;
+use crate::serve_fault::ServeFault;
+use sata_fis::Queued;
+use std::alloc::Allocator;
+
+/// Whether the sector is one that the command reads or writes.
+fn has_sector(command: &Queued, lba: u64) -> bool
+    ensures { result ≡ has_sector command.now lba }
+{
+    command.lba <= lba && lba - command.lba < u64::from(command.sectors)
+}
+
+impl<A: Allocator> Disk<A> {
+    /// Serves the command outstanding at a tag: one DMA Setup, then its data. A read puts its sectors at the beginning of
+    /// the host's text; a write makes its sectors the first bytes of that text. The answer is a Set Device Bits FIS.
+    ///
+    /// # Errors
+    /// `Stopped` where an error stands, `NotAccepted` where nothing is outstanding at the tag.
+    pub fn serve<H: Host>(&mut self, tag: u8, host: &mut H) -> Result<[u8; 8], ServeFault>
+        requires { IfSome (command_of self.old tag) (λ q. byte_count q ≤ length (H.text host.old)) }
+        ensures answer { result ≡ answered (serve_fault self.old tag) (completed_bytes tag) }
+        ensures state { OnOk result (self.new ≡ served self.old tag self.new.image) }
+        ensures data { OnOk result (IsSomeAnd (command_of self.old tag) (λ q. HasMoved q self.old.image self.new.image (H.text host.old) (H.text host.new))) }
+        ensures setup { OnOk result (IsSomeAnd (command_of self.old tag) (λ q. H.last_setup host.new ≡ setup_bytes q)) }
+        ensures offset { OnOk result (IsSomeAnd (command_of self.old tag) (λ q. H.offset host.new ≡ byte_count q)) }
+        ensures others { H.keeps host.old host.new }
+        ensures disk_at_err { OnErr result (self.new ≡ self.old) }
+        ensures host_at_err { OnErr result (host.new ≡ host.old) }
+    {
+        let command = self.outstanding(tag)?;
+        host.setup(&dma_setup(&command));
+        self.move_sectors(&command, host);
+        self.free(tag);
+        Ok(completed(tag))
+    }
+
+    /// Fails the command outstanding at a tag, with an error at one of its sectors, `at`. The error stands, and has ended
+    /// every command. No sector changes. The answer is a Set Device Bits FIS.
+    ///
+    /// # Errors
+    /// `Stopped` where an error stands, `NotAccepted` where nothing is outstanding at the tag, `OutsideCommand` where `at`
+    /// is not a sector of its command.
+    #[tactic(auto, using(crate::proofs::DiskLemmas::sector_fits))]
+    pub fn fail(&mut self, tag: u8, error: u8, at: u64) -> Result<[u8; 8], ServeFault>
+        ensures answer { result ≡ answered (fail_fault self.old tag at) (failed_bytes error) }
+        ensures state { OnOk result (self.new ≡ stopped_by self.old (record { tag = tag; error = error; lba = at })) }
+        ensures err { OnErr result (self.new ≡ self.old) }
+    {
+        if !has_sector(&self.outstanding(tag)?, at) {
+            return Err(ServeFault::OutsideCommand);
+        }
+        self.stop(tag, error, at);
+        Ok(failed(error))
+    }
+
+    /// Answers page 0 of log 10h, which tells the error that stands, and ends the error.
+    pub fn read_log(&mut self) -> [u8; 512]
+        requires { IsSome self.old.error }
+        ensures page { IsSomeAnd self.old.error (λ e. result ≡ log_page e) }
+        ensures state { self.new ≡ record self.old { error = None } }
+    {
+        log_page(&self.error.take().unwrap())
+    }
+
+    /// The command outstanding at a tag, while no error stands.
+    fn outstanding(&self, tag: u8) -> Result<Queued, ServeFault>
+        ensures ok { IfOk result (λ q. (command_of self.now tag ≡ Some q) × IsOutstanding self.now tag q) }
+        ensures none { OnOk result (serve_fault self.now tag ≡ None) }
+        ensures disk { IsDisk self.now }
+        ensures err { IfErr result (λ e. serve_fault self.now tag ≡ Some e) }
+    {
+        if self.error.is_some() {
+            return Err(ServeFault::Stopped);
+        }
+        match self.command(tag) {
+            Some(command) => Ok(command),
+            None => Err(ServeFault::NotAccepted),
+        }
+    }
+
+    /// Moves the sectors of a command between the image and the host. Nothing else of the disk changes.
+    #[tactic(auto, using(crate::proofs::DiskLemmas::is_disk_moved))]
+    fn move_sectors<H: Host>(&mut self, command: &Queued, host: &mut H)
+        requires sectors { command.now.lba + command.now.sectors ≤ disk_sectors self.old }
+        requires start { H.offset host.old ≡ 0 }
+        requires room { byte_count command.now ≤ length (H.text host.old) }
+        ensures state { self.new ≡ record self.old { image = self.new.image } }
+        ensures data { HasMoved command.now self.old.image self.new.image (H.text host.old) (H.text host.new) }
+        ensures offset { H.offset host.new ≡ byte_count command.now }
+        ensures setup { H.last_setup host.new ≡ H.last_setup host.old }
+        ensures others { H.keeps host.old host.new }
+    {
+        move_data(host, command, self.image.as_mut_slice());
+    }
+
+    /// Ends the command at a tag. The others stay.
+    fn free(&mut self, tag: u8)
+        requires { tag < 32 }
+        ensures { self.new ≡ record self.old { commands = slice_set self.old.commands tag None } }
+    {
+        self.commands[usize::from(tag)] = None;
+    }
+}

@@ -1,0 +1,56 @@
+ghost use Rattle.std.specs.Prelude.{◌≡◌, ℕ, ◌+◌, ◌≤◌, ◌++◌, List, length, drop, slice_range};
+ghost use Rattle.std.specs.List.{replace_range};
+ghost use Rattle.sata_fis.specs.declared.fis.Fis.TheVariants.{Data, DmaActivate};
+ghost use Rattle.sata_fis.specs.Encoding.{data_head_bytes};
+ghost use Rattle.sata_fis.specs.Payload.{IsPayload};
+ghost use Rattle.sata_fis.specs.Spelling.{Spells};
+
+/// The memory that a command's data come from and go to (Serial ATA, "DMA Setup FIS", "DMA Activate FIS" and
+/// "Data FIS"). A host has a text, which is a list of bytes, the last DMA Setup that came, and an offset: the place
+/// in the text at which the next Data FIS begins.
+pub trait Host {
+    // the bytes that a read fills and a write takes
+    ghost text: { Self → List ℕ };
+
+    // the bytes of the last DMA Setup
+    ghost last_setup: { Self → List ℕ };
+
+    // how many bytes of the text have moved since the last DMA Setup
+    ghost offset: { Self → ℕ };
+
+    // the second is the first but for its text, its last DMA Setup and its offset
+    ghost keeps: { Self → Self → Type 0 };
+
+    /// Takes a DMA Setup. The next Data FIS begins at the beginning of the text.
+    fn setup(&mut self, fis: &[u8; 28])
+        ensures setup { last_setup self.new ≡ fis.now }
+        ensures offset { offset self.new ≡ 0 }
+        ensures text { text self.new ≡ text self.old }
+        ensures others { keeps self.old self.new };
+
+    /// Takes a whole Data FIS, and puts its payload at the offset.
+    fn deliver(&mut self, fis: &[u8])
+        requires data { Spells fis.now (Data (drop 4 fis.now)) }
+        requires room { offset self.old + length (drop 4 fis.now) ≤ length (text self.old) }
+        ensures text { text self.new ≡ replace_range (text self.old) (offset self.old) (offset self.old + length (drop 4 fis.now)) (drop 4 fis.now) }
+        ensures offset { offset self.new ≡ offset self.old + length (drop 4 fis.now) }
+        ensures setup { last_setup self.new ≡ last_setup self.old }
+        ensures others { keeps self.old self.new };
+
+    /// Takes a DMA Activate, and fills `out` with a whole Data FIS: 4 bytes of head, and the text from the offset on.
+    fn activate(&mut self, fis: &[u8; 4], out: &mut [u8])
+        requires activate { Spells fis.now DmaActivate }
+        requires data { IsPayload (drop 4 out.old) }
+        requires room { offset self.old + length (drop 4 out.old) ≤ length (text self.old) }
+        ensures out { out.new ≡ data_head_bytes ++ slice_range (text self.old) (offset self.old) (offset self.old + length (drop 4 out.old)) }
+        ensures text { text self.new ≡ text self.old }
+        ensures offset { offset self.new ≡ offset self.old + length (drop 4 out.old) }
+        ensures setup { last_setup self.new ≡ last_setup self.old }
+        ensures others { keeps self.old self.new };
+
+    // `keeps` is reflexive
+    ghost keeps_itself: { (a : Self) → keeps a a };
+
+    // `keeps` is transitive
+    ghost keeps_on: { (a b c : Self) → keeps a b → keeps b c → keeps a c };
+}
