@@ -40,17 +40,17 @@ HasTag w = (queued_of w).tag ≡ w.tag
 abbrev pub IsShort : WindowState → Type 0
 IsShort w = (queued_of w).sectors ≤ most_sectors
 
--- an entry names a run of whole words, wholly between the command table and the end of the window
-pub record IsEntry (w : WindowState) (e : EntryFields) : Type 0 where
+-- an entry names a run of whole words, wholly between two places of the window that begins at an address
+pub record IsEntry (start first last : ℕ) (e : EntryFields) : Type 0 where
   pub even : e.dba % 2 ≡ 0
   pub low : e.dbau ≡ 0
   pub odd : e.dbc % 2 ≡ 1
-  pub behind : base w.tag + table_end w ≤ e.dba
-  pub within : e.dba + e.dbc + 1 ≤ base w.tag + length w.bytes
+  pub behind : start + first ≤ e.dba
+  pub within : e.dba + e.dbc + 1 ≤ start + last
 
--- each entry of the PRDT is such an entry
+-- each entry of the PRDT does so between the end of the command table and the end of the window
 abbrev pub HasEntries : WindowState → Type 0
-HasEntries w = (i : ℕ) → i < (header_of w).prdtl → IsEntry w (entry_of w i)
+HasEntries w = (i : ℕ) → i < (header_of w).prdtl → IsEntry (base w.tag) (table_end w) (length w.bytes) (entry_of w i)
 
 -- 5. the entries name runs that share no byte and have just the command's bytes
 pub record HasList (w : WindowState) : Type 0 where

@@ -27,15 +27,20 @@ is_odd p = not (nat_eq (p.at % 2) 0) || not (nat_eq (p.len % 2) 0) || nat_eq p.l
 abbrev pub is_outside : ℕ → Piece → Bool
 is_outside n p = nat_lt p.at (entry_place n) || nat_lt most_bytes (end_of p)
 
+-- why pieces don't serve for a command of so many bytes
+abbrev pub list_refusal : List Piece → ℕ → Option BuildFault
+list_refusal ps bytes =
+    if nat_eq (length ps) 0 then Some NoPieces
+    else (if nat_lt 32 (length ps) then Some TooManyPieces
+    else (if list_any is_odd ps then Some OddPiece
+    else (if list_any (is_outside (length ps)) ps then Some PieceOutside
+    else (if not (are_apart ps) then Some PiecesOverlap
+    else (if not (nat_eq (total ps) bytes) then Some WrongTotal
+    else None)))))
+
 -- the first case that holds
 abbrev pub refusal : Work → List Piece → Option BuildFault
 refusal work ps =
     if has_bad_count work then Some BadCount
     else (if nat_le (2 ^ 48) (lba_of work) then Some BadLba
-    else (if nat_eq (length ps) 0 then Some NoPieces
-    else (if nat_lt 32 (length ps) then Some TooManyPieces
-    else (if list_any is_odd ps then Some OddPiece
-    else (if list_any (is_outside (length ps)) ps then Some PieceOutside
-    else (if not (are_apart ps) then Some PiecesOverlap
-    else (if not (nat_eq (total ps) (512 * sectors_of work)) then Some WrongTotal
-    else None)))))))
+    else list_refusal ps (512 * sectors_of work))
