@@ -1,7 +1,8 @@
 //! Why no window is built.
 
-ghost use Rattle.std.specs.Prelude.{◌≡◌, ◌*◌, ◌<◌, ◌^◌, Option, Some, length, if◌then◌else◌, IfSome};
-ghost use Rattle.ncq_core.specs.Work.{work_of, sectors_of};
+ghost use Rattle.std.specs.Prelude.{◌≡◌, ◌<◌, ◌≤◌, ◌^◌, length};
+ghost use Rattle.std.specs.List.{list_any};
+ghost use Rattle.ncq_core.specs.Work.{work_of};
 ghost use Rattle.ahci_table.specs.Refusal.{has_bad_count, is_ragged, is_odd, is_outside, list_refusal, refusal};
 
 use crate::defaults::MOST_SECTORS;
@@ -46,21 +47,36 @@ fn is_outside(entries: usize, piece: &Piece) -> bool
     u64::from(piece.at) < 0x80 + 16 * entries as u64 || end_of(piece) > MOST_BYTES
 }
 
+/// Whether some piece is odd.
+fn has_odd(pieces: &[Piece]) -> bool
+    ensures { result ≡ list_any is_odd pieces.now }
+{
+    pieces.iter().any(|piece| is_odd(piece))
+}
+
+/// Whether some piece is outside.
+fn has_outside(pieces: &[Piece]) -> bool
+    requires { length pieces.now ≤ 32 }
+    ensures { result ≡ list_any (is_outside (length pieces.now)) pieces.now }
+{
+    let entries = pieces.len();
+    pieces.iter().any(|piece| is_outside(entries, piece))
+}
+
 /// Why pieces don't serve for a command of so many bytes.
 fn list_refusal(pieces: &[Piece], bytes: u64) -> Option<BuildFault>
     ensures { result ≡ list_refusal pieces.now bytes }
 {
-    let count = pieces.len();
-    if count == 0 {
+    if pieces.is_empty() {
         return Some(BuildFault::NoPieces);
     }
-    if count > 32 {
+    if pieces.len() > 32 {
         return Some(BuildFault::TooManyPieces);
     }
-    if pieces.iter().any(|piece| is_odd(piece)) {
+    if has_odd(pieces) {
         return Some(BuildFault::OddPiece);
     }
-    if pieces.iter().any(|piece| is_outside(count, piece)) {
+    if has_outside(pieces) {
         return Some(BuildFault::PieceOutside);
     }
     if !are_apart(pieces) {
