@@ -1,18 +1,15 @@
 -- One run more, and all runs.
-use Rattle.std.proofs.Common.{◌≡◌, ℕ, ◌+◌, ◌-◌, ◌<◌, ◌≤◌, min, List, [], ◌∷◌, ◌++◌, length, take, drop, get_or, ap, sym, refl, ◌∙◌, arith}
-use Rattle.std.proofs.lemmas.List.{take_all, drop_all, append-nil, append_assoc, drop_more, at_drop_more, length-take-le, length-append, length-drop}
-use Rattle.std.proofs.lemmas.Slice.{take-put_mid}
-use borrow.Rule.Slice.PartMut.{put_mid}
-use Rattle.ahci_table.specs.declared.piece.Piece.{Piece}
-use Rattle.ahci_table.specs.Piece.{end_of}
-use Rattle.ahci_table.specs.Text.{joined, bytes_of}
-use Rattle.ahci_table.proofs.RunLemmas.{gather_more}
+use Rattle.std.proofs.Common.{◌≡◌, length, ap, sym, ◌∙◌, refl, arith, take, drop}
+use Rattle.ahci_table.specs.Text.{joined}
+use Rattle.ahci_table.proofs.GatherLemmas.{gathers_more, gathers_all}
 use Rattle.ahci_table.proofs.runs.gather.Goals as goal
 
 pub loop-piece-preserved : goal.loop-piece-preserved
 loop-piece-preserved c =
-    let i = c.loop-piece.piece-index in
-    let p = c.told-piece in ?
+    gathers_more c.args.pieces.now c.args.bytes.now c.args.offset c.loop-piece.piece-index c.loop-piece.skip c.loop-piece.done c.min-lead.result c.min-count.result c.loop-piece.out c.copy_from_slice.new.self _ _
+    c.loop-piece.invariant c.loop-piece-test.true refl (c.requires.inside c.loop-piece.piece-index _ c.loop-piece-test.true) c.min-lead.ensures c.min-count.ensures c.copy_from_slice.ensures.after
 
 pub returns : goal.returns
-returns c = ?
+returns c =
+    let all = gathers_all c.args.pieces.now c.args.bytes.now c.args.offset c.loop-piece.piece-index c.loop-piece.skip c.loop-piece.done c.loop-piece.out c.loop-piece.invariant c.loop-piece-test.false (let w = c.requires.within in let a = c.loop-piece.auto.out in omega arith) in
+    all ∙ ap (λ n. take n (drop c.args.offset (joined c.args.pieces.now c.args.bytes.now))) c.loop-piece.auto.out
