@@ -36,13 +36,13 @@ gathers_more pieces bytes offset i skip done lead count out run p d inv below is
     let next = put_mid done (done + count - done) out run in
     let same_len : length next ≡ length out = length-put done (done + count - done) out run (omega arith) (omega arith) in
     let more : joined (drop i pieces) bytes ≡ bytes_of p bytes ++ joined (drop (i + 1) pieces) bytes =
-        at_drop_more (λ ps. joined ps bytes) pieces i d below ∙ ap (λ q. bytes_of q bytes ++ joined (drop (i + 1) pieces) bytes) (sym is) in
+    at_drop_more (λ ps. joined ps bytes) pieces i d below ∙ ap (λ q. bytes_of q bytes ++ joined (drop (i + 1) pieces) bytes) (sym is) in
     let rest = drop (skip - lead) (joined (drop (i + 1) pieces) bytes) in
     let split : take (length out - done) (drop skip (joined (drop i pieces) bytes)) ≡ run ++ take (length out - (done + count)) rest =
-        ap (λ z. take (length out - done) (drop skip z)) more
-        ∙ part-append (length out - done) skip lead count (bytes_of p bytes) (joined (drop (i + 1) pieces) bytes) (l ∙ ap (min skip) (sym own)) (c ∙ ap (λ n. min (n - lead) (length out - done)) (sym own))
-        ∙ ap (λ z. z ++ take (length out - done - count) rest) (part_of_piece p lead count bytes (omega arith) ∙ sym copied)
-        ∙ ap (λ n. run ++ take n rest) (let e : length out - done - count ≡ length out - (done + count) = omega arith in e) in
+    ap (λ z. take (length out - done) (drop skip z)) more
+    ∙ part-append (length out - done) skip lead count (bytes_of p bytes) (joined (drop (i + 1) pieces) bytes) (l ∙ ap (min skip) (sym own)) (c ∙ ap (λ n. min (n - lead) (length out - done)) (sym own))
+    ∙ ap (λ z. z ++ take (length out - done - count) rest) (part_of_piece p lead count bytes (omega arith) ∙ sym copied)
+    ∙ ap (λ n. run ++ take n rest) (let e : length out - done - count ≡ length out - (done + count) = omega arith in e) in
     record {
       within = omega arith;
       part =
@@ -63,7 +63,7 @@ pub gathers_all : (pieces : List Piece) (bytes : List ℕ) (offset i skip done :
 gathers_all pieces bytes offset i skip done out inv end enough =
     let within = inv.within in
     let none : take (length out - done) (drop skip (joined (drop i pieces) bytes)) ≡ [] =
-        ap (λ ps. take (length out - done) (drop skip (joined ps bytes))) (drop_all i pieces end) ∙ nothing (length out - done) skip in
+    ap (λ ps. take (length out - done) (drop skip (joined ps bytes))) (drop_all i pieces end) ∙ nothing (length out - done) skip in
     let front : take done out ≡ take (length out) (drop offset (joined pieces bytes)) = sym (append-nil (take done out)) ∙ ap (λ z. take done out ++ z) (sym none) ∙ inv.part in
     let rest_len : length (drop offset (joined pieces bytes)) ≡ length (joined pieces bytes) - offset = length-drop offset (joined pieces bytes) in
     let full : length (take (length out) (drop offset (joined pieces bytes))) ≡ length out = length-take-le (length out) (drop offset (joined pieces bytes)) (omega arith) in

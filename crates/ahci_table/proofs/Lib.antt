@@ -1,3 +1,6 @@
 pub mod PartLemmas
 pub mod RunLemmas
 pub mod GatherLemmas
+pub mod PrdtLemmas
+pub mod WindowLemmas
+pub mod BuildLemmas

@@ -47,8 +47,8 @@ replaced_right skip from xs ys h =
     let rest = skip - length xs in
     let a : take skip (xs ++ ys) ≡ xs ++ take rest ys = take-append skip xs ys ∙ ap (λ z. z ++ take rest ys) (take_all skip xs h) in
     let b : drop n (xs ++ ys) ≡ drop (rest + length from) ys = drop-append n xs ys
-        ∙ ap (λ z. z ++ drop (n - length xs) ys) (drop_all n xs (omega arith))
-        ∙ ap (λ k. drop k ys) (let e : n - length xs ≡ rest + length from = omega arith in e) in
+    ∙ ap (λ z. z ++ drop (n - length xs) ys) (drop_all n xs (omega arith))
+    ∙ ap (λ k. drop k ys) (let e : n - length xs ≡ rest + length from = omega arith in e) in
     ap (λ z. z ++ from ++ drop n (xs ++ ys)) a
     ∙ ap (λ z. (xs ++ take rest ys) ++ from ++ z) b
     ∙ append_assoc (xs ++ take rest ys) from (drop (rest + length from) ys)
@@ -61,8 +61,8 @@ replaced_across skip count from xs ys e h =
     let cut : length (take count from) ≡ count = length-take-le count from h in
     let left : length (drop count from) ≡ length from - count = length-drop count from in
     let a : drop n (xs ++ ys) ≡ drop (length from - count) ys = drop-append n xs ys
-        ∙ ap (λ z. z ++ drop (n - length xs) ys) (drop_all n xs (omega arith))
-        ∙ ap (λ k. drop k ys) (let e : n - length xs ≡ length from - count = omega arith in e) in
+    ∙ ap (λ z. z ++ drop (n - length xs) ys) (drop_all n xs (omega arith))
+    ∙ ap (λ k. drop k ys) (let e : n - length xs ≡ length from - count = omega arith in e) in
     let b : drop (skip + length (take count from)) xs ≡ [] = drop_all (skip + length (take count from)) xs (omega arith) in
     let c : drop (0 + length (drop count from)) ys ≡ drop (length from - count) ys = ap (λ k. drop k ys) (let e : 0 + length (drop count from) ≡ length from - count = omega arith in e) in
     let rest = drop (length from - count) ys in
@@ -87,23 +87,23 @@ replaced-append skip lead count from xs ys l c =
             let zero_left : skip - lead ≡ 0 = omega arith in
             replaced_left skip from xs ys (omega arith)
             ∙ sym (ap (λ k. replaced k (take count from) xs ++ replaced (skip - lead) (drop count from) ys) here
-              ∙ ap (λ z. replaced skip z xs ++ replaced (skip - lead) (drop count from) ys) all
-              ∙ ap (λ k. replaced skip from xs ++ replaced k (drop count from) ys) zero_left
-              ∙ ap (λ z. replaced skip from xs ++ replaced 0 z ys) none)
+            ∙ ap (λ z. replaced skip z xs ++ replaced (skip - lead) (drop count from) ys) all
+            ∙ ap (λ k. replaced skip from xs ++ replaced k (drop count from) ys) zero_left
+            ∙ ap (λ z. replaced skip from xs ++ replaced 0 z ys) none)
         | inr goes_on ↦
             let here : lead ≡ skip = omega arith in
             let zero_left : skip - lead ≡ 0 = omega arith in
             replaced_across skip count from xs ys (omega arith) (omega arith)
             ∙ sym (ap (λ k. replaced k (take count from) xs ++ replaced (skip - lead) (drop count from) ys) here
-              ∙ ap (λ k. replaced skip (take count from) xs ++ replaced k (drop count from) ys) zero_left)
+            ∙ ap (λ k. replaced skip (take count from) xs ++ replaced k (drop count from) ys) zero_left)
       ]
       | inr behind ↦
           let end : lead ≡ length xs = omega arith in
           let none : count ≡ 0 = omega arith in
           replaced_right skip from xs ys behind
           ∙ sym (ap (λ k. replaced lead (take k from) xs ++ replaced (skip - lead) (drop k from) ys) none
-            ∙ ap (λ k. replaced k [] xs ++ replaced (skip - k) from ys) end
-            ∙ ap (λ z. z ++ replaced (skip - length xs) from ys) (whole xs))
+          ∙ ap (λ k. replaced k [] xs ++ replaced (skip - k) from ys) end
+          ∙ ap (λ z. z ++ replaced (skip - length xs) from ys) (whole xs))
     ]
   where
     whole : (zs : List ℕ) → replaced (length zs) [] zs ≡ zs
@@ -123,20 +123,20 @@ part-put_mid at len lead count xs ys c within inside =
     let lead_len : length (take lead part) ≡ lead = length-take-le lead part (omega arith) in
     let rest_is : rest ≡ drop (lead + count) part = drop-drop count (at + lead) xs ∙ ap (λ k. drop k xs) (let e : at + lead + count ≡ at + (lead + count) = omega arith in e) ∙ sym (drop-drop (lead + count) at xs) in
     let a : drop at (put_mid (at + lead) count xs ys) ≡ take lead part ++ (ys ++ rest) =
-        drop-append-le at (take (at + lead) xs) (ys ++ rest) (omega arith) ∙ ap (λ z. z ++ (ys ++ rest)) (drop-take at lead xs) in
+    drop-append-le at (take (at + lead) xs) (ys ++ rest) (omega arith) ∙ ap (λ z. z ++ (ys ++ rest)) (drop-take at lead xs) in
     let b : take len (take lead part ++ (ys ++ rest)) ≡ take lead part ++ take (len - lead) (ys ++ rest) =
-        take-append len (take lead part) (ys ++ rest)
-        ∙ ap (λ z. z ++ take (len - length (take lead part)) (ys ++ rest)) (take_all len (take lead part) (omega arith))
-        ∙ ap (λ k. take lead part ++ take (len - k) (ys ++ rest)) lead_len in
+    take-append len (take lead part) (ys ++ rest)
+    ∙ ap (λ z. z ++ take (len - length (take lead part)) (ys ++ rest)) (take_all len (take lead part) (omega arith))
+    ∙ ap (λ k. take lead part ++ take (len - k) (ys ++ rest)) lead_len in
     let d : take (len - lead) (ys ++ rest) ≡ ys ++ take last rest =
-        take-append (len - lead) ys rest
-        ∙ ap (λ z. z ++ take (len - lead - length ys) rest) (take_all (len - lead) ys (omega arith))
-        ∙ ap (λ k. ys ++ take k rest) (let e : len - lead - length ys ≡ last = omega arith in e) in
+    take-append (len - lead) ys rest
+    ∙ ap (λ z. z ++ take (len - lead - length ys) rest) (take_all (len - lead) ys (omega arith))
+    ∙ ap (λ k. ys ++ take k rest) (let e : len - lead - length ys ≡ last = omega arith in e) in
     let front : take lead (take len part) ≡ take lead part = take-take lead len part (omega arith) in
     let back : drop (lead + length ys) (take len part) ≡ take last (drop (lead + count) part) =
-        ap (λ k. drop (lead + k) (take len part)) c
-        ∙ ap (λ k. drop (lead + count) (take k part)) (let e : len ≡ lead + count + last = omega arith in e)
-        ∙ drop-take (lead + count) last part in
+    ap (λ k. drop (lead + k) (take len part)) c
+    ∙ ap (λ k. drop (lead + count) (take k part)) (let e : len ≡ lead + count + last = omega arith in e)
+    ∙ drop-take (lead + count) last part in
     ap (take len) a ∙ b ∙ ap (λ z. take lead part ++ z) d
     ∙ ap (λ z. take lead part ++ (ys ++ take last z)) rest_is
     ∙ sym (append_assoc (take lead part) ys (take last (drop (lead + count) part)))
@@ -169,4 +169,4 @@ same_part at len xs ys same each =
     let b : length (take len (drop at ys)) ≡ min len (length ys - at) = length-take len (drop at ys) ∙ ap (min len) (length-drop at ys) in
     ext_get_or 0 (take len (drop at xs)) (take len (drop at ys)) (omega arith)
     (λ i h. get_or-take len (drop at xs) i 0 (omega arith) ∙ get_or-drop at xs i 0 ∙ each (at + i) (omega arith) (omega arith)
-      ∙ sym (get_or-take len (drop at ys) i 0 (omega arith) ∙ get_or-drop at ys i 0))
+    ∙ sym (get_or-take len (drop at ys) i 0 (omega arith) ∙ get_or-drop at ys i 0))

@@ -80,12 +80,15 @@ apart_in p (q ∷ qs) x e a b =
     neither : (a b : Bool) → a ≡ false → b ≡ false → (a || b) ≡ false
     neither true b f g = f
     neither false b f g = g
+
     below : (a b : Bool) → a ≡ false → (a && b) ≡ false
     below true b f = absurd (false≢true (sym f))
     below false b f = refl
+
     behind : (a b : Bool) → b ≡ false → (a && b) ≡ false
     behind true b f = f
     behind false b f = refl
+
     out : (end_of p ≤ q.at) ⊎ (end_of q ≤ p.at) → covers x q ≡ false
     out (inl before) = below (leb q.at x) (ltb x (end_of q)) (lt-leb q.at x (omega arith))
     out (inr after) = behind (leb q.at x) (ltb x (end_of q)) (le-ltb x (end_of q) (omega arith))
@@ -134,7 +137,7 @@ joined_apart p [] a k bytes ys e len low high inside = refl
 joined_apart p (q ∷ qs) a k bytes ys e len low high inside =
     let fits : a + k ≤ length bytes = omega arith in
     let first : bytes_of q (put_mid a k bytes ys) ≡ bytes_of q bytes = same_part q.at q.len (put_mid a k bytes ys) bytes (length-put a k bytes ys len fits)
-        (λ x from to. put_outside a k bytes ys x 0 len fits (out x from to (apart_sides p q (and_first (is_apart p q) (list_all (is_apart p) qs) e)))) in
+    (λ x from to. put_outside a k bytes ys x 0 len fits (out x from to (apart_sides p q (and_first (is_apart p q) (list_all (is_apart p) qs) e)))) in
     let rest = joined_apart p qs a k bytes ys (and_second (is_apart p q) (list_all (is_apart p) qs) e) len low high inside in
     ap (λ z. z ++ joined qs (put_mid a k bytes ys)) first ∙ ap (λ z. bytes_of q bytes ++ z) rest
   where
@@ -167,11 +170,11 @@ joined-scattered (p ∷ ps) skip from bytes h e within =
     let left : length (drop count from) ≡ length from - count = length-drop count from in
     let next_len : length (joined ps next) ≡ length (joined ps bytes) = ap length same in
     let own : bytes_of p done ≡ replaced lead (take count from) (bytes_of p bytes) =
-        same_part p.at p.len done next (length-scattered ps (skip - lead) (drop count from) next inside)
-        (λ x low high. scattered_outside ps (skip - lead) (drop count from) next x inside (apart_in p ps x first low high))
-        ∙ part-put_mid p.at p.len lead count bytes (take count from) s.cut s.in_piece h.0 in
+    same_part p.at p.len done next (length-scattered ps (skip - lead) (drop count from) next inside)
+    (λ x low high. scattered_outside ps (skip - lead) (drop count from) next x inside (apart_in p ps x first low high))
+    ∙ part-put_mid p.at p.len lead count bytes (take count from) s.cut s.in_piece h.0 in
     let rest : joined ps done ≡ replaced (skip - lead) (drop count from) (joined ps bytes) =
-        joined-scattered ps (skip - lead) (drop count from) next inside others (omega arith)
-        ∙ ap (replaced (skip - lead) (drop count from)) same in
+    joined-scattered ps (skip - lead) (drop count from) next inside others (omega arith)
+    ∙ ap (replaced (skip - lead) (drop count from)) same in
     ap (λ z. z ++ joined ps done) own ∙ ap (λ z. replaced lead (take count from) (bytes_of p bytes) ++ z) rest
     ∙ sym (replaced-append skip lead count from (bytes_of p bytes) (joined ps bytes) (ap (min skip) (sym len)) (ap (λ n. min (n - lead) (length from)) (sym len)))

@@ -7,7 +7,7 @@ use Rattle.ahci_table.specs.declared.piece.Piece.{Piece}
 
 -- piece i of a command with so many sectors
 abbrev pub default_piece : ℕ → ℕ → Piece
-default_piece sectors i = record { at = 0x1000 + 0x1000 * i; len = min 0x1000 (512 * sectors - 0x1000 * i) }
+default_piece sectors i = record { at = 0x1000 + 0x1000 * i; len = min (512 * sectors - 0x1000 * i) 0x1000 }
 
 -- all of them; none for no sectors, and none where one command can't have so many
 abbrev pub default_list : ℕ → List Piece

@@ -1,4 +1,4 @@
-ghost use Rattle.std.specs.Prelude.{◌≡◌, ◌<◌, ◌≤◌, ◌+◌, ◌++◌, ◌^◌, length, None, IfOk, IfErr, IsErrAnd, MatchOption, replicate};
+ghost use Rattle.std.specs.Prelude.{◌≡◌, ◌<◌, ◌≤◌, ◌+◌, ◌++◌, ◌^◌, length, [], None, IfOk, IfErr, IsErrAnd, MatchOption, replicate};
 ghost use Rattle.std.specs.List.{All, flat_map};
 ghost use Rattle.sata_fis.specs.Command.{h2d_for};
 ghost use Rattle.sata_fis.specs.Encoding.{h2d_bytes};
@@ -6,9 +6,9 @@ ghost use Rattle.ncq_core.specs.Image.{is_write};
 ghost use Rattle.ncq_core.specs.Work.{work_of, lba_of, sectors_of};
 ghost use Rattle.ahci_table.specs.Build.{IsBuilt, Carries, header_for, entry_for, table_for, queued_for};
 ghost use Rattle.ahci_table.specs.Fit.{IsFit};
-ghost use Rattle.ahci_table.specs.Piece.{furthest};
+ghost use Rattle.ahci_table.specs.Piece.{end_of, furthest};
 ghost use Rattle.ahci_table.specs.Refusal.{refusal};
-ghost use Rattle.ahci_table.specs.Window.{base};
+ghost use Rattle.ahci_table.specs.Window.{base, most_bytes};
 
 use crate::checking::base;
 use crate::fault::BuildFault;
@@ -124,23 +124,37 @@ impl<A: Allocator> Window<A> {
     }
 }
 
-/// Writes the command table.
+/// CFIS and what stands behind it up to the PRDT: the command FIS, and zeros.
+fn table_head<A: Allocator>(mut bytes: Vec<u8, A>, fis: &[u8]) -> Result<Vec<u8, A>, AllocError>
+    requires empty { bytes.items ≡ [] }
+    requires len { length fis.now ≡ 20 }
+    ensures { IfOk result (λ v. v.items ≡ fis.now ++ replicate 108 0) }
+{
+    bytes.extend_from_slice(fis)?;
+    bytes.resize(0x80, 0)?;
+    Ok(bytes)
+}
+
+/// Writes the command table into an empty `Vec`.
 fn table_for<A: Allocator, B: Allocator>(
-    mut bytes: Vec<u8, A>,
+    bytes: Vec<u8, A>,
     tag: u8,
     op: &Op<B>,
     pieces: &[Piece],
 ) -> Result<Vec<u8, A>, AllocError>
+    requires empty { bytes.items ≡ [] }
     requires tag { tag < 32 }
-    requires free { refusal (work_of op.now) pieces.now ≡ None }
-    requires empty { length bytes.items ≡ 0 }
+    requires lba { lba_of (work_of op.now) < 2 ^ 48 }
+    requires some { 1 ≤ sectors_of (work_of op.now) }
+    requires most { sectors_of (work_of op.now) ≤ 65536 }
+    requires inside { All (λ p. end_of p ≤ most_bytes) pieces.now }
+    requires full { All (λ p. 0 < p.len) pieces.now }
     ensures { IfOk result (λ v. v.items ≡ table_for tag (work_of op.now) pieces.now) }
 {
-    bytes.extend_from_slice(&command_fis(tag, op))?;
-    bytes.resize(0x80, 0)?;
+    let mut table = table_head(bytes, &command_fis(tag, op))?;
     let start = base(tag);
     for piece in pieces {
-        bytes.extend_from_slice(&entry_for(start, piece))?;
+        table.extend_from_slice(&entry_for(start, piece))?;
     }
-    Ok(bytes)
+    Ok(table)
 }

@@ -1,7 +1,8 @@
-ghost use Rattle.std.specs.Prelude.{◌≡◌, ◌*◌, ◌<◌, ◌^◌, ◌↔◌, IsTrue, IsSome, IfSome, IfOk, IfErr};
+ghost use Rattle.std.specs.Prelude.{◌≡◌, ◌*◌, ◌<◌, ◌^◌, ◌↔◌, length, IsTrue, IsSome, IfSome, IfOk, IfErr};
 ghost use Rattle.ahci_table.specs.Command.{queued_of};
-ghost use Rattle.ahci_table.specs.Fit.{HasHeader, HasCommand, HasEntries, HasList, IsFit, Breaks};
-ghost use Rattle.ahci_table.specs.Prdt.{pieces};
+ghost use Rattle.ahci_table.specs.Fit.{HasHeader, HasCommand, HasEntries, HasList, IsEntry, IsFit, Breaks};
+ghost use Rattle.ahci_table.specs.Header.{header_of};
+ghost use Rattle.ahci_table.specs.Prdt.{pieces, piece_of, entry_of, table_end};
 ghost use Rattle.ahci_table.specs.Window.{base};
 
 use crate::command::Command;
@@ -91,20 +92,37 @@ impl<A: Allocator> Window<A> {
         }
     }
 
+    /// How many entries the PRDT has.
+    fn entries(&self) -> usize
+        ensures { result ≡ (header_of self.now).prdtl }
+    {
+        usize::from(Header::at(&self.header).prdtl)
+    }
+
+    /// The piece of an entry, where it names a run between the table and the end of the window.
+    fn piece_at(&self, index: usize) -> Option<Piece>
+        requires header { HasHeader self.now }
+        requires index { index < (header_of self.now).prdtl }
+        ensures fit { IsSome result ↔ IsEntry (base self.now.tag) (table_end self.now) (length self.now.bytes) (entry_of self.now index) }
+        ensures value { IfSome result (λ p. p ≡ piece_of (base self.now.tag) (entry_of self.now index)) }
+    {
+        let first = 0x80 + 16 * self.entries();
+        Entry::at(&self.bytes, 0x80 + 16 * index).piece(
+            u64::from(base(self.tag)),
+            first as u64,
+            self.bytes.len() as u64,
+        )
+    }
+
     /// The pieces, where each entry names a run between the table and the end of the window.
     pub(crate) fn pieces(&self) -> Option<ArrayVec<Piece, 32>>
         requires { HasHeader self.now }
         ensures some { IsSome result ↔ HasEntries self.now }
         ensures value { IfSome result (λ v. v.items ≡ pieces self.now) }
     {
-        let entries = usize::from(Header::at(&self.header).prdtl);
-        let start = u64::from(base(self.tag));
-        let first = 0x80 + 16 * entries;
-        let last = self.bytes.len();
         let mut pieces = ArrayVec::new();
-        for index in 0..entries {
-            let entry = Entry::at(&self.bytes, 0x80 + 16 * index);
-            pieces.push(entry.piece(start, first as u64, last as u64)?);
+        for index in 0..self.entries() {
+            pieces.push(self.piece_at(index)?);
         }
         Some(pieces)
     }

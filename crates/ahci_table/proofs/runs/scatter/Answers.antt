@@ -10,7 +10,7 @@ returns-clause-text c =
     let pieces = c.args.pieces.now in
     let none : drop c.loop-piece.piece-index pieces ≡ [] = drop_all c.loop-piece.piece-index pieces (omega arith) in
     let done : c.loop-piece.bytes ≡ scattered pieces c.args.offset c.args.from.now c.args.bytes.now =
-        ap (λ ps. scattered ps c.loop-piece.skip c.loop-piece.rest.now c.loop-piece.bytes) (sym none) ∙ c.loop-piece.invariant.1 in
+    ap (λ ps. scattered ps c.loop-piece.skip c.loop-piece.rest.now c.loop-piece.bytes) (sym none) ∙ c.loop-piece.invariant.1 in
     ap (joined pieces) done
     ∙ joined-scattered pieces c.args.offset c.args.from.now c.args.bytes.now (inside_from (length c.args.bytes.now) pieces c.requires.inside) c.requires.apart c.requires.within
 
@@ -19,5 +19,5 @@ returns-clause-others c =
     let pieces = c.args.pieces.now in
     let none : drop c.loop-piece.piece-index pieces ≡ [] = drop_all c.loop-piece.piece-index pieces (omega arith) in
     let done : c.loop-piece.bytes ≡ scattered pieces c.args.offset c.args.from.now c.args.bytes.now =
-        ap (λ ps. scattered ps c.loop-piece.skip c.loop-piece.rest.now c.loop-piece.bytes) (sym none) ∙ c.loop-piece.invariant.1 in
+    ap (λ ps. scattered ps c.loop-piece.skip c.loop-piece.rest.now c.loop-piece.bytes) (sym none) ∙ c.loop-piece.invariant.1 in
     λ x e. rw done (scattered_outside pieces c.args.offset c.args.from.now c.args.bytes.now x (inside_from (length c.args.bytes.now) pieces c.requires.inside) e)
