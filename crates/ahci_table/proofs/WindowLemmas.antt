@@ -51,6 +51,7 @@ none_before t x (p ∷ ps) h l =
     neither : (a b : Bool) → a ≡ false → b ≡ false → (a || b) ≡ false
     neither true b f g = f
     neither false b f g = g
+
     below : (a b : Bool) → a ≡ false → (a && b) ≡ false
     below true b f = absurd (false≢true (sym f))
     below false b f = refl

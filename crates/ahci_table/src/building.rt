@@ -1,13 +1,16 @@
-ghost use Rattle.std.specs.Prelude.{◌≡◌, ◌<◌, ◌≤◌, ◌+◌, ◌++◌, ◌^◌, length, [], None, IfOk, IfErr, IsErrAnd, MatchOption, replicate};
+ghost use Rattle.std.specs.Prelude.{◌≡◌, ◌<◌, ◌≤◌, ◌+◌, ◌-◌, ◌*◌, ℕ, false, true, ◌++◌, ◌^◌, length, [], None, IfOk, IfErr, IsErrAnd, MatchOption, replicate};
 ghost use Rattle.std.specs.List.{All, flat_map};
 ghost use Rattle.sata_fis.specs.Command.{h2d_for};
 ghost use Rattle.sata_fis.specs.Encoding.{h2d_bytes};
 ghost use Rattle.ncq_core.specs.Image.{is_write};
 ghost use Rattle.ncq_core.specs.Work.{work_of, lba_of, sectors_of};
-ghost use Rattle.ahci_table.specs.Build.{IsBuilt, Carries, header_for, entry_for, table_for, queued_for};
+ghost use Rattle.ahci_table.specs.Build.{IsBuilt, Carries, data_for, header_for, entry_for, table_for, queued_for};
 ghost use Rattle.ahci_table.specs.Fit.{IsFit};
-ghost use Rattle.ahci_table.specs.Piece.{end_of, furthest};
-ghost use Rattle.ahci_table.specs.Refusal.{refusal};
+ghost use Rattle.ahci_table.specs.Piece.{are_apart, end_of, furthest};
+ghost use Rattle.ahci_table.specs.Refusal.{is_ragged, refusal};
+ghost use Rattle.sata_fis.specs.Places.{byte};
+ghost use Rattle.ahci_table.specs.Scatter.{in_some};
+ghost use Rattle.ahci_table.specs.Text.{joined};
 ghost use Rattle.ahci_table.specs.Window.{base, most_bytes};
 
 use crate::checking::base;
@@ -111,11 +114,9 @@ impl<A: Allocator> Window<A> {
         ensures bytes { IfOk result (λ w. IsBuilt tag (work_of op.now) pieces.now w) }
     {
         let end = furthest(pieces) as usize;
-        let mut bytes = table_for(Vec::with_capacity(alloc, end)?, tag, op, pieces)?;
-        bytes.resize(end, 0)?;
-        if let Op::Write { bytes: text, .. } = op {
-            runs::scatter(pieces, &mut bytes, 0, text.as_slice());
-        }
+        let table = table_for(Vec::with_capacity(alloc, end)?, tag, op, pieces)?;
+        let mut bytes = zeroed_to(table, end)?;
+        fill(op, pieces, &mut bytes);
         Ok(Window {
             tag,
             header: header_for(tag, op, pieces.len() as u16),
@@ -157,4 +158,28 @@ fn table_for<A: Allocator, B: Allocator>(
         table.extend_from_slice(&entry_for(start, piece))?;
     }
     Ok(table)
+}
+
+/// Appends zeros up to an end.
+fn zeroed_to<A: Allocator>(mut bytes: Vec<u8, A>, end: usize) -> Result<Vec<u8, A>, AllocError>
+    requires { length bytes.items ≤ end }
+    ensures { IfOk result (λ v. v.items ≡ bytes.items ++ replicate (end - length bytes.items) 0) }
+{
+    bytes.resize(end, 0)?;
+    Ok(bytes)
+}
+
+/// Copies a write's bytes into pieces that hold zeros.
+fn fill<A: Allocator>(op: &Op<A>, pieces: &[Piece], bytes: &mut [u8])
+    requires inside { All (λ p. end_of p ≤ length bytes.old) pieces.now }
+    requires apart { are_apart pieces.now ≡ true }
+    requires whole { is_ragged (work_of op.now) ≡ false }
+    requires zero { joined pieces.now bytes.old ≡ replicate (512 * sectors_of (work_of op.now)) 0 }
+    ensures len { length bytes.new ≡ length bytes.old }
+    ensures text { joined pieces.now bytes.new ≡ data_for (work_of op.now) }
+    ensures others { (x : ℕ) → in_some x pieces.now ≡ false → byte x bytes.new ≡ byte x bytes.old }
+{
+    if let Op::Write { bytes: text, .. } = op {
+        runs::scatter(pieces, bytes, 0, text.as_slice());
+    }
 }
