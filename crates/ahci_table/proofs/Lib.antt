@@ -6,3 +6,4 @@ pub mod WindowLemmas
 pub mod RefusalLemmas
 pub mod BuildLemmas
 pub mod FitLemmas
+pub mod LawLemmas

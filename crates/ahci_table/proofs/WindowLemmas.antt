@@ -3,7 +3,7 @@ use Rattle.std.proofs.Common.{◌≡◌, ℕ, ◌+◌, ◌-◌, ◌*◌, ◌%◌
 use Rattle.std.specs.List.{range_with_len, All}
 use Rattle.std.proofs.lemmas.Bool.{lt-leb, false≢true}
 use Rattle.std.proofs.lemmas.List.FromFn.{length-map-range_with_len, get_or-map-range_with_len}
-use Rattle.std.proofs.lemmas.List.{same_lists}
+use Rattle.std.proofs.lemmas.List.{length-append}
 use Rattle.sata_fis.specs.Places.{byte, number}
 use Rattle.sata_fis.specs.Layout.{h2d_at}
 use Rattle.sata_fis.specs.Spelling.{Spells}
@@ -15,11 +15,12 @@ use Rattle.ahci_table.specs.Piece.{end_of, covers, are_apart, total}
 use Rattle.ahci_table.specs.Window.{WindowState, base, most_bytes}
 use Rattle.ahci_table.specs.Header.{header_of}
 use Rattle.ahci_table.specs.Prdt.{EntryFields, entry_at, entry_of, entry_place, piece_of, table_end, pieces}
-use Rattle.ahci_table.specs.Text.{joined, replaced, text}
+use Rattle.ahci_table.specs.Text.{bytes_of, joined, replaced, text}
 use Rattle.ahci_table.specs.Command.{cfis, h2d, queued_of}
 use Rattle.ahci_table.specs.Fit.{HasHeader, HasCommand, HasEntries, HasList, IsEntry, IsFit}
 use Rattle.ahci_table.specs.Scatter.{IsScattered, in_some}
 use Rattle.ahci_table.proofs.PartLemmas.{same_part}
+use Rattle.ahci_table.proofs.RunLemmas.{length-bytes_of}
 
 -- what holds of each entry's piece holds of each piece
 pub each_piece : (w : WindowState) (P : Piece → Type 0) → ((i : ℕ) → i < (header_of w).prdtl → P (piece_of (base w.tag) (entry_of w i))) → All P (pieces w)
@@ -155,3 +156,15 @@ scattered_window w offset from bytes f len moved others =
       },
       agree_fit w bytes h f,
     )
+
+-- the text of a window that is fit has the bytes of the command's sectors
+length-joined : (n : ℕ) (bytes : List ℕ) (ps : List Piece) → n ≡ length bytes → All (λ p. end_of p ≤ n) ps → length (joined ps bytes) ≡ total ps
+length-joined n bytes [] same h = refl
+length-joined n bytes (p ∷ ps) same h =
+    let first : end_of p ≤ n = h 0 p (omega arith) in
+    length-append (bytes_of p bytes) (joined ps bytes)
+    ∙ ap (λ k. k + length (joined ps bytes)) (length-bytes_of p bytes (omega arith))
+    ∙ ap (λ k. p.len + k) (length-joined n bytes ps same (λ k d l. h (suc k) d (omega arith)))
+
+pub length-text : (w : WindowState) → IsFit w → length (text w) ≡ 512 * (queued_of w).sectors
+length-text w f = length-joined (length w.bytes) w.bytes (pieces w) refl (pieces_inside w f.listed.entries) ∙ f.listed.whole

@@ -9,6 +9,7 @@ mod defaults;
 mod entry;
 mod fault;
 mod header;
+pub mod laws;
 mod list;
 mod moving;
 mod piece;
@@ -21,3 +22,6 @@ pub use defaults::default_pieces;
 pub use fault::{BuildFault, TableFault};
 pub use piece::Piece;
 pub use window::Window;
+
+#[cfg(test)]
+mod tests;
