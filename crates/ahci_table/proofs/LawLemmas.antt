@@ -1,6 +1,6 @@
 -- The laws of windows.
 use Rattle.std.proofs.Common.{◌≡◌, ℕ, ◌+◌, ◌-◌, ◌*◌, ◌<◌, ◌≤◌, zero, suc, Bool, true, false, ◌||◌, leb, ltb, ◌⊎◌, List, [], ◌∷◌, ◌++◌, length, take, drop, get_or, ap, sym, refl, subst, ◌∙◌, arith, inl, inr, Result, Ok, Err, IsOkAnd}
-use Rattle.std.proofs.lemmas.Bool.{cases_lt, false≢true, leb-true, ltb-true}
+use Rattle.std.proofs.lemmas.Bool.{cases_lt, or_cases, false≢true, leb-true, ltb-true}
 use Rattle.std.proofs.lemmas.List.{append_assoc, drop-drop, drop_at, take_at, get_or-take, get_or-drop, ext_get_or, length-take-le}
 use Rattle.std.proofs.lemmas.Slice.{between-put_mid}
 use borrow.Rule.Slice.PartMut.{put_mid}
@@ -105,10 +105,6 @@ replaced_twice i j xs ys t h k beside =
         outside j ys (replaced i xs t) x kj p ∙ outside i xs t x h o ∙ sym (outside i xs (replaced j ys t) x hi o ∙ outside j ys t x k p)
 
 -- bytes with one text agree in each piece
-or_cases : (a b : Bool) → (a || b) ≡ true → (a ≡ true) ⊎ (b ≡ true)
-or_cases true b e = inl refl
-or_cases false b e = inr e
-
 joined_at : (ps : List Piece) (xs ys : List ℕ) (x : ℕ) → length xs ≡ length ys → Inside (length xs) ps → joined ps xs ≡ joined ps ys → in_some x ps ≡ true → get_or xs x 0 ≡ get_or ys x 0
 joined_at [] xs ys x len h same e = absurd (false≢true e)
 joined_at (p ∷ ps) xs ys x len h same e =

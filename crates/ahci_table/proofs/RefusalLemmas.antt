@@ -1,7 +1,7 @@
 -- What it says that nothing stands against a command with a list of pieces.
 use Rattle.std.proofs.Common.{◌≡◌, ℕ, ◌+◌, ◌-◌, ◌*◌, ◌%◌, ◌^◌, ◌<◌, ◌≤◌, ◌≢◌, zero, suc, Bool, true, false, not, cond, ◌||◌, nat_eq, ltb, leb, eq-eqb, inl, inr, List, [], ◌∷◌, length, Option, Some, None, ap, sym, refl, ◌∙◌, arith}
 use Rattle.std.specs.List.{All, list_any}
-use Rattle.std.proofs.lemmas.Bool.{cases_lt, eqb-true, lt-ltb, le-leb, false≢true}
+use Rattle.std.proofs.lemmas.Bool.{cases_lt, or_parts, eqb-true, lt-ltb, le-leb, false≢true}
 use Rattle.ncq_core.specs.Lawful.{most_sectors}
 use Rattle.ncq_core.specs.Work.{Work, lba_of, sectors_of}
 use Rattle.ahci_table.specs.declared.piece.Piece.{Piece}
@@ -23,14 +23,6 @@ pub record IsFree (work : Work) (ps : List Piece) : Type 0 where
   pub inside : list_any (is_outside (length ps)) ps ≡ false
   pub apart : are_apart ps ≡ true
   pub sum : total ps ≡ 512 * sectors_of work
-
-pub or_left : (a b : Bool) → (a || b) ≡ false → a ≡ false
-or_left true b e = e
-or_left false b e = refl
-
-pub or_right : (a b : Bool) → (a || b) ≡ false → b ≡ false
-or_right true b e = absurd (false≢true (sym e))
-or_right false b e = e
 
 not_eq : (a b : ℕ) → nat_eq a b ≡ false → a ≢ b
 not_eq a b e same = absurd (false≢true (sym (sym (ap (λ c. nat_eq c b) same ∙ eq-eqb b b refl) ∙ e)))
@@ -78,13 +70,13 @@ free_from work ps e =
     let e1 = then_not (has_bad_count work) BadCount _ e in
     let address = first_not (leb (2 ^ 48) (lba_of work)) BadLba _ e1 in
     let l = list_free ps (512 * n) (then_not (leb (2 ^ 48) (lba_of work)) BadLba _ e1) in
-    let both = or_left (nat_eq n 0 || ltb most_sectors n) (is_ragged work) count in
-    let some = not_eq n 0 (or_left (nat_eq n 0) (ltb most_sectors n) both) in
+    let both = (or_parts (nat_eq n 0 || ltb most_sectors n) (is_ragged work) count).0 in
+    let some = not_eq n 0 ((or_parts (nat_eq n 0) (ltb most_sectors n) both).0) in
     let has = not_eq (length ps) 0 l.0 in
     record {
       some = omega arith;
-      most = le_from most_sectors n (or_right (nat_eq n 0) (ltb most_sectors n) both);
-      whole = or_right (nat_eq n 0 || ltb most_sectors n) (is_ragged work) count;
+      most = le_from most_sectors n ((or_parts (nat_eq n 0) (ltb most_sectors n) both).1);
+      whole = (or_parts (nat_eq n 0 || ltb most_sectors n) (is_ragged work) count).1;
       lba = lt_from (2 ^ 48) (lba_of work) address;
       has = omega arith;
       few = le_from 32 (length ps) l.1;
@@ -97,8 +89,8 @@ free_from work ps e =
 -- what no piece is, each isn't
 pub none_of : (q : Piece → Bool) (P : Piece → Type 0) → ((p : Piece) → q p ≡ false → P p) → (ps : List Piece) → list_any q ps ≡ false → All P ps
 none_of q P f [] e k d l = absurd (omega arith)
-none_of q P f (p ∷ ps) e zero d l = f p (or_left (q p) (list_any q ps) e)
-none_of q P f (p ∷ ps) e (suc k) d l = none_of q P f ps (or_right (q p) (list_any q ps) e) k d (omega arith)
+none_of q P f (p ∷ ps) e zero d l = f p ((or_parts (q p) (list_any q ps) e).0)
+none_of q P f (p ∷ ps) e (suc k) d l = none_of q P f ps ((or_parts (q p) (list_any q ps) e).1) k d (omega arith)
 
 -- a piece that isn't odd
 pub record IsEven (p : Piece) : Type 0 where
@@ -113,14 +105,14 @@ even_from p e =
     let b = not (nat_eq (p.len % 2) 0) in
     let c = nat_eq p.len 0 in
     let d = ltb (2 ^ 22) p.len in
-    let e3 = or_left (a || b || c) d e in
-    let e2 = or_left (a || b) c e3 in
-    let none = not_eq p.len 0 (or_right (a || b) c e3) in
+    let e3 = (or_parts (a || b || c) d e).0 in
+    let e2 = (or_parts (a || b) c e3).0 in
+    let none = not_eq p.len 0 ((or_parts (a || b) c e3).1) in
     record {
-      at = eqb-true (p.at % 2) 0 (not_false (nat_eq (p.at % 2) 0) (or_left a b e2));
-      len = eqb-true (p.len % 2) 0 (not_false (nat_eq (p.len % 2) 0) (or_right a b e2));
+      at = eqb-true (p.at % 2) 0 (not_false (nat_eq (p.at % 2) 0) ((or_parts a b e2).0));
+      len = eqb-true (p.len % 2) 0 (not_false (nat_eq (p.len % 2) 0) ((or_parts a b e2).1));
       some = omega arith;
-      most = le_from (2 ^ 22) p.len (or_right (a || b || c) d e);
+      most = le_from (2 ^ 22) p.len ((or_parts (a || b || c) d e).1);
     }
 
 pub all_even : (work : Work) (ps : List Piece) → IsFree work ps → All IsEven ps
@@ -129,9 +121,9 @@ all_even work ps f = none_of is_odd IsEven even_from ps f.fine
 pub all_behind : (work : Work) (ps : List Piece) → IsFree work ps → All (λ p. entry_place (length ps) ≤ p.at) ps
 all_behind work ps f =
     none_of (is_outside (length ps)) (λ p. entry_place (length ps) ≤ p.at)
-    (λ p e. le_from p.at (entry_place (length ps)) (or_left (ltb p.at (entry_place (length ps))) (ltb most_bytes (end_of p)) e)) ps f.inside
+    (λ p e. le_from p.at (entry_place (length ps)) ((or_parts (ltb p.at (entry_place (length ps))) (ltb most_bytes (end_of p)) e).0)) ps f.inside
 
 pub all_below : (work : Work) (ps : List Piece) → IsFree work ps → All (λ p. end_of p ≤ most_bytes) ps
 all_below work ps f =
     none_of (is_outside (length ps)) (λ p. end_of p ≤ most_bytes)
-    (λ p e. le_from most_bytes (end_of p) (or_right (ltb p.at (entry_place (length ps))) (ltb most_bytes (end_of p)) e)) ps f.inside
+    (λ p e. le_from most_bytes (end_of p) ((or_parts (ltb p.at (entry_place (length ps))) (ltb most_bytes (end_of p)) e).1)) ps f.inside

@@ -1,7 +1,7 @@
 -- Texts that are joined of runs of bytes: what copying run by run leaves.
 use Rattle.std.proofs.Common.{◌≡◌, ℕ, zero, suc, ◌+◌, ◌-◌, ◌<◌, ◌≤◌, min, Bool, true, false, ◌⊎◌, ◌&&◌, ◌||◌, leb, ltb, List, [], ◌∷◌, ◌++◌, length, take, drop, get_or, ap, sym, refl, subst, ◌∙◌, arith, inl, inr}
 use Rattle.std.proofs.lemmas.List.{length-take, length-drop, length-append, length-take-le, nil_from_length}
-use Rattle.std.proofs.lemmas.Bool.{cases_lt, and_from, lt-leb, le-leb, lt-ltb, le-ltb, false≢true}
+use Rattle.std.proofs.lemmas.Bool.{cases_lt, and_from, and_left, and_right, or_from, or_parts, lt-leb, le-leb, lt-ltb, le-ltb, false≢true}
 use Rattle.std.specs.List.{All, list_all, list_any}
 use borrow.Rule.Slice.PartMut.{put_mid}
 use Rattle.ahci_table.specs.declared.piece.Piece.{Piece}
@@ -27,15 +27,6 @@ pub inside_from : (n : ℕ) (ps : List Piece) → All (λ p. end_of p ≤ n) ps 
 inside_from n [] h = tt
 inside_from n (p ∷ ps) h = (h 0 p (omega arith), inside_from n ps (λ k d l. h (suc k) d (omega arith)))
 
--- booleans
-both_left : (a b : Bool) → (a || b) ≡ false → a ≡ false
-both_left true b e = e
-both_left false b e = refl
-
-both_right : (a b : Bool) → (a || b) ≡ false → b ≡ false
-both_right true b e = absurd (false≢true (sym e))
-both_right false b e = e
-
 pub and_first : (a b : Bool) → (a && b) ≡ true → a ≡ true
 and_first true b e = refl
 and_first false b e = e
@@ -60,38 +51,22 @@ apart_sides : (p q : Piece) → is_apart p q ≡ true → (end_of p ≤ q.at) �
 apart_sides p q e =
     elim (cases_lt q.at (end_of p)) [
       | inl one ↦ elim (cases_lt p.at (end_of q)) [
-        | inl two ↦ absurd (false≢true (sym (neither (leb (end_of p) q.at) (leb (end_of q) p.at) (lt-leb (end_of p) q.at one) (lt-leb (end_of q) p.at two)) ∙ e))
+        | inl two ↦ absurd (false≢true (sym (or_from (leb (end_of p) q.at) (leb (end_of q) p.at) (lt-leb (end_of p) q.at one) (lt-leb (end_of q) p.at two)) ∙ e))
         | inr behind ↦ inr behind
       ]
       | inr before ↦ inl before
     ]
-  where
-    neither : (a b : Bool) → a ≡ false → b ≡ false → (a || b) ≡ false
-    neither true b f g = f
-    neither false b f g = g
 
 -- a place in a piece is in no other one that is apart from it
 pub apart_in : (p : Piece) (ps : List Piece) (x : ℕ) → list_all (is_apart p) ps ≡ true → p.at ≤ x → x < end_of p → in_some x ps ≡ false
 apart_in p [] x e a b = refl
 apart_in p (q ∷ qs) x e a b =
     let rest = apart_in p qs x (and_second (is_apart p q) (list_all (is_apart p) qs) e) a b in
-    neither (covers x q) (in_some x qs) (out (apart_sides p q (and_first (is_apart p q) (list_all (is_apart p) qs) e))) rest
+    or_from (covers x q) (in_some x qs) (out (apart_sides p q (and_first (is_apart p q) (list_all (is_apart p) qs) e))) rest
   where
-    neither : (a b : Bool) → a ≡ false → b ≡ false → (a || b) ≡ false
-    neither true b f g = f
-    neither false b f g = g
-
-    below : (a b : Bool) → a ≡ false → (a && b) ≡ false
-    below true b f = absurd (false≢true (sym f))
-    below false b f = refl
-
-    behind : (a b : Bool) → b ≡ false → (a && b) ≡ false
-    behind true b f = f
-    behind false b f = refl
-
     out : (end_of p ≤ q.at) ⊎ (end_of q ≤ p.at) → covers x q ≡ false
-    out (inl before) = below (leb q.at x) (ltb x (end_of q)) (lt-leb q.at x (omega arith))
-    out (inr after) = behind (leb q.at x) (ltb x (end_of q)) (le-ltb x (end_of q) (omega arith))
+    out (inl before) = and_left (leb q.at x) (ltb x (end_of q)) (lt-leb q.at x (omega arith))
+    out (inr after) = and_right (leb q.at x) (ltb x (end_of q)) (le-ltb x (end_of q) (omega arith))
 
 -- one step of the copying stays within the first piece
 pub record Step (p : Piece) (skip : ℕ) (from bytes : List ℕ) (lead count : ℕ) : Type 0 where
@@ -124,8 +99,8 @@ scattered_outside (p ∷ ps) skip from bytes x h e =
     let lead = min skip p.len in
     let count = min (p.len - lead) (length from) in
     let s = step p skip from bytes h.0 in
-    scattered_outside ps (skip - lead) (drop count from) (put_mid (p.at + lead) count bytes (take count from)) x (subst (λ n. Inside n ps) (sym s.len) h.1) (both_right (covers x p) (in_some x ps) e)
-    ∙ put_outside (p.at + lead) count bytes (take count from) x 0 s.cut s.fits (out lead count s.in_piece (not_covered x p (both_left (covers x p) (in_some x ps) e)))
+    scattered_outside ps (skip - lead) (drop count from) (put_mid (p.at + lead) count bytes (take count from)) x (subst (λ n. Inside n ps) (sym s.len) h.1) (or_parts (covers x p) (in_some x ps) e).1
+    ∙ put_outside (p.at + lead) count bytes (take count from) x 0 s.cut s.fits (out lead count s.in_piece (not_covered x p (or_parts (covers x p) (in_some x ps) e).0))
   where
     out : (lead count : ℕ) → lead + count ≤ p.len → (x < p.at) ⊎ (end_of p ≤ x) → (x < p.at + lead) ⊎ (p.at + lead + count ≤ x)
     out lead count within (inl before) = inl (omega arith)

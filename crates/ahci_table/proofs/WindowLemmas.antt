@@ -1,7 +1,7 @@
 -- The pieces of a window lie between its table and its end, and copying into them leaves what the window says.
 use Rattle.std.proofs.Common.{◌≡◌, ℕ, ◌+◌, ◌-◌, ◌*◌, ◌%◌, ◌^◌, ◌<◌, ◌≤◌, zero, suc, Bool, true, false, ◌&&◌, ◌||◌, ltb, leb, List, [], ◌∷◌, ◌++◌, length, take, drop, map, get_or, ap, sym, refl, subst, ◌∙◌, arith}
 use Rattle.std.specs.List.{range_with_len, All}
-use Rattle.std.proofs.lemmas.Bool.{lt-leb, false≢true}
+use Rattle.std.proofs.lemmas.Bool.{lt-leb, and_left, or_from}
 use Rattle.std.proofs.lemmas.List.FromFn.{length-map-range_with_len, get_or-map-range_with_len}
 use Rattle.std.proofs.lemmas.List.{length-append}
 use Rattle.sata_fis.specs.Places.{byte, number}
@@ -47,15 +47,7 @@ pub none_before : (t x : ℕ) (ps : List Piece) → All (λ p. t ≤ p.at) ps �
 none_before t x [] h l = refl
 none_before t x (p ∷ ps) h l =
     let first : t ≤ p.at = h 0 p (omega arith) in
-    neither (covers x p) (in_some x ps) (below (leb p.at x) (ltb x (end_of p)) (lt-leb p.at x (omega arith))) (none_before t x ps (λ k d b. h (suc k) d (omega arith)) l)
-  where
-    neither : (a b : Bool) → a ≡ false → b ≡ false → (a || b) ≡ false
-    neither true b f g = f
-    neither false b f g = g
-
-    below : (a b : Bool) → a ≡ false → (a && b) ≡ false
-    below true b f = absurd (false≢true (sym f))
-    below false b f = refl
+    or_from (covers x p) (in_some x ps) (and_left (leb p.at x) (ltb x (end_of p)) (lt-leb p.at x (omega arith))) (none_before t x ps (λ k d b. h (suc k) d (omega arith)) l)
 
 -- a number is read from its bytes alone
 pub number_same : (i n : ℕ) (xs ys : List ℕ) → ((x : ℕ) → i ≤ x → x < i + n → get_or xs x 0 ≡ get_or ys x 0) → number i n xs ≡ number i n ys

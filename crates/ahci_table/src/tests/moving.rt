@@ -31,17 +31,17 @@ fn two_bytes_that_lie_in_two_pieces(rt: HostRuntime) -> Result<(), Fail> {
     ];
     let mut window = Window::build(rt.alloc(), 0, &op, &pieces)?;
     let before = Vec::from_slice(rt.alloc(), window.bytes())?;
-    if window.text(rt.alloc())?.len() >= 3 {
-        window.scatter(1, &[0xA1, 0xA2]);
-    }
+    let text = window.text(rt.alloc())?;
+    assert!(rt; text.len() >= 3);
+    window.scatter(1, &[0xA1, 0xA2]);
     let places = differences(&rt, &before, window.bytes())?;
     assert_eq!(rt; places.as_slice(), [0xC00, 0xE01].as_slice());
     assert_eq!(rt; window.bytes().get(0xE01).copied(), Some(0xA1));
     assert_eq!(rt; window.bytes().get(0xC00).copied(), Some(0xA2));
     let mut out = [0; 2];
-    if window.text(rt.alloc())?.len() >= 3 {
-        window.gather(1, &mut out);
-    }
+    let text = window.text(rt.alloc())?;
+    assert!(rt; text.len() >= 3);
+    window.gather(1, &mut out);
     assert_eq!(rt; out, [0xA1, 0xA2]);
     Ok(())
 }
