@@ -1,11 +1,11 @@
 -- What is written into a new window is read there again, and makes it fit.
-use Rattle.std.proofs.Common.{◌≡◌, ℕ, ◌+◌, ◌-◌, ◌*◌, ◌/◌, ◌%◌, ◌^◌, ◌<◌, ◌≤◌, zero, suc, Bool, true, false, ◌&&◌, cond, nat_eq, List, [], ◌∷◌, ◌++◌, length, take, drop, replicate, map, get_or, ap, sym, refl, subst, ◌∙◌, arith, inl, inr}
+use Rattle.std.proofs.Common.{◌≡◌, ℕ, ◌+◌, ◌-◌, ◌*◌, ◌/◌, ◌%◌, ◌^◌, ◌<◌, ◌≤◌, zero, suc, Bool, true, false, cond, nat_eq, List, [], ◌∷◌, ◌++◌, length, take, replicate, get_or, ap, sym, refl, subst, ◌∙◌, arith, inl, inr}
 use Rattle.std.specs.Int.{byte_at}
-use Rattle.std.specs.List.{All, flat_map, range_with_len}
+use Rattle.std.specs.List.{flat_map}
 use Rattle.std.proofs.lemmas.Bool.{cases_lt, cond-false, eqb-true}
-use Rattle.std.proofs.lemmas.List.{same_lists, get_or-take, take-take, get_or_append_left, get_or-append-add, get_or_default, length-append}
+use Rattle.std.proofs.lemmas.List.{same_lists, get_or-take, take-take, get_or_append_left, get_or-append-add}
 use Rattle.std.proofs.lemmas.List.FromFn.{length-map-range_with_len, get_or-map-range_with_len}
-use Rattle.sata_fis.specs.Fields.{H2dFields, QueuedFields}
+use Rattle.sata_fis.specs.Fields.{QueuedFields}
 use Rattle.sata_fis.specs.Places.{byte, number}
 use Rattle.sata_fis.specs.Layout.{h2d_at}
 use Rattle.sata_fis.specs.Encoding.{h2d_bytes}
@@ -16,15 +16,15 @@ use Rattle.ncq_core.specs.Image.{is_write}
 use Rattle.ncq_core.specs.Lawful.{most_sectors}
 use Rattle.ncq_core.specs.Work.{Work, Read, Write, lba_of, sectors_of}
 use Rattle.ahci_table.specs.declared.piece.Piece.{Piece}
-use Rattle.ahci_table.specs.Build.{IsBuilt, Carries, dword, data_for, entry_for, header_for, queued_for, table_for}
-use Rattle.ahci_table.specs.Command.{cfis, h2d, queued_of, op}
-use Rattle.ahci_table.specs.Fit.{HasHeader, IsEntry, IsFit}
+use Rattle.ahci_table.specs.Build.{IsBuilt, Carries, dword, data_for, entry_for, header_for, queued_for}
+use Rattle.ahci_table.specs.Command.{cfis, h2d, queued_of}
+use Rattle.ahci_table.specs.Fit.{IsEntry, IsFit}
 use Rattle.ahci_table.specs.Header.{HeaderFields, header_at, header_of}
 use Rattle.ahci_table.specs.Piece.{are_apart, end_of, furthest, total}
 use Rattle.ahci_table.specs.Prdt.{EntryFields, entry_at, entry_of, entry_place, piece_of, pieces, table_end}
 use Rattle.ahci_table.specs.Text.{joined, text}
 use Rattle.ahci_table.specs.Window.{WindowState, base}
-use Rattle.ahci_table.proofs.BuildLemmas.{furthest_covers, furthest_within, length-table, table_fits}
+use Rattle.ahci_table.proofs.BuildLemmas.{furthest_covers, furthest_within, table_fits}
 use Rattle.ahci_table.proofs.RefusalLemmas.{IsFree, IsEven, all_behind, all_below, all_even}
 
 -- the header's fields

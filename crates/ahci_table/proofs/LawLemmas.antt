@@ -1,15 +1,14 @@
 -- The laws of windows.
-use Rattle.std.proofs.Common.{◌≡◌, ℕ, ◌+◌, ◌-◌, ◌*◌, ◌<◌, ◌≤◌, zero, suc, Bool, true, false, ◌||◌, leb, ltb, ◌⊎◌, List, [], ◌∷◌, ◌++◌, length, take, drop, get_or, ap, sym, refl, subst, ◌∙◌, arith, inl, inr, Result, Ok, Err, IsOkAnd}
-use Rattle.std.proofs.lemmas.Bool.{cases_lt, or_cases, false≢true, leb-true, ltb-true}
+use Rattle.std.proofs.Common.{◌≡◌, ℕ, ◌+◌, ◌-◌, ◌<◌, ◌≤◌, Bool, true, false, leb, ltb, ◌⊎◌, List, [], ◌∷◌, ◌++◌, length, take, drop, get_or, ap, sym, refl, subst, ◌∙◌, arith, inl, inr, Ok, Err}
+use Rattle.std.proofs.lemmas.Bool.{cases_lt, and_parts, or_cases, false≢true, leb-true, ltb-true}
 use Rattle.std.proofs.lemmas.List.{append_assoc, drop-drop, drop_at, take_at, get_or-take, get_or-drop, ext_get_or, length-take-le}
 use Rattle.std.proofs.lemmas.Slice.{between-put_mid}
 use borrow.Rule.Slice.PartMut.{put_mid}
-use Rattle.ahci_table.specs.declared.command.Command.{Command}
 use Rattle.ahci_table.specs.declared.fault.TableFault.{TableFault}
 use Rattle.ahci_table.specs.declared.fault.TableFault.TheVariants.{BadHeader, BadCommand, WrongTag, TooLong, BadList}
 use Rattle.ahci_table.specs.declared.piece.Piece.{Piece}
 use Rattle.ahci_table.specs.Fit.{Breaks, IsFit}
-use Rattle.ahci_table.specs.Laws.{IsTakenAgain, HasWholeText, GivesBack, Commutes, Checks, IsBeside}
+use Rattle.ahci_table.specs.Laws.{IsTakenAgain, HasWholeText, GivesBack, Commutes, IsBeside}
 use Rattle.ahci_table.specs.Piece.{covers, end_of}
 use Rattle.ahci_table.specs.Prdt.{pieces}
 use Rattle.ahci_table.specs.Scatter.{IsScattered, in_some}
@@ -18,7 +17,7 @@ use Rattle.ahci_table.specs.Window.{WindowState}
 use Rattle.ahci_table.proofs.FitLemmas.{carries_built, fit_built, queued_back}
 use Rattle.ahci_table.proofs.PartLemmas.{length-put, put_outside}
 use Rattle.ahci_table.proofs.RefusalLemmas.{free_from}
-use Rattle.ahci_table.proofs.RunLemmas.{Inside, inside_from, length-bytes_of, and_first, and_second}
+use Rattle.ahci_table.proofs.RunLemmas.{Inside, inside_from, length-bytes_of}
 use Rattle.ahci_table.proofs.WindowLemmas.{length-text, pieces_inside}
 
 -- a window that is fit breaks no rule
@@ -117,8 +116,8 @@ joined_at (p ∷ ps) xs ys x len h same e =
   where
     decide : bytes_of p xs ≡ bytes_of p ys → (in_some x ps ≡ true → get_or xs x 0 ≡ get_or ys x 0) → (covers x p ≡ true) ⊎ (in_some x ps ≡ true) → get_or xs x 0 ≡ get_or ys x 0
     decide own rest (inl c) =
-        let low = leb-true p.at x (and_first (leb p.at x) (ltb x (end_of p)) c) in
-        let high = ltb-true x (end_of p) (and_second (leb p.at x) (ltb x (end_of p)) c) in
+        let low = leb-true p.at x ((and_parts (leb p.at x) (ltb x (end_of p)) c).0) in
+        let high = ltb-true x (end_of p) ((and_parts (leb p.at x) (ltb x (end_of p)) c).1) in
         let place : p.at + (x - p.at) ≡ x = omega arith in
         let at : (zs : List ℕ) → get_or (bytes_of p zs) (x - p.at) 0 ≡ get_or zs x 0 =
         λ zs. get_or-take p.len (drop p.at zs) (x - p.at) 0 (omega arith) ∙ get_or-drop p.at zs (x - p.at) 0 ∙ ap (λ y. get_or zs y 0) place in

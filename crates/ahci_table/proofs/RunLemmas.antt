@@ -1,8 +1,8 @@
 -- Texts that are joined of runs of bytes: what copying run by run leaves.
-use Rattle.std.proofs.Common.{◌≡◌, ℕ, zero, suc, ◌+◌, ◌-◌, ◌<◌, ◌≤◌, min, Bool, true, false, ◌⊎◌, ◌&&◌, ◌||◌, leb, ltb, List, [], ◌∷◌, ◌++◌, length, take, drop, get_or, ap, sym, refl, subst, ◌∙◌, arith, inl, inr}
-use Rattle.std.proofs.lemmas.List.{length-take, length-drop, length-append, length-take-le, nil_from_length}
-use Rattle.std.proofs.lemmas.Bool.{cases_lt, and_from, and_left, and_right, or_from, or_parts, lt-leb, le-leb, lt-ltb, le-ltb, false≢true}
-use Rattle.std.specs.List.{All, list_all, list_any}
+use Rattle.std.proofs.Common.{◌≡◌, ℕ, suc, ◌+◌, ◌-◌, ◌<◌, ◌≤◌, min, true, false, ◌⊎◌, leb, ltb, List, [], ◌∷◌, ◌++◌, length, take, drop, get_or, ap, sym, refl, subst, ◌∙◌, arith, inl, inr}
+use Rattle.std.proofs.lemmas.List.{length-drop, length-append, length-take-le, nil_from_length}
+use Rattle.std.proofs.lemmas.Bool.{cases_lt, and_parts, and_from, and_left, and_right, or_from, or_parts, lt-leb, le-leb, lt-ltb, le-ltb, false≢true}
+use Rattle.std.specs.List.{All, list_all}
 use borrow.Rule.Slice.PartMut.{put_mid}
 use Rattle.ahci_table.specs.declared.piece.Piece.{Piece}
 use Rattle.ahci_table.specs.Piece.{end_of, covers, is_apart, are_apart}
@@ -26,14 +26,6 @@ Inside n (p ∷ ps) = (end_of p ≤ n) × Inside n ps
 pub inside_from : (n : ℕ) (ps : List Piece) → All (λ p. end_of p ≤ n) ps → Inside n ps
 inside_from n [] h = tt
 inside_from n (p ∷ ps) h = (h 0 p (omega arith), inside_from n ps (λ k d l. h (suc k) d (omega arith)))
-
-pub and_first : (a b : Bool) → (a && b) ≡ true → a ≡ true
-and_first true b e = refl
-and_first false b e = e
-
-pub and_second : (a b : Bool) → (a && b) ≡ true → b ≡ true
-and_second true b e = e
-and_second false b e = absurd (false≢true e)
 
 -- a place that a piece doesn't cover is before or behind it
 not_covered : (x : ℕ) (p : Piece) → covers x p ≡ false → (x < p.at) ⊎ (end_of p ≤ x)
@@ -61,8 +53,8 @@ apart_sides p q e =
 pub apart_in : (p : Piece) (ps : List Piece) (x : ℕ) → list_all (is_apart p) ps ≡ true → p.at ≤ x → x < end_of p → in_some x ps ≡ false
 apart_in p [] x e a b = refl
 apart_in p (q ∷ qs) x e a b =
-    let rest = apart_in p qs x (and_second (is_apart p q) (list_all (is_apart p) qs) e) a b in
-    or_from (covers x q) (in_some x qs) (out (apart_sides p q (and_first (is_apart p q) (list_all (is_apart p) qs) e))) rest
+    let rest = apart_in p qs x ((and_parts (is_apart p q) (list_all (is_apart p) qs) e).1) a b in
+    or_from (covers x q) (in_some x qs) (out (apart_sides p q ((and_parts (is_apart p q) (list_all (is_apart p) qs) e).0))) rest
   where
     out : (end_of p ≤ q.at) ⊎ (end_of q ≤ p.at) → covers x q ≡ false
     out (inl before) = and_left (leb q.at x) (ltb x (end_of q)) (lt-leb q.at x (omega arith))
@@ -112,8 +104,8 @@ joined_apart p [] a k bytes ys e len low high inside = refl
 joined_apart p (q ∷ qs) a k bytes ys e len low high inside =
     let fits : a + k ≤ length bytes = omega arith in
     let first : bytes_of q (put_mid a k bytes ys) ≡ bytes_of q bytes = same_part q.at q.len (put_mid a k bytes ys) bytes (length-put a k bytes ys len fits)
-    (λ x from to. put_outside a k bytes ys x 0 len fits (out x from to (apart_sides p q (and_first (is_apart p q) (list_all (is_apart p) qs) e)))) in
-    let rest = joined_apart p qs a k bytes ys (and_second (is_apart p q) (list_all (is_apart p) qs) e) len low high inside in
+    (λ x from to. put_outside a k bytes ys x 0 len fits (out x from to (apart_sides p q ((and_parts (is_apart p q) (list_all (is_apart p) qs) e).0)))) in
+    let rest = joined_apart p qs a k bytes ys ((and_parts (is_apart p q) (list_all (is_apart p) qs) e).1) len low high inside in
     ap (λ z. z ++ joined qs (put_mid a k bytes ys)) first ∙ ap (λ z. bytes_of q bytes ++ z) rest
   where
     out : (x : ℕ) → q.at ≤ x → x < q.at + q.len → (end_of p ≤ q.at) ⊎ (end_of q ≤ p.at) → (x < a) ⊎ (a + k ≤ x)
@@ -136,8 +128,8 @@ joined-scattered (p ∷ ps) skip from bytes h e within =
     let next = put_mid (p.at + lead) count bytes (take count from) in
     let done = scattered ps (skip - lead) (drop count from) next in
     let s = step p skip from bytes h.0 in
-    let first : list_all (is_apart p) ps ≡ true = and_first (list_all (is_apart p) ps) (are_apart ps) e in
-    let others : are_apart ps ≡ true = and_second (list_all (is_apart p) ps) (are_apart ps) e in
+    let first : list_all (is_apart p) ps ≡ true = (and_parts (list_all (is_apart p) ps) (are_apart ps) e).0 in
+    let others : are_apart ps ≡ true = (and_parts (list_all (is_apart p) ps) (are_apart ps) e).1 in
     let inside : Inside (length next) ps = subst (λ n. Inside n ps) (sym s.len) h.1 in
     let same : joined ps next ≡ joined ps bytes = joined_apart p ps (p.at + lead) count bytes (take count from) first s.cut (omega arith) (let i = s.in_piece in omega arith) h.0 in
     let len : length (bytes_of p bytes) ≡ p.len = length-bytes_of p bytes h.0 in

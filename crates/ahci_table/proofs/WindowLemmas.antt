@@ -1,10 +1,10 @@
 -- The pieces of a window lie between its table and its end, and copying into them leaves what the window says.
-use Rattle.std.proofs.Common.{◌≡◌, ℕ, ◌+◌, ◌-◌, ◌*◌, ◌%◌, ◌^◌, ◌<◌, ◌≤◌, zero, suc, Bool, true, false, ◌&&◌, ◌||◌, ltb, leb, List, [], ◌∷◌, ◌++◌, length, take, drop, map, get_or, ap, sym, refl, subst, ◌∙◌, arith}
+use Rattle.std.proofs.Common.{◌≡◌, ℕ, ◌+◌, ◌*◌, ◌%◌, ◌^◌, ◌<◌, ◌≤◌, zero, suc, true, false, ltb, leb, List, [], ◌∷◌, length, map, get_or, ap, sym, refl, subst, ◌∙◌, arith}
 use Rattle.std.specs.List.{range_with_len, All}
 use Rattle.std.proofs.lemmas.Bool.{lt-leb, and_left, or_from}
 use Rattle.std.proofs.lemmas.List.FromFn.{length-map-range_with_len, get_or-map-range_with_len}
 use Rattle.std.proofs.lemmas.List.{length-append}
-use Rattle.sata_fis.specs.Places.{byte, number}
+use Rattle.sata_fis.specs.Places.{number}
 use Rattle.sata_fis.specs.Layout.{h2d_at}
 use Rattle.sata_fis.specs.Spelling.{Spells}
 use Rattle.sata_fis.specs.Command.{is_queued, asked_by}
@@ -16,8 +16,8 @@ use Rattle.ahci_table.specs.Window.{WindowState, base, most_bytes}
 use Rattle.ahci_table.specs.Header.{header_of}
 use Rattle.ahci_table.specs.Prdt.{EntryFields, entry_at, entry_of, entry_place, piece_of, table_end, pieces}
 use Rattle.ahci_table.specs.Text.{bytes_of, joined, replaced, text}
-use Rattle.ahci_table.specs.Command.{cfis, h2d, queued_of}
-use Rattle.ahci_table.specs.Fit.{HasHeader, HasCommand, HasEntries, HasList, IsEntry, IsFit}
+use Rattle.ahci_table.specs.Command.{cfis, queued_of}
+use Rattle.ahci_table.specs.Fit.{HasEntries, IsEntry, IsFit}
 use Rattle.ahci_table.specs.Scatter.{IsScattered, in_some}
 use Rattle.ahci_table.proofs.PartLemmas.{same_part}
 use Rattle.ahci_table.proofs.RunLemmas.{length-bytes_of}

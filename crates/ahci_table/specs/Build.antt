@@ -1,6 +1,6 @@
 -- The bytes that are written for a command with a list of pieces (AHCI 1.3.1, sections 4.2.2 and 4.2.3). Reserved bits,
 -- P, PMP, PRDBC, ACMD, I, the control byte, FUA and PRIO are 0.
-use Rattle.std.specs.Prelude.{◌≡◌, ◌≤◌, ℕ, ◌+◌, ◌-◌, ◌*◌, Bool, false, List, [], ◌∷◌, ◌++◌, length, take, replicate, if◌then◌else◌}
+use Rattle.std.specs.Prelude.{◌≡◌, ◌≤◌, ℕ, ◌+◌, ◌-◌, ◌*◌, false, List, [], ◌∷◌, ◌++◌, length, take, replicate, if◌then◌else◌}
 use Rattle.std.specs.Int.{byte_at}
 use Rattle.std.specs.List.{flat_map}
 use Rattle.sata_fis.specs.Command.{h2d_for}

@@ -1,5 +1,5 @@
 -- One run more, and all runs.
-use Rattle.std.proofs.Common.{◌≡◌, length, ap, sym, ◌∙◌, refl, arith, take, drop}
+use Rattle.std.proofs.Common.{ap, ◌∙◌, refl, arith, take, drop}
 use Rattle.ahci_table.specs.Text.{joined}
 use Rattle.ahci_table.proofs.GatherLemmas.{gathers_more, gathers_all}
 use Rattle.ahci_table.proofs.runs.gather.Goals as goal

@@ -1,5 +1,5 @@
 -- After the last piece all is copied.
-use Rattle.std.proofs.Common.{◌≡◌, ℕ, [], length, drop, ap, sym, ◌∙◌, arith}
+use Rattle.std.proofs.Common.{◌≡◌, [], length, drop, ap, sym, ◌∙◌, arith}
 use Rattle.std.proofs.lemmas.List.{drop_all}
 use Rattle.ahci_table.specs.Text.{joined}
 use Rattle.ahci_table.proofs.RunLemmas.{scattered, inside_from, joined-scattered, scattered_outside}

@@ -1,10 +1,8 @@
 -- The table ends where the pieces end, or before; the bytes behind it are zeros until a write's data are copied in.
-use Rattle.std.proofs.Common.{◌≡◌, ◌≤◌, ◌-◌, ◌++◌, length, replicate, ap, sym, subst, ◌∙◌, arith}
-use Rattle.std.specs.List.{All}
+use Rattle.std.proofs.Common.{◌≡◌, ◌≤◌, length, ap, ◌∙◌}
 use Rattle.std.proofs.lemmas.List.{with_items_is}
 use Rattle.ncq_core.specs.Work.{work_of}
-use Rattle.ahci_table.specs.Build.{IsBuilt, table_for}
-use Rattle.ahci_table.specs.Piece.{end_of, furthest}
+use Rattle.ahci_table.specs.Piece.{furthest}
 use Rattle.ahci_table.specs.Prdt.{entry_place}
 use Rattle.ahci_table.specs.Text.{joined}
 use Rattle.ahci_table.proofs.BuildLemmas.{built, furthest_covers, length-table, table_fits, length-blank, joined-blank}
