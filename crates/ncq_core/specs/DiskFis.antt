@@ -2,7 +2,8 @@
 -- field"). Status 40h is DRDY, 48h DRDY with DRQ, 41h DRDY with ERR; error 04h is ABRT, 10h IDNF.
 use Rattle.std.specs.Prelude.{ℕ, Bool, ◌*◌, ◌^◌, true, false, not, List}
 use Rattle.sata_fis.specs.Fields.{D2hFields, PioSetupFields, DmaSetupFields, SetBitsFields, QueuedFields}
-use Rattle.sata_fis.specs.Encoding.{d2h_bytes, pio_setup_bytes, dma_setup_bytes, set_bits_bytes}
+use Rattle.sata_fis.specs.Encoding.{d2h_bytes, pio_setup_bytes, dma_setup_bytes, set_bits_bytes, encoded}
+use Rattle.sata_fis.specs.declared.fis.Fis.TheVariants.{DmaActivate}
 
 -- Register, Device to Host, with a status, an error and an LBA, and all else 0
 abbrev pub register_fis : Bool → ℕ → ℕ → ℕ → D2hFields
@@ -62,6 +63,10 @@ pio_bytes = pio_setup_bytes pio_fis
 
 abbrev pub setup_bytes : QueuedFields → List ℕ
 setup_bytes q = dma_setup_bytes (dma_setup_fis q)
+
+-- the next Data FIS of a write may come: DMA Activate
+abbrev pub activate_bytes : List ℕ
+activate_bytes = encoded DmaActivate
 
 abbrev pub completed_bytes : ℕ → List ℕ
 completed_bytes tag = set_bits_bytes (completed_fis tag)

@@ -6,7 +6,7 @@ use Rattle.sata_fis.specs.declared.fis.Fis.TheVariants.{H2d, D2h, PioSetup, DmaS
 use Rattle.sata_fis.specs.Fields.{H2dFields, QueuedFields}
 use Rattle.sata_fis.specs.Spelling.{Spells}
 use Rattle.ncq_core.specs.DiskState.{DiskError}
-use Rattle.ncq_core.specs.DiskFis.{accepted_fis, aborted_fis, not_found_fis, flushed_fis, pio_fis, dma_setup_fis, completed_fis, failed_fis, accepted_bytes, aborted_bytes, not_found_bytes, flushed_bytes, pio_bytes, setup_bytes, completed_bytes, failed_bytes}
+use Rattle.ncq_core.specs.DiskFis.{accepted_fis, aborted_fis, not_found_fis, flushed_fis, pio_fis, dma_setup_fis, completed_fis, failed_fis, accepted_bytes, aborted_bytes, not_found_bytes, flushed_bytes, pio_bytes, setup_bytes, activate_bytes, completed_bytes, failed_bytes}
 use Rattle.ncq_core.specs.Verdict.{command_in}
 use Rattle.ncq_core.specs.Log.{log_page}
 
@@ -24,6 +24,7 @@ pub record AnswersAreTheseBytes : Type 0 where
       ≡ 0x34 ∷ 0x40 ∷ 0x41 ∷ 0x10 ∷ byte_at 0 lba ∷ byte_at 1 lba ∷ byte_at 2 lba ∷ 0 ∷ byte_at 3 lba ∷ byte_at 4 lba ∷ byte_at 5 lba ∷ 0 ∷ 0 ∷ 0 ∷ 0 ∷ 0 ∷ 0 ∷ 0 ∷ 0 ∷ 0 ∷ []
   pub flushed : flushed_bytes ≡ 0x34 ∷ 0x40 ∷ 0x40 ∷ 0 ∷ 0 ∷ 0 ∷ 0 ∷ 0 ∷ 0 ∷ 0 ∷ 0 ∷ 0 ∷ 0 ∷ 0 ∷ 0 ∷ 0 ∷ 0 ∷ 0 ∷ 0 ∷ 0 ∷ []
   pub pio : pio_bytes ≡ 0x5F ∷ 0x60 ∷ 0x48 ∷ 0 ∷ 0 ∷ 0 ∷ 0 ∷ 0 ∷ 0 ∷ 0 ∷ 0 ∷ 0 ∷ 0 ∷ 0 ∷ 0 ∷ 0x40 ∷ 0 ∷ 2 ∷ 0 ∷ 0 ∷ []
+  pub activate : activate_bytes ≡ 0x39 ∷ 0 ∷ 0 ∷ 0 ∷ []
   pub completed : (tag : ℕ) → completed_bytes tag ≡ 0xA1 ∷ 0x40 ∷ 0x40 ∷ 0 ∷ byte_at 0 (2 ^ tag) ∷ byte_at 1 (2 ^ tag) ∷ byte_at 2 (2 ^ tag) ∷ byte_at 3 (2 ^ tag) ∷ []
   pub failed : (error : ℕ) → failed_bytes error ≡ 0xA1 ∷ 0x40 ∷ 0x41 ∷ error ∷ 0 ∷ 0 ∷ 0 ∷ 0 ∷ []
 

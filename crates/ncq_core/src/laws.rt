@@ -1,4 +1,4 @@
-//! Laws: each function is empty, and its clause holds of all journals.
+//! Laws: each function is empty, and its clause holds of all journals, or of all that the disk sends and takes.
 ghost use Rattle.ncq_core.specs.DiskLaws.{CommandIsSpelled, AnswersAreTheseBytes, AnswersSpell, LogAddsUp};
 ghost use Rattle.ncq_core.specs.Laws.{LawfulAtEach, FreePastDepth, OwnedHasRequest, RequestIsItsIssue, AnsweredByPhase, OwedIsFew, OwedMoves, WritesItsSectors, OthersWriteNothing, CompletedIsAnswered, DeviceTagsInSact, CiInSact, TwoParts};
 

@@ -1,6 +1,7 @@
 //! The journal of one AHCI port and what it means: commands, events, the phase of a tag, and the image that
 //! a journal leaves. The plain functions compute each definition by scanning, slowly; faster code is compared
-//! with them.
+//! with them. Beside them stands the queueing disk, which takes commands by their FISes and moves their data between
+//! its image and a host.
 #![tactic(auto)]
 
 mod answer;

@@ -2,7 +2,7 @@
 
 ghost use Rattle.std.specs.Prelude.{◌≡◌, ◌^◌, ◌<◌, bit_and, length};
 ghost use Rattle.sata_fis.specs.Encoding.{encoded, d2h_bytes, set_bits_bytes, IsNotData};
-ghost use Rattle.ncq_core.specs.DiskFis.{accepted_bytes, aborted_bytes, not_found_bytes, flushed_bytes, pio_bytes, setup_bytes, completed_bytes, failed_bytes, register_fis, done_fis};
+ghost use Rattle.ncq_core.specs.DiskFis.{accepted_bytes, aborted_bytes, not_found_bytes, flushed_bytes, pio_bytes, setup_bytes, activate_bytes, completed_bytes, failed_bytes, register_fis, done_fis};
 
 use sata_fis::{D2h, DmaSetup, Fis, PioSetup, Queued, SetBits};
 use word_bits::place;
@@ -130,4 +130,11 @@ pub(super) fn failed(error: u8) -> [u8; 8]
     ensures { result ≡ failed_bytes error }
 {
     set_bits(FAILED, error, 0)
+}
+
+/// The next Data FIS of a write may come: DMA Activate.
+pub(super) fn activate() -> [u8; 4]
+    ensures { result ≡ activate_bytes }
+{
+    bytes_of(&Fis::DmaActivate)
 }

@@ -3,23 +3,32 @@
 
 ghost use Rattle.std.specs.Prelude.{◌≡◌, ◌+◌, ◌*◌, ◌/◌, ◌%◌, ◌≤◌, ◌++◌, length, take, drop, slice_range};
 ghost use Rattle.std.specs.List.{replace_range};
+ghost use Rattle.sata_fis.specs.Encoding.{data_head_bytes};
 ghost use Rattle.sata_fis.specs.Payload.{IsPayload};
 ghost use Rattle.ncq_core.specs.Serving.{HasMoved, IsRead, IsWritten, byte_count};
 
+use crate::disk::answers::activate;
 use crate::host::Host;
 use sata_fis::{Queued, data_head};
 
 /// The most bytes that one Data FIS carries.
 const MOST_PAYLOAD: usize = 8192;
 
-/// The bytes of a DMA Activate.
-const ACTIVATE: [u8; 4] = [0x39, 0, 0, 0];
-
 /// Room for the largest Data FIS.
 fn data_room() -> [u8; 8196]
     ensures { length result ≡ 8196 }
 {
     [0; 8196]
+}
+
+/// Puts a Data FIS together: its head, and the payload behind it.
+fn put_data(fis: &mut [u8], payload: &[u8])
+    requires { length fis.old ≡ 4 + length payload.now }
+    ensures { fis.new ≡ data_head_bytes ++ payload.now }
+{
+    let (head, rest) = fis.split_at_mut(4);
+    head.copy_from_slice(&data_head());
+    rest.copy_from_slice(payload);
 }
 
 /// Sends a payload in one Data FIS, which is put together in `room`.
@@ -33,8 +42,7 @@ fn deliver_one<H: Host>(host: &mut H, room: &mut [u8], payload: &[u8])
     ensures others { H.keeps host.old host.new }
 {
     let fis = &mut room[..4 + payload.len()];
-    fis[..4].copy_from_slice(&data_head());
-    fis[4..].copy_from_slice(payload);
+    put_data(fis, payload);
     host.deliver(fis);
 }
 
@@ -50,7 +58,7 @@ fn fetch_one<H: Host>(host: &mut H, room: &mut [u8], out: &mut [u8])
     ensures others { H.keeps host.old host.new }
 {
     let fis = &mut room[..4 + out.len()];
-    host.activate(&ACTIVATE, fis);
+    host.activate(&activate(), fis);
     out.copy_from_slice(&fis[4..]);
 }
 

@@ -98,7 +98,8 @@ fn a_write_is_taken_and_served(rt: HostRuntime) -> Result<(), Fail> {
         0x41, 0, 0, 0, 1, 0, 0, 0, 0, 0, 0, 0, 0, 0, 0, 0, 0, 0, 0, 0, 0, 2, 0, 0, 0, 0, 0, 0,
     ];
     assert_eq!(&rt; host.setup, setup);
-    assert_eq!(&rt; (host.data, host.last, host.activates), (1, 516, 1));
+    assert_eq!(&rt; (host.setups, host.data, host.last), (1, 1, 516));
+    assert_eq!(&rt; (host.activates, host.activate), (1, [0x39, 0, 0, 0]));
     assert_eq!(&rt; (disk.tags(), disk.depth(), disk.stopped()), (0, 4, false));
     shows(&rt, &disk, &[0, 0, 0, 0x5A, 0, 0, 0, 0]);
     Ok(())
@@ -120,6 +121,7 @@ fn an_error_is_told_by_the_log(rt: HostRuntime) -> Result<(), Fail> {
         serve(&rt, &mut disk, 3, &mut host),
         Err(ServeFault::Stopped)
     );
+    assert_eq!(&rt; host.setups, 0);
     assert_eq!(&rt; disk.fail(0, 4, 6), Err(ServeFault::Stopped));
     for bytes in [&WRITE[..], &IDENTIFY, &FLUSH, &READ_LOG[..19]] {
         assert_eq!(&rt; disk.take(bytes), ABORTED);

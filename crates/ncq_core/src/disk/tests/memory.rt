@@ -12,6 +12,11 @@ pub struct Memory {
     pub text: Vec<u8>,
     pub setup: [u8; 28],
     pub offset: usize,
+    /// How many DMA Setups came.
+    pub setups: usize,
+    /// The head of the last Data FIS that was delivered, and the last DMA Activate.
+    pub head: [u8; 4],
+    pub activate: [u8; 4],
     /// How many Data FISes moved, either way.
     pub data: usize,
     /// The length of the last of them.
@@ -35,6 +40,7 @@ impl Host for Memory {
 
     fn setup(&mut self, fis: &[u8; 28]) {
         self.setup = *fis;
+        self.setups = self.setups.saturating_add(1);
         self.offset = 0;
     }
 
@@ -42,6 +48,7 @@ impl Host for Memory {
         let end = self.offset + fis.len() - 4;
         self.text.as_mut_slice()[self.offset..end].copy_from_slice(&fis[4..]);
         self.offset = end;
+        self.head.copy_from_slice(&fis[..4]);
         self.data = self.data.saturating_add(1);
         self.last = fis.len();
     }
@@ -53,6 +60,7 @@ impl Host for Memory {
         self.offset = end;
         self.data = self.data.saturating_add(1);
         self.last = out.len();
+        self.activate = *fis;
         self.activates = self.activates.saturating_add(1);
     }
 }
@@ -64,6 +72,9 @@ impl Memory {
             text: vec![in alloc; byte; disk.sectors() as usize * 512]?,
             setup: [0xFF; 28],
             offset: 0,
+            setups: 0,
+            head: [0; 4],
+            activate: [0; 4],
             data: 0,
             last: 0,
             activates: 0,

@@ -36,7 +36,13 @@ fn moves(
         (host.data, host.last, host.offset),
         (data, last, sectors * 512)
     );
-    assert_eq!(rt; host.activates, if write { data } else { 0 });
+    assert_eq!(rt; (host.setups, host.activates), (1, if write { data } else { 0 }));
+    let (activate, head) = if write {
+        ([0x39, 0, 0, 0], [0; 4])
+    } else {
+        ([0; 4], [0x46, 0, 0, 0])
+    };
+    assert_eq!(rt; (host.activate, host.head), (activate, head));
     assert_eq!(rt;
         &host.setup[..8],
         [0x41, if write { 0 } else { 0x20 }, 0, 0, 31, 0, 0, 0].as_slice()

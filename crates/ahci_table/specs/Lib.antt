@@ -1,0 +1,12 @@
+pub mod Piece
+pub mod Window
+pub mod Header
+pub mod Prdt
+pub mod Text
+pub mod Command
+pub mod Fit
+pub mod Scatter
+pub mod Refusal
+pub mod Build
+pub mod Defaults
+pub mod Laws

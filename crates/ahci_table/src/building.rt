@@ -1,0 +1,185 @@
+ghost use Rattle.std.specs.Prelude.{◌≡◌, ◌<◌, ◌≤◌, ◌+◌, ◌-◌, ◌*◌, ℕ, false, true, ◌++◌, ◌^◌, length, [], None, IfOk, IfErr, IsErrAnd, MatchOption, replicate};
+ghost use Rattle.std.specs.List.{All, flat_map};
+ghost use Rattle.sata_fis.specs.Command.{h2d_for};
+ghost use Rattle.sata_fis.specs.Encoding.{h2d_bytes};
+ghost use Rattle.ncq_core.specs.Image.{is_write};
+ghost use Rattle.ncq_core.specs.Work.{work_of, lba_of, sectors_of};
+ghost use Rattle.ahci_table.specs.Build.{IsBuilt, Carries, data_for, header_for, entry_for, table_for, queued_for};
+ghost use Rattle.ahci_table.specs.Fit.{IsFit};
+ghost use Rattle.ahci_table.specs.Piece.{are_apart, end_of, furthest};
+ghost use Rattle.ahci_table.specs.Refusal.{is_ragged, refusal};
+ghost use Rattle.sata_fis.specs.Places.{byte};
+ghost use Rattle.ahci_table.specs.Scatter.{in_some};
+ghost use Rattle.ahci_table.specs.Text.{joined};
+ghost use Rattle.ahci_table.specs.Window.{base, most_bytes};
+
+use crate::checking::base;
+use crate::fault::BuildFault;
+use crate::list::furthest;
+use crate::piece::Piece;
+use crate::refusing::refusal;
+use crate::runs;
+use crate::window::Window;
+use arrayvec::ArrayVec;
+use ncq_core::Op;
+use sata_fis::{Fis, Queued, h2d_of};
+use std::alloc::{AllocError, Allocator};
+
+/// Whether the data goes to the device.
+fn is_write<A: Allocator>(op: &Op<A>) -> bool
+    ensures { result ≡ is_write (work_of op.now) }
+{
+    matches!(op, Op::Write { .. })
+}
+
+/// The header of a command with so many pieces.
+fn header_for<A: Allocator>(tag: u8, op: &Op<A>, pieces: u16) -> [u8; 32]
+    requires { tag < 32 }
+    ensures { result ≡ header_for tag (work_of op.now) pieces }
+{
+    let flags = if is_write(op) { 0x45 } else { 0x05 };
+    let [low, high] = pieces.to_le_bytes();
+    let [b0, b1, b2, b3] = base(tag).to_le_bytes();
+    [
+        flags, 0, low, high, 0, 0, 0, 0, b0, b1, b2, b3, 0, 0, 0, 0, 0, 0, 0, 0, 0, 0, 0, 0, 0, 0,
+        0, 0, 0, 0, 0, 0,
+    ]
+}
+
+/// The bytes of the command FIS.
+fn command_fis<A: Allocator>(tag: u8, op: &Op<A>) -> ArrayVec<u8, 28>
+    requires tag { tag < 32 }
+    requires lba { lba_of (work_of op.now) < 2 ^ 48 }
+    requires some { 1 ≤ sectors_of (work_of op.now) }
+    requires most { sectors_of (work_of op.now) ≤ 65536 }
+    ensures { result.items ≡ h2d_bytes (h2d_for (queued_for tag (work_of op.now))) }
+{
+    let queued = Queued {
+        write: is_write(op),
+        tag,
+        lba: op.lba(),
+        sectors: op.sectors() as u32,
+        fua: false,
+    };
+    Fis::H2d(h2d_of(&queued)).encode()
+}
+
+/// The PRDT entry of a piece.
+fn entry_for(start: u32, piece: &Piece) -> [u8; 16]
+    requires fits { start + piece.now.at < 2 ^ 32 }
+    requires some { 0 < piece.now.len }
+    ensures { result ≡ entry_for start piece.now }
+{
+    let [a0, a1, a2, a3] = (start + piece.at).to_le_bytes();
+    let [c0, c1, c2, c3] = (piece.len - 1).to_le_bytes();
+    [a0, a1, a2, a3, 0, 0, 0, 0, 0, 0, 0, 0, c0, c1, c2, c3]
+}
+
+impl<A: Allocator> Window<A> {
+    /// The window of a command whose data stand in these pieces: header and command table with all reserved bits 0, a
+    /// write's bytes in the pieces, and zeros elsewhere. It ends where the piece that reaches furthest ends.
+    ///
+    /// # Errors
+    /// The first of the cases of `BuildFault` that holds, `OutOfMemory` only where a growth was refused.
+    pub fn build<B: Allocator>(
+        alloc: A,
+        tag: u8,
+        op: &Op<B>,
+        pieces: &[Piece],
+    ) -> Result<Self, BuildFault>
+        requires { tag < 32 }
+        ensures bytes { IfOk result (λ w. IsBuilt tag (work_of op.now) pieces.now w) }
+        ensures carries { IfOk result (λ w. Carries tag (work_of op.now) pieces.now w) }
+        ensures fit { IfOk result (λ w. IsFit w) }
+        ensures fault { MatchOption (refusal (work_of op.now) pieces.now) (IfErr result (λ e. e ≡ BuildFault.OutOfMemory)) (λ f. IsErrAnd result (λ e. e ≡ f)) }
+    {
+        if let Some(fault) = refusal(op, pieces) {
+            return Err(fault);
+        }
+        match Self::written(alloc, tag, op, pieces) {
+            Ok(window) => Ok(window),
+            Err(_) => Err(BuildFault::OutOfMemory),
+        }
+    }
+
+    /// The window of a command that nothing stands against.
+    fn written<B: Allocator>(
+        alloc: A,
+        tag: u8,
+        op: &Op<B>,
+        pieces: &[Piece],
+    ) -> Result<Self, AllocError>
+        requires tag { tag < 32 }
+        requires free { refusal (work_of op.now) pieces.now ≡ None }
+        ensures bytes { IfOk result (λ w. IsBuilt tag (work_of op.now) pieces.now w) }
+    {
+        let end = furthest(pieces) as usize;
+        let table = table_for(Vec::with_capacity(alloc, end)?, tag, op, pieces)?;
+        let mut bytes = zeroed_to(table, end)?;
+        fill(op, pieces, &mut bytes);
+        Ok(Window {
+            tag,
+            header: header_for(tag, op, pieces.len() as u16),
+            bytes,
+        })
+    }
+}
+
+/// CFIS and what stands behind it up to the PRDT: the command FIS, and zeros.
+fn table_head<A: Allocator>(mut bytes: Vec<u8, A>, fis: &[u8]) -> Result<Vec<u8, A>, AllocError>
+    requires empty { bytes.items ≡ [] }
+    requires len { length fis.now ≡ 20 }
+    ensures { IfOk result (λ v. v.items ≡ fis.now ++ replicate 108 0) }
+{
+    bytes.extend_from_slice(fis)?;
+    bytes.resize(0x80, 0)?;
+    Ok(bytes)
+}
+
+/// Writes the command table into an empty `Vec`.
+fn table_for<A: Allocator, B: Allocator>(
+    bytes: Vec<u8, A>,
+    tag: u8,
+    op: &Op<B>,
+    pieces: &[Piece],
+) -> Result<Vec<u8, A>, AllocError>
+    requires empty { bytes.items ≡ [] }
+    requires tag { tag < 32 }
+    requires lba { lba_of (work_of op.now) < 2 ^ 48 }
+    requires some { 1 ≤ sectors_of (work_of op.now) }
+    requires most { sectors_of (work_of op.now) ≤ 65536 }
+    requires inside { All (λ p. end_of p ≤ most_bytes) pieces.now }
+    requires full { All (λ p. 0 < p.len) pieces.now }
+    ensures { IfOk result (λ v. v.items ≡ table_for tag (work_of op.now) pieces.now) }
+{
+    let mut table = table_head(bytes, &command_fis(tag, op))?;
+    let start = base(tag);
+    for piece in pieces {
+        table.extend_from_slice(&entry_for(start, piece))?;
+    }
+    Ok(table)
+}
+
+/// Appends zeros up to an end.
+fn zeroed_to<A: Allocator>(mut bytes: Vec<u8, A>, end: usize) -> Result<Vec<u8, A>, AllocError>
+    requires { length bytes.items ≤ end }
+    ensures { IfOk result (λ v. v.items ≡ bytes.items ++ replicate (end - length bytes.items) 0) }
+{
+    bytes.resize(end, 0)?;
+    Ok(bytes)
+}
+
+/// Copies a write's bytes into pieces that hold zeros.
+fn fill<A: Allocator>(op: &Op<A>, pieces: &[Piece], bytes: &mut [u8])
+    requires inside { All (λ p. end_of p ≤ length bytes.old) pieces.now }
+    requires apart { are_apart pieces.now ≡ true }
+    requires whole { is_ragged (work_of op.now) ≡ false }
+    requires zero { joined pieces.now bytes.old ≡ replicate (512 * sectors_of (work_of op.now)) 0 }
+    ensures len { length bytes.new ≡ length bytes.old }
+    ensures text { joined pieces.now bytes.new ≡ data_for (work_of op.now) }
+    ensures others { (x : ℕ) → in_some x pieces.now ≡ false → byte x bytes.new ≡ byte x bytes.old }
+{
+    if let Op::Write { bytes: text, .. } = op {
+        runs::scatter(pieces, bytes, 0, text.as_slice());
+    }
+}

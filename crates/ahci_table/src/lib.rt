@@ -1,0 +1,27 @@
+//! The memory of one tag's command: its command header, command table and data in one buffer, a window. A window is
+//! built from a command and a list of pieces, or taken from any bytes; it is checked, and data is moved in and out of it.
+#![tactic(auto)]
+
+mod building;
+mod checking;
+mod command;
+mod defaults;
+mod entry;
+mod fault;
+mod header;
+pub mod laws;
+mod list;
+mod moving;
+mod piece;
+mod refusing;
+mod runs;
+mod window;
+
+pub use command::Command;
+pub use defaults::default_pieces;
+pub use fault::{BuildFault, TableFault};
+pub use piece::Piece;
+pub use window::Window;
+
+#[cfg(test)]
+mod tests;
