@@ -36,7 +36,6 @@ impl<A: Allocator> Window<A> {
         ensures fit { IfOk result (λ c. IsFit self.now) }
         ensures queued { IfOk result (λ c. c.queued ≡ queued_of self.now) }
         ensures pieces { IfOk result (λ c. c.pieces.items ≡ pieces self.now) }
-        ensures proper { IfOk result (λ c. IsProper (op self.now)) }
         ensures fault { IfErr result (λ e. Breaks self.now e) }
     {
         if !self.has_header() {
