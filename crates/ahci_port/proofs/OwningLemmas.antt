@@ -1,0 +1,67 @@
+-- The slot of a tag that isn't free.
+use Rattle.std.proofs.Common.{◌≡◌, ◌≢◌, ℕ, ◌<◌, Bool, true, false, cond, List, length, map, set, ap, sym, refl, ◌∙◌, Option, None, Some, arith}
+use Rattle.std.proofs.lemmas.Bool.{false≢true}
+use Rattle.std.proofs.Math.Seq.{map-set_same}
+use Rattle.ahci_regs.specs.PortState.{PortState}
+use Rattle.ncq_core.specs.declared.phase.Phase.{Phase}
+use Rattle.ncq_core.specs.declared.phase.Phase.TheVariants.{Free, Issued, Accepted, Rejected, Broken, Held, Done}
+use Rattle.ncq_core.specs.DiskState.{DiskState}
+use Rattle.ncq_core.specs.Entry.{Entry, Reissue}
+use Rattle.ncq_core.specs.Halted.{halted}
+use Rattle.ncq_core.specs.Phase.{phase}
+use Rattle.ncq_core.proofs.OwedLemmas.{owed_moves}
+use Rattle.ahci_port.specs.Faults.{is_held, reissue_refusal}
+use Rattle.ahci_port.specs.Keeping.{Keeps, Holds, HasSlot, slot_at}
+use Rattle.ahci_port.specs.PortView.{PortView}
+use Rattle.ahci_port.specs.Slots.{SlotState, window_in}
+use Rattle.ahci_port.specs.declared.fault.ReissueFault.TheVariants as reissue
+use Rattle.ahci_port.proofs.CollectingLemmas.{within}
+
+pub record Owned (starting : List ℕ) (past : List Entry) (slots : List (Option SlotState)) (tag : ℕ) : Type 0 where
+  pub slot : SlotState
+  pub here : slot_at slots tag ≡ Some slot
+  pub below : tag < length slots
+  pub low : tag < 32
+  pub holds : Holds starting past tag slot
+
+pub owned : (starting : List ℕ) (disk : DiskState) (regs : PortState) (slots : List (Option SlotState)) (headers : List (List ℕ)) (past : List Entry) (free tag : ℕ)
+    → Keeps starting disk regs slots headers past free → phase past tag ≢ Free → Owned starting past slots tag
+owned starting disk regs slots headers past free tag k taken = by (slot_at slots tag) refl (k.each tag)
+  where
+    by : (s : Option SlotState) → slot_at slots tag ≡ s → HasSlot starting past tag s → Owned starting past slots tag
+    by None e h = absurd (taken h)
+    by (Some slot) e h =
+        let in_list = within slots tag slot e in
+        record { slot = slot; here = e; below = in_list; low = (let c = k.slot_count in let s = k.shallow in omega arith); holds = h }
+
+held_is : (p : Phase) → is_held p ≡ true → p ≡ Held
+held_is Held e = refl
+held_is Free e = absurd (false≢true e)
+held_is Issued e = absurd (false≢true e)
+held_is Accepted e = absurd (false≢true e)
+held_is Rejected e = absurd (false≢true e)
+held_is Broken e = absurd (false≢true e)
+held_is Done e = absurd (false≢true e)
+
+-- what no fault of a reissue says
+pub reissue_may : (port : PortView) (tag : ℕ) → reissue_refusal port tag ≡ None → (phase port.past tag ≡ Held) × (halted port.past ≡ false)
+reissue_may port tag e = by (halted port.past) (is_held (phase port.past tag)) refl refl e
+  where
+    by : (a b : Bool) → halted port.past ≡ a → is_held (phase port.past tag) ≡ b → cond a (Some reissue.Halted) (cond b None (Some reissue.NotHeld)) ≡ None → (phase port.past tag ≡ Held) × (halted port.past ≡ false)
+    by true b p q h = absurd (cc)
+    by false true p q h = (held_is (phase port.past tag) q, p)
+    by false false p q h = absurd (cc)
+
+pub held_taken : (past : List Entry) (tag : ℕ) → phase past tag ≡ Held → phase past tag ≢ Free
+held_taken past tag e f = absurd (let z : Held ≡ Free = sym e ∙ f in cc)
+
+pub reissue_room : (starting : List ℕ) (disk : DiskState) (regs : PortState) (slots : List (Option SlotState)) (headers : List (List ℕ)) (past : List Entry) (free tag : ℕ)
+    → Keeps starting disk regs slots headers past free → phase past tag ≡ Held → halted past ≡ false → 0 < free
+reissue_room starting disk regs slots headers past free tag k held running =
+    let moves = owed_moves _ disk.depth past (Reissue tag) k.shallow (k.lawful, (held, running)) in
+    let r = k.room in
+    omega arith
+
+-- a slot that keeps its window leaves the windows
+pub windows_same : (slots : List (Option SlotState)) (tag : ℕ) (slot next : SlotState) → slot_at slots tag ≡ Some slot → next.window ≡ slot.window → map window_in (set slots tag (Some next)) ≡ map window_in slots
+windows_same slots tag slot next here same = map-set_same window_in slots tag (Some next) None (ap (λ w. Some w) same ∙ sym (ap window_in here))

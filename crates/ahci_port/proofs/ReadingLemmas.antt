@@ -1,0 +1,134 @@
+-- What the port's fields say of its journal.
+use Rattle.std.proofs.Common.{◌≡◌, ◌≢◌, ℕ, ◌/◌, Bool, true, false, cond, List, [], ◌∷◌, length, map, replicate, ap, sym, refl, ◌∙◌, Option, None, Some, is_some, IsSomeAnd, arith, inl, inr, zero, suc}
+use Rattle.std.specs.Option.{option_map}
+use Rattle.std.proofs.lemmas.Bool.{cases_lt}
+use Rattle.std.proofs.Math.ListN.{get_or-map}
+use Rattle.std.proofs.lemmas.List.{get_or-replicate, get_or_past, length-replicate, length-map}
+use Rattle.ahci_regs.specs.PortState.{PortState}
+use Rattle.ncq_core.specs.declared.phase.Phase.{Phase}
+use Rattle.ncq_core.specs.declared.phase.Phase.TheVariants.{Free, Issued, Accepted, Rejected, Broken, Held, Done}
+use Rattle.ncq_core.specs.DiskState.{DiskState, DiskError, IsDisk, is_stopped, new_disk, no_commands, outstanding}
+use Rattle.ncq_core.specs.Entry.{Entry}
+use Rattle.ncq_core.specs.Halted.{halted}
+use Rattle.ncq_core.specs.Owed.{owed_in}
+use Rattle.ncq_core.specs.Phase.{phase}
+use Rattle.ncq_core.specs.Request.{request}
+use Rattle.ncq_core.proofs.HaltedLemmas.{not_halted}
+use Rattle.ncq_core.proofs.TagLemmas.{sum_le}
+use Rattle.word_bits.specs.Places.{no_places}
+use Rattle.word_bits.proofs.PlacesLemmas.{length-no_places, has_place-no_places, same_sets}
+use Rattle.ahci_port.specs.Keeping.{Keeps, HasSlot, slot_at}
+use Rattle.ahci_port.specs.PortView.{is_free, owner_of, new_port}
+use Rattle.ahci_port.specs.Registers.{acknowledged, started}
+use Rattle.ahci_port.specs.Slots.{SlotState, phase_in, outstanding_in, view_of, window_in}
+use Rattle.ahci_port.specs.Standing.{last_failure}
+use Rattle.ahci_port.specs.Tracking.{Tracks}
+use Rattle.ahci_port.proofs.FailingLemmas.{no_command, no_count}
+use Rattle.ahci_port.proofs.FailureLemmas.{failed_tag}
+use Rattle.ahci_port.proofs.RegisterLemmas.{tracks_acknowledge, tracks_new}
+
+-- the slot has the tag's phase
+pub phase_here : (starting : List ℕ) (past : List Entry) (tag : ℕ) (s : Option SlotState) → HasSlot starting past tag s → phase_in s ≡ phase past tag
+phase_here starting past tag None h = sym h
+phase_here starting past tag (Some slot) h = sym h.phase_is
+
+pub taken_free : (p : Phase) → p ≢ Free → is_free p ≡ false
+taken_free Free t = absurd (t refl)
+taken_free Issued t = refl
+taken_free Accepted t = refl
+taken_free Rejected t = refl
+taken_free Broken t = refl
+taken_free Held t = refl
+taken_free Done t = refl
+
+-- the slot has the number of its owner
+pub owner_here : (starting : List ℕ) (past : List Entry) (tag : ℕ) (s : Option SlotState) → HasSlot starting past tag s → option_map (λ x. x.number) s ≡ owner_of past tag
+owner_here starting past tag None h = sym (ap (λ p. cond (is_free p) None (option_map (λ r. r.number) (request past tag))) h)
+owner_here starting past tag (Some slot) h =
+    sym (ap (λ b. cond b None (option_map (λ r. r.number) (request past tag))) (ap is_free h.phase_is ∙ taken_free slot.phase h.taken)
+    ∙ ap (λ o. option_map (λ r. r.number) o) h.request_is)
+
+some_error : (o : Option DiskError) (P : DiskError → Type 0) → IsSomeAnd o P → is_some o ≡ true
+some_error None P h = absurd h
+some_error (Some e) P h = refl
+
+-- the disk has stopped exactly where the port is halted
+pub stopped_here : (starting : List ℕ) (disk : DiskState) (regs : PortState) (slots : List (Option SlotState)) (headers : List (List ℕ)) (past : List Entry) (free : ℕ) → Keeps starting disk regs slots headers past free → is_stopped disk ≡ halted past
+stopped_here starting disk regs slots headers past free k = ap is_some k.error_is ∙ by (halted past) refl
+  where
+    by : (b : Bool) → halted past ≡ b → is_some (cond (halted past) (last_failure past) None) ≡ halted past
+    by true e = ap (λ b. is_some (cond b (last_failure past) None)) e ∙ some_error (last_failure past) _ (failed_tag (length starting / 512) disk.depth past k.shallow k.lawful e) ∙ sym e
+    by false e = ap (λ b. is_some (cond b (last_failure past) None)) e ∙ sym e
+
+-- the registers alone move
+pub keeps_registers : (starting : List ℕ) (disk : DiskState) (regs moved : PortState) (slots : List (Option SlotState)) (headers : List (List ℕ)) (past : List Entry) (free : ℕ)
+    → Keeps starting disk regs slots headers past free → Tracks disk.depth past moved → Keeps starting disk moved slots headers past free
+keeps_registers starting disk regs moved slots headers past free k tracks = record {
+  whole = k.whole;
+  few = k.few;
+  some_slot = k.some_slot;
+  shallow = k.shallow;
+  same_size = k.same_size;
+  command_count = k.command_count;
+  slot_count = k.slot_count;
+  header_count = k.header_count;
+  lawful = k.lawful;
+  tracks = tracks;
+  sectors = k.sectors;
+  commands = k.commands;
+  error_is = k.error_is;
+  each = k.each;
+  listed = k.listed;
+  room = k.room;
+}
+
+pub keeps_acknowledge : (starting : List ℕ) (disk : DiskState) (regs : PortState) (slots : List (Option SlotState)) (headers : List (List ℕ)) (past : List Entry) (free mask : ℕ)
+    → Keeps starting disk regs slots headers past free → Keeps starting disk (acknowledged regs mask) slots headers past free
+keeps_acknowledge starting disk regs slots headers past free mask k = keeps_registers starting disk regs (acknowledged regs mask) slots headers past free k (tracks_acknowledge disk.depth past regs mask k.tracks)
+
+-- every slot of a new port is free
+vacant : (depth u : ℕ) → slot_at (replicate depth None) u ≡ None
+vacant depth u = elim (cases_lt u depth) [
+  | inl low ↦ get_or-replicate depth u None None low
+  | inr high ↦ get_or_past (replicate depth None) u None (let l : length (replicate {A = Option SlotState} depth None) ≡ depth = length-replicate depth None in omega arith)
+]
+
+-- a new port
+pub keeps_new : (image : List ℕ) (depth : ℕ) (headers : List (List ℕ)) → IsDisk (new_disk image depth) → length headers ≡ 32 → Keeps image (new_disk image depth) (started depth) (replicate depth None) headers [] 0
+keeps_new image depth headers d count = record {
+  whole = d.whole;
+  few = d.most;
+  some_slot = d.deep;
+  shallow = d.shallow;
+  same_size = refl;
+  command_count = d.count;
+  slot_count = length-replicate depth None;
+  header_count = count;
+  lawful = tt;
+  tracks = tracks_new depth;
+  sectors = λ s. refl;
+  commands = λ u. no_command u ∙ sym (ap (outstanding_in (halted [])) (vacant depth u));
+  error_is = sym (ap (λ b. cond b (last_failure []) None) calm);
+  each = λ u. rw (vacant depth u) refl;
+  listed = λ u. rw (vacant depth u) tt;
+  room = sum_le (λ tag. owed_in (phase [] tag)) 0 (λ tag. omega arith);
+}
+  where
+    calm : halted [] ≡ false
+    calm = not_halted [] (λ t low. refl)
+
+-- nothing is outstanding in a new disk
+none_in_device : (image : List ℕ) (depth : ℕ) → outstanding (new_disk image depth) ≡ no_places
+none_in_device image depth =
+    same_sets (outstanding (new_disk image depth)) no_places (length-map no_commands is_some ∙ no_count ∙ sym length-no_places)
+    (λ i h. get_or-map is_some no_commands i None ∙ ap is_some (no_command i) ∙ sym (has_place-no_places i))
+
+no_windows : (n : ℕ) → map window_in (replicate n None) ≡ replicate n None
+no_windows zero = refl
+no_windows (suc n) = ap (λ xs. None ∷ xs) (no_windows n)
+
+-- what callers see of it
+pub view_new : (image : List ℕ) (depth : ℕ) → view_of image (new_disk image depth) (started depth) (replicate 256 0) (replicate depth None) [] ≡ new_port image depth
+view_new image depth =
+    ap (λ d. record (new_port image depth) { device = d; windows = map window_in (replicate depth None) }) (none_in_device image depth)
+    ∙ ap (λ w. record (new_port image depth) { windows = w }) (no_windows depth)

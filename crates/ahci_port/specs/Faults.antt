@@ -1,0 +1,112 @@
+-- When each call of the port is refused: the first case that holds, in this order (profile). A tag at or above the depth
+-- counts as a free slot.
+use Rattle.std.specs.Prelude.{◌≡◌, ◌≢◌, ℕ, ◌<◌, ◌≤◌, Bool, true, false, not, ◌||◌, nat_eq, if◌then◌else◌, Option, None, Some, Result, Err, IsOk, IsOkUnless}
+use Rattle.ahci_table.specs.declared.fault.TableFault.TheVariants as table
+use Rattle.ahci_table.specs.Fit.{IsFit, Breaks}
+use Rattle.ahci_table.specs.Window.{WindowState}
+use Rattle.ncq_core.specs.declared.phase.Phase.{Phase}
+use Rattle.ncq_core.specs.declared.phase.Phase.TheVariants.{Free, Issued, Accepted, Held, Done}
+use Rattle.ncq_core.specs.Halted.{halted, busy}
+use Rattle.ncq_core.specs.Image.{covers}
+use Rattle.ncq_core.specs.Phase.{phase}
+use Rattle.ncq_core.specs.Request.{Request, request}
+use Rattle.ahci_port.specs.PortView.{PortView, is_free}
+use Rattle.ahci_port.specs.declared.fault.IssueFault.{IssueFault}
+use Rattle.ahci_port.specs.declared.fault.IssueFault.TheVariants as issue
+use Rattle.ahci_port.specs.declared.fault.StepFault.{StepFault}
+use Rattle.ahci_port.specs.declared.fault.StepFault.TheVariants as step_fault
+use Rattle.ahci_port.specs.declared.fault.CollectFault.{CollectFault}
+use Rattle.ahci_port.specs.declared.fault.CollectFault.TheVariants.{Stranger, NotYet}
+use Rattle.ahci_port.specs.declared.fault.RecoverFault.{RecoverFault}
+use Rattle.ahci_port.specs.declared.fault.RecoverFault.TheVariants.{NotHalted}
+use Rattle.ahci_port.specs.declared.fault.ReissueFault.{ReissueFault}
+use Rattle.ahci_port.specs.declared.fault.ReissueFault.TheVariants as reissue
+use Rattle.ahci_port.specs.declared.fault.PlainFault.{PlainFault}
+use Rattle.ahci_port.specs.declared.fault.PlainFault.TheVariants as plain
+use Rattle.ahci_port.specs.declared.step.DeviceStep.{DeviceStep}
+use Rattle.ahci_port.specs.declared.step.DeviceStep.TheVariants.{Accept, Serve, Fail}
+
+abbrev pub is_issued : Phase → Bool
+is_issued Issued = true
+is_issued p = false
+
+abbrev pub is_accepted : Phase → Bool
+is_accepted Accepted = true
+is_accepted p = false
+
+abbrev pub is_held : Phase → Bool
+is_held Held = true
+is_held p = false
+
+abbrev pub is_done : Phase → Bool
+is_done Done = true
+is_done p = false
+
+-- the port takes a command for this tag, if its window is fit
+pub record MayTake (port : PortView) (tag : ℕ) : Type 0 where
+  pub running : halted port.past ≡ false
+  pub below : tag < port.depth
+  pub free : phase port.past tag ≡ Free
+
+-- the window is not issued for this reason
+abbrev pub RefusesIssue : PortView → WindowState → IssueFault → Type 0
+RefusesIssue port w issue.Halted = halted port.past ≡ true
+RefusesIssue port w issue.NoSuchTag = (halted port.past ≡ false) × (port.depth ≤ w.tag)
+RefusesIssue port w issue.SlotOwned = (halted port.past ≡ false) × (w.tag < port.depth) × (phase port.past w.tag ≢ Free)
+RefusesIssue port w issue.BadHeader = MayTake port w.tag × Breaks w table.BadHeader
+RefusesIssue port w issue.BadCommand = MayTake port w.tag × Breaks w table.BadCommand
+RefusesIssue port w issue.WrongTag = MayTake port w.tag × Breaks w table.WrongTag
+RefusesIssue port w issue.TooLong = MayTake port w.tag × Breaks w table.TooLong
+RefusesIssue port w issue.BadList = MayTake port w.tag × Breaks w table.BadList
+RefusesIssue port w issue.OutOfMemory = MayTake port w.tag × IsFit w
+
+-- the sector is one of the request's command
+abbrev pub is_of_request : Option Request → ℕ → Bool
+is_of_request None lba = false
+is_of_request (Some r) lba = covers r.work lba
+
+-- why the device does not take a step
+abbrev pub step_refusal : PortView → DeviceStep → Option StepFault
+step_refusal port (Accept tag) =
+    if halted port.past then Some step_fault.Halted
+    else (if is_issued (phase port.past tag) then None else Some step_fault.NotIssued)
+step_refusal port (Serve tag) =
+    if halted port.past then Some step_fault.Halted
+    else (if is_accepted (phase port.past tag) then None else Some step_fault.NotAccepted)
+step_refusal port (Fail tag error at) =
+    if halted port.past then Some step_fault.Halted
+    else (if is_accepted (phase port.past tag) then (if is_of_request (request port.past tag) at then None else Some step_fault.OutsideCommand) else Some step_fault.NotAccepted)
+
+-- the request has this number
+abbrev pub has_number : Option Request → ℕ → Bool
+has_number None number = false
+has_number (Some r) number = nat_eq r.number number
+
+-- why a request is not collected
+abbrev pub collect_refusal : PortView → ℕ → ℕ → Option CollectFault
+collect_refusal port tag number =
+    if is_free (phase port.past tag) || not (has_number (request port.past tag) number) then Some Stranger
+    else (if is_done (phase port.past tag) then None else Some NotYet)
+
+-- why the port does not recover, want of memory aside
+abbrev pub recover_refusal : PortView → Option RecoverFault
+recover_refusal port = if halted port.past then None else Some NotHalted
+
+-- why a command is not issued again
+abbrev pub reissue_refusal : PortView → ℕ → Option ReissueFault
+reissue_refusal port tag =
+    if halted port.past then Some reissue.Halted else (if is_held (phase port.past tag) then None else Some reissue.NotHeld)
+
+-- why a command that is not queued is not sent, want of memory aside
+abbrev pub plain_refusal : PortView → Option PlainFault
+plain_refusal port = if halted port.past then Some plain.Halted else (if busy port.past then Some plain.QueueBusy else None)
+
+-- the call fails exactly with this fault, and else succeeds
+abbrev pub Answers : {T E : Type 0} → Result T E → Option E → Type 0
+Answers r None = IsOk r
+Answers r (Some fault) = r ≡ Err fault
+
+-- the same of a call that takes memory, and may lack it where nothing else stands against it
+abbrev pub AnswersOr : {T E : Type 0} → Result T E → Option E → E → Type 0
+AnswersOr r None lacking = IsOkUnless r lacking
+AnswersOr r (Some fault) lacking = r ≡ Err fault

@@ -1,0 +1,66 @@
+-- What a port keeps: its slots, disk, registers and journal in step.
+use Rattle.std.specs.Prelude.{◌≡◌, ◌≢◌, ℕ, ◌*◌, ◌/◌, ◌≤◌, List, [], length, Option, None, Some, slice_index_or}
+use Rattle.ahci_regs.specs.PortState.{PortState}
+use Rattle.ahci_table.specs.Command.{op}
+use Rattle.ahci_table.specs.Fit.{IsFit}
+use Rattle.ncq_core.specs.declared.phase.Phase.TheVariants.{Free}
+use Rattle.ncq_core.specs.Answer.{answer}
+use Rattle.ncq_core.specs.DiskState.{DiskState, command_of}
+use Rattle.ncq_core.specs.Entry.{Entry}
+use Rattle.ncq_core.specs.Halted.{halted}
+use Rattle.ncq_core.specs.Image.{sector_at, is_write}
+use Rattle.ncq_core.specs.Lawful.{IsLawful}
+use Rattle.ncq_core.specs.Owed.{owed}
+use Rattle.ncq_core.specs.Phase.{phase}
+use Rattle.ncq_core.specs.Request.{request}
+use Rattle.ncq_core.specs.Sector.{sector}
+use Rattle.ncq_core.specs.Work.{Work, lba_of, sectors_of}
+use Rattle.ahci_port.specs.Slots.{SlotState, answer_in, outstanding_in}
+use Rattle.ahci_port.specs.Standing.{standing}
+use Rattle.ahci_port.specs.Tracking.{Tracks}
+
+-- the slot has the command's direction, LBA and count
+abbrev pub IsOf : SlotState → Work → Type 0
+IsOf slot work = (slot.is_write ≡ is_write work) × (slot.lba ≡ lba_of work) × (slot.sectors ≡ sectors_of work)
+
+-- the slot holds the tag's request: what it stores is what the journal gives
+pub record Holds (starting : List ℕ) (past : List Entry) (tag : ℕ) (slot : SlotState) : Type 0 where
+  pub phase_is : phase past tag ≡ slot.phase
+  pub taken : slot.phase ≢ Free
+  pub request_is : request past tag ≡ Some (record { number = slot.number; work = op slot.window })
+  pub is_of : IsOf slot (op slot.window)
+  pub fit : IsFit slot.window
+  pub tag_is : slot.window.tag ≡ tag
+  pub answer_is : answer starting past slot.number ≡ answer_in slot
+
+-- what a slot says of its tag
+abbrev pub HasSlot : List ℕ → List Entry → ℕ → Option SlotState → Type 0
+HasSlot starting past tag None = phase past tag ≡ Free
+HasSlot starting past tag (Some slot) = Holds starting past tag slot
+
+-- the header of an owned slot's window stands in the command list
+abbrev pub HasHeader : List (List ℕ) → ℕ → Option SlotState → Type 0
+HasHeader headers tag None = Unit {0}
+HasHeader headers tag (Some slot) = slice_index_or headers tag [] ≡ slot.window.header
+
+-- the slot of a tag
+abbrev pub slot_at : List (Option SlotState) → ℕ → Option SlotState
+slot_at slots tag = slice_index_or slots tag None
+
+pub record Keeps (starting : List ℕ) (disk : DiskState) (registers : PortState) (slots : List (Option SlotState)) (headers : List (List ℕ)) (past : List Entry) (free : ℕ) : Type 0 where
+  pub whole : length starting ≡ 512 * (length starting / 512)
+  pub few : length starting / 512 ≤ 131072
+  pub some_slot : 1 ≤ disk.depth
+  pub shallow : disk.depth ≤ 32
+  pub same_size : length disk.image ≡ length starting
+  pub command_count : length disk.commands ≡ 32
+  pub slot_count : length slots ≡ disk.depth
+  pub header_count : length headers ≡ 32
+  pub lawful : IsLawful (length starting / 512) disk.depth past
+  pub tracks : Tracks disk.depth past registers
+  pub sectors : (s : ℕ) → sector_at disk.image s ≡ sector starting past s
+  pub commands : (tag : ℕ) → command_of disk tag ≡ outstanding_in (halted past) (slot_at slots tag)
+  pub error_is : disk.error ≡ standing past
+  pub each : (tag : ℕ) → HasSlot starting past tag (slot_at slots tag)
+  pub listed : (tag : ℕ) → HasHeader headers tag (slot_at slots tag)
+  pub room : owed past ≤ free

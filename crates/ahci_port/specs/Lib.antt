@@ -1,0 +1,11 @@
+pub mod Faults
+pub mod Headline
+pub mod Keeping
+pub mod Memory
+pub mod Moves
+pub mod PortView
+pub mod Registers
+pub mod Slots
+pub mod Standing
+pub mod Steps
+pub mod Tracking

@@ -1,0 +1,60 @@
+-- What the port's calls do with one slot.
+use Rattle.std.specs.Prelude.{◌≡◌, ℕ, Bool, true, false, nat_eq, if◌then◌else◌, Option, None, Some}
+use Rattle.ahci_table.specs.Command.{cfis, queued_of}
+use Rattle.ahci_table.specs.Fit.{IsFit}
+use Rattle.ahci_table.specs.Window.{WindowState}
+use Rattle.ncq_core.specs.declared.outcome.Outcome.{Outcome}
+use Rattle.ncq_core.specs.declared.outcome.Outcome.TheVariants as outcome
+use Rattle.ncq_core.specs.declared.phase.Phase.TheVariants.{Issued, Accepted, Done}
+use Rattle.ncq_core.specs.declared.serve_fault.ServeFault.{ServeFault}
+use Rattle.ncq_core.specs.declared.serve_fault.ServeFault.TheVariants as serve_fault
+use Rattle.ncq_core.specs.Phase.{failed, recovered}
+use Rattle.ahci_port.specs.declared.fault.StepFault.{StepFault}
+use Rattle.ahci_port.specs.declared.fault.StepFault.TheVariants.{Halted, NotAccepted, OutsideCommand}
+use Rattle.ahci_port.specs.Faults.{is_done}
+use Rattle.ahci_port.specs.declared.fault.CollectFault.{CollectFault}
+use Rattle.ahci_port.specs.declared.fault.CollectFault.TheVariants.{Stranger, NotYet}
+use Rattle.ahci_port.specs.Slots.{SlotState}
+
+-- the slot once its command is issued again, or accepted
+abbrev pub reissued_slot : SlotState → SlotState
+reissued_slot slot = record slot { phase = Issued }
+
+abbrev pub accepted_slot : SlotState → SlotState
+accepted_slot slot = record slot { phase = Accepted }
+
+-- the slot of a command that has failed, at an entry
+abbrev pub failed_slot : SlotState → ℕ → ℕ → ℕ → SlotState
+failed_slot slot entry error lba = record slot { phase = failed slot.phase; ended = Some (record { entry = entry; outcome = outcome.Failed error lba }) }
+
+-- a slot once the port has recovered
+abbrev pub recovered_slot : SlotState → SlotState
+recovered_slot slot = record slot { phase = recovered slot.phase }
+
+-- how a command ends that doesn't fail
+abbrev pub outcome_of : Bool → Outcome
+outcome_of true = outcome.Wrote
+outcome_of false = outcome.Read
+
+-- the slot once its command is completed, at an entry, with its window then
+abbrev pub served_slot : SlotState → ℕ → WindowState → SlotState
+served_slot slot entry w = record slot { phase = Done; ended = Some (record { entry = entry; outcome = outcome_of slot.is_write }); window = w }
+
+-- the window once its command's data have moved: only a read changes it, and in its text alone
+pub record MovedWindow (old new : WindowState) : Type 0 where
+  pub fit : IsFit new
+  pub tag_same : new.tag ≡ old.tag
+  pub header_same : new.header ≡ old.header
+  pub cfis_same : cfis new ≡ cfis old
+  pub write_same : (queued_of old).write ≡ true → new ≡ old
+
+-- why a request is not collected from a slot
+abbrev pub collect_fault : Option SlotState → ℕ → Option CollectFault
+collect_fault None number = Some Stranger
+collect_fault (Some slot) number = if nat_eq slot.number number then (if is_done slot.phase then None else Some NotYet) else Some Stranger
+
+-- the port's fault where the disk has refused to end a command
+abbrev pub step_fault_of : ServeFault → StepFault
+step_fault_of serve_fault.Stopped = Halted
+step_fault_of serve_fault.NotAccepted = NotAccepted
+step_fault_of serve_fault.OutsideCommand = OutsideCommand

@@ -1,0 +1,78 @@
+-- What callers see of a port.
+use Rattle.std.specs.Prelude.{ℕ, ◌+◌, ◌/◌, Bool, true, false, if◌then◌else◌, List, [], length, replicate, Option, None, slice_index_or}
+use Rattle.std.specs.List.{replace_range}
+use Rattle.std.specs.Option.{option_map}
+use Rattle.ahci_regs.specs.PortState.{PortState}
+use Rattle.ahci_table.specs.Window.{WindowState}
+use Rattle.ncq_core.specs.DiskState.{DiskError}
+use Rattle.ncq_core.specs.declared.phase.Phase.{Phase}
+use Rattle.ncq_core.specs.declared.phase.Phase.TheVariants.{Free}
+use Rattle.ncq_core.specs.Entry.{Entry}
+use Rattle.ncq_core.specs.Phase.{phase}
+use Rattle.ncq_core.specs.Request.{request}
+use Rattle.word_bits.specs.Places.{no_places}
+use Rattle.ahci_port.specs.Registers.{started}
+
+pub record PortView : Type 0 where
+  -- the bytes of the disk's sectors when the port was made, and as they are now
+  pub starting : List ℕ
+  pub image : List ℕ
+  -- how many slots the port has
+  pub depth : ℕ
+  -- what the port has done, the newest entry first
+  pub past : List Entry
+  pub registers : PortState
+  -- the 256 bytes of the received FIS area (AHCI 1.3.1, section 4.2.1)
+  pub area : List ℕ
+  -- by tag, the window of each slot that is owned
+  pub windows : List (Option WindowState)
+  -- the tags that are outstanding in the device, and the error that stands in it
+  pub device : List Bool
+  pub error : Option DiskError
+
+-- how many sectors of 512 bytes the disk has
+abbrev pub sectors_in : PortView → ℕ
+sectors_in port = length port.starting / 512
+
+-- the window of a tag's slot
+abbrev pub window_at : PortView → ℕ → Option WindowState
+window_at port tag = slice_index_or port.windows tag None
+
+-- the received FIS area with a FIS at a place
+abbrev pub put_at : ℕ → List ℕ → List ℕ → List ℕ
+put_at place fis area = replace_range area place (place + length fis) fis
+
+-- the places of the FISes in it
+abbrev pub setup_place : ℕ
+setup_place = 0x00
+
+abbrev pub pio_place : ℕ
+pio_place = 0x20
+
+abbrev pub register_place : ℕ
+register_place = 0x40
+
+abbrev pub bits_place : ℕ
+bits_place = 0x58
+
+abbrev pub is_free : Phase → Bool
+is_free Free = true
+is_free p = false
+
+-- a new port over an image
+abbrev pub new_port : List ℕ → ℕ → PortView
+new_port image depth = record {
+  starting = image;
+  image = image;
+  depth = depth;
+  past = [];
+  registers = started depth;
+  area = replicate 256 0;
+  windows = replicate depth None;
+  device = no_places;
+  error = None;
+}
+
+-- the number of the request that owns a tag's slot
+abbrev pub owner_of : List Entry → ℕ → Option ℕ
+owner_of past tag = if is_free (phase past tag) then None else option_map (λ r. r.number) (request past tag)

@@ -1,0 +1,64 @@
+-- A tag's request as its slot holds it, and what callers see of a port's fields.
+use Rattle.std.specs.Prelude.{ℕ, Bool, not, ◌&&◌, if◌then◌else◌, List, [], map, Option, None, Some}
+use Rattle.std.specs.Option.{option_map}
+use Rattle.ahci_table.specs.Command.{queued_of}
+use Rattle.ahci_table.specs.Text.{text}
+use Rattle.ahci_table.specs.Window.{WindowState}
+use Rattle.ncq_core.specs.declared.outcome.Outcome.{Outcome}
+use Rattle.ncq_core.specs.declared.outcome.Outcome.TheVariants as outcome
+use Rattle.ncq_core.specs.declared.phase.Phase.{Phase}
+use Rattle.ncq_core.specs.declared.phase.Phase.TheVariants.{Free}
+use Rattle.ncq_core.specs.Answer.{Answer}
+use Rattle.ncq_core.specs.Tags.{in_device}
+use Rattle.ahci_regs.specs.PortState.{PortState}
+use Rattle.ncq_core.specs.DiskState.{DiskState, outstanding}
+use Rattle.ncq_core.specs.Entry.{Entry}
+use Rattle.ahci_port.specs.PortView.{PortView}
+use Rattle.sata_fis.specs.Fields.{QueuedFields}
+use Rattle.ahci_port.specs.declared.ended.Ended.{Ended}
+
+pub record SlotState : Type 0 where
+  pub number : ℕ
+  pub is_write : Bool
+  pub lba : ℕ
+  pub sectors : ℕ
+  pub phase : Phase
+  pub ended : Option Ended
+  pub window : WindowState
+
+-- a finished read's bytes are its window's text
+abbrev pub bytes_in : Outcome → WindowState → List ℕ
+bytes_in outcome.Read w = text w
+bytes_in o w = []
+
+-- the answer that the slot holds
+abbrev pub answer_in : SlotState → Option Answer
+answer_in slot = option_map (λ e. record { entry = e.entry; outcome = e.outcome; bytes = bytes_in e.outcome slot.window }) slot.ended
+
+-- the command of the slot that is outstanding in the device, which an error empties
+abbrev pub outstanding_in : Bool → Option SlotState → Option QueuedFields
+outstanding_in stopped None = None
+outstanding_in stopped (Some slot) = if in_device slot.phase && not stopped then Some (queued_of slot.window) else None
+
+-- the phase of the tag
+abbrev pub phase_in : Option SlotState → Phase
+phase_in None = Free
+phase_in (Some slot) = slot.phase
+
+-- the window of a slot that is owned
+abbrev pub window_in : Option SlotState → Option WindowState
+window_in slot = option_map (λ s. s.window) slot
+
+-- what callers see of these fields
+abbrev pub view_of : List ℕ → DiskState → PortState → List ℕ → List (Option SlotState) → List Entry → PortView
+view_of starting disk registers area slots past = record {
+  starting = starting;
+  image = disk.image;
+  depth = disk.depth;
+  past = past;
+  registers = registers;
+  area = area;
+  windows = map window_in slots;
+  device = outstanding disk;
+  error = disk.error;
+}

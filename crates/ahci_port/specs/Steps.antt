@@ -1,0 +1,128 @@
+-- What each call of the port does, where it is taken: one entry is appended to the journal, the registers move by the
+-- writes and FISes of the call, and its FISes stand at their places in the received FIS area.
+use Rattle.std.specs.Prelude.{◌≡◌, ◌≢◌, ℕ, max, Bool, true, false, nat_lt, ◌∷◌, length, None, Some, IsSomeAnd, slice_set}
+use Rattle.ahci_table.specs.Command.{op, queued_of}
+use Rattle.ahci_table.specs.Scatter.{IsScattered}
+use Rattle.ahci_table.specs.Window.{WindowState}
+use Rattle.ncq_core.specs.declared.plain.Plain.TheVariants as plain
+use Rattle.ncq_core.specs.Answer.{sectors_at}
+use Rattle.ncq_core.specs.DiskFis.{accepted_bytes, not_found_bytes, flushed_bytes, pio_bytes, setup_bytes, completed_bytes, failed_bytes}
+use Rattle.ncq_core.specs.Entry.{Entry, Issue, Accept, Complete, Fail, Recover, Reissue, Collect, Unqueued}
+use Rattle.ncq_core.specs.Lawful.{end_of}
+use Rattle.ncq_core.specs.Request.{request}
+use Rattle.ncq_core.specs.Work.{Work, Read, Write, lba_of}
+use Rattle.ahci_port.specs.PortView.{PortView, sectors_in, window_at, put_at, setup_place, pio_place, register_place, bits_place}
+use Rattle.ahci_port.specs.Registers as registers
+use Rattle.ahci_port.specs.declared.step.DeviceStep.{DeviceStep}
+use Rattle.ahci_port.specs.declared.step.DeviceStep.TheVariants as step
+use Rattle.ahci_port.specs.declared.step.Stepped.{Stepped}
+use Rattle.ahci_port.specs.declared.step.Stepped.TheVariants.{Accepted, Completed, Failed}
+
+-- the journal has one entry more, and the disk and the slots are as many as before
+pub record Appends (old new : PortView) (entry : Entry) : Type 0 where
+  pub starting_same : new.starting ≡ old.starting
+  pub depth_same : new.depth ≡ old.depth
+  pub past_is : new.past ≡ entry ∷ old.past
+
+-- a window is issued: it stands in its slot
+pub record IsIssued (w : WindowState) (old new : PortView) : Type 0 where
+  pub appended : Appends old new (Issue w.tag (op w))
+  pub registers_are : new.registers ≡ registers.issued old.registers w.tag
+  pub area_same : new.area ≡ old.area
+  pub windows_are : new.windows ≡ slice_set old.windows w.tag (Some w)
+
+-- the device takes a command: a D2H Register FIS
+pub record IsAccepted (tag : ℕ) (old new : PortView) (answer : Stepped) : Type 0 where
+  pub answer_is : answer ≡ Accepted (length old.past)
+  pub appended : Appends old new (Accept tag)
+  pub registers_are : new.registers ≡ registers.accepted old.registers tag
+  pub area_is : new.area ≡ put_at register_place accepted_bytes old.area
+  pub windows_same : new.windows ≡ old.windows
+
+-- the first sector of a command that the disk lacks
+abbrev pub first_lacking : PortView → Work → ℕ
+first_lacking port work = max (lba_of work) (sectors_in port)
+
+-- the device refuses a command that passes the last sector: a D2H Register FIS with IDNF
+pub record IsRejected (tag : ℕ) (work : Work) (old new : PortView) (answer : Stepped) : Type 0 where
+  pub answer_is : answer ≡ Failed (length old.past)
+  pub appended : Appends old new (Fail tag 0x10 (first_lacking old work))
+  pub registers_are : new.registers ≡ registers.refused old.registers tag
+  pub area_is : new.area ≡ put_at register_place (not_found_bytes (first_lacking old work)) old.area
+  pub windows_same : new.windows ≡ old.windows
+
+-- the command passes the last sector
+abbrev pub passes_end : PortView → Work → Bool
+passes_end port work = nat_lt (sectors_in port) (end_of work)
+
+-- the device refuses a command that passes the end, and accepts every other
+abbrev pub TakenBy : (passes : Bool) → ℕ → Work → PortView → PortView → Stepped → Type 0
+TakenBy true tag work old new answer = IsRejected tag work old new answer
+TakenBy false tag work old new answer = IsAccepted tag old new answer
+
+abbrev pub IsTaken : ℕ → Work → PortView → PortView → Stepped → Type 0
+IsTaken tag work old new answer = TakenBy (passes_end old work) tag work old new answer
+
+-- the windows once a command's data have moved: a read's sectors are its window's text; no other byte of a window changes
+abbrev pub HasMoved : ℕ → Work → WindowState → PortView → PortView → Type 0
+HasMoved tag (Write lba bytes) w old new = new.windows ≡ old.windows
+HasMoved tag (Read lba sectors) w old new =
+    IsSomeAnd (window_at new tag) (IsScattered w 0 (sectors_at old.starting old.past lba sectors))
+    × ((u : ℕ) → u ≢ tag → window_at new u ≡ window_at old u)
+
+-- the device moves a command's data and completes it: a DMA Setup FIS, the data, a Set Device Bits FIS
+pub record IsServed (tag : ℕ) (w : WindowState) (old new : PortView) (answer : Stepped) : Type 0 where
+  pub answer_is : answer ≡ Completed (length old.past)
+  pub appended : Appends old new (Complete tag)
+  pub registers_are : new.registers ≡ registers.completed old.registers tag
+  pub area_is : new.area ≡ put_at bits_place (completed_bytes tag) (put_at setup_place (setup_bytes (queued_of w)) old.area)
+  pub moved : HasMoved tag (op w) w old new
+
+-- the device fails a command: a Set Device Bits FIS with ERR
+pub record IsFailed (tag error lba : ℕ) (old new : PortView) (answer : Stepped) : Type 0 where
+  pub answer_is : answer ≡ Failed (length old.past)
+  pub appended : Appends old new (Fail tag error lba)
+  pub registers_are : new.registers ≡ registers.failed old.registers error
+  pub area_is : new.area ≡ put_at bits_place (failed_bytes error) old.area
+  pub windows_same : new.windows ≡ old.windows
+
+-- the device has taken a step
+abbrev pub IsStepped : DeviceStep → PortView → PortView → Stepped → Type 0
+IsStepped (step.Accept tag) old new answer = IsSomeAnd (request old.past tag) (λ r. IsTaken tag r.work old new answer)
+IsStepped (step.Serve tag) old new answer = IsSomeAnd (window_at old tag) (λ w. IsServed tag w old new answer)
+IsStepped (step.Fail tag error lba) old new answer = IsFailed tag error lba old new answer
+
+-- a request is collected: its slot is free
+pub record IsCollected (tag : ℕ) (old new : PortView) : Type 0 where
+  pub appended : Appends old new (Collect tag)
+  pub registers_same : new.registers ≡ old.registers
+  pub area_same : new.area ≡ old.area
+  pub windows_are : new.windows ≡ slice_set old.windows tag None
+
+-- the port recovers from the failure of a tag's command: READ LOG EXT by PIO
+pub record IsRecovered (tag : ℕ) (old new : PortView) : Type 0 where
+  pub appended : Appends old new (Recover tag)
+  pub registers_are : new.registers ≡ registers.recovered old.registers
+  pub area_is : new.area ≡ put_at pio_place pio_bytes old.area
+  pub windows_same : new.windows ≡ old.windows
+
+-- a held command is issued again
+pub record IsReissued (tag : ℕ) (old new : PortView) : Type 0 where
+  pub appended : Appends old new (Reissue tag)
+  pub registers_are : new.registers ≡ registers.issued old.registers tag
+  pub area_same : new.area ≡ old.area
+  pub windows_same : new.windows ≡ old.windows
+
+-- IDENTIFY DEVICE is carried out: a PIO Setup FIS
+pub record IsIdentified (old new : PortView) : Type 0 where
+  pub appended : Appends old new (Unqueued plain.Identify)
+  pub registers_are : new.registers ≡ registers.read_by_pio old.registers
+  pub area_is : new.area ≡ put_at pio_place pio_bytes old.area
+  pub windows_same : new.windows ≡ old.windows
+
+-- FLUSH CACHE EXT is carried out: a D2H Register FIS
+pub record IsFlushed (old new : PortView) : Type 0 where
+  pub appended : Appends old new (Unqueued plain.Flush)
+  pub registers_are : new.registers ≡ registers.flushed old.registers
+  pub area_is : new.area ≡ put_at register_place flushed_bytes old.area
+  pub windows_same : new.windows ≡ old.windows

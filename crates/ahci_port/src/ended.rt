@@ -1,0 +1,8 @@
+use ncq_core::Outcome;
+
+/// The entry that answered a request, and how it ended.
+#[derive(Clone, Copy, Debug, PartialEq, Eq)]
+pub(crate) struct Ended {
+    pub(crate) entry: u64,
+    pub(crate) outcome: Outcome,
+}

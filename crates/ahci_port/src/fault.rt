@@ -1,0 +1,73 @@
+/// Why a command was not issued. The cases are tested in this order.
+#[derive(Clone, Copy, Debug, PartialEq, Eq)]
+pub enum IssueFault {
+    /// A command has failed, and the port has not recovered.
+    Halted,
+    /// The window's tag is not below the depth.
+    NoSuchTag,
+    /// The slot has a request.
+    SlotOwned,
+    /// The command header is none that the port takes.
+    BadHeader,
+    /// CFIS is no READ or WRITE FPDMA QUEUED in the header's direction.
+    BadCommand,
+    /// The command's tag is not the window's.
+    WrongTag,
+    /// The command has more sectors than one may have.
+    TooLong,
+    /// The PRDT is none that the port takes.
+    BadList,
+    /// Room for a write's bytes or for the request's entries was refused.
+    OutOfMemory,
+}
+
+/// Why the device did not take a step. The cases are tested in this order.
+#[derive(Clone, Copy, Debug, PartialEq, Eq)]
+pub enum StepFault {
+    /// A command has failed, and the port has not recovered.
+    Halted,
+    /// An Accept, and the tag's command does not wait for the device.
+    NotIssued,
+    /// A Serve or a Fail, and the tag's command is not accepted.
+    NotAccepted,
+    /// A Fail at a sector that is not one of the command's.
+    OutsideCommand,
+}
+
+/// Why a request was not collected. The cases are tested in this order.
+#[derive(Clone, Copy, Debug, PartialEq, Eq)]
+pub enum CollectFault {
+    /// The slot is free, or its request has another number.
+    Stranger,
+    /// The request is not done.
+    NotYet,
+}
+
+/// Why the port did not recover. The cases are tested in this order.
+#[derive(Clone, Copy, Debug, PartialEq, Eq)]
+pub enum RecoverFault {
+    /// No command has failed.
+    NotHalted,
+    /// Room for the entries that follow was refused.
+    OutOfMemory,
+}
+
+/// Why a held command was not issued again. The cases are tested in this order.
+#[derive(Clone, Copy, Debug, PartialEq, Eq)]
+pub enum ReissueFault {
+    /// A command has failed, and the port has not recovered.
+    Halted,
+    /// The tag's command is not held.
+    NotHeld,
+}
+
+/// Why a command that is not queued was not sent. The cases are tested in this order.
+#[derive(Clone, Copy, Debug, PartialEq, Eq)]
+pub enum PlainFault {
+    /// A command has failed, and the port has not recovered.
+    Halted,
+    /// A queued command waits for the device or is outstanding in it.
+    QueueBusy,
+    /// Room for the command's entry was refused.
+    OutOfMemory,
+}

@@ -1,0 +1,18 @@
+//! One AHCI port: registers, received FIS area, command list, slots with their windows, the queueing disk and the journal,
+//! in step.
+#![tactic(auto)]
+
+mod ended;
+mod fault;
+mod memory;
+mod port;
+mod receiving;
+mod reply;
+mod slot;
+mod step;
+mod unqueued;
+
+pub use fault::{CollectFault, IssueFault, PlainFault, RecoverFault, ReissueFault, StepFault};
+pub use port::Port;
+pub use reply::Reply;
+pub use step::{DeviceStep, Stepped};

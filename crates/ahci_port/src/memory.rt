@@ -1,0 +1,78 @@
+use ahci_table::Window;
+use ncq_core::Host;
+use sata_fis::data_head;
+use std::alloc::{Allocator, Global};
+use std::marker::Model;
+
+/// The memory of one tag's command, which the device reads and writes: the text is the window's.
+#[derive(Drop)]
+pub(crate) struct Memory<A: Allocator = Global> {
+    pub(crate) window: Window<A>,
+    /// The last DMA Setup.
+    pub(crate) setup: [u8; 28],
+    /// How many bytes of the text have moved since.
+    offset: u32,
+}
+
+impl<A: Allocator> Model for Memory<A> {
+    ghost use Rattle.ahci_port.specs.Memory.{MemoryState};
+    ghost use Rattle.ahci_table.specs.Fit.{IsFit};
+
+    ghost Value = { MemoryState };
+
+    ghost view = { λ m. record { window = m.window; setup = m.setup; offset = m.offset } };
+
+    ghost invariant = { λ m. IsFit m.window };
+}
+
+impl<A: Allocator> Memory<A> {
+    ghost use Rattle.std.specs.Prelude.{◌≡◌};
+    ghost use Rattle.ahci_table.specs.Fit.{IsFit};
+
+    /// The memory of a window that a port takes, before its first DMA Setup.
+    pub(crate) fn of(window: Window<A>) -> Self
+        requires { IsFit window }
+        ensures { result.window ≡ window }
+    {
+        Memory {
+            window,
+            setup: [0; 28],
+            offset: 0,
+        }
+    }
+}
+
+impl<A: Allocator> Host for Memory<A> {
+    ghost use Rattle.ahci_table.specs.Text.{text};
+    ghost use Rattle.ahci_port.specs.Memory.{IsKept, kept_itself, kept_on};
+
+    ghost text = { λ m. text m.window };
+
+    ghost last_setup = { λ m. m.setup };
+
+    ghost offset = { λ m. m.offset };
+
+    ghost keeps = { λ a b. IsKept a.window b.window };
+
+    ghost keeps_itself = { λ a. kept_itself a.window };
+
+    ghost keeps_on = { λ a b c ab bc. kept_on a.window b.window c.window ab bc };
+
+    fn setup(&mut self, fis: &[u8; 28]) {
+        self.setup = *fis;
+        self.offset = 0;
+    }
+
+    fn deliver(&mut self, fis: &[u8]) {
+        let payload = &fis[4..];
+        self.window.scatter(self.offset, payload);
+        self.offset += payload.len() as u32;
+    }
+
+    fn activate(&mut self, fis: &[u8; 4], out: &mut [u8]) {
+        let (head, payload) = out.split_at_mut(4);
+        head.copy_from_slice(&data_head());
+        self.window.gather(self.offset, payload);
+        self.offset += payload.len() as u32;
+    }
+}

@@ -1,0 +1,238 @@
+mod collecting;
+mod stepping;
+
+ghost use Rattle.std.specs.Prelude.{◌≡◌, ◌<◌, ◌≤◌, [], None, length, replicate, IfOk, IfErr, MatchOption, if◌then◌else◌, slice_index_or};
+ghost use Rattle.std.specs.Option.{option_map};
+ghost use Rattle.ahci_regs.specs.Reading.{read_of};
+ghost use Rattle.ncq_core.specs.DiskState.{new_fault, new_disk, IsDisk};
+ghost use Rattle.ncq_core.specs.Halted.{halted};
+ghost use Rattle.ncq_core.specs.Image.{sector_at};
+ghost use Rattle.ncq_core.specs.Owed.{owed};
+ghost use Rattle.ncq_core.specs.Phase.{phase};
+ghost use Rattle.ncq_core.specs.Sector.{sector};
+ghost use Rattle.ahci_port.specs.Faults.{AnswersOr};
+ghost use Rattle.ahci_port.specs.Headline.{Headline};
+ghost use Rattle.ahci_port.specs.PortView.{sectors_in, new_port, owner_of};
+ghost use Rattle.ahci_port.specs.Registers.{started, acknowledged};
+
+use crate::receiving::write;
+use crate::slot::{Slot, number_in, phase_in};
+use crate::unqueued::UnqueuedTable;
+use ahci_regs::{PortRegs, RegFault};
+use ncq_core::{Disk, DiskFault, Journal, Phase, read_sectors};
+use std::alloc::{AllocError, Allocator, Global};
+use std::marker::Model;
+
+/// PxIS.
+const PXIS: u32 = 0x110;
+
+/// One AHCI port: its registers, command list, received FIS area and slots, the queueing disk behind it, and the journal of
+/// what it has done. Contracts see a `PortView`, of which `headline` holds.
+#[derive(Drop)]
+pub struct Port<A: Allocator = Global> {
+    alloc: A,
+    starting: Vec<u8, A>,
+    disk: Disk<A>,
+    registers: PortRegs,
+    area: [u8; 256],
+    headers: [[u8; 32]; 32],
+    unqueued: UnqueuedTable,
+    slots: Vec<Option<Slot<A>>, A>,
+    journal: Journal<A>,
+}
+
+impl<A: Allocator> Model for Port<A> {
+    ghost use Rattle.ahci_port.specs.PortView.{PortView};
+    ghost use Rattle.ahci_port.specs.Keeping.{Keeps};
+    ghost use Rattle.ahci_port.specs.Slots.{view_of};
+
+    ghost Value = { PortView };
+
+    ghost view = { λ p. view_of p.starting.items p.disk p.registers p.area p.slots.items p.journal.past };
+
+    ghost invariant = { λ p. Keeps p.starting.items p.disk p.registers p.slots.items p.headers p.journal.past p.journal.room };
+}
+
+/// The registers of a port that was started (AHCI 1.3.1, sections 3.3.1, 3.3.3 and 3.3.7): PxCLB 00010000h, PxFB
+/// 00010400h, then FRE, then ST.
+fn started(depth: u32) -> PortRegs
+    requires low { 1 ≤ depth }
+    requires high { depth ≤ 32 }
+    ensures { result ≡ started depth }
+{
+    let mut registers = PortRegs::new(depth);
+    write(&mut registers, 0x100, 0x0001_0000);
+    write(&mut registers, 0x108, 0x0001_0400);
+    write(&mut registers, 0x118, 0x10);
+    write(&mut registers, 0x118, 0x11);
+    registers
+}
+
+/// As many free slots as the depth.
+fn free_slots<A: Allocator>(alloc: A, depth: u32) -> Result<Vec<Option<Slot<A>>, A>, AllocError>
+    ensures { IfOk result (λ v. v.items ≡ replicate depth None) }
+{
+    let mut slots = Vec::new(alloc);
+    for tag in 0..depth {
+        slots.push(None)?;
+    }
+    Ok(slots)
+}
+
+/// A received FIS area into which nothing has come.
+fn empty_area() -> [u8; 256]
+    ensures { result ≡ replicate 256 0 }
+{
+    [0; 256]
+}
+
+/// A command list without a command.
+fn no_headers() -> [[u8; 32]; 32]
+    ensures { length result ≡ 32 }
+{
+    [[0; 32]; 32]
+}
+
+impl<A: Allocator + Clone> Port<A> {
+    /// A port over this image, with `depth` slots, which is started and has done nothing. It keeps a copy of the image as
+    /// it is now.
+    ///
+    /// # Errors
+    /// `BadSize` where the image is not 1 to 131,072 whole sectors of 512 bytes, `BadDepth` where the depth is not 1 to 32;
+    /// else `OutOfMemory` where a growth was refused.
+    pub fn new(alloc: A, image: Vec<u8, A>, depth: u32) -> Result<Self, DiskFault>
+        ensures ok { IfOk result (λ p. p ≡ new_port image.items depth) }
+        ensures fault { AnswersOr result (new_fault image.items depth) DiskFault.OutOfMemory }
+    {
+        let starting = Self::copy_of(&alloc, image.as_slice());
+        let disk = Disk::new(image, depth)?;
+        let Ok(starting) = starting else {
+            return Err(DiskFault::OutOfMemory);
+        };
+        let depth = disk.depth();
+        match Self::over(alloc, starting, disk, depth) {
+            Ok(port) => Ok(port),
+            Err(_) => Err(DiskFault::OutOfMemory),
+        }
+    }
+
+    /// The port of a new disk over this image.
+    fn over(
+        alloc: A,
+        starting: Vec<u8, A>,
+        disk: Disk<A>,
+        depth: u32,
+    ) -> Result<Self, AllocError>
+        requires new { disk ≡ new_disk starting.items depth }
+        requires disk { IsDisk (new_disk starting.items depth) }
+        ensures { IfOk result (λ p. p ≡ new_port starting.items depth) }
+    {
+        let slots = free_slots(alloc.clone()?, depth)?;
+        let journal = Journal::new(alloc.clone()?);
+        Ok(Port {
+            alloc,
+            starting,
+            disk,
+            registers: started(depth),
+            area: empty_area(),
+            headers: no_headers(),
+            unqueued: UnqueuedTable::new(),
+            slots,
+            journal,
+        })
+    }
+
+    /// A copy of an image.
+    fn copy_of(alloc: &A, image: &[u8]) -> Result<Vec<u8, A>, AllocError>
+        ensures { IfOk result (λ v. v.items ≡ image.now) }
+    {
+        Vec::from_slice(alloc.clone()?, image)
+    }
+}
+
+impl<A: Allocator> Port<A> {
+    /// The phase of a tag.
+    fn phase(&self, tag: u8) -> Phase
+        ensures { result ≡ phase self.now.past tag }
+    {
+        phase_in(&self.slots, tag)
+    }
+
+    /// The number of the request that owns a tag's slot.
+    pub fn owner(&self, tag: u8) -> Option<u64>
+        ensures { result ≡ owner_of self.now.past tag }
+    {
+        number_in(&self.slots, tag)
+    }
+
+    /// The word that a read of the register at an offset gives (AHCI 1.3.1, sections 3.1 and 3.3): `Unaligned` where the
+    /// offset isn't a multiple of 4, `NoSuchRegister` where no register of this model stands.
+    pub fn register(&self, off: u32) -> Result<u32, RegFault>
+        ensures { result ≡ read_of self.now.registers off }
+    {
+        self.registers.read(off)
+    }
+
+    /// Software acknowledges interrupts: it writes a word to PxIS, in which a 1 clears (AHCI 1.3.1, section 3.3.5).
+    pub fn acknowledge(&mut self, mask: u32)
+        ensures { self.new ≡ record self.old { registers = acknowledged self.old.registers mask } }
+    {
+        write(&mut self.registers, PXIS, mask);
+    }
+
+    /// The received FIS area (AHCI 1.3.1, section 4.2.1): the last DMA Setup at 00h, PIO Setup at 20h, D2H Register at 40h
+    /// and Set Device Bits at 58h.
+    pub fn received(&self) -> &[u8; 256]
+        ensures { result.now ≡ self.now.area }
+    {
+        &self.area
+    }
+
+    /// Whether a command has failed and the port has not recovered.
+    pub fn halted(&self) -> bool
+        ensures { result ≡ halted self.now.past }
+    {
+        self.disk.stopped()
+    }
+
+    /// How many slots there are.
+    pub fn depth(&self) -> u32
+        ensures { result ≡ self.now.depth }
+    {
+        self.disk.depth()
+    }
+
+    /// How many sectors of 512 bytes the disk has.
+    pub fn sectors(&self) -> u32
+        ensures { result ≡ sectors_in self.now }
+    {
+        self.disk.sectors()
+    }
+
+    /// What the port has done. There is room in the journal for all that its requests can still need.
+    pub fn journal(&self) -> &Journal<A>
+        ensures past { result.now.past ≡ self.now.past }
+        ensures room { owed self.now.past ≤ result.now.room }
+        ensures headline { Headline self.now }
+    {
+        &self.journal
+    }
+
+    /// Copies the sector at `lba` as it is now.
+    pub fn copy(&self, lba: u64, out: &mut [u8])
+        requires within { lba < sectors_in self.now }
+        requires len { length out.old ≡ 512 }
+        ensures { out.new ≡ sector self.now.starting self.now.past lba }
+    {
+        self.disk.copy(lba, out);
+    }
+
+    /// Copies the sector at `lba` as it was when the port was made.
+    pub fn starting(&self, lba: u64, out: &mut [u8])
+        requires within { lba < sectors_in self.now }
+        requires len { length out.old ≡ 512 }
+        ensures { out.new ≡ sector_at self.now.starting lba }
+    {
+        read_sectors(self.starting.as_slice(), lba, out);
+    }
+}

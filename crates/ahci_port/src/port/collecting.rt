@@ -1,0 +1,79 @@
+//! How requests end: their answers are collected, and held commands are issued again.
+
+ghost use Rattle.std.specs.Prelude.{◌≡◌, Some, IfOk, OnOk, OnErr};
+ghost use Rattle.ncq_core.specs.Answer.{answer};
+ghost use Rattle.ahci_port.specs.Faults.{Answers, collect_refusal, reissue_refusal};
+ghost use Rattle.ahci_port.specs.PortView.{window_at};
+ghost use Rattle.ahci_port.specs.Slots.{bytes_in};
+ghost use Rattle.ahci_port.specs.Steps.{IsCollected, IsReissued};
+
+use crate::fault::{CollectFault, ReissueFault};
+use crate::port::Port;
+use crate::reply::Reply;
+use crate::receiving::issue;
+use crate::slot::{collect_fault, reissued_slot, reply};
+use ahci_table::Window;
+use ncq_core::{Event, Phase};
+use std::alloc::Allocator;
+
+impl<A: Allocator> Port<A> {
+    /// Takes the answer of request `number` of a tag and frees the slot. The window is the slot's; for a finished read its
+    /// text is the sectors, as they were at the entry that answered it. It takes no memory.
+    ///
+    /// # Errors
+    /// `Stranger` where the slot is free or its request has another number, `NotYet` where the request isn't done.
+    pub fn collect(&mut self, tag: u8, number: u64) -> Result<(Reply, Window<A>), CollectFault>
+        ensures ok { OnOk result (IsCollected tag self.old self.new) }
+        ensures number { IfOk result (λ r. r.0.number ≡ number) }
+        ensures reply { IfOk result (λ r. answer self.old.starting self.old.past number ≡ Some (record { entry = r.0.entry; outcome = r.0.outcome; bytes = bytes_in r.0.outcome r.1 })) }
+        ensures window { IfOk result (λ r. window_at self.old tag ≡ Some r.1) }
+        ensures fault { Answers result (collect_refusal self.old tag number) }
+        ensures err { OnErr result (self.new ≡ self.old) }
+    {
+        if let Some(fault) = self.collect_fault(tag, number) {
+            return Err(fault);
+        }
+        let slot = self.slots[tag as usize].take().unwrap();
+        self.journal.push_reserved(Event::Collect(tag));
+        Ok(reply(slot))
+    }
+
+    /// Why request `number` of a tag is not collected.
+    fn collect_fault(&self, tag: u8, number: u64) -> Option<CollectFault>
+        ensures { result ≡ collect_refusal self.now tag number }
+    {
+        collect_fault(&self.slots, tag, number)
+    }
+
+    /// Issues a held command again (AHCI 1.3.1, section 6.2.2): its bits of PxSACT and PxCI are set. It takes no memory.
+    ///
+    /// # Errors
+    /// `Halted` where a command has failed and the port has not recovered, `NotHeld` where the tag's command isn't held.
+    pub fn reissue(&mut self, tag: u8) -> Result<(), ReissueFault>
+        ensures ok { OnOk result (IsReissued tag self.old self.new) }
+        ensures fault { Answers result (reissue_refusal self.old tag) }
+        ensures err { OnErr result (self.new ≡ self.old) }
+    {
+        if let Some(fault) = self.reissue_fault(tag) {
+            return Err(fault);
+        }
+        let slot = self.slots[tag as usize].take();
+        self.slots[tag as usize] = reissued_slot(slot);
+        issue(&mut self.registers, tag);
+        self.journal.push_reserved(Event::Reissue(tag));
+        Ok(())
+    }
+
+    /// Why a tag's command is not issued again.
+    fn reissue_fault(&self, tag: u8) -> Option<ReissueFault>
+        ensures { result ≡ reissue_refusal self.now tag }
+    {
+        if self.halted() {
+            return Some(ReissueFault::Halted);
+        }
+        match self.phase(tag) {
+            Phase::Held => None,
+            _ => Some(ReissueFault::NotHeld),
+        }
+    }
+}

@@ -1,0 +1,160 @@
+ghost use Rattle.std.specs.Prelude.{◌≡◌, IfSome};
+ghost use Rattle.std.specs.Option.{option_map};
+ghost use Rattle.ncq_core.specs.Phase.{failed, recovered};
+ghost use Rattle.ahci_port.specs.Keeping.{slot_at};
+ghost use Rattle.ahci_port.specs.Slots.{phase_in};
+ghost use Rattle.ahci_port.specs.Moves.{collect_fault, reissued_slot, accepted_slot, failed_slot, recovered_slot};
+
+use crate::ended::Ended;
+use crate::fault::CollectFault;
+use crate::reply::Reply;
+use ahci_table::Window;
+use ncq_core::{Outcome, Phase};
+use std::alloc::{Allocator, Global};
+use std::marker::Model;
+
+/// A tag's request.
+#[derive(Drop)]
+pub(crate) struct Slot<A: Allocator = Global> {
+    pub(crate) number: u64,
+    pub(crate) is_write: bool,
+    pub(crate) lba: u64,
+    pub(crate) sectors: u32,
+    pub(crate) phase: Phase,
+    /// How it was answered, once it is rejected, broken or done.
+    pub(crate) ended: Option<Ended>,
+    pub(crate) window: Window<A>,
+}
+
+impl<A: Allocator> Model for Slot<A> {
+    ghost use Rattle.ahci_port.specs.Slots.{SlotState};
+
+    ghost Value = { SlotState };
+
+    ghost view = { λ s. record { number = s.number; is_write = s.is_write; lba = s.lba; sectors = s.sectors; phase = s.phase; ended = s.ended; window = s.window } };
+}
+
+/// The phase of a command that fails in this one.
+pub(crate) fn failed(phase: Phase) -> Phase
+    ensures { result ≡ failed phase }
+{
+    match phase {
+        Phase::Issued => Phase::Rejected,
+        _ => Phase::Broken,
+    }
+}
+
+/// The phase after a recovery (AHCI 1.3.1, section 6.2.2): the failed command is answered, those that the error ended are
+/// held.
+pub(crate) fn recovered(phase: Phase) -> Phase
+    ensures { result ≡ recovered phase }
+{
+    match phase {
+        Phase::Rejected | Phase::Broken => Phase::Done,
+        Phase::Issued | Phase::Accepted => Phase::Held,
+        _ => phase,
+    }
+}
+
+/// The slot once its command is issued again.
+pub(crate) fn reissued_slot<A: Allocator>(slot: Option<Slot<A>>) -> Option<Slot<A>>
+    ensures { result ≡ option_map reissued_slot slot }
+{
+    let mut slot = slot?;
+    slot.phase = Phase::Issued;
+    Some(slot)
+}
+
+/// The slot once its command is accepted.
+pub(crate) fn accepted_slot<A: Allocator>(slot: Option<Slot<A>>) -> Option<Slot<A>>
+    ensures { result ≡ option_map accepted_slot slot }
+{
+    let mut slot = slot?;
+    slot.phase = Phase::Accepted;
+    Some(slot)
+}
+
+/// The slot once its command has failed, at an entry.
+pub(crate) fn failed_slot<A: Allocator>(
+    slot: Option<Slot<A>>,
+    entry: u64,
+    error: u8,
+    lba: u64,
+) -> Option<Slot<A>>
+    ensures { result ≡ option_map (λ s. failed_slot s entry error lba) slot }
+{
+    let mut slot = slot?;
+    slot.phase = failed(slot.phase);
+    slot.ended = Some(Ended {
+        entry,
+        outcome: Outcome::Failed { error, lba },
+    });
+    Some(slot)
+}
+
+/// The slot once the port has recovered.
+pub(crate) fn recovered_slot<A: Allocator>(slot: Option<Slot<A>>) -> Option<Slot<A>>
+    ensures { result ≡ option_map recovered_slot slot }
+{
+    let mut slot = slot?;
+    slot.phase = recovered(slot.phase);
+    Some(slot)
+}
+
+/// The phase of a tag, by its slot.
+pub(crate) fn phase_in<A: Allocator>(slots: &[Option<Slot<A>>], tag: u8) -> Phase
+    ensures { result ≡ phase_in (slot_at slots.now tag) }
+{
+    match slots.get(tag as usize) {
+        Some(Some(slot)) => slot.phase,
+        _ => Phase::Free,
+    }
+}
+
+/// The number of the request that owns a tag's slot.
+pub(crate) fn number_in<A: Allocator>(slots: &[Option<Slot<A>>], tag: u8) -> Option<u64>
+    ensures { result ≡ option_map (λ s. s.number) (slot_at slots.now tag) }
+{
+    match slots.get(tag as usize) {
+        Some(Some(slot)) => Some(slot.number),
+        _ => None,
+    }
+}
+
+/// Why request `number` of a tag is not collected.
+pub(crate) fn collect_fault<A: Allocator>(
+    slots: &[Option<Slot<A>>],
+    tag: u8,
+    number: u64,
+) -> Option<CollectFault>
+    ensures { result ≡ collect_fault (slot_at slots.now tag) number }
+{
+    match slots.get(tag as usize) {
+        Some(Some(slot)) if slot.number == number => match slot.phase {
+            Phase::Done => None,
+            _ => Some(CollectFault::NotYet),
+        },
+        _ => Some(CollectFault::Stranger),
+    }
+}
+
+/// The answer of a slot, and its window. A slot that has none yet is answered as a write.
+pub(crate) fn reply<A: Allocator>(slot: Slot<A>) -> (Reply, Window<A>)
+    ensures number { result.0.number ≡ slot.number }
+    ensures ended { IfSome slot.ended (λ e. (result.0.entry ≡ e.entry) × (result.0.outcome ≡ e.outcome)) }
+    ensures window { result.1 ≡ slot.window }
+{
+    let ended = match slot.ended {
+        Some(ended) => ended,
+        None => Ended {
+            entry: 0,
+            outcome: Outcome::Wrote,
+        },
+    };
+    let reply = Reply {
+        number: slot.number,
+        entry: ended.entry,
+        outcome: ended.outcome,
+    };
+    (reply, slot.window)
+}
