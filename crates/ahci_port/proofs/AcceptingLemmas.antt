@@ -37,10 +37,12 @@ disk_size k = ap (λ n. n / 512) k.same_size
 pub accept_allowed : (starting : List ℕ) (disk : DiskState) (regs : PortState) (slots : List (Option SlotState)) (headers : List (List ℕ)) (past : List Entry) (free tag : ℕ) (slot : SlotState)
     → Keeps starting disk regs slots headers past free → phase past tag ≡ Issued → halted past ≡ false → slot_at slots tag ≡ Some slot → IsSized slot.window → is_past_end disk (queued_of slot.window) ≡ false
     → IsAllowed (length starting / 512) disk.depth past (Accept tag)
-accept_allowed starting disk regs slots headers past free tag slot k issued running here sized within =
-    (issued, running,
-    request_has starting past tag slot (λ r. Fits (length starting / 512) r.work) (subst (HasSlot starting past tag) here (k.each tag))
-    (ltb-false (length starting / 512) (end_of (op slot.window)) (sym (past_end disk (length starting / 512) slot.window sized (disk_size k)) ∙ within)))
+accept_allowed starting disk regs slots headers past free tag slot k issued running here sized within = (
+  issued,
+  running,
+  request_has starting past tag slot (λ r. Fits (length starting / 512) r.work) (subst (HasSlot starting past tag) here (k.each tag))
+      (ltb-false (length starting / 512) (end_of (op slot.window)) (sym (past_end disk (length starting / 512) slot.window sized (disk_size k)) ∙ within)),
+)
 
 pub keeps_accept : (starting : List ℕ) (disk : DiskState) (regs : PortState) (slots : List (Option SlotState)) (headers : List (List ℕ)) (past : List Entry) (free left tag : ℕ) (slot : SlotState)
     → Keeps starting disk regs slots headers past free → phase past tag ≡ Issued → halted past ≡ false → slot_at slots tag ≡ Some slot → IsSized slot.window → (queued_of slot.window).tag ≡ tag → is_past_end disk (queued_of slot.window) ≡ false → left + 1 ≡ free

@@ -104,6 +104,7 @@ answer_given slot entry o w some is same = by slot.ended refl
   where
     of : Option Ended → Option Answer
     of x = option_map (λ z. record { entry = z.entry; outcome = z.outcome; bytes = bytes_in z.outcome slot.window }) x
+
     by : (x : Option Ended) → slot.ended ≡ x → answer_in slot ≡ Some (record { entry = entry; outcome = o; bytes = bytes_in o w })
     by None e = absurd (true≢false (sym some ∙ ap (λ y. is_some (of y)) e))
     by (Some x) e =

@@ -37,15 +37,18 @@ holds_answer slot (Some x) e some = subst (λ y. IsSomeAnd {T = Answer} (option_
 
 window_of_slot : (s d : ℕ) (starting : List ℕ) (past : List Entry) (tag : ℕ) (o : Option SlotState) → IsLawful s d past → HasSlot starting past tag o → HasWindow starting past tag (window_in o)
 window_of_slot s d starting past tag None lawful h = h
-window_of_slot s d starting past tag (Some slot) lawful h =
-    (λ e. h.taken (sym h.phase_is ∙ e), h.fit, h.tag_is,
-    request_has starting past tag slot (IsOfRequest starting past tag slot.window) h
-    (record {
-      work = refl;
-      done = λ e.
-          let some = answered_by_phase s d starting past tag (record { number = slot.number; work = op slot.window }) lawful h.request_is ∙ ap is_answered e in
-          subst (λ a. IsSomeAnd a (λ b. HoldsBytes b.outcome b.bytes slot.window)) (sym h.answer_is) (holds_answer slot slot.ended refl (ap is_some (sym h.answer_is) ∙ some));
-    }))
+window_of_slot s d starting past tag (Some slot) lawful h = (
+  λ e. h.taken (sym h.phase_is ∙ e),
+  h.fit,
+  h.tag_is,
+  request_has starting past tag slot (IsOfRequest starting past tag slot.window) h
+      (record {
+        work = refl;
+        done = λ e.
+            let some = answered_by_phase s d starting past tag (record { number = slot.number; work = op slot.window }) lawful h.request_is ∙ ap is_answered e in
+            subst (λ a. IsSomeAnd a (λ b. HoldsBytes b.outcome b.bytes slot.window)) (sym h.answer_is) (holds_answer slot slot.ended refl (ap is_some (sym h.answer_is) ∙ some));
+      }),
+)
 
 some_cond : (b : Bool) (q : QueuedFields) → is_some (cond b (Some q) None) ≡ b
 some_cond true q = refl
@@ -59,8 +62,8 @@ device_of : (starting : List ℕ) (disk : DiskState) (regs : PortState) (slots :
 device_of starting disk regs slots headers past free k =
     same_sets (outstanding disk) (device_tags past) (length-map disk.commands is_some ∙ k.command_count ∙ sym (length-places (λ t. in_device (phase past t) && not (halted past))))
     (λ i h.
-      get_or-map is_some disk.commands i None ∙ ap is_some (k.commands i) ∙ device_at starting past i (slot_at slots i) (k.each i)
-      ∙ sym (has_place-places (λ t. in_device (phase past t) && not (halted past)) i (let l = length-map disk.commands is_some in let c = k.command_count in omega arith)))
+    get_or-map is_some disk.commands i None ∙ ap is_some (k.commands i) ∙ device_at starting past i (slot_at slots i) (k.each i)
+    ∙ sym (has_place-places (λ t. in_device (phase past t) && not (halted past)) i (let l = length-map disk.commands is_some in let c = k.command_count in omega arith)))
 
 pub headline_of : (starting : List ℕ) (disk : DiskState) (regs : PortState) (area : List ℕ) (slots : List (Option SlotState)) (headers : List (List ℕ)) (past : List Entry) (free : ℕ)
     → Keeps starting disk regs slots headers past free → Headline (view_of starting disk regs area slots past)

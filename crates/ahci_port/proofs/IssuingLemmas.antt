@@ -73,8 +73,8 @@ keeps_issue starting disk regs slots headers past free left tag slot k below is_
       answer_is = ap (λ o. option_or o (given starting past entry (entry_at past slot.number))) (no_answer_yet starting past slot.number (omega arith)) ∙ sym (ap (λ e. option_map (λ x. record { entry = x.entry; outcome = x.outcome; bytes = bytes_in x.outcome slot.window }) e) unended);
     })
     (disk_stays starting disk regs slots headers past free tag entry (Some slot) k k.sectors
-      (halted_same past entry tag (ap is_failed is_free) (ap is_failed (own tag Issued (phase past tag))) (λ u apart. other tag u Issued (phase past u) apart))
-      refl (ap (λ p. cond (in_device p && not (halted past)) (Some (queued_of slot.window)) None) issued ∙ sym (ap (outstanding_in (halted past)) vacant)))
+    (halted_same past entry tag (ap is_failed is_free) (ap is_failed (own tag Issued (phase past tag))) (λ u apart. other tag u Issued (phase past u) apart))
+    refl (ap (λ p. cond (in_device p && not (halted past)) (Some (queued_of slot.window)) None) issued ∙ sym (ap (outstanding_in (halted past)) vacant)))
     (record {
       count_same = length-set headers tag slot.window.header ∙ k.header_count;
       own_header = get_or-set_same headers tag slot.window.header [] (let c = k.header_count in let d = k.shallow in omega arith);
@@ -114,8 +114,8 @@ keeps_reissue starting disk regs slots headers past free left tag slot k held ru
     (λ u apart. record { phase_same = other tag u Issued (phase past u) apart; request_same = refl; unanswered = refl })
     (slot_moves starting past (Reissue tag) tag slot Issued own_slot (own tag Issued (phase past tag)) (λ e. absurd (cc)) refl refl)
     (disk_stays starting disk regs slots headers past free tag (Reissue tag) (Some (record slot { phase = Issued })) k k.sectors
-      (halted_same past (Reissue tag) tag (ap is_failed held) (ap is_failed (own tag Issued (phase past tag))) (λ u apart. other tag u Issued (phase past u) apart))
-      refl (sym (ap (outstanding_in (halted past)) here ∙ ap (λ p. cond (in_device p && not (halted past)) (Some (queued_of slot.window)) None) in_slot)))
+    (halted_same past (Reissue tag) tag (ap is_failed held) (ap is_failed (own tag Issued (phase past tag))) (λ u apart. other tag u Issued (phase past u) apart))
+    refl (sym (ap (outstanding_in (halted past)) here ∙ ap (λ p. cond (in_device p && not (halted past)) (Some (queued_of slot.window)) None) in_slot)))
     (headers_stay headers tag (Some (record slot { phase = Issued })) k.header_count (subst (HasHeader headers tag) here (k.listed tag)))
     (tracks_reissue disk.depth past regs tag k.tracks below k.shallow)
     (let r = k.room in omega arith)
@@ -134,8 +134,8 @@ keeps_collect starting disk regs slots headers past free left tag slot k done he
     (λ u apart. record { phase_same = other tag u Free (phase past u) apart; request_same = refl; unanswered = refl })
     (own tag Free (phase past tag))
     (disk_stays starting disk regs slots headers past free tag (Collect tag) None k k.sectors
-      (halted_same past (Collect tag) tag (ap is_failed done) (ap is_failed (own tag Free (phase past tag))) (λ u apart. other tag u Free (phase past u) apart))
-      refl (sym (ap (outstanding_in (halted past)) here ∙ ap (λ p. cond (in_device p && not (halted past)) (Some (queued_of slot.window)) None) in_slot)))
+    (halted_same past (Collect tag) tag (ap is_failed done) (ap is_failed (own tag Free (phase past tag))) (λ u apart. other tag u Free (phase past u) apart))
+    refl (sym (ap (outstanding_in (halted past)) here ∙ ap (λ p. cond (in_device p && not (halted past)) (Some (queued_of slot.window)) None) in_slot)))
     (headers_stay headers tag None k.header_count tt)
     (tracks_collect disk.depth past regs tag k.tracks done)
     (let r = k.room in omega arith)

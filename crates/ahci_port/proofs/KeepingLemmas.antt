@@ -87,18 +87,22 @@ keeps_step starting disk after registers moved slots headers listed past free le
   where
     there : slot_at (set slots tag s) tag ≡ s
     there = get_or-set_same slots tag s None (let c = k.slot_count in omega arith)
+
     apart : (u : ℕ) → u ≢ tag → slot_at (set slots tag s) u ≡ slot_at slots u
     apart u other = get_or-set_other slots tag u s None other
+
     commands : (u : ℕ) → command_of after u ≡ outstanding_in (halted (entry ∷ past)) (slot_at (set slots tag s) u)
     commands u = elim (cases_eq u tag) [
       | inl same ↦ rw (same, there) d.own_command
       | inr other ↦ rw (apart u other) (d.other_commands u other)
     ]
+
     each : (u : ℕ) → HasSlot starting (entry ∷ past) u (slot_at (set slots tag s) u)
     each u = elim (cases_eq u tag) [
       | inl same ↦ rw (same, there) own
       | inr other ↦ let o = others u other in rw (apart u other) (slot_stays starting past entry u (slot_at slots u) o.phase_same o.request_same o.unanswered (k.each u))
     ]
+
     lists : (u : ℕ) → HasHeader listed u (slot_at (set slots tag s) u)
     lists u = elim (cases_eq u tag) [
       | inl same ↦ rw (same, there) h.own_header

@@ -103,5 +103,6 @@ keeps_recover starting disk regs slots headers past free left tag k bad room =
   where
     stopped : halted past ≡ true
     stopped = stopped_by_tag (length starting / 512) disk.depth past tag k.shallow k.lawful bad
+
     there : (u : ℕ) → slot_at (map (option_map recovered_slot) slots) u ≡ option_map recovered_slot (slot_at slots u)
     there u = get_or-map (option_map recovered_slot) slots u None

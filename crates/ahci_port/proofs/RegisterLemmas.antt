@@ -262,5 +262,6 @@ tracks_new d =
   where
     based : ℕ → PortState
     based n = after_write (after_write (first_state n) 0x100 0x00010000) 0x108 0x00010400
+
     receiving : (s : PortState) → s.st ≡ false → after_write s 0x118 0x10 ≡ record s { st = false; fre = true }
     receiving s st = cc

@@ -43,6 +43,7 @@ op_same old new m = by (queued_of old).write refl
   where
     q_same : queued_of new ≡ queued_of old
     q_same = ap (λ c. asked_by (h2d_at c)) m.cfis_same
+
     by : (b : Bool) → (queued_of old).write ≡ b → op new ≡ op old
     by true e = ap op (m.write_same e)
     by false e = op_read new (ap (λ q. q.write) q_same ∙ e) ∙ ap (λ q. Read q.lba q.sectors) q_same ∙ sym (op_read old e)
@@ -61,6 +62,7 @@ answer_of_slot starting past image image' slot w each direction sized moved = by
   where
     q : QueuedFields
     q = queued_of slot.window
+
     by : (b : Bool) → (queued_of slot.window).write ≡ b → Some (completes starting past (op slot.window)) ≡ answer_in (served_slot slot (length past) w)
     by true e =
         ap (λ x. Some (completes starting past x)) (op_write slot.window e)

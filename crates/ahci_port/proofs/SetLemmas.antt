@@ -23,7 +23,7 @@ loses : (f : Phase → Bool) (old new : ℕ → Phase) (t : ℕ) → t < 32 → 
 loses f old new t below out others = without_place-places (λ u. f (old u)) (λ u. f (new u)) t below out (λ u low apart. ap f (others u apart))
 
 stays : (f : Phase → Bool) (old new : ℕ → Phase) (t : ℕ) → f (new t) ≡ f (old t) → ((u : ℕ) → u ≢ t → new u ≡ old u) → places (λ u. f (old u)) ≡ places (λ u. f (new u))
-stays f old new t same others = same_places (λ u. f (old u)) (λ u. f (new u)) (λ u low. elim (cases_eq u t) [ | inl here ↦ rw here (sym same) | inr apart ↦ ap f (sym (others u apart)) ])
+stays f old new t same others = same_places (λ u. f (old u)) (λ u. f (new u)) (λ u low. elim (cases_eq u t) [ inl here ↦ rw here (sym same) | inr apart ↦ ap f (sym (others u apart)) ])
 
 pub sact_issue : (past : List Entry) (t : ℕ) (work : _) → t < 32 → with_place (sact past) t ≡ sact (Issue t work ∷ past)
 sact_issue past t work below = gains in_sact (phase past) (phase (Issue t work ∷ past)) t below (ap in_sact (own t Issued (phase past t))) (λ u apart. other t u Issued (phase past u) apart)

@@ -67,6 +67,7 @@ slot_agrees starting past tag at false (Some slot) h =
   where
     q : QueuedFields
     q = queued_of slot.window
+
     by : (b : Bool) → disk_refusal false (cond (b && true) (Some (queued_of slot.window)) None) at ≡ cond b (cond (has_sector (queued_of slot.window) at) None (Some fault.OutsideCommand)) (Some fault.NotAccepted)
     by true = inner (has_sector (queued_of slot.window) at)
       where
@@ -122,9 +123,11 @@ may_fail starting disk regs slots headers past free tag error at k none =
     let n = none_refused (halted past) (phase past tag) (request past tag) at (sym (fail_agrees starting disk regs slots headers past free tag at k) ∙ ap (option_map step_fault_of) none) in
     let o = owned starting disk regs slots headers past free tag k (λ e. absurd (let z : Accepted ≡ Free = sym n.1 ∙ e in cc)) in
     let inside : covers (op o.slot.window) at ≡ true = sym (ap (λ r. is_of_request r at) o.holds.request_is) ∙ n.2 in
-    let allowed : IsAllowed (length starting / 512) disk.depth past (Fail tag error at) =
-        (n.0, request_has starting past tag o.slot (λ r. Fails (length starting / 512) (phase past tag) r.work error at) o.holds
-          (subst (λ p. Fails (length starting / 512) p (op o.slot.window) error at) (sym n.1) inside)) in
+    let allowed : IsAllowed (length starting / 512) disk.depth past (Fail tag error at) = (
+      n.0,
+      request_has starting past tag o.slot (λ r. Fails (length starting / 512) (phase past tag) r.work error at) o.holds
+          (subst (λ p. Fails (length starting / 512) p (op o.slot.window) error at) (sym n.1) inside),
+    ) in
     let moves = owed_moves _ disk.depth past (Fail tag error at) k.shallow (k.lawful, allowed) in
     let less : owed_less (phase past tag) ≡ 1 = ap owed_less n.1 in
     record { accepted = n.1; allowed = allowed; owner = o; room = (let r = k.room in omega arith) }

@@ -117,12 +117,7 @@ impl<A: Allocator + Clone> Port<A> {
     }
 
     /// The port of a new disk over this image.
-    fn over(
-        alloc: A,
-        starting: Vec<u8, A>,
-        disk: Disk<A>,
-        depth: u32,
-    ) -> Result<Self, AllocError>
+    fn over(alloc: A, starting: Vec<u8, A>, disk: Disk<A>, depth: u32) -> Result<Self, AllocError>
         requires new { disk ≡ new_disk starting.items depth }
         requires disk { IsDisk (new_disk starting.items depth) }
         ensures { IfOk result (λ p. p ≡ new_port starting.items depth) }

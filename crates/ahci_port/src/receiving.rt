@@ -15,8 +15,11 @@ use word_bits::place;
 
 /// The places of the FISes.
 const SETUP: usize = 0x00;
+
 const PIO: usize = 0x20;
+
 const REGISTER: usize = 0x40;
+
 const BITS: usize = 0x58;
 
 /// Software writes a word to a register.

@@ -9,8 +9,8 @@ ghost use Rattle.ahci_port.specs.Steps.{IsCollected, IsReissued};
 
 use crate::fault::{CollectFault, ReissueFault};
 use crate::port::Port;
-use crate::reply::Reply;
 use crate::receiving::issue;
+use crate::reply::Reply;
 use crate::slot::{collect_fault, reissued_slot, reply};
 use ahci_table::Window;
 use ncq_core::{Event, Phase};

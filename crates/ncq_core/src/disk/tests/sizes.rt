@@ -36,7 +36,10 @@ fn moves(
         (host.data, host.last, host.offset),
         (data, last, sectors * 512)
     );
-    assert_eq!(rt; (host.setups, host.activates), (1, if write { data } else { 0 }));
+    assert_eq!(rt;
+        (host.setups, host.activates),
+        (1, if write { data } else { 0 })
+    );
     let (activate, head) = if write {
         ([0x39, 0, 0, 0], [0; 4])
     } else {
