@@ -16,3 +16,4 @@ pub mod ReadingLemmas
 pub mod CollectingLemmas
 pub mod OwningLemmas
 pub mod StepLemmas
+pub mod TakingLemmas

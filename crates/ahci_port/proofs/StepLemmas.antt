@@ -21,7 +21,9 @@ use Rattle.ncq_core.specs.Serving.{answered, fail_fault, is_at_command, has_sect
 use Rattle.ncq_core.specs.Tags.{in_device}
 use Rattle.ncq_core.specs.Work.{sectors_of}
 use Rattle.sata_fis.specs.Fields.{QueuedFields}
-use Rattle.ahci_port.specs.Faults.{is_accepted, is_of_request}
+use Rattle.ahci_port.specs.Faults.{is_issued, is_accepted, is_of_request, step_refusal}
+use Rattle.ahci_port.specs.PortView.{PortView}
+use Rattle.ahci_port.specs.declared.step.DeviceStep.TheVariants as step
 use Rattle.ahci_port.specs.Keeping.{Keeps, Holds, HasSlot, slot_at}
 use Rattle.ahci_port.specs.Moves.{step_fault_of}
 use Rattle.ahci_port.specs.Slots.{SlotState, outstanding_in}
@@ -131,3 +133,30 @@ may_fail starting disk regs slots headers past free tag error at k none =
     let moves = owed_moves _ disk.depth past (Fail tag error at) k.shallow (k.lawful, allowed) in
     let less : owed_less (phase past tag) ≡ 1 = ap owed_less n.1 in
     record { accepted = n.1; allowed = allowed; owner = o; room = (let r = k.room in omega arith) }
+
+issued_is : (p : Phase) → is_issued p ≡ true → p ≡ Issued
+issued_is Issued e = refl
+issued_is Free e = absurd (false≢true e)
+issued_is Accepted e = absurd (false≢true e)
+issued_is Rejected e = absurd (false≢true e)
+issued_is Broken e = absurd (false≢true e)
+issued_is Held e = absurd (false≢true e)
+issued_is Done e = absurd (false≢true e)
+
+-- what no refusal of an Accept says
+pub accept_may : (port : PortView) (tag : ℕ) → step_refusal port (step.Accept tag) ≡ None → (phase port.past tag ≡ Issued) × (halted port.past ≡ false)
+accept_may port tag e = by (halted port.past) (is_issued (phase port.past tag)) refl refl e
+  where
+    by : (a b : Bool) → halted port.past ≡ a → is_issued (phase port.past tag) ≡ b → cond a (Some fault.Halted) (cond b None (Some fault.NotIssued)) ≡ None → (phase port.past tag ≡ Issued) × (halted port.past ≡ false)
+    by true b p q h = absurd (cc)
+    by false true p q h = (issued_is (phase port.past tag) q, p)
+    by false false p q h = absurd (cc)
+
+-- the same of a Serve
+pub serve_may : (port : PortView) (tag : ℕ) → step_refusal port (step.Serve tag) ≡ None → (phase port.past tag ≡ Accepted) × (halted port.past ≡ false)
+serve_may port tag e = by (halted port.past) (is_accepted (phase port.past tag)) refl refl e
+  where
+    by : (a b : Bool) → halted port.past ≡ a → is_accepted (phase port.past tag) ≡ b → cond a (Some fault.Halted) (cond b None (Some fault.NotAccepted)) ≡ None → (phase port.past tag ≡ Accepted) × (halted port.past ≡ false)
+    by true b p q h = absurd (cc)
+    by false true p q h = (accepted_is (phase port.past tag) q, p)
+    by false false p q h = absurd (cc)

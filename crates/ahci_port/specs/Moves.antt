@@ -1,13 +1,20 @@
 -- What the port's calls do with one slot.
-use Rattle.std.specs.Prelude.{◌≡◌, ℕ, Bool, true, false, nat_eq, if◌then◌else◌, Option, None, Some}
+use Rattle.std.specs.Prelude.{◌≡◌, ℕ, Bool, true, false, nat_eq, if◌then◌else◌, List, Option, None, Some}
 use Rattle.ahci_table.specs.Command.{cfis, queued_of}
 use Rattle.ahci_table.specs.Fit.{IsFit}
 use Rattle.ahci_table.specs.Window.{WindowState}
 use Rattle.ncq_core.specs.declared.outcome.Outcome.{Outcome}
 use Rattle.ncq_core.specs.declared.outcome.Outcome.TheVariants as outcome
-use Rattle.ncq_core.specs.declared.phase.Phase.TheVariants.{Issued, Accepted, Done}
+use Rattle.ncq_core.specs.declared.phase.Phase.TheVariants as phase
 use Rattle.ncq_core.specs.declared.serve_fault.ServeFault.{ServeFault}
 use Rattle.ncq_core.specs.declared.serve_fault.ServeFault.TheVariants as serve_fault
+use Rattle.ncq_core.specs.declared.taken.Taken.{Taken}
+use Rattle.ncq_core.specs.declared.taken.Taken.TheVariants as taken
+use Rattle.ncq_core.specs.Entry.{Entry, Accept, Fail}
+use Rattle.ahci_regs.specs.Receiving.{has_error}
+use Rattle.sata_fis.specs.Layout.{d2h_at}
+use Rattle.ahci_port.specs.declared.step.Stepped.{Stepped}
+use Rattle.ahci_port.specs.declared.step.Stepped.TheVariants.{Accepted, Failed}
 use Rattle.ncq_core.specs.Phase.{failed, recovered}
 use Rattle.ahci_port.specs.declared.fault.StepFault.{StepFault}
 use Rattle.ahci_port.specs.declared.fault.StepFault.TheVariants.{Halted, NotAccepted, OutsideCommand}
@@ -18,10 +25,10 @@ use Rattle.ahci_port.specs.Slots.{SlotState}
 
 -- the slot once its command is issued again, or accepted
 abbrev pub reissued_slot : SlotState → SlotState
-reissued_slot slot = record slot { phase = Issued }
+reissued_slot slot = record slot { phase = phase.Issued }
 
 abbrev pub accepted_slot : SlotState → SlotState
-accepted_slot slot = record slot { phase = Accepted }
+accepted_slot slot = record slot { phase = phase.Accepted }
 
 -- the slot of a command that has failed, at an entry
 abbrev pub failed_slot : SlotState → ℕ → ℕ → ℕ → SlotState
@@ -38,7 +45,7 @@ outcome_of false = outcome.Read
 
 -- the slot once its command is completed, at an entry, with its window then
 abbrev pub served_slot : SlotState → ℕ → WindowState → SlotState
-served_slot slot entry w = record slot { phase = Done; ended = Some (record { entry = entry; outcome = outcome_of slot.is_write }); window = w }
+served_slot slot entry w = record slot { phase = phase.Done; ended = Some (record { entry = entry; outcome = outcome_of slot.is_write }); window = w }
 
 -- the window once its command's data have moved: only a read changes it, and in its text alone
 pub record MovedWindow (old new : WindowState) : Type 0 where
@@ -58,3 +65,23 @@ abbrev pub step_fault_of : ServeFault → StepFault
 step_fault_of serve_fault.Stopped = Halted
 step_fault_of serve_fault.NotAccepted = NotAccepted
 step_fault_of serve_fault.OutsideCommand = OutsideCommand
+
+-- the FIS by which the disk answers a queued command
+abbrev pub fis_of : Taken → Option (List ℕ)
+fis_of (taken.Accepted fis) = Some fis
+fis_of (taken.Refused fis) = Some fis
+fis_of (taken.Plain command) = None
+
+-- ERR of the D2H Register FIS that answers a command
+abbrev pub refuses : List ℕ → Bool
+refuses fis = has_error (d2h_at fis).status
+
+-- the entry, the port's answer and the slot once a command is answered by a D2H Register FIS
+abbrev pub taken_entry : ℕ → List ℕ → Entry
+taken_entry tag fis = if refuses fis then Fail tag (d2h_at fis).error (d2h_at fis).lba else Accept tag
+
+abbrev pub taken_step : ℕ → List ℕ → Stepped
+taken_step entry fis = if refuses fis then Failed entry else Accepted entry
+
+abbrev pub taken_slot : SlotState → ℕ → List ℕ → SlotState
+taken_slot slot entry fis = if refuses fis then failed_slot slot entry (d2h_at fis).error (d2h_at fis).lba else accepted_slot slot

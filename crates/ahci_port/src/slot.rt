@@ -1,17 +1,25 @@
-ghost use Rattle.std.specs.Prelude.{◌≡◌, IfSome};
+ghost use Rattle.std.specs.Prelude.{◌≡◌, ◌≤◌, length, IfSome, None, Some, if◌then◌else◌};
+ghost use Rattle.ahci_table.specs.Command.{cfis};
+ghost use Rattle.ncq_core.specs.Entry.{entry_of};
+ghost use Rattle.sata_fis.specs.declared.fis.Fis.TheVariants.{D2h};
+ghost use Rattle.sata_fis.specs.Layout.{d2h_at};
+ghost use Rattle.sata_fis.specs.Spelling.{Spells};
 ghost use Rattle.std.specs.Option.{option_map};
 ghost use Rattle.ncq_core.specs.Phase.{failed, recovered};
 ghost use Rattle.ahci_port.specs.Keeping.{slot_at};
 ghost use Rattle.ahci_port.specs.Slots.{phase_in};
-ghost use Rattle.ahci_port.specs.Moves.{collect_fault, reissued_slot, accepted_slot, failed_slot, recovered_slot};
+ghost use Rattle.ahci_port.specs.Moves.{collect_fault, refuses, taken_entry, taken_slot, taken_step, reissued_slot, accepted_slot, failed_slot, recovered_slot};
 
 use crate::ended::Ended;
 use crate::fault::CollectFault;
 use crate::reply::Reply;
+use crate::step::Stepped;
 use ahci_table::Window;
-use ncq_core::{Outcome, Phase};
+use ncq_core::{Event, Outcome, Phase};
+use sata_fis::{Fis, decode};
 use std::alloc::{Allocator, Global};
 use std::marker::Model;
+use word_bits::is_set;
 
 /// A tag's request.
 #[derive(Drop)]
@@ -157,4 +165,67 @@ pub(crate) fn reply<A: Allocator>(slot: Slot<A>) -> (Reply, Window<A>)
         outcome: ended.outcome,
     };
     (reply, slot.window)
+}
+
+/// The command FIS of a tag's slot: the first 20 bytes of CFIS (AHCI 1.3.1, section 4.2.3).
+pub(crate) fn cfis_in<A: Allocator>(slots: &[Option<Slot<A>>], tag: u8) -> [u8; 20]
+    ensures { IfSome (slot_at slots.now tag) (λ s. 20 ≤ length s.window.bytes → result ≡ cfis s.window) }
+{
+    let mut cfis = [0; 20];
+    if let Some(Some(slot)) = slots.get(tag as usize) {
+        if let Some(bytes) = slot.window.bytes().get(..20) {
+            cfis.copy_from_slice(bytes);
+        }
+    }
+    cfis
+}
+
+/// ERR and the fields of the D2H Register FIS that answers a command: the error, and the LBA that it names.
+fn refusal(fis: &[u8; 20]) -> Option<(u8, u64)>
+    requires { Spells fis.now (D2h (d2h_at fis.now)) }
+    ensures { result ≡ (if refuses fis.now then Some ((d2h_at fis.now).error, (d2h_at fis.now).lba) else None) }
+{
+    match &decode(fis) {
+        Ok(Fis::D2h(answer)) if is_set(u32::from(answer.status), 0) => {
+            Some((answer.error, answer.lba))
+        }
+        _ => None,
+    }
+}
+
+/// The slot once its command is answered by a D2H Register FIS, at an entry.
+pub(crate) fn taken_slot<A: Allocator>(
+    slot: Option<Slot<A>>,
+    entry: u64,
+    fis: &[u8; 20],
+) -> Option<Slot<A>>
+    requires { Spells fis.now (D2h (d2h_at fis.now)) }
+    ensures { result ≡ option_map (λ s. taken_slot s entry fis.now) slot }
+{
+    match refusal(fis) {
+        Some((error, lba)) => failed_slot(slot, entry, error, lba),
+        None => accepted_slot(slot),
+    }
+}
+
+/// The event of that answer.
+pub(crate) fn taken_event<A: Allocator>(tag: u8, fis: &[u8; 20]) -> Event<A>
+    requires { Spells fis.now (D2h (d2h_at fis.now)) }
+    ensures { entry_of result ≡ taken_entry tag fis.now }
+{
+    match refusal(fis) {
+        Some((error, lba)) => Event::Fail { tag, error, lba },
+        None => Event::Accept(tag),
+    }
+}
+
+/// What the step answers then.
+pub(crate) fn taken_step(entry: u64, fis: &[u8; 20]) -> Stepped
+    requires { Spells fis.now (D2h (d2h_at fis.now)) }
+    ensures { result ≡ taken_step entry fis.now }
+{
+    match refusal(fis) {
+        Some(_) => Stepped::Failed(entry),
+        None => Stepped::Accepted(entry),
+    }
 }

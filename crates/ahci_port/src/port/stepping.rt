@@ -2,15 +2,16 @@
 
 ghost use Rattle.std.specs.Prelude.{◌≡◌, IfOk, OnErr};
 ghost use Rattle.ahci_port.specs.Faults.{Answers, step_refusal};
-ghost use Rattle.ahci_port.specs.Moves.{step_fault_of};
+ghost use Rattle.ahci_port.specs.Moves.{step_fault_of, fis_of};
 ghost use Rattle.ahci_port.specs.Steps.{IsStepped};
 
 use crate::fault::StepFault;
 use crate::port::Port;
-use crate::receiving::receive_bits;
-use crate::slot::failed_slot;
+use crate::receiving::{receive_bits, receive_register};
+use crate::slot::{cfis_in, failed_slot, taken_event, taken_slot, taken_step};
 use crate::step::{DeviceStep, Stepped};
-use ncq_core::{Event, ServeFault};
+use ncq_core::laws::the_disks_answers_are_these_bytes;
+use ncq_core::{Event, Phase, ServeFault, Taken};
 use std::alloc::Allocator;
 
 /// The port's fault where the disk has refused to end a command.
@@ -24,7 +25,52 @@ fn step_fault(fault: ServeFault) -> StepFault
     }
 }
 
+/// The FIS by which the disk answers a queued command.
+fn fis_of(taken: Taken) -> Option<[u8; 20]>
+    ensures { result ≡ fis_of taken }
+{
+    match taken {
+        Taken::Accepted(fis) | Taken::Refused(fis) => Some(fis),
+        Taken::Plain(_) => None,
+    }
+}
+
 impl<A: Allocator> Port<A> {
+    /// The device takes a tag's command, or refuses it where it passes the last sector: the command goes from the window's
+    /// CFIS to the disk, and the answer comes back as a D2H Register FIS (Serial ATA, "Register FIS - Device to Host").
+    fn accept(&mut self, tag: u8) -> Result<Stepped, StepFault>
+        ensures ok { IfOk result (λ done. IsStepped (DeviceStep.Accept tag) self.old self.new done) }
+        ensures fault { Answers result (step_refusal self.old (DeviceStep.Accept tag)) }
+        ensures err { OnErr result (self.new ≡ self.old) }
+    {
+        if let Some(fault) = self.accept_fault(tag) {
+            return Err(fault);
+        }
+        the_disks_answers_are_these_bytes();
+        let entry = self.journal.len();
+        let Some(fis) = fis_of(self.disk.take(&cfis_in(&self.slots, tag))) else {
+            return Err(StepFault::NotIssued);
+        };
+        receive_register(&mut self.registers, &mut self.area, &fis, tag);
+        let slot = self.slots[tag as usize].take();
+        self.slots[tag as usize] = taken_slot(slot, entry, &fis);
+        self.journal.push_reserved(taken_event(tag, &fis));
+        Ok(taken_step(entry, &fis))
+    }
+
+    /// Why the device does not take a tag's command.
+    fn accept_fault(&self, tag: u8) -> Option<StepFault>
+        ensures { result ≡ step_refusal self.now (DeviceStep.Accept tag) }
+    {
+        if self.halted() {
+            return Some(StepFault::Halted);
+        }
+        match self.phase(tag) {
+            Phase::Issued => None,
+            _ => Some(StepFault::NotIssued),
+        }
+    }
+
     /// The device fails a tag's command with an error at one of its sectors.
     fn fail(&mut self, tag: u8, error: u8, at: u64) -> Result<Stepped, StepFault>
         ensures ok { IfOk result (λ done. IsStepped (DeviceStep.Fail tag error at) self.old self.new done) }
