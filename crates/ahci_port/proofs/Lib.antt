@@ -17,3 +17,4 @@ pub mod CollectingLemmas
 pub mod OwningLemmas
 pub mod StepLemmas
 pub mod TakingLemmas
+pub mod ServedLemmas

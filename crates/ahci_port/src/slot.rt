@@ -1,5 +1,11 @@
 ghost use Rattle.std.specs.Prelude.{◌≡◌, ◌≤◌, length, IfSome, None, Some, if◌then◌else◌};
-ghost use Rattle.ahci_table.specs.Command.{cfis};
+ghost use Rattle.ahci_table.specs.Command.{cfis, queued_of};
+ghost use Rattle.ahci_table.specs.Fit.{IsFit};
+ghost use Rattle.ahci_table.specs.Text.{text};
+ghost use Rattle.ncq_core.specs.DiskFis.{setup_bytes, completed_bytes};
+ghost use Rattle.ncq_core.specs.DiskState.{command_of};
+ghost use Rattle.ncq_core.specs.Serving.{HasMoved, serve_fault, served};
+ghost use Rattle.ahci_port.specs.Memory.{IsKept};
 ghost use Rattle.ncq_core.specs.Entry.{entry_of};
 ghost use Rattle.sata_fis.specs.declared.fis.Fis.TheVariants.{D2h};
 ghost use Rattle.sata_fis.specs.Layout.{d2h_at};
@@ -8,14 +14,15 @@ ghost use Rattle.std.specs.Option.{option_map};
 ghost use Rattle.ncq_core.specs.Phase.{failed, recovered};
 ghost use Rattle.ahci_port.specs.Keeping.{slot_at};
 ghost use Rattle.ahci_port.specs.Slots.{phase_in};
-ghost use Rattle.ahci_port.specs.Moves.{collect_fault, refuses, taken_entry, taken_slot, taken_step, reissued_slot, accepted_slot, failed_slot, recovered_slot};
+ghost use Rattle.ahci_port.specs.Moves.{collect_fault, outcome_of, served_slot, refuses, taken_entry, taken_slot, taken_step, reissued_slot, accepted_slot, failed_slot, recovered_slot};
 
 use crate::ended::Ended;
 use crate::fault::CollectFault;
+use crate::memory::Memory;
 use crate::reply::Reply;
 use crate::step::Stepped;
 use ahci_table::Window;
-use ncq_core::{Event, Outcome, Phase};
+use ncq_core::{Disk, Event, Outcome, Phase};
 use sata_fis::{Fis, decode};
 use std::alloc::{Allocator, Global};
 use std::marker::Model;
@@ -228,4 +235,59 @@ pub(crate) fn taken_step(entry: u64, fis: &[u8; 20]) -> Stepped
         Some(_) => Stepped::Failed(entry),
         None => Stepped::Accepted(entry),
     }
+}
+
+/// How a command ends that doesn't fail.
+fn outcome_of(is_write: bool) -> Outcome
+    ensures { result ≡ outcome_of is_write }
+{
+    if is_write {
+        Outcome::Wrote
+    } else {
+        Outcome::Read
+    }
+}
+
+/// What serving a command leaves: its slot, the DMA Setup FIS and the Set Device Bits FIS.
+#[derive(Drop)]
+pub(crate) struct Served<A: Allocator = Global> {
+    pub(crate) slot: Slot<A>,
+    pub(crate) setup: [u8; 28],
+    pub(crate) bits: [u8; 8],
+}
+
+/// Lets the disk serve the command of a slot, over the window's memory.
+pub(crate) fn serve_slot<A: Allocator>(
+    slot: Slot<A>,
+    disk: &mut Disk<A>,
+    tag: u8,
+    entry: u64,
+) -> Served<A>
+    requires fit { IsFit slot.window }
+    requires there { command_of disk.old tag ≡ Some (queued_of slot.window) }
+    requires running { serve_fault disk.old tag ≡ None }
+    ensures state { disk.new ≡ served disk.old tag disk.new.image }
+    ensures data { HasMoved (queued_of slot.window) disk.old.image disk.new.image (text slot.window) (text result.slot.window) }
+    ensures fit { IsFit result.slot.window }
+    ensures kept { IsKept slot.window result.slot.window }
+    ensures slot { result.slot ≡ served_slot slot entry result.slot.window }
+    ensures setup { result.setup ≡ setup_bytes (queued_of slot.window) }
+    ensures bits { result.bits ≡ completed_bytes tag }
+{
+    let mut memory = Memory::of(slot.window);
+    let bits = disk.serve(tag, &mut memory).unwrap();
+    let Memory { window, setup, .. } = memory;
+    let slot = Slot {
+        number: slot.number,
+        is_write: slot.is_write,
+        lba: slot.lba,
+        sectors: slot.sectors,
+        phase: Phase::Done,
+        ended: Some(Ended {
+            entry,
+            outcome: outcome_of(slot.is_write),
+        }),
+        window,
+    };
+    Served { slot, setup, bits }
 }

@@ -7,8 +7,8 @@ ghost use Rattle.ahci_port.specs.Steps.{IsStepped};
 
 use crate::fault::StepFault;
 use crate::port::Port;
-use crate::receiving::{receive_bits, receive_register};
-use crate::slot::{cfis_in, failed_slot, taken_event, taken_slot, taken_step};
+use crate::receiving::{receive_bits, receive_register, receive_setup};
+use crate::slot::{cfis_in, failed_slot, serve_slot, taken_event, taken_slot, taken_step};
 use crate::step::{DeviceStep, Stepped};
 use ncq_core::laws::the_disks_answers_are_these_bytes;
 use ncq_core::{Event, Phase, ServeFault, Taken};
@@ -91,5 +91,38 @@ impl<A: Allocator> Port<A> {
             lba: at,
         });
         Ok(Stepped::Failed(entry))
+    }
+
+    /// The device moves the data of a tag's command between its image and the window's text, and completes the command.
+    fn serve(&mut self, tag: u8) -> Result<Stepped, StepFault>
+        ensures ok { IfOk result (λ done. IsStepped (DeviceStep.Serve tag) self.old self.new done) }
+        ensures fault { Answers result (step_refusal self.old (DeviceStep.Serve tag)) }
+        ensures err { OnErr result (self.new ≡ self.old) }
+    {
+        if let Some(fault) = self.serve_fault(tag) {
+            return Err(fault);
+        }
+        the_disks_answers_are_these_bytes();
+        let entry = self.journal.len();
+        let slot = self.slots[tag as usize].take().unwrap();
+        let served = serve_slot(slot, &mut self.disk, tag, entry);
+        receive_setup(&mut self.area, &served.setup);
+        receive_bits(&mut self.registers, &mut self.area, &served.bits);
+        self.slots[tag as usize] = Some(served.slot);
+        self.journal.push_reserved(Event::Complete(tag));
+        Ok(Stepped::Completed(entry))
+    }
+
+    /// Why the device does not serve a tag's command.
+    fn serve_fault(&self, tag: u8) -> Option<StepFault>
+        ensures { result ≡ step_refusal self.now (DeviceStep.Serve tag) }
+    {
+        if self.halted() {
+            return Some(StepFault::Halted);
+        }
+        match self.phase(tag) {
+            Phase::Accepted => None,
+            _ => Some(StepFault::NotAccepted),
+        }
     }
 }

@@ -1,0 +1,12 @@
+use Rattle.std.proofs.Common.{◌≡◌, ◌∙◌, ◌≤◌, length, Some, ap, sym, subst, arith}
+use Rattle.std.specs.Prelude.{IfSome}
+use Rattle.ahci_table.specs.Text.{text}
+use Rattle.ncq_core.specs.Serving.{byte_count}
+use Rattle.ahci_port.proofs.MemoryLemmas.{fit_sized}
+use Rattle.ahci_port.proofs.slot.serve_slot.Goals as goal
+
+pub serve-requires : goal.serve-requires
+serve-requires g c =
+    let sized = fit_sized c.args.slot.window c.requires.fit in
+    let same : length (text c.of-memory.result.window) ≡ length (text c.args.slot.window) = ap (λ w. length (text w)) (c.of-memory.ensures ∙ ap (λ s. s.window) c.slot.view_is) in
+    subst (λ o. IfSome o (λ q. byte_count q ≤ length (text c.of-memory.result.window))) (sym c.requires.there) (omega arith)
