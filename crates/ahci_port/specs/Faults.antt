@@ -1,6 +1,6 @@
 -- When each call of the port is refused: the first case that holds, in this order (profile). A tag at or above the depth
 -- counts as a free slot.
-use Rattle.std.specs.Prelude.{◌≡◌, ◌≢◌, ℕ, ◌<◌, ◌≤◌, Bool, true, false, not, ◌||◌, nat_eq, if◌then◌else◌, Option, None, Some, Result, Err, IsOk, IsOkUnless}
+use Rattle.std.specs.Prelude.{◌≡◌, ◌≢◌, ℕ, ◌<◌, ◌≤◌, Bool, true, false, not, ◌||◌, nat_eq, nat_le, if◌then◌else◌, Option, None, Some, Result, Err, IsOk, IsOkUnless}
 use Rattle.ahci_table.specs.declared.fault.TableFault.TheVariants as table
 use Rattle.ahci_table.specs.Fit.{IsFit, Breaks}
 use Rattle.ahci_table.specs.Window.{WindowState}
@@ -41,6 +41,12 @@ is_held p = false
 abbrev pub is_done : Phase → Bool
 is_done Done = true
 is_done p = false
+
+-- why a window of this tag is not looked at
+abbrev pub early_refusal : PortView → ℕ → Option IssueFault
+early_refusal port tag =
+    if halted port.past then Some issue.Halted
+    else (if nat_le port.depth tag then Some issue.NoSuchTag else (if is_free (phase port.past tag) then None else Some issue.SlotOwned))
 
 -- the port takes a command for this tag, if its window is fit
 pub record MayTake (port : PortView) (tag : ℕ) : Type 0 where

@@ -11,6 +11,11 @@ use Rattle.ncq_core.specs.declared.serve_fault.ServeFault.TheVariants as serve_f
 use Rattle.ncq_core.specs.declared.taken.Taken.{Taken}
 use Rattle.ncq_core.specs.declared.taken.Taken.TheVariants as taken
 use Rattle.ncq_core.specs.Entry.{Entry, Accept, Fail}
+use Rattle.ahci_table.specs.declared.fault.TableFault.{TableFault}
+use Rattle.ahci_table.specs.declared.fault.TableFault.TheVariants as table
+use Rattle.sata_fis.specs.Fields.{QueuedFields}
+use Rattle.ahci_port.specs.declared.fault.IssueFault.{IssueFault}
+use Rattle.ahci_port.specs.declared.fault.IssueFault.TheVariants as issue
 use Rattle.ahci_regs.specs.Receiving.{has_error}
 use Rattle.sata_fis.specs.Layout.{d2h_at}
 use Rattle.ahci_port.specs.declared.step.Stepped.{Stepped}
@@ -85,3 +90,23 @@ taken_step entry fis = if refuses fis then Failed entry else Accepted entry
 
 abbrev pub taken_slot : SlotState → ℕ → List ℕ → SlotState
 taken_slot slot entry fis = if refuses fis then failed_slot slot entry (d2h_at fis).error (d2h_at fis).lba else accepted_slot slot
+
+-- the slot of a command that is issued
+abbrev pub issued_slot : ℕ → QueuedFields → WindowState → SlotState
+issued_slot number q w = record {
+  number = number;
+  is_write = q.write;
+  lba = q.lba;
+  sectors = q.sectors;
+  phase = phase.Issued;
+  ended = None;
+  window = w;
+}
+
+-- the port's fault where the rule of a window is broken
+abbrev pub issue_fault_of : TableFault → IssueFault
+issue_fault_of table.BadHeader = issue.BadHeader
+issue_fault_of table.BadCommand = issue.BadCommand
+issue_fault_of table.WrongTag = issue.WrongTag
+issue_fault_of table.TooLong = issue.TooLong
+issue_fault_of table.BadList = issue.BadList

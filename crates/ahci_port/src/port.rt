@@ -1,4 +1,5 @@
 mod collecting;
+mod issuing;
 mod stepping;
 
 ghost use Rattle.std.specs.Prelude.{◌≡◌, ◌<◌, ◌≤◌, [], None, length, replicate, IfOk, IfErr, MatchOption, if◌then◌else◌, slice_index_or};

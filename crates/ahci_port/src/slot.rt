@@ -1,4 +1,4 @@
-ghost use Rattle.std.specs.Prelude.{◌≡◌, ◌≤◌, length, IfSome, None, Some, if◌then◌else◌};
+ghost use Rattle.std.specs.Prelude.{◌≡◌, ◌≤◌, length, map, IfSome, None, Some, if◌then◌else◌};
 ghost use Rattle.ahci_table.specs.Command.{cfis, queued_of};
 ghost use Rattle.ahci_table.specs.Fit.{IsFit};
 ghost use Rattle.ahci_table.specs.Text.{text};
@@ -14,7 +14,7 @@ ghost use Rattle.std.specs.Option.{option_map};
 ghost use Rattle.ncq_core.specs.Phase.{failed, recovered};
 ghost use Rattle.ahci_port.specs.Keeping.{slot_at};
 ghost use Rattle.ahci_port.specs.Slots.{phase_in};
-ghost use Rattle.ahci_port.specs.Moves.{collect_fault, outcome_of, served_slot, refuses, taken_entry, taken_slot, taken_step, reissued_slot, accepted_slot, failed_slot, recovered_slot};
+ghost use Rattle.ahci_port.specs.Moves.{collect_fault, issued_slot, outcome_of, served_slot, refuses, taken_entry, taken_slot, taken_step, reissued_slot, accepted_slot, failed_slot, recovered_slot};
 
 use crate::ended::Ended;
 use crate::fault::CollectFault;
@@ -23,7 +23,7 @@ use crate::reply::Reply;
 use crate::step::Stepped;
 use ahci_table::Window;
 use ncq_core::{Disk, Event, Outcome, Phase};
-use sata_fis::{Fis, decode};
+use sata_fis::{Fis, Queued, decode};
 use std::alloc::{Allocator, Global};
 use std::marker::Model;
 use word_bits::is_set;
@@ -290,4 +290,33 @@ pub(crate) fn serve_slot<A: Allocator>(
         window,
     };
     Served { slot, setup, bits }
+}
+
+/// The slot of a command that is issued, as request `number`.
+pub(crate) fn issued_slot<A: Allocator>(
+    number: u64,
+    queued: &Queued,
+    window: Window<A>,
+) -> Slot<A>
+    ensures { result ≡ issued_slot number queued.now window }
+{
+    Slot {
+        number,
+        is_write: queued.write,
+        lba: queued.lba,
+        sectors: queued.sectors,
+        phase: Phase::Issued,
+        ended: None,
+        window,
+    }
+}
+
+/// The slots once the port has recovered.
+pub(crate) fn recover_slots<A: Allocator>(slots: &mut [Option<Slot<A>>])
+    ensures { slots.new ≡ map (option_map recovered_slot) slots.old }
+{
+    for place in slots.iter_mut() {
+        let slot = place.take();
+        *place = recovered_slot(slot);
+    }
 }

@@ -36,6 +36,26 @@ fn fis_of(taken: Taken) -> Option<[u8; 20]>
 }
 
 impl<A: Allocator> Port<A> {
+    /// Lets the device take a step with a tag's command, and answers the number of its entry. It takes no memory. A command
+    /// that passes the last sector is refused when it is accepted, with error 10h and the first of its sectors that the
+    /// disk lacks, which is answered as `Failed`.
+    ///
+    /// # Errors
+    /// `Halted` where a command has failed and the port has not recovered; `NotIssued` where an Accept's command does not
+    /// wait for the device; `NotAccepted` where a Serve's or a Fail's command is not accepted; `OutsideCommand` where a
+    /// Fail's sector is not one of the command's.
+    pub fn step(&mut self, step: DeviceStep) -> Result<Stepped, StepFault>
+        ensures ok { IfOk result (λ done. IsStepped step self.old self.new done) }
+        ensures fault { Answers result (step_refusal self.old step) }
+        ensures err { OnErr result (self.new ≡ self.old) }
+    {
+        match step {
+            DeviceStep::Accept(tag) => self.accept(tag),
+            DeviceStep::Serve(tag) => self.serve(tag),
+            DeviceStep::Fail { tag, error, at } => self.fail(tag, error, at),
+        }
+    }
+
     /// The device takes a tag's command, or refuses it where it passes the last sector: the command goes from the window's
     /// CFIS to the disk, and the answer comes back as a D2H Register FIS (Serial ATA, "Register FIS - Device to Host").
     fn accept(&mut self, tag: u8) -> Result<Stepped, StepFault>

@@ -1,0 +1,111 @@
+//! How software issues a command.
+
+ghost use Rattle.std.specs.Prelude.{◌≡◌, length, IfOk, IfErr, OnOk};
+ghost use Rattle.ahci_table.specs.Command.{op, queued_of};
+ghost use Rattle.ahci_table.specs.Fit.{IsFit};
+ghost use Rattle.ncq_core.specs.Lawful.{IsProper};
+ghost use Rattle.ncq_core.specs.Work.{work_of};
+ghost use Rattle.ahci_port.specs.Faults.{RefusesIssue, MayTake, early_refusal};
+ghost use Rattle.ahci_port.specs.Moves.{issue_fault_of};
+ghost use Rattle.ahci_port.specs.Steps.{IsIssued};
+
+use crate::fault::IssueFault;
+use crate::port::Port;
+use crate::receiving::issue;
+use crate::slot::issued_slot;
+use ahci_table::{TableFault, Window};
+use ncq_core::{Bytes, Event, Op, Phase};
+use sata_fis::Queued;
+use std::alloc::{AllocError, Allocator};
+
+/// The port's fault where the rule of a window is broken.
+fn issue_fault(fault: TableFault) -> IssueFault
+    ensures { result ≡ issue_fault_of fault }
+{
+    match fault {
+        TableFault::BadHeader => IssueFault::BadHeader,
+        TableFault::BadCommand => IssueFault::BadCommand,
+        TableFault::WrongTag => IssueFault::WrongTag,
+        TableFault::TooLong => IssueFault::TooLong,
+        TableFault::BadList => IssueFault::BadList,
+    }
+}
+
+/// What a window asks of the disk: a write has a copy of the text.
+fn op_of<A: Allocator + Clone>(
+    alloc: &A,
+    window: &Window<A>,
+    queued: &Queued,
+) -> Result<Op<A>, AllocError>
+    requires fit { IsFit window.now }
+    requires queued { queued.now ≡ queued_of window.now }
+    ensures work { IfOk result (λ o. work_of o ≡ op window.now) }
+    ensures proper { IfOk result (λ o. IsProper (op window.now)) }
+{
+    let lba = queued.lba;
+    if !queued.write {
+        let sectors = queued.sectors;
+        return Ok(Op::Read { lba, sectors });
+    }
+    let bytes = window.text(alloc.clone()?)?;
+    Ok(Op::Write {
+        lba,
+        bytes: Bytes::from_vec(bytes),
+    })
+}
+
+impl<A: Allocator> Port<A> {
+    /// Why a window of this tag is not looked at.
+    fn early_fault(&self, tag: u8) -> Option<IssueFault>
+        ensures { result ≡ early_refusal self.now tag }
+    {
+        if self.halted() {
+            return Some(IssueFault::Halted);
+        }
+        if u32::from(tag) >= self.depth() {
+            return Some(IssueFault::NoSuchTag);
+        }
+        match self.phase(tag) {
+            Phase::Free => None,
+            _ => Some(IssueFault::SlotOwned),
+        }
+    }
+}
+
+impl<A: Allocator + Clone> Port<A> {
+    /// Issues the command of a window (AHCI 1.3.1, "Building a Command"): its header goes into the command list, the window
+    /// into its slot, and the tag's bit is set in PxSACT, then in PxCI. The answer is the request's number, the index of
+    /// its Issue entry. Room for every later entry that the request needs without an error is reserved here.
+    ///
+    /// # Errors
+    /// `Halted`, `NoSuchTag` where the tag is not below the depth, `SlotOwned`, the first rule that the window breaks, and
+    /// `OutOfMemory` where a growth was refused; the window comes back as it was.
+    pub fn issue(&mut self, window: Window<A>) -> Result<u64, (Window<A>, IssueFault)>
+        ensures number { IfOk result (λ n. n ≡ length self.old.past) }
+        ensures issued { OnOk result (IsIssued window self.old self.new) }
+        ensures taken { OnOk result (MayTake self.old window.tag × IsFit window) }
+        ensures fault { IfErr result (λ e. RefusesIssue self.old window e.1) }
+        ensures err { IfErr result (λ e. (e.0 ≡ window) × (self.new ≡ self.old)) }
+    {
+        let tag = window.tag();
+        if let Some(fault) = self.early_fault(tag) {
+            return Err((window, fault));
+        }
+        let command = match window.check() {
+            Ok(command) => command,
+            Err(fault) => return Err((window, issue_fault(fault))),
+        };
+        let Ok(op) = op_of(&self.alloc, &window, &command.queued) else {
+            return Err((window, IssueFault::OutOfMemory));
+        };
+        let Ok(()) = self.journal.reserve(129) else {
+            return Err((window, IssueFault::OutOfMemory));
+        };
+        let number = self.journal.len();
+        self.headers[tag as usize] = *window.header();
+        issue(&mut self.registers, tag);
+        self.slots[tag as usize] = Some(issued_slot(number, &command.queued, window));
+        self.journal.push_reserved(Event::Issue(tag, op));
+        Ok(number)
+    }
+}
