@@ -18,3 +18,5 @@ pub mod OwningLemmas
 pub mod StepLemmas
 pub mod TakingLemmas
 pub mod ServedLemmas
+pub mod MappedLemmas
+pub mod TakenLemmas

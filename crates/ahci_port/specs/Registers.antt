@@ -49,12 +49,16 @@ read_by_pio s = after_pio_end (after_pio (after_write s 0x138 1) 0x48 0) 0x40 tr
 abbrev pub flushed : PortState → PortState
 flushed s = after_register (after_write s 0x138 1) 0x40 0 true 0
 
--- recovery: ST off, PxSERR and PxIS cleared, ST on, and READ LOG EXT in slot 0
-abbrev pub recovered : PortState → PortState
-recovered s =
+-- the port is stopped and started again: ST off, PxSERR and PxIS cleared, ST on
+abbrev pub restarted : PortState → PortState
+restarted s =
     let stopped = after_write s 0x118 0x10 in
     let cleared = after_write (after_write stopped 0x130 0xffffffff) 0x110 0xffffffff in
-    read_by_pio (after_write cleared 0x118 0x11)
+    after_write cleared 0x118 0x11
+
+-- recovery: it is restarted, and READ LOG EXT is sent in slot 0
+abbrev pub recovered : PortState → PortState
+recovered s = read_by_pio (restarted s)
 
 -- interrupts are acknowledged: PxIS
 abbrev pub acknowledged : PortState → ℕ → PortState

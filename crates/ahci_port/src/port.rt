@@ -1,5 +1,6 @@
 mod collecting;
 mod issuing;
+mod recovering;
 mod stepping;
 
 ghost use Rattle.std.specs.Prelude.{◌≡◌, ◌<◌, ◌≤◌, [], None, length, replicate, IfOk, IfErr, MatchOption, if◌then◌else◌, slice_index_or};

@@ -315,8 +315,8 @@ pub(crate) fn issued_slot<A: Allocator>(
 pub(crate) fn recover_slots<A: Allocator>(slots: &mut [Option<Slot<A>>])
     ensures { slots.new ≡ map (option_map recovered_slot) slots.old }
 {
-    for place in slots.iter_mut() {
-        let slot = place.take();
-        *place = recovered_slot(slot);
+    for index in 0..slots.len() {
+        let slot = slots[index].take();
+        slots[index] = recovered_slot(slot);
     }
 }

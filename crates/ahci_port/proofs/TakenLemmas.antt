@@ -1,0 +1,61 @@
+-- What a port has that issues a command.
+use Rattle.std.proofs.Common.{◌≡◌, ◌≢◌, ℕ, ◌+◌, ◌*◌, ◌/◌, ◌^◌, ◌<◌, ◌≤◌, Bool, true, false, cond, List, length, leb, ap, sym, refl, ◌∙◌, subst, Option, None, Some, arith}
+use Rattle.std.proofs.lemmas.Bool.{false≢true, leb-false}
+use Rattle.ahci_table.specs.Command.{op, queued_of}
+use Rattle.ahci_table.specs.Fit.{IsFit}
+use Rattle.ahci_table.specs.Text.{text}
+use Rattle.ahci_table.specs.Window.{WindowState}
+use Rattle.ncq_core.specs.declared.phase.Phase.{Phase}
+use Rattle.ncq_core.specs.declared.phase.Phase.TheVariants.{Free, Issued, Accepted, Rejected, Broken, Held, Done}
+use Rattle.ncq_core.specs.Entry.{Entry}
+use Rattle.ncq_core.specs.Halted.{halted}
+use Rattle.ncq_core.specs.Lawful.{IsProper}
+use Rattle.ncq_core.specs.Phase.{phase}
+use Rattle.ncq_core.specs.Work.{Read, Write}
+use Rattle.ahci_port.specs.Faults.{MayTake, early_refusal}
+use Rattle.ahci_port.specs.Keeping.{HasSlot, slot_at}
+use Rattle.ahci_port.specs.PortView.{PortView, is_free}
+use Rattle.ahci_port.specs.Slots.{SlotState}
+use Rattle.ahci_port.specs.declared.fault.IssueFault.TheVariants as issue
+use Rattle.ahci_port.proofs.MemoryLemmas.{fit_sized}
+use Rattle.ahci_port.proofs.WorkLemmas.{op_read, op_write}
+
+free_is : (p : Phase) → is_free p ≡ true → p ≡ Free
+free_is Free e = refl
+free_is Issued e = absurd (false≢true e)
+free_is Accepted e = absurd (false≢true e)
+free_is Rejected e = absurd (false≢true e)
+free_is Broken e = absurd (false≢true e)
+free_is Held e = absurd (false≢true e)
+free_is Done e = absurd (false≢true e)
+
+-- what no early refusal says
+pub early_may : (port : PortView) (tag : ℕ) → early_refusal port tag ≡ None → MayTake port tag
+early_may port tag e = by (halted port.past) (leb port.depth tag) (is_free (phase port.past tag)) refl refl refl e
+  where
+    by : (a b x : Bool) → halted port.past ≡ a → leb port.depth tag ≡ b → is_free (phase port.past tag) ≡ x
+        → cond a (Some issue.Halted) (cond b (Some issue.NoSuchTag) (cond x None (Some issue.SlotOwned))) ≡ None → MayTake port tag
+    by true b x p q r h = absurd (cc)
+    by false true x p q r h = absurd (cc)
+    by false false true p q r h = record { running = p; below = leb-false port.depth tag q; free = free_is (phase port.past tag) r }
+    by false false false p q r h = absurd (cc)
+
+-- the slot of a free tag is empty
+pub vacant_slot : (starting : List ℕ) (past : List Entry) (tag : ℕ) (s : Option SlotState) → HasSlot starting past tag s → phase past tag ≡ Free → s ≡ None
+vacant_slot starting past tag None h e = refl
+vacant_slot starting past tag (Some slot) h e = absurd (h.taken (sym h.phase_is ∙ e))
+
+-- the command of a fit window can be issued
+pub op_proper : (w : WindowState) → IsFit w → (queued_of w).lba < 2 ^ 48 → 1 ≤ (queued_of w).sectors → IsProper (op w)
+op_proper w fit low some = by (queued_of w).write refl
+  where
+    by : (b : Bool) → (queued_of w).write ≡ b → IsProper (op w)
+    by false e = subst IsProper (sym (op_read w e)) (record { some = some; most = fit.short; lba = low; whole = tt })
+    by true e =
+        let sized = fit_sized w fit in
+        let short = fit.short in
+        let bytes = text w in
+        let whole : length (text w) ≡ 512 * (length (text w) / 512) = omega arith in
+        let few : 1 ≤ length (text w) / 512 = omega arith in
+        let most : length (text w) / 512 ≤ 256 = omega arith in
+        subst IsProper (sym (op_write w e)) (record { some = few; most = most; lba = low; whole = whole })

@@ -1,0 +1,67 @@
+//! How software recovers from a failure, and sends commands that are not queued, by slot 0 (AHCI 1.3.1, section 6.2.2;
+//! ACS-3, READ LOG EXT, IDENTIFY DEVICE and FLUSH CACHE EXT).
+
+ghost use Rattle.std.specs.Prelude.{◌≡◌, true, IfOk, IfErr, OnOk, OnErr};
+ghost use Rattle.ncq_core.specs.Identify.{identify_page};
+ghost use Rattle.ncq_core.specs.Phase.{phase, is_failed};
+ghost use Rattle.ahci_port.specs.Faults.{AnswersOr, recover_refusal, plain_refusal};
+ghost use Rattle.ahci_port.specs.PortView.{sectors_in};
+ghost use Rattle.ahci_port.specs.Registers.{restarted};
+ghost use Rattle.ahci_port.specs.Steps.{IsRecovered, IsIdentified, IsFlushed};
+
+use crate::fault::{PlainFault, RecoverFault};
+use crate::port::Port;
+use crate::receiving::{receive_pio, receive_register, write};
+use crate::slot::recover_slots;
+use crate::unqueued::{FLUSH, IDENTIFY, NO_DATA_HEADER, READ_HEADER, READ_LOG};
+use ahci_regs::PortRegs;
+use ncq_core::laws::the_disks_answers_are_these_bytes;
+use ncq_core::{Disk, Event, Plain};
+use std::alloc::Allocator;
+
+/// PxCI.
+const PXCI: u32 = 0x138;
+
+/// Stops the port, clears PxSERR and PxIS, and starts it again.
+fn restart(registers: &mut PortRegs)
+    ensures { registers.new ≡ restarted registers.old }
+{
+    write(registers, 0x118, 0x10);
+    write(registers, 0x130, 0xFFFF_FFFF);
+    write(registers, 0x110, 0xFFFF_FFFF);
+    write(registers, 0x118, 0x11);
+}
+
+impl<A: Allocator> Port<A> {
+    /// Recovers from a failure: the port is stopped and started, and the page that READ LOG EXT reads tells the failed tag,
+    /// which is the answer. The failed request is done, and every other command that was issued or accepted is held.
+    ///
+    /// # Errors
+    /// `NotHalted` where no command has failed, else `OutOfMemory` where a growth was refused.
+    pub fn recover(&mut self) -> Result<u8, RecoverFault>
+        ensures failed { IfOk result (λ tag. is_failed (phase self.old.past tag) ≡ true) }
+        ensures recovered { IfOk result (λ tag. IsRecovered tag self.old self.new) }
+        ensures fault { AnswersOr result (recover_refusal self.old) RecoverFault.OutOfMemory }
+        ensures err { OnErr result (self.new ≡ self.old) }
+    {
+        if !self.halted() {
+            return Err(RecoverFault::NotHalted);
+        }
+        let Ok(()) = self.journal.reserve(129) else {
+            return Err(RecoverFault::OutOfMemory);
+        };
+        restart(&mut self.registers);
+        let aside = self.headers[0];
+        self.headers[0] = READ_HEADER;
+        self.unqueued.command(&READ_LOG);
+        write(&mut self.registers, PXCI, 1);
+        let _taken = self.disk.take(self.unqueued.cfis());
+        receive_pio(&mut self.registers, &mut self.area, &Disk::<A>::pio_setup());
+        self.unqueued.take_page(self.disk.read_log());
+        self.headers[0] = aside;
+        let tag = self.unqueued.page()[0] & 0x1F;
+        recover_slots(&mut self.slots);
+        self.journal.push_reserved(Event::Recover(tag));
+        Ok(tag)
+    }
+}
