@@ -20,3 +20,5 @@ pub mod TakingLemmas
 pub mod ServedLemmas
 pub mod MappedLemmas
 pub mod TakenLemmas
+pub mod LogLemmas
+pub mod QuietLemmas

@@ -38,3 +38,8 @@ recovered_more i old xs d is low =
     same_default [] n d e h = absurd (omega arith)
     same_default (y ∷ ys) zero d e h = refl
     same_default (y ∷ ys) (suc n) d e h = same_default ys n d e (omega arith)
+
+-- none at first
+pub recovered_none : (xs : List (Option SlotState)) → xs ≡ recovered_first 0 xs
+unfolding recovered_first
+recovered_none xs = refl

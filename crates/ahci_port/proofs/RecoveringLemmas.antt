@@ -48,7 +48,7 @@ idle_again : (s : Option SlotState) → outstanding_in false (option_map recover
 idle_again None = refl
 idle_again (Some slot) = ap (λ b. cond (b && true) (Some (queued_of slot.window)) None) (recovered_idle slot.phase)
 
-failed_taken : (p : Phase) → is_failed p ≡ true → p ≢ Free
+pub failed_taken : (p : Phase) → is_failed p ≡ true → p ≢ Free
 failed_taken Free f e = absurd (cc)
 failed_taken Issued f e = absurd (cc)
 failed_taken Accepted f e = absurd (cc)

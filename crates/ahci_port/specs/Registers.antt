@@ -42,8 +42,11 @@ abbrev pub failed : PortState → ℕ → PortState
 failed s error = after_bits s 0x41 error true 0
 
 -- a command of slot 0 that reads by PIO: PxCI, a PIO Setup FIS and the end of its data
+abbrev pub read_data : PortState → PortState
+read_data s = after_pio_end (after_pio s 0x48 0) 0x40 true 0
+
 abbrev pub read_by_pio : PortState → PortState
-read_by_pio s = after_pio_end (after_pio (after_write s 0x138 1) 0x48 0) 0x40 true 0
+read_by_pio s = read_data (after_write s 0x138 1)
 
 -- FLUSH CACHE EXT in slot 0: PxCI, and a D2H Register FIS with an interrupt
 abbrev pub flushed : PortState → PortState

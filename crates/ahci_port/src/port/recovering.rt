@@ -59,9 +59,79 @@ impl<A: Allocator> Port<A> {
         receive_pio(&mut self.registers, &mut self.area, &Disk::<A>::pio_setup());
         self.unqueued.take_page(self.disk.read_log());
         self.headers[0] = aside;
-        let tag = self.unqueued.page()[0] & 0x1F;
+        let tag = self.unqueued.page()[0] % 32; // bits 4:0
         recover_slots(&mut self.slots);
         self.journal.push_reserved(Event::Recover(tag));
         Ok(tag)
+    }
+
+    /// Sends IDENTIFY DEVICE and answers its page, word w in bytes 2w and 2w + 1, the low one first.
+    ///
+    /// # Errors
+    /// `Halted` where a command has failed and the port has not recovered, `QueueBusy` where a queued command is issued or
+    /// accepted, else `OutOfMemory` where a growth was refused.
+    pub fn identify(&mut self) -> Result<[u8; 512], PlainFault>
+        ensures page { IfOk result (λ page. page ≡ identify_page (sectors_in self.old) self.old.depth) }
+        ensures identified { OnOk result (IsIdentified self.old self.new) }
+        ensures fault { AnswersOr result (plain_refusal self.old) PlainFault.OutOfMemory }
+        ensures err { OnErr result (self.new ≡ self.old) }
+    {
+        if let Some(fault) = self.plain_fault() {
+            return Err(fault);
+        }
+        let Ok(()) = self.journal.reserve(129) else {
+            return Err(PlainFault::OutOfMemory);
+        };
+        let aside = self.headers[0];
+        self.headers[0] = READ_HEADER;
+        self.unqueued.command(&IDENTIFY);
+        write(&mut self.registers, PXCI, 1);
+        let _taken = self.disk.take(self.unqueued.cfis());
+        receive_pio(&mut self.registers, &mut self.area, &Disk::<A>::pio_setup());
+        self.unqueued.take_page(self.disk.identify());
+        self.headers[0] = aside;
+        self.journal.push_reserved(Event::Plain(Plain::Identify));
+        Ok(self.unqueued.page())
+    }
+
+    /// Sends FLUSH CACHE EXT. There is no volatile cache, so it changes no sector.
+    ///
+    /// # Errors
+    /// As for `identify`.
+    pub fn flush(&mut self) -> Result<(), PlainFault>
+        ensures flushed { OnOk result (IsFlushed self.old self.new) }
+        ensures fault { AnswersOr result (plain_refusal self.old) PlainFault.OutOfMemory }
+        ensures err { OnErr result (self.new ≡ self.old) }
+    {
+        if let Some(fault) = self.plain_fault() {
+            return Err(fault);
+        }
+        let Ok(()) = self.journal.reserve(129) else {
+            return Err(PlainFault::OutOfMemory);
+        };
+        let aside = self.headers[0];
+        self.headers[0] = NO_DATA_HEADER;
+        self.unqueued.command(&FLUSH);
+        write(&mut self.registers, PXCI, 1);
+        let _taken = self.disk.take(self.unqueued.cfis());
+        receive_register(&mut self.registers, &mut self.area, &Disk::<A>::flushed(), 0);
+        self.headers[0] = aside;
+        self.journal.push_reserved(Event::Plain(Plain::Flush));
+        Ok(())
+    }
+
+    /// Why a command that is not queued is not sent. While the port is not halted, PxSACT has the tags that are issued or
+    /// accepted.
+    #[tactic(auto, using(word_bits::proofs::BitsLemmas::bits_zero))]
+    fn plain_fault(&self) -> Option<PlainFault>
+        ensures { result ≡ plain_refusal self.now }
+    {
+        if self.halted() {
+            return Some(PlainFault::Halted);
+        }
+        if self.registers.sact() != 0 {
+            return Some(PlainFault::QueueBusy);
+        }
+        None
     }
 }

@@ -1,0 +1,81 @@
+-- A port of which no command is issued or accepted.
+use Rattle.std.proofs.Common.{◌≡◌, ◌≢◌, ℕ, ◌^◌, ◌<◌, ◌≤◌, Bool, true, false, cond, ◌==◌, List, ◌∷◌, ap, sym, refl, ◌∙◌, Option, None, Some, is_some, arith}
+use Rattle.std.proofs.lemmas.Bool.{true≢false}
+use Rattle.ncq_core.specs.declared.phase.Phase.{Phase}
+use Rattle.ncq_core.specs.declared.phase.Phase.TheVariants.{Free, Issued, Accepted, Rejected, Broken, Held, Done}
+use Rattle.ncq_core.specs.declared.plain.Plain.{Plain}
+use Rattle.ncq_core.specs.declared.plain.Plain.TheVariants as plain
+use Rattle.ncq_core.specs.DiskState.{DiskState}
+use Rattle.ncq_core.specs.Entry.{Entry}
+use Rattle.ncq_core.specs.Halted.{halted, busy}
+use Rattle.ncq_core.specs.Lawful.{IsLawful}
+use Rattle.ncq_core.specs.Phase.{phase, is_failed, is_busy}
+use Rattle.ncq_core.specs.Tags.{sact, ci, in_sact, in_ci}
+use Rattle.ncq_core.specs.Verdict.{verdict, command_in, stopped_verdict, running_verdict, by_kind, plain_verdict, idle_verdict, aborted, passed}
+use Rattle.ncq_core.specs.Verdict as verdict
+use Rattle.ncq_core.proofs.HaltedLemmas.{not_busy}
+use Rattle.ncq_core.proofs.TagLemmas.{lacks}
+use Rattle.sata_fis.specs.Command.{queued_in}
+use Rattle.sata_fis.specs.Fields.{H2dFields}
+use Rattle.word_bits.specs.Places.{bits, has_place, places, no_places}
+use Rattle.word_bits.proofs.BitsLemmas.{bits_zero, same_word}
+use Rattle.word_bits.proofs.PlacesLemmas.{has_place-places, has_place-no_places, places_none}
+
+quiet : (p : Phase) → is_busy p ≡ false → is_failed p ≡ false → in_sact p ≡ false
+quiet Free b f = refl
+quiet Held b f = refl
+quiet Done b f = refl
+quiet Issued b f = absurd (true≢false b)
+quiet Accepted b f = absurd (true≢false b)
+quiet Rejected b f = absurd (true≢false f)
+quiet Broken b f = absurd (true≢false f)
+
+quiet_ci : (p : Phase) → is_busy p ≡ false → is_failed p ≡ false → in_ci p ≡ false
+quiet_ci Free b f = refl
+quiet_ci Held b f = refl
+quiet_ci Done b f = refl
+quiet_ci Accepted b f = refl
+quiet_ci Broken b f = refl
+quiet_ci Issued b f = absurd (true≢false b)
+quiet_ci Rejected b f = absurd (true≢false f)
+
+idle : (p : Phase) → in_sact p ≡ false → is_busy p ≡ false
+idle Free e = refl
+idle Held e = refl
+idle Done e = refl
+idle Issued e = absurd (true≢false e)
+idle Accepted e = absurd (true≢false e)
+idle Rejected e = absurd (true≢false e)
+idle Broken e = absurd (true≢false e)
+
+quiet_sact : (past : List Entry) → halted past ≡ false → busy past ≡ false → sact past ≡ no_places
+quiet_sact past calm still = places_none (λ t. in_sact (phase past t)) (λ t low. quiet (phase past t) (lacks (λ u. is_busy (phase past u)) t low still) (lacks (λ u. is_failed (phase past u)) t low calm))
+
+-- slot 0 has no command that waits
+pub slot_0_waits : (past : List Entry) → halted past ≡ false → busy past ≡ false → has_place (ci past) 0 ≡ false
+slot_0_waits past calm still = has_place-places (λ t. in_ci (phase past t)) 0 (omega arith) ∙ quiet_ci (phase past 0) (lacks (λ u. is_busy (phase past u)) 0 (omega arith) still) (lacks (λ u. is_failed (phase past u)) 0 (omega arith) calm)
+
+-- PxSACT is 0 where no command is issued or accepted
+pub quiet_word : (w : ℕ) (past : List Entry) → bits w ≡ sact past → w ≡ 0 → busy past ≡ false
+quiet_word w past is zero_word = not_busy past (λ t low. idle (phase past t) (sym (has_place-places (λ u. in_sact (phase past u)) t low) ∙ ap (λ s. has_place s t) (sym is ∙ ap bits zero_word ∙ bits_zero) ∙ has_place-no_places t))
+
+pub busy_word : (w : ℕ) (past : List Entry) → bits w ≡ sact past → w < 2 ^ 32 → halted past ≡ false → w ≢ 0 → busy past ≡ true
+busy_word w past is small calm some = by (busy past) refl
+  where
+    by : (b : Bool) → busy past ≡ b → busy past ≡ true
+    by true e = e
+    by false e = absurd (some (same_word w 0 small (omega arith) (is ∙ quiet_sact past calm e ∙ sym bits_zero)))
+
+-- a command that is not queued leaves the disk as it is
+pub plain_state : (disk : DiskState) (bytes : List ℕ) (f : H2dFields) → disk.error ≡ None → command_in bytes ≡ Some f → queued_in f ≡ None → (verdict disk bytes).state ≡ disk
+plain_state disk bytes f calm there unqueued =
+    ap (λ o. (cond (is_some o) (stopped_verdict disk (command_in bytes)) (running_verdict disk (command_in bytes))).state) calm
+    ∙ ap (λ o. (running_verdict disk o).state) there ∙ ap (λ o. (by_kind disk f o).state) unqueued ∙ outer (f.command == 0xEC) (f.command == 0xEA)
+  where
+    inner : (command : Plain) (b : Bool) → (cond b (aborted disk) (passed disk command)).state ≡ disk
+    inner command true = refl
+    inner command false = refl
+    outer : (a b : Bool) → (cond a (idle_verdict disk plain.Identify) (cond b (idle_verdict disk plain.Flush) (aborted disk))).state ≡ disk
+    outer true b = inner plain.Identify (verdict.is_busy disk)
+    outer false true = inner plain.Flush (verdict.is_busy disk)
+    outer false false = refl

@@ -1,0 +1,4 @@
+use Rattle.ahci_port.proofs.port.Port.identify.Goals as goal
+
+pub invariant_of-self-2 : goal.invariant_of-self-2
+invariant_of-self-2 g c = ?
