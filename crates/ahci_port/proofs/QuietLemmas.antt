@@ -1,5 +1,5 @@
 -- A port of which no command is issued or accepted.
-use Rattle.std.proofs.Common.{◌≡◌, ◌≢◌, ℕ, ◌^◌, ◌<◌, ◌≤◌, Bool, true, false, cond, ◌==◌, List, ◌∷◌, ap, sym, refl, ◌∙◌, Option, None, Some, is_some, arith}
+use Rattle.std.proofs.Common.{◌≡◌, ◌≢◌, ℕ, ◌^◌, ◌<◌, ◌≤◌, Bool, true, false, cond, ◌==◌, List, [], ◌∷◌, ap, sym, refl, ◌∙◌, Option, None, Some, is_some, arith}
 use Rattle.std.proofs.lemmas.Bool.{true≢false}
 use Rattle.ncq_core.specs.declared.phase.Phase.{Phase}
 use Rattle.ncq_core.specs.declared.phase.Phase.TheVariants.{Free, Issued, Accepted, Rejected, Broken, Held, Done}
@@ -17,6 +17,10 @@ use Rattle.ncq_core.proofs.HaltedLemmas.{not_busy}
 use Rattle.ncq_core.proofs.TagLemmas.{lacks}
 use Rattle.sata_fis.specs.Command.{queued_in}
 use Rattle.sata_fis.specs.Fields.{H2dFields}
+use Rattle.sata_fis.specs.Layout.{h2d_at}
+use Rattle.ahci_port.specs.Faults.{plain_refusal}
+use Rattle.ahci_port.specs.PortView.{PortView}
+use Rattle.ahci_port.specs.declared.fault.PlainFault.TheVariants as fault
 use Rattle.word_bits.specs.Places.{bits, has_place, places, no_places}
 use Rattle.word_bits.proofs.BitsLemmas.{bits_zero, same_word}
 use Rattle.word_bits.proofs.PlacesLemmas.{has_place-places, has_place-no_places, places_none}
@@ -79,3 +83,25 @@ plain_state disk bytes f calm there unqueued =
     outer true b = inner plain.Identify (verdict.is_busy disk)
     outer false true = inner plain.Flush (verdict.is_busy disk)
     outer false false = refl
+
+-- what no refusal of a command that is not queued says
+pub plain_may : (port : PortView) → plain_refusal port ≡ None → (halted port.past ≡ false) × (busy port.past ≡ false)
+plain_may port e = by (halted port.past) (busy port.past) refl refl e
+  where
+    by : (a b : Bool) → halted port.past ≡ a → busy port.past ≡ b → cond a (Some fault.Halted) (cond b (Some fault.QueueBusy) None) ≡ None → (halted port.past ≡ false) × (busy port.past ≡ false)
+    by true b p q h = absurd (cc)
+    by false true p q h = absurd (cc)
+    by false false p q h = (p, q)
+
+-- the bytes of the two commands
+abbrev pub identify_cfis : List ℕ
+identify_cfis = 0x27 ∷ 0x80 ∷ 0xEC ∷ 0 ∷ 0 ∷ 0 ∷ 0 ∷ 0 ∷ 0 ∷ 0 ∷ 0 ∷ 0 ∷ 0 ∷ 0 ∷ 0 ∷ 0 ∷ 0 ∷ 0 ∷ 0 ∷ 0 ∷ []
+
+abbrev pub flush_cfis : List ℕ
+flush_cfis = 0x27 ∷ 0x80 ∷ 0xEA ∷ 0 ∷ 0 ∷ 0 ∷ 0 ∷ 0 ∷ 0 ∷ 0 ∷ 0 ∷ 0 ∷ 0 ∷ 0 ∷ 0 ∷ 0 ∷ 0 ∷ 0 ∷ 0 ∷ 0 ∷ []
+
+pub identify_state : (disk : DiskState) → disk.error ≡ None → (verdict disk identify_cfis).state ≡ disk
+identify_state disk calm = plain_state disk identify_cfis (h2d_at identify_cfis) calm refl refl
+
+pub flush_state : (disk : DiskState) → disk.error ≡ None → (verdict disk flush_cfis).state ≡ disk
+flush_state disk calm = plain_state disk flush_cfis (h2d_at flush_cfis) calm refl refl

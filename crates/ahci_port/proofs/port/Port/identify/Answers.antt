@@ -1,4 +1,30 @@
+use Rattle.std.proofs.Common.{◌≡◌, ◌∙◌, true, None, cond, ap, sym, refl, arith}
+use Rattle.ahci_regs.specs.Receiving.{after_pio, after_pio_end, after_register}
+use Rattle.ncq_core.specs.declared.plain.Plain.TheVariants.{Identify, Flush}
+use Rattle.ncq_core.specs.Verdict.{verdict}
+use Rattle.sata_fis.specs.Layout.{pio_setup_at, d2h_at}
+use Rattle.ahci_port.specs.Faults.{plain_refusal}
+use Rattle.ahci_port.specs.Registers.{after_write, read_by_pio, read_data, flushed}
+use Rattle.ahci_port.specs.Slots.{view_of}
+use Rattle.ahci_port.specs.Standing.{last_failure}
+use Rattle.ahci_port.proofs.IssuingLemmas.{keeps_unqueued}
+use Rattle.ahci_port.proofs.LogLemmas.{back_again, read_header, no_data_header}
+use Rattle.ahci_port.proofs.QuietLemmas.{plain_may, slot_0_waits, identify_state, flush_state}
+use Rattle.ahci_port.proofs.RegisterLemmas.{tracks_pio, tracks_flush}
 use Rattle.ahci_port.proofs.port.Port.identify.Goals as goal
 
 pub invariant_of-self-2 : goal.invariant_of-self-2
-invariant_of-self-2 g c = ?
+invariant_of-self-2 g c =
+    let i = c.self.inside in
+    let past = i.journal.past in
+    let m = plain_may (view_of i.starting.items i.disk i.registers i.area i.slots.items past) (ap plain_refusal c.self.view_is ∙ sym c.plain_fault.ensures ∙ c.in_default.is) in
+    let calm : i.disk.error ≡ None = c.self.invariant.error_is ∙ ap (λ b. cond b (last_failure past) None) m.0 in
+    let disk : c.take-taken.new.self ≡ i.disk = c.take-taken.ensures.state ∙ ap (λ b. (verdict i.disk b).state) (c.cfis.ensures ∙ c.command.ensures) ∙ identify_state i.disk calm in
+    let regs : c.receive_pio.new.registers ≡ read_by_pio i.registers =
+    c.receive_pio.ensures.registers ∙ ap (λ b. after_pio_end (after_pio c.write.new.registers (pio_setup_at b).status (pio_setup_at b).error) (pio_setup_at b).e_status (pio_setup_at b).i 0) c.pio_setup.ensures
+    ∙ ap read_data c.write.ensures in
+    let headers = back_again i.headers read_header (let h = c.self.invariant.header_count in omega arith) in
+    rw (headers, disk, regs, c.push_reserved.ensures.past, c.in-Ok.ensures.past)
+    (keeps_unqueued i.starting.items i.disk i.registers (read_by_pio i.registers) i.slots.items i.headers past i.journal.room c.push_reserved.new.self.room Identify c.self.invariant (tt, m.0, m.1)
+    (tracks_pio i.disk.depth past i.registers c.self.invariant.tracks c.self.invariant.some_slot c.self.invariant.shallow (slot_0_waits past m.0 m.1))
+    (let a = c.in-Ok.ensures.room in let b = c.push_reserved.ensures.room in omega arith))
