@@ -1,11 +1,10 @@
 -- What recovery reads from the log.
-use Rattle.std.proofs.Common.{◌≡◌, ℕ, ◌+◌, ◌*◌, ◌/◌, ◌<◌, ◌≤◌, Bool, true, false, not, cond, map, ◌%◌, List, [], ◌∷◌, ◌++◌, length, take, drop, set, get_or, bit_and, ap, sym, refl, ◌∙◌, subst, Option, None, Some, is_some, IsSome, IsSomeAnd, arith}
+use Rattle.std.proofs.Common.{◌≡◌, ℕ, ◌/◌, ◌<◌, Bool, true, false, cond, map, ◌%◌, List, [], ◌∷◌, ◌++◌, length, take, drop, set, get_or, ap, sym, refl, ◌∙◌, subst, Option, None, Some, IsSomeAnd, arith}
 use Rattle.std.specs.Option.{option_map}
-use Rattle.std.proofs.lemmas.Bool.{true≢false}
 use Rattle.ncq_core.proofs.PhaseLemmas.{below_depth}
 use Rattle.ahci_port.specs.Moves.{recovered_slot}
 use Rattle.ahci_port.proofs.RecoveringLemmas.{failed_taken}
-use Rattle.std.proofs.lemmas.List.{append-nil, take_all, drop_all, set-set}
+use Rattle.std.proofs.lemmas.List.{append-nil, take_all, drop_all}
 use Rattle.ahci_regs.specs.PortState.{PortState}
 use Rattle.ncq_core.specs.DiskState.{DiskState, DiskError, is_stopped}
 use Rattle.ncq_core.specs.Entry.{Entry}
@@ -19,7 +18,6 @@ use Rattle.ahci_port.specs.Keeping.{Keeps}
 use Rattle.ahci_port.specs.Slots.{SlotState, window_in}
 use Rattle.ahci_port.specs.Standing.{last_failure}
 use Rattle.ahci_port.proofs.FailureLemmas.{failed_tag}
-use Rattle.ahci_port.proofs.ReadingLemmas.{stopped_here}
 
 -- while an error stands, a command changes nothing
 pub stopped_state : (disk : DiskState) (bytes : List ℕ) → is_stopped disk ≡ true → (verdict disk bytes).state ≡ disk
@@ -29,6 +27,7 @@ stopped_state disk bytes stopped =
     inner : (b : Bool) → (cond b (passed disk plain.ReadLog) (aborted disk)).state ≡ disk
     inner true = refl
     inner false = refl
+
     by : (o : Option H2dFields) → (stopped_verdict disk o).state ≡ disk
     by None = refl
     by (Some f) = inner (is_read_log f)

@@ -1,5 +1,5 @@
 -- What the moves of a command's data leave of its window.
-use Rattle.std.proofs.Common.{◌≡◌, ℕ, suc, ◌+◌, ◌-◌, ◌*◌, ◌≤◌, List, [], ◌∷◌, ◌++◌, length, take, drop, ap, sym, refl, ◌∙◌, subst, All, arith, inl}
+use Rattle.std.proofs.Common.{◌≡◌, ℕ, suc, ◌+◌, ◌≤◌, List, [], ◌∷◌, ◌++◌, length, drop, ap, sym, refl, ◌∙◌, subst, All, arith, inl}
 use Rattle.std.specs.List.{replace_range}
 use Rattle.std.proofs.lemmas.List.{append-nil, drop_all, length-append, length-take-le, length-drop}
 use Rattle.ahci_table.specs.declared.piece.Piece.{Piece}
@@ -49,6 +49,7 @@ kept_same old new fit h same = commutes old old old new old 0 0 [] [] fit (omega
   where
     nothing : (w : WindowState) → IsScattered w 0 [] w
     nothing w = record { text_is = refl; tag_is = refl; header_is = refl; len_is = refl; pieces_are = refl; cfis_is = refl; others = λ x e. refl }
+
     moved : IsScattered old 0 [] new
     moved = record { text_is = same; tag_is = h.tag_is; header_is = h.header_is; len_is = h.len_is; pieces_are = h.pieces_are; cfis_is = h.cfis_is; others = h.others }
 

@@ -1,5 +1,5 @@
 -- A port of which no command is issued or accepted.
-use Rattle.std.proofs.Common.{◌≡◌, ◌≢◌, ℕ, ◌^◌, ◌<◌, ◌≤◌, Bool, true, false, cond, ◌==◌, List, [], ◌∷◌, ap, sym, refl, ◌∙◌, Option, None, Some, is_some, arith}
+use Rattle.std.proofs.Common.{◌≡◌, ◌≢◌, ℕ, ◌^◌, ◌<◌, Bool, true, false, cond, ◌==◌, List, [], ◌∷◌, ap, sym, refl, ◌∙◌, None, Some, is_some, arith}
 use Rattle.std.proofs.lemmas.Bool.{true≢false}
 use Rattle.ncq_core.specs.declared.phase.Phase.{Phase}
 use Rattle.ncq_core.specs.declared.phase.Phase.TheVariants.{Free, Issued, Accepted, Rejected, Broken, Held, Done}
@@ -8,7 +8,6 @@ use Rattle.ncq_core.specs.declared.plain.Plain.TheVariants as plain
 use Rattle.ncq_core.specs.DiskState.{DiskState}
 use Rattle.ncq_core.specs.Entry.{Entry}
 use Rattle.ncq_core.specs.Halted.{halted, busy}
-use Rattle.ncq_core.specs.Lawful.{IsLawful}
 use Rattle.ncq_core.specs.Phase.{phase, is_failed, is_busy}
 use Rattle.ncq_core.specs.Tags.{sact, ci, in_sact, in_ci}
 use Rattle.ncq_core.specs.Verdict.{verdict, command_in, stopped_verdict, running_verdict, by_kind, plain_verdict, idle_verdict, aborted, passed}
@@ -21,7 +20,7 @@ use Rattle.sata_fis.specs.Layout.{h2d_at}
 use Rattle.ahci_port.specs.Faults.{plain_refusal}
 use Rattle.ahci_port.specs.PortView.{PortView}
 use Rattle.ahci_port.specs.declared.fault.PlainFault.TheVariants as fault
-use Rattle.word_bits.specs.Places.{bits, has_place, places, no_places}
+use Rattle.word_bits.specs.Places.{bits, has_place, no_places}
 use Rattle.word_bits.proofs.BitsLemmas.{bits_zero, same_word}
 use Rattle.word_bits.proofs.PlacesLemmas.{has_place-places, has_place-no_places, places_none}
 
@@ -79,6 +78,7 @@ plain_state disk bytes f calm there unqueued =
     inner : (command : Plain) (b : Bool) → (cond b (aborted disk) (passed disk command)).state ≡ disk
     inner command true = refl
     inner command false = refl
+
     outer : (a b : Bool) → (cond a (idle_verdict disk plain.Identify) (cond b (idle_verdict disk plain.Flush) (aborted disk))).state ≡ disk
     outer true b = inner plain.Identify (verdict.is_busy disk)
     outer false true = inner plain.Flush (verdict.is_busy disk)

@@ -1,5 +1,5 @@
 -- What a tag has whose command is served.
-use Rattle.std.proofs.Common.{◌≡◌, ◌≢◌, ℕ, ◌+◌, ◌*◌, ◌/◌, ◌<◌, ◌≤◌, Bool, true, false, not, ◌&&◌, cond, List, ◌∷◌, length, map, set, get_or, ap, sym, refl, ◌∙◌, subst, Option, None, Some, is_some, IsSomeAnd, arith}
+use Rattle.std.proofs.Common.{◌≡◌, ℕ, ◌*◌, ◌<◌, Bool, true, false, not, ◌&&◌, cond, List, length, map, set, get_or, ap, sym, refl, ◌∙◌, subst, Option, None, Some, is_some, IsSomeAnd, arith}
 use Rattle.std.proofs.Math.ListN.{get_or-map}
 use Rattle.std.proofs.lemmas.List.{get_or-set_same, get_or-set_other}
 use Rattle.ahci_regs.specs.PortState.{PortState}
@@ -46,9 +46,9 @@ serving starting disk regs slots headers past free tag k accepted running =
     let o = owned starting disk regs slots headers past free tag k (λ e. absurd (let z : Accepted ≡ Free = sym accepted ∙ e in cc)) in
     let in_slot : o.slot.phase ≡ Accepted = sym o.holds.phase_is ∙ accepted in
     let there : command_of disk tag ≡ Some (queued_of o.slot.window) =
-        k.commands tag ∙ ap (outstanding_in (halted past)) o.here
-        ∙ ap (λ p. cond (in_device p && not (halted past)) (Some (queued_of o.slot.window)) None) in_slot
-        ∙ ap (λ b. cond (not b) (Some (queued_of o.slot.window)) None) running in
+    k.commands tag ∙ ap (outstanding_in (halted past)) o.here
+    ∙ ap (λ p. cond (in_device p && not (halted past)) (Some (queued_of o.slot.window)) None) in_slot
+    ∙ ap (λ b. cond (not b) (Some (queued_of o.slot.window)) None) running in
     let calm : disk.error ≡ None = k.error_is ∙ ap (λ b. cond b (last_failure past) None) running in
     let moves = owed_moves _ disk.depth past (Complete tag) k.shallow (k.lawful, (accepted, running)) in
     record {
@@ -69,6 +69,7 @@ steps_moved starting past image image' slots tag entry slot w old new here below
   where
     window : MovedWindow slot.window w
     window = moved_window (queued_of slot.window) slot.window w image image' refl fit fit' kept moved
+
     by : (b : Bool) → (queued_of slot.window).write ≡ b → steps.HasMoved tag (op slot.window) slot.window old new
     by true e =
         subst (λ x. steps.HasMoved tag x slot.window old new) (sym (op_write slot.window e))
@@ -79,14 +80,15 @@ steps_moved starting past image image' slots tag entry slot w old new here below
         let q_same : queued_of w ≡ queued_of slot.window = ap (λ c. asked_by (h2d_at c)) kept.cfis_is in
         let len = sym (ap length is) ∙ fit_sized w fit' ∙ ap (λ q. 512 * q.sectors) q_same ∙ sym (fit_sized slot.window fit) in
         let bytes_same : sectors_at old.starting old.past (queued_of slot.window).lba (queued_of slot.window).sectors ≡ sectors_at starting past (queued_of slot.window).lba (queued_of slot.window).sectors =
-            ap (λ x. sectors_at x old.past (queued_of slot.window).lba (queued_of slot.window).sectors) starts ∙ ap (λ x. sectors_at starting x (queued_of slot.window).lba (queued_of slot.window).sectors) pasts in
+        ap (λ x. sectors_at x old.past (queued_of slot.window).lba (queued_of slot.window).sectors) starts ∙ ap (λ x. sectors_at starting x (queued_of slot.window).lba (queued_of slot.window).sectors) pasts in
         let own_window : window_at new tag ≡ Some w =
-            ap (λ x. get_or x tag None) news ∙ get_or-map window_in (set slots tag (Some (served_slot slot entry w))) tag None
-            ∙ ap window_in (get_or-set_same slots tag (Some (served_slot slot entry w)) None below) in
-        subst (λ x. steps.HasMoved tag x slot.window old new) (sym (op_read slot.window e))
-        (subst (λ o. IsSomeAnd o (IsScattered slot.window 0 (sectors_at old.starting old.past (queued_of slot.window).lba (queued_of slot.window).sectors))) (sym own_window)
-          (subst (λ b. IsScattered slot.window 0 b w) (sym bytes_same) (kept_scattered slot.window w _ kept is len)),
-        λ u apart.
-            ap (λ x. get_or x u None) news ∙ get_or-map window_in (set slots tag (Some (served_slot slot entry w))) u None
-            ∙ ap window_in (get_or-set_other slots tag u (Some (served_slot slot entry w)) None apart)
-            ∙ sym (ap (λ x. get_or x u None) olds ∙ get_or-map window_in slots u None))
+        ap (λ x. get_or x tag None) news ∙ get_or-map window_in (set slots tag (Some (served_slot slot entry w))) tag None
+        ∙ ap window_in (get_or-set_same slots tag (Some (served_slot slot entry w)) None below) in
+        subst (λ x. steps.HasMoved tag x slot.window old new) (sym (op_read slot.window e)) (
+          subst (λ o. IsSomeAnd o (IsScattered slot.window 0 (sectors_at old.starting old.past (queued_of slot.window).lba (queued_of slot.window).sectors))) (sym own_window)
+              (subst (λ b. IsScattered slot.window 0 b w) (sym bytes_same) (kept_scattered slot.window w _ kept is len)),
+          λ u apart.
+              ap (λ x. get_or x u None) news ∙ get_or-map window_in (set slots tag (Some (served_slot slot entry w))) u None
+              ∙ ap window_in (get_or-set_other slots tag u (Some (served_slot slot entry w)) None apart)
+              ∙ sym (ap (λ x. get_or x u None) olds ∙ get_or-map window_in slots u None),
+        )

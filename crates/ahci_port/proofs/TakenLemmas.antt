@@ -1,5 +1,5 @@
 -- What a port has that issues a command.
-use Rattle.std.proofs.Common.{◌≡◌, ◌≢◌, ℕ, ◌+◌, ◌*◌, ◌/◌, ◌^◌, ◌<◌, ◌≤◌, Bool, true, false, cond, List, length, leb, ap, sym, refl, ◌∙◌, subst, Option, None, Some, arith}
+use Rattle.std.proofs.Common.{◌≡◌, ℕ, ◌*◌, ◌/◌, ◌^◌, ◌<◌, ◌≤◌, Bool, true, false, cond, List, length, leb, sym, refl, ◌∙◌, subst, Option, None, Some, arith}
 use Rattle.std.proofs.lemmas.Bool.{false≢true, leb-false}
 use Rattle.ahci_table.specs.Command.{op, queued_of}
 use Rattle.ahci_table.specs.Fit.{IsFit}
@@ -11,9 +11,8 @@ use Rattle.ncq_core.specs.Entry.{Entry}
 use Rattle.ncq_core.specs.Halted.{halted}
 use Rattle.ncq_core.specs.Lawful.{IsProper}
 use Rattle.ncq_core.specs.Phase.{phase}
-use Rattle.ncq_core.specs.Work.{Read, Write}
 use Rattle.ahci_port.specs.Faults.{MayTake, early_refusal}
-use Rattle.ahci_port.specs.Keeping.{HasSlot, slot_at}
+use Rattle.ahci_port.specs.Keeping.{HasSlot}
 use Rattle.ahci_port.specs.PortView.{PortView, is_free}
 use Rattle.ahci_port.specs.Slots.{SlotState}
 use Rattle.ahci_port.specs.declared.fault.IssueFault.TheVariants as issue

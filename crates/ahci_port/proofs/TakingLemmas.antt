@@ -1,6 +1,5 @@
 -- What a port keeps when the disk takes a command, or refuses it.
-use Rattle.std.proofs.Common.{◌≡◌, ◌≢◌, ℕ, ◌+◌, ◌*◌, ◌/◌, ◌^◌, ◌<◌, ◌≤◌, max, Bool, true, false, not, ◌&&◌, cond, ◌==◌, List, [], ◌∷◌, length, set, get_or, ap, sym, refl, subst, ◌∙◌, Option, None, Some, IsSomeAnd, ltb, arith}
-use Rattle.std.specs.Option.{option_map}
+use Rattle.std.proofs.Common.{◌≡◌, ℕ, ◌+◌, ◌/◌, ◌^◌, ◌<◌, ◌≤◌, max, Bool, true, false, not, ◌&&◌, cond, ◌==◌, List, ◌∷◌, length, set, ap, sym, refl, subst, ◌∙◌, Option, None, Some, arith}
 use Rattle.std.specs.Prelude.{IfSome}
 use Rattle.std.proofs.lemmas.Bool.{ltb-true}
 use Rattle.ahci_regs.specs.PortState.{PortState}
@@ -9,7 +8,7 @@ use Rattle.ahci_table.specs.Command.{cfis, op, queued_of}
 use Rattle.ahci_table.specs.Fit.{IsFit}
 use Rattle.ahci_table.specs.Window.{WindowState}
 use Rattle.ncq_core.specs.declared.phase.Phase.TheVariants.{Free, Issued}
-use Rattle.ncq_core.specs.DiskFis.{accepted_bytes, not_found_bytes, accepted_fis, not_found_fis}
+use Rattle.ncq_core.specs.DiskFis.{accepted_bytes, not_found_bytes}
 use Rattle.ncq_core.specs.DiskLaws.{AnswersSpell}
 use Rattle.ncq_core.specs.DiskState.{DiskState, command_of, disk_sectors}
 use Rattle.ncq_core.specs.Entry.{Entry, Issue, Accept, Fail}
@@ -37,8 +36,8 @@ use Rattle.ahci_port.specs.Steps.{Appends, IsTaken, passes_end}
 use Rattle.ahci_port.specs.Steps as steps
 use Rattle.ahci_port.specs.declared.step.Stepped.{Stepped}
 use Rattle.ahci_port.specs.declared.step.Stepped.TheVariants.{Accepted, Failed}
-use Rattle.word_bits.specs.Places.{bits, has_place, places}
-use Rattle.ahci_port.specs.Keeping.{Keeps, Holds, HasSlot, slot_at}
+use Rattle.word_bits.specs.Places.{bits, places}
+use Rattle.ahci_port.specs.Keeping.{Keeps, slot_at}
 use Rattle.ahci_port.specs.Moves.{fis_of, refuses, taken_entry, taken_slot, taken_step, failed_slot, accepted_slot}
 use Rattle.ahci_port.specs.Slots.{SlotState, outstanding_in}
 use Rattle.ahci_port.specs.Registers as registers
@@ -119,11 +118,11 @@ taking starting disk regs slots headers past free tag k issued running spell =
     let below : w.tag < disk.depth = (let c = k.slot_count in let b = o.below in omega arith) in
     let in_slot : o.slot.phase ≡ Issued = sym o.holds.phase_is ∙ issued in
     let vacant : command_of disk w.tag ≡ None =
-        ap (command_of disk) own_tag ∙ k.commands tag ∙ ap (outstanding_in (halted past)) o.here
-        ∙ ap (λ p. cond (in_device p && not (halted past)) (Some (queued_of w)) None) in_slot in
+    ap (command_of disk) own_tag ∙ k.commands tag ∙ ap (outstanding_in (halted past)) o.here
+    ∙ ap (λ p. cond (in_device p && not (halted past)) (Some (queued_of w)) None) in_slot in
     let proper = request_proper (length starting / 512) disk.depth past tag (record { number = o.slot.number; work = op w }) k.lawful o.holds.request_is in
     let small : first_lacking disk (queued_of w) < 2 ^ 48 =
-        lba_max (queued_of w).lba (disk_sectors disk) (let a = op_lba w in let p = proper.lba in omega arith) (let f = k.few in let z = disk_size k in omega arith) in
+    lba_max (queued_of w).lba (disk_sectors disk) (let a = op_lba w in let p = proper.lba in omega arith) (let f = k.few in let z = disk_size k in omega arith) in
     let moves_room : 0 < free = (let r = k.room in let n = owed_at_least past tag (let s = k.shallow in let l = o.low in l) issued in omega arith) in
     record {
       owner = o;
@@ -148,50 +147,56 @@ pub keeps_taken : (starting : List ℕ) (disk : DiskState) (regs : PortState) (s
     → Keeps starting disk regs slots headers past free → phase past tag ≡ Issued → halted past ≡ false → AnswersSpell → (t : Taking starting disk past slots free tag) → left + 1 ≡ free
     → (bytes : List ℕ) → bytes ≡ answer_bytes disk (queued_of t.owner.slot.window)
     → Keeps starting (state_after disk (queued_of t.owner.slot.window)) (after_register regs (d2h_at bytes).status (d2h_at bytes).error (d2h_at bytes).i tag)
-      (set slots tag (Some (taken_slot t.owner.slot (length past) bytes))) headers (taken_entry tag bytes ∷ past) left
+    (set slots tag (Some (taken_slot t.owner.slot (length past) bytes))) headers (taken_entry tag bytes ∷ past) left
 keeps_taken starting disk regs slots headers past free left tag k issued running spell t room bytes is = by (is_past_end disk q) refl (is)
   where
     q : QueuedFields
     q = queued_of t.owner.slot.window
+
     slot : SlotState
     slot = t.owner.slot
+
     sized : IsSized t.owner.slot.window
     sized = fit_sized t.owner.slot.window t.owner.holds.fit
+
     goal_for : DiskState → List ℕ → Type 0
     goal_for after b = Keeps starting after (after_register regs (d2h_at b).status (d2h_at b).error (d2h_at b).i tag) (set slots tag (Some (taken_slot t.owner.slot (length past) b))) headers (taken_entry tag b ∷ past) left
+
     by : (b : Bool) → is_past_end disk (queued_of t.owner.slot.window) ≡ b → bytes ≡ cond (is_past_end disk (queued_of t.owner.slot.window)) (not_found_bytes (first_lacking disk (queued_of t.owner.slot.window))) accepted_bytes
         → Keeps starting (cond (is_past_end disk (queued_of t.owner.slot.window)) (verdict.not_found disk (queued_of t.owner.slot.window)).state (verdict.accepted disk (queued_of t.owner.slot.window)).state)
-          (after_register regs (d2h_at bytes).status (d2h_at bytes).error (d2h_at bytes).i tag) (set slots tag (Some (taken_slot t.owner.slot (length past) bytes))) headers (taken_entry tag bytes ∷ past) left
+        (after_register regs (d2h_at bytes).status (d2h_at bytes).error (d2h_at bytes).i tag) (set slots tag (Some (taken_slot t.owner.slot (length past) bytes))) headers (taken_entry tag bytes ∷ past) left
     by false e same =
         let there : bytes ≡ accepted_bytes = same ∙ ap (λ b. cond b (not_found_bytes (first_lacking disk (queued_of t.owner.slot.window))) accepted_bytes) e in
         rw (there, e)
         (subst
         (λ b. Keeps starting (verdict.accepted disk (queued_of t.owner.slot.window)).state (registers.accepted regs tag)
-          (set slots tag (Some (cond b (failed_slot t.owner.slot (length past) (d2h_at accepted_bytes).error (d2h_at accepted_bytes).lba) (accepted_slot t.owner.slot)))) headers
-          (cond b (Fail tag (d2h_at accepted_bytes).error (d2h_at accepted_bytes).lba) (Accept tag) ∷ past) left)
+        (set slots tag (Some (cond b (failed_slot t.owner.slot (length past) (d2h_at accepted_bytes).error (d2h_at accepted_bytes).lba) (accepted_slot t.owner.slot)))) headers
+        (cond b (Fail tag (d2h_at accepted_bytes).error (d2h_at accepted_bytes).lba) (Accept tag) ∷ past) left)
         (sym accepts) (keeps_accept starting disk regs slots headers past free left tag t.owner.slot k issued running t.owner.here sized t.its_tag e room))
     by true e same =
         let lba = first_lacking disk (queued_of t.owner.slot.window) in
         let there : bytes ≡ not_found_bytes lba = same ∙ ap (λ b. cond b (not_found_bytes (first_lacking disk (queued_of t.owner.slot.window))) accepted_bytes) e in
         let past_it = ltb-true (length starting / 512) (end_of (op t.owner.slot.window)) (sym (past_end disk (length starting / 512) t.owner.slot.window sized (disk_size k)) ∙ e) in
         let at : lba ≡ max (lba_of (op t.owner.slot.window)) (length starting / 512) = ap (λ n. max n (disk_sectors disk)) (sym (op_lba t.owner.slot.window)) ∙ ap (max (lba_of (op t.owner.slot.window))) (disk_size k) in
-        let allowed : IsAllowed (length starting / 512) disk.depth past (Fail tag 0x10 lba) =
-            (running, request_has starting past tag t.owner.slot (λ r. Fails (length starting / 512) (phase past tag) r.work 0x10 lba) t.owner.holds
-              (subst (λ p. Fails (length starting / 512) p (op t.owner.slot.window) 0x10 lba) (sym issued) (past_it, refl, at))) in
+        let allowed : IsAllowed (length starting / 512) disk.depth past (Fail tag 0x10 lba) = (
+          running,
+          request_has starting past tag t.owner.slot (λ r. Fails (length starting / 512) (phase past tag) r.work 0x10 lba) t.owner.holds
+              (subst (λ p. Fails (length starting / 512) p (op t.owner.slot.window) 0x10 lba) (sym issued) (past_it, refl, at)),
+        ) in
         let busy : is_busy (phase past tag) ≡ true = ap is_busy issued in
         let kept = keeps_fail starting disk regs (registers.refused regs tag) slots headers past free left tag 0x10 lba t.owner.slot k busy t.owner.here allowed (tracks_refuse disk.depth past regs tag 0x10 lba k.tracks busy) room in
         let named = subst
-            (λ n. Keeps starting (stopped_by disk (record { tag = tag; error = 0x10; lba = lba })) (registers.refused regs tag) (set slots tag (Some (failed_slot t.owner.slot (length past) 0x10 n))) headers (Fail tag 0x10 n ∷ past) left)
-            (sym (lba_there lba spell t.lba_small)) kept in
+        (λ n. Keeps starting (stopped_by disk (record { tag = tag; error = 0x10; lba = lba })) (registers.refused regs tag) (set slots tag (Some (failed_slot t.owner.slot (length past) 0x10 n))) headers (Fail tag 0x10 n ∷ past) left)
+        (sym (lba_there lba spell t.lba_small)) kept in
         let tagged = subst
-            (λ u. Keeps starting (stopped_by disk (record { tag = u; error = 0x10; lba = lba })) (registers.refused regs tag)
-              (set slots tag (Some (failed_slot t.owner.slot (length past) 0x10 (d2h_at (not_found_bytes lba)).lba))) headers (Fail tag 0x10 (d2h_at (not_found_bytes lba)).lba ∷ past) left)
-            (sym t.its_tag) named in
+        (λ u. Keeps starting (stopped_by disk (record { tag = u; error = 0x10; lba = lba })) (registers.refused regs tag)
+        (set slots tag (Some (failed_slot t.owner.slot (length past) 0x10 (d2h_at (not_found_bytes lba)).lba))) headers (Fail tag 0x10 (d2h_at (not_found_bytes lba)).lba ∷ past) left)
+        (sym t.its_tag) named in
         rw (there, e)
         (subst
         (λ b. Keeps starting (verdict.not_found disk (queued_of t.owner.slot.window)).state (registers.refused regs tag)
-          (set slots tag (Some (cond b (failed_slot t.owner.slot (length past) 0x10 (d2h_at (not_found_bytes lba)).lba) (accepted_slot t.owner.slot)))) headers
-          (cond b (Fail tag 0x10 (d2h_at (not_found_bytes lba)).lba) (Accept tag) ∷ past) left)
+        (set slots tag (Some (cond b (failed_slot t.owner.slot (length past) 0x10 (d2h_at (not_found_bytes lba)).lba) (accepted_slot t.owner.slot)))) headers
+        (cond b (Fail tag 0x10 (d2h_at (not_found_bytes lba)).lba) (Accept tag) ∷ past) left)
         (sym (rejects lba)) tagged)
 
 -- the step is the one that the definition names
@@ -214,7 +219,7 @@ taken_as old new tag work answer lba true bytes at is spell small same step appe
       answer_is = step ∙ ap (taken_step (length old.past)) same ∙ ap (λ b. cond b (Failed (length old.past)) (Accepted (length old.past))) (rejects lba);
       appended = subst (Appends old new)
           (ap (taken_entry tag) same ∙ ap (λ b. cond b (Fail tag (d2h_at (not_found_bytes lba)).error (d2h_at (not_found_bytes lba)).lba) (Accept tag)) (rejects lba)
-            ∙ ap (Fail tag 0x10) (lba_there lba spell small ∙ is))
+          ∙ ap (Fail tag 0x10) (lba_there lba spell small ∙ is))
           appended;
       registers_are = moved ∙ ap (λ b. after_register old.registers (d2h_at b).status (d2h_at b).error (d2h_at b).i tag) same;
       area_is = area ∙ ap (λ b. put_at register_place b old.area) (same ∙ ap not_found_bytes is);

@@ -13,6 +13,10 @@ mod step;
 mod unqueued;
 
 pub use fault::{CollectFault, IssueFault, PlainFault, RecoverFault, ReissueFault, StepFault};
+pub use ncq_core::{DiskFault, Outcome};
 pub use port::Port;
 pub use reply::Reply;
 pub use step::{DeviceStep, Stepped};
+
+#[cfg(test)]
+mod tests;

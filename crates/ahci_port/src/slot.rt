@@ -293,11 +293,7 @@ pub(crate) fn serve_slot<A: Allocator>(
 }
 
 /// The slot of a command that is issued, as request `number`.
-pub(crate) fn issued_slot<A: Allocator>(
-    number: u64,
-    queued: &Queued,
-    window: Window<A>,
-) -> Slot<A>
+pub(crate) fn issued_slot<A: Allocator>(number: u64, queued: &Queued, window: Window<A>) -> Slot<A>
     ensures { result ≡ issued_slot number queued.now window }
 {
     Slot {

@@ -114,7 +114,12 @@ impl<A: Allocator> Port<A> {
         self.unqueued.command(&FLUSH);
         write(&mut self.registers, PXCI, 1);
         let _taken = self.disk.take(self.unqueued.cfis());
-        receive_register(&mut self.registers, &mut self.area, &Disk::<A>::flushed(), 0);
+        receive_register(
+            &mut self.registers,
+            &mut self.area,
+            &Disk::<A>::flushed(),
+            0,
+        );
         self.headers[0] = aside;
         self.journal.push_reserved(Event::Plain(Plain::Flush));
         Ok(())

@@ -1,16 +1,16 @@
-use Rattle.std.proofs.Common.{◌≡◌, ◌∙◌, true, None, cond, ap, sym, refl, arith}
-use Rattle.ahci_regs.specs.Receiving.{after_pio, after_pio_end, after_register}
-use Rattle.ncq_core.specs.declared.plain.Plain.TheVariants.{Identify, Flush}
+use Rattle.std.proofs.Common.{◌≡◌, ◌∙◌, None, cond, ap, sym, arith}
+use Rattle.ahci_regs.specs.Receiving.{after_pio, after_pio_end}
+use Rattle.ncq_core.specs.declared.plain.Plain.TheVariants.{Identify}
 use Rattle.ncq_core.specs.Verdict.{verdict}
-use Rattle.sata_fis.specs.Layout.{pio_setup_at, d2h_at}
+use Rattle.sata_fis.specs.Layout.{pio_setup_at}
 use Rattle.ahci_port.specs.Faults.{plain_refusal}
-use Rattle.ahci_port.specs.Registers.{after_write, read_by_pio, read_data, flushed}
+use Rattle.ahci_port.specs.Registers.{read_by_pio, read_data}
 use Rattle.ahci_port.specs.Slots.{view_of}
 use Rattle.ahci_port.specs.Standing.{last_failure}
 use Rattle.ahci_port.proofs.IssuingLemmas.{keeps_unqueued}
-use Rattle.ahci_port.proofs.LogLemmas.{back_again, read_header, no_data_header}
-use Rattle.ahci_port.proofs.QuietLemmas.{plain_may, slot_0_waits, identify_state, flush_state}
-use Rattle.ahci_port.proofs.RegisterLemmas.{tracks_pio, tracks_flush}
+use Rattle.ahci_port.proofs.LogLemmas.{back_again, read_header}
+use Rattle.ahci_port.proofs.QuietLemmas.{plain_may, slot_0_waits, identify_state}
+use Rattle.ahci_port.proofs.RegisterLemmas.{tracks_pio}
 use Rattle.ahci_port.proofs.port.Port.identify.Goals as goal
 
 pub invariant_of-self-2 : goal.invariant_of-self-2

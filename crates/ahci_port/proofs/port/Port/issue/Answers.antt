@@ -35,8 +35,12 @@ returns-clause-issued g c =
     let i = c.self.inside in
     rw (← c.self.view_is, c.issued_slot.ensures, c.tag-tag.ensures.value)
     (record {
-      appended = record { starting_same = refl; depth_same = refl; past_is = c.push_reserved.ensures.past ∙ ap (λ t. Issue t (work_of c.in-Ok-op_of.op) ∷ c.reserve.new.self.past) c.tag-tag.ensures.value
-          ∙ ap (λ x. Issue c.args.window.tag x ∷ c.reserve.new.self.past) c.in-Ok-op_of.ensures.work ∙ ap (λ p. Issue c.args.window.tag (op c.args.window) ∷ p) c.in-Ok-reserve.ensures.past };
+      appended = record {
+        starting_same = refl;
+        depth_same = refl;
+        past_is = c.push_reserved.ensures.past ∙ ap (λ t. Issue t (work_of c.in-Ok-op_of.op) ∷ c.reserve.new.self.past) c.tag-tag.ensures.value
+            ∙ ap (λ x. Issue c.args.window.tag x ∷ c.reserve.new.self.past) c.in-Ok-op_of.ensures.work ∙ ap (λ p. Issue c.args.window.tag (op c.args.window) ∷ p) c.in-Ok-reserve.ensures.past;
+      };
       registers_are = c.issue.ensures ∙ ap (issued i.registers) c.tag-tag.ensures.value;
       area_same = refl;
       windows_are = map-set window_in i.slots.items c.args.window.tag (Some (issued_slot c.len-number.result c.in-Ok.command.queued c.args.window));

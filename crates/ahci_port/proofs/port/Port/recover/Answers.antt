@@ -1,4 +1,4 @@
-use Rattle.std.proofs.Common.{◌≡◌, ◌∙◌, ◌%◌, true, None, Some, IsSome, IsSomeAnd, ◌∷◌, length, map, get_or, ap, sym, refl, subst, arith}
+use Rattle.std.proofs.Common.{◌≡◌, ◌∙◌, ◌%◌, true, IsSome, IsSomeAnd, ◌∷◌, length, map, get_or, ap, sym, refl, subst, arith}
 use Rattle.std.specs.Option.{option_map}
 use Rattle.std.proofs.lemmas.List.{length-map}
 use Rattle.ahci_regs.specs.Receiving.{after_pio, after_pio_end}

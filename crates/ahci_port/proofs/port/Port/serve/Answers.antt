@@ -1,9 +1,8 @@
-use Rattle.std.proofs.Common.{map, IsSomeAnd, ◌≡◌, ◌∙◌, ◌/◌, None, Some, ◌∷◌, length, set, ap, sym, refl, subst, IsSome, rules}
-use Rattle.std.specs.Option.{option_map}
+use Rattle.std.proofs.Common.{map, IsSomeAnd, ◌≡◌, ◌∙◌, None, Some, ◌∷◌, length, set, ap, sym, refl, subst, IsSome, rules}
 use Rattle.std.proofs.Math.ListN.{get_or-map}
 use Rattle.std.proofs.lemmas.List.{get_or_read, set-set}
 use Rattle.std.proofs.lemmas.Option.{same_Some}
-use Rattle.ahci_table.specs.Command.{op, queued_of}
+use Rattle.ahci_table.specs.Command.{queued_of}
 use Rattle.ahci_table.specs.Fit.{IsFit}
 use Rattle.ahci_table.specs.Text.{text}
 use Rattle.ahci_regs.specs.Receiving.{after_bits}

@@ -1,4 +1,4 @@
-use Rattle.std.proofs.Common.{◌≡◌, ◌∙◌, ◌^◌, ◌<◌, ◌≤◌, subst}
+use Rattle.std.proofs.Common.{◌∙◌, ◌^◌, ◌<◌, ◌≤◌, subst}
 use Rattle.ahci_port.proofs.TakenLemmas.{op_proper}
 use Rattle.ahci_port.proofs.port.issuing.op_of.Goals as goal
 
