@@ -28,6 +28,9 @@ use std::marker::Model;
 /// PxIS.
 const PXIS: u32 = 0x110;
 
+/// Room for a call's own entry, and for all that requests can need after it: four entries for each of 32 tags.
+const ROOM: u64 = 129;
+
 /// One AHCI port: its registers, command list, received FIS area and slots, the queueing disk behind it, and the journal of
 /// what it has done. Contracts see a `PortView`, of which `headline` holds.
 #[derive(Drop)]

@@ -10,7 +10,7 @@ ghost use Rattle.ahci_port.specs.Moves.{issue_fault_of};
 ghost use Rattle.ahci_port.specs.Steps.{IsIssued};
 
 use crate::fault::IssueFault;
-use crate::port::Port;
+use crate::port::{Port, ROOM};
 use crate::receiving::issue;
 use crate::slot::issued_slot;
 use ahci_table::{TableFault, Window};
@@ -98,7 +98,7 @@ impl<A: Allocator + Clone> Port<A> {
         let Ok(op) = op_of(&self.alloc, &window, &command.queued) else {
             return Err((window, IssueFault::OutOfMemory));
         };
-        let Ok(()) = self.journal.reserve(129) else {
+        let Ok(()) = self.journal.reserve(ROOM) else {
             return Err((window, IssueFault::OutOfMemory));
         };
         let number = self.journal.len();

@@ -10,7 +10,7 @@ ghost use Rattle.ahci_port.specs.Registers.{restarted};
 ghost use Rattle.ahci_port.specs.Steps.{IsRecovered, IsIdentified, IsFlushed};
 
 use crate::fault::{PlainFault, RecoverFault};
-use crate::port::Port;
+use crate::port::{Port, ROOM};
 use crate::receiving::{receive_pio, receive_register, write};
 use crate::slot::recover_slots;
 use crate::unqueued::{FLUSH, IDENTIFY, NO_DATA_HEADER, READ_HEADER, READ_LOG};
@@ -47,7 +47,7 @@ impl<A: Allocator> Port<A> {
         if !self.halted() {
             return Err(RecoverFault::NotHalted);
         }
-        let Ok(()) = self.journal.reserve(129) else {
+        let Ok(()) = self.journal.reserve(ROOM) else {
             return Err(RecoverFault::OutOfMemory);
         };
         restart(&mut self.registers);
@@ -79,7 +79,7 @@ impl<A: Allocator> Port<A> {
         if let Some(fault) = self.plain_fault() {
             return Err(fault);
         }
-        let Ok(()) = self.journal.reserve(129) else {
+        let Ok(()) = self.journal.reserve(ROOM) else {
             return Err(PlainFault::OutOfMemory);
         };
         let aside = self.headers[0];
@@ -106,7 +106,7 @@ impl<A: Allocator> Port<A> {
         if let Some(fault) = self.plain_fault() {
             return Err(fault);
         }
-        let Ok(()) = self.journal.reserve(129) else {
+        let Ok(()) = self.journal.reserve(ROOM) else {
             return Err(PlainFault::OutOfMemory);
         };
         let aside = self.headers[0];
