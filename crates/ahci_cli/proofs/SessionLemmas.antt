@@ -1,68 +1,114 @@
 -- Lemmas about what a command answers.
-use Rattle.std.proofs.Common.{◌≡◌, ℕ, List, [], ◌∷◌, ◌++◌, Option, Some, None, Result, Ok, Err, OnOk, MatchOption, unwrap_or, refl, sym, ap, ◌∙◌, subst, append-nil}
-use Rattle.std.specs.Option.{option_and_then}
-use Rattle.ahci_cli.specs.Script.{Said, Says, SaysBy, collect_by, issue_by, of_collect, said_by, shown_issue}
-use Rattle.ahci_cli.specs.Transcript.{Grown, read_adds, with_feed}
-use Rattle.ahci_cli.specs.declared.session.Unanswered.{Unanswered}
+use Rattle.std.proofs.Common.{◌≡◌, ℕ, Bool, true, false, cond, List, [], ◌∷◌, ◌++◌, Option, Some, None, Result, Ok, Err, OnOk, length, IsSomeAnd, refl, sym, ap, ◌∙◌, subst, append-nil, nat_le, nat_lt}
+use Rattle.std.specs.Option.{option_and_then, option_map}
+use Rattle.ahci_cli.specs.Refusals.{joined}
+use Rattle.ahci_cli.specs.Script.{IsAnswered, IsSaid, Left, newest_text, said_of, stepped_text}
+use Rattle.ahci_cli.specs.Transcript.{Grown, is_placed, placed_by}
+use Rattle.ahci_cli.specs.declared.unanswered.Unanswered.{Unanswered}
+use Rattle.ahci_port.specs.Faults.{Answers, AnswersOr}
+use Rattle.ahci_port.specs.PortView.{PortView}
+use Rattle.ahci_port.specs.Steps.{IsStepped, TakenBy, passes_end}
+use Rattle.ahci_port.specs.declared.step.DeviceStep.{DeviceStep}
+use Rattle.ahci_port.specs.declared.step.DeviceStep.TheVariants.{Accept, Serve, Fail}
+use Rattle.ahci_port.specs.declared.step.Stepped.{Stepped}
+use Rattle.ahci_port.specs.PortView.{window_at}
+use Rattle.ahci_table.specs.Window.{WindowState}
+use Rattle.ncq_core.specs.Request.{Request, request}
 use Rattle.ahci_script.specs.Answers.{answer_text}
 use Rattle.ahci_script.specs.Lines.{line_of}
 use Rattle.ahci_script.specs.declared.answer.Answer.TheVariants.{Refused}
 use Rattle.ahci_script.specs.declared.line.Command.{Command}
 use Rattle.ahci_script.specs.declared.line.Line.TheVariants.{Run, Skip}
 use Rattle.ahci_script.specs.declared.refusal.Refusal.{Refusal}
-use Rattle.ahci_script.specs.declared.refusal.Refusal.TheVariants.{SlotOwned}
-use Rattle.first_port.specs.First.{Answers, FirstState}
-use Rattle.first_port.specs.declared.fault.CollectFault.{CollectFault}
-use Rattle.first_port.specs.declared.fault.FirstFault.{FirstFault}
-use Rattle.first_port.specs.declared.fault.FirstFault.TheVariants.{OutOfMemory}
-use Rattle.ncq_core.specs.Work.{Work}
 
 -- what follows where the result is Ok
-on_ok_from : {T E : Type 0} (r : Result T E) (P Q : Type 0) → OnOk r P → (P → Q) → OnOk r Q
+pub on_ok_from : {T E : Type 0} (r : Result T E) (P Q : Type 0) → OnOk r P → (P → Q) → OnOk r Q
 on_ok_from (Ok x) P Q p f = f p
 on_ok_from (Err e) P Q p f = p
 
--- a call that failed had this fault
-pub fault_from_answers : (T : Type 0) {E : Type 0} (o : Option E) (f : E) → Answers {T = T} {E = E} (Err f) o → o ≡ Some f
-fault_from_answers T None f is = cc
-fault_from_answers T (Some g) f is = cc
+abbrev Said : Type 0
+Said = Result (Unit {0}) Unanswered
 
-abbrev Shows : Refusal → List ℕ → List ℕ → Type 0
-Shows q old new = new ≡ old ++ (answer_text (Refused q) ++ 10 ∷ [])
-
--- a refused collect is answered by its fault
-pub collect_says : (o : Option CollectFault) (f : CollectFault) (port port' : FirstState) (tag number : ℕ) (q : Refusal) (r : Result (Unit {0}) Unanswered) (old new : List ℕ) → o ≡ Some f → q ≡ of_collect f → port' ≡ port → OnOk r (Shows q old new) → OnOk r (Says (collect_by o port tag number) (Some port') old new)
-collect_says o f port port' tag number q r old new found named same said =
-    on_ok_from r (Shows q old new) (Says (collect_by o port tag number) (Some port') old new) said
-    (λ text. subst (λ x. Says (collect_by x port tag number) (Some port') old new) (sym found) (record { left = ap Some same; text = subst (λ x. Shows x old new) named text }))
+-- the answer went out
+abbrev Shows : Said → List ℕ → List ℕ → List ℕ → Type 0
+Shows r text before after = OnOk r (IsSaid text before after)
 
 not_none : (q : Refusal) → Some q ≡ None → ⊥
 not_none q e = cc
 
--- a refused issue is answered by its fault
-pub issue_says : (o : Option FirstFault) (f : FirstFault) (port port' : FirstState) (tag : ℕ) (work : Work) (q : Refusal) (r : Result (Unit {0}) Unanswered) (old new : List ℕ) → MatchOption o (f ≡ OutOfMemory) (λ g. f ≡ g) → Some q ≡ shown_issue f → port' ≡ port → OnOk r (Shows q old new) → OnOk r (Says (issue_by o port tag work) (Some port') old new)
-issue_says None f port port' tag work q r old new lacks named same said =
-    let none : Some q ≡ None = named ∙ ap shown_issue lacks in
-    absurd (not_none q none)
-issue_says (Some g) f port port' tag work q r old new is named same said =
-    let shown : Some q ≡ shown_issue g = named ∙ ap shown_issue is in
-    on_ok_from r (Shows q old new) (Says (issue_by (Some g) port tag work) (Some port') old new) said (λ text. record { left = ap Some same; text = subst (λ x. Shows (unwrap_or x SlotOwned) old new) shown text })
+-- a call that was carried out is answered by what it tells
+pub carried_out : {F : Type 0} (T : Type 0) (x : T) (o : Option F) (show : F → Refusal) (Does : Type 0) (text : List ℕ) (old new : PortView) (r : Said) (before after : List ℕ) → Answers {T = T} {E = F} (Ok x) o → Does → Shows r text before after → OnOk r (IsAnswered (option_map show o) Does text old new before after)
+carried_out T x None show Does text old new r before after is does said = on_ok_from r (IsSaid text before after) _ said (λ t. (does, t))
+carried_out {F} T x (Some f) show Does text old new r before after is does said = absurd (other is)
+  where
+    other : Ok {T = T} {E = F} x ≡ Err f → ⊥
+    other e = cc
+
+-- a refused call is answered by its fault
+pub refused : {F : Type 0} (T : Type 0) (f : F) (o : Option F) (show : F → Refusal) (q : Refusal) (Does : Type 0) (text : List ℕ) (old new : PortView) (r : Said) (before after : List ℕ) → Answers {T = T} {E = F} (Err f) o → q ≡ show f → new ≡ old → Shows r (answer_text (Refused q)) before after → OnOk r (IsAnswered (option_map show o) Does text old new before after)
+refused T f None show q Does text old new r before after is named same said = cc
+refused {F} T f (Some g) show q Does text old new r before after is named same said =
+    on_ok_from r (IsSaid (answer_text (Refused q)) before after) _ said (λ t. (same, subst (λ x. IsSaid (answer_text (Refused x)) before after) (named ∙ ap show (inner is)) t))
+  where
+    inner : Err {T = T} {E = F} f ≡ Err g → f ≡ g
+    inner e = cc
+
+-- the same of calls that may lack memory
+pub carried_out_or : {F : Type 0} (T : Type 0) (x : T) (o : Option F) (lacking : F) (show : F → Option Refusal) (Does : Type 0) (text : List ℕ) (old new : PortView) (r : Said) (before after : List ℕ) → AnswersOr {T = T} {E = F} (Ok x) o lacking → Does → Shows r text before after → OnOk r (IsAnswered (joined (option_map show o)) Does text old new before after)
+carried_out_or T x None lacking show Does text old new r before after is does said = on_ok_from r (IsSaid text before after) _ said (λ t. (does, t))
+carried_out_or {F} T x (Some f) lacking show Does text old new r before after is does said = absurd (other is)
+  where
+    other : Ok {T = T} {E = F} x ≡ Err f → ⊥
+    other e = cc
+
+-- a refusal that is shown is answered
+pub shown : (o : Option Refusal) (q : Refusal) (Does : Type 0) (text : List ℕ) (old new : PortView) (r : Said) (before after : List ℕ) → o ≡ Some q → new ≡ old → Shows r (answer_text (Refused q)) before after → OnOk r (IsAnswered o Does text old new before after)
+shown o q Does text old new r before after is same said =
+    on_ok_from r (IsSaid (answer_text (Refused q)) before after) _ said (λ t. subst (λ x. IsAnswered x Does text old new before after) (sym is) (same, t))
+
+pub told : (o : Option Refusal) (Does : Type 0) (text : List ℕ) (old new : PortView) (r : Said) (before after : List ℕ) → o ≡ None → Does → Shows r text before after → OnOk r (IsAnswered o Does text old new before after)
+told o Does text old new r before after is does said =
+    on_ok_from r (IsSaid text before after) _ said (λ t. subst (λ x. IsAnswered x Does text old new before after) (sym is) (does, t))
+
+pub refused_or : {F : Type 0} (T : Type 0) (f : F) (o : Option F) (lacking : F) (show : F → Option Refusal) (q : Refusal) (Does : Type 0) (text : List ℕ) (old new : PortView) (r : Said) (before after : List ℕ) → show lacking ≡ None → AnswersOr {T = T} {E = F} (Err f) o lacking → Some q ≡ show f → new ≡ old → Shows r (answer_text (Refused q)) before after → OnOk r (IsAnswered (joined (option_map show o)) Does text old new before after)
+refused_or T f None lacking show q Does text old new r before after none is named same said = absurd (not_none q (named ∙ ap show is ∙ none))
+refused_or {F} T f (Some g) lacking show q Does text old new r before after none is named same said =
+    shown (show g) q Does text old new r before after (sym (named ∙ ap show (inner is))) same said
+  where
+    inner : Err {T = T} {E = F} f ≡ Err g → f ≡ g
+    inner e = cc
+
+-- a step's answer tells the entry that it has appended
+taken_tells : (passes : Bool) (tag : ℕ) (r : Request) (old new : PortView) (done : Stepped) → TakenBy passes tag r.work old new done → stepped_text done ≡ newest_text new.past
+taken_tells true tag r old new done t = ap stepped_text t.answer_is ∙ sym (ap newest_text t.appended.past_is)
+taken_tells false tag r old new done t = ap stepped_text t.answer_is ∙ sym (ap newest_text t.appended.past_is)
+
+accept_tells : (o : Option Request) (tag : ℕ) (old new : PortView) (done : Stepped) → IsSomeAnd o (λ r. TakenBy (passes_end old r.work) tag r.work old new done) → stepped_text done ≡ newest_text new.past
+accept_tells None tag old new done is = absurd is
+accept_tells (Some r) tag old new done is = taken_tells (passes_end old r.work) tag r old new done is
+
+pub step_tells : (s : DeviceStep) (old new : PortView) (done : Stepped) → IsStepped s old new done → stepped_text done ≡ newest_text new.past
+step_tells (Accept tag) old new done is = accept_tells (request old.past tag) tag old new done is
+step_tells (Serve tag) old new done is = by (window_at old tag) is
+  where
+    by : (o : Option WindowState) → IsSomeAnd o (λ w. _) → stepped_text done ≡ newest_text new.past
+    by o i = cc
+step_tells (Fail tag error lba) old new done is = ap stepped_text is.answer_is ∙ sym (ap newest_text is.appended.past_is)
 
 -- a skipped line adds nothing
-pub skip_grown : (port : Option FirstState) (line old : List ℕ) → line_of line ≡ Some Skip → Grown port line port old old
+pub skip_grown : (port : Option PortView) (line old : List ℕ) → line_of line ≡ Some Skip → Grown port line port old old
 skip_grown port line old is = record {
-  said = record { text = []; port = port };
-  adds = ap (option_and_then (read_adds port)) is;
+  spelled = Skip;
+  is = ap (option_and_then (placed_by port)) is;
   left = refl;
   grown = sym (append-nil old);
 }
 
 -- a command adds its answer
-pub run_grown : (o : Option Said) (port port' : Option FirstState) (line old new : List ℕ) (command : Command) → line_of line ≡ Some (Run command) → said_by port command ≡ o → SaysBy o port' old new → Grown port line port' old new
-run_grown None port port' line old new command is answer says = absurd says
-run_grown (Some s) port port' line old new command is answer says = record {
-  said = with_feed s;
-  adds = ap (option_and_then (read_adds port)) is ∙ ap (option_and_then (λ x. Some (with_feed x))) answer;
-  left = says.left;
-  grown = says.text;
+pub run_grown : (port port' : Option PortView) (line old new : List ℕ) (command : Command) → line_of line ≡ Some (Run command) → is_placed port (Run command) ≡ true → Left port command port' → IsSaid (said_of port port' command) old new → Grown port line port' old new
+run_grown port port' line old new command is may left said = record {
+  spelled = Run command;
+  is = ap (option_and_then (placed_by port)) is ∙ ap (λ b. cond b (Some (Run command)) None) may;
+  left = left;
+  grown = said;
 }

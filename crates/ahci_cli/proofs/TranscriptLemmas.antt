@@ -9,9 +9,9 @@ use Rattle.ahci_script.specs.Unread.{Grows, Unread, found_at, found_of, line_end
 use Rattle.ahci_cli.specs.declared.fault.CliFault.{CliFault}
 use Rattle.ahci_cli.specs.declared.fault.CliFault.TheVariants.{Line, Job, Read, Write, Unsettled, Lost, OutOfMemory}
 use Rattle.ahci_cli.specs.Fault.{is_of_output}
-use Rattle.ahci_cli.specs.Script.{Said}
-use Rattle.ahci_cli.specs.Transcript.{Adds, Ends, EndsWith, Grown, IsFaulty, IsFaultyAs, IsLineFault, MayEnd, Place, Progress, Replayed, ReplayedFirst, ReplayedTo, Stops, WritesPart, line_adds, no_line, one_more, place, with_feeds}
-use Rattle.first_port.specs.First.{FirstState}
+use Rattle.ahci_cli.specs.Transcript.{Adds, Ends, EndsWith, Grown, LeftByLine, IsFaulty, IsFaultyAs, IsLineFault, MayEnd, Place, Progress, Replayed, ReplayedFirst, ReplayedTo, Stops, WritesPart, line_adds, no_line, one_more, place, placed, with_feeds}
+use Rattle.ahci_port.specs.PortView.{PortView}
+use Rattle.ahci_script.specs.declared.line.Line as script
 
 abbrev Bytes : Type 0
 Bytes = List ℕ
@@ -20,13 +20,13 @@ abbrev Known : Type 0
 Known = Option (List ℕ)
 
 abbrev Port : Type 0
-Port = Option FirstState
+Port = Option PortView
 
 -- lines, and those that come after them
 pub Adds-append : (p q r : Port) (ls ms : List Bytes) (s t : Bytes) → Adds p ls s q → Adds q ms t r → Adds p (ls ++ ms) (s ++ t) r
 Adds-append _ _ r _ ms _ t (no_line p) rest = rest
-Adds-append _ q r _ ms _ t (one_more p first said more text last adds others) rest =
-    subst (λ l. Adds p (first ∷ (more ++ ms)) l r) (sym (append_assoc said.text text t)) (one_more p first said (more ++ ms) (text ++ t) r adds (Adds-append said.port last r more ms text t others rest))
+Adds-append _ q r _ ms _ t (one_more p first l next more text last is left others) rest =
+    subst (λ x. Adds p (first ∷ (more ++ ms)) x r) (sym (append_assoc (line_adds p next l) text t)) (one_more p first l next (more ++ ms) (text ++ t) r is left (Adds-append next last r more ms text t others rest))
 
 pub with_feeds-append : (ls ms : List Bytes) → with_feeds (ls ++ ms) ≡ with_feeds ls ++ with_feeds ms
 with_feeds-append [] ms = refl
@@ -57,23 +57,22 @@ cut_at_feed u e found =
     sym (take-append-drop e u) ∙ ap (λ l. take e u ++ l) (rw (add-one, ← feed) (drop-cons u e 0 within))
 
 -- one line alone
-one_line : (p q : Port) (l : Bytes) (said : Said) → line_adds p l ≡ Some said → q ≡ said.port → Adds p (l ∷ []) (said.text ++ []) q
-one_line p q l said adds left =
-    subst (Adds p (l ∷ []) (said.text ++ [])) (sym left) (one_more p l said [] [] said.port adds (no_line said.port))
+one_line : (p q : Port) (l : Bytes) (spelled : script.Line) → placed p l ≡ Some spelled → LeftByLine p spelled q → Adds p (l ∷ []) (line_adds p q spelled ++ []) q
+one_line p q l spelled is left = one_more p l spelled q [] [] q is left (no_line q)
 
 -- a line was answered
 pub Progress-line : (r c : Known) (u w w' : Bytes) (p p' : Port) (n e : ℕ) → line_end u ≡ Some e → Grown p (take e u) p' w w' → Progress (place r c u w p n) (place r c (drop (e + 1) u) w' p' (n + 1))
 Progress-line r c u w w' p p' n e found grown = record {
   lines = take e u ∷ [];
-  text = grown.said.text ++ [];
+  text = line_adds p p' grown.spelled ++ [];
   came = [];
-  answered = one_line p p' (take e u) grown.said grown.adds grown.left;
+  answered = one_line p p' (take e u) grown.spelled grown.is grown.left;
   consumed = Consumes-nil r;
   read = append-nil u ∙ cut_at_feed u e found ∙ sym (append_assoc (take e u) (10 ∷ []) (drop (e + 1) u));
   counted = refl;
   sent = [];
   written = Appends-nil c;
-  said = ap (λ l. w ++ l) (append-nil grown.said.text) ∙ sym grown.grown;
+  said = ap (λ l. w ++ l) (append-nil (line_adds p p' grown.spelled)) ∙ sym grown.grown;
 }
 
 -- what waited was written
@@ -130,10 +129,10 @@ Progress-line_sent r c c' u u' w w1 w' p p' n e found grown same sent empty =
 -- a last line that was answered, behind text that was written before
 grown_after : (p q : Port) (rest before after text sent : Bytes) → text ≡ sent ++ before → Grown p rest q before after → Grown p rest q text (sent ++ after)
 grown_after p q rest before after text sent said last = record {
-  said = last.said;
-  adds = last.adds;
+  spelled = last.spelled;
+  is = last.is;
   left = last.left;
-  grown = ap (λ l. sent ++ l) last.grown ∙ sym (append_assoc sent before last.said.text) ∙ ap (λ l. l ++ last.said.text) (sym said);
+  grown = ap (λ l. sent ++ l) last.grown ∙ sym (append_assoc sent before (line_adds p q last.spelled)) ∙ ap (λ l. l ++ line_adds p q last.spelled) (sym said);
 }
 
 may_end_after : (r : Known) (p q : Port) (rest before after text sent : Bytes) → text ≡ sent ++ before → MayEnd r p rest q before after → MayEnd r p rest q text (sent ++ after)
@@ -187,7 +186,7 @@ stops_sending_line r r' c c' u u' w w1 w' p p1 p' n n' e found grown part =
     (stops_sending r r' c c' (drop (e + 1) u) u' w1 w' p1 p' (n + 1) n' part)
 
 -- a line stops the script where it stands
-pub stops_at_line : (f : CliFault) (a : Place) (r c : Known) (u w w' l : Bytes) (p q : Port) (n : ℕ) → Progress a (place r c u w p n) → IsLineFault p l (n + 1) f → (line_adds p l ≡ None → IsFaulty p u) → w' ≡ w → Stops a (place r c u w' q n) f
+pub stops_at_line : (f : CliFault) (a : Place) (r c : Known) (u w w' l : Bytes) (p q : Port) (n : ℕ) → Progress a (place r c u w p n) → IsLineFault p l (n + 1) f → (placed p l ≡ None → IsFaulty p u) → w' ≡ w → Stops a (place r c u w' q n) f
 stops_at_line (Line k) a r c u w w' l p q n so_far is faulty same =
     (p, rw same so_far, is.0, faulty is.1)
 stops_at_line (Job k) a r c u w w' l p q n so_far is faulty same = is
@@ -198,7 +197,7 @@ stops_at_line (Lost k) a r c u w w' l p q n so_far is faulty same = is
 stops_at_line OutOfMemory a r c u w w' l p q n so_far is faulty same = (p, rw same so_far)
 
 -- a whole line that adds nothing is faulty
-pub faulty_line : (p : Port) (u l : Bytes) → whole l ≡ found_of u → line_adds p l ≡ None → IsFaulty p u
+pub faulty_line : (p : Port) (u l : Bytes) → whole l ≡ found_of u → placed p l ≡ None → IsFaulty p u
 faulty_line p u l is h = subst (IsFaultyAs p u) is h
 
 -- a line that is too long is faulty
@@ -206,7 +205,7 @@ pub faulty_long : (p : Port) (u : Bytes) → too_long ≡ found_of u → IsFault
 faulty_long p u is = subst (IsFaultyAs p u) is tt
 
 -- a last line that adds nothing is faulty
-pub faulty_rest : (p : Port) (u : Bytes) → found_of u ≡ unfinished → line_adds p u ≡ None → IsFaulty p u
+pub faulty_rest : (p : Port) (u : Bytes) → found_of u ≡ unfinished → placed p u ≡ None → IsFaulty p u
 faulty_rest p u is h = subst (IsFaultyAs p u) (sym is) h
 
 -- what holds of the one error holds of the result's error

@@ -1,32 +1,42 @@
 -- What a script's lines add to the output, and how far a script has come.
-use Rattle.std.specs.Prelude.{◌≡◌, ℕ, ◌+◌, List, [], ◌∷◌, ◌++◌, Option, Some, None, length, take, option_and_then, ◌⊎◌}
+use Rattle.std.specs.Prelude.{◌≡◌, ℕ, ◌+◌, Bool, true, if◌then◌else◌, List, [], ◌∷◌, ◌++◌, Option, Some, None, length, take, option_and_then, ◌⊎◌}
 use Rattle.std.specs.Io.KnownBytes.{Appends, Consumes, IsAtEnd}
 use Rattle.ahci_cli.specs.declared.fault.CliFault.{CliFault}
 use Rattle.ahci_cli.specs.declared.fault.CliFault.TheVariants as fault
-use Rattle.ahci_cli.specs.Script.{Said, said_by}
+use Rattle.ahci_cli.specs.Script.{Left, is_in_place, said_of}
 use Rattle.ahci_script.specs.Lines.{line_of}
 use Rattle.ahci_script.specs.Unread.{Begins, found_of, too_long, unfinished, whole}
 use Rattle.ahci_script.specs.declared.line.Line.{Line}
 use Rattle.ahci_script.specs.declared.line.Line.TheVariants as line
-use Rattle.first_port.specs.First.{FirstState}
+use Rattle.ahci_port.specs.PortView.{PortView}
 
--- an answer with its line feed
-abbrev pub with_feed : Said → Said
-with_feed s = record s { text = s.text ++ 10 ∷ [] }
+-- the command of a line may stand here
+abbrev pub is_placed : Option PortView → Line → Bool
+is_placed port line.Skip = true
+is_placed port (line.Run command) = is_in_place port command
 
--- what a line adds: nothing where it is skipped, an answer where it is a command
-abbrev pub read_adds : Option FirstState → Line → Option Said
-read_adds port line.Skip = Some (record { text = []; port = port })
-read_adds port (line.Run command) = option_and_then (λ s. Some (with_feed s)) (said_by port command)
+-- a line that may stand here
+abbrev pub placed_by : Option PortView → Line → Option Line
+placed_by port l = if is_placed port l then Some l else None
 
--- what a line adds, and the port behind it; none where it is not understood or out of place
-abbrev pub line_adds : Option FirstState → List ℕ → Option Said
-line_adds port text = option_and_then (read_adds port) (line_of text)
+-- the line that a text spells; none where it is not understood or out of place
+abbrev pub placed : Option PortView → List ℕ → Option Line
+placed port text = option_and_then (placed_by port) (line_of text)
+
+-- the port behind a line
+abbrev pub LeftByLine : Option PortView → Line → Option PortView → Type 0
+LeftByLine old line.Skip new = new ≡ old
+LeftByLine old (line.Run command) new = Left old command new
+
+-- what a line adds: nothing where it is skipped, an answer with its line feed where it is a command
+abbrev pub line_adds : Option PortView → Option PortView → Line → List ℕ
+line_adds old new line.Skip = []
+line_adds old new (line.Run command) = said_of old new command ++ 10 ∷ []
 
 -- lines, one after the other: the text that they add, and the port behind them
-pub data Adds : Option FirstState → List (List ℕ) → List ℕ → Option FirstState → Type 0 where
-  no_line : (port : Option FirstState) → Adds port [] [] port
-  one_more : (port : Option FirstState) (first : List ℕ) (said : Said) (more : List (List ℕ)) (text : List ℕ) (last : Option FirstState) → line_adds port first ≡ Some said → Adds said.port more text last → Adds port (first ∷ more) (said.text ++ text) last
+pub data Adds : Option PortView → List (List ℕ) → List ℕ → Option PortView → Type 0 where
+  no_line : (port : Option PortView) → Adds port [] [] port
+  one_more : (port : Option PortView) (first : List ℕ) (l : Line) (next : Option PortView) (more : List (List ℕ)) (text : List ℕ) (last : Option PortView) → placed port first ≡ Some l → LeftByLine port l next → Adds next more text last → Adds port (first ∷ more) (line_adds port next l ++ text) last
 
 -- lines with their line feeds, joined
 abbrev pub with_feeds : List (List ℕ) → List ℕ
@@ -40,11 +50,11 @@ pub record Place : Type 0 where
   pub contents : Option (List ℕ)
   pub unread : List ℕ
   pub waiting : List ℕ
-  pub port : Option FirstState
+  pub port : Option PortView
   pub line : ℕ
 
 -- a place, part by part
-abbrev pub place : Option (List ℕ) → Option (List ℕ) → List ℕ → List ℕ → Option FirstState → ℕ → Place
+abbrev pub place : Option (List ℕ) → Option (List ℕ) → List ℕ → List ℕ → Option PortView → ℕ → Place
 place r c u w p n = record { remaining = r; contents = c; unread = u; waiting = w; port = p; line = n }
 
 -- from one place to a later one: lines were read, and what they add is written or waits
@@ -61,29 +71,29 @@ pub record Progress (from to : Place) : Type 0 where
   pub said : from.waiting ++ text ≡ sent ++ to.waiting
 
 -- the text grew by what a line adds
-pub record Grown (port_old : Option FirstState) (text : List ℕ) (port_new : Option FirstState) (old new : List ℕ) : Type 0 where
-  pub said : Said
-  pub adds : line_adds port_old text ≡ Some said
-  pub left : port_new ≡ said.port
-  pub grown : new ≡ old ++ said.text
+pub record Grown (port_old : Option PortView) (text : List ℕ) (port_new : Option PortView) (old new : List ℕ) : Type 0 where
+  pub spelled : Line
+  pub is : placed port_old text ≡ Some spelled
+  pub left : LeftByLine port_old spelled port_new
+  pub grown : new ≡ old ++ line_adds port_old port_new spelled
 
 -- the faults of a line: it is not understood or out of place, or there is no memory for it
-abbrev pub IsLineFault : Option FirstState → List ℕ → ℕ → CliFault → Type 0
-IsLineFault port text n (fault.Line k) = (k ≡ n) × (line_adds port text ≡ None)
+abbrev pub IsLineFault : Option PortView → List ℕ → ℕ → CliFault → Type 0
+IsLineFault port text n (fault.Line k) = (k ≡ n) × (placed port text ≡ None)
 IsLineFault port text n fault.OutOfMemory = Unit {0}
 IsLineFault port text n _ = ⊥
 
 -- the line that what is unread begins with is too long, or adds nothing
-abbrev pub IsFaultyAs : Option FirstState → List ℕ → Begins → Type 0
-IsFaultyAs port unread (whole text) = line_adds port text ≡ None
+abbrev pub IsFaultyAs : Option PortView → List ℕ → Begins → Type 0
+IsFaultyAs port unread (whole text) = placed port text ≡ None
 IsFaultyAs port unread too_long = Unit {0}
-IsFaultyAs port unread unfinished = line_adds port unread ≡ None
+IsFaultyAs port unread unfinished = placed port unread ≡ None
 
-abbrev pub IsFaulty : Option FirstState → List ℕ → Type 0
+abbrev pub IsFaulty : Option PortView → List ℕ → Type 0
 IsFaulty port unread = IsFaultyAs port unread (found_of unread)
 
 -- the last line may have been answered too: it lacks its line feed, so nothing may come behind it
-abbrev pub MayEnd : Option (List ℕ) → Option FirstState → List ℕ → Option FirstState → List ℕ → List ℕ → Type 0
+abbrev pub MayEnd : Option (List ℕ) → Option PortView → List ℕ → Option PortView → List ℕ → List ℕ → Type 0
 MayEnd remaining port rest port_new old new =
     (new ≡ old) ⊎ (IsAtEnd remaining × Grown port rest port_new old new)
 
@@ -95,8 +105,8 @@ pub record WritesPart (from to : Place) : Type 0 where
   pub all : List ℕ
   pub came : List ℕ
   pub remaining : Option (List ℕ)
-  pub port : Option FirstState
-  pub last_port : Option FirstState
+  pub port : Option PortView
+  pub last_port : Option PortView
   pub count : ℕ
   pub answered : Adds from.port lines text port
   pub consumed : Consumes from.remaining remaining came
@@ -107,22 +117,22 @@ pub record WritesPart (from to : Place) : Type 0 where
 -- where a fault stops a script: behind lines that are answered, and before the line that it names
 abbrev pub Stops : Place → Place → CliFault → Type 0
 Stops from to (fault.Line n) =
-    (p : Option FirstState) × Progress from (place to.remaining to.contents to.unread to.waiting p to.line) × (n ≡ to.line + 1) × IsFaulty p to.unread
+    (p : Option PortView) × Progress from (place to.remaining to.contents to.unread to.waiting p to.line) × (n ≡ to.line + 1) × IsFaulty p to.unread
 Stops from to fault.Read =
     (r : Option (List ℕ)) × Progress from (place r to.contents to.unread to.waiting to.port to.line) × (found_of to.unread ≡ unfinished)
-Stops from to fault.OutOfMemory = (p : Option FirstState) × Progress from (place to.remaining to.contents to.unread to.waiting p to.line)
+Stops from to fault.OutOfMemory = (p : Option PortView) × Progress from (place to.remaining to.contents to.unread to.waiting p to.line)
 Stops from to fault.Write = WritesPart from to
 Stops from to _ = ⊥
 
 -- the last line is answered, where it lacks its line feed
-abbrev pub EndsWith : Option FirstState → List ℕ → Option FirstState → List ℕ → List ℕ → Type 0
+abbrev pub EndsWith : Option PortView → List ℕ → Option PortView → List ℕ → List ℕ → Type 0
 EndsWith port rest port_new old new =
     ((rest ≡ []) × (port_new ≡ port) × (new ≡ old)) ⊎ Grown port rest port_new old new
 
 -- the whole input was read and answered
 pub record Ends (from to : Place) : Type 0 where
   pub before : List ℕ
-  pub port : Option FirstState
+  pub port : Option PortView
   pub progress : Progress from (place to.remaining to.contents to.unread before port to.line)
   pub last : EndsWith port to.unread to.port before to.waiting
   pub end : IsAtEnd to.remaining
@@ -133,8 +143,8 @@ pub record Replayed (remaining_old remaining_new contents_old contents_new : Opt
   pub rest : List ℕ
   pub text : List ℕ
   pub all : List ℕ
-  pub port : Option FirstState
-  pub last_port : Option FirstState
+  pub port : Option PortView
+  pub last_port : Option PortView
   pub answered : Adds None lines text port
   pub last : EndsWith port rest last_port text all
   pub consumed : Consumes remaining_old remaining_new (with_feeds lines ++ rest)
@@ -142,12 +152,12 @@ pub record Replayed (remaining_old remaining_new contents_old contents_new : Opt
   pub written : Appends contents_old contents_new all
 
 -- lines at the front of an input, and the text that they add, which is written
-pub record ReplayedFirst (remaining_old contents_old contents_new : Option (List ℕ)) (count : ℕ) (P : Option FirstState → List ℕ → Type 0) : Type 0 where
+pub record ReplayedFirst (remaining_old contents_old contents_new : Option (List ℕ)) (count : ℕ) (P : Option PortView → List ℕ → Type 0) : Type 0 where
   pub lines : List (List ℕ)
   pub rest : List ℕ
   pub remaining : Option (List ℕ)
   pub text : List ℕ
-  pub port : Option FirstState
+  pub port : Option PortView
   pub answered : Adds None lines text port
   pub counted : length lines ≡ count
   pub consumed : Consumes remaining_old remaining (with_feeds lines ++ rest)

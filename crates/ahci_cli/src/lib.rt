@@ -1,14 +1,17 @@
 //! Scripts on a port: what `ahci replay` does, over any reader and writer.
 #![tactic(auto)]
 
+mod answering;
 mod fault;
+mod issuing;
+mod refusals;
 mod replaying;
+mod running;
 mod session;
+mod unanswered;
 
 pub use ahci_args::{Asked, asked, not_text};
 pub use fault::CliFault;
-pub use first_port::{CollectFault, DeviceStep, FirstFault, FirstPort, Reply, StepFault, Stepped};
-pub use ncq_core::Outcome;
 pub use replaying::replay;
 
 #[cfg(test)]

@@ -72,13 +72,6 @@ static REFUSED_REQUESTS: [Row; 8] = [
     ("journal", "journal 0"),
 ];
 
-static PAST_THE_END: [Row; 4] = [
-    ("disk 8 2", "disk 8 2"),
-    ("read 0 8 1", "issued 0"),
-    ("accept 0", "refused OutOfRange"),
-    ("journal", "journal 1"),
-];
-
 /// A disk's numbers are refused by their full value, and only an accepted disk counts.
 static DISKS: [Row; 8] = [
     ("disk 131073 1", "refused BadSize"),
@@ -138,7 +131,6 @@ fn each_line_has_its_answer(rt: HostRuntime) -> Result<(), Fail> {
         READ_BETWEEN_WRITES.as_slice(),
         STRANGERS.as_slice(),
         REFUSED_REQUESTS.as_slice(),
-        PAST_THE_END.as_slice(),
         DISKS.as_slice(),
         EDGES.as_slice(),
     ];

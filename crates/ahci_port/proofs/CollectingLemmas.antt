@@ -8,6 +8,7 @@ use Rattle.ahci_regs.specs.PortState.{PortState}
 use Rattle.ahci_table.specs.Command.{op}
 use Rattle.ncq_core.specs.declared.phase.Phase.{Phase}
 use Rattle.ncq_core.specs.declared.phase.Phase.TheVariants.{Free, Issued, Accepted, Rejected, Broken, Held, Done}
+use Rattle.ahci_table.specs.Fit.{IsFit}
 use Rattle.ahci_table.specs.Window.{WindowState}
 use Rattle.ncq_core.specs.declared.outcome.Outcome.{Outcome}
 use Rattle.ncq_core.specs.Answer.{Answer, answer}
@@ -48,6 +49,7 @@ pub record Collected (starting : List ℕ) (past : List Entry) (slots : List (Op
   pub here : slot_at slots tag ≡ Some slot
   pub below : tag < length slots
   pub done : phase past tag ≡ Done
+  pub fit : IsFit slot.window
   pub number_is : slot.number ≡ number
   pub answered : is_some (answer_in slot) ≡ true
   pub answer_is : answer starting past number ≡ answer_in slot
@@ -92,6 +94,7 @@ collected starting disk regs slots headers past free tag number k may = by (slot
           here = e;
           below = within slots tag slot e;
           done = done;
+          fit = h.fit;
           number_is = left.0;
           answered = ap is_some (sym h.answer_is) ∙ answered_by_phase (length starting / 512) disk.depth starting past tag (record { number = slot.number; work = op slot.window }) k.lawful h.request_is ∙ ap is_answered done;
           answer_is = ap (answer starting past) (sym left.0) ∙ h.answer_is;

@@ -7,3 +7,4 @@ pub mod RefusalLemmas
 pub mod BuildLemmas
 pub mod FitLemmas
 pub mod LawLemmas
+pub mod DefaultLemmas

@@ -1,13 +1,14 @@
 -- Laws of windows, over the definitions alone.
-use Rattle.std.specs.Prelude.{◌≡◌, ◌≤◌, ◌<◌, ℕ, ◌+◌, ◌*◌, ◌⊎◌, List, length, take, drop, None, Result, Ok, Err, IsOkAnd}
-use Rattle.ncq_core.specs.Work.{Work}
+use Rattle.std.specs.Prelude.{◌≡◌, ◌≤◌, ◌<◌, ℕ, ◌+◌, ◌*◌, ◌⊎◌, List, false, length, take, drop, None, Result, Ok, Err, IsOkAnd}
+use Rattle.ncq_core.specs.Work.{Work, sectors_of}
 use Rattle.ahci_table.specs.declared.command.Command.{Command}
 use Rattle.ahci_table.specs.declared.fault.TableFault.{TableFault}
 use Rattle.ahci_table.specs.declared.piece.Piece.{Piece}
 use Rattle.ahci_table.specs.Build.{IsBuilt, Carries, queued_for}
 use Rattle.ahci_table.specs.Command.{queued_of}
 use Rattle.ahci_table.specs.Prdt.{pieces}
-use Rattle.ahci_table.specs.Refusal.{refusal}
+use Rattle.ahci_table.specs.Defaults.{default_list}
+use Rattle.ahci_table.specs.Refusal.{has_bad_count, list_refusal, refusal}
 use Rattle.ahci_table.specs.Window.{WindowState}
 use Rattle.ahci_table.specs.Text.{text}
 use Rattle.ahci_table.specs.Fit.{IsFit, Breaks}
@@ -45,3 +46,8 @@ Commutes =
     (w a b ab ba : WindowState) (i j : ℕ) (xs ys : List ℕ) → IsFit w
     → i + length xs ≤ length (text w) → j + length ys ≤ length (text w) → IsBeside i xs j ys
     → IsScattered w i xs a → IsScattered a j ys ab → IsScattered w j ys b → IsScattered b i xs ba → ab ≡ ba
+
+-- nothing stands against the default pieces of a command whose count is one that a command can have
+abbrev pub DefaultsServe : Type 0
+DefaultsServe =
+    (work : Work) → has_bad_count work ≡ false → list_refusal (default_list (sectors_of work)) (512 * sectors_of work) ≡ None

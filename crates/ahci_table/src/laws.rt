@@ -1,6 +1,6 @@
 //! Laws of windows. Each function does nothing; its contract is the law.
 
-ghost use Rattle.ahci_table.specs.Laws.{IsTakenAgain, HasWholeText, GivesBack, Commutes};
+ghost use Rattle.ahci_table.specs.Laws.{IsTakenAgain, HasWholeText, GivesBack, Commutes, DefaultsServe};
 
 /// What `build` makes, `check` takes: the window is fit and says the command and the pieces that it was built for, and
 /// every answer that the contract of `check` allows is `Ok` of them.
@@ -21,4 +21,9 @@ pub fn scattered_bytes_come_back()
 /// Two `scatter`s to ranges that share no byte may change places: the windows are equal, byte by byte.
 pub fn scatters_beside_each_other_commute()
     ensures { Commutes }
+{}
+
+/// The default pieces serve every count that one command can have: no window over them is refused for its list.
+pub fn default_pieces_serve_every_count()
+    ensures { DefaultsServe }
 {}

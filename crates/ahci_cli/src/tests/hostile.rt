@@ -2,7 +2,7 @@
 use super::*;
 
 /// Lines that are not understood, behind an accepted disk.
-static WRONG: [&[u8]; 45] = [
+static WRONG: [&[u8]; 56] = [
     b"journal\r",
     b"journal\t",
     b" journal",
@@ -46,8 +46,19 @@ static WRONG: [&[u8]; 45] = [
     b"write 0 0 1",
     b"write 0 0 1 00 ",
     b"disk 8 4",
-    b"reg 120",
-    b"recover",
+    b"reg",
+    b"reg 000000120",
+    b"reg 0x120",
+    b"ack 12345678 ",
+    b"identify 256",
+    b"identify -1",
+    b"flush 0",
+    b"recover 0",
+    b"reissue",
+    b"reissue 32",
+    b"fail 0 40",
+    b"fail 0 4 0",
+    b"raw 0 00 00",
 ];
 
 #[test]

@@ -2,6 +2,7 @@
 
 ghost use Rattle.std.specs.Prelude.{◌≡◌, Some, IfOk, OnOk, OnErr};
 ghost use Rattle.ncq_core.specs.Answer.{answer};
+ghost use Rattle.ahci_table.specs.Fit.{IsFit};
 ghost use Rattle.ahci_port.specs.Faults.{Answers, collect_refusal, reissue_refusal};
 ghost use Rattle.ahci_port.specs.PortView.{window_at};
 ghost use Rattle.ahci_port.specs.Slots.{bytes_in};
@@ -27,6 +28,7 @@ impl<A: Allocator> Port<A> {
         ensures number { IfOk result (λ r. r.0.number ≡ number) }
         ensures reply { IfOk result (λ r. answer self.old.starting self.old.past number ≡ Some (record { entry = r.0.entry; outcome = r.0.outcome; bytes = bytes_in r.0.outcome r.1 })) }
         ensures window { IfOk result (λ r. window_at self.old tag ≡ Some r.1) }
+        ensures fit { IfOk result (λ r. IsFit r.1) }
         ensures fault { Answers result (collect_refusal self.old tag number) }
         ensures err { OnErr result (self.new ≡ self.old) }
     {

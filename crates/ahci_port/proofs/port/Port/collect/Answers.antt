@@ -2,6 +2,7 @@ use Rattle.std.proofs.Common.{◌≡◌, ◌∙◌, None, Some, ap, sym, refl, s
 use Rattle.std.proofs.Math.ListN.{get_or-map}
 use Rattle.std.proofs.lemmas.List.{get_or_read, map-set}
 use Rattle.std.proofs.lemmas.Option.{same_Some}
+use Rattle.ahci_table.specs.Fit.{IsFit}
 use Rattle.ahci_port.specs.Faults.{collect_refusal}
 use Rattle.ahci_port.specs.Keeping.{slot_at}
 use Rattle.ahci_port.specs.Moves.{collect_fault}
@@ -79,3 +80,12 @@ returns-clause-window g c =
     let same : found.slot ≡ c.unwrap-slot.result = same_Some found.slot c.unwrap-slot.result (sym found.here ∙ sym here ∙ sym c.take.ensures.value ∙ c.unwrap-slot.ensures) in
     rw (← c.self.view_is)
     (get_or-map window_in i.slots.items c.args.tag None ∙ ap window_in found.here ∙ ap (λ s. Some s.window) same ∙ ap (λ w. Some w) (sym c.reply.ensures.window))
+
+pub returns-clause-fit : goal.returns-clause-fit
+returns-clause-fit g c =
+    let i = c.self.inside in
+    let may : collect_fault (slot_at i.slots.items c.args.tag) c.args.number ≡ None = collect_agrees i.starting.items i.journal.past c.args.tag c.args.number (slot_at i.slots.items c.args.tag) (c.self.invariant.each c.args.tag) ∙ ap (λ p. collect_refusal p c.args.tag c.args.number) c.self.view_is ∙ sym c.collect_fault.ensures ∙ c.in_default.is in
+    let found = collected i.starting.items i.disk i.registers i.slots.items i.headers i.journal.past i.journal.room c.args.tag c.args.number c.self.invariant may in
+    let here : c.index_mut.result.now ≡ slot_at i.slots.items c.args.tag = get_or_read i.slots.items _ _ found.below c.index_mut.ensures.value None in
+    let same : found.slot ≡ c.unwrap-slot.result = same_Some found.slot c.unwrap-slot.result (sym found.here ∙ sym here ∙ sym c.take.ensures.value ∙ c.unwrap-slot.ensures) in
+    subst IsFit (ap (λ s. s.window) same ∙ sym c.reply.ensures.window) found.fit

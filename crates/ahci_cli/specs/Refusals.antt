@@ -1,0 +1,105 @@
+-- Why the port refuses a script's command, as the answer shows it. Want of memory is left aside: it is never shown.
+use Rattle.std.specs.Prelude.{ℕ, ◌^◌, Bool, ◌||◌, nat_eq, nat_le, nat_lt, if◌then◌else◌, Option, Some, None, Result, Ok, Err}
+use Rattle.std.specs.Option.{option_map}
+use Rattle.ahci_port.specs.Faults.{early_refusal, step_refusal, collect_refusal, recover_refusal, reissue_refusal, plain_refusal}
+use Rattle.ahci_port.specs.PortView.{PortView, sectors_in}
+use Rattle.ahci_port.specs.declared.fault.IssueFault.{IssueFault}
+use Rattle.ahci_port.specs.declared.fault.IssueFault.TheVariants as issue
+use Rattle.ahci_port.specs.declared.fault.StepFault.{StepFault}
+use Rattle.ahci_port.specs.declared.fault.StepFault.TheVariants as step
+use Rattle.ahci_port.specs.declared.fault.CollectFault.{CollectFault}
+use Rattle.ahci_port.specs.declared.fault.CollectFault.TheVariants as collect
+use Rattle.ahci_port.specs.declared.fault.RecoverFault.{RecoverFault}
+use Rattle.ahci_port.specs.declared.fault.RecoverFault.TheVariants as recover
+use Rattle.ahci_port.specs.declared.fault.ReissueFault.{ReissueFault}
+use Rattle.ahci_port.specs.declared.fault.ReissueFault.TheVariants as reissue
+use Rattle.ahci_port.specs.declared.fault.PlainFault.{PlainFault}
+use Rattle.ahci_port.specs.declared.fault.PlainFault.TheVariants as plain
+use Rattle.ahci_port.specs.declared.step.DeviceStep.TheVariants as device
+use Rattle.ahci_regs.specs.Reading.{read_of}
+use Rattle.ahci_regs.specs.declared.fault.RegFault.{RegFault}
+use Rattle.ahci_regs.specs.declared.fault.RegFault.TheVariants as reg
+use Rattle.ahci_script.specs.declared.line.Command.{Command}
+use Rattle.ahci_script.specs.declared.line.Command.TheVariants as command
+use Rattle.ahci_script.specs.declared.refusal.Refusal.{Refusal}
+use Rattle.ahci_script.specs.declared.refusal.Refusal.TheVariants.{BadSize, BadDepth, BadCount, BadLba, NoSuchTag, SlotOwned, Halted, NotIssued, NotAccepted, OutsideCommand, Stranger, NotYet, NotHalted, NotHeld, QueueBusy, Unaligned, NoSuchRegister, NoSuchSector}
+use Rattle.ncq_core.specs.Lawful.{most_sectors}
+
+-- a fault by the name that is shown; the window of a script's command is always fit
+abbrev pub of_issue : IssueFault → Option Refusal
+of_issue issue.Halted = Some Halted
+of_issue issue.NoSuchTag = Some NoSuchTag
+of_issue issue.SlotOwned = Some SlotOwned
+of_issue fault = None
+
+abbrev pub of_step : StepFault → Refusal
+of_step step.Halted = Halted
+of_step step.NotIssued = NotIssued
+of_step step.NotAccepted = NotAccepted
+of_step step.OutsideCommand = OutsideCommand
+
+abbrev pub of_collect : CollectFault → Refusal
+of_collect collect.Stranger = Stranger
+of_collect collect.NotYet = NotYet
+
+abbrev pub of_recover : RecoverFault → Option Refusal
+of_recover recover.NotHalted = Some NotHalted
+of_recover recover.OutOfMemory = None
+
+abbrev pub of_reissue : ReissueFault → Refusal
+of_reissue reissue.Halted = Halted
+of_reissue reissue.NotHeld = NotHeld
+
+abbrev pub of_plain : PlainFault → Option Refusal
+of_plain plain.Halted = Some Halted
+of_plain plain.QueueBusy = Some QueueBusy
+of_plain plain.OutOfMemory = None
+
+-- a read of a register has no other fault
+abbrev pub of_register : RegFault → Refusal
+of_register reg.Unaligned = Unaligned
+of_register fault = NoSuchRegister
+
+-- a refusal that may be none
+abbrev pub joined : Option (Option Refusal) → Option Refusal
+joined (Some r) = r
+joined None = None
+
+-- why a disk is not made
+abbrev pub disk_refusal : ℕ → ℕ → Option Refusal
+disk_refusal sectors depth =
+    if nat_eq sectors 0 || nat_lt 131072 sectors then Some BadSize
+    else if nat_eq depth 0 || nat_lt 32 depth then Some BadDepth
+    else None
+
+-- why a command of so many sectors from an LBA on is not issued: its window is built first
+abbrev pub issue_refusal : PortView → ℕ → ℕ → ℕ → Option Refusal
+issue_refusal port tag lba sectors =
+    if nat_eq sectors 0 || nat_lt most_sectors sectors then Some BadCount
+    else if nat_le (2 ^ 48) lba then Some BadLba
+    else joined (option_map of_issue (early_refusal port tag))
+
+-- why a register is not read
+abbrev pub register_refusal : Result ℕ RegFault → Option Refusal
+register_refusal (Ok word) = None
+register_refusal (Err fault) = Some (of_register fault)
+
+-- why a sector is not shown
+abbrev pub show_refusal : PortView → ℕ → Option Refusal
+show_refusal port lba = if nat_lt lba (sectors_in port) then None else Some NoSuchSector
+
+-- why the port refuses a command, if it does
+abbrev pub refusal_on : PortView → Command → Option Refusal
+refusal_on port (command.Write tag lba sectors fill) = issue_refusal port tag lba sectors
+refusal_on port (command.Read tag lba sectors) = issue_refusal port tag lba sectors
+refusal_on port (command.Accept tag) = option_map of_step (step_refusal port (device.Accept tag))
+refusal_on port (command.Serve tag) = option_map of_step (step_refusal port (device.Serve tag))
+refusal_on port (command.Fail tag error lba) = option_map of_step (step_refusal port (device.Fail tag error lba))
+refusal_on port (command.Collect tag number) = option_map of_collect (collect_refusal port tag number)
+refusal_on port command.Recover = joined (option_map of_recover (recover_refusal port))
+refusal_on port (command.Reissue tag) = option_map of_reissue (reissue_refusal port tag)
+refusal_on port (command.Identify word) = joined (option_map of_plain (plain_refusal port))
+refusal_on port command.Flush = joined (option_map of_plain (plain_refusal port))
+refusal_on port (command.Reg off) = register_refusal (read_of port.registers off)
+refusal_on port (command.Show lba) = show_refusal port lba
+refusal_on port c = None
