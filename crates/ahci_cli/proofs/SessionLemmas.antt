@@ -15,7 +15,7 @@ use Rattle.first_port.specs.First.{Answers, FirstState}
 use Rattle.first_port.specs.declared.fault.CollectFault.{CollectFault}
 use Rattle.first_port.specs.declared.fault.FirstFault.{FirstFault}
 use Rattle.first_port.specs.declared.fault.FirstFault.TheVariants.{OutOfMemory}
-use Rattle.ncq_core.specs.Work.{Work}
+use Rattle.ncq_journal.specs.Work.{Work}
 
 -- what follows where the result is Ok
 on_ok_from : {T E : Type 0} (r : Result T E) (P Q : Type 0) → OnOk r P → (P → Q) → OnOk r Q

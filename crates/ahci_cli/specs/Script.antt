@@ -1,12 +1,12 @@
 -- What a script's commands answer, and the port that each of them leaves. Want of memory is left aside.
 use Rattle.std.specs.Prelude.{ℕ, ◌*◌, ◌||◌, Bool, true, false, List, [], ◌∷◌, ◌++◌, length, replicate, slice_index, nat_eq, nat_lt, Option, Some, None, unwrap_or, ◌≡◌, if◌then◌else◌}
-use Rattle.ncq_core.specs.Answer.{Answer, answer}
-use Rattle.ncq_core.specs.Entry.{Issue, Collect}
-use Rattle.ncq_core.specs.Sector.{sector}
-use Rattle.ncq_core.specs.Work.{Work}
-use Rattle.ncq_core.specs.Work as work
-use Rattle.ncq_core.specs.declared.outcome.Outcome.{Outcome}
-use Rattle.ncq_core.specs.declared.outcome.Outcome.TheVariants as outcome
+use Rattle.ncq_journal.specs.Answer.{Answer, answer}
+use Rattle.ncq_journal.specs.Entry.{Issue, Collect}
+use Rattle.ncq_journal.specs.Sector.{sector}
+use Rattle.ncq_journal.specs.Work.{Work}
+use Rattle.ncq_journal.specs.Work as work
+use Rattle.ncq_journal.specs.declared.outcome.Outcome.{Outcome}
+use Rattle.ncq_journal.specs.declared.outcome.Outcome.TheVariants as outcome
 use Rattle.first_port.specs.First.{FirstState, appended, collect_fault, disk_sectors, entry_for, issue_fault, step_fault, stepped_at}
 use Rattle.first_port.specs.declared.fault.FirstFault.{FirstFault}
 use Rattle.first_port.specs.declared.fault.FirstFault.TheVariants as first

@@ -1,6 +1,6 @@
 ghost use Rattle.std.specs.Prelude.{◌≡◌, ◌≤◌, ◌*◌, ◌++◌, ◌∷◌, [], IfErr, IfOk, OnErr, OnOk, None, Some, replicate};
-ghost use Rattle.ncq_core.specs.Work.{work_of};
-ghost use Rattle.ncq_core.specs.Work as work;
+ghost use Rattle.ncq_journal.specs.Work.{work_of};
+ghost use Rattle.ncq_journal.specs.Work as work;
 ghost use Rattle.ahci_script.specs.Answers.{answer_text};
 ghost use Rattle.ahci_cli.specs.Script.{Says, SaysBy, collect_of, disk_by, disk_fault, issue, of_collect, of_step, outcome_text, said_by, said_on, show_of, shown_issue, step_of, stepped_text};
 

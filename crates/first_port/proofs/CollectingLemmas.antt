@@ -1,22 +1,22 @@
 -- The first port keeps what it keeps when an answer is collected.
 use Rattle.std.proofs.Common.{◌||◌, not, nat_eq, ◌≡◌, ℕ, ◌+◌, ◌<◌, Bool, true, false, cond, List, ◌∷◌, length, set, get_or, ap, sym, refl, subst, ◌∙◌, Option, None, Some, IsSomeAnd, arith, IsSome}
 use Rattle.std.proofs.lemmas.Bool.{eqb-true, cond-true, cond-false, false≢true}
-use Rattle.ncq_core.specs.declared.phase.Phase.{Phase}
-use Rattle.ncq_core.specs.declared.phase.Phase.TheVariants.{Free, Issued, Accepted, Rejected, Broken, Held, Done}
-use Rattle.ncq_core.specs.Answer.{answer}
-use Rattle.ncq_core.specs.Entry.{Entry, Collect}
-use Rattle.ncq_core.specs.Phase.{phase}
-use Rattle.ncq_core.specs.Request.{Request, request}
-use Rattle.ncq_core.specs.Work.{Work, Read, Write}
-use Rattle.ncq_core.proofs.OwedLemmas.{owed_moves}
-use Rattle.ncq_core.proofs.PhaseLemmas.{below_depth}
+use Rattle.ncq_journal.specs.declared.phase.Phase.{Phase}
+use Rattle.ncq_journal.specs.declared.phase.Phase.TheVariants.{Free, Issued, Accepted, Rejected, Broken, Held, Done}
+use Rattle.ncq_journal.specs.Answer.{answer}
+use Rattle.ncq_journal.specs.Entry.{Entry, Collect}
+use Rattle.ncq_journal.specs.Phase.{phase}
+use Rattle.ncq_journal.specs.Request.{Request, request}
+use Rattle.ncq_journal.specs.Work.{Work, Read, Write}
+use Rattle.ncq_journal.proofs.OwedLemmas.{owed_moves}
+use Rattle.ncq_journal.proofs.PhaseLemmas.{below_depth}
 use Rattle.first_port.specs.First.{SlotState, FirstState, collect_fault, is_free, is_done, has_number}
 use Rattle.first_port.specs.Moves.{slot_collect_fault}
 use Rattle.first_port.specs.Keeping.{Keeps, Holds, HasSlot, HasPhase, IsOf, outcome_of}
 use Rattle.first_port.proofs.KeepingLemmas.{cond_other, cond_own, keeps_step}
 use Rattle.first_port.specs.declared.fault.CollectFault.{CollectFault}
 use Rattle.first_port.specs.declared.fault.CollectFault.TheVariants.{Stranger, NotYet}
-use Rattle.ncq_core.specs.declared.outcome.Outcome.TheVariants as outcome
+use Rattle.ncq_journal.specs.declared.outcome.Outcome.TheVariants as outcome
 
 -- why a request is not collected, by the tag's phase and its request
 abbrev judged : Phase → Option Request → ℕ → Option CollectFault

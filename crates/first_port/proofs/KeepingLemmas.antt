@@ -3,23 +3,23 @@ use Rattle.std.proofs.Common.{◌≡◌, ◌≢◌, ℕ, ◌+◌, ◌*◌, ◌/�
 use Rattle.std.specs.Option.{option_or}
 use Rattle.std.proofs.lemmas.Bool.{cases_eq, cases_lt, cond-true, cond-false, eq-eqb, ne_eqb, false≢true, ltb-false, leb-false, or_parts, eqb-false}
 use Rattle.std.proofs.lemmas.List.{length-set, set-set, get_or-set_same, get_or-set_other}
-use Rattle.ncq_core.specs.declared.phase.Phase.{Phase}
-use Rattle.ncq_core.specs.declared.phase.Phase.TheVariants.{Free, Issued, Accepted, Rejected, Broken, Held, Done}
-use Rattle.ncq_core.specs.Answer.{given}
-use Rattle.ncq_core.specs.Entry.{Entry, Issue, Accept}
-use Rattle.ncq_core.specs.Halted.{halted}
-use Rattle.ncq_core.specs.History.{entry_at}
-use Rattle.ncq_core.specs.Image.{sector_at}
-use Rattle.ncq_core.specs.Lawful.{IsAllowed, IsProper, Fits, end_of}
-use Rattle.ncq_core.specs.Owed.{owed, owed_in}
-use Rattle.ncq_core.specs.Phase.{phase, is_failed}
-use Rattle.ncq_core.specs.Request.{Request, request}
-use Rattle.ncq_core.specs.Sector.{sector}
-use Rattle.ncq_core.specs.Work.{Work, Read, Write, lba_of}
-use Rattle.ncq_core.proofs.HaltedLemmas.{not_halted}
-use Rattle.ncq_core.proofs.OwedLemmas.{owed_is_few, owed_moves}
-use Rattle.ncq_core.proofs.PhaseLemmas.{free_past_depth, owned_has_request, below_depth}
-use Rattle.ncq_core.proofs.TagLemmas.{sum_le}
+use Rattle.ncq_journal.specs.declared.phase.Phase.{Phase}
+use Rattle.ncq_journal.specs.declared.phase.Phase.TheVariants.{Free, Issued, Accepted, Rejected, Broken, Held, Done}
+use Rattle.ncq_journal.specs.Answer.{given}
+use Rattle.ncq_journal.specs.Entry.{Entry, Issue, Accept}
+use Rattle.ncq_journal.specs.Halted.{halted}
+use Rattle.ncq_journal.specs.History.{entry_at}
+use Rattle.ncq_journal.specs.Image.{sector_at}
+use Rattle.ncq_journal.specs.Lawful.{IsAllowed, IsProper, Fits, end_of}
+use Rattle.ncq_journal.specs.Owed.{owed, owed_in}
+use Rattle.ncq_journal.specs.Phase.{phase, is_failed}
+use Rattle.ncq_journal.specs.Request.{Request, request}
+use Rattle.ncq_journal.specs.Sector.{sector}
+use Rattle.ncq_journal.specs.Work.{Work, Read, Write, lba_of}
+use Rattle.ncq_journal.proofs.HaltedLemmas.{not_halted}
+use Rattle.ncq_journal.proofs.OwedLemmas.{owed_is_few, owed_moves}
+use Rattle.ncq_journal.proofs.PhaseLemmas.{free_past_depth, owned_has_request, below_depth}
+use Rattle.ncq_journal.proofs.TagLemmas.{sum_le}
 use Rattle.first_port.specs.First.{SlotState, FirstState, issue_fault, has_bad_count, is_free, step_fault, is_issued, passes, disk_sectors}
 use Rattle.first_port.specs.Moves.{accepted}
 use Rattle.first_port.specs.declared.step.DeviceStep.TheVariants as step

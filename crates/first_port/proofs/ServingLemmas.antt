@@ -2,29 +2,29 @@
 use Rattle.std.proofs.Common.{◌-◌, take, drop, ◌≡◌, ℕ, ◌+◌, ◌*◌, ◌/◌, ◌<◌, ◌≤◌, cond, List, [], ◌∷◌, ◌++◌, length, set, get_or, ap, sym, refl, subst, ◌∙◌, Option, None, Some, IsSomeAnd, arith}
 use Rattle.std.proofs.lemmas.Bool.{cond-true, cond-false}
 use Rattle.std.proofs.lemmas.List.{set-set}
-use Rattle.ncq_core.specs.declared.phase.Phase.TheVariants.{Free, Accepted, Done}
-use Rattle.ncq_core.specs.Answer.{completes, sectors_at}
-use Rattle.ncq_core.specs.Entry.{Entry, Issue, Complete}
-use Rattle.ncq_core.specs.Image.{sector_at, covers, IsWrittenOver}
-use Rattle.ncq_core.specs.Lawful.{IsAllowed, IsLawful, IsProper, Fits}
-use Rattle.ncq_core.specs.Phase.{phase}
-use Rattle.ncq_core.specs.Request.{Request, request}
-use Rattle.ncq_core.specs.Sector.{sector, completed}
-use Rattle.ncq_core.specs.Work.{Work, Read, Write}
-use Rattle.ncq_core.proofs.OwedLemmas.{owed_moves}
-use Rattle.ncq_core.proofs.PhaseLemmas.{below_depth, accepted_fits}
+use Rattle.ncq_journal.specs.declared.phase.Phase.TheVariants.{Free, Accepted, Done}
+use Rattle.ncq_journal.specs.Answer.{completes, sectors_at}
+use Rattle.ncq_journal.specs.Entry.{Entry, Issue, Complete}
+use Rattle.ncq_journal.specs.Image.{sector_at, covers, IsWrittenOver}
+use Rattle.ncq_journal.specs.Lawful.{IsAllowed, IsLawful, IsProper, Fits}
+use Rattle.ncq_journal.specs.Phase.{phase}
+use Rattle.ncq_journal.specs.Request.{Request, request}
+use Rattle.ncq_journal.specs.Sector.{sector, completed}
+use Rattle.ncq_journal.specs.Work.{Work, Read, Write}
+use Rattle.ncq_journal.proofs.OwedLemmas.{owed_moves}
+use Rattle.ncq_journal.proofs.PhaseLemmas.{below_depth, accepted_fits}
 use Rattle.first_port.specs.First.{SlotState, FirstState}
 use Rattle.first_port.specs.Moves.{served, moved_buffer, CanMove, HasMoved, MovesFor}
 use Rattle.first_port.specs.Keeping.{Keeps, Holds, HasSlot, HasPhase, HasBuffer, IsOf, outcome_of}
 use Rattle.first_port.proofs.KeepingLemmas.{cond_other, cond_own, keeps_step, calm}
 use Rattle.std.proofs.lemmas.Option.{same_Some}
 use Rattle.std.proofs.lemmas.List.{drop_all, take_all, append-nil}
-use Rattle.ncq_core.proofs.AnsweredLemmas.{completed_now}
-use Rattle.ncq_core.proofs.AnswerLemmas.{proper_entry}
-use Rattle.ncq_core.proofs.EntryLemmas.{request_is_its_issue}
-use Rattle.ncq_core.proofs.ImageLemmas.{joined-sectors}
-use Rattle.ncq_core.proofs.LawfulLemmas.{lawful_proper}
-use Rattle.ncq_core.specs.declared.outcome.Outcome.TheVariants as outcome
+use Rattle.ncq_journal.proofs.AnsweredLemmas.{completed_now}
+use Rattle.ncq_journal.proofs.AnswerLemmas.{proper_entry}
+use Rattle.ncq_journal.proofs.EntryLemmas.{request_is_its_issue}
+use Rattle.ncq_journal.proofs.ImageLemmas.{joined-sectors}
+use Rattle.ncq_journal.proofs.LawfulLemmas.{lawful_proper}
+use Rattle.ncq_journal.specs.declared.outcome.Outcome.TheVariants as outcome
 
 -- the command that a tag's request issued is proper
 proper_of : (s d : ℕ) (past : List Entry) (tag number : ℕ) (work : Work) → IsLawful s d past → request past tag ≡ Some (record { number = number; work = work }) → IsProper work

@@ -2,13 +2,13 @@
 use Rattle.std.specs.Prelude.{◌≡◌, ℕ, ◌/◌, ◌%◌, ◌^◌, Bool, true, false, ◌||◌, not, nat_lt, nat_le, nat_eq, if◌then◌else◌, List, ◌∷◌, length, Option, None, Some, Result, Err, IsOk, IsOkUnless}
 use Rattle.ncq_core.specs.declared.disk_fault.DiskFault.{DiskFault}
 use Rattle.ncq_core.specs.declared.disk_fault.DiskFault.TheVariants.{BadSize, BadDepth}
-use Rattle.ncq_core.specs.declared.phase.Phase.{Phase}
-use Rattle.ncq_core.specs.declared.phase.Phase.TheVariants.{Free, Issued, Accepted, Done}
-use Rattle.ncq_core.specs.Entry.{Entry, Accept, Complete}
-use Rattle.ncq_core.specs.Lawful.{most_sectors, end_of}
-use Rattle.ncq_core.specs.Phase.{phase}
-use Rattle.ncq_core.specs.Request.{Request, request}
-use Rattle.ncq_core.specs.Work.{Work, Read, Write, lba_of}
+use Rattle.ncq_journal.specs.declared.phase.Phase.{Phase}
+use Rattle.ncq_journal.specs.declared.phase.Phase.TheVariants.{Free, Issued, Accepted, Done}
+use Rattle.ncq_journal.specs.Entry.{Entry, Accept, Complete}
+use Rattle.ncq_journal.specs.Lawful.{most_sectors, end_of}
+use Rattle.ncq_journal.specs.Phase.{phase}
+use Rattle.ncq_journal.specs.Request.{Request, request}
+use Rattle.ncq_journal.specs.Work.{Work, Read, Write, lba_of}
 use Rattle.first_port.specs.declared.fault.FirstFault.{FirstFault}
 use Rattle.first_port.specs.declared.fault.FirstFault.TheVariants.{BadCount, BadLba, NoSuchTag, SlotOwned}
 use Rattle.first_port.specs.declared.fault.StepFault.{StepFault}

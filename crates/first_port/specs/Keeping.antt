@@ -1,19 +1,19 @@
 -- What the first port keeps: its journal is lawful, its image and the buffer of each finished read are those that the
 -- journal gives, and there is room for every entry that its requests can still need.
 use Rattle.std.specs.Prelude.{◌≡◌, ℕ, ◌*◌, ◌/◌, ◌<◌, ◌≤◌, List, length, Option, None, Some, slice_index_or}
-use Rattle.ncq_core.specs.declared.outcome.Outcome.{Outcome}
-use Rattle.ncq_core.specs.declared.outcome.Outcome.TheVariants as outcome
-use Rattle.ncq_core.specs.declared.phase.Phase.{Phase}
-use Rattle.ncq_core.specs.declared.phase.Phase.TheVariants.{Free, Issued, Accepted, Done}
-use Rattle.ncq_core.specs.Answer.{answer}
-use Rattle.ncq_core.specs.Entry.{Entry}
-use Rattle.ncq_core.specs.Image.{sector_at, is_write}
-use Rattle.ncq_core.specs.Lawful.{IsLawful}
-use Rattle.ncq_core.specs.Owed.{owed}
-use Rattle.ncq_core.specs.Phase.{phase}
-use Rattle.ncq_core.specs.Request.{request}
-use Rattle.ncq_core.specs.Sector.{sector}
-use Rattle.ncq_core.specs.Work.{Work, Read, Write, lba_of, sectors_of}
+use Rattle.ncq_journal.specs.declared.outcome.Outcome.{Outcome}
+use Rattle.ncq_journal.specs.declared.outcome.Outcome.TheVariants as outcome
+use Rattle.ncq_journal.specs.declared.phase.Phase.{Phase}
+use Rattle.ncq_journal.specs.declared.phase.Phase.TheVariants.{Free, Issued, Accepted, Done}
+use Rattle.ncq_journal.specs.Answer.{answer}
+use Rattle.ncq_journal.specs.Entry.{Entry}
+use Rattle.ncq_journal.specs.Image.{sector_at, is_write}
+use Rattle.ncq_journal.specs.Lawful.{IsLawful}
+use Rattle.ncq_journal.specs.Owed.{owed}
+use Rattle.ncq_journal.specs.Phase.{phase}
+use Rattle.ncq_journal.specs.Request.{request}
+use Rattle.ncq_journal.specs.Sector.{sector}
+use Rattle.ncq_journal.specs.Work.{Work, Read, Write, lba_of, sectors_of}
 use Rattle.first_port.specs.First.{SlotState}
 
 -- how a command ends, since this port fails none

@@ -1,7 +1,7 @@
 -- What the first port's calls do with one slot.
 use Rattle.std.specs.Prelude.{◌≡◌, ℕ, ◌+◌, ◌*◌, ◌/◌, ◌≤◌, Bool, true, false, nat_eq, nat_lt, if◌then◌else◌, List, [], length, take, drop, Option, None, Some}
-use Rattle.ncq_core.specs.declared.phase.Phase.TheVariants.{Accepted, Done}
-use Rattle.ncq_core.specs.Image.{IsWrittenOver}
+use Rattle.ncq_journal.specs.declared.phase.Phase.TheVariants.{Accepted, Done}
+use Rattle.ncq_journal.specs.Image.{IsWrittenOver}
 use Rattle.first_port.specs.declared.fault.StepFault.{StepFault}
 use Rattle.first_port.specs.declared.fault.StepFault.TheVariants.{NotIssued, OutOfRange}
 use Rattle.first_port.specs.declared.fault.CollectFault.{CollectFault}

@@ -1,4 +1,4 @@
-use Rattle.ncq_core.specs.Work.{work_of}
+use Rattle.ncq_journal.specs.Work.{work_of}
 use Rattle.first_port.specs.First.{issue_fault}
 use Rattle.ahci_cli.proofs.SessionLemmas.{issue_says}
 use Rattle.ahci_cli.proofs.session.issue.Goals as goal

@@ -1,5 +1,5 @@
 use Rattle.std.proofs.Common.{refl, arith}
-use Rattle.ncq_core.proofs.PhaseLemmas.{free_past_depth}
+use Rattle.ncq_journal.proofs.PhaseLemmas.{free_past_depth}
 use Rattle.first_port.proofs.first_port.FirstPort.accept_fault.Goals as goal
 
 pub returns-then-from-self : goal.returns-then-from-self

@@ -1,6 +1,6 @@
 use Rattle.std.proofs.Common.{refl, ap, ◌∙◌, arith, get_or, None, ◌≡◌}
 use Rattle.std.proofs.lemmas.List.{get_or_read}
-use Rattle.ncq_core.proofs.PhaseLemmas.{free_past_depth}
+use Rattle.ncq_journal.proofs.PhaseLemmas.{free_past_depth}
 use Rattle.first_port.proofs.CollectingLemmas.{collect_agrees}
 use Rattle.first_port.specs.Moves.{slot_collect_fault}
 use Rattle.first_port.proofs.first_port.FirstPort.collect_fault.Goals as goal

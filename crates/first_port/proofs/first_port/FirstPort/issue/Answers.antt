@@ -1,6 +1,6 @@
 use Rattle.std.proofs.Common.{◌≡◌, None, length, ap, sym, refl, ◌∙◌, arith}
 use Rattle.first_port.specs.First.{FirstState, issue_fault}
-use Rattle.ncq_core.specs.Work.{work_of}
+use Rattle.ncq_journal.specs.Work.{work_of}
 use Rattle.first_port.proofs.KeepingLemmas.{keeps_issue, issue_may}
 use Rattle.first_port.proofs.first_port.FirstPort.issue.Goals as goal
 

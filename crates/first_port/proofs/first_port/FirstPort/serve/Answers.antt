@@ -1,8 +1,8 @@
 use Rattle.std.proofs.Common.{◌≡◌, None, length, get_or, ap, sym, ◌∙◌, rules, subst}
 use Rattle.std.proofs.lemmas.List.{get_or_read}
-use Rattle.ncq_core.specs.Phase.{phase}
+use Rattle.ncq_journal.specs.Phase.{phase}
 use Rattle.first_port.specs.First.{FirstState}
-use Rattle.ncq_core.specs.declared.phase.Phase.TheVariants.{Accepted}
+use Rattle.ncq_journal.specs.declared.phase.Phase.TheVariants.{Accepted}
 use Rattle.first_port.proofs.ServingLemmas.{keeps_serve, serve_in, can_move, whole_write}
 use Rattle.first_port.specs.Moves.{HasMoved}
 use Rattle.first_port.proofs.first_port.FirstPort.serve.Goals as goal
