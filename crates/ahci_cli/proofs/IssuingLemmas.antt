@@ -15,12 +15,12 @@ use Rattle.ahci_table.specs.Window.{WindowState}
 use Rattle.ahci_table.specs.declared.fault.BuildFault.{BuildFault}
 use Rattle.ahci_table.specs.declared.fault.BuildFault.TheVariants as build
 use Rattle.ahci_table.proofs.DefaultLemmas.{defaults_serve}
-use Rattle.ncq_core.specs.declared.phase.Phase.{Phase}
-use Rattle.ncq_core.specs.declared.phase.Phase.TheVariants as phase
-use Rattle.ncq_core.specs.Halted.{halted}
-use Rattle.ncq_core.specs.Lawful.{most_sectors}
-use Rattle.ncq_core.specs.Phase as journal
-use Rattle.ncq_core.specs.Work.{Work, lba_of, sectors_of}
+use Rattle.ncq_journal.specs.declared.phase.Phase.{Phase}
+use Rattle.ncq_journal.specs.declared.phase.Phase.TheVariants as phase
+use Rattle.ncq_journal.specs.Halted.{halted}
+use Rattle.ncq_journal.specs.Lawful.{most_sectors}
+use Rattle.ncq_journal.specs.Phase as journal
+use Rattle.ncq_journal.specs.Work.{Work, lba_of, sectors_of}
 
 -- a build that succeeded had nothing against it
 pub built_free : (T : Type 0) (x : T) (o : Option BuildFault) → MatchOption o (IfErr {T = T} {E = BuildFault} (Ok x) (λ e. e ≡ build.OutOfMemory)) (λ f. IsErrAnd {T = T} {E = BuildFault} (Ok x) (λ e. e ≡ f)) → o ≡ None

@@ -13,7 +13,7 @@ use Rattle.ahci_port.specs.declared.step.DeviceStep.TheVariants.{Accept, Serve, 
 use Rattle.ahci_port.specs.declared.step.Stepped.{Stepped}
 use Rattle.ahci_port.specs.PortView.{window_at}
 use Rattle.ahci_table.specs.Window.{WindowState}
-use Rattle.ncq_core.specs.Request.{Request, request}
+use Rattle.ncq_journal.specs.Request.{Request, request}
 use Rattle.ahci_script.specs.Answers.{answer_text}
 use Rattle.ahci_script.specs.Lines.{line_of}
 use Rattle.ahci_script.specs.declared.answer.Answer.TheVariants.{Refused}

@@ -23,7 +23,7 @@ use Rattle.ahci_script.specs.declared.line.Command.{Command}
 use Rattle.ahci_script.specs.declared.line.Command.TheVariants as command
 use Rattle.ahci_script.specs.declared.refusal.Refusal.{Refusal}
 use Rattle.ahci_script.specs.declared.refusal.Refusal.TheVariants.{BadSize, BadDepth, BadCount, BadLba, NoSuchTag, SlotOwned, Halted, NotIssued, NotAccepted, OutsideCommand, Stranger, NotYet, NotHalted, NotHeld, QueueBusy, Unaligned, NoSuchRegister, NoSuchSector}
-use Rattle.ncq_core.specs.Lawful.{most_sectors}
+use Rattle.ncq_journal.specs.Lawful.{most_sectors}
 
 -- a fault by the name that is shown; the window of a script's command is always fit
 abbrev pub of_issue : IssueFault → Option Refusal

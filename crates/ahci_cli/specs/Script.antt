@@ -17,15 +17,15 @@ use Rattle.ahci_script.specs.declared.refusal.Refusal.{Refusal}
 use Rattle.ahci_table.specs.Build.{IsBuilt}
 use Rattle.ahci_table.specs.Defaults.{default_list}
 use Rattle.ahci_table.specs.Window.{WindowState}
-use Rattle.ncq_core.specs.Answer.{Answer, answer}
-use Rattle.ncq_core.specs.Entry.{Entry, Issue, Accept, Complete, Fail, Recover, Reissue, Collect, Unqueued}
+use Rattle.ncq_journal.specs.Answer.{Answer, answer}
+use Rattle.ncq_journal.specs.Entry.{Entry, Issue, Accept, Complete, Fail, Recover, Reissue, Collect, Unqueued}
 use Rattle.ncq_core.specs.Identify.{identify_page}
-use Rattle.ncq_core.specs.Sector.{sector}
-use Rattle.ncq_core.specs.Work.{Work, sectors_of}
-use Rattle.ncq_core.specs.Work as work
-use Rattle.ncq_core.specs.declared.outcome.Outcome.{Outcome}
-use Rattle.ncq_core.specs.declared.outcome.Outcome.TheVariants as outcome
-use Rattle.ncq_core.specs.declared.plain.Plain.TheVariants as plain
+use Rattle.ncq_journal.specs.Sector.{sector}
+use Rattle.ncq_journal.specs.Work.{Work, sectors_of}
+use Rattle.ncq_journal.specs.Work as work
+use Rattle.ncq_journal.specs.declared.outcome.Outcome.{Outcome}
+use Rattle.ncq_journal.specs.declared.outcome.Outcome.TheVariants as outcome
+use Rattle.ncq_journal.specs.declared.plain.Plain.TheVariants as plain
 use Rattle.ahci_cli.specs.Refusals.{disk_refusal, refusal_on}
 
 -- a command is issued by a window over the default pieces

@@ -2,7 +2,7 @@
 
 ghost use Rattle.std.specs.Prelude.{◌≡◌, ◌<◌, ◌≤◌, ◌*◌, ◌^◌, false, IfErr, IfOk, OnErr, OnOk, replicate};
 ghost use Rattle.std.specs.Option.{option_map};
-ghost use Rattle.ncq_core.specs.Work.{work_of, lba_of, sectors_of};
+ghost use Rattle.ncq_journal.specs.Work.{work_of, lba_of, sectors_of};
 ghost use Rattle.ahci_port.specs.Faults.{early_refusal};
 ghost use Rattle.ahci_port.specs.Steps.{IsIssued};
 ghost use Rattle.ahci_table.specs.Fit.{IsFit};

@@ -4,17 +4,17 @@ use Rattle.std.proofs.lemmas.Bool.{ltb-false}
 use Rattle.std.proofs.lemmas.List.{length-set, get_or-set_same, get_or-set_other}
 use Rattle.ahci_regs.specs.PortState.{PortState}
 use Rattle.ahci_table.specs.Command.{op, queued_of}
-use Rattle.ncq_core.specs.declared.phase.Phase.TheVariants.{Issued, Accepted}
+use Rattle.ncq_journal.specs.declared.phase.Phase.TheVariants.{Issued, Accepted}
 use Rattle.ncq_core.specs.DiskState.{DiskState, disk_sectors}
-use Rattle.ncq_core.specs.Entry.{Entry, Accept}
-use Rattle.ncq_core.specs.Halted.{halted}
-use Rattle.ncq_core.specs.Lawful.{IsAllowed, Fits, end_of}
-use Rattle.ncq_core.specs.Phase.{phase, is_failed}
-use Rattle.ncq_core.specs.Request.{Request, request}
+use Rattle.ncq_journal.specs.Entry.{Entry, Accept}
+use Rattle.ncq_journal.specs.Halted.{halted}
+use Rattle.ncq_journal.specs.Lawful.{IsAllowed, Fits, end_of}
+use Rattle.ncq_journal.specs.Phase.{phase, is_failed}
+use Rattle.ncq_journal.specs.Request.{Request, request}
 use Rattle.ncq_core.specs.Verdict.{is_past_end}
 use Rattle.ncq_core.specs.Verdict as verdict
-use Rattle.ncq_core.proofs.OwedLemmas.{owed_moves}
-use Rattle.ncq_core.proofs.PhaseLemmas.{below_depth}
+use Rattle.ncq_journal.proofs.OwedLemmas.{owed_moves}
+use Rattle.ncq_journal.proofs.PhaseLemmas.{below_depth}
 use Rattle.ahci_port.specs.Keeping.{Keeps, Holds, HasSlot, HasHeader, slot_at}
 use Rattle.ahci_port.specs.Slots.{SlotState, outstanding_in}
 use Rattle.ahci_port.specs.Standing.{last_failure}

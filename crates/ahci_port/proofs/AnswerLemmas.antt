@@ -2,16 +2,16 @@
 use Rattle.std.proofs.Common.{◌≡◌, ◌≢◌, ℕ, Bool, false, ◌==◌, List, [], ◌∷◌, length, ap, sym, refl, ◌∙◌, Option, None, Some, is_some}
 use Rattle.std.specs.Option.{option_or}
 use Rattle.std.proofs.lemmas.Bool.{cond-true, cond-false, eq-eqb, ne_eqb, true≢false}
-use Rattle.ncq_core.specs.declared.outcome.Outcome.TheVariants as outcome
-use Rattle.ncq_core.specs.Answer.{Answer, answer, given}
-use Rattle.ncq_core.specs.Entry.{Entry, Issue, Accept, Complete, Fail, Recover, Reissue, Collect, Unqueued}
-use Rattle.ncq_core.specs.History.{entry_at}
-use Rattle.ncq_core.specs.Lawful.{IsLawful}
-use Rattle.ncq_core.specs.Laws.{is_answered}
-use Rattle.ncq_core.specs.Phase.{phase}
-use Rattle.ncq_core.specs.Request.{Request, request}
-use Rattle.ncq_core.proofs.AnsweredLemmas.{answered_by_phase}
-use Rattle.ncq_core.proofs.EntryLemmas.{request_is_its_issue}
+use Rattle.ncq_journal.specs.declared.outcome.Outcome.TheVariants as outcome
+use Rattle.ncq_journal.specs.Answer.{Answer, answer, given}
+use Rattle.ncq_journal.specs.Entry.{Entry, Issue, Accept, Complete, Fail, Recover, Reissue, Collect, Unqueued}
+use Rattle.ncq_journal.specs.History.{entry_at}
+use Rattle.ncq_journal.specs.Lawful.{IsLawful}
+use Rattle.ncq_journal.specs.Laws.{is_answered}
+use Rattle.ncq_journal.specs.Phase.{phase}
+use Rattle.ncq_journal.specs.Request.{Request, request}
+use Rattle.ncq_journal.proofs.AnsweredLemmas.{answered_by_phase}
+use Rattle.ncq_journal.proofs.EntryLemmas.{request_is_its_issue}
 
 -- an entry that answers the request of a tag
 abbrev pub answers : Entry → ℕ → Bool

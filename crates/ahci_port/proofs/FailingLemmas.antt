@@ -4,17 +4,17 @@ use Rattle.std.proofs.lemmas.Bool.{cases_lt, and_right}
 use Rattle.std.proofs.lemmas.List.{get_or-replicate, get_or_past}
 use Rattle.ahci_regs.specs.PortState.{PortState}
 use Rattle.ahci_table.specs.Command.{op, queued_of}
-use Rattle.ncq_core.specs.declared.phase.Phase.{Phase}
-use Rattle.ncq_core.specs.declared.phase.Phase.TheVariants.{Free, Issued, Accepted, Rejected, Broken, Held, Done}
+use Rattle.ncq_journal.specs.declared.phase.Phase.{Phase}
+use Rattle.ncq_journal.specs.declared.phase.Phase.TheVariants.{Free, Issued, Accepted, Rejected, Broken, Held, Done}
 use Rattle.ncq_core.specs.DiskState.{DiskState, no_commands}
-use Rattle.ncq_core.specs.Entry.{Entry, Fail}
-use Rattle.ncq_core.specs.Lawful.{IsAllowed}
-use Rattle.ncq_core.specs.Laws.{is_answered, owed_less}
-use Rattle.ncq_core.specs.Phase.{phase, failed, is_busy}
-use Rattle.ncq_core.specs.Tags.{in_device}
+use Rattle.ncq_journal.specs.Entry.{Entry, Fail}
+use Rattle.ncq_journal.specs.Lawful.{IsAllowed}
+use Rattle.ncq_journal.specs.Laws.{is_answered, owed_less}
+use Rattle.ncq_journal.specs.Phase.{phase, failed, is_busy}
+use Rattle.ncq_journal.specs.Tags.{in_device}
 use Rattle.ncq_core.specs.Verdict.{stopped_by}
-use Rattle.ncq_core.proofs.OwedLemmas.{owed_moves}
-use Rattle.ncq_core.proofs.PhaseLemmas.{below_depth}
+use Rattle.ncq_journal.proofs.OwedLemmas.{owed_moves}
+use Rattle.ncq_journal.proofs.PhaseLemmas.{below_depth}
 use Rattle.ahci_port.specs.Keeping.{Keeps, Holds, HasSlot, HasHeader, slot_at}
 use Rattle.ahci_port.specs.Moves.{failed_slot}
 use Rattle.ahci_port.specs.Slots.{SlotState, outstanding_in}

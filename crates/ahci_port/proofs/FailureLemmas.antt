@@ -1,15 +1,15 @@
 -- The failed command of a halted port is that of the last Fail, and there is one alone.
 use Rattle.std.proofs.Common.{◌≡◌, ◌≢◌, ℕ, ◌<◌, ◌≤◌, Bool, true, false, cond, ◌==◌, List, [], ◌∷◌, ap, sym, refl, ◌∙◌, arith, inl, inr, Option, None, Some, IsSomeAnd}
 use Rattle.std.proofs.lemmas.Bool.{cases_eq, cases_lt, true≢false, false≢true}
-use Rattle.ncq_core.specs.declared.phase.Phase.{Phase}
-use Rattle.ncq_core.specs.declared.phase.Phase.TheVariants.{Free, Issued, Accepted, Rejected, Broken, Held, Done}
-use Rattle.ncq_core.specs.Entry.{Entry, Issue, Accept, Complete, Fail, Recover, Reissue, Collect, Unqueued}
-use Rattle.ncq_core.specs.Halted.{halted}
-use Rattle.ncq_core.specs.Lawful.{IsLawful}
-use Rattle.ncq_core.specs.Phase.{phase, recovered, is_failed, failed}
-use Rattle.ncq_core.proofs.HaltedLemmas.{halted_at, not_halted}
-use Rattle.ncq_core.proofs.PhaseLemmas.{free_past_depth}
-use Rattle.ncq_core.proofs.TagLemmas.{lacks, the_tag, same_tags}
+use Rattle.ncq_journal.specs.declared.phase.Phase.{Phase}
+use Rattle.ncq_journal.specs.declared.phase.Phase.TheVariants.{Free, Issued, Accepted, Rejected, Broken, Held, Done}
+use Rattle.ncq_journal.specs.Entry.{Entry, Issue, Accept, Complete, Fail, Recover, Reissue, Collect, Unqueued}
+use Rattle.ncq_journal.specs.Halted.{halted}
+use Rattle.ncq_journal.specs.Lawful.{IsLawful}
+use Rattle.ncq_journal.specs.Phase.{phase, recovered, is_failed, failed}
+use Rattle.ncq_journal.proofs.HaltedLemmas.{halted_at, not_halted}
+use Rattle.ncq_journal.proofs.PhaseLemmas.{free_past_depth}
+use Rattle.ncq_journal.proofs.TagLemmas.{lacks, the_tag, same_tags}
 use Rattle.ncq_core.specs.DiskState.{DiskError}
 use Rattle.ahci_port.specs.Standing.{last_failure}
 use Rattle.ahci_port.proofs.SetLemmas.{own, other}

@@ -7,17 +7,17 @@ use Rattle.std.proofs.Math.ListN.{get_or-map}
 use Rattle.ahci_regs.specs.PortState.{PortState}
 use Rattle.ahci_table.specs.Command.{op, queued_of}
 use Rattle.ahci_table.specs.Window.{WindowState}
-use Rattle.ncq_core.specs.declared.outcome.Outcome.{Outcome}
-use Rattle.ncq_core.specs.declared.outcome.Outcome.TheVariants as outcome
-use Rattle.ncq_core.specs.Answer.{Answer}
+use Rattle.ncq_journal.specs.declared.outcome.Outcome.{Outcome}
+use Rattle.ncq_journal.specs.declared.outcome.Outcome.TheVariants as outcome
+use Rattle.ncq_journal.specs.Answer.{Answer}
 use Rattle.ncq_core.specs.DiskState.{DiskState, outstanding}
-use Rattle.ncq_core.specs.Entry.{Entry}
-use Rattle.ncq_core.specs.Halted.{halted}
-use Rattle.ncq_core.specs.Laws.{is_answered}
-use Rattle.ncq_core.specs.Lawful.{IsLawful}
-use Rattle.ncq_core.specs.Phase.{phase}
-use Rattle.ncq_core.specs.Tags.{in_device, device_tags}
-use Rattle.ncq_core.proofs.AnsweredLemmas.{answered_by_phase}
+use Rattle.ncq_journal.specs.Entry.{Entry}
+use Rattle.ncq_journal.specs.Halted.{halted}
+use Rattle.ncq_journal.specs.Laws.{is_answered}
+use Rattle.ncq_journal.specs.Lawful.{IsLawful}
+use Rattle.ncq_journal.specs.Phase.{phase}
+use Rattle.ncq_journal.specs.Tags.{in_device, device_tags}
+use Rattle.ncq_journal.proofs.AnsweredLemmas.{answered_by_phase}
 use Rattle.word_bits.proofs.PlacesLemmas.{length-places, has_place-places, same_sets}
 use Rattle.sata_fis.specs.Fields.{QueuedFields}
 use Rattle.ahci_port.specs.Headline.{Headline, HasWindow, IsOfRequest, HoldsBytes}

@@ -5,23 +5,23 @@ use Rattle.std.proofs.lemmas.List.{length-set, get_or-set_same, get_or-set_other
 use Rattle.ahci_regs.specs.PortState.{PortState}
 use Rattle.ahci_table.specs.Command.{op, queued_of}
 use Rattle.ahci_table.specs.Fit.{IsFit}
-use Rattle.ncq_core.specs.declared.phase.Phase.{Phase}
-use Rattle.ncq_core.specs.declared.phase.Phase.TheVariants.{Free, Issued, Held, Done}
-use Rattle.ncq_core.specs.declared.plain.Plain.{Plain}
-use Rattle.ncq_core.specs.Answer.{given}
-use Rattle.ncq_core.specs.History.{entry_at}
-use Rattle.ncq_core.specs.Image.{sector_at}
-use Rattle.ncq_core.specs.Sector.{sector}
-use Rattle.ncq_core.specs.Tags.{in_device}
+use Rattle.ncq_journal.specs.declared.phase.Phase.{Phase}
+use Rattle.ncq_journal.specs.declared.phase.Phase.TheVariants.{Free, Issued, Held, Done}
+use Rattle.ncq_journal.specs.declared.plain.Plain.{Plain}
+use Rattle.ncq_journal.specs.Answer.{given}
+use Rattle.ncq_journal.specs.History.{entry_at}
+use Rattle.ncq_journal.specs.Image.{sector_at}
+use Rattle.ncq_journal.specs.Sector.{sector}
+use Rattle.ncq_journal.specs.Tags.{in_device}
 use Rattle.ncq_core.specs.DiskState.{DiskState}
-use Rattle.ncq_core.specs.Entry.{Entry, Issue, Reissue, Collect, Unqueued}
-use Rattle.ncq_core.specs.Halted.{halted}
-use Rattle.ncq_core.specs.Lawful.{IsAllowed, IsProper}
-use Rattle.ncq_core.specs.Phase.{phase, is_failed}
-use Rattle.ncq_core.specs.Request.{request}
-use Rattle.ncq_core.proofs.AnsweredLemmas.{no_answer_yet}
-use Rattle.ncq_core.proofs.OwedLemmas.{owed_is_few, owed_moves}
-use Rattle.ncq_core.proofs.PhaseLemmas.{below_depth}
+use Rattle.ncq_journal.specs.Entry.{Entry, Issue, Reissue, Collect, Unqueued}
+use Rattle.ncq_journal.specs.Halted.{halted}
+use Rattle.ncq_journal.specs.Lawful.{IsAllowed, IsProper}
+use Rattle.ncq_journal.specs.Phase.{phase, is_failed}
+use Rattle.ncq_journal.specs.Request.{request}
+use Rattle.ncq_journal.proofs.AnsweredLemmas.{no_answer_yet}
+use Rattle.ncq_journal.proofs.OwedLemmas.{owed_is_few, owed_moves}
+use Rattle.ncq_journal.proofs.PhaseLemmas.{below_depth}
 use Rattle.ahci_port.specs.Keeping.{Keeps, Holds, HasSlot, HasHeader, IsOf, slot_at}
 use Rattle.ahci_port.specs.Slots.{SlotState, outstanding_in, bytes_in}
 use Rattle.ahci_port.specs.Standing.{last_failure}

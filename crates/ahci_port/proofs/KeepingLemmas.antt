@@ -5,14 +5,14 @@ use Rattle.std.proofs.lemmas.List.{length-set, get_or-set_same, get_or-set_other
 use Rattle.ahci_regs.specs.PortState.{PortState}
 use Rattle.ahci_table.specs.Command.{op}
 use Rattle.ncq_core.specs.DiskState.{DiskState, command_of}
-use Rattle.ncq_core.specs.Entry.{Entry}
-use Rattle.ncq_core.specs.Halted.{halted}
-use Rattle.ncq_core.specs.Image.{sector_at}
-use Rattle.ncq_core.specs.Lawful.{IsAllowed, IsLawful}
-use Rattle.ncq_core.specs.Owed.{owed}
-use Rattle.ncq_core.specs.Phase.{phase}
-use Rattle.ncq_core.specs.Request.{request}
-use Rattle.ncq_core.specs.Sector.{sector}
+use Rattle.ncq_journal.specs.Entry.{Entry}
+use Rattle.ncq_journal.specs.Halted.{halted}
+use Rattle.ncq_journal.specs.Image.{sector_at}
+use Rattle.ncq_journal.specs.Lawful.{IsAllowed, IsLawful}
+use Rattle.ncq_journal.specs.Owed.{owed}
+use Rattle.ncq_journal.specs.Phase.{phase}
+use Rattle.ncq_journal.specs.Request.{request}
+use Rattle.ncq_journal.specs.Sector.{sector}
 use Rattle.ahci_port.specs.Keeping.{Keeps, HasSlot, HasHeader, slot_at}
 use Rattle.ahci_port.specs.Slots.{SlotState, outstanding_in}
 use Rattle.ahci_port.specs.Standing.{standing}

@@ -1,18 +1,18 @@
 -- What recovery reads from the log.
 use Rattle.std.proofs.Common.{◌≡◌, ℕ, ◌/◌, ◌<◌, Bool, true, false, cond, map, ◌%◌, List, [], ◌∷◌, ◌++◌, length, take, drop, set, get_or, ap, sym, refl, ◌∙◌, subst, Option, None, Some, IsSomeAnd, arith}
 use Rattle.std.specs.Option.{option_map}
-use Rattle.ncq_core.proofs.PhaseLemmas.{below_depth}
+use Rattle.ncq_journal.proofs.PhaseLemmas.{below_depth}
 use Rattle.ahci_port.specs.Moves.{recovered_slot}
 use Rattle.ahci_port.proofs.RecoveringLemmas.{failed_taken}
 use Rattle.std.proofs.lemmas.List.{append-nil, take_all, drop_all}
 use Rattle.ahci_regs.specs.PortState.{PortState}
 use Rattle.ncq_core.specs.DiskState.{DiskState, DiskError, is_stopped}
-use Rattle.ncq_core.specs.Entry.{Entry}
-use Rattle.ncq_core.specs.Halted.{halted}
+use Rattle.ncq_journal.specs.Entry.{Entry}
+use Rattle.ncq_journal.specs.Halted.{halted}
 use Rattle.ncq_core.specs.Log.{log_page}
-use Rattle.ncq_core.specs.Phase.{phase, is_failed}
+use Rattle.ncq_journal.specs.Phase.{phase, is_failed}
 use Rattle.ncq_core.specs.Verdict.{verdict, command_in, stopped_verdict, running_verdict, is_read_log, passed, aborted}
-use Rattle.ncq_core.specs.declared.plain.Plain.TheVariants as plain
+use Rattle.ncq_journal.specs.declared.plain.Plain.TheVariants as plain
 use Rattle.sata_fis.specs.Fields.{H2dFields}
 use Rattle.ahci_port.specs.Keeping.{Keeps}
 use Rattle.ahci_port.specs.Slots.{SlotState, window_in}

@@ -3,13 +3,13 @@ use Rattle.std.proofs.Common.{◌≡◌, ◌≢◌, ℕ, ◌<◌, Bool, true, fa
 use Rattle.std.proofs.lemmas.Bool.{false≢true}
 use Rattle.std.proofs.Math.Seq.{map-set_same}
 use Rattle.ahci_regs.specs.PortState.{PortState}
-use Rattle.ncq_core.specs.declared.phase.Phase.{Phase}
-use Rattle.ncq_core.specs.declared.phase.Phase.TheVariants.{Free, Issued, Accepted, Rejected, Broken, Held, Done}
+use Rattle.ncq_journal.specs.declared.phase.Phase.{Phase}
+use Rattle.ncq_journal.specs.declared.phase.Phase.TheVariants.{Free, Issued, Accepted, Rejected, Broken, Held, Done}
 use Rattle.ncq_core.specs.DiskState.{DiskState}
-use Rattle.ncq_core.specs.Entry.{Entry, Reissue}
-use Rattle.ncq_core.specs.Halted.{halted}
-use Rattle.ncq_core.specs.Phase.{phase}
-use Rattle.ncq_core.proofs.OwedLemmas.{owed_moves}
+use Rattle.ncq_journal.specs.Entry.{Entry, Reissue}
+use Rattle.ncq_journal.specs.Halted.{halted}
+use Rattle.ncq_journal.specs.Phase.{phase}
+use Rattle.ncq_journal.proofs.OwedLemmas.{owed_moves}
 use Rattle.ahci_port.specs.Faults.{is_held, reissue_refusal}
 use Rattle.ahci_port.specs.Keeping.{Keeps, Holds, HasSlot, slot_at}
 use Rattle.ahci_port.specs.PortView.{PortView}

@@ -1,19 +1,19 @@
 -- A port of which no command is issued or accepted.
 use Rattle.std.proofs.Common.{◌≡◌, ◌≢◌, ℕ, ◌^◌, ◌<◌, Bool, true, false, cond, ◌==◌, List, [], ◌∷◌, ap, sym, refl, ◌∙◌, None, Some, is_some, arith}
 use Rattle.std.proofs.lemmas.Bool.{true≢false}
-use Rattle.ncq_core.specs.declared.phase.Phase.{Phase}
-use Rattle.ncq_core.specs.declared.phase.Phase.TheVariants.{Free, Issued, Accepted, Rejected, Broken, Held, Done}
-use Rattle.ncq_core.specs.declared.plain.Plain.{Plain}
-use Rattle.ncq_core.specs.declared.plain.Plain.TheVariants as plain
+use Rattle.ncq_journal.specs.declared.phase.Phase.{Phase}
+use Rattle.ncq_journal.specs.declared.phase.Phase.TheVariants.{Free, Issued, Accepted, Rejected, Broken, Held, Done}
+use Rattle.ncq_journal.specs.declared.plain.Plain.{Plain}
+use Rattle.ncq_journal.specs.declared.plain.Plain.TheVariants as plain
 use Rattle.ncq_core.specs.DiskState.{DiskState}
-use Rattle.ncq_core.specs.Entry.{Entry}
-use Rattle.ncq_core.specs.Halted.{halted, busy}
-use Rattle.ncq_core.specs.Phase.{phase, is_failed, is_busy}
-use Rattle.ncq_core.specs.Tags.{sact, ci, in_sact, in_ci}
+use Rattle.ncq_journal.specs.Entry.{Entry}
+use Rattle.ncq_journal.specs.Halted.{halted, busy}
+use Rattle.ncq_journal.specs.Phase.{phase, is_failed, is_busy}
+use Rattle.ncq_journal.specs.Tags.{sact, ci, in_sact, in_ci}
 use Rattle.ncq_core.specs.Verdict.{verdict, command_in, stopped_verdict, running_verdict, by_kind, plain_verdict, idle_verdict, aborted, passed}
 use Rattle.ncq_core.specs.Verdict as verdict
-use Rattle.ncq_core.proofs.HaltedLemmas.{not_busy}
-use Rattle.ncq_core.proofs.TagLemmas.{lacks}
+use Rattle.ncq_journal.proofs.HaltedLemmas.{not_busy}
+use Rattle.ncq_journal.proofs.TagLemmas.{lacks}
 use Rattle.sata_fis.specs.Command.{queued_in}
 use Rattle.sata_fis.specs.Fields.{H2dFields}
 use Rattle.sata_fis.specs.Layout.{h2d_at}

@@ -5,16 +5,16 @@ use Rattle.std.proofs.lemmas.Bool.{cases_lt}
 use Rattle.std.proofs.Math.ListN.{get_or-map}
 use Rattle.std.proofs.lemmas.List.{get_or-replicate, get_or_past, length-replicate, length-map}
 use Rattle.ahci_regs.specs.PortState.{PortState}
-use Rattle.ncq_core.specs.declared.phase.Phase.{Phase}
-use Rattle.ncq_core.specs.declared.phase.Phase.TheVariants.{Free, Issued, Accepted, Rejected, Broken, Held, Done}
+use Rattle.ncq_journal.specs.declared.phase.Phase.{Phase}
+use Rattle.ncq_journal.specs.declared.phase.Phase.TheVariants.{Free, Issued, Accepted, Rejected, Broken, Held, Done}
 use Rattle.ncq_core.specs.DiskState.{DiskState, DiskError, IsDisk, is_stopped, new_disk, no_commands, outstanding}
-use Rattle.ncq_core.specs.Entry.{Entry}
-use Rattle.ncq_core.specs.Halted.{halted}
-use Rattle.ncq_core.specs.Owed.{owed_in}
-use Rattle.ncq_core.specs.Phase.{phase}
-use Rattle.ncq_core.specs.Request.{request}
-use Rattle.ncq_core.proofs.HaltedLemmas.{not_halted}
-use Rattle.ncq_core.proofs.TagLemmas.{sum_le}
+use Rattle.ncq_journal.specs.Entry.{Entry}
+use Rattle.ncq_journal.specs.Halted.{halted}
+use Rattle.ncq_journal.specs.Owed.{owed_in}
+use Rattle.ncq_journal.specs.Phase.{phase}
+use Rattle.ncq_journal.specs.Request.{request}
+use Rattle.ncq_journal.proofs.HaltedLemmas.{not_halted}
+use Rattle.ncq_journal.proofs.TagLemmas.{sum_le}
 use Rattle.word_bits.specs.Places.{no_places}
 use Rattle.word_bits.proofs.PlacesLemmas.{length-no_places, has_place-no_places, same_sets}
 use Rattle.ahci_port.specs.Keeping.{Keeps, HasSlot, slot_at}

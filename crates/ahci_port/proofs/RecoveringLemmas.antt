@@ -5,17 +5,17 @@ use Rattle.std.proofs.lemmas.List.{length-map}
 use Rattle.std.proofs.Math.ListN.{get_or-map}
 use Rattle.ahci_regs.specs.PortState.{PortState}
 use Rattle.ahci_table.specs.Command.{op, queued_of}
-use Rattle.ncq_core.specs.declared.phase.Phase.{Phase}
-use Rattle.ncq_core.specs.declared.phase.Phase.TheVariants.{Free, Issued, Accepted, Rejected, Broken, Held, Done}
+use Rattle.ncq_journal.specs.declared.phase.Phase.{Phase}
+use Rattle.ncq_journal.specs.declared.phase.Phase.TheVariants.{Free, Issued, Accepted, Rejected, Broken, Held, Done}
 use Rattle.ncq_core.specs.DiskState.{DiskState}
-use Rattle.ncq_core.specs.Entry.{Entry, Recover}
-use Rattle.ncq_core.specs.Halted.{halted}
-use Rattle.ncq_core.specs.Lawful.{IsLawful}
-use Rattle.ncq_core.specs.Phase.{phase, recovered, is_failed}
-use Rattle.ncq_core.specs.Tags.{in_device}
-use Rattle.ncq_core.proofs.HaltedLemmas.{halted_at}
-use Rattle.ncq_core.proofs.OwedLemmas.{owed_is_few}
-use Rattle.ncq_core.proofs.PhaseLemmas.{below_depth}
+use Rattle.ncq_journal.specs.Entry.{Entry, Recover}
+use Rattle.ncq_journal.specs.Halted.{halted}
+use Rattle.ncq_journal.specs.Lawful.{IsLawful}
+use Rattle.ncq_journal.specs.Phase.{phase, recovered, is_failed}
+use Rattle.ncq_journal.specs.Tags.{in_device}
+use Rattle.ncq_journal.proofs.HaltedLemmas.{halted_at}
+use Rattle.ncq_journal.proofs.OwedLemmas.{owed_is_few}
+use Rattle.ncq_journal.proofs.PhaseLemmas.{below_depth}
 use Rattle.ahci_port.specs.Keeping.{Keeps, HasSlot, HasHeader, slot_at}
 use Rattle.ahci_port.specs.Moves.{recovered_slot}
 use Rattle.ahci_port.specs.Registers as registers

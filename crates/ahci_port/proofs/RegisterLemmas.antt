@@ -7,11 +7,11 @@ use Rattle.ahci_regs.specs.PortState.{PortState, first_state}
 use Rattle.ahci_regs.specs.Receiving.{is_done}
 use Rattle.ahci_regs.specs.RegisterTable.{register_at}
 use Rattle.ahci_regs.specs.Writing.{write_at, with_sact, with_ci, with_command, commanded, remaining}
-use Rattle.ncq_core.specs.declared.phase.Phase.TheVariants.{Issued, Accepted, Done}
-use Rattle.ncq_core.specs.Entry.{Entry, Issue, Accept, Complete, Fail, Recover, Reissue, Collect}
-use Rattle.ncq_core.specs.Phase.{phase, is_busy}
-use Rattle.ncq_core.specs.Tags.{sact, ci, in_sact, in_ci}
-use Rattle.ncq_core.specs.Work.{Work}
+use Rattle.ncq_journal.specs.declared.phase.Phase.TheVariants.{Issued, Accepted, Done}
+use Rattle.ncq_journal.specs.Entry.{Entry, Issue, Accept, Complete, Fail, Recover, Reissue, Collect}
+use Rattle.ncq_journal.specs.Phase.{phase, is_busy}
+use Rattle.ncq_journal.specs.Tags.{sact, ci, in_sact, in_ci}
+use Rattle.ncq_journal.specs.Work.{Work}
 use Rattle.word_bits.specs.Places.{bits, has_place, places, no_places, with_place, without_place, union, minus, only_below}
 use Rattle.word_bits.proofs.PlacesLemmas.{length-places, length-with_place, length-without_place, length-only_below, has_place-with_other, has_place-without_same, has_place-without_other, has_place-no_places, has_place-only_below, has_place-only_below_past, same_sets, places_none, union-with_place, minus-with_place, minus-no_places}
 use Rattle.word_bits.proofs.BitsLemmas.{bits_pow, bits_zero}

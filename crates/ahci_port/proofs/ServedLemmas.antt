@@ -8,20 +8,20 @@ use Rattle.ahci_table.specs.Fit.{IsFit}
 use Rattle.ahci_table.specs.Scatter.{IsScattered}
 use Rattle.ahci_table.specs.Text.{text}
 use Rattle.ahci_table.specs.Window.{WindowState}
-use Rattle.ncq_core.specs.Answer.{sectors_at}
-use Rattle.ncq_core.specs.Image.{sector_at}
-use Rattle.ncq_core.specs.Sector.{sector}
+use Rattle.ncq_journal.specs.Answer.{sectors_at}
+use Rattle.ncq_journal.specs.Image.{sector_at}
+use Rattle.ncq_journal.specs.Sector.{sector}
 use Rattle.sata_fis.specs.Command.{asked_by}
 use Rattle.sata_fis.specs.Layout.{h2d_at}
-use Rattle.ncq_core.specs.declared.phase.Phase.TheVariants.{Free, Accepted}
+use Rattle.ncq_journal.specs.declared.phase.Phase.TheVariants.{Free, Accepted}
 use Rattle.ncq_core.specs.declared.serve_fault.ServeFault.TheVariants as serve_fault
 use Rattle.ncq_core.specs.DiskState.{DiskState, command_of}
-use Rattle.ncq_core.specs.Entry.{Entry, Complete}
-use Rattle.ncq_core.specs.Halted.{halted}
-use Rattle.ncq_core.specs.Phase.{phase}
+use Rattle.ncq_journal.specs.Entry.{Entry, Complete}
+use Rattle.ncq_journal.specs.Halted.{halted}
+use Rattle.ncq_journal.specs.Phase.{phase}
 use Rattle.ncq_core.specs.Serving.{serve_fault, HasMoved, MovesFor, IsRead}
-use Rattle.ncq_core.specs.Tags.{in_device}
-use Rattle.ncq_core.proofs.OwedLemmas.{owed_moves}
+use Rattle.ncq_journal.specs.Tags.{in_device}
+use Rattle.ncq_journal.proofs.OwedLemmas.{owed_moves}
 use Rattle.ahci_port.specs.Keeping.{Keeps, slot_at}
 use Rattle.ahci_port.specs.Memory.{IsKept}
 use Rattle.ahci_port.specs.Moves.{MovedWindow, served_slot}

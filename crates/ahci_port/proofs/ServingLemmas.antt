@@ -5,22 +5,22 @@ use Rattle.ahci_regs.specs.PortState.{PortState}
 use Rattle.ahci_table.specs.Command.{op, queued_of}
 use Rattle.ahci_table.specs.Text.{text}
 use Rattle.ahci_table.specs.Window.{WindowState}
-use Rattle.ncq_core.specs.declared.outcome.Outcome.TheVariants as outcome
-use Rattle.ncq_core.specs.declared.phase.Phase.TheVariants.{Accepted, Done}
-use Rattle.ncq_core.specs.Answer.{completes, sectors_at}
+use Rattle.ncq_journal.specs.declared.outcome.Outcome.TheVariants as outcome
+use Rattle.ncq_journal.specs.declared.phase.Phase.TheVariants.{Accepted, Done}
+use Rattle.ncq_journal.specs.Answer.{completes, sectors_at}
 use Rattle.ncq_core.specs.DiskState.{DiskState}
-use Rattle.ncq_core.specs.Entry.{Entry, Complete}
-use Rattle.ncq_core.specs.Halted.{halted}
-use Rattle.ncq_core.specs.Image.{sector_at, covers, IsWrittenOver}
-use Rattle.ncq_core.specs.Lawful.{IsAllowed, IsLawful}
-use Rattle.ncq_core.specs.Phase.{phase, is_failed}
-use Rattle.ncq_core.specs.Sector.{sector, completed}
+use Rattle.ncq_journal.specs.Entry.{Entry, Complete}
+use Rattle.ncq_journal.specs.Halted.{halted}
+use Rattle.ncq_journal.specs.Image.{sector_at, covers, IsWrittenOver}
+use Rattle.ncq_journal.specs.Lawful.{IsAllowed, IsLawful}
+use Rattle.ncq_journal.specs.Phase.{phase, is_failed}
+use Rattle.ncq_journal.specs.Sector.{sector, completed}
 use Rattle.ncq_core.specs.Serving.{HasMoved, MovesFor, IsRead, IsWritten, bytes_at, byte_count, served}
-use Rattle.ncq_core.specs.Work.{Read, Write}
-use Rattle.ncq_core.proofs.AnsweredLemmas.{completed_now}
-use Rattle.ncq_core.proofs.ImageLemmas.{joined-sectors}
-use Rattle.ncq_core.proofs.OwedLemmas.{owed_moves}
-use Rattle.ncq_core.proofs.PhaseLemmas.{below_depth}
+use Rattle.ncq_journal.specs.Work.{Read, Write}
+use Rattle.ncq_journal.proofs.AnsweredLemmas.{completed_now}
+use Rattle.ncq_journal.proofs.ImageLemmas.{joined-sectors}
+use Rattle.ncq_journal.proofs.OwedLemmas.{owed_moves}
+use Rattle.ncq_journal.proofs.PhaseLemmas.{below_depth}
 use Rattle.sata_fis.specs.Command.{asked_by}
 use Rattle.sata_fis.specs.Fields.{QueuedFields}
 use Rattle.sata_fis.specs.Layout.{h2d_at}

@@ -1,11 +1,11 @@
 -- PxSACT, PxCI and the device's tags, entry by entry.
 use Rattle.std.proofs.Common.{◌≡◌, ◌≢◌, ℕ, ◌<◌, Bool, true, false, cond, ◌==◌, List, ◌∷◌, ap, sym, refl, ◌∙◌, inl, inr}
 use Rattle.std.proofs.lemmas.Bool.{cond-true, cond-false, eq-eqb, ne_eqb, cases_eq}
-use Rattle.ncq_core.specs.declared.phase.Phase.{Phase}
-use Rattle.ncq_core.specs.declared.phase.Phase.TheVariants.{Free, Issued, Accepted, Rejected, Broken, Held, Done}
-use Rattle.ncq_core.specs.Entry.{Entry, Issue, Accept, Complete, Fail, Recover, Reissue, Collect}
-use Rattle.ncq_core.specs.Phase.{phase, recovered, is_busy, failed}
-use Rattle.ncq_core.specs.Tags.{in_sact, in_ci, sact, ci}
+use Rattle.ncq_journal.specs.declared.phase.Phase.{Phase}
+use Rattle.ncq_journal.specs.declared.phase.Phase.TheVariants.{Free, Issued, Accepted, Rejected, Broken, Held, Done}
+use Rattle.ncq_journal.specs.Entry.{Entry, Issue, Accept, Complete, Fail, Recover, Reissue, Collect}
+use Rattle.ncq_journal.specs.Phase.{phase, recovered, is_busy, failed}
+use Rattle.ncq_journal.specs.Tags.{in_sact, in_ci, sact, ci}
 use Rattle.word_bits.specs.Places.{places, no_places, with_place, without_place}
 use Rattle.word_bits.proofs.PlacesLemmas.{with_place-places, without_place-places, same_places, places_none}
 

@@ -4,22 +4,22 @@ use Rattle.std.specs.Option.{option_map}
 use Rattle.std.proofs.lemmas.Bool.{false≢true}
 use Rattle.ahci_regs.specs.PortState.{PortState}
 use Rattle.ahci_table.specs.Command.{op, queued_of}
-use Rattle.ncq_core.specs.declared.phase.Phase.{Phase}
-use Rattle.ncq_core.specs.declared.phase.Phase.TheVariants.{Free, Issued, Accepted, Rejected, Broken, Held, Done}
+use Rattle.ncq_journal.specs.declared.phase.Phase.{Phase}
+use Rattle.ncq_journal.specs.declared.phase.Phase.TheVariants.{Free, Issued, Accepted, Rejected, Broken, Held, Done}
 use Rattle.ncq_core.specs.declared.serve_fault.ServeFault.{ServeFault}
 use Rattle.ncq_core.specs.declared.serve_fault.ServeFault.TheVariants as serve_fault
 use Rattle.ncq_core.specs.DiskState.{DiskState, command_of}
-use Rattle.ncq_core.specs.Entry.{Entry, Fail}
-use Rattle.ncq_core.specs.Halted.{halted}
-use Rattle.ncq_core.specs.Image.{covers}
-use Rattle.ncq_core.specs.Lawful.{IsAllowed, Fails}
-use Rattle.ncq_core.specs.Laws.{owed_less}
-use Rattle.ncq_core.specs.Phase.{phase}
-use Rattle.ncq_core.proofs.OwedLemmas.{owed_moves}
-use Rattle.ncq_core.specs.Request.{Request, request}
+use Rattle.ncq_journal.specs.Entry.{Entry, Fail}
+use Rattle.ncq_journal.specs.Halted.{halted}
+use Rattle.ncq_journal.specs.Image.{covers}
+use Rattle.ncq_journal.specs.Lawful.{IsAllowed, Fails}
+use Rattle.ncq_journal.specs.Laws.{owed_less}
+use Rattle.ncq_journal.specs.Phase.{phase}
+use Rattle.ncq_journal.proofs.OwedLemmas.{owed_moves}
+use Rattle.ncq_journal.specs.Request.{Request, request}
 use Rattle.ncq_core.specs.Serving.{answered, fail_fault, is_at_command, has_sector}
-use Rattle.ncq_core.specs.Tags.{in_device}
-use Rattle.ncq_core.specs.Work.{sectors_of}
+use Rattle.ncq_journal.specs.Tags.{in_device}
+use Rattle.ncq_journal.specs.Work.{sectors_of}
 use Rattle.sata_fis.specs.Fields.{QueuedFields}
 use Rattle.ahci_port.specs.Faults.{is_issued, is_accepted, is_of_request, step_refusal}
 use Rattle.ahci_port.specs.PortView.{PortView}

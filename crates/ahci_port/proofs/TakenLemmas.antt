@@ -5,12 +5,12 @@ use Rattle.ahci_table.specs.Command.{op, queued_of}
 use Rattle.ahci_table.specs.Fit.{IsFit}
 use Rattle.ahci_table.specs.Text.{text}
 use Rattle.ahci_table.specs.Window.{WindowState}
-use Rattle.ncq_core.specs.declared.phase.Phase.{Phase}
-use Rattle.ncq_core.specs.declared.phase.Phase.TheVariants.{Free, Issued, Accepted, Rejected, Broken, Held, Done}
-use Rattle.ncq_core.specs.Entry.{Entry}
-use Rattle.ncq_core.specs.Halted.{halted}
-use Rattle.ncq_core.specs.Lawful.{IsProper}
-use Rattle.ncq_core.specs.Phase.{phase}
+use Rattle.ncq_journal.specs.declared.phase.Phase.{Phase}
+use Rattle.ncq_journal.specs.declared.phase.Phase.TheVariants.{Free, Issued, Accepted, Rejected, Broken, Held, Done}
+use Rattle.ncq_journal.specs.Entry.{Entry}
+use Rattle.ncq_journal.specs.Halted.{halted}
+use Rattle.ncq_journal.specs.Lawful.{IsProper}
+use Rattle.ncq_journal.specs.Phase.{phase}
 use Rattle.ahci_port.specs.Faults.{MayTake, early_refusal}
 use Rattle.ahci_port.specs.Keeping.{HasSlot}
 use Rattle.ahci_port.specs.PortView.{PortView, is_free}

@@ -7,25 +7,25 @@ use Rattle.ahci_regs.specs.Receiving.{has_error, after_register}
 use Rattle.ahci_table.specs.Command.{cfis, op, queued_of}
 use Rattle.ahci_table.specs.Fit.{IsFit}
 use Rattle.ahci_table.specs.Window.{WindowState}
-use Rattle.ncq_core.specs.declared.phase.Phase.TheVariants.{Free, Issued}
+use Rattle.ncq_journal.specs.declared.phase.Phase.TheVariants.{Free, Issued}
 use Rattle.ncq_core.specs.DiskFis.{accepted_bytes, not_found_bytes}
 use Rattle.ncq_core.specs.DiskLaws.{AnswersSpell}
 use Rattle.ncq_core.specs.DiskState.{DiskState, command_of, disk_sectors}
-use Rattle.ncq_core.specs.Entry.{Entry, Issue, Accept, Fail}
-use Rattle.ncq_core.specs.Halted.{halted}
-use Rattle.ncq_core.specs.Lawful.{IsAllowed, IsLawful, IsProper, Fails, end_of}
-use Rattle.ncq_core.specs.Phase.{phase, is_busy}
-use Rattle.ncq_core.specs.Request.{Request, request}
+use Rattle.ncq_journal.specs.Entry.{Entry, Issue, Accept, Fail}
+use Rattle.ncq_journal.specs.Halted.{halted}
+use Rattle.ncq_journal.specs.Lawful.{IsAllowed, IsLawful, IsProper, Fails, end_of}
+use Rattle.ncq_journal.specs.Phase.{phase, is_busy}
+use Rattle.ncq_journal.specs.Request.{Request, request}
 use Rattle.ncq_core.specs.Verdict.{verdict, is_past_end, first_lacking, stopped_by}
 use Rattle.ncq_core.specs.Verdict as verdict
-use Rattle.ncq_core.specs.Work.{Work, lba_of}
-use Rattle.ncq_core.proofs.AnswerLemmas.{proper_entry}
-use Rattle.ncq_core.proofs.EntryLemmas.{request_is_its_issue}
-use Rattle.ncq_core.proofs.LawfulLemmas.{lawful_proper}
+use Rattle.ncq_journal.specs.Work.{Work, lba_of}
+use Rattle.ncq_journal.proofs.AnswerLemmas.{proper_entry}
+use Rattle.ncq_journal.proofs.EntryLemmas.{request_is_its_issue}
+use Rattle.ncq_journal.proofs.LawfulLemmas.{lawful_proper}
 use Rattle.sata_fis.specs.Fields.{QueuedFields}
 use Rattle.sata_fis.specs.Layout.{d2h_at}
-use Rattle.ncq_core.specs.Owed.{owed, owed_in}
-use Rattle.ncq_core.specs.Tags.{in_device}
+use Rattle.ncq_journal.specs.Owed.{owed, owed_in}
+use Rattle.ncq_journal.specs.Tags.{in_device}
 use Rattle.sata_fis.specs.declared.fis.Fis.TheVariants.{D2h}
 use Rattle.sata_fis.specs.Spelling.{Spells}
 use Rattle.ahci_port.specs.Standing.{last_failure}
@@ -46,7 +46,7 @@ use Rattle.ahci_port.proofs.CommandLemmas.{verdict_of}
 use Rattle.ahci_port.proofs.FailingLemmas.{keeps_fail}
 use Rattle.ahci_port.proofs.RegisterLemmas.{tracks_refuse}
 use Rattle.ahci_port.proofs.SetLemmas.{own, other}
-use Rattle.ncq_core.proofs.TagLemmas.{sum_one}
+use Rattle.ncq_journal.proofs.TagLemmas.{sum_one}
 use Rattle.ahci_port.proofs.WorkLemmas.{IsSized, past_end, op_lba}
 
 -- the FIS that answers a queued command whose tag is free in the disk, and the disk after it

@@ -4,10 +4,10 @@ use Rattle.ahci_table.specs.Command.{op, queued_of}
 use Rattle.ahci_table.specs.Text.{text}
 use Rattle.ahci_table.specs.Window.{WindowState}
 use Rattle.ncq_core.specs.DiskState.{DiskState, disk_sectors}
-use Rattle.ncq_core.specs.Image.{is_write}
-use Rattle.ncq_core.specs.Lawful.{end_of}
+use Rattle.ncq_journal.specs.Image.{is_write}
+use Rattle.ncq_journal.specs.Lawful.{end_of}
 use Rattle.ncq_core.specs.Verdict.{is_past_end}
-use Rattle.ncq_core.specs.Work.{Read, Write, lba_of, sectors_of}
+use Rattle.ncq_journal.specs.Work.{Read, Write, lba_of, sectors_of}
 
 -- the text has as many bytes as the command's sectors
 abbrev pub IsSized : WindowState → Type 0

@@ -4,12 +4,12 @@ use Rattle.std.specs.Prelude.{◌≡◌, ◌≢◌, ℕ, ◌<◌, ◌≤◌, Boo
 use Rattle.ahci_table.specs.declared.fault.TableFault.TheVariants as table
 use Rattle.ahci_table.specs.Fit.{IsFit, Breaks}
 use Rattle.ahci_table.specs.Window.{WindowState}
-use Rattle.ncq_core.specs.declared.phase.Phase.{Phase}
-use Rattle.ncq_core.specs.declared.phase.Phase.TheVariants.{Free, Issued, Accepted, Held, Done}
-use Rattle.ncq_core.specs.Halted.{halted, busy}
-use Rattle.ncq_core.specs.Image.{covers}
-use Rattle.ncq_core.specs.Phase.{phase}
-use Rattle.ncq_core.specs.Request.{Request, request}
+use Rattle.ncq_journal.specs.declared.phase.Phase.{Phase}
+use Rattle.ncq_journal.specs.declared.phase.Phase.TheVariants.{Free, Issued, Accepted, Held, Done}
+use Rattle.ncq_journal.specs.Halted.{halted, busy}
+use Rattle.ncq_journal.specs.Image.{covers}
+use Rattle.ncq_journal.specs.Phase.{phase}
+use Rattle.ncq_journal.specs.Request.{Request, request}
 use Rattle.ahci_port.specs.PortView.{PortView, is_free}
 use Rattle.ahci_port.specs.declared.fault.IssueFault.{IssueFault}
 use Rattle.ahci_port.specs.declared.fault.IssueFault.TheVariants as issue

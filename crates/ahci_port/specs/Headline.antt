@@ -4,17 +4,17 @@ use Rattle.ahci_table.specs.Command.{op}
 use Rattle.ahci_table.specs.Fit.{IsFit}
 use Rattle.ahci_table.specs.Text.{text}
 use Rattle.ahci_table.specs.Window.{WindowState}
-use Rattle.ncq_core.specs.declared.outcome.Outcome.{Outcome}
-use Rattle.ncq_core.specs.declared.outcome.Outcome.TheVariants as outcome
-use Rattle.ncq_core.specs.declared.phase.Phase.TheVariants.{Free, Done}
-use Rattle.ncq_core.specs.Answer.{answer}
-use Rattle.ncq_core.specs.Entry.{Entry}
-use Rattle.ncq_core.specs.Image.{sector_at}
-use Rattle.ncq_core.specs.Lawful.{IsLawful}
-use Rattle.ncq_core.specs.Phase.{phase}
-use Rattle.ncq_core.specs.Request.{Request, request}
-use Rattle.ncq_core.specs.Sector.{sector}
-use Rattle.ncq_core.specs.Tags.{sact, ci, device_tags}
+use Rattle.ncq_journal.specs.declared.outcome.Outcome.{Outcome}
+use Rattle.ncq_journal.specs.declared.outcome.Outcome.TheVariants as outcome
+use Rattle.ncq_journal.specs.declared.phase.Phase.TheVariants.{Free, Done}
+use Rattle.ncq_journal.specs.Answer.{answer}
+use Rattle.ncq_journal.specs.Entry.{Entry}
+use Rattle.ncq_journal.specs.Image.{sector_at}
+use Rattle.ncq_journal.specs.Lawful.{IsLawful}
+use Rattle.ncq_journal.specs.Phase.{phase}
+use Rattle.ncq_journal.specs.Request.{Request, request}
+use Rattle.ncq_journal.specs.Sector.{sector}
+use Rattle.ncq_journal.specs.Tags.{sact, ci, device_tags}
 use Rattle.ahci_port.specs.PortView.{PortView, sectors_in, window_at}
 use Rattle.ahci_port.specs.Standing.{standing}
 

@@ -3,18 +3,18 @@ use Rattle.std.specs.Prelude.{◌≡◌, ◌≢◌, ℕ, ◌*◌, ◌/◌, ◌�
 use Rattle.ahci_regs.specs.PortState.{PortState}
 use Rattle.ahci_table.specs.Command.{op}
 use Rattle.ahci_table.specs.Fit.{IsFit}
-use Rattle.ncq_core.specs.declared.phase.Phase.TheVariants.{Free}
-use Rattle.ncq_core.specs.Answer.{answer}
+use Rattle.ncq_journal.specs.declared.phase.Phase.TheVariants.{Free}
+use Rattle.ncq_journal.specs.Answer.{answer}
 use Rattle.ncq_core.specs.DiskState.{DiskState, command_of}
-use Rattle.ncq_core.specs.Entry.{Entry}
-use Rattle.ncq_core.specs.Halted.{halted}
-use Rattle.ncq_core.specs.Image.{sector_at, is_write}
-use Rattle.ncq_core.specs.Lawful.{IsLawful}
-use Rattle.ncq_core.specs.Owed.{owed}
-use Rattle.ncq_core.specs.Phase.{phase}
-use Rattle.ncq_core.specs.Request.{request}
-use Rattle.ncq_core.specs.Sector.{sector}
-use Rattle.ncq_core.specs.Work.{Work, lba_of, sectors_of}
+use Rattle.ncq_journal.specs.Entry.{Entry}
+use Rattle.ncq_journal.specs.Halted.{halted}
+use Rattle.ncq_journal.specs.Image.{sector_at, is_write}
+use Rattle.ncq_journal.specs.Lawful.{IsLawful}
+use Rattle.ncq_journal.specs.Owed.{owed}
+use Rattle.ncq_journal.specs.Phase.{phase}
+use Rattle.ncq_journal.specs.Request.{request}
+use Rattle.ncq_journal.specs.Sector.{sector}
+use Rattle.ncq_journal.specs.Work.{Work, lba_of, sectors_of}
 use Rattle.ahci_port.specs.Slots.{SlotState, answer_in, outstanding_in}
 use Rattle.ahci_port.specs.Standing.{standing}
 use Rattle.ahci_port.specs.Tracking.{Tracks}

@@ -3,14 +3,14 @@ use Rattle.std.specs.Prelude.{◌≡◌, ℕ, Bool, true, false, nat_eq, if◌th
 use Rattle.ahci_table.specs.Command.{cfis, queued_of}
 use Rattle.ahci_table.specs.Fit.{IsFit}
 use Rattle.ahci_table.specs.Window.{WindowState}
-use Rattle.ncq_core.specs.declared.outcome.Outcome.{Outcome}
-use Rattle.ncq_core.specs.declared.outcome.Outcome.TheVariants as outcome
-use Rattle.ncq_core.specs.declared.phase.Phase.TheVariants as phase
+use Rattle.ncq_journal.specs.declared.outcome.Outcome.{Outcome}
+use Rattle.ncq_journal.specs.declared.outcome.Outcome.TheVariants as outcome
+use Rattle.ncq_journal.specs.declared.phase.Phase.TheVariants as phase
 use Rattle.ncq_core.specs.declared.serve_fault.ServeFault.{ServeFault}
 use Rattle.ncq_core.specs.declared.serve_fault.ServeFault.TheVariants as serve_fault
 use Rattle.ncq_core.specs.declared.taken.Taken.{Taken}
 use Rattle.ncq_core.specs.declared.taken.Taken.TheVariants as taken
-use Rattle.ncq_core.specs.Entry.{Entry, Accept, Fail}
+use Rattle.ncq_journal.specs.Entry.{Entry, Accept, Fail}
 use Rattle.ahci_table.specs.declared.fault.TableFault.{TableFault}
 use Rattle.ahci_table.specs.declared.fault.TableFault.TheVariants as table
 use Rattle.sata_fis.specs.Fields.{QueuedFields}
@@ -20,7 +20,7 @@ use Rattle.ahci_regs.specs.Receiving.{has_error}
 use Rattle.sata_fis.specs.Layout.{d2h_at}
 use Rattle.ahci_port.specs.declared.step.Stepped.{Stepped}
 use Rattle.ahci_port.specs.declared.step.Stepped.TheVariants.{Accepted, Failed}
-use Rattle.ncq_core.specs.Phase.{failed, recovered}
+use Rattle.ncq_journal.specs.Phase.{failed, recovered}
 use Rattle.ahci_port.specs.declared.fault.StepFault.{StepFault}
 use Rattle.ahci_port.specs.declared.fault.StepFault.TheVariants.{Halted, NotAccepted, OutsideCommand}
 use Rattle.ahci_port.specs.Faults.{is_done}

@@ -4,15 +4,15 @@ use Rattle.std.specs.Option.{option_map}
 use Rattle.ahci_table.specs.Command.{queued_of}
 use Rattle.ahci_table.specs.Text.{text}
 use Rattle.ahci_table.specs.Window.{WindowState}
-use Rattle.ncq_core.specs.declared.outcome.Outcome.{Outcome}
-use Rattle.ncq_core.specs.declared.outcome.Outcome.TheVariants as outcome
-use Rattle.ncq_core.specs.declared.phase.Phase.{Phase}
-use Rattle.ncq_core.specs.declared.phase.Phase.TheVariants.{Free}
-use Rattle.ncq_core.specs.Answer.{Answer}
-use Rattle.ncq_core.specs.Tags.{in_device}
+use Rattle.ncq_journal.specs.declared.outcome.Outcome.{Outcome}
+use Rattle.ncq_journal.specs.declared.outcome.Outcome.TheVariants as outcome
+use Rattle.ncq_journal.specs.declared.phase.Phase.{Phase}
+use Rattle.ncq_journal.specs.declared.phase.Phase.TheVariants.{Free}
+use Rattle.ncq_journal.specs.Answer.{Answer}
+use Rattle.ncq_journal.specs.Tags.{in_device}
 use Rattle.ahci_regs.specs.PortState.{PortState}
 use Rattle.ncq_core.specs.DiskState.{DiskState, outstanding}
-use Rattle.ncq_core.specs.Entry.{Entry}
+use Rattle.ncq_journal.specs.Entry.{Entry}
 use Rattle.ahci_port.specs.PortView.{PortView}
 use Rattle.sata_fis.specs.Fields.{QueuedFields}
 use Rattle.ahci_port.specs.declared.ended.Ended.{Ended}

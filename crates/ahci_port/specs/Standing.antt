@@ -1,8 +1,8 @@
 -- The error that stands in the device after a journal.
 use Rattle.std.specs.Prelude.{List, [], ◌∷◌, Option, None, Some, if◌then◌else◌}
 use Rattle.ncq_core.specs.DiskState.{DiskError}
-use Rattle.ncq_core.specs.Entry.{Entry, Fail}
-use Rattle.ncq_core.specs.Halted.{halted}
+use Rattle.ncq_journal.specs.Entry.{Entry, Fail}
+use Rattle.ncq_journal.specs.Halted.{halted}
 
 -- the last Fail
 abbrev pub last_failure : List Entry → Option DiskError

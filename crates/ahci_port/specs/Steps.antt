@@ -4,13 +4,13 @@ use Rattle.std.specs.Prelude.{◌≡◌, ◌≢◌, ℕ, max, Bool, true, false,
 use Rattle.ahci_table.specs.Command.{op, queued_of}
 use Rattle.ahci_table.specs.Scatter.{IsScattered}
 use Rattle.ahci_table.specs.Window.{WindowState}
-use Rattle.ncq_core.specs.declared.plain.Plain.TheVariants as plain
-use Rattle.ncq_core.specs.Answer.{sectors_at}
+use Rattle.ncq_journal.specs.declared.plain.Plain.TheVariants as plain
+use Rattle.ncq_journal.specs.Answer.{sectors_at}
 use Rattle.ncq_core.specs.DiskFis.{accepted_bytes, not_found_bytes, flushed_bytes, pio_bytes, setup_bytes, completed_bytes, failed_bytes}
-use Rattle.ncq_core.specs.Entry.{Entry, Issue, Accept, Complete, Fail, Recover, Reissue, Collect, Unqueued}
-use Rattle.ncq_core.specs.Lawful.{end_of}
-use Rattle.ncq_core.specs.Request.{request}
-use Rattle.ncq_core.specs.Work.{Work, Read, Write, lba_of}
+use Rattle.ncq_journal.specs.Entry.{Entry, Issue, Accept, Complete, Fail, Recover, Reissue, Collect, Unqueued}
+use Rattle.ncq_journal.specs.Lawful.{end_of}
+use Rattle.ncq_journal.specs.Request.{request}
+use Rattle.ncq_journal.specs.Work.{Work, Read, Write, lba_of}
 use Rattle.ahci_port.specs.PortView.{PortView, sectors_in, window_at, put_at, setup_place, pio_place, register_place, bits_place}
 use Rattle.ahci_port.specs.Registers as registers
 use Rattle.ahci_port.specs.declared.step.DeviceStep.{DeviceStep}

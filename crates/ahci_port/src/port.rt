@@ -7,11 +7,11 @@ ghost use Rattle.std.specs.Prelude.{◌≡◌, ◌<◌, ◌≤◌, [], None, len
 ghost use Rattle.std.specs.Option.{option_map};
 ghost use Rattle.ahci_regs.specs.Reading.{read_of};
 ghost use Rattle.ncq_core.specs.DiskState.{new_fault, new_disk, IsDisk};
-ghost use Rattle.ncq_core.specs.Halted.{halted};
-ghost use Rattle.ncq_core.specs.Image.{sector_at};
-ghost use Rattle.ncq_core.specs.Owed.{owed};
-ghost use Rattle.ncq_core.specs.Phase.{phase};
-ghost use Rattle.ncq_core.specs.Sector.{sector};
+ghost use Rattle.ncq_journal.specs.Halted.{halted};
+ghost use Rattle.ncq_journal.specs.Image.{sector_at};
+ghost use Rattle.ncq_journal.specs.Owed.{owed};
+ghost use Rattle.ncq_journal.specs.Phase.{phase};
+ghost use Rattle.ncq_journal.specs.Sector.{sector};
 ghost use Rattle.ahci_port.specs.Faults.{AnswersOr};
 ghost use Rattle.ahci_port.specs.Headline.{Headline};
 ghost use Rattle.ahci_port.specs.PortView.{sectors_in, new_port, owner_of};

@@ -6,7 +6,7 @@ use Rattle.std.proofs.lemmas.Grind.{flat_map-append}
 use Rattle.std.proofs.lemmas.List.{append_assoc, take_more, append-nil, length-append, length-replicate, drop_all, take_at, drop-replicate, take-replicate, replicate-append-replicate, get_or-replicate, get_or_past, get_or-append_right}
 use Rattle.sata_fis.specs.Command.{h2d_for}
 use Rattle.sata_fis.specs.Encoding.{h2d_bytes}
-use Rattle.ncq_core.specs.Work.{Work, sectors_of}
+use Rattle.ncq_journal.specs.Work.{Work, sectors_of}
 use Rattle.ahci_table.specs.declared.piece.Piece.{Piece}
 use Rattle.ahci_table.specs.Build.{IsBuilt, data_for, entry_for, header_for, queued_for, table_for}
 use Rattle.ahci_table.specs.Piece.{end_of, furthest, total}

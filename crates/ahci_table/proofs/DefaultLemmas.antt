@@ -8,7 +8,7 @@ use Rattle.ahci_table.specs.Piece.{are_apart, end_of, is_apart, total}
 use Rattle.ahci_table.specs.Prdt.{entry_place}
 use Rattle.ahci_table.specs.Refusal.{has_bad_count, is_odd, is_outside, is_ragged, list_refusal}
 use Rattle.ahci_table.specs.declared.piece.Piece.{Piece}
-use Rattle.ncq_core.specs.Work.{Work, sectors_of}
+use Rattle.ncq_journal.specs.Work.{Work, sectors_of}
 
 pieces_from : ℕ → ℕ → ℕ → List Piece
 pieces_from n s k = map (default_piece n) (range_with_len s k)

@@ -12,9 +12,9 @@ use Rattle.sata_fis.specs.Encoding.{h2d_bytes}
 use Rattle.sata_fis.specs.Command.{asked_by, h2d_for, is_queued}
 use Rattle.sata_fis.proofs.FieldLemmas.{two_bytes, four_bytes}
 use Rattle.sata_fis.proofs.SpellingLemmas.{h2d_at-h2d_bytes}
-use Rattle.ncq_core.specs.Image.{is_write}
-use Rattle.ncq_core.specs.Lawful.{most_sectors}
-use Rattle.ncq_core.specs.Work.{Work, Read, Write, lba_of, sectors_of}
+use Rattle.ncq_journal.specs.Image.{is_write}
+use Rattle.ncq_journal.specs.Lawful.{most_sectors}
+use Rattle.ncq_journal.specs.Work.{Work, Read, Write, lba_of, sectors_of}
 use Rattle.ahci_table.specs.declared.piece.Piece.{Piece}
 use Rattle.ahci_table.specs.Build.{IsBuilt, Carries, dword, data_for, entry_for, header_for, queued_for}
 use Rattle.ahci_table.specs.Command.{cfis, h2d, queued_of}

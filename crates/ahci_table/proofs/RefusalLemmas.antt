@@ -2,8 +2,8 @@
 use Rattle.std.proofs.Common.{◌≡◌, ℕ, ◌*◌, ◌%◌, ◌^◌, ◌<◌, ◌≤◌, ◌≢◌, zero, suc, Bool, true, false, not, cond, ◌||◌, nat_eq, ltb, leb, eq-eqb, inl, inr, List, [], ◌∷◌, length, Option, Some, None, ap, sym, refl, ◌∙◌, arith}
 use Rattle.std.specs.List.{All, list_any}
 use Rattle.std.proofs.lemmas.Bool.{cases_lt, or_parts, eqb-true, lt-ltb, le-leb, false≢true}
-use Rattle.ncq_core.specs.Lawful.{most_sectors}
-use Rattle.ncq_core.specs.Work.{Work, lba_of, sectors_of}
+use Rattle.ncq_journal.specs.Lawful.{most_sectors}
+use Rattle.ncq_journal.specs.Work.{Work, lba_of, sectors_of}
 use Rattle.ahci_table.specs.declared.piece.Piece.{Piece}
 use Rattle.ahci_table.specs.declared.fault.BuildFault.{BuildFault}
 use Rattle.ahci_table.specs.declared.fault.BuildFault.TheVariants.{BadCount, BadLba, NoPieces, TooManyPieces, OddPiece, PieceOutside, PiecesOverlap, WrongTotal}

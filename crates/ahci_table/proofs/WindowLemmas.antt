@@ -9,7 +9,7 @@ use Rattle.sata_fis.specs.Layout.{h2d_at}
 use Rattle.sata_fis.specs.Spelling.{Spells}
 use Rattle.sata_fis.specs.Command.{is_queued, asked_by}
 use Rattle.sata_fis.specs.declared.fis.Fis.TheVariants.{H2d}
-use Rattle.ncq_core.specs.Lawful.{most_sectors}
+use Rattle.ncq_journal.specs.Lawful.{most_sectors}
 use Rattle.ahci_table.specs.declared.piece.Piece.{Piece}
 use Rattle.ahci_table.specs.Piece.{end_of, covers, are_apart, total}
 use Rattle.ahci_table.specs.Window.{WindowState, base, most_bytes}

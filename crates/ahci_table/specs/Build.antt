@@ -7,8 +7,8 @@ use Rattle.sata_fis.specs.Command.{h2d_for}
 use Rattle.sata_fis.specs.Encoding.{h2d_bytes}
 use Rattle.sata_fis.specs.Fields.{QueuedFields}
 use Rattle.sata_fis.specs.Places.{byte}
-use Rattle.ncq_core.specs.Image.{is_write}
-use Rattle.ncq_core.specs.Work.{Work, Read, Write, lba_of, sectors_of}
+use Rattle.ncq_journal.specs.Image.{is_write}
+use Rattle.ncq_journal.specs.Work.{Work, Read, Write, lba_of, sectors_of}
 use Rattle.ahci_table.specs.declared.piece.Piece.{Piece}
 use Rattle.ahci_table.specs.Piece.{furthest}
 use Rattle.ahci_table.specs.Window.{WindowState, base}

@@ -4,7 +4,7 @@ use Rattle.std.specs.Prelude.{List, ℕ, take, if◌then◌else◌}
 use Rattle.sata_fis.specs.Fields.{H2dFields, QueuedFields}
 use Rattle.sata_fis.specs.Layout.{h2d_at}
 use Rattle.sata_fis.specs.Command.{asked_by}
-use Rattle.ncq_core.specs.Work.{Work, Read, Write}
+use Rattle.ncq_journal.specs.Work.{Work, Read, Write}
 use Rattle.ahci_table.specs.Window.{WindowState}
 use Rattle.ahci_table.specs.Text.{text}
 

@@ -2,7 +2,7 @@
 -- from 1000h on, the last as long as it has to be.
 use Rattle.std.specs.Prelude.{ℕ, ◌+◌, ◌-◌, ◌*◌, ◌/◌, min, nat_le, List, [], map, if◌then◌else◌}
 use Rattle.std.specs.List.{range_with_len}
-use Rattle.ncq_core.specs.Lawful.{most_sectors}
+use Rattle.ncq_journal.specs.Lawful.{most_sectors}
 use Rattle.ahci_table.specs.declared.piece.Piece.{Piece}
 
 -- piece i of a command with so many sectors

@@ -3,7 +3,7 @@ use Rattle.std.specs.Prelude.{◌≡◌, ◌≤◌, ◌<◌, ℕ, ◌+◌, ◌*�
 use Rattle.sata_fis.specs.declared.fis.Fis.TheVariants.{H2d}
 use Rattle.sata_fis.specs.Command.{is_queued}
 use Rattle.sata_fis.specs.Spelling.{Spells}
-use Rattle.ncq_core.specs.Lawful.{most_sectors}
+use Rattle.ncq_journal.specs.Lawful.{most_sectors}
 use Rattle.ahci_table.specs.declared.fault.TableFault.{TableFault}
 use Rattle.ahci_table.specs.declared.fault.TableFault.TheVariants.{BadHeader, BadCommand, WrongTag, TooLong, BadList}
 use Rattle.ahci_table.specs.Piece.{are_apart, total}

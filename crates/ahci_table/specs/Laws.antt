@@ -1,6 +1,6 @@
 -- Laws of windows, over the definitions alone.
 use Rattle.std.specs.Prelude.{◌≡◌, ◌≤◌, ◌<◌, ℕ, ◌+◌, ◌*◌, ◌⊎◌, List, false, length, take, drop, None, Result, Ok, Err, IsOkAnd}
-use Rattle.ncq_core.specs.Work.{Work, sectors_of}
+use Rattle.ncq_journal.specs.Work.{Work, sectors_of}
 use Rattle.ahci_table.specs.declared.command.Command.{Command}
 use Rattle.ahci_table.specs.declared.fault.TableFault.{TableFault}
 use Rattle.ahci_table.specs.declared.piece.Piece.{Piece}

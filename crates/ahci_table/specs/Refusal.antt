@@ -1,8 +1,8 @@
 -- Why no window is built for a command with a list of pieces: the first of eight cases, in this order (profile).
 use Rattle.std.specs.Prelude.{ℕ, ◌*◌, ◌%◌, ◌^◌, Bool, false, ◌||◌, not, nat_eq, nat_le, nat_lt, List, length, Option, Some, None, if◌then◌else◌}
 use Rattle.std.specs.List.{list_any}
-use Rattle.ncq_core.specs.Lawful.{most_sectors}
-use Rattle.ncq_core.specs.Work.{Work, Read, Write, lba_of, sectors_of}
+use Rattle.ncq_journal.specs.Lawful.{most_sectors}
+use Rattle.ncq_journal.specs.Work.{Work, Read, Write, lba_of, sectors_of}
 use Rattle.ahci_table.specs.declared.piece.Piece.{Piece}
 use Rattle.ahci_table.specs.declared.fault.BuildFault.{BuildFault}
 use Rattle.ahci_table.specs.declared.fault.BuildFault.TheVariants.{BadCount, BadLba, NoPieces, TooManyPieces, OddPiece, PieceOutside, PiecesOverlap, WrongTotal}

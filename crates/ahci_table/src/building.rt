@@ -2,8 +2,8 @@ ghost use Rattle.std.specs.Prelude.{◌≡◌, ◌<◌, ◌≤◌, ◌+◌, ◌-
 ghost use Rattle.std.specs.List.{All, flat_map};
 ghost use Rattle.sata_fis.specs.Command.{h2d_for};
 ghost use Rattle.sata_fis.specs.Encoding.{h2d_bytes};
-ghost use Rattle.ncq_core.specs.Image.{is_write};
-ghost use Rattle.ncq_core.specs.Work.{work_of, lba_of, sectors_of};
+ghost use Rattle.ncq_journal.specs.Image.{is_write};
+ghost use Rattle.ncq_journal.specs.Work.{work_of, lba_of, sectors_of};
 ghost use Rattle.ahci_table.specs.Build.{IsBuilt, Carries, data_for, header_for, entry_for, table_for, queued_for};
 ghost use Rattle.ahci_table.specs.Fit.{IsFit};
 ghost use Rattle.ahci_table.specs.Piece.{are_apart, end_of, furthest};

@@ -2,7 +2,7 @@
 
 ghost use Rattle.std.specs.Prelude.{◌≡◌, ◌<◌, ◌≤◌, ◌^◌, length};
 ghost use Rattle.std.specs.List.{list_any};
-ghost use Rattle.ncq_core.specs.Work.{work_of};
+ghost use Rattle.ncq_journal.specs.Work.{work_of};
 ghost use Rattle.ahci_table.specs.Refusal.{has_bad_count, is_ragged, is_odd, is_outside, list_refusal, refusal};
 
 use crate::defaults::MOST_SECTORS;

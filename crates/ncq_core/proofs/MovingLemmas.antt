@@ -6,9 +6,9 @@ use Rattle.std.proofs.Math.Seq.{take-add}
 use Rattle.std.specs.List.{replace_range, slice_range}
 use borrow.Rule.Slice.PartMut.{put_mid, post_of}
 use Rattle.sata_fis.specs.Fields.{QueuedFields}
-use Rattle.ncq_core.specs.Image.{IsWrittenOver}
+use Rattle.ncq_journal.specs.Image.{IsWrittenOver}
 use Rattle.ncq_core.specs.Serving.{IsRead, IsWritten, byte_count, bytes_at}
-use Rattle.ncq_core.proofs.ImageLemmas.{sector_at-put_mid}
+use Rattle.ncq_journal.proofs.ImageLemmas.{sector_at-put_mid}
 
 -- the first part of the text after n bytes more, where the host had put the bytes before them at its beginning
 pub delivered_more : (bytes before after : List ℕ) (done end n : ℕ) → end ≡ done + n → end ≤ length bytes → after ≡ take done bytes ++ drop done before

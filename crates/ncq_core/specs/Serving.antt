@@ -5,7 +5,7 @@ use Rattle.sata_fis.specs.Fields.{QueuedFields}
 use Rattle.ncq_core.specs.declared.serve_fault.ServeFault.{ServeFault}
 use Rattle.ncq_core.specs.declared.serve_fault.ServeFault.TheVariants.{Stopped, NotAccepted, OutsideCommand}
 use Rattle.ncq_core.specs.DiskState.{DiskState, command_of, is_stopped}
-use Rattle.ncq_core.specs.Image.{IsWrittenOver}
+use Rattle.ncq_journal.specs.Image.{IsWrittenOver}
 
 -- why a tag's command is not served: an error stands, or no command is outstanding at the tag
 abbrev pub serve_fault : DiskState → ℕ → Option ServeFault

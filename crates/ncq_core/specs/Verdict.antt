@@ -6,8 +6,8 @@ use Rattle.sata_fis.specs.Places.{byte}
 use Rattle.sata_fis.specs.Layout.{h2d_at}
 use Rattle.sata_fis.specs.Fields.{H2dFields, QueuedFields}
 use Rattle.sata_fis.specs.Command.{queued_in}
-use Rattle.ncq_core.specs.declared.plain.Plain.{Plain}
-use Rattle.ncq_core.specs.declared.plain.Plain.TheVariants as plain
+use Rattle.ncq_journal.specs.declared.plain.Plain.{Plain}
+use Rattle.ncq_journal.specs.declared.plain.Plain.TheVariants as plain
 use Rattle.ncq_core.specs.declared.taken.Taken.{Taken}
 use Rattle.ncq_core.specs.declared.taken.Taken.TheVariants.{Accepted, Refused}
 use Rattle.ncq_core.specs.declared.taken.Taken.TheVariants as taken

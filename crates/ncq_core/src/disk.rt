@@ -10,7 +10,7 @@ mod tests;
 
 ghost use Rattle.std.specs.Prelude.{◌≡◌, ◌<◌, ◌^◌, None, Some, length, IfOk, IfErr};
 ghost use Rattle.word_bits.specs.Places.{bits};
-ghost use Rattle.ncq_core.specs.Image.{sector_at};
+ghost use Rattle.ncq_journal.specs.Image.{sector_at};
 ghost use Rattle.ncq_core.specs.DiskState.{IsDisk, disk_sectors, command_of, outstanding, is_stopped, new_disk, new_fault, no_commands};
 ghost use Rattle.ncq_core.specs.DiskFis.{pio_bytes, flushed_bytes};
 ghost use Rattle.ncq_core.specs.Verdict.{stopped_by};
@@ -19,7 +19,7 @@ ghost use Rattle.ncq_core.specs.Identify.{identify_page};
 use crate::disk::error::DiskError;
 use crate::disk::identify::identify_page;
 use crate::disk_fault::DiskFault;
-use crate::sector::read_sectors;
+use ncq_journal::read_sectors;
 use sata_fis::Queued;
 use std::alloc::{Allocator, Global};
 use std::marker::Model;
@@ -94,7 +94,7 @@ impl<A: Allocator> Disk<A> {
     }
 
     /// The word with the bit of each tag at which a command is outstanding.
-    #[tactic(auto, using(crate::proofs::SetLemmas::among_none, crate::proofs::SetLemmas::among_with, crate::proofs::SetLemmas::among_without))]
+    #[tactic(auto, using(ncq_journal::proofs::SetLemmas::among_none, ncq_journal::proofs::SetLemmas::among_with, ncq_journal::proofs::SetLemmas::among_without))]
     pub fn tags(&self) -> u32
         ensures { bits result ≡ outstanding self.now }
     {

@@ -1,49 +1,21 @@
-//! The journal of one AHCI port and what it means: commands, events, the phase of a tag, and the image that
-//! a journal leaves. The plain functions compute each definition by scanning, slowly; faster code is compared
-//! with them. Beside them stands the queueing disk, which takes commands by their FISes and moves their data between
-//! its image and a host.
+//! The queueing disk, which takes commands by their FISes and moves their data between its image and a host. Beside it
+//! stands everything of `ncq_journal`, under the same names: a user of the disk needs no other crate for the journal.
 #![tactic(auto)]
 
-mod answer;
-mod bytes;
 mod disk;
 mod disk_fault;
-mod event;
-mod halted;
 mod host;
-mod journal;
-mod lawful;
 pub mod laws;
-mod op;
-mod outcome;
-mod owed;
-mod phase;
-mod plain;
-mod request;
-mod sector;
 mod serve_fault;
-mod tags;
 mod taken;
 
-pub use answer::{Answer, answer_of};
-pub use bytes::Bytes;
 pub use disk::Disk;
 pub use disk_fault::DiskFault;
-pub use event::Event;
-pub use halted::{is_busy, is_halted};
 pub use host::Host;
-pub use journal::{Journal, entry_in};
-pub use lawful::{is_allowed, is_lawful, is_proper};
-pub use op::Op;
-pub use outcome::Outcome;
-pub use owed::owed_by;
-pub use phase::{Phase, phase_of};
-pub use plain::Plain;
-pub use request::{Request, request_of};
-pub use sector::{is_covered, read_sectors, sector_in, sector_of, write_sectors};
+pub use ncq_journal::{
+    Answer, Bytes, Event, Journal, Op, Outcome, Phase, Plain, Request, answer_of, ci_of,
+    device_tags_of, entry_in, is_allowed, is_busy, is_covered, is_halted, is_lawful, is_proper,
+    owed_by, phase_of, read_sectors, request_of, sact_of, sector_in, sector_of, write_sectors,
+};
 pub use serve_fault::ServeFault;
-pub use tags::{ci_of, device_tags_of, sact_of};
 pub use taken::Taken;
-
-#[cfg(test)]
-mod tests;

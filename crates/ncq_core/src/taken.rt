@@ -1,4 +1,4 @@
-use crate::plain::Plain;
+use ncq_journal::Plain;
 
 /// What the disk answers to the bytes of a command.
 #[derive(Clone, Copy, Debug, PartialEq, Eq)]

@@ -1,7 +1,7 @@
 //! How requests end: their answers are collected, and held commands are issued again.
 
 ghost use Rattle.std.specs.Prelude.{◌≡◌, Some, IfOk, OnOk, OnErr};
-ghost use Rattle.ncq_core.specs.Answer.{answer};
+ghost use Rattle.ncq_journal.specs.Answer.{answer};
 ghost use Rattle.ahci_table.specs.Fit.{IsFit};
 ghost use Rattle.ahci_port.specs.Faults.{Answers, collect_refusal, reissue_refusal};
 ghost use Rattle.ahci_port.specs.PortView.{window_at};

@@ -3,8 +3,8 @@
 ghost use Rattle.std.specs.Prelude.{◌≡◌, length, IfOk, IfErr, OnOk};
 ghost use Rattle.ahci_table.specs.Command.{op, queued_of};
 ghost use Rattle.ahci_table.specs.Fit.{IsFit};
-ghost use Rattle.ncq_core.specs.Lawful.{IsProper};
-ghost use Rattle.ncq_core.specs.Work.{work_of};
+ghost use Rattle.ncq_journal.specs.Lawful.{IsProper};
+ghost use Rattle.ncq_journal.specs.Work.{work_of};
 ghost use Rattle.ahci_port.specs.Faults.{RefusesIssue, MayTake, early_refusal};
 ghost use Rattle.ahci_port.specs.Moves.{issue_fault_of};
 ghost use Rattle.ahci_port.specs.Steps.{IsIssued};

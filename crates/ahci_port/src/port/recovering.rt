@@ -3,7 +3,7 @@
 
 ghost use Rattle.std.specs.Prelude.{◌≡◌, true, IfOk, IfErr, OnOk, OnErr};
 ghost use Rattle.ncq_core.specs.Identify.{identify_page};
-ghost use Rattle.ncq_core.specs.Phase.{phase, is_failed};
+ghost use Rattle.ncq_journal.specs.Phase.{phase, is_failed};
 ghost use Rattle.ahci_port.specs.Faults.{AnswersOr, recover_refusal, plain_refusal};
 ghost use Rattle.ahci_port.specs.PortView.{sectors_in};
 ghost use Rattle.ahci_port.specs.Registers.{restarted};

@@ -6,8 +6,8 @@ ghost use Rattle.ncq_core.specs.Verdict.{verdict, command_in, queued_verdict, pl
 
 use crate::disk::Disk;
 use crate::disk::answers::{IDNF, aborted, accepted, not_found};
-use crate::plain::Plain;
 use crate::taken::Taken;
+use ncq_journal::Plain;
 use sata_fis::{Fis, H2d, Queued, decode, queued};
 use std::alloc::Allocator;
 

@@ -2,7 +2,7 @@
 use Rattle.std.proofs.Common.{◌++◌, replicate}
 use Rattle.sata_fis.specs.Command.{h2d_for}
 use Rattle.sata_fis.specs.Encoding.{h2d_bytes}
-use Rattle.ncq_core.specs.Work.{work_of}
+use Rattle.ncq_journal.specs.Work.{work_of}
 use Rattle.ahci_table.specs.Build.{queued_for}
 use Rattle.ahci_table.specs.Window.{base}
 use Rattle.ahci_table.proofs.BuildLemmas.{table_more}

@@ -3,7 +3,7 @@ use Rattle.std.specs.Option.{option_map}
 use Rattle.std.proofs.lemmas.List.{get_or_read, set-set}
 use Rattle.ncq_core.specs.Serving.{fail_fault}
 use Rattle.ncq_core.specs.DiskFis.{failed_bytes}
-use Rattle.ncq_core.specs.Phase.{phase, is_busy}
+use Rattle.ncq_journal.specs.Phase.{phase, is_busy}
 use Rattle.ahci_port.specs.PortView.{put_at, bits_place}
 use Rattle.ahci_port.specs.Registers.{failed}
 use Rattle.ahci_port.specs.declared.step.Stepped.TheVariants.{Failed}

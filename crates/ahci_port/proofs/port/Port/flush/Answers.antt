@@ -1,6 +1,6 @@
 use Rattle.std.proofs.Common.{◌≡◌, ◌∙◌, true, None, cond, ap, sym, arith}
 use Rattle.ahci_regs.specs.Receiving.{after_register}
-use Rattle.ncq_core.specs.declared.plain.Plain.TheVariants.{Flush}
+use Rattle.ncq_journal.specs.declared.plain.Plain.TheVariants.{Flush}
 use Rattle.ncq_core.specs.Verdict.{verdict}
 use Rattle.sata_fis.specs.Layout.{d2h_at}
 use Rattle.ahci_port.specs.Faults.{plain_refusal}

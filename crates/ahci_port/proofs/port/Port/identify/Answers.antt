@@ -1,6 +1,6 @@
 use Rattle.std.proofs.Common.{◌≡◌, ◌∙◌, None, cond, ap, sym, arith}
 use Rattle.ahci_regs.specs.Receiving.{after_pio, after_pio_end}
-use Rattle.ncq_core.specs.declared.plain.Plain.TheVariants.{Identify}
+use Rattle.ncq_journal.specs.declared.plain.Plain.TheVariants.{Identify}
 use Rattle.ncq_core.specs.Verdict.{verdict}
 use Rattle.sata_fis.specs.Layout.{pio_setup_at}
 use Rattle.ahci_port.specs.Faults.{plain_refusal}

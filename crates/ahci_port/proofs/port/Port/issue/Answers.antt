@@ -1,8 +1,8 @@
 use Rattle.std.proofs.Common.{◌≡◌, ◌∙◌, None, Some, ◌∷◌, length, ap, sym, refl, subst, arith}
 use Rattle.std.proofs.lemmas.List.{map-set}
 use Rattle.ahci_table.specs.Command.{op, queued_of}
-use Rattle.ncq_core.specs.Entry.{Issue}
-use Rattle.ncq_core.specs.Work.{work_of}
+use Rattle.ncq_journal.specs.Entry.{Issue}
+use Rattle.ncq_journal.specs.Work.{work_of}
 use Rattle.ahci_port.specs.Faults.{MayTake, early_refusal}
 use Rattle.ahci_port.specs.Keeping.{slot_at}
 use Rattle.ahci_port.specs.Moves.{issued_slot}

@@ -1,5 +1,5 @@
 use Rattle.std.proofs.Common.{◌≡◌, ◌∙◌, true, false, ap, sym, refl}
-use Rattle.ncq_core.specs.Halted.{halted, busy}
+use Rattle.ncq_journal.specs.Halted.{halted, busy}
 use Rattle.ahci_port.proofs.QuietLemmas.{quiet_word, busy_word}
 use Rattle.ahci_port.proofs.port.Port.plain_fault.Goals as goal
 

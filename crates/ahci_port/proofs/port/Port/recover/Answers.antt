@@ -3,10 +3,10 @@ use Rattle.std.specs.Option.{option_map}
 use Rattle.std.proofs.lemmas.List.{length-map}
 use Rattle.ahci_regs.specs.Receiving.{after_pio, after_pio_end}
 use Rattle.ncq_core.specs.DiskState.{is_stopped}
-use Rattle.ncq_core.specs.Halted.{halted}
+use Rattle.ncq_journal.specs.Halted.{halted}
 use Rattle.ncq_core.specs.Log.{log_page}
 use Rattle.sata_fis.specs.Layout.{pio_setup_at}
-use Rattle.ncq_core.specs.Entry.{Recover}
+use Rattle.ncq_journal.specs.Entry.{Recover}
 use Rattle.ahci_port.specs.Slots.{window_in}
 use Rattle.ahci_port.specs.Moves.{recovered_slot}
 use Rattle.ahci_port.specs.PortView.{put_at, pio_place}

@@ -7,7 +7,7 @@ use Rattle.ahci_table.specs.Fit.{IsFit}
 use Rattle.ahci_table.specs.Text.{text}
 use Rattle.ahci_regs.specs.Receiving.{after_bits}
 use Rattle.ncq_core.specs.DiskFis.{completed_bytes, setup_bytes}
-use Rattle.ncq_core.specs.Entry.{Complete}
+use Rattle.ncq_journal.specs.Entry.{Complete}
 use Rattle.ncq_core.specs.Serving.{HasMoved, served}
 use Rattle.sata_fis.specs.declared.fis.Fis.TheVariants.{SetBits}
 use Rattle.sata_fis.specs.Layout.{set_bits_at}

@@ -1,6 +1,6 @@
 -- The window that is written is fit, and carries what was asked.
 use Rattle.std.proofs.Common.{sym, ◌∙◌}
-use Rattle.ncq_core.specs.Work.{work_of}
+use Rattle.ncq_journal.specs.Work.{work_of}
 use Rattle.ahci_table.proofs.FitLemmas.{fit_built, carries_built}
 use Rattle.ahci_table.proofs.RefusalLemmas.{free_from}
 use Rattle.ahci_table.proofs.window.Window.build.Goals as goal

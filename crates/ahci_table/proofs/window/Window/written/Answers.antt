@@ -1,7 +1,7 @@
 -- The table ends where the pieces end, or before; the bytes behind it are zeros until a write's data are copied in.
 use Rattle.std.proofs.Common.{◌≡◌, ◌≤◌, length, ap, ◌∙◌}
 use Rattle.std.proofs.lemmas.List.{with_items_is}
-use Rattle.ncq_core.specs.Work.{work_of}
+use Rattle.ncq_journal.specs.Work.{work_of}
 use Rattle.ahci_table.specs.Piece.{furthest}
 use Rattle.ahci_table.specs.Prdt.{entry_place}
 use Rattle.ahci_table.specs.Text.{joined}

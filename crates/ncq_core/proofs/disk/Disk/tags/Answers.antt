@@ -1,7 +1,7 @@
 use Rattle.std.proofs.Common.{◌≡◌, ℕ, None, get_or, ap, ◌∙◌, arith}
 use Rattle.std.specs.Option.{is_some}
 use Rattle.ncq_core.specs.DiskState.{outstanding}
-use Rattle.ncq_core.proofs.SetLemmas.{among, among_all}
+use Rattle.ncq_journal.proofs.SetLemmas.{among, among_all}
 use Rattle.ncq_core.proofs.DiskLemmas.{places-commands}
 use Rattle.ncq_core.proofs.disk.Disk.tags.Goals as goal
 

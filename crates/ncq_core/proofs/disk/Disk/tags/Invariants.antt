@@ -2,7 +2,7 @@
 use Rattle.std.proofs.Common.{◌≡◌, None, get_or}
 use Rattle.std.specs.Option.{is_some}
 use Rattle.word_bits.specs.Places.{bits}
-use Rattle.ncq_core.proofs.SetLemmas.{among}
+use Rattle.ncq_journal.proofs.SetLemmas.{among}
 use Rattle.ncq_core.proofs.disk.Disk.tags.Given as goal
 
 abbrev pub invariant-loop-tag : goal.invariant-loop-tag

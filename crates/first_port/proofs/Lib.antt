@@ -1,3 +1,0 @@
-pub mod KeepingLemmas
-pub mod ServingLemmas
-pub mod CollectingLemmas

@@ -1,8 +1,0 @@
-use Rattle.std.proofs.Common.{refl, arith}
-use Rattle.ncq_core.proofs.PhaseLemmas.{free_past_depth}
-use Rattle.first_port.proofs.first_port.FirstPort.accept_fault.Goals as goal
-
-pub returns-then-from-self : goal.returns-then-from-self
-returns-then-from-self g c =
-    let free = free_past_depth _ c.self.inside.depth c.self.inside.journal.past c.args.tag c.self.invariant.lawful (omega arith) in
-    rw (← c.self.view_is) (rw free refl)

@@ -1,3 +1,0 @@
-pub mod First
-pub mod Keeping
-pub mod Moves

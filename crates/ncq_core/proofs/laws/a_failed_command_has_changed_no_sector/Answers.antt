@@ -1,5 +1,0 @@
-use Rattle.ncq_core.proofs.AnsweredLemmas.{completed_is_answered}
-use Rattle.ncq_core.proofs.laws.a_failed_command_has_changed_no_sector.Goals as goal
-
-pub returns : goal.returns
-returns c = completed_is_answered

@@ -1,5 +1,0 @@
-use Rattle.ncq_core.proofs.EntryLemmas.{lawful_at_each}
-use Rattle.ncq_core.proofs.laws.a_journal_is_lawful_at_each_entry.Goals as goal
-
-pub returns : goal.returns
-returns c = lawful_at_each

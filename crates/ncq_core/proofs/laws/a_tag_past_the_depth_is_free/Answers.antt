@@ -1,5 +1,0 @@
-use Rattle.ncq_core.proofs.PhaseLemmas.{free_past_depth}
-use Rattle.ncq_core.proofs.laws.a_tag_past_the_depth_is_free.Goals as goal
-
-pub returns : goal.returns
-returns c = free_past_depth

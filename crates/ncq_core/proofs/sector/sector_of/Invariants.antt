@@ -1,8 +1,0 @@
--- the bytes so far are those after the events so far
-use Rattle.std.proofs.Common.{◌≡◌, take}
-use Rattle.ncq_core.specs.History.{history_of}
-use Rattle.ncq_core.specs.Sector.{sector}
-use Rattle.ncq_core.proofs.sector.sector_of.Given as goal
-
-abbrev pub invariant-loop-number : goal.invariant-loop-number
-invariant-loop-number g l = l.bytes ≡ sector l.image (history_of (take l.number l.events)) l.lba

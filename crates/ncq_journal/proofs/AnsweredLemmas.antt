@@ -1,0 +1,146 @@
+-- When a request has its answer, and what a Complete answers.
+use Rattle.std.proofs.Common.{◌≡◌, ◌≢◌, ℕ, ◌<◌, ◌≤◌, Bool, true, false, cond, ◌==◌, List, [], ◌∷◌, length, ap, sym, refl, subst, ◌∙◌, Option, None, Some, is_some, IsSomeAnd, arith, inl, inr, suc}
+use Rattle.std.specs.Option.{option_or}
+use Rattle.std.proofs.lemmas.Bool.{eqb-false, eq-eqb, cond-true}
+use Rattle.std.proofs.lemmas.Option.{same_Some}
+use Rattle.ncq_journal.specs.declared.outcome.Outcome.TheVariants as outcome
+use Rattle.ncq_journal.specs.declared.phase.Phase.{Phase}
+use Rattle.ncq_journal.specs.declared.phase.Phase.TheVariants.{Free, Issued, Accepted, Rejected, Broken, Held, Done}
+use Rattle.ncq_journal.specs.Answer.{Answer, answer, given, completes}
+use Rattle.ncq_journal.specs.Entry.{Entry, Issue, Accept, Complete, Fail, Recover, Reissue, Collect, Unqueued}
+use Rattle.ncq_journal.specs.History.{entry_at, first_of}
+use Rattle.ncq_journal.specs.Lawful.{IsLawful}
+use Rattle.ncq_journal.specs.Laws.{is_answered, AnsweredByPhase, CompletedIsAnswered, is_failure}
+use Rattle.ncq_journal.specs.Phase.{phase, failed, recovered}
+use Rattle.ncq_journal.specs.Request.{Request, request}
+use Rattle.ncq_journal.specs.Work.{Work, Read, Write}
+use Rattle.ncq_journal.proofs.EntryLemmas.{entry_at-past, entry_at-within, entry_at_cases, first_of-older, first_of-newest, request_is_its_issue}
+use Rattle.ncq_journal.proofs.PhaseLemmas.{cond_at}
+
+or-none : (o : Option Answer) → option_or o None ≡ o
+or-none None = refl
+or-none (Some a) = refl
+
+or-some : (o : Option Answer) (a : Answer) → is_some (option_or o (Some a)) ≡ true
+or-some None a = refl
+or-some (Some b) a = refl
+
+given_none : (image : List ℕ) (past : List Entry) (newest : Entry) → given image past newest None ≡ None
+given_none image past (Issue t work) = refl
+given_none image past (Accept t) = refl
+given_none image past (Complete t) = refl
+given_none image past (Fail t error lba) = refl
+given_none image past (Recover t) = refl
+given_none image past (Reissue t) = refl
+given_none image past (Collect t) = refl
+given_none image past (Unqueued command) = refl
+
+-- a request that is not yet issued has no answer
+pub no_answer_yet : (image : List ℕ) (past : List Entry) (n : ℕ) → length past ≤ n → answer image past n ≡ None
+no_answer_yet image [] n h = refl
+no_answer_yet image (newest ∷ past) n h =
+    let older = no_answer_yet image past n (let l : suc (length past) ≤ n = h in omega arith) in
+    let absent = entry_at-past past n (let l : suc (length past) ≤ n = h in omega arith) in
+    ap (λ o. option_or o (given image past newest (entry_at past n))) older ∙ ap (given image past newest) absent ∙ given_none image past newest
+
+-- an entry that answers nobody
+silent : (image : List ℕ) (past : List Entry) (n : ℕ) (newest : Entry) → given image past newest (entry_at past n) ≡ None → answer image (newest ∷ past) n ≡ answer image past n
+silent image past n newest h = ap (option_or (answer image past n)) h ∙ or-none (answer image past n)
+
+-- what an entry gives to a request whose tag it names, and to others
+gives : (t tag : ℕ) (o : Option Answer) (a : Answer) (p q : Phase) → is_answered q ≡ true → (t ≢ tag → is_some o ≡ is_answered p) → is_some (option_or o (cond (t == tag) (Some a) None)) ≡ is_answered (cond (t == tag) q p)
+gives t tag o a p q done older = by (t == tag) refl
+  where
+    by : (b : Bool) → (t == tag) ≡ b → is_some (option_or o (cond b (Some a) None)) ≡ is_answered (cond b q p)
+    by true e = or-some o a ∙ sym done
+    by false e = ap is_some (or-none o) ∙ older (eqb-false t tag e)
+
+-- an entry that moves its own tag between two phases that are both answered, or both not
+moves : (past : List Entry) (t tag : ℕ) (old new : Phase) → phase past t ≡ old → is_answered new ≡ is_answered old → is_answered (cond (t == tag) new (phase past tag)) ≡ is_answered (phase past tag)
+moves past t tag old new own same =
+    cond_at t tag new (phase past tag) (λ p. is_answered p ≡ is_answered (phase past tag)) (λ e. same ∙ ap is_answered (sym own ∙ ap (phase past) e)) (λ _. refl)
+
+answered_failed : (p : Phase) → is_answered (failed p) ≡ true
+answered_failed Free = refl
+answered_failed Issued = refl
+answered_failed Accepted = refl
+answered_failed Rejected = refl
+answered_failed Broken = refl
+answered_failed Held = refl
+answered_failed Done = refl
+
+answered_recovered : (p : Phase) → is_answered (recovered p) ≡ is_answered p
+answered_recovered Free = refl
+answered_recovered Issued = refl
+answered_recovered Accepted = refl
+answered_recovered Rejected = refl
+answered_recovered Broken = refl
+answered_recovered Held = refl
+answered_recovered Done = refl
+
+given_quiet : (image : List ℕ) (past : List Entry) (newest : Entry) (issue : Option Entry) → Type 0
+given_quiet image past newest issue = given image past newest issue ≡ None
+
+issue_answered : (b : Bool) (t tag : ℕ) (image : List ℕ) (past : List Entry) (work : Work) (r : Request) → (request past tag ≡ Some r → is_some (answer image past r.number) ≡ is_answered (phase past tag)) → cond b (Some (record { number = length past; work = work })) (request past tag) ≡ Some r → is_some (answer image past r.number) ≡ is_answered (cond b Issued (phase past tag))
+issue_answered true t tag image past work r older e =
+    let number : length past ≡ r.number = ap (λ (q : Request). q.number) (same_Some _ r e) in
+    ap is_some (no_answer_yet image past r.number (omega arith))
+issue_answered false t tag image past work r older e = older e
+
+pub answered_by_phase : AnsweredByPhase
+answered_by_phase s d image [] tag r h e = absurd (cc)
+answered_by_phase s d image (Issue t work ∷ past) tag r h e =
+    ap is_some (silent image past r.number (Issue t work) refl)
+    ∙ issue_answered (t == tag) t tag image past work r (answered_by_phase s d image past tag r h.0) e
+answered_by_phase s d image (Accept t ∷ past) tag r h e =
+    ap is_some (silent image past r.number (Accept t) refl) ∙ answered_by_phase s d image past tag r h.0 e ∙ sym (moves past t tag Issued Accepted h.1.0 refl)
+answered_by_phase s d image (Complete t ∷ past) tag r h e =
+    ap (λ i. is_some (option_or (answer image past r.number) (given image past (Complete t) i))) (request_is_its_issue past tag r e)
+    ∙ gives t tag (answer image past r.number) (completes image past r.work) (phase past tag) Done refl (λ _. answered_by_phase s d image past tag r h.0 e)
+answered_by_phase s d image (Fail t error lba ∷ past) tag r h e =
+    ap (λ i. is_some (option_or (answer image past r.number) (given image past (Fail t error lba) i))) (request_is_its_issue past tag r e)
+    ∙ gives t tag (answer image past r.number) (record { entry = length past; outcome = outcome.Failed error lba; bytes = [] }) (phase past tag) (failed (phase past tag)) (answered_failed (phase past tag)) (λ _. answered_by_phase s d image past tag r h.0 e)
+answered_by_phase s d image (Recover t ∷ past) tag r h e =
+    ap is_some (silent image past r.number (Recover t) refl) ∙ answered_by_phase s d image past tag r h.0 e ∙ sym (answered_recovered (phase past tag))
+answered_by_phase s d image (Reissue t ∷ past) tag r h e =
+    ap is_some (silent image past r.number (Reissue t) refl) ∙ answered_by_phase s d image past tag r h.0 e ∙ sym (moves past t tag Held Issued h.1.0 refl)
+answered_by_phase s d image (Collect t ∷ past) tag r h e =
+    ap is_some (silent image past r.number (Collect t) refl) ∙ answered_by_phase s d image past tag r h.0 e ∙ sym (moves past t tag Done Free h.1 refl)
+answered_by_phase s d image (Unqueued command ∷ past) tag r h e =
+    ap is_some (silent image past r.number (Unqueued command) refl) ∙ answered_by_phase s d image past tag r h.0 e
+
+first_stands : (P : Answer → Type 0) (o later : Option Answer) → IsSomeAnd o P → IsSomeAnd (option_or o later) P
+first_stands P None later h = absurd h
+first_stands P (Some a) later h = h
+
+none_yet : (o : Option Answer) → is_some o ≡ false → o ≡ None
+none_yet None h = refl
+none_yet (Some a) h = absurd (cc)
+
+completes_well : (image : List ℕ) (past : List Entry) (work : Work) → ((completes image past work).entry ≡ length past) × (is_failure (completes image past work).outcome ≡ false)
+completes_well image past (Read lba sectors) = (refl, refl)
+completes_well image past (Write lba bytes) = (refl, refl)
+
+-- the answer that a Complete gives to its request
+pub completed_now : (s d : ℕ) (image : List ℕ) (past : List Entry) (tag : ℕ) (r : Request) → IsLawful s d (Complete tag ∷ past) → request past tag ≡ Some r → answer image (Complete tag ∷ past) r.number ≡ Some (completes image past r.work)
+completed_now s d image past tag r h e =
+    let quiet = none_yet (answer image past r.number) (answered_by_phase s d image past tag r h.0 e ∙ ap is_answered h.1.0) in
+    ap (λ o. option_or o (given image past (Complete tag) (entry_at past r.number))) quiet
+    ∙ ap (given image past (Complete tag)) (request_is_its_issue past tag r e)
+    ∙ cond-true (tag == tag) (Some (completes image past r.work)) None (eq-eqb tag tag refl)
+
+pub completed_is_answered : CompletedIsAnswered
+completed_is_answered s d image [] k tag r h at e = absurd (let w : k < 0 = entry_at-within [] k (Complete tag) at in omega arith)
+completed_is_answered s d image (newest ∷ past) k tag r h at e =
+    elim (entry_at_cases past newest (Complete tag) k at) [
+      | inl older ↦
+          let same = first_of-older past newest k (omega (arith, older.0)) in
+          first_stands _ (answer image past r.number) _ (completed_is_answered s d image past k tag r h.0 older.1 (ap (λ p. request p tag) (sym same) ∙ e))
+      | inr here ↦
+          let whole : first_of (newest ∷ past) k ≡ past = ap (first_of (newest ∷ past)) here.0 ∙ first_of-newest past newest in
+          let its : request past tag ≡ Some r = ap (λ p. request p tag) (sym whole) ∙ e in
+          let now : answer image (newest ∷ past) r.number ≡ Some (completes image past r.work) =
+          ap (λ x. answer image (x ∷ past) r.number) here.1 ∙ completed_now s d image past tag r (subst (λ x. IsLawful s d (x ∷ past)) here.1 h) its in
+          let well = completes_well image past r.work in
+          subst (λ o. IsSomeAnd o (λ a. (a.entry ≡ k) × (is_failure a.outcome ≡ false))) (sym now) (well.0 ∙ sym here.0, well.1)
+    ]

@@ -1,0 +1,12 @@
+pub mod HistoryLemmas
+pub mod TagLemmas
+pub mod LawfulLemmas
+pub mod HaltedLemmas
+pub mod ImageLemmas
+pub mod SetLemmas
+pub mod AnswerLemmas
+pub mod PhaseLemmas
+pub mod EntryLemmas
+pub mod AnsweredLemmas
+pub mod OwedLemmas
+pub mod PartLemmas

@@ -1,0 +1,129 @@
+-- Phases, requests and answers of lawful journals, by induction on the journal.
+use Rattle.std.proofs.Common.{◌≡◌, ◌≢◌, ℕ, ◌<◌, ◌≤◌, Bool, true, false, cond, ◌==◌, List, [], ◌∷◌, length, ap, sym, refl, subst, ◌∙◌, Option, None, Some, IsSome, IsSomeAnd, arith, inl, inr}
+use Rattle.std.proofs.lemmas.Bool.{cond_both, eqb-true, eqb-false, false≢true, cases_lt}
+use Rattle.ncq_journal.specs.declared.phase.Phase.{Phase}
+use Rattle.ncq_journal.specs.declared.phase.Phase.TheVariants.{Free, Issued, Accepted, Rejected, Broken, Held, Done}
+use Rattle.ncq_journal.specs.Entry.{Entry, Issue, Accept, Complete, Fail, Recover, Reissue, Collect, Unqueued}
+use Rattle.ncq_journal.specs.Lawful.{IsLawful, Fails, Fits}
+use Rattle.ncq_journal.specs.Laws.{OwnedHasRequest}
+use Rattle.ncq_journal.specs.Phase.{phase, failed, recovered, is_failed}
+use Rattle.ncq_journal.specs.Request.{Request, request}
+
+-- a choice by two tags
+pub cond_at : {X : Type 0} (t tag : ℕ) (x y : X) (P : X → Type 0) → (t ≡ tag → P x) → (t ≢ tag → P y) → P (cond (t == tag) x y)
+cond_at t tag x y P same other = cond_both (t == tag) x y P (λ e. same (eqb-true t tag e)) (λ e. other (eqb-false t tag e))
+
+-- what holds of the phase of one tag holds of the other's, where they are one tag
+moved : (past : List Entry) (t tag : ℕ) (p : Phase) → t ≡ tag → phase past t ≡ p → phase past tag ≡ p
+moved past t tag p same h = subst (λ u. phase past u ≡ p) same h
+
+-- a step that leaves a free tag free, where the entry's own tag is not free
+stays_free : (past : List Entry) (t tag : ℕ) (p q : Phase) → phase past tag ≡ Free → phase past t ≡ p → p ≢ Free → cond (t == tag) q (phase past tag) ≡ Free
+stays_free past t tag p q free own taken =
+    cond_at t tag q (phase past tag) (λ x. x ≡ Free) (λ same. absurd (taken (sym (moved past t tag p same own) ∙ free))) (λ _. free)
+
+-- a command that fails had been issued
+pub fails_not_free : (s : ℕ) (o : Option Request) (p : Phase) (error lba : ℕ) → IsSomeAnd o (λ r. Fails s p r.work error lba) → p ≢ Free
+fails_not_free s None p error lba h = absurd h
+fails_not_free s (Some r) p error lba h = λ free. subst (λ q. Fails s q r.work error lba) free h
+
+recovered_not_free : (p : Phase) → is_failed p ≡ true → p ≢ Free
+recovered_not_free p failed = λ free. false≢true (sym (ap is_failed free) ∙ failed)
+
+-- a tag at or above the depth is free
+pub free_past_depth : (s d : ℕ) (past : List Entry) (tag : ℕ) → IsLawful s d past → d ≤ tag → phase past tag ≡ Free
+free_past_depth s d [] tag h l = refl
+free_past_depth s d (Issue t work ∷ past) tag h l =
+    cond_at t tag Issued (phase past tag) (λ p. p ≡ Free) (λ same. absurd (let below : t < d = h.1.0 in omega arith)) (λ _. free_past_depth s d past tag h.0 l)
+free_past_depth s d (Accept t ∷ past) tag h l = stays_free past t tag Issued Accepted (free_past_depth s d past tag h.0 l) h.1.0 (λ e. absurd (cc))
+free_past_depth s d (Complete t ∷ past) tag h l = stays_free past t tag Accepted Done (free_past_depth s d past tag h.0 l) h.1.0 (λ e. absurd (cc))
+free_past_depth s d (Fail t error lba ∷ past) tag h l =
+    let free = free_past_depth s d past tag h.0 l in
+    stays_free past t tag (phase past t) (failed (phase past tag)) free refl (fails_not_free s (request past t) (phase past t) error lba h.1.1)
+free_past_depth s d (Recover t ∷ past) tag h l = ap recovered (free_past_depth s d past tag h.0 l)
+free_past_depth s d (Reissue t ∷ past) tag h l = stays_free past t tag Held Issued (free_past_depth s d past tag h.0 l) h.1.0 (λ e. absurd (cc))
+free_past_depth s d (Collect t ∷ past) tag h l = cond_at t tag Free (phase past tag) (λ p. p ≡ Free) (λ _. refl) (λ _. free_past_depth s d past tag h.0 l)
+free_past_depth s d (Unqueued command ∷ past) tag h l = free_past_depth s d past tag h.0 l
+
+issue_none : (b : Bool) (r : Request) (o : Option Request) (p : Phase) → cond b (Some r) o ≡ None → (o ≡ None → p ≡ Free) → cond b Issued p ≡ Free
+issue_none true r o p none older = absurd (cc)
+issue_none false r o p none older = older none
+
+-- a tag without a request is free
+pub no_request : (s d : ℕ) (past : List Entry) (tag : ℕ) → IsLawful s d past → request past tag ≡ None → phase past tag ≡ Free
+no_request s d [] tag h none = refl
+no_request s d (Issue t work ∷ past) tag h none =
+    issue_none (t == tag) (record { number = length past; work = work }) (request past tag) (phase past tag) none (no_request s d past tag h.0)
+no_request s d (Accept t ∷ past) tag h none = stays_free past t tag Issued Accepted (no_request s d past tag h.0 none) h.1.0 (λ e. absurd (cc))
+no_request s d (Complete t ∷ past) tag h none = stays_free past t tag Accepted Done (no_request s d past tag h.0 none) h.1.0 (λ e. absurd (cc))
+no_request s d (Fail t error lba ∷ past) tag h none =
+    let free = no_request s d past tag h.0 none in
+    stays_free past t tag (phase past t) (failed (phase past tag)) free refl (fails_not_free s (request past t) (phase past t) error lba h.1.1)
+no_request s d (Recover t ∷ past) tag h none = ap recovered (no_request s d past tag h.0 none)
+no_request s d (Reissue t ∷ past) tag h none = stays_free past t tag Held Issued (no_request s d past tag h.0 none) h.1.0 (λ e. absurd (cc))
+no_request s d (Collect t ∷ past) tag h none = cond_at t tag Free (phase past tag) (λ p. p ≡ Free) (λ _. refl) (λ _. no_request s d past tag h.0 none)
+no_request s d (Unqueued command ∷ past) tag h none = no_request s d past tag h.0 none
+
+some_unless_none : (o : Option Request) → (o ≡ None → ⊥) → IsSome o
+some_unless_none None h = absurd (h refl)
+some_unless_none (Some r) h = refl
+
+pub owned_has_request : OwnedHasRequest
+owned_has_request s d past tag h owned = some_unless_none (request past tag) (λ none. owned (no_request s d past tag h none))
+
+not_accepted : (p : Phase) → recovered p ≢ Accepted
+not_accepted Free e = absurd (cc)
+not_accepted Issued e = absurd (cc)
+not_accepted Accepted e = absurd (cc)
+not_accepted Rejected e = absurd (cc)
+not_accepted Broken e = absurd (cc)
+not_accepted Held e = absurd (cc)
+not_accepted Done e = absurd (cc)
+
+not_failed : (p : Phase) → failed p ≢ Accepted
+not_failed Free e = absurd (cc)
+not_failed Issued e = absurd (cc)
+not_failed Accepted e = absurd (cc)
+not_failed Rejected e = absurd (cc)
+not_failed Broken e = absurd (cc)
+not_failed Held e = absurd (cc)
+not_failed Done e = absurd (cc)
+
+-- a step after which an accepted tag was accepted before
+was_accepted : (t tag : ℕ) (q p : Phase) → q ≢ Accepted → cond (t == tag) q p ≡ Accepted → p ≡ Accepted
+was_accepted t tag q p other e = by (t == tag) e
+  where
+    by : (b : Bool) → cond b q p ≡ Accepted → p ≡ Accepted
+    by true e = absurd (other e)
+    by false e = e
+
+issue_fits : (s : ℕ) (b : Bool) (r : Request) (o : Option Request) (p : Phase) → cond b Issued p ≡ Accepted → (p ≡ Accepted → IsSomeAnd o (λ q. Fits s q.work)) → IsSomeAnd (cond b (Some r) o) (λ q. Fits s q.work)
+issue_fits s true r o p e older = absurd (let z : Issued ≡ Accepted = e in cc)
+issue_fits s false r o p e older = older e
+
+accept_fits : (s t tag : ℕ) (past : List Entry) → IsSomeAnd (request past t) (λ r. Fits s r.work) → (phase past tag ≡ Accepted → IsSomeAnd (request past tag) (λ r. Fits s r.work)) → cond (t == tag) Accepted (phase past tag) ≡ Accepted → IsSomeAnd (request past tag) (λ r. Fits s r.work)
+accept_fits s t tag past own older e = by (t == tag) refl e
+  where
+    by : (b : Bool) → (t == tag) ≡ b → cond b Accepted (phase past tag) ≡ Accepted → IsSomeAnd (request past tag) (λ r. Fits s r.work)
+    by true same e = subst (λ u. IsSomeAnd (request past u) (λ r. Fits s r.work)) (eqb-true t tag same) own
+    by false other e = older e
+
+-- an accepted command ends at the disk's last sector or before it
+pub accepted_fits : (s d : ℕ) (past : List Entry) (tag : ℕ) → IsLawful s d past → phase past tag ≡ Accepted → IsSomeAnd (request past tag) (λ r. Fits s r.work)
+accepted_fits s d [] tag h e = absurd (let z : Free ≡ Accepted = e in cc)
+accepted_fits s d (Issue t work ∷ past) tag h e = issue_fits s (t == tag) _ (request past tag) (phase past tag) e (accepted_fits s d past tag h.0)
+accepted_fits s d (Accept t ∷ past) tag h e = accept_fits s t tag past h.1.2 (accepted_fits s d past tag h.0) e
+accepted_fits s d (Complete t ∷ past) tag h e = accepted_fits s d past tag h.0 (was_accepted t tag Done (phase past tag) (λ z. absurd (cc)) e)
+accepted_fits s d (Fail t error lba ∷ past) tag h e = accepted_fits s d past tag h.0 (was_accepted t tag (failed (phase past tag)) (phase past tag) (not_failed (phase past tag)) e)
+accepted_fits s d (Recover t ∷ past) tag h e = absurd (not_accepted (phase past tag) e)
+accepted_fits s d (Reissue t ∷ past) tag h e = accepted_fits s d past tag h.0 (was_accepted t tag Issued (phase past tag) (λ z. absurd (cc)) e)
+accepted_fits s d (Collect t ∷ past) tag h e = accepted_fits s d past tag h.0 (was_accepted t tag Free (phase past tag) (λ z. absurd (cc)) e)
+accepted_fits s d (Unqueued command ∷ past) tag h e = accepted_fits s d past tag h.0 e
+
+-- a tag that isn't free is below the depth
+pub below_depth : (s d : ℕ) (past : List Entry) (tag : ℕ) (p : Phase) → IsLawful s d past → phase past tag ≡ p → p ≢ Free → tag < d
+below_depth s d past tag p h own taken =
+    elim (cases_lt tag d) [
+      | inl low ↦ low
+      | inr high ↦ absurd (taken (sym own ∙ free_past_depth s d past tag h high))
+    ]

@@ -1,0 +1,7 @@
+use Rattle.std.proofs.Common.{sym, arith}
+use Rattle.ncq_journal.specs.History.{history_of}
+use Rattle.ncq_journal.proofs.HaltedLemmas.{not_busy}
+use Rattle.ncq_journal.proofs.halted.is_busy.Goals as goal
+
+pub returns : goal.returns
+returns g c = sym (not_busy (history_of c.args.events.now) (λ t h. c.loop-tag.invariant t (omega arith)))

@@ -1,0 +1,26 @@
+-- Sectors of 512 bytes in a list of bytes (ACS-3, "Logical sector").
+use Rattle.std.specs.Prelude.{◌≡◌, if◌then◌else◌, ℕ, ◌-◌, ◌*◌, ◌+◌, Bool, ◌&&◌, nat_le, nat_lt, true, false, List, [], take, drop}
+use Rattle.ncq_journal.specs.Work.{Work, Read, Write, lba_of, sectors_of}
+
+-- sector s of an image, or of the bytes of a write
+abbrev pub sector_at : List ℕ → ℕ → List ℕ
+sector_at bytes s = take 512 (drop (512 * s) bytes)
+
+-- sector s is one that the command reads or writes
+abbrev pub covers : Work → ℕ → Bool
+covers work s = nat_le (lba_of work) s && nat_lt s (lba_of work + sectors_of work)
+
+-- what a write has for sector s of the disk
+abbrev pub written_at : Work → ℕ → List ℕ
+written_at (Read lba sectors) s = []
+written_at (Write lba bytes) s = sector_at bytes (s - lba)
+
+-- the command is a write
+abbrev pub is_write : Work → Bool
+is_write (Read lba sectors) = false
+is_write (Write lba bytes) = true
+
+-- each sector of these bytes stands in the new image from the LBA on, and every other sector stays
+abbrev pub IsWrittenOver : ℕ → List ℕ → List ℕ → List ℕ → Type 0
+IsWrittenOver lba bytes old new =
+    (s : ℕ) → sector_at new s ≡ (if covers (Write lba bytes) s then sector_at bytes (s - lba) else sector_at old s)

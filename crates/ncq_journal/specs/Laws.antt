@@ -1,0 +1,125 @@
+-- What holds of every lawful journal: the laws behind the definitions.
+use Rattle.std.specs.Prelude.{◌≡◌, ◌≢◌, ◌↔◌, ℕ, ◌+◌, ◌≤◌, Bool, true, false, if◌then◌else◌, List, ◌∷◌, ◌++◌, None, Some, is_some, IsSome, IsSomeAnd}
+use Rattle.std.specs.List.{sum_by}
+use Rattle.word_bits.specs.Places.{has_place}
+use Rattle.ncq_journal.specs.declared.outcome.Outcome.{Outcome}
+use Rattle.ncq_journal.specs.declared.outcome.Outcome.TheVariants as outcome
+use Rattle.ncq_journal.specs.declared.phase.Phase.{Phase}
+use Rattle.ncq_journal.specs.declared.phase.Phase.TheVariants.{Free, Issued, Accepted, Held}
+use Rattle.ncq_journal.specs.Answer.{answer}
+use Rattle.ncq_journal.specs.Entry.{Entry, Issue, Accept, Complete, Fail, Recover, Reissue, Collect, Unqueued}
+use Rattle.ncq_journal.specs.Halted.{tags}
+use Rattle.ncq_journal.specs.History.{entry_at, first_of}
+use Rattle.ncq_journal.specs.Image.{sector_at, covers, written_at, is_write}
+use Rattle.ncq_journal.specs.Lawful.{IsAllowed, IsLawful}
+use Rattle.ncq_journal.specs.Owed.{owed}
+use Rattle.ncq_journal.specs.Phase.{phase}
+use Rattle.ncq_journal.specs.Request.{Request, request}
+use Rattle.ncq_journal.specs.Sector.{sector}
+use Rattle.ncq_journal.specs.Tags.{sact, ci, device_tags}
+
+-- a journal is lawful exactly where each entry was allowed by the entries before it
+abbrev pub LawfulAtEach : Type 0
+LawfulAtEach =
+    (s d : ℕ) (past : List Entry) → IsLawful s d past ↔ ((k : ℕ) (entry : Entry) → entry_at past k ≡ Some entry → IsAllowed s d (first_of past k) entry)
+
+-- a tag at or above the depth is free
+abbrev pub FreePastDepth : Type 0
+FreePastDepth = (s d : ℕ) (past : List Entry) (tag : ℕ) → IsLawful s d past → d ≤ tag → phase past tag ≡ Free
+
+-- a tag that isn't free has a request
+abbrev pub OwnedHasRequest : Type 0
+OwnedHasRequest = (s d : ℕ) (past : List Entry) (tag : ℕ) → IsLawful s d past → phase past tag ≢ Free → IsSome (request past tag)
+
+-- the entry of a request's number is the Issue of its tag for its command
+abbrev pub RequestIsItsIssue : Type 0
+RequestIsItsIssue = (past : List Entry) (tag : ℕ) (r : Request) → request past tag ≡ Some r → entry_at past r.number ≡ Some (Issue tag r.work)
+
+-- the request has its answer; one whose tag is free again was answered before it was collected
+abbrev pub is_answered : Phase → Bool
+is_answered Issued = false
+is_answered Accepted = false
+is_answered Held = false
+is_answered p = true
+
+-- a tag's request is answered exactly when the tag is done, broken or rejected since, or collected after that
+abbrev pub AnsweredByPhase : Type 0
+AnsweredByPhase =
+    (s d : ℕ) (image : List ℕ) (past : List Entry) (tag : ℕ) (r : Request) → IsLawful s d past → request past tag ≡ Some r → is_some (answer image past r.number) ≡ is_answered (phase past tag)
+
+-- what requests can still need is at most four entries for each of 32 tags
+abbrev pub OwedIsFew : Type 0
+OwedIsFew = (past : List Entry) → owed past ≤ 128
+
+-- how many entries more a tag needs once an error has ended its command
+abbrev pub owed_more : Phase → ℕ
+owed_more Issued = 1
+owed_more Accepted = 2
+owed_more p = 0
+
+-- how many entries fewer a tag needs once its command has failed
+abbrev pub owed_less : Phase → ℕ
+owed_less Issued = 2
+owed_less Accepted = 1
+owed_less p = 0
+
+-- how one more entry moves what the requests can still need
+abbrev pub MovesOwed : List Entry → Entry → Type 0
+MovesOwed past (Issue t work) = owed (Issue t work ∷ past) ≡ owed past + 3
+MovesOwed past (Accept t) = owed (Accept t ∷ past) + 1 ≡ owed past
+MovesOwed past (Complete t) = owed (Complete t ∷ past) + 1 ≡ owed past
+MovesOwed past (Fail t error lba) = owed (Fail t error lba ∷ past) + owed_less (phase past t) ≡ owed past
+MovesOwed past (Recover t) = owed (Recover t ∷ past) ≡ owed past + sum_by (λ tag. owed_more (phase past tag)) tags
+MovesOwed past (Reissue t) = owed (Reissue t ∷ past) + 1 ≡ owed past
+MovesOwed past (Collect t) = owed (Collect t ∷ past) + 1 ≡ owed past
+MovesOwed past (Unqueued command) = owed (Unqueued command ∷ past) ≡ owed past
+
+abbrev pub OwedMoves : Type 0
+OwedMoves = (s d : ℕ) (past : List Entry) (entry : Entry) → d ≤ 32 → IsLawful s d (entry ∷ past) → MovesOwed past entry
+
+-- a completed write changes exactly its sectors
+abbrev pub WritesItsSectors : Type 0
+WritesItsSectors =
+    (image : List ℕ) (past : List Entry) (tag : ℕ) (r : Request) (s : ℕ) → request past tag ≡ Some r → is_write r.work ≡ true
+    → sector image (Complete tag ∷ past) s ≡ (if covers r.work s then written_at r.work s else sector image past s)
+
+-- the entry completes a write
+abbrev pub completes_write : List Entry → Entry → Bool
+completes_write past (Complete t) = elim (request past t) [ None ↦ false | Some r ↦ is_write r.work ]
+completes_write past entry = false
+
+-- every other entry changes no sector
+abbrev pub OthersWriteNothing : Type 0
+OthersWriteNothing =
+    (image : List ℕ) (past : List Entry) (entry : Entry) (s : ℕ) → completes_write past entry ≡ false → sector image (entry ∷ past) s ≡ sector image past s
+
+-- the request ended with an error
+abbrev pub is_failure : Outcome → Bool
+is_failure outcome.Read = false
+is_failure outcome.Wrote = false
+is_failure (outcome.Failed error lba) = true
+
+-- each Complete answers the request whose command it completes, so a failed command has changed no sector
+abbrev pub CompletedIsAnswered : Type 0
+CompletedIsAnswered =
+    (s d : ℕ) (image : List ℕ) (past : List Entry) (k tag : ℕ) (r : Request) → IsLawful s d past → entry_at past k ≡ Some (Complete tag) → request (first_of past k) tag ≡ Some r
+    → IsSomeAnd (answer image past r.number) (λ a. (a.entry ≡ k) × (is_failure a.outcome ≡ false))
+
+-- the tags outstanding in the device are among those of PxSACT
+abbrev pub DeviceTagsInSact : Type 0
+DeviceTagsInSact = (past : List Entry) (tag : ℕ) → has_place (device_tags past) tag ≡ true → has_place (sact past) tag ≡ true
+
+-- the tags of PxCI are among those of PxSACT
+abbrev pub CiInSact : Type 0
+CiInSact = (past : List Entry) (tag : ℕ) → has_place (ci past) tag ≡ true → has_place (sact past) tag ≡ true
+
+-- every tag is free
+abbrev pub AllFree : List Entry → Type 0
+AllFree past = (tag : ℕ) → phase past tag ≡ Free
+
+-- where every tag is free between two parts of a journal, the later part is a journal of its own, and the image after
+-- both is that of the later part over the image after the earlier one
+abbrev pub TwoParts : Type 0
+TwoParts =
+    (s d : ℕ) (image middle : List ℕ) (later past : List Entry) → IsLawful s d (later ++ past) → AllFree past → ((i : ℕ) → sector_at middle i ≡ sector image past i)
+    → IsLawful s d later × ((i : ℕ) → sector image (later ++ past) i ≡ sector middle later i)

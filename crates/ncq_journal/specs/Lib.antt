@@ -1,0 +1,13 @@
+pub mod Answer
+pub mod Entry
+pub mod Halted
+pub mod History
+pub mod Image
+pub mod Lawful
+pub mod Laws
+pub mod Owed
+pub mod Phase
+pub mod Request
+pub mod Sector
+pub mod Tags
+pub mod Work

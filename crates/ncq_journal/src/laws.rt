@@ -1,0 +1,53 @@
+//! Laws: each function is empty, and its clause holds of all journals.
+ghost use Rattle.ncq_journal.specs.Laws.{LawfulAtEach, FreePastDepth, OwnedHasRequest, RequestIsItsIssue, AnsweredByPhase, OwedIsFew, OwedMoves, WritesItsSectors, OthersWriteNothing, CompletedIsAnswered, DeviceTagsInSact, CiInSact, TwoParts};
+
+/// A journal is lawful exactly where each of its entries was allowed by the entries before it.
+pub fn a_journal_is_lawful_at_each_entry()
+    ensures { LawfulAtEach }
+{}
+
+/// A tag at or above the depth is free.
+pub fn a_tag_past_the_depth_is_free()
+    ensures { FreePastDepth }
+{}
+
+/// A tag that is not free has a request, and the entry of a request's number is its Issue.
+pub fn an_owned_tag_has_a_request()
+    ensures has { OwnedHasRequest }
+    ensures issue { RequestIsItsIssue }
+{}
+
+/// A request is answered exactly when its tag is done, broken or rejected since, or was collected after that.
+pub fn a_request_is_answered_by_its_phase()
+    ensures { AnsweredByPhase }
+{}
+
+/// What all requests can still need is at most 128 entries, and each entry moves it by a fixed number.
+pub fn what_requests_need_is_bounded()
+    ensures few { OwedIsFew }
+    ensures moves { OwedMoves }
+{}
+
+/// A completed write changes exactly its sectors, and every other entry changes none.
+pub fn only_a_completed_write_changes_sectors()
+    ensures write { WritesItsSectors }
+    ensures others { OthersWriteNothing }
+{}
+
+/// Each Complete answers the request whose command it completes, and not with an error. Since only the Complete of a
+/// write changes a sector, a command that failed has changed none.
+pub fn a_failed_command_has_changed_no_sector()
+    ensures { CompletedIsAnswered }
+{}
+
+/// The tags outstanding in the device and those of PxCI are among those of PxSACT.
+pub fn outstanding_tags_are_active()
+    ensures device { DeviceTagsInSact }
+    ensures ci { CiInSact }
+{}
+
+/// Where every tag is free between two parts of a journal, the later part is a lawful journal of its own, and the image
+/// after both is that of the later part over the image after the earlier one.
+pub fn a_journal_may_be_cut_where_all_tags_are_free()
+    ensures { TwoParts }
+{}

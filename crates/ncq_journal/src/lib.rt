@@ -1,0 +1,38 @@
+//! The journal of one AHCI port and what it means: commands, events, the phase of a tag, and the image that
+//! a journal leaves. The plain functions compute each definition by scanning, slowly; faster code is compared
+//! with them.
+#![tactic(auto)]
+
+mod answer;
+mod bytes;
+mod event;
+mod halted;
+mod journal;
+mod lawful;
+pub mod laws;
+mod op;
+mod outcome;
+mod owed;
+mod phase;
+mod plain;
+mod request;
+mod sector;
+mod tags;
+
+pub use answer::{Answer, answer_of};
+pub use bytes::Bytes;
+pub use event::Event;
+pub use halted::{is_busy, is_halted};
+pub use journal::{Journal, entry_in};
+pub use lawful::{is_allowed, is_lawful, is_proper};
+pub use op::Op;
+pub use outcome::Outcome;
+pub use owed::owed_by;
+pub use phase::{Phase, phase_of};
+pub use plain::Plain;
+pub use request::{Request, request_of};
+pub use sector::{is_covered, read_sectors, sector_in, sector_of, write_sectors};
+pub use tags::{ci_of, device_tags_of, sact_of};
+
+#[cfg(test)]
+mod tests;
