@@ -1,5 +1,5 @@
 -- What a script's commands answer, and the port that each of them leaves. Want of memory is left aside.
-use Rattle.std.specs.Prelude.{ℕ, ◌+◌, ◌*◌, ◌<◌, Bool, true, false, List, [], ◌∷◌, ◌++◌, length, replicate, slice_index, if◌then◌else◌, Option, Some, None, Result, Ok, Err, ◌≡◌}
+use Rattle.std.specs.Prelude.{ℕ, ◌+◌, ◌*◌, Bool, true, false, List, [], ◌∷◌, ◌++◌, length, replicate, slice_index, if◌then◌else◌, Option, Some, None, Result, Ok, Err, ◌≡◌}
 use Rattle.ahci_port.specs.PortView.{PortView, new_port, sectors_in}
 use Rattle.ahci_port.specs.Registers.{acknowledged}
 use Rattle.ahci_port.specs.Steps.{IsIssued, IsStepped, IsCollected, IsRecovered, IsReissued, IsIdentified, IsFlushed}
@@ -145,12 +145,6 @@ disk_by None sectors depth = Some (new_port (replicate (sectors * 512) 0) depth)
 
 abbrev pub disk_text : ℕ → ℕ → List ℕ
 disk_text sectors depth = said_by (disk_refusal sectors depth) (answer_text (said.Disk sectors depth))
-
--- a tag that a command is issued for is one of 32
-abbrev pub HasSmallTag : Command → Type 0
-HasSmallTag (command.Write tag lba sectors fill) = tag < 32
-HasSmallTag (command.Read tag lba sectors) = tag < 32
-HasSmallTag c = Unit {0}
 
 -- a command may stand here: a disk first, and then none
 abbrev pub is_in_place : Option PortView → Command → Bool

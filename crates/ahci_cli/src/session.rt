@@ -2,7 +2,8 @@
 
 ghost use Rattle.std.specs.Prelude.{◌≡◌, [], IfErr, OnErr, OnOk, None, Some, false};
 ghost use Rattle.ahci_cli.specs.Refusals.{disk_refusal};
-ghost use Rattle.ahci_cli.specs.Script.{IsSaid, Left, disk_by, disk_text, HasSmallTag, is_in_place, said_of};
+ghost use Rattle.ahci_script.specs.Lines.{HasSmallTag};
+ghost use Rattle.ahci_cli.specs.Script.{IsSaid, Left, disk_by, disk_text, is_in_place, said_of};
 
 use crate::answering::{answer, refuse};
 use crate::issuing::filled;

@@ -1,7 +1,7 @@
 -- The default pieces serve every count that one command can have.
 use Rattle.std.proofs.Common.{◌≡◌, ℕ, zero, suc, ◌+◌, ◌-◌, ◌*◌, ◌/◌, ◌%◌, ◌^◌, ◌<◌, ◌≤◌, min, Bool, true, false, not, cond, ◌&&◌, ◌||◌, List, [], ◌∷◌, map, length, nat_eq, nat_le, nat_lt, eq-eqb, Option, Some, None, refl, sym, ap, ◌∙◌, subst, arith, inl, inr}
 use Rattle.std.specs.List.{list_all, list_any, range_with_len}
-use Rattle.std.proofs.lemmas.Bool.{le-ltb, le-leb, ltb-false, or_parts}
+use Rattle.std.proofs.lemmas.Bool.{le-ltb, le-leb, ltb-false, eqb-true, or_parts, true≢false}
 use Rattle.std.proofs.lemmas.List.FromFn.{length-map-range_with_len}
 use Rattle.ahci_table.specs.Defaults.{default_list, default_piece}
 use Rattle.ahci_table.specs.Piece.{are_apart, end_of, is_apart, total}
@@ -10,7 +10,7 @@ use Rattle.ahci_table.specs.Refusal.{has_bad_count, is_odd, is_outside, is_ragge
 use Rattle.ahci_table.specs.declared.piece.Piece.{Piece}
 use Rattle.ncq_journal.specs.Work.{Work, sectors_of}
 
-pieces_from : ℕ → ℕ → ℕ → List Piece
+abbrev pieces_from : ℕ → ℕ → ℕ → List Piece
 pieces_from n s k = map (default_piece n) (range_with_len s k)
 
 -- what no piece of a run is
@@ -40,8 +40,11 @@ is_eq : (a b : ℕ) → a ≡ b → nat_eq a b ≡ true
 is_eq a b e = eq-eqb a b e
 
 not_zero : (a : ℕ) → 0 < a → nat_eq a 0 ≡ false
-not_zero zero l = absurd (omega arith)
-not_zero (suc a) l = refl
+not_zero a l = by (nat_eq a 0) refl
+  where
+    by : (b : Bool) → nat_eq a 0 ≡ b → b ≡ false
+    by false e = refl
+    by true e = let same = eqb-true a 0 e in absurd (omega (arith, same, l))
 
 -- a piece begins and ends at even places, and has some bytes and no more than a page
 piece_fine : (n i : ℕ) → 4096 * i < 512 * n → is_odd (default_piece n i) ≡ false
@@ -103,5 +106,5 @@ defaults_serve work good =
     default_pieces_serve n (from_zero n each.0) (ltb-false 256 n each.1)
   where
     from_zero : (m : ℕ) → nat_eq m 0 ≡ false → 1 ≤ m
-    from_zero zero e = cc
+    from_zero zero e = absurd (true≢false e)
     from_zero (suc m) e = omega arith
