@@ -1,1 +1,3 @@
 pub mod DecimalLemmas
+pub mod HexTextLemmas
+pub mod HexValueLemmas

@@ -2,17 +2,19 @@
 use Rattle.std.specs.Prelude.{ℕ, zero, suc, ◌*◌, ◌/◌, ◌%◌, List, [], ◌∷◌, ◌++◌, length, slice_index, codes, false}
 use Rattle.std.specs.Fmt.{decimal, digit_glyph}
 use Rattle.ahci_script.specs.declared.answer.Answer.{Answer}
-use Rattle.ahci_script.specs.declared.answer.Answer.TheVariants.{Disk, Issued, Accepted, Completed, Wrote, Read, Failed, Sector, Journal, Refused}
+use Rattle.ahci_script.specs.declared.answer.Answer.TheVariants.{Disk, Issued, Accepted, Completed, FailedStep, Wrote, Read, Failed, Recovered, Reissued, Register, Acked, Word, Flushed, Sector, Journal, Refused}
 use Rattle.ahci_script.specs.declared.refusal.Refusal.{Refusal}
-use Rattle.ahci_script.specs.declared.refusal.Refusal.TheVariants.{BadSize, BadDepth, BadCount, BadLba, NoSuchTag, SlotOwned, Halted, NotIssued, NotAccepted, OutsideCommand, OutOfRange, Stranger, NotYet, NoSuchSector}
+use Rattle.ahci_script.specs.declared.refusal.Refusal.TheVariants.{BadSize, BadDepth, BadCount, BadLba, NoSuchTag, SlotOwned, Halted, NotIssued, NotAccepted, OutsideCommand, OutOfRange, NotHalted, NotHeld, QueueBusy, Stranger, NotYet, Unaligned, NoSuchRegister, NoSuchSector}
 
--- a byte as two hexadecimal digits, in lower case
-abbrev pub hex_of : ℕ → List ℕ
-hex_of b = digit_glyph false (b / 16) ∷ digit_glyph false (b % 16) ∷ []
+-- the last digits of a number as hexadecimal ones, in lower case
+abbrev pub hex_of : ℕ → ℕ → List ℕ
+hex_of zero number = []
+hex_of (suc digits) number =
+    hex_of digits (number / 16) ++ digit_glyph false (number % 16) ∷ []
 
 -- a sector among these bytes, by its first byte and behind a space
 abbrev pub sector_text : List ℕ → ℕ → List ℕ
-sector_text bytes i = 32 ∷ hex_of (slice_index bytes (512 * i))
+sector_text bytes i = 32 ∷ hex_of 2 (slice_index bytes (512 * i))
 
 -- the first n sectors of the bytes
 abbrev pub sectors_text : List ℕ → ℕ → List ℕ
@@ -32,8 +34,13 @@ name_of NotIssued = codes "NotIssued"
 name_of NotAccepted = codes "NotAccepted"
 name_of OutsideCommand = codes "OutsideCommand"
 name_of OutOfRange = codes "OutOfRange"
+name_of NotHalted = codes "NotHalted"
+name_of NotHeld = codes "NotHeld"
+name_of QueueBusy = codes "QueueBusy"
 name_of Stranger = codes "Stranger"
 name_of NotYet = codes "NotYet"
+name_of Unaligned = codes "Unaligned"
+name_of NoSuchRegister = codes "NoSuchRegister"
 name_of NoSuchSector = codes "NoSuchSector"
 
 -- a finished read: its entry and its sectors
@@ -46,10 +53,17 @@ answer_text (Disk sectors depth) = codes "disk " ++ (decimal sectors ++ (codes "
 answer_text (Issued entry) = codes "issued " ++ decimal entry
 answer_text (Accepted entry) = codes "accepted " ++ decimal entry
 answer_text (Completed entry) = codes "completed " ++ decimal entry
+answer_text (FailedStep entry) = codes "failed " ++ decimal entry
 answer_text (Wrote entry) = codes "wrote " ++ decimal entry
 answer_text (Read entry bytes) = read_text entry bytes.now
 answer_text (Failed entry error lba) =
-    codes "failed " ++ (decimal entry ++ (codes " " ++ (hex_of error ++ (codes " " ++ decimal lba))))
-answer_text (Sector lba byte) = codes "sector " ++ (decimal lba ++ (codes " " ++ hex_of byte))
+    codes "failed " ++ (decimal entry ++ (codes " " ++ (hex_of 2 error ++ (codes " " ++ decimal lba))))
+answer_text (Recovered tag) = codes "recovered " ++ decimal tag
+answer_text (Reissued tag) = codes "reissued " ++ decimal tag
+answer_text (Register value) = hex_of 8 value
+answer_text Acked = codes "acked"
+answer_text (Word word value) = codes "word " ++ (decimal word ++ (codes " " ++ hex_of 4 value))
+answer_text Flushed = codes "flushed"
+answer_text (Sector lba byte) = codes "sector " ++ (decimal lba ++ (codes " " ++ hex_of 2 byte))
 answer_text (Journal entries) = codes "journal " ++ decimal entries
 answer_text (Refused refusal) = codes "refused " ++ name_of refusal

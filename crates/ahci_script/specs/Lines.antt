@@ -3,10 +3,10 @@ use Rattle.std.specs.Prelude.{ℕ, ◌==◌, Bool, List, [], ◌∷◌, Option, 
 use Rattle.std.specs.List.{list_all}
 use Rattle.std.specs.Str.{bytes_eq}
 use Rattle.ahci_script.specs.declared.line.Command.{Command}
-use Rattle.ahci_script.specs.declared.line.Command.TheVariants.{Disk, Write, Read, Accept, Serve, Collect, Show, Journal}
+use Rattle.ahci_script.specs.declared.line.Command.TheVariants.{Disk, Write, Read, Accept, Serve, Fail, Collect, Recover, Reissue, Reg, Ack, Identify, Flush, Show, Journal}
 use Rattle.ahci_script.specs.declared.line.Line.{Line}
 use Rattle.ahci_script.specs.declared.line.Line.TheVariants as the-line
-use Rattle.ahci_script.specs.Number.{byte_of, decimal_below, decimal_of}
+use Rattle.ahci_script.specs.Number.{byte_of, decimal_below, decimal_of, hexadecimal_of}
 use Rattle.ahci_script.specs.Words.{cut_of}
 
 infixl 10 ◌>>=◌
@@ -20,6 +20,10 @@ tag_of = decimal_below 32
 -- a number of sectors: 0 to 65,536
 abbrev pub sectors_of : List ℕ → Option ℕ
 sectors_of = decimal_below 65537
+
+-- a word of the identify page: 0 to 255
+abbrev pub page_word_of : List ℕ → Option ℕ
+page_word_of = decimal_below 256
 
 -- disk S D
 abbrev pub disk_of : List ℕ → Option Command
@@ -63,6 +67,16 @@ serve_of arguments = do
   tag ← tag_of arguments
   Some (Serve tag)
 
+-- fail T EE LBA
+abbrev pub fail_of : List ℕ → Option Command
+fail_of arguments = do
+  t ← cut_of arguments
+  e ← cut_of t.1
+  tag ← tag_of t.0
+  error ← byte_of e.0
+  lba ← decimal_of e.1
+  Some (Fail tag error lba)
+
 -- collect T K
 abbrev pub collect_of : List ℕ → Option Command
 collect_of arguments = do
@@ -70,6 +84,30 @@ collect_of arguments = do
   tag ← tag_of t.0
   number ← decimal_of t.1
   Some (Collect tag number)
+
+-- reissue T
+abbrev pub reissue_of : List ℕ → Option Command
+reissue_of arguments = do
+  tag ← tag_of arguments
+  Some (Reissue tag)
+
+-- reg OFF
+abbrev pub reg_of : List ℕ → Option Command
+reg_of arguments = do
+  off ← hexadecimal_of arguments
+  Some (Reg off)
+
+-- ack MASK
+abbrev pub ack_of : List ℕ → Option Command
+ack_of arguments = do
+  mask ← hexadecimal_of arguments
+  Some (Ack mask)
+
+-- identify W
+abbrev pub identify_of : List ℕ → Option Command
+identify_of arguments = do
+  word ← page_word_of arguments
+  Some (Identify word)
 
 -- show LBA
 abbrev pub show_of : List ℕ → Option Command
@@ -80,12 +118,27 @@ show_of arguments = do
 -- a command by its name, which stands before its arguments
 abbrev pub named : List ℕ → List ℕ → Option Command
 named name arguments =
-    if bytes_eq name (codes "disk") then disk_of arguments else (if bytes_eq name (codes "write") then write_of arguments else (if bytes_eq name (codes "read") then read_of arguments else (if bytes_eq name (codes "accept") then accept_of arguments else (if bytes_eq name (codes "serve") then serve_of arguments else (if bytes_eq name (codes "collect") then collect_of arguments else (if bytes_eq name (codes "show") then show_of arguments else None))))))
+    if bytes_eq name (codes "disk") then disk_of arguments
+    else if bytes_eq name (codes "write") then write_of arguments
+    else if bytes_eq name (codes "read") then read_of arguments
+    else if bytes_eq name (codes "accept") then accept_of arguments
+    else if bytes_eq name (codes "serve") then serve_of arguments
+    else if bytes_eq name (codes "fail") then fail_of arguments
+    else if bytes_eq name (codes "collect") then collect_of arguments
+    else if bytes_eq name (codes "reissue") then reissue_of arguments
+    else if bytes_eq name (codes "reg") then reg_of arguments
+    else if bytes_eq name (codes "ack") then ack_of arguments
+    else if bytes_eq name (codes "identify") then identify_of arguments
+    else if bytes_eq name (codes "show") then show_of arguments
+    else None
 
--- a command: `journal` alone, or a name, a space and the arguments
+-- a command: `recover`, `flush` or `journal` alone, or a name, a space and the arguments
 abbrev pub command_of : List ℕ → Option Command
 command_of line =
-    if bytes_eq line (codes "journal") then Some Journal else (cut_of line >>= λ c. named c.0 c.1)
+    if bytes_eq line (codes "recover") then Some Recover
+    else if bytes_eq line (codes "flush") then Some Flush
+    else if bytes_eq line (codes "journal") then Some Journal
+    else (cut_of line >>= λ c. named c.0 c.1)
 
 -- a comment may hold any byte below 128
 abbrev pub is_ascii : List ℕ → Bool

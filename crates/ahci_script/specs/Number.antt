@@ -32,6 +32,20 @@ abbrev pub hex_digit_of : ℕ → Option ℕ
 hex_digit_of b =
     if nat_le 48 b && nat_le b 57 then Some (b - 48) else (if nat_le 97 b && nat_le b 102 then Some (b - 87) else (if nat_le 65 b && nat_le b 70 then Some (b - 55) else None))
 
+-- the number with one more hexadecimal digit behind it; none where it is no digit
+abbrev pub with_hex_digit : Option ℕ → ℕ → Option ℕ
+with_hex_digit number digit =
+    option_and_then (λ n. option_and_then (λ d. Some (16 * n + d)) (hex_digit_of digit)) number
+
+-- the value of hexadecimal digits, the most significant first
+abbrev pub hexadecimal_value : List ℕ → Option ℕ
+hexadecimal_value digits = fold with_hex_digit (Some 0) digits
+
+-- a hexadecimal number: 1 to 8 digits and nothing else
+abbrev pub hexadecimal_of : List ℕ → Option ℕ
+hexadecimal_of word =
+    if nat_lt 0 (length word) && nat_le (length word) 8 then hexadecimal_value word else None
+
 -- a byte: exactly two hexadecimal digits
 abbrev pub byte_of : List ℕ → Option ℕ
 byte_of (high ∷ low ∷ []) =

@@ -1,6 +1,5 @@
-ghost use Rattle.std.specs.Prelude.{◌≡◌, ◌<◌, ◌/◌, length, false, Some};
-ghost use Rattle.std.specs.Fmt.{digit_glyph};
-ghost use Rattle.ahci_script.specs.Answers.{hex_of, sectors_text};
+ghost use Rattle.std.specs.Prelude.{◌/◌, length, Some};
+ghost use Rattle.ahci_script.specs.Answers.{sectors_text};
 
 use crate::refusal::{Refusal, name};
 use std::fmt;
@@ -16,12 +15,26 @@ pub enum Answer<'a> {
     Accepted(u64),
     /// The entry of the step.
     Completed(u64),
+    /// The entry of the step, which failed its command.
+    FailedStep(u64),
     /// The entry that completed the write.
     Wrote(u64),
     /// The entry that completed the read, and its sectors of 512 bytes, joined.
     Read { entry: u64, bytes: &'a [u8] },
     /// The entry that failed the request, with the error register's byte and the LBA of the sector.
     Failed { entry: u64, error: u8, lba: u64 },
+    /// The tag of the command that had failed.
+    Recovered(u8),
+    /// The tag of the command that is issued again.
+    Reissued(u8),
+    /// A register's word.
+    Register(u32),
+    /// The interrupt status was written.
+    Acked,
+    /// A word of the identify page, and its value.
+    Word { word: u8, value: u16 },
+    /// The cache was flushed.
+    Flushed,
     /// A sector of the disk, by its first byte.
     Sector { lba: u64, byte: u8 },
     /// How many entries the journal has.
@@ -42,12 +55,19 @@ impl fmt::Display for Answer<'_> {
             Answer::Issued(entry) => write!(f, "issued {entry}"),
             Answer::Accepted(entry) => write!(f, "accepted {entry}"),
             Answer::Completed(entry) => write!(f, "completed {entry}"),
+            Answer::FailedStep(entry) => write!(f, "failed {entry}"),
             Answer::Wrote(entry) => write!(f, "wrote {entry}"),
             Answer::Read { entry, bytes } => write!(f, "read {entry}{}", Sectors { bytes }),
             Answer::Failed { entry, error, lba } => {
-                write!(f, "failed {entry} {} {lba}", HexByte { byte: error })
+                write!(f, "failed {entry} {error:02x} {lba}")
             }
-            Answer::Sector { lba, byte } => write!(f, "sector {lba} {}", HexByte { byte }),
+            Answer::Recovered(tag) => write!(f, "recovered {tag}"),
+            Answer::Reissued(tag) => write!(f, "reissued {tag}"),
+            Answer::Register(value) => write!(f, "{value:08x}"),
+            Answer::Acked => write!(f, "acked"),
+            Answer::Word { word, value } => write!(f, "word {word} {value:04x}"),
+            Answer::Flushed => write!(f, "flushed"),
+            Answer::Sector { lba, byte } => write!(f, "sector {lba} {byte:02x}"),
             Answer::Journal(entries) => write!(f, "journal {entries}"),
             Answer::Refused(refusal) => write!(f, "refused {}", name(refusal)),
         }
@@ -66,37 +86,8 @@ impl fmt::Display for Sectors<'_> {
     fn fmt<W: fmt::Write>(&self, f: &mut fmt::Formatter<W>) -> fmt::Result {
         for i in 0..self.bytes.len() / 512 {
             let byte = self.bytes[512 * i];
-            write!(f, " {}", HexByte { byte })?;
+            write!(f, " {byte:02x}")?;
         }
         Ok(())
-    }
-}
-
-/// A byte as two hexadecimal digits, in lower case.
-#[derive(Clone, Copy)]
-struct HexByte {
-    byte: u8,
-}
-
-impl fmt::Display for HexByte {
-    ghost output = { λ h. Some (hex_of h.byte) };
-
-    fn fmt<W: fmt::Write>(&self, f: &mut fmt::Formatter<W>) -> fmt::Result {
-        let high = glyph(self.byte / 16);
-        let low = glyph(self.byte % 16);
-        write!(f, "{high}{low}")
-    }
-}
-
-/// A hexadecimal digit.
-fn glyph(digit: u8) -> char
-    requires { digit < 16 }
-    ensures value { result ≡ digit_glyph false digit }
-    ensures ascii { result < 128 }
-{
-    if digit < 10 {
-        char::from(b'0' + digit)
-    } else {
-        char::from(b'a' + (digit - 10))
     }
 }

@@ -1,7 +1,7 @@
 ghost use Rattle.std.specs.Prelude.{◌≡◌};
-ghost use Rattle.ahci_script.specs.Lines.{accept_of, collect_of, command_of, disk_of, is_ascii, line_of, named, read_of, serve_of, show_of, write_of};
+ghost use Rattle.ahci_script.specs.Lines.{accept_of, ack_of, collect_of, command_of, disk_of, fail_of, identify_of, is_ascii, line_of, named, read_of, reg_of, reissue_of, serve_of, show_of, write_of};
 
-use crate::number::{byte, decimal, sectors, tag};
+use crate::number::{byte, decimal, hexadecimal, page_word, sectors, tag};
 use crate::words::cut;
 
 /// A line of a script, read and not yet run.
@@ -14,7 +14,7 @@ pub enum Line {
 }
 
 /// A command of a script. A tag is below 32, and sectors are at most 65,536; the other numbers
-/// are any that fit 64 bits.
+/// are any that fit their type.
 #[derive(Clone, Copy, Debug, PartialEq, Eq)]
 pub enum Command {
     /// `disk S D`: a new port over a disk of zeros.
@@ -43,11 +43,37 @@ pub enum Command {
     Serve {
         tag: u8,
     },
+    /// `fail T EE LBA`: the device fails the tag's command at a sector, with an error.
+    Fail {
+        tag: u8,
+        error: u8,
+        lba: u64,
+    },
     /// `collect T K`: takes the answer of the request with number K.
     Collect {
         tag: u8,
         number: u64,
     },
+    /// `recover`: ends the error, and with it the request that failed.
+    Recover,
+    /// `reissue T`: issues a request again that another's error has ended.
+    Reissue {
+        tag: u8,
+    },
+    /// `reg OFF`: a register of the port.
+    Reg {
+        off: u32,
+    },
+    /// `ack MASK`: clears these bits of the interrupt status.
+    Ack {
+        mask: u32,
+    },
+    /// `identify W`: a word of the disk's identify page.
+    Identify {
+        word: u8,
+    },
+    /// `flush`: flushes the disk's cache.
+    Flush,
     /// `show LBA`: a sector of the disk as it is.
     Show {
         lba: u64,
@@ -80,10 +106,16 @@ fn is_all_ascii(text: &[u8]) -> bool
     text.iter().all(|b| *b < 128)
 }
 
-/// `journal` alone, or a name, a space and the arguments.
+/// A word alone, or a name, a space and the arguments.
 fn spelled(line: &[u8]) -> Option<Command>
     ensures { result ≡ command_of line.now }
 {
+    if line == b"recover".as_slice() {
+        return Some(Command::Recover);
+    }
+    if line == b"flush".as_slice() {
+        return Some(Command::Flush);
+    }
     if line == b"journal".as_slice() {
         return Some(Command::Journal);
     }
@@ -104,8 +136,18 @@ fn by_name(name: &[u8], arguments: &[u8]) -> Option<Command>
         accept(arguments)
     } else if name == b"serve".as_slice() {
         serve(arguments)
+    } else if name == b"fail".as_slice() {
+        fail(arguments)
     } else if name == b"collect".as_slice() {
         collect(arguments)
+    } else if name == b"reissue".as_slice() {
+        reissue(arguments)
+    } else if name == b"reg".as_slice() {
+        reg(arguments)
+    } else if name == b"ack".as_slice() {
+        ack(arguments)
+    } else if name == b"identify".as_slice() {
+        identify(arguments)
     } else if name == b"show".as_slice() {
         show(arguments)
     } else {
@@ -165,6 +207,17 @@ fn serve(arguments: &[u8]) -> Option<Command>
     Some(Command::Serve { tag })
 }
 
+fn fail(arguments: &[u8]) -> Option<Command>
+    ensures { result ≡ fail_of arguments.now }
+{
+    let (tag_word, others) = cut(arguments)?;
+    let (error, lba) = cut(others)?;
+    let tag = tag(tag_word)?;
+    let error = byte(error)?;
+    let lba = decimal(lba)?;
+    Some(Command::Fail { tag, error, lba })
+}
+
 fn collect(arguments: &[u8]) -> Option<Command>
     ensures { result ≡ collect_of arguments.now }
 {
@@ -172,6 +225,34 @@ fn collect(arguments: &[u8]) -> Option<Command>
     let tag = tag(tag_word)?;
     let number = decimal(number)?;
     Some(Command::Collect { tag, number })
+}
+
+fn reissue(arguments: &[u8]) -> Option<Command>
+    ensures { result ≡ reissue_of arguments.now }
+{
+    let tag = tag(arguments)?;
+    Some(Command::Reissue { tag })
+}
+
+fn reg(arguments: &[u8]) -> Option<Command>
+    ensures { result ≡ reg_of arguments.now }
+{
+    let off = hexadecimal(arguments)?;
+    Some(Command::Reg { off })
+}
+
+fn ack(arguments: &[u8]) -> Option<Command>
+    ensures { result ≡ ack_of arguments.now }
+{
+    let mask = hexadecimal(arguments)?;
+    Some(Command::Ack { mask })
+}
+
+fn identify(arguments: &[u8]) -> Option<Command>
+    ensures { result ≡ identify_of arguments.now }
+{
+    let word = page_word(arguments)?;
+    Some(Command::Identify { word })
 }
 
 fn show(arguments: &[u8]) -> Option<Command>

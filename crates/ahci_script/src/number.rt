@@ -1,7 +1,7 @@
-ghost use Rattle.std.specs.Prelude.{◌≡◌, ◌≤◌, ◌^◌, true};
+ghost use Rattle.std.specs.Prelude.{◌≡◌, ◌≤◌, ◌^◌, length, true};
 ghost use Rattle.std.specs.Char.{is_ascii_digit};
 ghost use Rattle.std.specs.List.{list_all};
-ghost use Rattle.ahci_script.specs.Number.{below, byte_of, decimal_below, decimal_of, decimal_value, hex_digit_of, with_digit};
+ghost use Rattle.ahci_script.specs.Number.{below, byte_of, decimal_below, decimal_of, decimal_value, hex_digit_of, hexadecimal_of, hexadecimal_value, with_digit};
 
 /// A decimal number: 1 to 20 digits, whose value fits 64 bits.
 pub(crate) fn decimal(word: &[u8]) -> Option<u64>
@@ -65,6 +65,18 @@ pub(crate) fn sectors(word: &[u8]) -> Option<u32>
     }
 }
 
+/// A word of the identify page: a decimal number from 0 to 255.
+pub(crate) fn page_word(word: &[u8]) -> Option<u8>
+    ensures { result ≡ decimal_below 256 word.now }
+{
+    let number = decimal(word)?;
+    if number < 256 {
+        Some(number as u8)
+    } else {
+        None
+    }
+}
+
 /// The value of a hexadecimal digit, in either case.
 fn hex_digit(b: u8) -> Option<u8>
     ensures { result ≡ hex_digit_of b }
@@ -75,6 +87,28 @@ fn hex_digit(b: u8) -> Option<u8>
         b'A'..=b'F' => Some(b - b'A' + 10),
         _ => None,
     }
+}
+
+/// A hexadecimal number: 1 to 8 digits, and nothing before them.
+pub(crate) fn hexadecimal(word: &[u8]) -> Option<u32>
+    ensures { result ≡ hexadecimal_of word.now }
+{
+    if word.is_empty() || word.len() > 8 {
+        return None;
+    }
+    hex_value(word)
+}
+
+/// The value of hexadecimal digits.
+fn hex_value(digits: &[u8]) -> Option<u32>
+    requires { length digits.now ≤ 8 }
+    ensures { result ≡ hexadecimal_value digits.now }
+{
+    let mut value: u32 = 0;
+    for digit in digits {
+        value = 16 * value + u32::from(hex_digit(*digit)?);
+    }
+    Some(value)
 }
 
 /// A byte: exactly two hexadecimal digits.

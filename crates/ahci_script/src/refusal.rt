@@ -15,8 +15,13 @@ pub enum Refusal {
     NotAccepted,
     OutsideCommand,
     OutOfRange,
+    NotHalted,
+    NotHeld,
+    QueueBusy,
     Stranger,
     NotYet,
+    Unaligned,
+    NoSuchRegister,
     NoSuchSector,
 }
 
@@ -36,8 +41,13 @@ pub fn name(refusal: Refusal) -> &'static str
         Refusal::NotAccepted => "NotAccepted",
         Refusal::OutsideCommand => "OutsideCommand",
         Refusal::OutOfRange => "OutOfRange",
+        Refusal::NotHalted => "NotHalted",
+        Refusal::NotHeld => "NotHeld",
+        Refusal::QueueBusy => "QueueBusy",
         Refusal::Stranger => "Stranger",
         Refusal::NotYet => "NotYet",
+        Refusal::Unaligned => "Unaligned",
+        Refusal::NoSuchRegister => "NoSuchRegister",
         Refusal::NoSuchSector => "NoSuchSector",
     }
 }
