@@ -2,10 +2,11 @@ ghost use Rattle.std.specs.Prelude.{◌≡◌, ◌≤◌, ◌+◌, ◌*◌, ◌-
 ghost use Rattle.std.specs.Io.KnownBytes.{IsAtEnd};
 ghost use Rattle.ahci_script.specs.Unread.{found_of, unfinished};
 ghost use Rattle.ahci_script.specs.declared.input.TheConstants.{INPUT_LIMIT, LINE_LIMIT};
-ghost use Rattle.ahci_cli.specs.Transcript.{Ends, EndsWith, Grown, IsLineFault, Progress, Replayed, ReplayedTo, Stops, line_adds, place};
+ghost use Rattle.ahci_cli.specs.Transcript.{Ends, EndsWith, Grown, IsLineFault, Progress, Replayed, ReplayedTo, Stops, place, placed};
 
 use crate::fault::CliFault;
-use crate::session::{Session, Unanswered};
+use crate::session::Session;
+use crate::unanswered::Unanswered;
 use ahci_script::{Found, INPUT_LIMIT, Input, Line, Output, parse};
 use std::alloc::{AllocError, Allocator};
 use std::io::{Read, Write};
@@ -160,7 +161,7 @@ fn answer_line<A: Allocator + Clone>(
     ensures ok { OnOk result (Grown session.old.port line.now session.new.port output.old output.new) }
     ensures err { OnErr result (output.new ≡ output.old) }
     ensures fault { IfErr result (IsLineFault session.old.port line.now number) }
-    ensures wrong { line_adds session.old.port line.now ≡ None → result ≡ Err (CliFault.Line number) }
+    ensures wrong { placed session.old.port line.now ≡ None → result ≡ Err (CliFault.Line number) }
 {
     match parse(line) {
         None => Err(CliFault::Line(number)),

@@ -4,7 +4,7 @@ use Rattle.std.specs.Fmt.{decimal, digit_glyph}
 use Rattle.ahci_script.specs.declared.answer.Answer.{Answer}
 use Rattle.ahci_script.specs.declared.answer.Answer.TheVariants.{Disk, Issued, Accepted, Completed, FailedStep, Wrote, Read, Failed, Recovered, Reissued, Register, Acked, Word, Flushed, Sector, Journal, Refused}
 use Rattle.ahci_script.specs.declared.refusal.Refusal.{Refusal}
-use Rattle.ahci_script.specs.declared.refusal.Refusal.TheVariants.{BadSize, BadDepth, BadCount, BadLba, NoSuchTag, SlotOwned, Halted, NotIssued, NotAccepted, OutsideCommand, OutOfRange, NotHalted, NotHeld, QueueBusy, Stranger, NotYet, Unaligned, NoSuchRegister, NoSuchSector}
+use Rattle.ahci_script.specs.declared.refusal.Refusal.TheVariants.{BadSize, BadDepth, BadCount, BadLba, NoSuchTag, SlotOwned, Halted, NotIssued, NotAccepted, OutsideCommand, NotHalted, NotHeld, QueueBusy, Stranger, NotYet, Unaligned, NoSuchRegister, NoSuchSector}
 
 -- the last digits of a number as hexadecimal ones, in lower case
 abbrev pub hex_of : ℕ → ℕ → List ℕ
@@ -33,7 +33,6 @@ name_of Halted = codes "Halted"
 name_of NotIssued = codes "NotIssued"
 name_of NotAccepted = codes "NotAccepted"
 name_of OutsideCommand = codes "OutsideCommand"
-name_of OutOfRange = codes "OutOfRange"
 name_of NotHalted = codes "NotHalted"
 name_of NotHeld = codes "NotHeld"
 name_of QueueBusy = codes "QueueBusy"

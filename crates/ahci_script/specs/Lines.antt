@@ -1,5 +1,5 @@
 -- The lines of a script: what each of them spells.
-use Rattle.std.specs.Prelude.{ℕ, ◌==◌, Bool, List, [], ◌∷◌, Option, Some, None, option_and_then, nat_lt, codes, if◌then◌else◌}
+use Rattle.std.specs.Prelude.{ℕ, ◌<◌, ◌==◌, Bool, List, [], ◌∷◌, Option, Some, None, option_and_then, nat_lt, codes, if◌then◌else◌}
 use Rattle.std.specs.List.{list_all}
 use Rattle.std.specs.Str.{bytes_eq}
 use Rattle.ahci_script.specs.declared.line.Command.{Command}
@@ -139,6 +139,21 @@ command_of line =
     else if bytes_eq line (codes "flush") then Some Flush
     else if bytes_eq line (codes "journal") then Some Journal
     else (cut_of line >>= λ c. named c.0 c.1)
+
+-- a tag is one of 32
+abbrev pub HasSmallTag : Command → Type 0
+HasSmallTag (Write tag lba sectors fill) = tag < 32
+HasSmallTag (Read tag lba sectors) = tag < 32
+HasSmallTag (Accept tag) = tag < 32
+HasSmallTag (Serve tag) = tag < 32
+HasSmallTag (Fail tag error lba) = tag < 32
+HasSmallTag (Collect tag number) = tag < 32
+HasSmallTag (Reissue tag) = tag < 32
+HasSmallTag command = Unit {0}
+
+abbrev pub HasSmallTags : Line → Type 0
+HasSmallTags the-line.Skip = Unit {0}
+HasSmallTags (the-line.Run command) = HasSmallTag command
 
 -- a comment may hold any byte below 128
 abbrev pub is_ascii : List ℕ → Bool

@@ -1,5 +1,5 @@
-ghost use Rattle.std.specs.Prelude.{◌≡◌};
-ghost use Rattle.ahci_script.specs.Lines.{accept_of, ack_of, collect_of, command_of, disk_of, fail_of, identify_of, is_ascii, line_of, named, read_of, reg_of, reissue_of, serve_of, show_of, write_of};
+ghost use Rattle.std.specs.Prelude.{◌≡◌, IfSome};
+ghost use Rattle.ahci_script.specs.Lines.{HasSmallTag, HasSmallTags, accept_of, ack_of, collect_of, command_of, disk_of, fail_of, identify_of, is_ascii, line_of, named, read_of, reg_of, reissue_of, serve_of, show_of, write_of};
 
 use crate::number::{byte, decimal, hexadecimal, page_word, sectors, tag};
 use crate::words::cut;
@@ -84,7 +84,8 @@ pub enum Command {
 
 /// Reads a line, without its line feed. `None` where it is not understood.
 pub fn parse(line: &[u8]) -> Option<Line>
-    ensures { result ≡ line_of line.now }
+    ensures line { result ≡ line_of line.now }
+    ensures tags { IfSome result (λ line. HasSmallTags line) }
 {
     match line {
         [] => Some(Line::Skip),
@@ -108,7 +109,8 @@ fn is_all_ascii(text: &[u8]) -> bool
 
 /// A word alone, or a name, a space and the arguments.
 fn spelled(line: &[u8]) -> Option<Command>
-    ensures { result ≡ command_of line.now }
+    ensures command { result ≡ command_of line.now }
+    ensures tag { IfSome result (λ command. HasSmallTag command) }
 {
     if line == b"recover".as_slice() {
         return Some(Command::Recover);
@@ -124,7 +126,8 @@ fn spelled(line: &[u8]) -> Option<Command>
 }
 
 fn by_name(name: &[u8], arguments: &[u8]) -> Option<Command>
-    ensures { result ≡ named name.now arguments.now }
+    ensures command { result ≡ named name.now arguments.now }
+    ensures tag { IfSome result (λ command. HasSmallTag command) }
 {
     if name == b"disk".as_slice() {
         disk(arguments)
@@ -156,7 +159,8 @@ fn by_name(name: &[u8], arguments: &[u8]) -> Option<Command>
 }
 
 fn disk(arguments: &[u8]) -> Option<Command>
-    ensures { result ≡ disk_of arguments.now }
+    ensures command { result ≡ disk_of arguments.now }
+    ensures tag { IfSome result (λ command. HasSmallTag command) }
 {
     let (sectors, depth) = cut(arguments)?;
     let sectors = decimal(sectors)?;
@@ -165,7 +169,8 @@ fn disk(arguments: &[u8]) -> Option<Command>
 }
 
 fn write(arguments: &[u8]) -> Option<Command>
-    ensures { result ≡ write_of arguments.now }
+    ensures command { result ≡ write_of arguments.now }
+    ensures tag { IfSome result (λ command. HasSmallTag command) }
 {
     let (tag_word, others) = cut(arguments)?;
     let (lba, others) = cut(others)?;
@@ -183,7 +188,8 @@ fn write(arguments: &[u8]) -> Option<Command>
 }
 
 fn read(arguments: &[u8]) -> Option<Command>
-    ensures { result ≡ read_of arguments.now }
+    ensures command { result ≡ read_of arguments.now }
+    ensures tag { IfSome result (λ command. HasSmallTag command) }
 {
     let (tag_word, others) = cut(arguments)?;
     let (lba, count) = cut(others)?;
@@ -194,21 +200,24 @@ fn read(arguments: &[u8]) -> Option<Command>
 }
 
 fn accept(arguments: &[u8]) -> Option<Command>
-    ensures { result ≡ accept_of arguments.now }
+    ensures command { result ≡ accept_of arguments.now }
+    ensures tag { IfSome result (λ command. HasSmallTag command) }
 {
     let tag = tag(arguments)?;
     Some(Command::Accept { tag })
 }
 
 fn serve(arguments: &[u8]) -> Option<Command>
-    ensures { result ≡ serve_of arguments.now }
+    ensures command { result ≡ serve_of arguments.now }
+    ensures tag { IfSome result (λ command. HasSmallTag command) }
 {
     let tag = tag(arguments)?;
     Some(Command::Serve { tag })
 }
 
 fn fail(arguments: &[u8]) -> Option<Command>
-    ensures { result ≡ fail_of arguments.now }
+    ensures command { result ≡ fail_of arguments.now }
+    ensures tag { IfSome result (λ command. HasSmallTag command) }
 {
     let (tag_word, others) = cut(arguments)?;
     let (error, lba) = cut(others)?;
@@ -219,7 +228,8 @@ fn fail(arguments: &[u8]) -> Option<Command>
 }
 
 fn collect(arguments: &[u8]) -> Option<Command>
-    ensures { result ≡ collect_of arguments.now }
+    ensures command { result ≡ collect_of arguments.now }
+    ensures tag { IfSome result (λ command. HasSmallTag command) }
 {
     let (tag_word, number) = cut(arguments)?;
     let tag = tag(tag_word)?;
@@ -228,35 +238,40 @@ fn collect(arguments: &[u8]) -> Option<Command>
 }
 
 fn reissue(arguments: &[u8]) -> Option<Command>
-    ensures { result ≡ reissue_of arguments.now }
+    ensures command { result ≡ reissue_of arguments.now }
+    ensures tag { IfSome result (λ command. HasSmallTag command) }
 {
     let tag = tag(arguments)?;
     Some(Command::Reissue { tag })
 }
 
 fn reg(arguments: &[u8]) -> Option<Command>
-    ensures { result ≡ reg_of arguments.now }
+    ensures command { result ≡ reg_of arguments.now }
+    ensures tag { IfSome result (λ command. HasSmallTag command) }
 {
     let off = hexadecimal(arguments)?;
     Some(Command::Reg { off })
 }
 
 fn ack(arguments: &[u8]) -> Option<Command>
-    ensures { result ≡ ack_of arguments.now }
+    ensures command { result ≡ ack_of arguments.now }
+    ensures tag { IfSome result (λ command. HasSmallTag command) }
 {
     let mask = hexadecimal(arguments)?;
     Some(Command::Ack { mask })
 }
 
 fn identify(arguments: &[u8]) -> Option<Command>
-    ensures { result ≡ identify_of arguments.now }
+    ensures command { result ≡ identify_of arguments.now }
+    ensures tag { IfSome result (λ command. HasSmallTag command) }
 {
     let word = page_word(arguments)?;
     Some(Command::Identify { word })
 }
 
 fn show(arguments: &[u8]) -> Option<Command>
-    ensures { result ≡ show_of arguments.now }
+    ensures command { result ≡ show_of arguments.now }
+    ensures tag { IfSome result (λ command. HasSmallTag command) }
 {
     let lba = decimal(arguments)?;
     Some(Command::Show { lba })

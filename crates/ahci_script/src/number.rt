@@ -1,4 +1,4 @@
-ghost use Rattle.std.specs.Prelude.{◌≡◌, ◌≤◌, ◌^◌, length, true};
+ghost use Rattle.std.specs.Prelude.{◌≡◌, ◌≤◌, ◌^◌, length, true, ◌<◌, IfSome};
 ghost use Rattle.std.specs.Char.{is_ascii_digit};
 ghost use Rattle.std.specs.List.{list_all};
 ghost use Rattle.ahci_script.specs.Number.{below, byte_of, decimal_below, decimal_of, decimal_value, hex_digit_of, hexadecimal_of, hexadecimal_value, with_digit};
@@ -43,7 +43,8 @@ fn push_digit(number: u64, digit: u8) -> Option<u64>
 
 /// A tag: a decimal number from 0 to 31.
 pub(crate) fn tag(word: &[u8]) -> Option<u8>
-    ensures { result ≡ decimal_below 32 word.now }
+    ensures value { result ≡ decimal_below 32 word.now }
+    ensures small { IfSome result (λ tag. tag < 32) }
 {
     let number = decimal(word)?;
     if number < 32 {

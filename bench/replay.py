@@ -1,0 +1,70 @@
+#!/usr/bin/env python3
+"""Times `ahci replay` on long scripts and prints a table. It is no test: nothing fails here.
+
+    bench/replay.py [ROUNDS]        each script is run ROUNDS times (3 if not given); the fastest run counts
+
+Each script keeps 32 commands in flight: 32 are issued, by turns a write and a read, all are accepted, served from
+the highest tag to the lowest, and collected. The program has to be built before: `./ahci --version` does.
+"""
+import os
+import subprocess
+import sys
+import tempfile
+import time
+
+DEPTH = 32
+TOP = os.path.dirname(os.path.dirname(os.path.abspath(__file__)))
+PROGRAM = os.path.join(TOP, "crates", "ahci", "out", "ahci")
+
+# how many commands, and how many sectors each of them has
+SCRIPTS = [(10_000, 1), (100_000, 1), (1_000_000, 1), (2_000, 256)]
+
+
+def write_script(out, commands, sectors):
+    """Writes the script, and answers how many lines it has."""
+    places = 128
+    out.write(f"disk {places * sectors} {DEPTH}\n")
+    lines = 1
+    entry = 0
+    for first in range(0, commands, DEPTH):
+        tags = range(min(DEPTH, commands - first))
+        for tag in tags:
+            lba = (first + tag) % places * sectors
+            if tag % 2:
+                out.write(f"read {tag} {lba} {sectors}\n")
+            else:
+                out.write(f"write {tag} {lba} {sectors} {first // DEPTH % 256:02x}\n")
+        out.writelines(f"accept {tag}\n" for tag in tags)
+        out.writelines(f"serve {tag}\n" for tag in reversed(tags))
+        out.writelines(f"collect {tag} {entry + tag}\n" for tag in tags)
+        entry += 4 * len(tags)
+        lines += 4 * len(tags)
+    return lines
+
+
+def seconds_of(path):
+    """The time of one run, with its answers thrown away."""
+    with open(path, "rb") as script, open(os.devnull, "wb") as answers:
+        begun = time.perf_counter()
+        subprocess.run([PROGRAM, "replay"], stdin=script, stdout=answers, check=True)
+        return time.perf_counter() - begun
+
+
+def main():
+    rounds = int(sys.argv[1]) if len(sys.argv) > 1 else 3
+    if not os.path.exists(PROGRAM):
+        sys.exit("bench: the program is not built yet: run ./ahci --version first")
+    print("| commands | sectors each | lines | seconds | microseconds a command | MB of data a second |")
+    print("|---|---|---|---|---|---|")
+    for commands, sectors in SCRIPTS:
+        with tempfile.TemporaryDirectory() as folder:
+            path = os.path.join(folder, "script")
+            with open(path, "w", encoding="ascii") as out:
+                lines = write_script(out, commands, sectors)
+            best = min(seconds_of(path) for _ in range(rounds))
+        rate = commands * sectors * 512 / best / 1e6
+        print(f"| {commands:,} | {sectors} | {lines:,} | {best:.3f} | {best / commands * 1e6:.2f} | {rate:,.0f} |", flush=True)
+
+
+if __name__ == "__main__":
+    main()
