@@ -3,8 +3,8 @@ use Rattle.std.proofs.Common.{◌≡◌, ◌≢◌, ℕ, ◌*◌, ◌^◌, ◌<�
 use Rattle.std.specs.Option.{option_map}
 use Rattle.std.proofs.lemmas.Bool.{le-leb, lt-leb, true≢false}
 use Rattle.ahci_cli.specs.Refusals.{issue_refusal, joined, of_issue}
-use Rattle.ahci_port.specs.Faults.{MayTake, RefusesIssue, early_refusal, is_free}
-use Rattle.ahci_port.specs.PortView.{PortView}
+use Rattle.ahci_port.specs.Faults.{MayTake, RefusesIssue, early_refusal}
+use Rattle.ahci_port.specs.PortView.{PortView, is_free}
 use Rattle.ahci_port.specs.declared.fault.IssueFault.{IssueFault}
 use Rattle.ahci_port.specs.declared.fault.IssueFault.TheVariants.{Halted, NoSuchTag, SlotOwned, BadHeader, BadCommand, WrongTag, TooLong, BadList, OutOfMemory}
 use Rattle.ahci_script.specs.declared.refusal.Refusal.{Refusal}
@@ -28,12 +28,12 @@ built_free T x None is = refl
 built_free T x (Some f) is = absurd is
 
 -- one that failed had this against it, or lacked memory
-pub built_named : (T : Type 0) (e : BuildFault) (o : Option BuildFault) → e ≢ build.OutOfMemory → MatchOption o (IfErr {T = T} {E = BuildFault} (Err e) (λ x. x ≡ build.OutOfMemory)) (λ f. IsErrAnd {T = T} {E = BuildFault} (Err e) (λ x. x ≡ f)) → o ≡ Some e
-built_named T e None other is = absurd (other is)
-built_named T e (Some f) other is = ap Some (sym is)
+pub built_named : (e e' : BuildFault) (o : Option BuildFault) → e' ≡ e → e ≢ build.OutOfMemory → MatchOption o (e' ≡ build.OutOfMemory) (λ f. e' ≡ f) → o ≡ Some e
+built_named e e' None same other is = absurd (other (sym same ∙ is))
+built_named e e' (Some f) same other is = ap Some (sym is ∙ same)
 
 -- count and address by themselves
-count_bad : ℕ → Bool
+abbrev count_bad : ℕ → Bool
 count_bad n = nat_eq n 0 || nat_lt most_sectors n
 
 no_case : (c b r : Bool) (l : Option BuildFault) (rest : Option Refusal) → r ≡ false → cond (c || r) (Some build.BadCount) (cond b (Some build.BadLba) l) ≡ None
@@ -80,7 +80,7 @@ other_case false false false l f whole free count address is = none_some (sym (f
     none_some e = cc
 
 -- what the port says of the tag
-port_says : PortView → ℕ → Option Refusal
+abbrev pub port_says : PortView → ℕ → Option Refusal
 port_says port tag = joined (option_map of_issue (early_refusal port tag))
 
 pub free_issue : (port : PortView) (tag : ℕ) (work : Work) → is_ragged work ≡ false → refusal work (default_list (sectors_of work)) ≡ None → issue_refusal port tag (lba_of work) (sectors_of work) ≡ port_says port tag
@@ -117,6 +117,7 @@ early_named port w e q is named = by (halted port.past) (nat_le port.depth w.tag
   where
     says : Bool → Bool → Bool → Option Refusal
     says h n f = joined (option_map of_issue (cond h (Some Halted) (cond n (Some NoSuchTag) (cond f None (Some SlotOwned)))))
+
     by : (h n f : Bool) → halted port.past ≡ h → nat_le port.depth w.tag ≡ n → is_free (journal.phase port.past w.tag) ≡ f → (e : IssueFault) → RefusesIssue port w e → Some q ≡ of_issue e → says h n f ≡ Some q
     by h n f eh en ef Halted is named = ap (λ x. says x n f) (sym eh ∙ is) ∙ sym named
     by h n f eh en ef NoSuchTag is named = ap (λ x. says x n f) (sym eh ∙ is.0) ∙ ap (λ x. says false x f) (sym en ∙ le-leb _ _ is.1) ∙ sym named

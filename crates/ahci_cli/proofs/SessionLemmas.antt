@@ -2,12 +2,13 @@
 use Rattle.std.proofs.Common.{◌≡◌, ℕ, Bool, true, false, cond, List, [], ◌∷◌, ◌++◌, Option, Some, None, Result, Ok, Err, OnOk, length, IsSomeAnd, refl, sym, ap, ◌∙◌, subst, append-nil, nat_le, nat_lt}
 use Rattle.std.specs.Option.{option_and_then, option_map}
 use Rattle.ahci_cli.specs.Refusals.{joined}
-use Rattle.ahci_cli.specs.Script.{IsAnswered, IsSaid, Left, newest_text, said_of, stepped_text}
-use Rattle.ahci_cli.specs.Transcript.{Grown, is_placed, placed_by}
+use Rattle.ahci_cli.specs.Script.{IsAnswered, IsSaid, Left, is_in_place, newest_text, said_of, stepped_text}
+use Rattle.ahci_cli.specs.Transcript.{Grown, is_placed, placed, placed_by}
 use Rattle.ahci_cli.specs.declared.unanswered.Unanswered.{Unanswered}
+use Rattle.ahci_cli.specs.declared.unanswered.Unanswered.TheVariants.{OutOfPlace}
 use Rattle.ahci_port.specs.Faults.{Answers, AnswersOr}
 use Rattle.ahci_port.specs.PortView.{PortView}
-use Rattle.ahci_port.specs.Steps.{IsStepped, TakenBy, passes_end}
+use Rattle.ahci_port.specs.Steps.{IsServed, IsStepped, TakenBy, passes_end}
 use Rattle.ahci_port.specs.declared.step.DeviceStep.{DeviceStep}
 use Rattle.ahci_port.specs.declared.step.DeviceStep.TheVariants.{Accept, Serve, Fail}
 use Rattle.ahci_port.specs.declared.step.Stepped.{Stepped}
@@ -39,27 +40,19 @@ not_none q e = cc
 -- a call that was carried out is answered by what it tells
 pub carried_out : {F : Type 0} (T : Type 0) (x : T) (o : Option F) (show : F → Refusal) (Does : Type 0) (text : List ℕ) (old new : PortView) (r : Said) (before after : List ℕ) → Answers {T = T} {E = F} (Ok x) o → Does → Shows r text before after → OnOk r (IsAnswered (option_map show o) Does text old new before after)
 carried_out T x None show Does text old new r before after is does said = on_ok_from r (IsSaid text before after) _ said (λ t. (does, t))
-carried_out {F} T x (Some f) show Does text old new r before after is does said = absurd (other is)
-  where
-    other : Ok {T = T} {E = F} x ≡ Err f → ⊥
-    other e = cc
+carried_out T x (Some f) show Does text old new r before after is does said = cc
 
 -- a refused call is answered by its fault
 pub refused : {F : Type 0} (T : Type 0) (f : F) (o : Option F) (show : F → Refusal) (q : Refusal) (Does : Type 0) (text : List ℕ) (old new : PortView) (r : Said) (before after : List ℕ) → Answers {T = T} {E = F} (Err f) o → q ≡ show f → new ≡ old → Shows r (answer_text (Refused q)) before after → OnOk r (IsAnswered (option_map show o) Does text old new before after)
 refused T f None show q Does text old new r before after is named same said = cc
-refused {F} T f (Some g) show q Does text old new r before after is named same said =
-    on_ok_from r (IsSaid (answer_text (Refused q)) before after) _ said (λ t. (same, subst (λ x. IsSaid (answer_text (Refused x)) before after) (named ∙ ap show (inner is)) t))
-  where
-    inner : Err {T = T} {E = F} f ≡ Err g → f ≡ g
-    inner e = cc
+refused T f (Some g) show q Does text old new r before after is named same said =
+    let inner : f ≡ g = cc in
+    on_ok_from r (IsSaid (answer_text (Refused q)) before after) _ said (λ t. (same, subst (λ x. IsSaid (answer_text (Refused x)) before after) (named ∙ ap show inner) t))
 
 -- the same of calls that may lack memory
 pub carried_out_or : {F : Type 0} (T : Type 0) (x : T) (o : Option F) (lacking : F) (show : F → Option Refusal) (Does : Type 0) (text : List ℕ) (old new : PortView) (r : Said) (before after : List ℕ) → AnswersOr {T = T} {E = F} (Ok x) o lacking → Does → Shows r text before after → OnOk r (IsAnswered (joined (option_map show o)) Does text old new before after)
 carried_out_or T x None lacking show Does text old new r before after is does said = on_ok_from r (IsSaid text before after) _ said (λ t. (does, t))
-carried_out_or {F} T x (Some f) lacking show Does text old new r before after is does said = absurd (other is)
-  where
-    other : Ok {T = T} {E = F} x ≡ Err f → ⊥
-    other e = cc
+carried_out_or T x (Some f) lacking show Does text old new r before after is does said = cc
 
 -- a refusal that is shown is answered
 pub shown : (o : Option Refusal) (q : Refusal) (Does : Type 0) (text : List ℕ) (old new : PortView) (r : Said) (before after : List ℕ) → o ≡ Some q → new ≡ old → Shows r (answer_text (Refused q)) before after → OnOk r (IsAnswered o Does text old new before after)
@@ -72,11 +65,9 @@ told o Does text old new r before after is does said =
 
 pub refused_or : {F : Type 0} (T : Type 0) (f : F) (o : Option F) (lacking : F) (show : F → Option Refusal) (q : Refusal) (Does : Type 0) (text : List ℕ) (old new : PortView) (r : Said) (before after : List ℕ) → show lacking ≡ None → AnswersOr {T = T} {E = F} (Err f) o lacking → Some q ≡ show f → new ≡ old → Shows r (answer_text (Refused q)) before after → OnOk r (IsAnswered (joined (option_map show o)) Does text old new before after)
 refused_or T f None lacking show q Does text old new r before after none is named same said = absurd (not_none q (named ∙ ap show is ∙ none))
-refused_or {F} T f (Some g) lacking show q Does text old new r before after none is named same said =
-    shown (show g) q Does text old new r before after (sym (named ∙ ap show (inner is))) same said
-  where
-    inner : Err {T = T} {E = F} f ≡ Err g → f ≡ g
-    inner e = cc
+refused_or T f (Some g) lacking show q Does text old new r before after none is named same said =
+    let inner : f ≡ g = cc in
+    shown (show g) q Does text old new r before after (sym (named ∙ ap show inner)) same said
 
 -- a step's answer tells the entry that it has appended
 taken_tells : (passes : Bool) (tag : ℕ) (r : Request) (old new : PortView) (done : Stepped) → TakenBy passes tag r.work old new done → stepped_text done ≡ newest_text new.past
@@ -91,8 +82,9 @@ pub step_tells : (s : DeviceStep) (old new : PortView) (done : Stepped) → IsSt
 step_tells (Accept tag) old new done is = accept_tells (request old.past tag) tag old new done is
 step_tells (Serve tag) old new done is = by (window_at old tag) is
   where
-    by : (o : Option WindowState) → IsSomeAnd o (λ w. _) → stepped_text done ≡ newest_text new.past
-    by o i = cc
+    by : (o : Option WindowState) → IsSomeAnd o (λ w. IsServed tag w old new done) → stepped_text done ≡ newest_text new.past
+    by None i = absurd i
+    by (Some w) i = ap stepped_text i.answer_is ∙ sym (ap newest_text i.appended.past_is)
 step_tells (Fail tag error lba) old new done is = ap stepped_text is.answer_is ∙ sym (ap newest_text is.appended.past_is)
 
 -- a skipped line adds nothing
@@ -112,3 +104,24 @@ run_grown port port' line old new command is may left said = record {
   left = left;
   grown = said;
 }
+
+-- the same answer, where the refusal is the same and what was done says more
+pub answered_as : (o o' : Option Refusal) (Does Does' : Type 0) (text : List ℕ) (old new : PortView) (r : Said) (before after : List ℕ) → o' ≡ o → (Does → Does') → OnOk r (IsAnswered o Does text old new before after) → OnOk r (IsAnswered o' Does' text old new before after)
+answered_as None o' Does Does' text old new r before after same more said =
+    on_ok_from r _ _ said (λ t. subst (λ x. IsAnswered x Does' text old new before after) (sym same) (more t.0, t.1))
+answered_as (Some q) o' Does Does' text old new r before after same more said =
+    on_ok_from r _ _ said (λ t. subst (λ x. IsAnswered x Does' text old new before after) (sym same) t)
+
+-- a command that was not told to be out of place may stand here
+pub in_place : (b : Bool) (r : Said) → (b ≡ false → r ≡ Err OutOfPlace) → (r ≡ Err OutOfPlace → ⊥) → b ≡ true
+in_place true r told other = refl
+in_place false r told other = absurd (other (told refl))
+
+-- a line with such a command is none that is not understood or out of place
+pub not_wrong : (port : Option PortView) (line : List ℕ) (command : Command) (P : Type 0) → line_of line ≡ Some (Run command) → is_in_place port command ≡ true → placed port line ≡ None → P
+not_wrong port line command P is may none =
+    let some : placed port line ≡ Some (Run command) = ap (option_and_then (placed_by port)) is ∙ ap (λ b. cond b (Some (Run command)) None) may in
+    absurd (differ (sym some ∙ none))
+  where
+    differ : Some (Run command) ≡ None → ⊥
+    differ e = cc

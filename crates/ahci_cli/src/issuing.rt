@@ -5,6 +5,7 @@ ghost use Rattle.std.specs.Option.{option_map};
 ghost use Rattle.ncq_journal.specs.Work.{work_of, lba_of, sectors_of};
 ghost use Rattle.ahci_port.specs.Faults.{early_refusal};
 ghost use Rattle.ahci_port.specs.Steps.{IsIssued};
+ghost use Rattle.ahci_table.specs.Defaults.{default_list};
 ghost use Rattle.ahci_table.specs.Fit.{IsFit};
 ghost use Rattle.ahci_table.specs.Refusal.{is_ragged};
 ghost use Rattle.ahci_cli.specs.Refusals.{issue_refusal, joined, of_issue};
@@ -15,7 +16,8 @@ use crate::refusals::issue_refusal;
 use crate::unanswered::Unanswered;
 use ahci_port::Port;
 use ahci_script::{Answer, Command, Output, Refusal};
-use ahci_table::{BuildFault, Window, default_pieces};
+use ahci_table::{BuildFault, Piece, Window, default_pieces};
+use arrayvec::ArrayVec;
 use ncq_core::{Bytes, Op};
 use std::alloc::{AllocError, Allocator};
 
@@ -69,6 +71,14 @@ pub(crate) fn write<A: Allocator + Clone>(
     issue(port, alloc, output, tag, &Op::Write { lba, bytes })
 }
 
+/// The pieces that serve for a command where nothing else is asked for.
+fn pieces_of<A: Allocator>(op: &Op<A>) -> ArrayVec<Piece, 32>
+    requires { sectors_of (work_of op.now) < 2 ^ 32 }
+    ensures { result.items ≡ default_list (sectors_of (work_of op.now)) }
+{
+    default_pieces(op.sectors() as u32)
+}
+
 /// Issues a command: its window is built first, so a bad count or address is told before anything
 /// that the port says.
 pub(crate) fn issue<A: Allocator + Clone>(
@@ -86,7 +96,7 @@ pub(crate) fn issue<A: Allocator + Clone>(
     ensures memory { IfErr result (λ e. e ≡ Unanswered.OutOfMemory) }
     ensures err { OnErr result (output.new ≡ output.old) }
 {
-    let pieces = default_pieces(op.sectors() as u32);
+    let pieces = pieces_of(op);
     match Window::build(alloc.clone()?, tag, op, &pieces) {
         Ok(window) => issue_window(port, output, window),
         Err(BuildFault::BadCount) => refuse(output, Refusal::BadCount),

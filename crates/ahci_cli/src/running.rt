@@ -162,10 +162,7 @@ fn word_in(page: &[u8; 512], word: u8) -> u16
 }
 
 /// Sends FLUSH CACHE EXT.
-fn flush<A: Allocator + Clone>(
-    port: &mut Port<A>,
-    output: &mut Output<A>,
-) -> Result<(), Unanswered>
+fn flush<A: Allocator + Clone>(port: &mut Port<A>, output: &mut Output<A>) -> Result<(), Unanswered>
     ensures ok { OnOk result (Says port.old Command.Flush port.new output.old output.new) }
     ensures memory { IfErr result (λ e. e ≡ Unanswered.OutOfMemory) }
     ensures err { OnErr result (output.new ≡ output.old) }

@@ -69,8 +69,8 @@ pieces_apart : (n s k : ℕ) → are_apart (pieces_from n s k) ≡ true
 pieces_apart n s zero = refl
 pieces_apart n s (suc k) =
     let first : list_all (is_apart (default_piece n s)) (pieces_from n (s + 1) k) ≡ true = each_is (is_apart (default_piece n s)) n (s + 1) k (λ i low high.
-      let before : nat_le (end_of (default_piece n s)) (0x1000 + 0x1000 * i) ≡ true = is_le _ _ (omega (arith, low)) in
-      ap (λ b. b || nat_le (end_of (default_piece n i)) (0x1000 + 0x1000 * s)) before) in
+    let before : nat_le (end_of (default_piece n s)) (0x1000 + 0x1000 * i) ≡ true = is_le _ _ (omega (arith, low)) in
+    ap (λ b. b || nat_le (end_of (default_piece n i)) (0x1000 + 0x1000 * s)) before) in
     let others = pieces_apart n (s + 1) k in
     rw (first, others) refl
 
@@ -92,7 +92,7 @@ default_pieces_serve n some most =
     let few : nat_lt 32 (length ps) ≡ false = ap (nat_lt 32) count ∙ not_below 32 k k_few in
     let fine : list_any is_odd ps ≡ false = none_is is_odd n 0 k (λ i low high. piece_fine n i (omega (arith, high))) in
     let inside : list_any (is_outside (length ps)) ps ≡ false =
-      ap (λ x. list_any (is_outside x) ps) count ∙ none_is (is_outside k) n 0 k (λ i low high. piece_inside n k i k_few (omega (arith, high, k_few))) in
+    ap (λ x. list_any (is_outside x) ps) count ∙ none_is (is_outside k) n 0 k (λ i low high. piece_inside n k i k_few (omega (arith, high, k_few))) in
     let apart : not (are_apart ps) ≡ false = ap not (pieces_apart n 0 k) in
     let sum : total ps ≡ 512 * n = pieces_total n 0 k ∙ omega arith in
     let whole : not (nat_eq (total ps) (512 * n)) ≡ false = ap not (is_eq (total ps) (512 * n) sum) in

@@ -1,0 +1,44 @@
+use Rattle.std.proofs.Common.{◌≡◌, ◌∙◌, None, Some, ap, refl, sym}
+use Rattle.ahci_port.specs.Steps.{IsIssued}
+use Rattle.ahci_table.specs.Defaults.{default_list}
+use Rattle.ahci_table.specs.Refusal.{refusal}
+use Rattle.ahci_table.specs.declared.fault.BuildFault.TheVariants.{BadCount, BadLba}
+use Rattle.ncq_journal.specs.Work.{lba_of, sectors_of, work_of}
+use Rattle.ahci_script.specs.declared.refusal.Refusal.TheVariants as refused
+use Rattle.ahci_cli.specs.Refusals.{issue_refusal}
+use Rattle.ahci_cli.specs.Script.{IsIssuedFor, newest_text}
+use Rattle.ahci_cli.proofs.IssuingLemmas.{address_issue, built_free, built_named, count_issue, free_issue, port_says}
+use Rattle.ahci_cli.proofs.SessionLemmas.{answered_as, shown}
+use Rattle.ahci_cli.proofs.issuing.issue.Goals as goal
+
+pub returns-in-Ok-clause-ok : goal.returns-in-Ok-clause-ok
+returns-in-Ok-clause-ok g c =
+    let a = c.args in
+    let work = work_of a.op.now in
+    let old = a.port.now in
+    let new = c.issue_window.new.port in
+    let pieces : c.deref.result.now ≡ default_list (sectors_of work) = c.deref.ensures.0 ∙ c.pieces_of-pieces.ensures in
+    let free : refusal work (default_list (sectors_of work)) ≡ None = ap (refusal work) (sym pieces) ∙ built_free _ c.in-Ok.window (refusal work c.deref.result.now) c.in-Ok.ensures.fault in
+    let built = c.in-Ok.ensures.bytes in
+    answered_as (port_says old c.in-Ok.window.tag) (issue_refusal old a.tag (lba_of work) (sectors_of work)) (IsIssued c.in-Ok.window old new) (IsIssuedFor a.tag work old new) (newest_text new.past) old new c.issue_window.result a.output.now c.issue_window.new.output
+    (free_issue old a.tag work c.requires.whole free ∙ ap (port_says old) (sym built.tag_is))
+    (λ issued. record { window = c.in-Ok.window; built = rw (← pieces) built; issued = issued })
+    c.issue_window.ensures.ok
+
+pub returns-in-Err-BadCount-clause-ok : goal.returns-in-Err-BadCount-clause-ok
+returns-in-Err-BadCount-clause-ok g c =
+    let a = c.args in
+    let work = work_of a.op.now in
+    let pieces : c.deref.result.now ≡ default_list (sectors_of work) = c.deref.ensures.0 ∙ c.pieces_of-pieces.ensures in
+    let named : refusal work (default_list (sectors_of work)) ≡ Some BadCount =
+    ap (refusal work) (sym pieces) ∙ built_named BadCount c.in-Err-BadCount.field-0 (refusal work c.deref.result.now) c.in-Err-BadCount.field-0-is (λ e. cc) c.in-Err-BadCount.ensures.fault in
+    shown (issue_refusal a.port.now a.tag (lba_of work) (sectors_of work)) refused.BadCount (IsIssuedFor a.tag work a.port.now a.port.now) (newest_text a.port.now.past) a.port.now a.port.now c.refuse.result a.output.now c.refuse.new.output (count_issue a.port.now a.tag work c.requires.whole named) refl c.refuse.ensures.text
+
+pub returns-in-Err-BadLba-clause-ok : goal.returns-in-Err-BadLba-clause-ok
+returns-in-Err-BadLba-clause-ok g c =
+    let a = c.args in
+    let work = work_of a.op.now in
+    let pieces : c.deref.result.now ≡ default_list (sectors_of work) = c.deref.ensures.0 ∙ c.pieces_of-pieces.ensures in
+    let named : refusal work (default_list (sectors_of work)) ≡ Some BadLba =
+    ap (refusal work) (sym pieces) ∙ built_named BadLba c.in-Err-BadLba.field-0 (refusal work c.deref.result.now) c.in-Err-BadLba.field-0-is (λ e. cc) c.in-Err-BadLba.ensures.fault in
+    shown (issue_refusal a.port.now a.tag (lba_of work) (sectors_of work)) refused.BadLba (IsIssuedFor a.tag work a.port.now a.port.now) (newest_text a.port.now.past) a.port.now a.port.now c.refuse-in-Err-BadLba.result a.output.now c.refuse-in-Err-BadLba.new.output (address_issue a.port.now a.tag work c.requires.whole named) refl c.refuse-in-Err-BadLba.ensures.text
