@@ -33,26 +33,33 @@ digits_onto-more k value behind more =
     rw some refl
 
 -- with as many zeros before them as are lacking, they are the last digits of the number
-digits_onto-padded : (n k value : ℕ) (behind : List ℕ) → n ≤ k → value < 16 ^ suc n → replicate (suc n + length behind - length (digits_onto (suc k) 16 false value behind)) 48 ++ digits_onto (suc k) 16 false value behind ≡ hex_of (suc n) value ++ behind
-digits_onto-padded zero k value behind few fits =
+abbrev IsPadded : (n k value : ℕ) (behind : List ℕ) → Type 0
+IsPadded n k value behind =
+    replicate (suc n + length behind - length (digits_onto (suc k) 16 false value behind)) 48 ++ digits_onto (suc k) 16 false value behind ≡ hex_of (suc n) value ++ behind
+
+-- a number of one digit
+padded-last : (n k value : ℕ) (behind : List ℕ) → value < 16 → IsPadded n k value behind
+padded-last n k value behind small =
     let none : value / 16 ≡ 0 = omega arith in
-    let lacking : 1 + length behind - suc (length behind) ≡ 0 = omega arith in
-    rw (digits_onto-last k value behind none, lacking) refl
+    let lacking : suc n + length behind - suc (length behind) ≡ n = omega arith in
+    let zeros : hex_of n (value / 16) ≡ replicate n 48 = rw none (hex_of-zero n) in
+    rw (digits_onto-last k value behind none, lacking, zeros) (sym (append_assoc (replicate n 48) (digit_glyph false (value % 16) ∷ []) behind))
+
+-- a number of more, where the front has its zeros
+padded-more : (n k value : ℕ) (behind : List ℕ) → 16 ≤ value → IsPadded n k (value / 16) (digit_glyph false (value % 16) ∷ behind) → IsPadded (suc n) (suc k) value behind
+padded-more n k value behind large front =
+    let lacking : suc (suc n) + length behind ≡ suc n + suc (length behind) = omega arith in
+    rw (digits_onto-more (suc k) value behind large, lacking) (front ∙ sym (append_assoc (hex_of (suc n) (value / 16)) (digit_glyph false (value % 16) ∷ []) behind))
+
+digits_onto-padded : (n k value : ℕ) (behind : List ℕ) → n ≤ k → value < 16 ^ suc n → IsPadded n k value behind
+digits_onto-padded zero k value behind few fits = padded-last zero k value behind (omega arith)
 digits_onto-padded (suc n) zero value behind few fits = absurd (omega (arith, few))
 digits_onto-padded (suc n) (suc k) value behind few fits =
-    ⊎_elim
-    (λ small.
-    let none : value / 16 ≡ 0 = omega arith in
-    let lacking : suc (suc n) + length behind - suc (length behind) ≡ suc n = omega arith in
-    let zeros : hex_of (suc n) (value / 16) ≡ replicate (suc n) 48 = rw none (hex_of-zero (suc n)) in
-    rw (digits_onto-last (suc k) value behind none, lacking, zeros) (sym (append_assoc (replicate (suc n) 48) (digit_glyph false (value % 16) ∷ []) behind)))
-    (λ large.
-    let part : value / 16 < 16 ^ suc n = omega (arith, pow-suc 16 (suc n)) in
-    let rest = digits_onto-padded n k (value / 16) (digit_glyph false (value % 16) ∷ behind) (omega arith) part in
-    let lacking : suc (suc n) + length behind ≡ suc n + suc (length behind) = omega arith in
-    rw (digits_onto-more (suc k) value behind large, lacking) (rest ∙ sym (append_assoc (hex_of (suc n) (value / 16)) (digit_glyph false (value % 16) ∷ []) behind)))
-    (cases_lt value 16)
+    let front : value / 16 < 16 ^ suc n = omega (arith, pow-suc 16 (suc n)) in
+    let rest = digits_onto-padded n k (value / 16) (digit_glyph false (value % 16) ∷ behind) (omega arith) front in
+    ⊎_elim (λ small. padded-last (suc n) (suc k) value behind small) (λ large. padded-more n k value behind large rest) (cases_lt value 16)
 
+-- `digits` writes up to 64 digits
 digits-onto : (value : ℕ) → digits 16 false value ≡ digits_onto (suc 63) 16 false value []
 unfolding digits
 digits-onto value = refl
@@ -64,11 +71,12 @@ numeral-padded n k value numeral is few fits =
     let whole : replicate (suc n + 0 - length (digits_onto (suc k) 16 false value [])) 48 ++ digits_onto (suc k) 16 false value [] ≡ hex_of (suc n) value ++ [] = digits_onto-padded n k value [] few fits in
     rw is ((rw none at whole) ∙ append-nil (hex_of (suc n) value))
 
-pub hex_padded : (n value : ℕ) → n < 64 → value < 16 ^ suc n → padded_integral (format_spec 32 0 4 (suc n) (2 ^ 64 - 1)) false [] (digits 16 false value) ≡ hex_of (suc n) value
+-- a number of at most n + 1 digits, padded with zeros to as many
+hex_padded : (n value : ℕ) → n < 64 → value < 16 ^ suc n → padded_integral (format_spec 32 0 4 (suc n) (2 ^ 64 - 1)) false [] (digits 16 false value) ≡ hex_of (suc n) value
 hex_padded n value few fits =
     padded-zeros (suc n) (digits 16 false value) ∙ numeral-padded n 63 value (digits 16 false value) (digits-onto value) (omega arith) fits
 
--- a byte, a word of 16 bits, and one of 32
+-- a byte, a word of the identify page, and a register
 pub hex_two : (value : ℕ) → value < 256 → padded_integral (format_spec 32 0 4 2 (2 ^ 64 - 1)) false [] (digits 16 false value) ≡ hex_of 2 value
 hex_two value fits = hex_padded 1 value (omega arith) fits
 
