@@ -72,6 +72,27 @@ static REFUSED_REQUESTS: [Row; 8] = [
     ("journal", "journal 0"),
 ];
 
+/// A command far behind the last sector fails when it is accepted, with IDNF at its first sector.
+static FAR_BEHIND_THE_END: [Row; 5] = [
+    ("disk 1000 32", "disk 1000 32"),
+    ("read 5 78187493530 8", "issued 0"),
+    ("accept 5", "failed 1"),
+    ("recover", "recovered 5"),
+    ("collect 5 0", "failed 1 10 78187493530"),
+];
+
+/// A failure is told by the log page: tag, error and LBA.
+static LOGGED: [Row; 8] = [
+    ("disk 8 4", "disk 8 4"),
+    ("read 3 7 1", "issued 0"),
+    ("accept 3", "accepted 1"),
+    ("fail 3 40 7", "failed 2"),
+    ("serve 3", "refused Halted"),
+    ("recover", "recovered 3"),
+    ("collect 3 0", "failed 2 40 7"),
+    ("reg 120", "00000040"),
+];
+
 /// A disk's numbers are refused by their full value, and only an accepted disk counts.
 static DISKS: [Row; 8] = [
     ("disk 131073 1", "refused BadSize"),
@@ -131,6 +152,8 @@ fn each_line_has_its_answer(rt: HostRuntime) -> Result<(), Fail> {
         READ_BETWEEN_WRITES.as_slice(),
         STRANGERS.as_slice(),
         REFUSED_REQUESTS.as_slice(),
+        FAR_BEHIND_THE_END.as_slice(),
+        LOGGED.as_slice(),
         DISKS.as_slice(),
         EDGES.as_slice(),
     ];
