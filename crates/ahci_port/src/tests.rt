@@ -1,6 +1,7 @@
 //! The port in use: each call once with memory, and the worked rows.
 ghost use Rattle.std.specs.Prelude.{◌≤◌, ◌<◌};
 
+mod comparing;
 mod errors;
 
 use crate::{
