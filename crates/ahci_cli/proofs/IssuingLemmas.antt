@@ -63,22 +63,6 @@ address_case false false false l rest whole free is = absurd (none_some (sym (fr
     none_some : None ≡ Some build.BadLba → ⊥
     none_some e = cc
 
--- any other fault of a list doesn't come about
-other_case : (c b r : Bool) (l : Option BuildFault) (f : BuildFault) → r ≡ false → ((c || r) ≡ false → l ≡ None) → f ≢ build.BadCount → f ≢ build.BadLba → cond (c || r) (Some build.BadCount) (cond b (Some build.BadLba) l) ≡ Some f → ⊥
-other_case true b r l f whole free count address is = count (same is)
-  where
-    same : Some build.BadCount ≡ Some f → f ≡ build.BadCount
-    same e = cc
-other_case false b true l f whole free count address is = absurd (true≢false whole)
-other_case false true false l f whole free count address is = address (same is)
-  where
-    same : Some build.BadLba ≡ Some f → f ≡ build.BadLba
-    same e = cc
-other_case false false false l f whole free count address is = none_some (sym (free refl) ∙ is)
-  where
-    none_some : None ≡ Some f → ⊥
-    none_some e = cc
-
 -- what the port says of the tag
 abbrev pub port_says : PortView → ℕ → Option Refusal
 port_says port tag = joined (option_map of_issue (early_refusal port tag))
@@ -94,37 +78,3 @@ count_issue port tag work whole is =
 pub address_issue : (port : PortView) (tag : ℕ) (work : Work) → is_ragged work ≡ false → refusal work (default_list (sectors_of work)) ≡ Some build.BadLba → issue_refusal port tag (lba_of work) (sectors_of work) ≡ Some refused.BadLba
 address_issue port tag work whole is =
     address_case (count_bad (sectors_of work)) (nat_le (2 ^ 48) (lba_of work)) (is_ragged work) (list_refusal (default_list (sectors_of work)) (512 * sectors_of work)) (port_says port tag) whole (defaults_serve work) is
-
--- the port takes the tag
-pub early_free : (port : PortView) (tag : ℕ) → MayTake port tag → port_says port tag ≡ None
-early_free port tag may = by (halted port.past) (nat_le port.depth tag) (is_free (journal.phase port.past tag)) may.running (lt-leb _ _ may.below) (ap is_free may.free)
-  where
-    by : (h n f : Bool) → h ≡ false → n ≡ false → f ≡ true → joined (option_map of_issue (cond h (Some Halted) (cond n (Some NoSuchTag) (cond f None (Some SlotOwned))))) ≡ None
-    by h n f e1 e2 e3 = rw (e1, e2, e3) refl
-
-not_free : (p : Phase) → p ≢ phase.Free → is_free p ≡ false
-not_free phase.Free other = absurd (other refl)
-not_free phase.Issued other = refl
-not_free phase.Accepted other = refl
-not_free phase.Rejected other = refl
-not_free phase.Broken other = refl
-not_free phase.Held other = refl
-not_free phase.Done other = refl
-
--- the fault that the port names is the one that is shown
-pub early_named : (port : PortView) (w : WindowState) (e : IssueFault) (q : Refusal) → RefusesIssue port w e → Some q ≡ of_issue e → port_says port w.tag ≡ Some q
-early_named port w e q is named = by (halted port.past) (nat_le port.depth w.tag) (is_free (journal.phase port.past w.tag)) refl refl refl e is named
-  where
-    says : Bool → Bool → Bool → Option Refusal
-    says h n f = joined (option_map of_issue (cond h (Some Halted) (cond n (Some NoSuchTag) (cond f None (Some SlotOwned)))))
-
-    by : (h n f : Bool) → halted port.past ≡ h → nat_le port.depth w.tag ≡ n → is_free (journal.phase port.past w.tag) ≡ f → (e : IssueFault) → RefusesIssue port w e → Some q ≡ of_issue e → says h n f ≡ Some q
-    by h n f eh en ef Halted is named = ap (λ x. says x n f) (sym eh ∙ is) ∙ sym named
-    by h n f eh en ef NoSuchTag is named = ap (λ x. says x n f) (sym eh ∙ is.0) ∙ ap (λ x. says false x f) (sym en ∙ le-leb _ _ is.1) ∙ sym named
-    by h n f eh en ef SlotOwned is named = ap (λ x. says x n f) (sym eh ∙ is.0) ∙ ap (λ x. says false x f) (sym en ∙ lt-leb _ _ is.1) ∙ ap (says false false) (sym ef ∙ not_free (journal.phase port.past w.tag) is.2) ∙ sym named
-    by h n f eh en ef BadHeader is named = cc
-    by h n f eh en ef BadCommand is named = cc
-    by h n f eh en ef WrongTag is named = cc
-    by h n f eh en ef TooLong is named = cc
-    by h n f eh en ef BadList is named = cc
-    by h n f eh en ef OutOfMemory is named = cc

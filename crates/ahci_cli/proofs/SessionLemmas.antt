@@ -1,12 +1,11 @@
 -- Lemmas about what a command answers.
 use Rattle.std.proofs.Common.{◌≡◌, ℕ, Bool, true, false, cond, List, [], ◌∷◌, ◌++◌, Option, Some, None, Result, Ok, Err, OnOk, length, IsSomeAnd, refl, sym, ap, ◌∙◌, subst, append-nil, nat_le, nat_lt}
 use Rattle.std.specs.Option.{option_and_then, option_map}
-use Rattle.ahci_cli.specs.Refusals.{joined}
 use Rattle.ahci_cli.specs.Script.{IsAnswered, IsSaid, Left, is_in_place, newest_text, said_of, stepped_text}
 use Rattle.ahci_cli.specs.Transcript.{Grown, is_placed, placed, placed_by}
 use Rattle.ahci_cli.specs.declared.unanswered.Unanswered.{Unanswered}
 use Rattle.ahci_cli.specs.declared.unanswered.Unanswered.TheVariants.{OutOfPlace}
-use Rattle.ahci_port.specs.Faults.{Answers, AnswersOr}
+use Rattle.ahci_port.specs.Faults.{Answers}
 use Rattle.ahci_port.specs.PortView.{PortView}
 use Rattle.ahci_port.specs.Steps.{IsServed, IsStepped, TakenBy, passes_end}
 use Rattle.ahci_port.specs.declared.step.DeviceStep.{DeviceStep}
@@ -34,9 +33,6 @@ Said = Result (Unit {0}) Unanswered
 abbrev Shows : Said → List ℕ → List ℕ → List ℕ → Type 0
 Shows r text before after = OnOk r (IsSaid text before after)
 
-not_none : (q : Refusal) → Some q ≡ None → ⊥
-not_none q e = cc
-
 -- a call that was carried out is answered by what it tells
 pub carried_out : {F : Type 0} (T : Type 0) (x : T) (o : Option F) (show : F → Refusal) (Does : Type 0) (text : List ℕ) (old new : PortView) (r : Said) (before after : List ℕ) → Answers {T = T} {E = F} (Ok x) o → Does → Shows r text before after → OnOk r (IsAnswered (option_map show o) Does text old new before after)
 carried_out T x None show Does text old new r before after is does said = on_ok_from r (IsSaid text before after) _ said (λ t. (does, t))
@@ -49,25 +45,10 @@ refused T f (Some g) show q Does text old new r before after is named same said 
     let inner : f ≡ g = cc in
     on_ok_from r (IsSaid (answer_text (Refused q)) before after) _ said (λ t. (same, subst (λ x. IsSaid (answer_text (Refused x)) before after) (named ∙ ap show inner) t))
 
--- the same of calls that may lack memory
-pub carried_out_or : {F : Type 0} (T : Type 0) (x : T) (o : Option F) (lacking : F) (show : F → Option Refusal) (Does : Type 0) (text : List ℕ) (old new : PortView) (r : Said) (before after : List ℕ) → AnswersOr {T = T} {E = F} (Ok x) o lacking → Does → Shows r text before after → OnOk r (IsAnswered (joined (option_map show o)) Does text old new before after)
-carried_out_or T x None lacking show Does text old new r before after is does said = on_ok_from r (IsSaid text before after) _ said (λ t. (does, t))
-carried_out_or T x (Some f) lacking show Does text old new r before after is does said = cc
-
 -- a refusal that is shown is answered
 pub shown : (o : Option Refusal) (q : Refusal) (Does : Type 0) (text : List ℕ) (old new : PortView) (r : Said) (before after : List ℕ) → o ≡ Some q → new ≡ old → Shows r (answer_text (Refused q)) before after → OnOk r (IsAnswered o Does text old new before after)
 shown o q Does text old new r before after is same said =
     on_ok_from r (IsSaid (answer_text (Refused q)) before after) _ said (λ t. subst (λ x. IsAnswered x Does text old new before after) (sym is) (same, t))
-
-pub told : (o : Option Refusal) (Does : Type 0) (text : List ℕ) (old new : PortView) (r : Said) (before after : List ℕ) → o ≡ None → Does → Shows r text before after → OnOk r (IsAnswered o Does text old new before after)
-told o Does text old new r before after is does said =
-    on_ok_from r (IsSaid text before after) _ said (λ t. subst (λ x. IsAnswered x Does text old new before after) (sym is) (does, t))
-
-pub refused_or : {F : Type 0} (T : Type 0) (f : F) (o : Option F) (lacking : F) (show : F → Option Refusal) (q : Refusal) (Does : Type 0) (text : List ℕ) (old new : PortView) (r : Said) (before after : List ℕ) → show lacking ≡ None → AnswersOr {T = T} {E = F} (Err f) o lacking → Some q ≡ show f → new ≡ old → Shows r (answer_text (Refused q)) before after → OnOk r (IsAnswered (joined (option_map show o)) Does text old new before after)
-refused_or T f None lacking show q Does text old new r before after none is named same said = absurd (not_none q (named ∙ ap show is ∙ none))
-refused_or T f (Some g) lacking show q Does text old new r before after none is named same said =
-    let inner : f ≡ g = cc in
-    shown (show g) q Does text old new r before after (sym (named ∙ ap show inner)) same said
 
 -- a step's answer tells the entry that it has appended
 taken_tells : (passes : Bool) (tag : ℕ) (r : Request) (old new : PortView) (done : Stepped) → TakenBy passes tag r.work old new done → stepped_text done ≡ newest_text new.past
