@@ -7,11 +7,17 @@ use std::rt::Files;
 
 /// The examples by name: `NAME.ahci` is the script, `NAME.out` its answers and `NAME.err`, where it is
 /// there, the fault that ends it.
-static EXAMPLES: [&str; 4] = [
+static EXAMPLES: [&str; 10] = [
+    "broken_write",
+    "crowd",
+    "error_in_a_queue",
+    "last_sector",
     "read_between_writes",
     "refused_requests",
+    "registers",
     "strangers",
     "two_writes",
+    "unqueued_commands",
 ];
 
 fn main(rt: HostRuntime) -> anyhow::Result<()> {
