@@ -207,9 +207,7 @@ impl Story {
         let appended = self.catch_up(rt, call)?;
         assert_eq!(rt; appended, taken && call.kind() != 0x200);
         self.compare(rt);
-        if let Call::Step(step) = call {
-            self.compare_command(rt, step);
-        }
+        self.compare_image(rt);
         Ok(taken)
     }
 
@@ -243,19 +241,6 @@ impl Story {
         }
     }
 
-    /// Compares the sectors of a step's command.
-    fn compare_command(&self, rt: &impl Abort, step: DeviceStep) {
-        let (DeviceStep::Accept(tag) | DeviceStep::Serve(tag) | DeviceStep::Fail { tag, .. }) =
-            step;
-        if let Some(request) = request_of(self.events.as_slice(), tag) {
-            for lba in 0..u64::from(SECTORS) {
-                if is_covered(request.op(), lba) {
-                    self.compare_sector(rt, lba);
-                }
-            }
-        }
-    }
-
     fn compare_image(&self, rt: &impl Abort) {
         for lba in 0..u64::from(SECTORS) {
             self.compare_sector(rt, lba);
@@ -282,7 +267,7 @@ struct Kinds {
     refused: u32,
 }
 
-/// 200 calls on a new port. All sectors are compared after each 50.
+/// 200 calls on a new port.
 fn run(
     rt: &impl Abort,
     alloc: Global,
@@ -292,15 +277,12 @@ fn run(
 ) -> Result<(), Fail> {
     let mut story = Story::new(rt, alloc, depth)?;
     let mut picks = Picks::from_seed(seed);
-    for count in 1..=200 {
+    for _ in 0..200 {
         let call = picks.call(&story.port, story.events.as_slice());
         if story.go_on(rt, call)? {
             kinds.taken |= call.kind();
         } else {
             kinds.refused |= call.kind();
-        }
-        if count % 50 == 0 {
-            story.compare_image(rt);
         }
     }
     assert!(rt; is_lawful(SECTORS, depth, story.events.as_slice()));
