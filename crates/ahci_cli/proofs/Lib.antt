@@ -1,3 +1,2 @@
-pub mod SessionLemmas
-pub mod IssuingLemmas
+pub mod LineLemmas
 pub mod TranscriptLemmas

@@ -1,4 +1,2 @@
 pub mod Fault
-pub mod Refusals
-pub mod Script
 pub mod Transcript

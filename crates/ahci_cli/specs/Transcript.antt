@@ -3,7 +3,7 @@ use Rattle.std.specs.Prelude.{◌≡◌, ℕ, ◌+◌, Bool, true, if◌then◌e
 use Rattle.std.specs.Io.KnownBytes.{Appends, Consumes, IsAtEnd}
 use Rattle.ahci_cli.specs.declared.fault.CliFault.{CliFault}
 use Rattle.ahci_cli.specs.declared.fault.CliFault.TheVariants as fault
-use Rattle.ahci_cli.specs.Script.{Left, is_in_place, said_of}
+use Rattle.ahci_session.specs.Script.{Left, is_in_place, said_of}
 use Rattle.ahci_script.specs.Lines.{line_of}
 use Rattle.ahci_script.specs.Unread.{Begins, found_of, too_long, unfinished, whole}
 use Rattle.ahci_script.specs.declared.line.Line.{Line}

@@ -5,9 +5,8 @@ ghost use Rattle.ahci_script.specs.declared.input.TheConstants.{INPUT_LIMIT, LIN
 ghost use Rattle.ahci_cli.specs.Transcript.{Ends, EndsWith, Grown, IsLineFault, Progress, Replayed, ReplayedTo, Stops, place, placed};
 
 use crate::fault::CliFault;
-use crate::session::Session;
-use crate::unanswered::Unanswered;
 use ahci_script::{Found, INPUT_LIMIT, Input, Line, Output, parse};
+use ahci_session::{Session, Unanswered};
 use std::alloc::{AllocError, Allocator};
 use std::io::{Read, Write};
 
@@ -56,7 +55,7 @@ impl<A: Allocator + Clone> Script<A> {
     /// A script of which nothing came yet.
     fn new(alloc: A) -> Result<Self, AllocError>
         ensures { IfOk result (λ s.
-            (s.input.bytes ≡ []) × (s.output ≡ []) × (s.session.port ≡ None) × (s.line ≡ 0)) }
+            (s.input.bytes ≡ []) × (s.output ≡ []) × (s.session ≡ None) × (s.line ≡ 0)) }
     {
         Ok(Script {
             input: Input::new(alloc.clone()?)?,
@@ -69,11 +68,11 @@ impl<A: Allocator + Clone> Script<A> {
     /// Reads to the end of the input.
     fn run<R: Read, W: Write>(&mut self, reader: &mut R, writer: &mut W) -> Result<(), CliFault>
         ensures ok { OnOk result (Ends
-            (place (R.remaining reader.old) (W.contents writer.old) self.old.input.bytes self.old.output self.old.session.port self.old.line)
-            (place (R.remaining reader.new) (W.contents writer.new) self.new.input.bytes self.new.output self.new.session.port self.new.line)) }
+            (place (R.remaining reader.old) (W.contents writer.old) self.old.input.bytes self.old.output self.old.session self.old.line)
+            (place (R.remaining reader.new) (W.contents writer.new) self.new.input.bytes self.new.output self.new.session self.new.line)) }
         ensures err { IfErr result (Stops
-            (place (R.remaining reader.old) (W.contents writer.old) self.old.input.bytes self.old.output self.old.session.port self.old.line)
-            (place (R.remaining reader.new) (W.contents writer.new) self.new.input.bytes self.new.output self.new.session.port self.new.line)) }
+            (place (R.remaining reader.old) (W.contents writer.old) self.old.input.bytes self.old.output self.old.session self.old.line)
+            (place (R.remaining reader.new) (W.contents writer.new) self.new.input.bytes self.new.output self.new.session self.new.line)) }
     {
         while self.turn(reader, writer)? {}
         self.answer_rest()
@@ -82,11 +81,11 @@ impl<A: Allocator + Clone> Script<A> {
     /// Answers the next line, or reads more where none is whole. `false` at the end of the input.
     fn turn<R: Read, W: Write>(&mut self, reader: &mut R, writer: &mut W) -> Result<bool, CliFault>
         ensures ok { OnOk result (Progress
-            (place (R.remaining reader.old) (W.contents writer.old) self.old.input.bytes self.old.output self.old.session.port self.old.line)
-            (place (R.remaining reader.new) (W.contents writer.new) self.new.input.bytes self.new.output self.new.session.port self.new.line)) }
+            (place (R.remaining reader.old) (W.contents writer.old) self.old.input.bytes self.old.output self.old.session self.old.line)
+            (place (R.remaining reader.new) (W.contents writer.new) self.new.input.bytes self.new.output self.new.session self.new.line)) }
         ensures err { IfErr result (Stops
-            (place (R.remaining reader.old) (W.contents writer.old) self.old.input.bytes self.old.output self.old.session.port self.old.line)
-            (place (R.remaining reader.new) (W.contents writer.new) self.new.input.bytes self.new.output self.new.session.port self.new.line)) }
+            (place (R.remaining reader.old) (W.contents writer.old) self.old.input.bytes self.old.output self.old.session self.old.line)
+            (place (R.remaining reader.new) (W.contents writer.new) self.new.input.bytes self.new.output self.new.session self.new.line)) }
         ensures end { IfOk result (λ more. more ≡ false
             → IsAtEnd (R.remaining reader.new) × (found_of self.new.input.bytes ≡ unfinished)) }
         ensures less { IfOk result (λ more. more ≡ true
@@ -119,11 +118,11 @@ impl<A: Allocator + Clone> Script<A> {
         requires short { length self.old.input.bytes ≤ LINE_LIMIT }
         requires unfinished { found_of self.old.input.bytes ≡ unfinished }
         ensures ok { OnOk result (Progress
-            (place (R.remaining reader.old) (W.contents writer.old) self.old.input.bytes self.old.output self.old.session.port self.old.line)
-            (place (R.remaining reader.new) (W.contents writer.new) self.new.input.bytes self.new.output self.new.session.port self.new.line)) }
+            (place (R.remaining reader.old) (W.contents writer.old) self.old.input.bytes self.old.output self.old.session self.old.line)
+            (place (R.remaining reader.new) (W.contents writer.new) self.new.input.bytes self.new.output self.new.session self.new.line)) }
         ensures err { IfErr result (Stops
-            (place (R.remaining reader.old) (W.contents writer.old) self.old.input.bytes self.old.output self.old.session.port self.old.line)
-            (place (R.remaining reader.new) (W.contents writer.new) self.new.input.bytes self.new.output self.new.session.port self.new.line)) }
+            (place (R.remaining reader.old) (W.contents writer.old) self.old.input.bytes self.old.output self.old.session self.old.line)
+            (place (R.remaining reader.new) (W.contents writer.new) self.new.input.bytes self.new.output self.new.session self.new.line)) }
         ensures end { IfOk result (λ more. more ≡ false
             → IsAtEnd (R.remaining reader.new) × (found_of self.new.input.bytes ≡ unfinished)) }
         ensures less { IfOk result (λ more. more ≡ true
@@ -136,10 +135,10 @@ impl<A: Allocator + Clone> Script<A> {
 
     /// Answers the last line, where it lacks its line feed.
     fn answer_rest(&mut self) -> Result<(), CliFault>
-        ensures ok { OnOk result (EndsWith self.old.session.port self.old.input.bytes
-            self.new.session.port self.old.output self.new.output) }
+        ensures ok { OnOk result (EndsWith self.old.session self.old.input.bytes
+            self.new.session self.old.output self.new.output) }
         ensures err { OnErr result (self.new.output ≡ self.old.output) }
-        ensures fault { IfErr result (IsLineFault self.old.session.port self.old.input.bytes (self.old.line + 1)) }
+        ensures fault { IfErr result (IsLineFault self.old.session self.old.input.bytes (self.old.line + 1)) }
         ensures input { self.new.input ≡ self.old.input }
         ensures line { self.new.line ≡ self.old.line }
     {
@@ -158,10 +157,10 @@ fn answer_line<A: Allocator + Clone>(
     number: u64,
     line: &[u8],
 ) -> Result<(), CliFault>
-    ensures ok { OnOk result (Grown session.old.port line.now session.new.port output.old output.new) }
+    ensures ok { OnOk result (Grown session.old line.now session.new output.old output.new) }
     ensures err { OnErr result (output.new ≡ output.old) }
-    ensures fault { IfErr result (IsLineFault session.old.port line.now number) }
-    ensures wrong { placed session.old.port line.now ≡ None → result ≡ Err (CliFault.Line number) }
+    ensures fault { IfErr result (IsLineFault session.old line.now number) }
+    ensures wrong { placed session.old line.now ≡ None → result ≡ Err (CliFault.Line number) }
 {
     match parse(line) {
         None => Err(CliFault::Line(number)),

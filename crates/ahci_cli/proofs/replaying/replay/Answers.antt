@@ -14,8 +14,8 @@ returns-in_err-send-in-Ok-clause-err g c =
     let w = g.W.Write.contents c.args.writer.now in
     let b = c.in_ok-script.script in
     let s = c.run.new.self in
-    let to = place (g.R.Read.remaining c.run.new.reader) (g.W.Write.contents c.run.new.writer) s.input.bytes s.output s.session.port s.line in
-    if_err_from _ Write (ReplayedTo _ _ _) c.from_residual-in_err-send-in-Ok.ensures.1 (all_part_written r w _ to (from_start (λ p. Ends p to) r w b.input.bytes b.output b.session.port b.line c.in_ok-script.ensures c.in-Ok.ensures.ok) c.in_err-send-in-Ok.ensures.part)
+    let to = place (g.R.Read.remaining c.run.new.reader) (g.W.Write.contents c.run.new.writer) s.input.bytes s.output s.session s.line in
+    if_err_from _ Write (ReplayedTo _ _ _) c.from_residual-in_err-send-in-Ok.ensures.1 (all_part_written r w _ to (from_start (λ p. Ends p to) r w b.input.bytes b.output b.session b.line c.in_ok-script.ensures c.in-Ok.ensures.ok) c.in_err-send-in-Ok.ensures.part)
 
 pub returns-in-Ok-clause-ok : goal.returns-in-Ok-clause-ok
 returns-in-Ok-clause-ok g c =
@@ -23,8 +23,8 @@ returns-in-Ok-clause-ok g c =
     let w = g.W.Write.contents c.args.writer.now in
     let b = c.in_ok-script.script in
     let s = c.run.new.self in
-    let to = place (g.R.Read.remaining c.run.new.reader) (g.W.Write.contents c.run.new.writer) s.input.bytes s.output s.session.port s.line in
-    all_written r w _ to (from_start (λ p. Ends p to) r w b.input.bytes b.output b.session.port b.line c.in_ok-script.ensures c.in-Ok.ensures.ok) c.in_ok-send-in-Ok.ensures.written
+    let to = place (g.R.Read.remaining c.run.new.reader) (g.W.Write.contents c.run.new.writer) s.input.bytes s.output s.session s.line in
+    all_written r w _ to (from_start (λ p. Ends p to) r w b.input.bytes b.output b.session b.line c.in_ok-script.ensures c.in-Ok.ensures.ok) c.in_ok-send-in-Ok.ensures.written
 
 pub returns-in_err-send-in-Err-clause-err : goal.returns-in_err-send-in-Err-clause-err
 returns-in_err-send-in-Err-clause-err g c =
@@ -32,8 +32,8 @@ returns-in_err-send-in-Err-clause-err g c =
     let w = g.W.Write.contents c.args.writer.now in
     let b = c.in_ok-script.script in
     let s = c.run.new.self in
-    let to = place (g.R.Read.remaining c.run.new.reader) (g.W.Write.contents c.run.new.writer) s.input.bytes s.output s.session.port s.line in
-    if_err_from _ Write (ReplayedTo _ _ _) c.from_residual-in_err-send-in-Err.ensures.1 (fault_part_written c.in-Err.fault r w _ to (sym c.is_of_output.ensures ∙ c.if-is_of_output.false) (from_start (λ p. Stops p to c.in-Err.fault) r w b.input.bytes b.output b.session.port b.line c.in_ok-script.ensures c.in-Err.ensures.err) c.in_err-send-in-Err.ensures.part)
+    let to = place (g.R.Read.remaining c.run.new.reader) (g.W.Write.contents c.run.new.writer) s.input.bytes s.output s.session s.line in
+    if_err_from _ Write (ReplayedTo _ _ _) c.from_residual-in_err-send-in-Err.ensures.1 (fault_part_written c.in-Err.fault r w _ to (sym c.is_of_output.ensures ∙ c.if-is_of_output.false) (from_start (λ p. Stops p to c.in-Err.fault) r w b.input.bytes b.output b.session b.line c.in_ok-script.ensures c.in-Err.ensures.err) c.in_err-send-in-Err.ensures.part)
 
 pub returns-clause-err : goal.returns-clause-err
 returns-clause-err g c =
@@ -41,5 +41,5 @@ returns-clause-err g c =
     let w = g.W.Write.contents c.args.writer.now in
     let b = c.in_ok-script.script in
     let s = c.run.new.self in
-    let to = place (g.R.Read.remaining c.run.new.reader) (g.W.Write.contents c.run.new.writer) s.input.bytes s.output s.session.port s.line in
-    fault_written c.in-Err.fault r w _ to (sym c.is_of_output.ensures ∙ c.if-is_of_output.false) (from_start (λ p. Stops p to c.in-Err.fault) r w b.input.bytes b.output b.session.port b.line c.in_ok-script.ensures c.in-Err.ensures.err) c.in_ok-send-in-Err.ensures.written
+    let to = place (g.R.Read.remaining c.run.new.reader) (g.W.Write.contents c.run.new.writer) s.input.bytes s.output s.session s.line in
+    fault_written c.in-Err.fault r w _ to (sym c.is_of_output.ensures ∙ c.if-is_of_output.false) (from_start (λ p. Stops p to c.in-Err.fault) r w b.input.bytes b.output b.session b.line c.in_ok-script.ensures c.in-Err.ensures.err) c.in_ok-send-in-Err.ensures.written

@@ -19,7 +19,7 @@ returns-clause-ok g c =
     let w = g.W.Write.contents c.turn.new.writer in
     let s = c.turn.new.self in
     let t = c.answer_rest.new.self in
-    on_ok_from c.answer_rest.result (EndsWith s.session.port s.input.bytes t.session.port s.output t.output) (Ends _ _) c.answer_rest.ensures.ok (ends_rest _ r w s.input.bytes t.input.bytes s.output t.output s.session.port t.session.port s.line t.line (Progress-trans _ _ _ c.loop.invariant c.in_ok-turn.ensures.ok) ((c.in_ok-turn.ensures.end c.if-branch.false).0) (ap (λ i. i.bytes) c.answer_rest.ensures.input) c.answer_rest.ensures.line)
+    on_ok_from c.answer_rest.result (EndsWith s.session s.input.bytes t.session s.output t.output) (Ends _ _) c.answer_rest.ensures.ok (ends_rest _ r w s.input.bytes t.input.bytes s.output t.output s.session t.session s.line t.line (Progress-trans _ _ _ c.loop.invariant c.in_ok-turn.ensures.ok) ((c.in_ok-turn.ensures.end c.if-branch.false).0) (ap (λ i. i.bytes) c.answer_rest.ensures.input) c.answer_rest.ensures.line)
 
 pub returns-clause-err : goal.returns-clause-err
 returns-clause-err g c =
@@ -27,4 +27,4 @@ returns-clause-err g c =
     let w = g.W.Write.contents c.turn.new.writer in
     let s = c.turn.new.self in
     let t = c.answer_rest.new.self in
-    stops_rest c.answer_rest.result _ r w s.input.bytes t.input.bytes s.output t.output s.session.port t.session.port s.line t.line (Progress-trans _ _ _ c.loop.invariant c.in_ok-turn.ensures.ok) ((c.in_ok-turn.ensures.end c.if-branch.false).1) c.answer_rest.ensures.fault c.answer_rest.ensures.err (ap (λ i. i.bytes) c.answer_rest.ensures.input) c.answer_rest.ensures.line
+    stops_rest c.answer_rest.result _ r w s.input.bytes t.input.bytes s.output t.output s.session t.session s.line t.line (Progress-trans _ _ _ c.loop.invariant c.in_ok-turn.ensures.ok) ((c.in_ok-turn.ensures.end c.if-branch.false).1) c.answer_rest.ensures.fault c.answer_rest.ensures.err (ap (λ i. i.bytes) c.answer_rest.ensures.input) c.answer_rest.ensures.line

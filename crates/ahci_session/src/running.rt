@@ -3,9 +3,9 @@
 ghost use Rattle.std.specs.Prelude.{◌≡◌, IfErr, IfOk, OnErr, OnOk, Some, false};
 ghost use Rattle.std.specs.Option.{option_map};
 ghost use Rattle.ahci_port.specs.Faults.{step_refusal};
-ghost use Rattle.ahci_cli.specs.Refusals.{of_step};
+ghost use Rattle.ahci_session.specs.Refusals.{of_step};
 ghost use Rattle.ahci_script.specs.Lines.{HasSmallTag};
-ghost use Rattle.ahci_cli.specs.Script.{HasStepped, IsAnswered, Says, is_in_place, newest_text, word_in};
+ghost use Rattle.ahci_session.specs.Script.{HasStepped, IsAnswered, Says, is_in_place, newest_text, word_in};
 
 use crate::answering::{answer, refuse, show_reply, stepped};
 use crate::issuing::{issue, write};

@@ -1,9 +1,9 @@
 //! A script's port, once its disk was accepted.
 
 ghost use Rattle.std.specs.Prelude.{◌≡◌, [], IfErr, OnErr, OnOk, None, Some, false};
-ghost use Rattle.ahci_cli.specs.Refusals.{disk_refusal};
+ghost use Rattle.ahci_session.specs.Refusals.{disk_refusal};
 ghost use Rattle.ahci_script.specs.Lines.{HasSmallTag};
-ghost use Rattle.ahci_cli.specs.Script.{IsSaid, Left, disk_by, disk_text, is_in_place, said_of};
+ghost use Rattle.ahci_session.specs.Script.{IsSaid, Left, disk_by, disk_text, is_in_place, said_of};
 
 use crate::answering::{answer, refuse};
 use crate::issuing::filled;
@@ -12,6 +12,7 @@ use crate::unanswered::Unanswered;
 use ahci_port::Port;
 use ahci_script::{Answer, Command, Output, Refusal};
 use std::alloc::Allocator;
+use std::marker::Model;
 
 /// How many sectors a disk has at most.
 const MAX_SECTORS: u64 = 131_072;
@@ -21,26 +22,35 @@ const MAX_DEPTH: u64 = 32;
 
 /// A script's port, or none before its disk was accepted.
 #[derive(Drop)]
-pub(crate) struct Session<A: Allocator> {
+pub struct Session<A: Allocator> {
     alloc: A,
     port: Option<Port<A>>,
 }
 
+impl<A: Allocator> Model for Session<A> {
+    ghost use Rattle.std.specs.Prelude.{Option};
+    ghost use Rattle.ahci_port.specs.PortView.{PortView};
+
+    ghost Value = { Option PortView };
+
+    ghost view = { λ s. s.port };
+}
+
 impl<A: Allocator + Clone> Session<A> {
     /// No disk yet.
-    pub(crate) fn new(alloc: A) -> Self
-        ensures { result.port ≡ None }
+    pub fn new(alloc: A) -> Self
+        ensures { result ≡ None }
     {
         Session { alloc, port: None }
     }
 
     /// Runs a command, and puts its answer into the output.
-    pub(crate) fn run(&mut self, command: Command, output: &mut Output<A>) -> Result<(), Unanswered>
+    pub fn run(&mut self, command: Command, output: &mut Output<A>) -> Result<(), Unanswered>
         requires { HasSmallTag command }
-        ensures left { OnOk result (Left self.old.port command self.new.port) }
-        ensures said { OnOk result (IsSaid (said_of self.old.port self.new.port command) output.old output.new) }
-        ensures misplaced { IfErr result (λ e. e ≡ Unanswered.OutOfPlace → is_in_place self.old.port command ≡ false) }
-        ensures refused { is_in_place self.old.port command ≡ false → result ≡ Err Unanswered.OutOfPlace }
+        ensures left { OnOk result (Left self.old command self.new) }
+        ensures said { OnOk result (IsSaid (said_of self.old self.new command) output.old output.new) }
+        ensures misplaced { IfErr result (λ e. e ≡ Unanswered.OutOfPlace → is_in_place self.old command ≡ false) }
+        ensures refused { is_in_place self.old command ≡ false → result ≡ Err Unanswered.OutOfPlace }
         ensures err { OnErr result (output.new ≡ output.old) }
     {
         match &mut self.port {
@@ -59,8 +69,8 @@ impl<A: Allocator + Clone> Session<A> {
         depth: u64,
         output: &mut Output<A>,
     ) -> Result<(), Unanswered>
-        requires { self.old.port ≡ None }
-        ensures left { OnOk result (self.new.port ≡ disk_by (disk_refusal sectors depth) sectors depth) }
+        requires { self.old ≡ None }
+        ensures left { OnOk result (self.new ≡ disk_by (disk_refusal sectors depth) sectors depth) }
         ensures said { OnOk result (IsSaid (disk_text sectors depth) output.old output.new) }
         ensures memory { IfErr result (λ e. e ≡ Unanswered.OutOfMemory) }
         ensures err { OnErr result (output.new ≡ output.old) }

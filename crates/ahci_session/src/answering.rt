@@ -4,7 +4,7 @@ ghost use Rattle.std.specs.Prelude.{◌≡◌, IfErr, OnErr, OnOk};
 ghost use Rattle.ahci_script.specs.Answers.{answer_text};
 ghost use Rattle.ahci_port.specs.Slots.{bytes_in};
 ghost use Rattle.ahci_table.specs.Fit.{IsFit};
-ghost use Rattle.ahci_cli.specs.Script.{IsSaid, outcome_text, stepped_text};
+ghost use Rattle.ahci_session.specs.Script.{IsSaid, outcome_text, stepped_text};
 
 use crate::unanswered::Unanswered;
 use ahci_port::{Outcome, Reply, Stepped};

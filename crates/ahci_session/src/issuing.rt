@@ -8,8 +8,8 @@ ghost use Rattle.ahci_port.specs.Steps.{IsIssued};
 ghost use Rattle.ahci_table.specs.Defaults.{default_list};
 ghost use Rattle.ahci_table.specs.Fit.{IsFit};
 ghost use Rattle.ahci_table.specs.Refusal.{is_ragged};
-ghost use Rattle.ahci_cli.specs.Refusals.{issue_refusal, joined, of_issue};
-ghost use Rattle.ahci_cli.specs.Script.{IsAnswered, IsIssuedFor, Says, newest_text};
+ghost use Rattle.ahci_session.specs.Refusals.{issue_refusal, joined, of_issue};
+ghost use Rattle.ahci_session.specs.Script.{IsAnswered, IsIssuedFor, Says, newest_text};
 
 use crate::answering::{answer, refuse};
 use crate::refusals::issue_refusal;

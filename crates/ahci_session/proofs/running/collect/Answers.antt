@@ -1,7 +1,7 @@
 use Rattle.ahci_port.specs.Faults.{collect_refusal}
-use Rattle.ahci_cli.specs.Refusals.{of_collect}
-use Rattle.ahci_cli.proofs.SessionLemmas.{refused}
-use Rattle.ahci_cli.proofs.running.collect.Goals as goal
+use Rattle.ahci_session.specs.Refusals.{of_collect}
+use Rattle.ahci_session.proofs.SessionLemmas.{refused}
+use Rattle.ahci_session.proofs.running.collect.Goals as goal
 
 pub returns-in-Err-clause-ok : goal.returns-in-Err-clause-ok
 returns-in-Err-clause-ok g c =

@@ -1,25 +1,18 @@
 -- What stands against a script's command: its count, its address, and then what the port says.
-use Rattle.std.proofs.Common.{◌≡◌, ◌≢◌, ℕ, ◌*◌, ◌^◌, ◌<◌, ◌≤◌, Bool, true, false, cond, ◌||◌, List, Option, Some, None, Result, Ok, Err, IfErr, IsErrAnd, MatchOption, length, nat_eq, nat_le, nat_lt, replicate, refl, sym, ap, ◌∙◌}
+use Rattle.std.proofs.Common.{◌≡◌, ◌≢◌, ℕ, ◌*◌, ◌^◌, Bool, true, false, cond, ◌||◌, Option, Some, None, Ok, IfErr, IsErrAnd, MatchOption, nat_eq, nat_le, nat_lt, refl, sym, ap, ◌∙◌}
 use Rattle.std.specs.Option.{option_map}
-use Rattle.std.proofs.lemmas.Bool.{le-leb, lt-leb, true≢false}
-use Rattle.ahci_cli.specs.Refusals.{issue_refusal, joined, of_issue}
-use Rattle.ahci_port.specs.Faults.{MayTake, RefusesIssue, early_refusal}
-use Rattle.ahci_port.specs.PortView.{PortView, is_free}
-use Rattle.ahci_port.specs.declared.fault.IssueFault.{IssueFault}
-use Rattle.ahci_port.specs.declared.fault.IssueFault.TheVariants.{Halted, NoSuchTag, SlotOwned, BadHeader, BadCommand, WrongTag, TooLong, BadList, OutOfMemory}
+use Rattle.std.proofs.lemmas.Bool.{true≢false}
+use Rattle.ahci_session.specs.Refusals.{issue_refusal, joined, of_issue}
+use Rattle.ahci_port.specs.Faults.{early_refusal}
+use Rattle.ahci_port.specs.PortView.{PortView}
 use Rattle.ahci_script.specs.declared.refusal.Refusal.{Refusal}
 use Rattle.ahci_script.specs.declared.refusal.Refusal.TheVariants as refused
 use Rattle.ahci_table.specs.Defaults.{default_list}
-use Rattle.ahci_table.specs.Refusal.{has_bad_count, is_ragged, list_refusal, refusal}
-use Rattle.ahci_table.specs.Window.{WindowState}
+use Rattle.ahci_table.specs.Refusal.{is_ragged, list_refusal, refusal}
 use Rattle.ahci_table.specs.declared.fault.BuildFault.{BuildFault}
 use Rattle.ahci_table.specs.declared.fault.BuildFault.TheVariants as build
 use Rattle.ahci_table.proofs.DefaultLemmas.{defaults_serve}
-use Rattle.ncq_journal.specs.declared.phase.Phase.{Phase}
-use Rattle.ncq_journal.specs.declared.phase.Phase.TheVariants as phase
-use Rattle.ncq_journal.specs.Halted.{halted}
 use Rattle.ncq_journal.specs.Lawful.{most_sectors}
-use Rattle.ncq_journal.specs.Phase as journal
 use Rattle.ncq_journal.specs.Work.{Work, lba_of, sectors_of}
 
 -- a build that succeeded had nothing against it

@@ -5,11 +5,11 @@ use Rattle.ahci_table.specs.Refusal.{refusal}
 use Rattle.ahci_table.specs.declared.fault.BuildFault.TheVariants.{BadCount, BadLba}
 use Rattle.ncq_journal.specs.Work.{lba_of, sectors_of, work_of}
 use Rattle.ahci_script.specs.declared.refusal.Refusal.TheVariants as refused
-use Rattle.ahci_cli.specs.Refusals.{issue_refusal}
-use Rattle.ahci_cli.specs.Script.{IsIssuedFor, newest_text}
-use Rattle.ahci_cli.proofs.IssuingLemmas.{address_issue, built_free, built_named, count_issue, free_issue, port_says}
-use Rattle.ahci_cli.proofs.SessionLemmas.{answered_as, shown}
-use Rattle.ahci_cli.proofs.issuing.issue.Goals as goal
+use Rattle.ahci_session.specs.Refusals.{issue_refusal}
+use Rattle.ahci_session.specs.Script.{IsIssuedFor, newest_text}
+use Rattle.ahci_session.proofs.IssuingLemmas.{address_issue, built_free, built_named, count_issue, free_issue, port_says}
+use Rattle.ahci_session.proofs.SessionLemmas.{answered_as, shown}
+use Rattle.ahci_session.proofs.issuing.issue.Goals as goal
 
 pub returns-in-Ok-clause-ok : goal.returns-in-Ok-clause-ok
 returns-in-Ok-clause-ok g c =

@@ -1,10 +1,8 @@
 -- Lemmas about what a command answers.
-use Rattle.std.proofs.Common.{◌≡◌, ℕ, Bool, true, false, cond, List, [], ◌∷◌, ◌++◌, Option, Some, None, Result, Ok, Err, OnOk, length, IsSomeAnd, refl, sym, ap, ◌∙◌, subst, append-nil, nat_le, nat_lt}
-use Rattle.std.specs.Option.{option_and_then, option_map}
-use Rattle.ahci_cli.specs.Script.{IsAnswered, IsSaid, Left, is_in_place, newest_text, said_of, stepped_text}
-use Rattle.ahci_cli.specs.Transcript.{Grown, is_placed, placed, placed_by}
-use Rattle.ahci_cli.specs.declared.unanswered.Unanswered.{Unanswered}
-use Rattle.ahci_cli.specs.declared.unanswered.Unanswered.TheVariants.{OutOfPlace}
+use Rattle.std.proofs.Common.{◌≡◌, ℕ, Bool, true, false, List, Option, Some, None, Result, Ok, Err, OnOk, IsSomeAnd, sym, ap, ◌∙◌, subst}
+use Rattle.std.specs.Option.{option_map}
+use Rattle.ahci_session.specs.Script.{IsAnswered, IsSaid, newest_text, stepped_text}
+use Rattle.ahci_session.specs.declared.unanswered.Unanswered.{Unanswered}
 use Rattle.ahci_port.specs.Faults.{Answers}
 use Rattle.ahci_port.specs.PortView.{PortView}
 use Rattle.ahci_port.specs.Steps.{IsServed, IsStepped, TakenBy, passes_end}
@@ -15,10 +13,7 @@ use Rattle.ahci_port.specs.PortView.{window_at}
 use Rattle.ahci_table.specs.Window.{WindowState}
 use Rattle.ncq_journal.specs.Request.{Request, request}
 use Rattle.ahci_script.specs.Answers.{answer_text}
-use Rattle.ahci_script.specs.Lines.{line_of}
 use Rattle.ahci_script.specs.declared.answer.Answer.TheVariants.{Refused}
-use Rattle.ahci_script.specs.declared.line.Command.{Command}
-use Rattle.ahci_script.specs.declared.line.Line.TheVariants.{Run, Skip}
 use Rattle.ahci_script.specs.declared.refusal.Refusal.{Refusal}
 
 -- what follows where the result is Ok
@@ -68,41 +63,9 @@ step_tells (Serve tag) old new done is = by (window_at old tag) is
     by (Some w) i = ap stepped_text i.answer_is ∙ sym (ap newest_text i.appended.past_is)
 step_tells (Fail tag error lba) old new done is = ap stepped_text is.answer_is ∙ sym (ap newest_text is.appended.past_is)
 
--- a skipped line adds nothing
-pub skip_grown : (port : Option PortView) (line old : List ℕ) → line_of line ≡ Some Skip → Grown port line port old old
-skip_grown port line old is = record {
-  spelled = Skip;
-  is = ap (option_and_then (placed_by port)) is;
-  left = refl;
-  grown = sym (append-nil old);
-}
-
--- a command adds its answer
-pub run_grown : (port port' : Option PortView) (line old new : List ℕ) (command : Command) → line_of line ≡ Some (Run command) → is_placed port (Run command) ≡ true → Left port command port' → IsSaid (said_of port port' command) old new → Grown port line port' old new
-run_grown port port' line old new command is may left said = record {
-  spelled = Run command;
-  is = ap (option_and_then (placed_by port)) is ∙ ap (λ b. cond b (Some (Run command)) None) may;
-  left = left;
-  grown = said;
-}
-
 -- the same answer, where the refusal is the same and what was done says more
 pub answered_as : (o o' : Option Refusal) (Does Does' : Type 0) (text : List ℕ) (old new : PortView) (r : Said) (before after : List ℕ) → o' ≡ o → (Does → Does') → OnOk r (IsAnswered o Does text old new before after) → OnOk r (IsAnswered o' Does' text old new before after)
 answered_as None o' Does Does' text old new r before after same more said =
     on_ok_from r _ _ said (λ t. subst (λ x. IsAnswered x Does' text old new before after) (sym same) (more t.0, t.1))
 answered_as (Some q) o' Does Does' text old new r before after same more said =
     on_ok_from r _ _ said (λ t. subst (λ x. IsAnswered x Does' text old new before after) (sym same) t)
-
--- a command that was not told to be out of place may stand here
-pub in_place : (b : Bool) (r : Said) → (b ≡ false → r ≡ Err OutOfPlace) → (r ≡ Err OutOfPlace → ⊥) → b ≡ true
-in_place true r told other = refl
-in_place false r told other = absurd (other (told refl))
-
--- a line with such a command is none that is not understood or out of place
-pub not_wrong : (port : Option PortView) (line : List ℕ) (command : Command) (P : Type 0) → line_of line ≡ Some (Run command) → is_in_place port command ≡ true → placed port line ≡ None → P
-not_wrong port line command P is may none =
-    let some : placed port line ≡ Some (Run command) = ap (option_and_then (placed_by port)) is ∙ ap (λ b. cond b (Some (Run command)) None) may in
-    absurd (differ (sym some ∙ none))
-  where
-    differ : Some (Run command) ≡ None → ⊥
-    differ e = cc

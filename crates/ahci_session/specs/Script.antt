@@ -1,5 +1,5 @@
 -- What a script's commands answer, and the port that each of them leaves. Want of memory is left aside.
-use Rattle.std.specs.Prelude.{ℕ, ◌+◌, ◌*◌, Bool, true, false, List, [], ◌∷◌, ◌++◌, length, replicate, slice_index, if◌then◌else◌, Option, Some, None, Result, Ok, Err, ◌≡◌}
+use Rattle.std.specs.Prelude.{ℕ, ◌+◌, ◌*◌, Bool, true, false, List, [], ◌∷◌, ◌++◌, length, replicate, slice_index, Option, Some, None, Result, Ok, Err, ◌≡◌}
 use Rattle.ahci_port.specs.PortView.{PortView, new_port, sectors_in}
 use Rattle.ahci_port.specs.Registers.{acknowledged}
 use Rattle.ahci_port.specs.Steps.{IsIssued, IsStepped, IsCollected, IsRecovered, IsReissued, IsIdentified, IsFlushed}
@@ -18,7 +18,7 @@ use Rattle.ahci_table.specs.Build.{IsBuilt}
 use Rattle.ahci_table.specs.Defaults.{default_list}
 use Rattle.ahci_table.specs.Window.{WindowState}
 use Rattle.ncq_journal.specs.Answer.{Answer, answer}
-use Rattle.ncq_journal.specs.Entry.{Entry, Issue, Accept, Complete, Fail, Recover, Reissue, Collect, Unqueued}
+use Rattle.ncq_journal.specs.Entry.{Entry, Issue, Accept, Complete, Fail, Recover, Reissue, Unqueued}
 use Rattle.ncq_core.specs.Identify.{identify_page}
 use Rattle.ncq_journal.specs.Sector.{sector}
 use Rattle.ncq_journal.specs.Work.{Work, sectors_of}
@@ -26,7 +26,7 @@ use Rattle.ncq_journal.specs.Work as work
 use Rattle.ncq_journal.specs.declared.outcome.Outcome.{Outcome}
 use Rattle.ncq_journal.specs.declared.outcome.Outcome.TheVariants as outcome
 use Rattle.ncq_journal.specs.declared.plain.Plain.TheVariants as plain
-use Rattle.ahci_cli.specs.Refusals.{disk_refusal, refusal_on}
+use Rattle.ahci_session.specs.Refusals.{disk_refusal, refusal_on}
 
 -- a command is issued by a window over the default pieces
 pub record IsIssuedFor (tag : ℕ) (work : Work) (old new : PortView) : Type 0 where

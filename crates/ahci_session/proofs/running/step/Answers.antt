@@ -1,9 +1,9 @@
 use Rattle.std.proofs.Common.{OnOk, ◌∙◌, subst}
 use Rattle.ahci_port.specs.Faults.{step_refusal}
-use Rattle.ahci_cli.specs.Refusals.{of_step}
-use Rattle.ahci_cli.specs.Script.{HasStepped, IsSaid, newest_text}
-use Rattle.ahci_cli.proofs.SessionLemmas.{carried_out, step_tells}
-use Rattle.ahci_cli.proofs.running.step.Goals as goal
+use Rattle.ahci_session.specs.Refusals.{of_step}
+use Rattle.ahci_session.specs.Script.{HasStepped, IsSaid, newest_text}
+use Rattle.ahci_session.proofs.SessionLemmas.{carried_out, step_tells}
+use Rattle.ahci_session.proofs.running.step.Goals as goal
 
 pub returns-in-Ok-clause-ok : goal.returns-in-Ok-clause-ok
 returns-in-Ok-clause-ok g c =

@@ -1,5 +1,5 @@
 -- Why the port refuses a script's command, as the answer shows it. Want of memory is left aside: it is never shown.
-use Rattle.std.specs.Prelude.{ℕ, ◌^◌, Bool, ◌||◌, nat_eq, nat_le, nat_lt, if◌then◌else◌, Option, Some, None, Result, Ok, Err}
+use Rattle.std.specs.Prelude.{ℕ, ◌^◌, ◌||◌, nat_eq, nat_le, nat_lt, if◌then◌else◌, Option, Some, None, Result, Ok, Err}
 use Rattle.std.specs.Option.{option_map}
 use Rattle.ahci_port.specs.Faults.{early_refusal, step_refusal, collect_refusal, recover_refusal, reissue_refusal, plain_refusal}
 use Rattle.ahci_port.specs.PortView.{PortView, sectors_in}

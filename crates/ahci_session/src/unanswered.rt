@@ -2,7 +2,7 @@ use std::alloc::AllocError;
 
 /// Why a command has no answer.
 #[derive(Clone, Copy, Debug, PartialEq, Eq)]
-pub(crate) enum Unanswered {
+pub enum Unanswered {
     /// A command before the disk, or a second disk.
     OutOfPlace,
     OutOfMemory,
@@ -10,7 +10,7 @@ pub(crate) enum Unanswered {
 
 impl From<AllocError> for Unanswered {
     ghost use Rattle.std.specs.Prelude.{◌≡◌};
-    ghost use Rattle.ahci_cli.specs.declared.unanswered.Unanswered.TheVariants as unanswered;
+    ghost use Rattle.ahci_session.specs.declared.unanswered.Unanswered.TheVariants as unanswered;
 
     ghost from_gives = { λ _ e. e ≡ unanswered.OutOfMemory };
 

@@ -1,7 +1,7 @@
 use Rattle.ahci_port.specs.Faults.{reissue_refusal}
-use Rattle.ahci_cli.specs.Refusals.{of_reissue}
-use Rattle.ahci_cli.proofs.SessionLemmas.{refused}
-use Rattle.ahci_cli.proofs.running.reissue.Goals as goal
+use Rattle.ahci_session.specs.Refusals.{of_reissue}
+use Rattle.ahci_session.proofs.SessionLemmas.{refused}
+use Rattle.ahci_session.proofs.running.reissue.Goals as goal
 
 pub returns-in-Err-clause-ok : goal.returns-in-Err-clause-ok
 returns-in-Err-clause-ok g c =

@@ -1,7 +1,7 @@
 //! The port's faults by the names that a script's answers show. Want of memory is never shown.
 
 ghost use Rattle.std.specs.Prelude.{◌≡◌};
-ghost use Rattle.ahci_cli.specs.Refusals.{of_collect, of_issue, of_plain, of_recover, of_register, of_reissue, of_step};
+ghost use Rattle.ahci_session.specs.Refusals.{of_collect, of_issue, of_plain, of_recover, of_register, of_reissue, of_step};
 
 use ahci_port::{CollectFault, IssueFault, PlainFault, RecoverFault, ReissueFault, StepFault};
 use ahci_regs::RegFault;
