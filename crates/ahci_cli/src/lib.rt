@@ -13,6 +13,3 @@ mod unanswered;
 pub use ahci_args::{Asked, asked, not_text};
 pub use fault::CliFault;
 pub use replaying::replay;
-
-#[cfg(test)]
-mod tests;
