@@ -6,6 +6,3 @@ mod request;
 
 pub use reading::{asked, not_text};
 pub use request::Asked;
-
-#[cfg(test)]
-mod tests;

@@ -7,6 +7,3 @@ mod replaying;
 pub use ahci_args::{Asked, asked, not_text};
 pub use fault::CliFault;
 pub use replaying::replay;
-
-#[cfg(test)]
-mod tests;

@@ -17,6 +17,3 @@ pub use ncq_core::{DiskFault, Outcome};
 pub use port::Port;
 pub use reply::Reply;
 pub use step::{DeviceStep, Stepped};
-
-#[cfg(test)]
-mod tests;

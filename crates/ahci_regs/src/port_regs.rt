@@ -314,6 +314,3 @@ fn lost(word: u32, other: u32) -> u32
 {
     word & !other
 }
-
-#[cfg(test)]
-mod tests;

@@ -22,6 +22,3 @@ pub use defaults::default_pieces;
 pub use fault::{BuildFault, TableFault};
 pub use piece::Piece;
 pub use window::Window;
-
-#[cfg(test)]
-mod tests;

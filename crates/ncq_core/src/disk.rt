@@ -5,8 +5,6 @@ mod log;
 mod moving;
 mod serving;
 mod taking;
-#[cfg(test)]
-mod tests;
 
 ghost use Rattle.std.specs.Prelude.{◌≡◌, ◌<◌, ◌^◌, None, Some, length, IfOk, IfErr};
 ghost use Rattle.word_bits.specs.Places.{bits};

@@ -98,6 +98,3 @@ pub fn entry_in<A: Allocator>(events: &[Event<A>], number: u64) -> Option<&Event
 {
     events.get(number as usize)
 }
-
-#[cfg(test)]
-mod tests;

@@ -33,6 +33,3 @@ pub use plain::Plain;
 pub use request::{Request, request_of};
 pub use sector::{is_covered, read_sectors, sector_in, sector_of, write_sectors};
 pub use tags::{ci_of, device_tags_of, sact_of};
-
-#[cfg(test)]
-mod tests;

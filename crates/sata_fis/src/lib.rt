@@ -37,6 +37,3 @@ pub use pio_setup::PioSetup;
 pub use queueing::{h2d_of, queued};
 pub use ranges::{is_lba, is_sector_count, is_set_bits_status, is_tag};
 pub use set_bits::SetBits;
-
-#[cfg(test)]
-mod tests;

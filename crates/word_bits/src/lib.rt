@@ -71,6 +71,3 @@ pub fn highest(word: u32) -> Option<u8>
     }
     Some(31 - word.leading_zeros() as u8)
 }
-
-#[cfg(test)]
-mod tests;

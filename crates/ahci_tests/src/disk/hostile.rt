@@ -1,0 +1,133 @@
+//! Every prefix and every change of one byte of the example commands, beside a slow reading of the five cases.
+use super::{ABORTED, ACCEPTED, FAR_READ, FLUSH, IDENTIFY, READ_LOG, WRITE, disk_of, queued};
+use ncq_core::{Disk, Plain, Taken};
+use std::alloc::Global;
+use std::process::Abort;
+use std::test::Fail;
+
+/// What happened before on a disk of 8 sectors and 4 tags.
+#[derive(Clone, Copy, Debug, PartialEq, Eq)]
+enum Before {
+    Nothing,
+    /// A command is outstanding at tag 1.
+    Outstanding,
+    /// The command at tag 1 failed.
+    Error,
+}
+
+fn disk_after(rt: &impl Abort, alloc: Global, before: Before) -> Result<Disk, Fail> {
+    let mut disk = disk_of(rt, alloc, 0, 8, 4)?;
+    if before != Before::Nothing {
+        assert_eq!(rt; disk.take(&WRITE), ACCEPTED);
+    }
+    if before == Before::Error {
+        assert!(rt; disk.fail(1, 0x40, 3).is_ok());
+    }
+    Ok(disk)
+}
+
+/// The LBA, by its six bytes.
+fn lba_of(bytes: &[u8; 20]) -> u64 {
+    u64::from_le_bytes([
+        bytes[4], bytes[5], bytes[6], bytes[8], bytes[9], bytes[10], 0, 0,
+    ])
+}
+
+/// A queued command is refused for its tag or its end, else accepted.
+fn wanted_of_queued(bytes: &[u8; 20], before: Before) -> Taken {
+    let tag = bytes[12] / 8;
+    if tag >= 4 || tag == 1 && before == Before::Outstanding {
+        return ABORTED;
+    }
+    let sectors = match u16::from_le_bytes([bytes[3], bytes[11]]) {
+        0 => 65_536,
+        count => u64::from(count),
+    };
+    let lba = lba_of(bytes);
+    if lba.saturating_add(sectors) <= 8 {
+        return ACCEPTED;
+    }
+    let [a, b, c, d, e, f, _, _] = lba.max(8).to_le_bytes();
+    Taken::Refused([
+        0x34, 0x40, 0x41, 0x10, a, b, c, 0, d, e, f, 0, 0, 0, 0, 0, 0, 0, 0, 0,
+    ])
+}
+
+/// The answer, by the first of the five cases.
+fn wanted(bytes: &[u8], before: Before) -> Taken {
+    let mut whole = [0; 20];
+    if bytes.len() != 20 || bytes[0] != 0x27 || bytes[1] < 0x80 {
+        return ABORTED;
+    }
+    whole.copy_from_slice(bytes);
+    let is_log = lba_of(&whole) == 0x10 && whole[12] == 1 && whole[13] == 0;
+    match (whole[2], before) {
+        (0x2F, Before::Error) if is_log => Taken::Plain(Plain::ReadLog),
+        (_, Before::Error) => ABORTED,
+        (0x60 | 0x61, _) if whole[7] / 64 % 2 == 1 => wanted_of_queued(&whole, before),
+        (0xEC, Before::Nothing) => Taken::Plain(Plain::Identify),
+        (0xEA, Before::Nothing) => Taken::Plain(Plain::Flush),
+        _ => ABORTED,
+    }
+}
+
+/// The tags and the error after an answer.
+fn left(answer: Taken, bytes: &[u8], before: Before) -> (u32, bool) {
+    let outstanding = if before == Before::Outstanding { 2 } else { 0 };
+    match answer {
+        Taken::Accepted(_) if bytes.len() == 20 => {
+            (outstanding | 1 << u32::from(bytes[12] / 8), false)
+        }
+        Taken::Refused(fis) if fis[3] == 0x10 => (0, true),
+        _ => (outstanding, before == Before::Error),
+    }
+}
+
+fn takes(rt: &impl Abort, alloc: Global, bytes: &[u8], before: Before) -> Result<(), Fail> {
+    let mut disk = disk_after(rt, alloc, before)?;
+    let answer = disk.take(bytes);
+    assert_eq!(rt; answer, wanted(bytes, before), "{bytes:?} after {before:?}");
+    assert_eq!(rt;
+        (disk.tags(), disk.stopped()),
+        left(answer, bytes, before),
+        "{bytes:?} after {before:?}"
+    );
+    Ok(())
+}
+
+/// All prefixes of a command, and all changes of one of its bytes.
+fn takes_all_near(
+    rt: &impl Abort,
+    alloc: Global,
+    command: &[u8; 20],
+    before: Before,
+) -> Result<(), Fail> {
+    for len in 0..=20 {
+        takes(rt, alloc, &command[..len], before)?;
+    }
+    for place in 0..20 {
+        let mut bytes = *command;
+        for byte in 0..=255u8 {
+            bytes[place] = byte;
+            takes(rt, alloc, &bytes, before)?;
+        }
+    }
+    Ok(())
+}
+
+#[test]
+fn each_change_of_a_command_has_its_case(rt: HostRuntime) -> Result<(), Fail> {
+    for before in [Before::Nothing, Before::Outstanding, Before::Error] {
+        for command in [
+            WRITE,
+            FAR_READ,
+            queued(0x60, 3, 7, 1),
+            IDENTIFY,
+            FLUSH,
+            READ_LOG,
+        ] {
+            takes_all_near(&rt, rt.alloc(), &command, before)?;
+        }
+    }
+    Ok(())
+}

@@ -1,0 +1,71 @@
+//! The entries of a run.
+use super::calls::Call;
+use ahci_port::DeviceStep;
+use ncq_core::{Bytes, Event, Op, Plain};
+use std::alloc::{AllocError, Global};
+
+/// A copy of an entry.
+pub fn copy_of(alloc: Global, event: &Event) -> Result<Event, AllocError> {
+    Ok(match event {
+        Event::Issue(tag, Op::Read { lba, sectors }) => Event::Issue(
+            *tag,
+            Op::Read {
+                lba: *lba,
+                sectors: *sectors,
+            },
+        ),
+        Event::Issue(tag, Op::Write { lba, bytes }) => Event::Issue(
+            *tag,
+            Op::Write {
+                lba: *lba,
+                bytes: Bytes::from_vec(bytes.as_slice().to_vec(alloc)?),
+            },
+        ),
+        Event::Accept(tag) => Event::Accept(*tag),
+        Event::Complete(tag) => Event::Complete(*tag),
+        Event::Fail { tag, error, lba } => Event::Fail {
+            tag: *tag,
+            error: *error,
+            lba: *lba,
+        },
+        Event::Recover(tag) => Event::Recover(*tag),
+        Event::Reissue(tag) => Event::Reissue(*tag),
+        Event::Collect(tag) => Event::Collect(*tag),
+        Event::Plain(command) => Event::Plain(*command),
+    })
+}
+
+/// Whether a call that is taken appends this event.
+pub fn appends(call: Call, event: &Event) -> bool {
+    match (call, event) {
+        (Call::Issue(command), Event::Issue(tag, op)) => {
+            command.tag == *tag
+                && command.lba == op.lba()
+                && u64::from(command.sectors) == op.sectors()
+        }
+        (Call::Step(step), _) => steps(step, event),
+        (Call::Collect(tag, _), Event::Collect(t)) => tag == *t,
+        (Call::Reissue(tag), Event::Reissue(t)) => tag == *t,
+        (Call::Recover, Event::Recover(_)) => true,
+        (Call::Identify, Event::Plain(command)) => *command == Plain::Identify,
+        (Call::Flush, Event::Plain(command)) => *command == Plain::Flush,
+        _ => false,
+    }
+}
+
+/// Whether a step of the device appends this event.
+fn steps(step: DeviceStep, event: &Event) -> bool {
+    match (step, event) {
+        (DeviceStep::Accept(tag), Event::Accept(t)) => tag == *t,
+        (DeviceStep::Accept(tag), Event::Fail { tag: t, error, .. }) => tag == *t && *error == 0x10,
+        (DeviceStep::Serve(tag), Event::Complete(t)) => tag == *t,
+        (DeviceStep::Fail { .. }, Event::Fail { tag, error, lba }) => {
+            step == DeviceStep::Fail {
+                tag: *tag,
+                error: *error,
+                at: *lba,
+            }
+        }
+        _ => false,
+    }
+}
