@@ -1,9 +1,13 @@
 -- What stands against a script's command: its count, its address, and then what the port says.
-use Rattle.std.proofs.Common.{◌≡◌, ◌≢◌, ℕ, ◌*◌, ◌^◌, Bool, true, false, cond, ◌||◌, Option, Some, None, Ok, IfErr, IsErrAnd, MatchOption, nat_eq, nat_le, nat_lt, refl, sym, ap, ◌∙◌}
+use Rattle.std.proofs.Common.{◌≡◌, ◌≢◌, ℕ, ◌*◌, ◌^◌, Bool, true, false, cond, ◌||◌, Option, Some, None, Ok, IfErr, IsErrAnd, MatchOption, nat_eq, nat_le, nat_lt, refl, sym, ap, ◌∙◌, subst}
 use Rattle.std.specs.Option.{option_map}
 use Rattle.std.proofs.lemmas.Bool.{true≢false}
 use Rattle.ahci_session.specs.Refusals.{issue_refusal, joined, of_issue}
-use Rattle.ahci_port.specs.Faults.{early_refusal}
+use Rattle.ahci_port.specs.Faults.{RefusesIssue, early_refusal}
+use Rattle.ahci_port.specs.declared.fault.IssueFault.{IssueFault}
+use Rattle.ahci_port.specs.declared.fault.IssueFault.TheVariants as issue
+use Rattle.ahci_table.specs.Fit.{IsFit}
+use Rattle.ahci_table.specs.Window.{WindowState}
 use Rattle.ahci_port.specs.PortView.{PortView}
 use Rattle.ahci_script.specs.declared.refusal.Refusal.{Refusal}
 use Rattle.ahci_script.specs.declared.refusal.Refusal.TheVariants as refused
@@ -55,6 +59,30 @@ address_case false false false l rest whole free is = absurd (none_some (sym (fr
   where
     none_some : None ≡ Some build.BadLba → ⊥
     none_some e = cc
+
+other_case : (c b r : Bool) (l : Option BuildFault) (e : BuildFault) → ((c || r) ≡ false → l ≡ None)
+    → MatchOption (cond (c || r) (Some build.BadCount) (cond b (Some build.BadLba) l)) (e ≡ build.OutOfMemory) (λ f. e ≡ f) → e ≢ build.OutOfMemory → e ≢ build.BadCount → e ≢ build.BadLba → ⊥
+other_case true b r l e free is memory count address = count is
+other_case false b true l e free is memory count address = count is
+other_case false true false l e free is memory count address = address is
+other_case false false false l e free is memory count address = memory (subst (λ o. MatchOption o (e ≡ build.OutOfMemory) (λ f. e ≡ f)) (free refl) is)
+
+-- nothing else stands against a window over the default pieces
+pub no_other_fault : (e : BuildFault) (work : Work) → MatchOption (refusal work (default_list (sectors_of work))) (e ≡ build.OutOfMemory) (λ f. e ≡ f) → e ≢ build.OutOfMemory → e ≢ build.BadCount → e ≢ build.BadLba → ⊥
+no_other_fault e work is memory count address =
+    other_case (count_bad (sectors_of work)) (nat_le (2 ^ 48) (lba_of work)) (is_ragged work) (list_refusal (default_list (sectors_of work)) (512 * sectors_of work)) e (defaults_serve work) is memory count address
+
+-- a window that is fit is refused by a name that is shown, or for want of memory
+pub fit_is_named : (port : PortView) (w : WindowState) (e : IssueFault) → IsFit w → RefusesIssue port w e → of_issue e ≡ None → e ≢ issue.OutOfMemory → ⊥
+fit_is_named port w issue.Halted fit is none memory = cc
+fit_is_named port w issue.NoSuchTag fit is none memory = cc
+fit_is_named port w issue.SlotOwned fit is none memory = cc
+fit_is_named port w issue.BadHeader fit is none memory = is.1 fit.header
+fit_is_named port w issue.BadCommand fit is none memory = is.1.1 fit.command
+fit_is_named port w issue.WrongTag fit is none memory = is.1.2 fit.tag
+fit_is_named port w issue.TooLong fit is none memory = is.1.3 fit.short
+fit_is_named port w issue.BadList fit is none memory = is.1.4 fit.listed
+fit_is_named port w issue.OutOfMemory fit is none memory = memory refl
 
 -- what the port says of the tag
 abbrev pub port_says : PortView → ℕ → Option Refusal

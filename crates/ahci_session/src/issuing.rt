@@ -14,7 +14,7 @@ ghost use Rattle.ahci_session.specs.Script.{IsAnswered, IsIssuedFor, Says, newes
 use crate::answering::{answer, refuse};
 use crate::refusals::issue_refusal;
 use crate::unanswered::Unanswered;
-use ahci_port::Port;
+use ahci_port::{IssueFault, Port};
 use ahci_script::{Answer, Command, Output, Refusal};
 use ahci_table::{BuildFault, Piece, Window, default_pieces};
 use arrayvec::ArrayVec;
@@ -99,10 +99,13 @@ pub(crate) fn issue<A: Allocator + Clone>(
     let pieces = pieces_of(op);
     match Window::build(alloc.clone()?, tag, op, &pieces) {
         Ok(window) => issue_window(port, output, window),
-        Err(BuildFault::BadCount) => refuse(output, Refusal::BadCount),
-        Err(BuildFault::BadLba) => refuse(output, Refusal::BadLba),
-        // The default pieces serve every count, so that nothing but want of memory is left.
-        Err(_) => Err(Unanswered::OutOfMemory),
+        Err(fault) => match fault {
+            BuildFault::BadCount => refuse(output, Refusal::BadCount),
+            BuildFault::BadLba => refuse(output, Refusal::BadLba),
+            BuildFault::OutOfMemory => Err(Unanswered::OutOfMemory),
+            // The default pieces serve every count.
+            _ => unreachable!(),
+        },
     }
 }
 
@@ -122,8 +125,11 @@ fn issue_window<A: Allocator + Clone>(
         Ok(number) => answer(output, &Answer::Issued(number)),
         Err((_window, fault)) => match issue_refusal(fault) {
             Some(refusal) => refuse(output, refusal),
-            // A window that is fit breaks no rule, so that nothing but want of memory is left.
-            None => Err(Unanswered::OutOfMemory),
+            None => match fault {
+                IssueFault::OutOfMemory => Err(Unanswered::OutOfMemory),
+                // A window that is fit breaks no rule.
+                _ => unreachable!(),
+            },
         },
     }
 }

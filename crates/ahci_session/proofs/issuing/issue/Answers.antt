@@ -1,13 +1,13 @@
-use Rattle.std.proofs.Common.{◌≡◌, ◌∙◌, None, Some, ap, refl, sym}
+use Rattle.std.proofs.Common.{◌≡◌, ◌∙◌, MatchOption, None, Some, ap, refl, subst, sym}
 use Rattle.ahci_port.specs.Steps.{IsIssued}
 use Rattle.ahci_table.specs.Defaults.{default_list}
 use Rattle.ahci_table.specs.Refusal.{refusal}
-use Rattle.ahci_table.specs.declared.fault.BuildFault.TheVariants.{BadCount, BadLba}
+use Rattle.ahci_table.specs.declared.fault.BuildFault.TheVariants.{BadCount, BadLba, OutOfMemory}
 use Rattle.ncq_journal.specs.Work.{lba_of, sectors_of, work_of}
 use Rattle.ahci_script.specs.declared.refusal.Refusal.TheVariants as refused
 use Rattle.ahci_session.specs.Refusals.{issue_refusal}
 use Rattle.ahci_session.specs.Script.{IsIssuedFor, newest_text}
-use Rattle.ahci_session.proofs.IssuingLemmas.{address_issue, built_free, built_named, count_issue, free_issue, port_says}
+use Rattle.ahci_session.proofs.IssuingLemmas.{address_issue, built_free, built_named, count_issue, free_issue, no_other_fault, port_says}
 use Rattle.ahci_session.proofs.SessionLemmas.{answered_as, shown}
 use Rattle.ahci_session.proofs.issuing.issue.Goals as goal
 
@@ -25,20 +25,26 @@ returns-in-Ok-clause-ok g c =
     (λ issued. record { window = c.in-Ok.window; built = rw (← pieces) built; issued = issued })
     c.issue_window.ensures.ok
 
-pub returns-in-Err-BadCount-clause-ok : goal.returns-in-Err-BadCount-clause-ok
-returns-in-Err-BadCount-clause-ok g c =
+pub returns-in-BadCount-clause-ok : goal.returns-in-BadCount-clause-ok
+returns-in-BadCount-clause-ok g c =
     let a = c.args in
     let work = work_of a.op.now in
     let pieces : c.deref.result.now ≡ default_list (sectors_of work) = c.deref.ensures.0 ∙ c.pieces_of-pieces.ensures in
     let named : refusal work (default_list (sectors_of work)) ≡ Some BadCount =
-    ap (refusal work) (sym pieces) ∙ built_named BadCount c.in-Err-BadCount.field-0 (refusal work c.deref.result.now) c.in-Err-BadCount.field-0-is (λ e. cc) c.in-Err-BadCount.ensures.fault in
+    ap (refusal work) (sym pieces) ∙ built_named BadCount c.in-Err.fault (refusal work c.deref.result.now) c.in-BadCount.is (λ e. cc) c.in-Err.ensures.fault in
     shown (issue_refusal a.port.now a.tag (lba_of work) (sectors_of work)) refused.BadCount (IsIssuedFor a.tag work a.port.now a.port.now) (newest_text a.port.now.past) a.port.now a.port.now c.refuse.result a.output.now c.refuse.new.output (count_issue a.port.now a.tag work c.requires.whole named) refl c.refuse.ensures.text
 
-pub returns-in-Err-BadLba-clause-ok : goal.returns-in-Err-BadLba-clause-ok
-returns-in-Err-BadLba-clause-ok g c =
+pub returns-in-BadLba-clause-ok : goal.returns-in-BadLba-clause-ok
+returns-in-BadLba-clause-ok g c =
     let a = c.args in
     let work = work_of a.op.now in
     let pieces : c.deref.result.now ≡ default_list (sectors_of work) = c.deref.ensures.0 ∙ c.pieces_of-pieces.ensures in
     let named : refusal work (default_list (sectors_of work)) ≡ Some BadLba =
-    ap (refusal work) (sym pieces) ∙ built_named BadLba c.in-Err-BadLba.field-0 (refusal work c.deref.result.now) c.in-Err-BadLba.field-0-is (λ e. cc) c.in-Err-BadLba.ensures.fault in
-    shown (issue_refusal a.port.now a.tag (lba_of work) (sectors_of work)) refused.BadLba (IsIssuedFor a.tag work a.port.now a.port.now) (newest_text a.port.now.past) a.port.now a.port.now c.refuse-in-Err-BadLba.result a.output.now c.refuse-in-Err-BadLba.new.output (address_issue a.port.now a.tag work c.requires.whole named) refl c.refuse-in-Err-BadLba.ensures.text
+    ap (refusal work) (sym pieces) ∙ built_named BadLba c.in-Err.fault (refusal work c.deref.result.now) c.in-BadLba.is (λ e. cc) c.in-Err.ensures.fault in
+    shown (issue_refusal a.port.now a.tag (lba_of work) (sectors_of work)) refused.BadLba (IsIssuedFor a.tag work a.port.now a.port.now) (newest_text a.port.now.past) a.port.now a.port.now c.refuse-in-BadLba.result a.output.now c.refuse-in-BadLba.new.output (address_issue a.port.now a.tag work c.requires.whole named) refl c.refuse-in-BadLba.ensures.text
+
+pub unreachable-requires : goal.unreachable-requires
+unreachable-requires g c =
+    let work = work_of c.args.op.now in
+    let fault = c.in-Err.fault in
+    no_other_fault fault work (subst (λ l. MatchOption (refusal work l) (fault ≡ OutOfMemory) (λ f. fault ≡ f)) (c.deref.ensures.0 ∙ c.pieces_of-pieces.ensures) c.in-Err.ensures.fault) c.in_default.not-OutOfMemory c.in_default.not-BadCount c.in_default.not-BadLba
