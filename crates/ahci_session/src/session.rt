@@ -11,6 +11,7 @@ use crate::running::run_on;
 use crate::unanswered::Unanswered;
 use ahci_port::Port;
 use ahci_script::{Answer, Command, Output, Refusal};
+use ncq_core::DiskFault;
 use std::alloc::Allocator;
 use std::marker::Model;
 
@@ -87,7 +88,11 @@ impl<A: Allocator + Clone> Session<A> {
                 self.port = Some(port);
                 answer(output, &Answer::Disk { sectors, depth })
             }
-            Err(_) => Err(Unanswered::OutOfMemory),
+            Err(fault) => match fault {
+                DiskFault::OutOfMemory => Err(Unanswered::OutOfMemory),
+                // The numbers were compared above.
+                _ => unreachable!(),
+            },
         }
     }
 }
