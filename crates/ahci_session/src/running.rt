@@ -30,6 +30,7 @@ pub(crate) fn run_on<A: Allocator + Clone>(
     ensures ok { OnOk result (Says port.old command port.new output.old output.new) }
     ensures misplaced { IfErr result (λ e. e ≡ Unanswered.OutOfPlace → is_in_place (Some port.old) command ≡ false) }
     ensures refused { is_in_place (Some port.old) command ≡ false → result ≡ Err Unanswered.OutOfPlace }
+    ensures kept { is_in_place (Some port.old) command ≡ false → port.new ≡ port.old }
     ensures err { OnErr result (output.new ≡ output.old) }
 {
     match command {

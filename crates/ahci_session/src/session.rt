@@ -45,13 +45,18 @@ impl<A: Allocator + Clone> Session<A> {
         Session { alloc, port: None }
     }
 
-    /// Runs a command, and puts its answer into the output.
+    /// Runs a command, whose tag is below 32, and puts its answer into the output.
+    ///
+    /// # Errors
+    /// `OutOfPlace` where the command stands before the disk, or is a second disk: then nothing changes. `OutOfMemory` where
+    /// a growth was refused: then the output is as it was, and the port may have moved.
     pub fn run(&mut self, command: Command, output: &mut Output<A>) -> Result<(), Unanswered>
         requires { HasSmallTag command }
         ensures left { OnOk result (Left self.old command self.new) }
         ensures said { OnOk result (IsSaid (said_of self.old self.new command) output.old output.new) }
         ensures misplaced { IfErr result (λ e. e ≡ Unanswered.OutOfPlace → is_in_place self.old command ≡ false) }
         ensures refused { is_in_place self.old command ≡ false → result ≡ Err Unanswered.OutOfPlace }
+        ensures kept { is_in_place self.old command ≡ false → self.new ≡ self.old }
         ensures err { OnErr result (output.new ≡ output.old) }
     {
         match &mut self.port {
