@@ -1,6 +1,6 @@
 -- What a request that can be collected has.
 use Rattle.std.proofs.Common.{◌≡◌, ℕ, ◌/◌, ◌<◌, Bool, true, false, not, ◌||◌, cond, List, length, nat_eq, ap, sym, refl, subst, ◌∙◌, Option, None, Some, is_some, arith, inl, inr}
-use Rattle.std.specs.Option.{option_map}
+use Rattle.std.specs.Option.{option_map, IsSome}
 use Rattle.std.specs.Prelude.{IfSome}
 use Rattle.std.proofs.lemmas.Bool.{eqb-true, false≢true, true≢false, cases_lt}
 use Rattle.std.proofs.lemmas.List.{get_or_past}
@@ -19,10 +19,10 @@ use Rattle.ncq_journal.specs.Phase.{phase}
 use Rattle.ncq_journal.specs.Request.{request}
 use Rattle.ncq_journal.proofs.AnsweredLemmas.{answered_by_phase}
 use Rattle.ncq_journal.proofs.OwedLemmas.{owed_moves}
-use Rattle.ahci_port.specs.Faults.{has_number, is_done}
+use Rattle.ahci_port.specs.Faults.{collect_refusal, has_number, is_done}
 use Rattle.ahci_port.specs.Keeping.{Keeps, HasSlot, slot_at}
 use Rattle.ahci_port.specs.Moves.{collect_fault}
-use Rattle.ahci_port.specs.PortView.{is_free}
+use Rattle.ahci_port.specs.PortView.{PortView, is_free}
 use Rattle.ahci_port.specs.Slots.{SlotState, answer_in, bytes_in}
 use Rattle.ahci_port.specs.declared.ended.Ended.{Ended}
 use Rattle.ahci_port.specs.declared.fault.CollectFault.{CollectFault}
@@ -100,6 +100,21 @@ collected starting disk regs slots headers past free tag number k may = by (slot
           answer_is = ap (answer starting past) (sym left.0) ∙ h.answer_is;
           room = (let r = k.room in omega arith);
         }
+
+-- the same, where the port refuses no collecting of the request
+pub collecting : (starting : List ℕ) (disk : DiskState) (regs : PortState) (slots : List (Option SlotState)) (headers : List (List ℕ)) (past : List Entry) (free tag number : ℕ) (port : PortView)
+    → Keeps starting disk regs slots headers past free → past ≡ port.past → collect_refusal port tag number ≡ None → Collected starting past slots free tag number
+collecting starting disk regs slots headers past free tag number port k same none =
+    collected starting disk regs slots headers past free tag number k
+    (collect_agrees starting past tag number (slot_at slots tag) (k.each tag) ∙ ap (λ h. collect_refusal (record port { past = h }) tag number) same ∙ none)
+
+-- a slot with an answer has ended
+pub ended_there : (slot : SlotState) → is_some (answer_in slot) ≡ true → IsSome slot.ended
+ended_there slot some = by slot.ended some
+  where
+    by : (x : Option Ended) → is_some (option_map (λ z. let a : Answer = record { entry = z.entry; outcome = z.outcome; bytes = bytes_in z.outcome slot.window } in a) x) ≡ true → IsSome x
+    by None e = absurd (cc)
+    by (Some x) e = refl
 
 -- an answer with these fields is the one that the slot holds
 pub answer_given : (slot : SlotState) (entry : ℕ) (o : Outcome) (w : WindowState) → is_some (answer_in slot) ≡ true → IfSome slot.ended (λ e. (entry ≡ e.entry) × (o ≡ e.outcome)) → w ≡ slot.window → answer_in slot ≡ Some (record { entry = entry; outcome = o; bytes = bytes_in o w })

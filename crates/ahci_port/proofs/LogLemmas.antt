@@ -17,6 +17,8 @@ use Rattle.sata_fis.specs.Fields.{H2dFields}
 use Rattle.ahci_port.specs.Keeping.{Keeps}
 use Rattle.ahci_port.specs.Slots.{SlotState, window_in}
 use Rattle.ahci_port.specs.Standing.{last_failure}
+use Rattle.ahci_port.specs.Unqueued.{cfis_for}
+use Rattle.ncq_core.specs.declared.taken.Taken.TheVariants as taken
 use Rattle.ahci_port.proofs.FailureLemmas.{failed_tag}
 
 -- while an error stands, a command changes nothing
@@ -77,9 +79,6 @@ pub back_again : (headers : List (List ℕ)) (x : List ℕ) → 0 < length heade
 back_again [] x h = absurd (omega arith)
 back_again (y ∷ headers) x h = refl
 
--- the headers of the commands of slot 0
-abbrev pub read_header : List ℕ
-read_header = 5 ∷ 0 ∷ 1 ∷ 0 ∷ 0 ∷ 0 ∷ 0 ∷ 0 ∷ 0 ∷ 0 ∷ 2 ∷ 0 ∷ 0 ∷ 0 ∷ 0 ∷ 0 ∷ 0 ∷ 0 ∷ 0 ∷ 0 ∷ 0 ∷ 0 ∷ 0 ∷ 0 ∷ 0 ∷ 0 ∷ 0 ∷ 0 ∷ 0 ∷ 0 ∷ 0 ∷ 0 ∷ []
-
-abbrev pub no_data_header : List ℕ
-no_data_header = 5 ∷ 0 ∷ 0 ∷ 0 ∷ 0 ∷ 0 ∷ 0 ∷ 0 ∷ 0 ∷ 0 ∷ 2 ∷ 0 ∷ 0 ∷ 0 ∷ 0 ∷ 0 ∷ 0 ∷ 0 ∷ 0 ∷ 0 ∷ 0 ∷ 0 ∷ 0 ∷ 0 ∷ 0 ∷ 0 ∷ 0 ∷ 0 ∷ 0 ∷ 0 ∷ 0 ∷ 0 ∷ []
+-- the command that reads the log is let through while an error stands
+pub log_passes : (disk : DiskState) → is_stopped disk ≡ true → (verdict disk (cfis_for plain.ReadLog)).answer ≡ taken.Plain plain.ReadLog
+log_passes disk stopped = ap (λ b. (cond b (stopped_verdict disk (command_in (cfis_for plain.ReadLog))) (running_verdict disk (command_in (cfis_for plain.ReadLog)))).answer) stopped

@@ -1,6 +1,8 @@
 -- The slot of a tag that isn't free.
-use Rattle.std.proofs.Common.{◌≡◌, ◌≢◌, ℕ, ◌<◌, Bool, true, false, cond, List, length, map, set, ap, sym, refl, ◌∙◌, Option, None, Some, arith}
+use Rattle.std.proofs.Common.{◌≡◌, ◌≢◌, ℕ, ◌<◌, Bool, true, false, cond, List, length, map, set, get_or, ap, sym, refl, ◌∙◌, Option, None, Some, arith}
 use Rattle.std.proofs.lemmas.Bool.{false≢true}
+use Rattle.std.proofs.lemmas.List.{get_or_read}
+use Rattle.std.proofs.lemmas.Option.{same_Some}
 use Rattle.std.proofs.Math.Seq.{map-set_same}
 use Rattle.ahci_regs.specs.PortState.{PortState}
 use Rattle.ncq_journal.specs.declared.phase.Phase.{Phase}
@@ -34,6 +36,11 @@ owned starting disk regs slots headers past free tag k taken = by (slot_at slots
         let in_list = within slots tag slot e in
         record { slot = slot; here = e; below = in_list; low = (let c = k.slot_count in let s = k.shallow in omega arith); holds = h }
 
+-- the slot that a call finds at the tag is the owner's
+pub owner_is : {starting : List ℕ} {past : List Entry} {slots : List (Option SlotState)} {tag : ℕ} (o : Owned starting past slots tag) (found : Option SlotState) (slot : SlotState)
+    → found ≡ get_or slots tag found → found ≡ Some slot → o.slot ≡ slot
+owner_is o found slot read is = same_Some o.slot slot (sym o.here ∙ sym (get_or_read _ _ _ o.below read None) ∙ is)
+
 held_is : (p : Phase) → is_held p ≡ true → p ≡ Held
 held_is Held e = refl
 held_is Free e = absurd (false≢true e)
@@ -61,6 +68,26 @@ reissue_room starting disk regs slots headers past free tag k held running =
     let moves = owed_moves _ disk.depth past (Reissue tag) k.shallow (k.lawful, (held, running)) in
     let r = k.room in
     omega arith
+
+-- what a tag has whose command is issued again
+pub record Reissuing (starting : List ℕ) (past : List Entry) (slots : List (Option SlotState)) (free tag : ℕ) : Type 0 where
+  pub held : phase past tag ≡ Held
+  pub running : halted past ≡ false
+  pub owner : Owned starting past slots tag
+  pub room : 0 < free
+
+pub reissuing : (starting : List ℕ) (disk : DiskState) (regs : PortState) (slots : List (Option SlotState)) (headers : List (List ℕ)) (past : List Entry) (free tag : ℕ) (port : PortView)
+    → Keeps starting disk regs slots headers past free → past ≡ port.past → reissue_refusal port tag ≡ None → Reissuing starting past slots free tag
+reissuing starting disk regs slots headers past free tag port k same none =
+    let m = reissue_may port tag none in
+    let held : phase past tag ≡ Held = ap (λ h. phase h tag) same ∙ m.0 in
+    let running : halted past ≡ false = ap halted same ∙ m.1 in
+    record {
+      held = held;
+      running = running;
+      owner = owned starting disk regs slots headers past free tag k (held_taken past tag held);
+      room = reissue_room starting disk regs slots headers past free tag k held running;
+    }
 
 -- a slot that keeps its window leaves the windows
 pub windows_same : (slots : List (Option SlotState)) (tag : ℕ) (slot next : SlotState) → slot_at slots tag ≡ Some slot → next.window ≡ slot.window → map window_in (set slots tag (Some next)) ≡ map window_in slots

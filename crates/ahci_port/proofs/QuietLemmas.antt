@@ -1,6 +1,9 @@
 -- A port of which no command is issued or accepted.
-use Rattle.std.proofs.Common.{◌≡◌, ◌≢◌, ℕ, ◌^◌, ◌<◌, Bool, true, false, cond, ◌==◌, List, [], ◌∷◌, ap, sym, refl, ◌∙◌, None, Some, is_some, arith}
+use Rattle.std.proofs.Common.{◌≡◌, ◌≢◌, ℕ, ◌^◌, ◌<◌, Bool, true, false, cond, not, ◌&&◌, ◌||◌, ◌/◌, suc, ◌==◌, List, [], ◌∷◌, length, get_or, Option, ap, sym, refl, ◌∙◌, None, Some, is_some, arith}
 use Rattle.std.proofs.lemmas.Bool.{true≢false}
+use Rattle.std.specs.List.{list_any}
+use Rattle.ahci_regs.specs.PortState.{PortState}
+use Rattle.ahci_table.specs.Command.{queued_of}
 use Rattle.ncq_journal.specs.declared.phase.Phase.{Phase}
 use Rattle.ncq_journal.specs.declared.phase.Phase.TheVariants.{Free, Issued, Accepted, Rejected, Broken, Held, Done}
 use Rattle.ncq_journal.specs.declared.plain.Plain.{Plain}
@@ -9,16 +12,21 @@ use Rattle.ncq_core.specs.DiskState.{DiskState}
 use Rattle.ncq_journal.specs.Entry.{Entry}
 use Rattle.ncq_journal.specs.Halted.{halted, busy}
 use Rattle.ncq_journal.specs.Phase.{phase, is_failed, is_busy}
-use Rattle.ncq_journal.specs.Tags.{sact, ci, in_sact, in_ci}
+use Rattle.ncq_journal.specs.Tags.{sact, ci, in_sact, in_ci, in_device}
 use Rattle.ncq_core.specs.Verdict.{verdict, command_in, stopped_verdict, running_verdict, by_kind, plain_verdict, idle_verdict, aborted, passed}
 use Rattle.ncq_core.specs.Verdict as verdict
 use Rattle.ncq_journal.proofs.HaltedLemmas.{not_busy}
+use Rattle.ncq_journal.proofs.PhaseLemmas.{below_depth}
 use Rattle.ncq_journal.proofs.TagLemmas.{lacks}
 use Rattle.sata_fis.specs.Command.{queued_in}
-use Rattle.sata_fis.specs.Fields.{H2dFields}
+use Rattle.sata_fis.specs.Fields.{H2dFields, QueuedFields}
 use Rattle.sata_fis.specs.Layout.{h2d_at}
 use Rattle.ahci_port.specs.Faults.{plain_refusal}
+use Rattle.ahci_port.specs.Keeping.{Keeps, HasSlot, slot_at}
 use Rattle.ahci_port.specs.PortView.{PortView}
+use Rattle.ahci_port.specs.Slots.{SlotState, outstanding_in}
+use Rattle.ahci_port.specs.Unqueued.{cfis_for}
+use Rattle.ncq_core.specs.declared.taken.Taken.TheVariants as taken
 use Rattle.ahci_port.specs.declared.fault.PlainFault.TheVariants as fault
 use Rattle.word_bits.specs.Places.{bits, has_place, no_places}
 use Rattle.word_bits.proofs.BitsLemmas.{bits_zero, same_word}
@@ -93,15 +101,49 @@ plain_may port e = by (halted port.past) (busy port.past) refl refl e
     by false true p q h = absurd (cc)
     by false false p q h = (p, q)
 
--- the bytes of the two commands
-abbrev pub identify_cfis : List ℕ
-identify_cfis = 0x27 ∷ 0x80 ∷ 0xEC ∷ 0 ∷ 0 ∷ 0 ∷ 0 ∷ 0 ∷ 0 ∷ 0 ∷ 0 ∷ 0 ∷ 0 ∷ 0 ∷ 0 ∷ 0 ∷ 0 ∷ 0 ∷ 0 ∷ 0 ∷ []
+pub identify_state : (disk : DiskState) → disk.error ≡ None → (verdict disk (cfis_for plain.Identify)).state ≡ disk
+identify_state disk calm = plain_state disk (cfis_for plain.Identify) (h2d_at (cfis_for plain.Identify)) calm refl refl
 
-abbrev pub flush_cfis : List ℕ
-flush_cfis = 0x27 ∷ 0x80 ∷ 0xEA ∷ 0 ∷ 0 ∷ 0 ∷ 0 ∷ 0 ∷ 0 ∷ 0 ∷ 0 ∷ 0 ∷ 0 ∷ 0 ∷ 0 ∷ 0 ∷ 0 ∷ 0 ∷ 0 ∷ 0 ∷ []
+pub flush_state : (disk : DiskState) → disk.error ≡ None → (verdict disk (cfis_for plain.Flush)).state ≡ disk
+flush_state disk calm = plain_state disk (cfis_for plain.Flush) (h2d_at (cfis_for plain.Flush)) calm refl refl
 
-pub identify_state : (disk : DiskState) → disk.error ≡ None → (verdict disk identify_cfis).state ≡ disk
-identify_state disk calm = plain_state disk identify_cfis (h2d_at identify_cfis) calm refl refl
+-- none of these is a command
+no_command : (commands : List (Option QueuedFields)) → ((t : ℕ) → get_or commands t None ≡ None) → list_any is_some commands ≡ false
+no_command [] none = refl
+no_command (c ∷ commands) none = ap (λ o. is_some o || list_any is_some commands) (none 0) ∙ no_command commands (λ t. none (suc t))
 
-pub flush_state : (disk : DiskState) → disk.error ≡ None → (verdict disk flush_cfis).state ≡ disk
-flush_state disk calm = plain_state disk flush_cfis (h2d_at flush_cfis) calm refl refl
+-- no command is outstanding in the disk of a port whose queue is idle
+pub idle_disk : (starting : List ℕ) (disk : DiskState) (regs : PortState) (slots : List (Option SlotState)) (headers : List (List ℕ)) (past : List Entry) (free : ℕ)
+    → Keeps starting disk regs slots headers past free → busy past ≡ false → verdict.is_busy disk ≡ false
+idle_disk starting disk regs slots headers past free k still = no_command disk.commands (λ t. k.commands t ∙ by t (slot_at slots t) (k.each t))
+  where
+    quiet_slot : (slot : SlotState) (b : Bool) → in_device slot.phase ≡ false → outstanding_in b (Some slot) ≡ None
+    quiet_slot slot b e = ap (λ d. cond (d && not b) (Some (queued_of slot.window)) None) e
+
+    away : (p : Phase) → is_busy p ≡ false → in_device p ≡ false
+    away Free e = refl
+    away Held e = refl
+    away Done e = refl
+    away Rejected e = refl
+    away Broken e = refl
+    away Issued e = absurd (true≢false e)
+    away Accepted e = absurd (true≢false e)
+
+    by : (t : ℕ) (s : Option SlotState) → HasSlot starting past t s → outstanding_in (halted past) s ≡ None
+    by t None h = refl
+    by t (Some slot) h =
+        let deep = below_depth (length starting / 512) disk.depth past t (phase past t) k.lawful refl (λ e. h.taken (sym h.phase_is ∙ e)) in
+        let shallow = k.shallow in
+        let low : t < 32 = omega arith in
+        quiet_slot slot (halted past) (away slot.phase (ap is_busy (sym h.phase_is) ∙ lacks (λ u. is_busy (phase past u)) t low still))
+
+-- the commands that are not queued are let through while no command is outstanding
+pub identify_passes : (disk : DiskState) → disk.error ≡ None → verdict.is_busy disk ≡ false → (verdict disk (cfis_for plain.Identify)).answer ≡ taken.Plain plain.Identify
+identify_passes disk calm idle_now =
+    ap (λ o. (cond (is_some o) (stopped_verdict disk (command_in (cfis_for plain.Identify))) (running_verdict disk (command_in (cfis_for plain.Identify)))).answer) calm
+    ∙ ap (λ b. (cond b (aborted disk) (passed disk plain.Identify)).answer) idle_now
+
+pub flush_passes : (disk : DiskState) → disk.error ≡ None → verdict.is_busy disk ≡ false → (verdict disk (cfis_for plain.Flush)).answer ≡ taken.Plain plain.Flush
+flush_passes disk calm idle_now =
+    ap (λ o. (cond (is_some o) (stopped_verdict disk (command_in (cfis_for plain.Flush))) (running_verdict disk (command_in (cfis_for plain.Flush)))).answer) calm
+    ∙ ap (λ b. (cond b (aborted disk) (passed disk plain.Flush)).answer) idle_now

@@ -25,8 +25,11 @@ use Rattle.ncq_journal.proofs.OwedLemmas.{owed_moves}
 use Rattle.ahci_port.specs.Keeping.{Keeps, slot_at}
 use Rattle.ahci_port.specs.Memory.{IsKept}
 use Rattle.ahci_port.specs.Moves.{MovedWindow, served_slot}
+use Rattle.ahci_port.specs.Faults.{step_refusal}
 use Rattle.ahci_port.specs.PortView.{PortView, window_at}
 use Rattle.ahci_port.specs.Steps as steps
+use Rattle.ahci_port.specs.declared.step.DeviceStep.TheVariants as step
+use Rattle.ahci_port.proofs.StepLemmas.{serve_may}
 use Rattle.ahci_port.specs.Slots.{SlotState, outstanding_in, window_in}
 use Rattle.ahci_port.specs.Standing.{last_failure}
 use Rattle.ahci_port.proofs.MemoryLemmas.{fit_sized, moved_window, kept_scattered}
@@ -35,14 +38,19 @@ use Rattle.ahci_port.proofs.ServingLemmas.{read_text}
 use Rattle.ahci_port.proofs.WorkLemmas.{op_read, op_write}
 
 pub record Serving (starting : List ℕ) (disk : DiskState) (past : List Entry) (slots : List (Option SlotState)) (free tag : ℕ) : Type 0 where
+  pub accepted : phase past tag ≡ Accepted
+  pub running : halted past ≡ false
   pub owner : Owned starting past slots tag
   pub there : command_of disk tag ≡ Some (queued_of owner.slot.window)
   pub served_now : serve_fault disk tag ≡ None
   pub room : 0 < free
 
-pub serving : (starting : List ℕ) (disk : DiskState) (regs : PortState) (slots : List (Option SlotState)) (headers : List (List ℕ)) (past : List Entry) (free tag : ℕ)
-    → Keeps starting disk regs slots headers past free → phase past tag ≡ Accepted → halted past ≡ false → Serving starting disk past slots free tag
-serving starting disk regs slots headers past free tag k accepted running =
+pub serving : (starting : List ℕ) (disk : DiskState) (regs : PortState) (slots : List (Option SlotState)) (headers : List (List ℕ)) (past : List Entry) (free tag : ℕ) (port : PortView)
+    → Keeps starting disk regs slots headers past free → past ≡ port.past → step_refusal port (step.Serve tag) ≡ None → Serving starting disk past slots free tag
+serving starting disk regs slots headers past free tag port k same none =
+    let m = serve_may port tag none in
+    let accepted : phase past tag ≡ Accepted = ap (λ h. phase h tag) same ∙ m.0 in
+    let running : halted past ≡ false = ap halted same ∙ m.1 in
     let o = owned starting disk regs slots headers past free tag k (λ e. absurd (let z : Accepted ≡ Free = sym accepted ∙ e in cc)) in
     let in_slot : o.slot.phase ≡ Accepted = sym o.holds.phase_is ∙ accepted in
     let there : command_of disk tag ≡ Some (queued_of o.slot.window) =
@@ -52,6 +60,8 @@ serving starting disk regs slots headers past free tag k accepted running =
     let calm : disk.error ≡ None = k.error_is ∙ ap (λ b. cond b (last_failure past) None) running in
     let moves = owed_moves _ disk.depth past (Complete tag) k.shallow (k.lawful, (accepted, running)) in
     record {
+      accepted = accepted;
+      running = running;
       owner = o;
       there = there;
       served_now = ap (λ e. cond (is_some e) (Some serve_fault.Stopped) (cond (is_some (command_of disk tag)) None (Some serve_fault.NotAccepted))) calm

@@ -22,7 +22,7 @@ use Rattle.ncq_journal.specs.Work.{Work, lba_of}
 use Rattle.ncq_journal.proofs.AnswerLemmas.{proper_entry}
 use Rattle.ncq_journal.proofs.EntryLemmas.{request_is_its_issue}
 use Rattle.ncq_journal.proofs.LawfulLemmas.{lawful_proper}
-use Rattle.sata_fis.specs.Fields.{QueuedFields}
+use Rattle.sata_fis.specs.Fields.{D2hFields, QueuedFields}
 use Rattle.sata_fis.specs.Layout.{d2h_at}
 use Rattle.ncq_journal.specs.Owed.{owed, owed_in}
 use Rattle.ncq_journal.specs.Tags.{in_device}
@@ -31,9 +31,11 @@ use Rattle.sata_fis.specs.Spelling.{Spells}
 use Rattle.ahci_port.specs.Standing.{last_failure}
 use Rattle.ahci_port.proofs.MemoryLemmas.{fit_sized}
 use Rattle.ahci_port.proofs.OwningLemmas.{Owned, owned}
+use Rattle.ahci_port.specs.Faults.{step_refusal}
 use Rattle.ahci_port.specs.PortView.{PortView, put_at, register_place}
 use Rattle.ahci_port.specs.Steps.{Appends, IsTaken, passes_end}
 use Rattle.ahci_port.specs.Steps as steps
+use Rattle.ahci_port.specs.declared.step.DeviceStep.TheVariants as step
 use Rattle.ahci_port.specs.declared.step.Stepped.{Stepped}
 use Rattle.ahci_port.specs.declared.step.Stepped.TheVariants.{Accepted, Failed}
 use Rattle.word_bits.specs.Places.{bits, places}
@@ -45,6 +47,7 @@ use Rattle.ahci_port.proofs.AcceptingLemmas.{keeps_accept, disk_size, request_ha
 use Rattle.ahci_port.proofs.CommandLemmas.{verdict_of}
 use Rattle.ahci_port.proofs.FailingLemmas.{keeps_fail}
 use Rattle.ahci_port.proofs.RegisterLemmas.{tracks_refuse}
+use Rattle.ahci_port.proofs.StepLemmas.{accept_may}
 use Rattle.ahci_port.proofs.SetLemmas.{own, other}
 use Rattle.ncq_journal.proofs.TagLemmas.{sum_one}
 use Rattle.ahci_port.proofs.WorkLemmas.{IsSized, past_end, op_lba}
@@ -70,7 +73,7 @@ state_is disk w fit calm below vacant = ap (λ v. v.state) (verdict_of disk w fi
     by true = refl
     by false = refl
 
-accepts : refuses accepted_bytes ≡ false
+accepts : refuses (d2h_at accepted_bytes) ≡ false
 unfolding bits places
 accepts = refl
 
@@ -78,7 +81,7 @@ error_41 : has_error 0x41 ≡ true
 unfolding bits places
 error_41 = refl
 
-pub rejects : (lba : ℕ) → refuses (not_found_bytes lba) ≡ true
+pub rejects : (lba : ℕ) → refuses (d2h_at (not_found_bytes lba)) ≡ true
 rejects lba = error_41
 
 -- the command of a request is proper
@@ -97,6 +100,8 @@ owed_at_least past tag low issued =
 
 -- what a tag has whose command is taken
 pub record Taking (starting : List ℕ) (disk : DiskState) (past : List Entry) (slots : List (Option SlotState)) (free tag : ℕ) : Type 0 where
+  pub issued : phase past tag ≡ Issued
+  pub running : halted past ≡ false
   pub owner : Owned starting past slots tag
   pub answer_of : fis_of (verdict disk (cfis owner.slot.window)).answer ≡ Some (answer_bytes disk (queued_of owner.slot.window))
   pub state_of : (verdict disk (cfis owner.slot.window)).state ≡ state_after disk (queued_of owner.slot.window)
@@ -125,6 +130,8 @@ taking starting disk regs slots headers past free tag k issued running spell =
     lba_max (queued_of w).lba (disk_sectors disk) (let a = op_lba w in let p = proper.lba in omega arith) (let f = k.few in let z = disk_size k in omega arith) in
     let moves_room : 0 < free = (let r = k.room in let n = owed_at_least past tag (let s = k.shallow in let l = o.low in l) issued in omega arith) in
     record {
+      issued = issued;
+      running = running;
       owner = o;
       answer_of = answer_is disk w o.holds.fit calm below vacant;
       state_of = state_is disk w o.holds.fit calm below vacant;
@@ -138,17 +145,24 @@ taking starting disk regs slots headers past free tag k issued running spell =
     by_case w small true = ((spell.not_found (first_lacking disk (queued_of w)) small).0, refl)
     by_case w small false = (spell.accepted.0, refl)
 
+-- the same, where the port refuses no Accept of the tag
+pub taking_now : (starting : List ℕ) (disk : DiskState) (regs : PortState) (slots : List (Option SlotState)) (headers : List (List ℕ)) (past : List Entry) (free tag : ℕ) (port : PortView)
+    → Keeps starting disk regs slots headers past free → past ≡ port.past → step_refusal port (step.Accept tag) ≡ None → AnswersSpell → Taking starting disk past slots free tag
+taking_now starting disk regs slots headers past free tag port k same none spell =
+    let m = accept_may port tag none in
+    taking starting disk regs slots headers past free tag k (ap (λ h. phase h tag) same ∙ m.0) (ap halted same ∙ m.1) spell
+
 -- the lba that the refusal names
 lba_there : (lba : ℕ) → AnswersSpell → lba < 2 ^ 48 → (d2h_at (not_found_bytes lba)).lba ≡ lba
 lba_there lba spell small = sym (ap (λ f. f.lba) (spell.not_found lba small).1)
 
 -- the port keeps what it keeps
 pub keeps_taken : (starting : List ℕ) (disk : DiskState) (regs : PortState) (slots : List (Option SlotState)) (headers : List (List ℕ)) (past : List Entry) (free left tag : ℕ)
-    → Keeps starting disk regs slots headers past free → phase past tag ≡ Issued → halted past ≡ false → AnswersSpell → (t : Taking starting disk past slots free tag) → left + 1 ≡ free
+    → Keeps starting disk regs slots headers past free → AnswersSpell → (t : Taking starting disk past slots free tag) → left + 1 ≡ free
     → (bytes : List ℕ) → bytes ≡ answer_bytes disk (queued_of t.owner.slot.window)
     → Keeps starting (state_after disk (queued_of t.owner.slot.window)) (after_register regs (d2h_at bytes).status (d2h_at bytes).error (d2h_at bytes).i tag)
-    (set slots tag (Some (taken_slot t.owner.slot (length past) bytes))) headers (taken_entry tag bytes ∷ past) left
-keeps_taken starting disk regs slots headers past free left tag k issued running spell t room bytes is = by (is_past_end disk q) refl (is)
+    (set slots tag (Some (taken_slot t.owner.slot (length past) (d2h_at bytes)))) headers (taken_entry tag (d2h_at bytes) ∷ past) left
+keeps_taken starting disk regs slots headers past free left tag k spell t room bytes is = by (is_past_end disk q) refl (is)
   where
     q : QueuedFields
     q = queued_of t.owner.slot.window
@@ -160,11 +174,11 @@ keeps_taken starting disk regs slots headers past free left tag k issued running
     sized = fit_sized t.owner.slot.window t.owner.holds.fit
 
     goal_for : DiskState → List ℕ → Type 0
-    goal_for after b = Keeps starting after (after_register regs (d2h_at b).status (d2h_at b).error (d2h_at b).i tag) (set slots tag (Some (taken_slot t.owner.slot (length past) b))) headers (taken_entry tag b ∷ past) left
+    goal_for after b = Keeps starting after (after_register regs (d2h_at b).status (d2h_at b).error (d2h_at b).i tag) (set slots tag (Some (taken_slot t.owner.slot (length past) (d2h_at b)))) headers (taken_entry tag (d2h_at b) ∷ past) left
 
     by : (b : Bool) → is_past_end disk (queued_of t.owner.slot.window) ≡ b → bytes ≡ cond (is_past_end disk (queued_of t.owner.slot.window)) (not_found_bytes (first_lacking disk (queued_of t.owner.slot.window))) accepted_bytes
         → Keeps starting (cond (is_past_end disk (queued_of t.owner.slot.window)) (verdict.not_found disk (queued_of t.owner.slot.window)).state (verdict.accepted disk (queued_of t.owner.slot.window)).state)
-        (after_register regs (d2h_at bytes).status (d2h_at bytes).error (d2h_at bytes).i tag) (set slots tag (Some (taken_slot t.owner.slot (length past) bytes))) headers (taken_entry tag bytes ∷ past) left
+        (after_register regs (d2h_at bytes).status (d2h_at bytes).error (d2h_at bytes).i tag) (set slots tag (Some (taken_slot t.owner.slot (length past) (d2h_at bytes)))) headers (taken_entry tag (d2h_at bytes) ∷ past) left
     by false e same =
         let there : bytes ≡ accepted_bytes = same ∙ ap (λ b. cond b (not_found_bytes (first_lacking disk (queued_of t.owner.slot.window))) accepted_bytes) e in
         rw (there, e)
@@ -172,18 +186,18 @@ keeps_taken starting disk regs slots headers past free left tag k issued running
         (λ b. Keeps starting (verdict.accepted disk (queued_of t.owner.slot.window)).state (registers.accepted regs tag)
         (set slots tag (Some (cond b (failed_slot t.owner.slot (length past) (d2h_at accepted_bytes).error (d2h_at accepted_bytes).lba) (accepted_slot t.owner.slot)))) headers
         (cond b (Fail tag (d2h_at accepted_bytes).error (d2h_at accepted_bytes).lba) (Accept tag) ∷ past) left)
-        (sym accepts) (keeps_accept starting disk regs slots headers past free left tag t.owner.slot k issued running t.owner.here sized t.its_tag e room))
+        (sym accepts) (keeps_accept starting disk regs slots headers past free left tag t.owner.slot k t.issued t.running t.owner.here sized t.its_tag e room))
     by true e same =
         let lba = first_lacking disk (queued_of t.owner.slot.window) in
         let there : bytes ≡ not_found_bytes lba = same ∙ ap (λ b. cond b (not_found_bytes (first_lacking disk (queued_of t.owner.slot.window))) accepted_bytes) e in
         let past_it = ltb-true (length starting / 512) (end_of (op t.owner.slot.window)) (sym (past_end disk (length starting / 512) t.owner.slot.window sized (disk_size k)) ∙ e) in
         let at : lba ≡ max (lba_of (op t.owner.slot.window)) (length starting / 512) = ap (λ n. max n (disk_sectors disk)) (sym (op_lba t.owner.slot.window)) ∙ ap (max (lba_of (op t.owner.slot.window))) (disk_size k) in
         let allowed : IsAllowed (length starting / 512) disk.depth past (Fail tag 0x10 lba) = (
-          running,
+          t.running,
           request_has starting past tag t.owner.slot (λ r. Fails (length starting / 512) (phase past tag) r.work 0x10 lba) t.owner.holds
-              (subst (λ p. Fails (length starting / 512) p (op t.owner.slot.window) 0x10 lba) (sym issued) (past_it, refl, at)),
+              (subst (λ p. Fails (length starting / 512) p (op t.owner.slot.window) 0x10 lba) (sym t.issued) (past_it, refl, at)),
         ) in
-        let busy : is_busy (phase past tag) ≡ true = ap is_busy issued in
+        let busy : is_busy (phase past tag) ≡ true = ap is_busy t.issued in
         let kept = keeps_fail starting disk regs (registers.refused regs tag) slots headers past free left tag 0x10 lba t.owner.slot k busy t.owner.here allowed (tracks_refuse disk.depth past regs tag 0x10 lba k.tracks busy) room in
         let named = subst
         (λ n. Keeps starting (stopped_by disk (record { tag = tag; error = 0x10; lba = lba })) (registers.refused regs tag) (set slots tag (Some (failed_slot t.owner.slot (length past) 0x10 n))) headers (Fail tag 0x10 n ∷ past) left)
@@ -201,14 +215,14 @@ keeps_taken starting disk regs slots headers past free left tag k issued running
 
 -- the step is the one that the definition names
 pub taken_as : (old new : PortView) (tag : ℕ) (work : Work) (answer : Stepped) (lba : ℕ) (passes : Bool) (bytes : List ℕ) → passes_end old work ≡ passes → lba ≡ steps.first_lacking old work → AnswersSpell → lba < 2 ^ 48
-    → bytes ≡ cond passes (not_found_bytes lba) accepted_bytes → answer ≡ taken_step (length old.past) bytes → Appends old new (taken_entry tag bytes)
+    → bytes ≡ cond passes (not_found_bytes lba) accepted_bytes → answer ≡ taken_step (length old.past) (d2h_at bytes) → Appends old new (taken_entry tag (d2h_at bytes))
     → new.registers ≡ after_register old.registers (d2h_at bytes).status (d2h_at bytes).error (d2h_at bytes).i tag → new.area ≡ put_at register_place bytes old.area → new.windows ≡ old.windows
     → IsTaken tag work old new answer
 taken_as old new tag work answer lba false bytes at is spell small same step appended moved area windows =
     rw at
     (record {
-      answer_is = step ∙ ap (taken_step (length old.past)) same ∙ ap (λ b. cond b (Failed (length old.past)) (Accepted (length old.past))) accepts;
-      appended = subst (Appends old new) (ap (taken_entry tag) same ∙ ap (λ b. cond b (Fail tag (d2h_at accepted_bytes).error (d2h_at accepted_bytes).lba) (Accept tag)) accepts) appended;
+      answer_is = step ∙ ap (λ b. taken_step (length old.past) (d2h_at b)) same ∙ ap (λ b. cond b (Failed (length old.past)) (Accepted (length old.past))) accepts;
+      appended = subst (Appends old new) (ap (λ b. taken_entry tag (d2h_at b)) same ∙ ap (λ b. cond b (Fail tag (d2h_at accepted_bytes).error (d2h_at accepted_bytes).lba) (Accept tag)) accepts) appended;
       registers_are = moved ∙ ap (λ b. after_register old.registers (d2h_at b).status (d2h_at b).error (d2h_at b).i tag) same;
       area_is = area ∙ ap (λ b. put_at register_place b old.area) same;
       windows_same = windows;
@@ -216,9 +230,9 @@ taken_as old new tag work answer lba false bytes at is spell small same step app
 taken_as old new tag work answer lba true bytes at is spell small same step appended moved area windows =
     rw at
     (record {
-      answer_is = step ∙ ap (taken_step (length old.past)) same ∙ ap (λ b. cond b (Failed (length old.past)) (Accepted (length old.past))) (rejects lba);
+      answer_is = step ∙ ap (λ b. taken_step (length old.past) (d2h_at b)) same ∙ ap (λ b. cond b (Failed (length old.past)) (Accepted (length old.past))) (rejects lba);
       appended = subst (Appends old new)
-          (ap (taken_entry tag) same ∙ ap (λ b. cond b (Fail tag (d2h_at (not_found_bytes lba)).error (d2h_at (not_found_bytes lba)).lba) (Accept tag)) (rejects lba)
+          (ap (λ b. taken_entry tag (d2h_at b)) same ∙ ap (λ b. cond b (Fail tag (d2h_at (not_found_bytes lba)).error (d2h_at (not_found_bytes lba)).lba) (Accept tag)) (rejects lba)
           ∙ ap (Fail tag 0x10) (lba_there lba spell small ∙ is))
           appended;
       registers_are = moved ∙ ap (λ b. after_register old.registers (d2h_at b).status (d2h_at b).error (d2h_at b).i tag) same;
@@ -226,17 +240,10 @@ taken_as old new tag work answer lba true bytes at is spell small same step appe
       windows_same = windows;
     })
 
--- the bytes that the disk is handed
-pub cfis_there : (slots : List (Option SlotState)) (tag : ℕ) (bytes : List ℕ) (slot : SlotState) → slot_at slots tag ≡ Some slot → IfSome (slot_at slots tag) (λ s. 20 ≤ length s.window.bytes → bytes ≡ cfis s.window) → IsFit slot.window → bytes ≡ cfis slot.window
-cfis_there slots tag bytes slot here is fit =
-    let h : 20 ≤ length slot.window.bytes → bytes ≡ cfis slot.window = subst (λ o. IfSome o (λ s. 20 ≤ length s.window.bytes → bytes ≡ cfis s.window)) here is in
-    let room = fit.header.room in
-    h (omega arith)
-
-pub taken_window : (slot : SlotState) (entry : ℕ) (bytes : List ℕ) → (taken_slot slot entry bytes).window ≡ slot.window
-taken_window slot entry bytes = by (refuses bytes)
+pub taken_window : (slot : SlotState) (entry : ℕ) (answer : D2hFields) → (taken_slot slot entry answer).window ≡ slot.window
+taken_window slot entry answer = by (refuses answer)
   where
-    by : (b : Bool) → (cond b (failed_slot slot entry (d2h_at bytes).error (d2h_at bytes).lba) (accepted_slot slot)).window ≡ slot.window
+    by : (b : Bool) → (cond b (failed_slot slot entry answer.error answer.lba) (accepted_slot slot)).window ≡ slot.window
     by true = refl
     by false = refl
 

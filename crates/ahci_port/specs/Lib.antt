@@ -9,3 +9,4 @@ pub mod Slots
 pub mod Standing
 pub mod Steps
 pub mod Tracking
+pub mod Unqueued

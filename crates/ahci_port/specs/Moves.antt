@@ -13,11 +13,10 @@ use Rattle.ncq_core.specs.declared.taken.Taken.TheVariants as taken
 use Rattle.ncq_journal.specs.Entry.{Entry, Accept, Fail}
 use Rattle.ahci_table.specs.declared.fault.TableFault.{TableFault}
 use Rattle.ahci_table.specs.declared.fault.TableFault.TheVariants as table
-use Rattle.sata_fis.specs.Fields.{QueuedFields}
+use Rattle.sata_fis.specs.Fields.{D2hFields, QueuedFields}
 use Rattle.ahci_port.specs.declared.fault.IssueFault.{IssueFault}
 use Rattle.ahci_port.specs.declared.fault.IssueFault.TheVariants as issue
 use Rattle.ahci_regs.specs.Receiving.{has_error}
-use Rattle.sata_fis.specs.Layout.{d2h_at}
 use Rattle.ahci_port.specs.declared.step.Stepped.{Stepped}
 use Rattle.ahci_port.specs.declared.step.Stepped.TheVariants.{Accepted, Failed}
 use Rattle.ncq_journal.specs.Phase.{failed, recovered}
@@ -78,18 +77,18 @@ fis_of (taken.Refused fis) = Some fis
 fis_of (taken.Plain command) = None
 
 -- ERR of the D2H Register FIS that answers a command
-abbrev pub refuses : List ℕ → Bool
-refuses fis = has_error (d2h_at fis).status
+abbrev pub refuses : D2hFields → Bool
+refuses answer = has_error answer.status
 
 -- the entry, the port's answer and the slot once a command is answered by a D2H Register FIS
-abbrev pub taken_entry : ℕ → List ℕ → Entry
-taken_entry tag fis = if refuses fis then Fail tag (d2h_at fis).error (d2h_at fis).lba else Accept tag
+abbrev pub taken_entry : ℕ → D2hFields → Entry
+taken_entry tag answer = if refuses answer then Fail tag answer.error answer.lba else Accept tag
 
-abbrev pub taken_step : ℕ → List ℕ → Stepped
-taken_step entry fis = if refuses fis then Failed entry else Accepted entry
+abbrev pub taken_step : ℕ → D2hFields → Stepped
+taken_step entry answer = if refuses answer then Failed entry else Accepted entry
 
-abbrev pub taken_slot : SlotState → ℕ → List ℕ → SlotState
-taken_slot slot entry fis = if refuses fis then failed_slot slot entry (d2h_at fis).error (d2h_at fis).lba else accepted_slot slot
+abbrev pub taken_slot : SlotState → ℕ → D2hFields → SlotState
+taken_slot slot entry answer = if refuses answer then failed_slot slot entry answer.error answer.lba else accepted_slot slot
 
 -- the slot of a command that is issued
 abbrev pub issued_slot : ℕ → QueuedFields → WindowState → SlotState

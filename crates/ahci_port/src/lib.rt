@@ -9,6 +9,7 @@ mod port;
 mod receiving;
 mod reply;
 mod slot;
+mod software;
 mod step;
 mod unqueued;
 

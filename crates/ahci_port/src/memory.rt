@@ -1,4 +1,5 @@
-use ahci_table::Window;
+use ahci_table::{Piece, Window};
+use arrayvec::ArrayVec;
 use ncq_core::Host;
 use sata_fis::data_head;
 use std::alloc::{Allocator, Global};
@@ -8,6 +9,8 @@ use std::marker::Model;
 #[derive(Drop)]
 pub(crate) struct Memory<A: Allocator = Global> {
     pub(crate) window: Window<A>,
+    /// The window's pieces, as its PRDT named them when it was issued: a Data FIS reads no PRDT.
+    list: ArrayVec<Piece, 32>,
     /// The last DMA Setup.
     pub(crate) setup: [u8; 28],
     /// How many bytes of the text have moved since.
@@ -16,26 +19,31 @@ pub(crate) struct Memory<A: Allocator = Global> {
 
 impl<A: Allocator> Model for Memory<A> {
     ghost use Rattle.ahci_port.specs.Memory.{MemoryState};
+    ghost use Rattle.std.specs.Prelude.{◌≡◌};
     ghost use Rattle.ahci_table.specs.Fit.{IsFit};
+    ghost use Rattle.ahci_table.specs.Prdt.{pieces};
 
     ghost Value = { MemoryState };
 
     ghost view = { λ m. record { window = m.window; setup = m.setup; offset = m.offset } };
 
-    ghost invariant = { λ m. IsFit m.window };
+    ghost invariant = { λ m. IsFit m.window × (m.list.items ≡ pieces m.window) };
 }
 
 impl<A: Allocator> Memory<A> {
     ghost use Rattle.std.specs.Prelude.{◌≡◌};
     ghost use Rattle.ahci_table.specs.Fit.{IsFit};
+    ghost use Rattle.ahci_table.specs.Prdt.{pieces};
 
     /// The memory of a window that a port takes, before its first DMA Setup.
-    pub(crate) fn of(window: Window<A>) -> Self
-        requires { IsFit window }
+    pub(crate) fn of(window: Window<A>, list: ArrayVec<Piece, 32>) -> Self
+        requires fit { IsFit window }
+        requires list { list.items ≡ pieces window }
         ensures { result.window ≡ window }
     {
         Memory {
             window,
+            list,
             setup: [0; 28],
             offset: 0,
         }
@@ -65,14 +73,14 @@ impl<A: Allocator> Host for Memory<A> {
 
     fn deliver(&mut self, fis: &[u8]) {
         let payload = &fis[4..];
-        self.window.scatter(self.offset, payload);
+        self.window.scatter_in(&self.list, self.offset, payload);
         self.offset += payload.len() as u32;
     }
 
     fn activate(&mut self, fis: &[u8; 4], out: &mut [u8]) {
         let (head, payload) = out.split_at_mut(4);
         head.copy_from_slice(&data_head());
-        self.window.gather(self.offset, payload);
+        self.window.gather_in(&self.list, self.offset, payload);
         self.offset += payload.len() as u32;
     }
 }

@@ -15,18 +15,15 @@ ghost use Rattle.ncq_journal.specs.Sector.{sector};
 ghost use Rattle.ahci_port.specs.Faults.{AnswersOr};
 ghost use Rattle.ahci_port.specs.Headline.{Headline};
 ghost use Rattle.ahci_port.specs.PortView.{sectors_in, new_port, owner_of};
-ghost use Rattle.ahci_port.specs.Registers.{started, acknowledged};
+ghost use Rattle.ahci_port.specs.Registers.{acknowledged};
 
-use crate::receiving::write;
 use crate::slot::{Slot, number_in, phase_in};
+use crate::software::{started, write};
 use crate::unqueued::UnqueuedTable;
-use ahci_regs::{PortRegs, RegFault};
+use ahci_regs::{PortRegs, RegFault, Register};
 use ncq_core::{Disk, DiskFault, Journal, Phase, read_sectors};
 use std::alloc::{AllocError, Allocator, Global};
 use std::marker::Model;
-
-/// PxIS.
-const PXIS: u32 = 0x110;
 
 /// Room for a call's own entry, and for all that requests can need after it: four entries for each of 32 tags.
 const ROOM: u64 = 129;
@@ -56,21 +53,6 @@ impl<A: Allocator> Model for Port<A> {
     ghost view = { λ p. view_of p.starting.items p.disk p.registers p.area p.slots.items p.journal.past };
 
     ghost invariant = { λ p. Keeps p.starting.items p.disk p.registers p.slots.items p.headers p.journal.past p.journal.room };
-}
-
-/// The registers of a port that was started (AHCI 1.3.1, sections 3.3.1, 3.3.3 and 3.3.7): PxCLB 00010000h, PxFB
-/// 00010400h, then FRE, then ST.
-fn started(depth: u32) -> PortRegs
-    requires low { 1 ≤ depth }
-    requires high { depth ≤ 32 }
-    ensures { result ≡ started depth }
-{
-    let mut registers = PortRegs::new(depth);
-    write(&mut registers, 0x100, 0x0001_0000);
-    write(&mut registers, 0x108, 0x0001_0400);
-    write(&mut registers, 0x118, 0x10);
-    write(&mut registers, 0x118, 0x11);
-    registers
 }
 
 /// As many free slots as the depth.
@@ -177,7 +159,7 @@ impl<A: Allocator> Port<A> {
     pub fn acknowledge(&mut self, mask: u32)
         ensures { self.new ≡ record self.old { registers = acknowledged self.old.registers mask } }
     {
-        write(&mut self.registers, PXIS, mask);
+        write(&mut self.registers, Register::PxIs, mask);
     }
 
     /// The received FIS area (AHCI 1.3.1, section 4.2.1): the last DMA Setup at 00h, PIO Setup at 20h, D2H Register at 40h

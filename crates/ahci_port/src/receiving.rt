@@ -3,15 +3,15 @@
 
 ghost use Rattle.std.specs.Prelude.{◌≡◌, ◌+◌, ◌<◌, ◌≤◌, length};
 ghost use Rattle.ahci_regs.specs.Receiving.{after_register, after_bits, after_pio, after_pio_end};
-ghost use Rattle.sata_fis.specs.declared.fis.Fis.TheVariants.{D2h, SetBits, PioSetup};
+ghost use Rattle.sata_fis.specs.declared.fis.Fis.TheVariants as fis_of;
 ghost use Rattle.sata_fis.specs.Layout.{d2h_at, set_bits_at, pio_setup_at};
 ghost use Rattle.sata_fis.specs.Spelling.{Spells};
 ghost use Rattle.ahci_port.specs.PortView.{put_at, setup_place, pio_place, register_place, bits_place};
-ghost use Rattle.ahci_port.specs.Registers.{after_write, issued};
+ghost use Rattle.ahci_port.specs.Moves.{refuses};
 
 use ahci_regs::PortRegs;
-use sata_fis::{Fis, decode};
-use word_bits::place;
+use sata_fis::{D2h, Fis, decode};
+use word_bits::is_set;
 
 /// The places of the FISes.
 const SETUP: usize = 0x00;
@@ -21,23 +21,6 @@ const PIO: usize = 0x20;
 const REGISTER: usize = 0x40;
 
 const BITS: usize = 0x58;
-
-/// Software writes a word to a register.
-pub(crate) fn write(registers: &mut PortRegs, off: u32, value: u32)
-    ensures { registers.new ≡ after_write registers.old off value }
-{
-    let _taken = registers.write(off, value);
-}
-
-/// Software issues a tag's command: PxSACT before PxCI, since once PxCI is set the device may answer (AHCI 1.3.1,
-/// "Building a Command").
-pub(crate) fn issue(registers: &mut PortRegs, tag: u8)
-    requires { tag < 32 }
-    ensures { registers.new ≡ issued registers.old tag }
-{
-    write(registers, 0x134, place(tag));
-    write(registers, 0x138, place(tag));
-}
 
 /// Puts a FIS at a place of the area.
 fn put(area: &mut [u8; 256], place: usize, fis: &[u8])
@@ -54,45 +37,63 @@ pub(crate) fn receive_setup(area: &mut [u8; 256], fis: &[u8; 28])
     put(area, SETUP, fis);
 }
 
-/// A Register FIS - Device to Host for a tag.
+/// Whether a Register FIS - Device to Host refuses its command: ERR of its status is set.
+pub(crate) fn is_refusal(answer: &D2h) -> bool
+    ensures { result ≡ refuses answer.now }
+{
+    is_set(u32::from(answer.status), 0)
+}
+
+/// A Register FIS - Device to Host for a tag. The answer is what it says.
 pub(crate) fn receive_register(
     registers: &mut PortRegs,
     area: &mut [u8; 256],
     fis: &[u8; 20],
     tag: u8,
-)
+) -> D2h
     requires tag { tag < 32 }
-    requires spells { Spells fis.now (D2h (d2h_at fis.now)) }
+    requires spells { Spells fis.now (fis_of.D2h (d2h_at fis.now)) }
     ensures area { area.new ≡ put_at register_place fis.now area.old }
     ensures registers { registers.new ≡ after_register registers.old (d2h_at fis.now).status (d2h_at fis.now).error (d2h_at fis.now).i tag }
+    ensures answer { result ≡ d2h_at fis.now }
 {
     put(area, REGISTER, fis);
-    if let Ok(Fis::D2h(answer)) = &decode(fis) {
-        registers.receive_register(answer.status, answer.error, answer.i, tag);
+    match &decode(fis) {
+        Ok(Fis::D2h(answer)) => {
+            registers.receive_register(answer.status, answer.error, answer.i, tag);
+            *answer
+        }
+        _ => unreachable!(),
     }
 }
 
 /// A Set Device Bits FIS.
 pub(crate) fn receive_bits(registers: &mut PortRegs, area: &mut [u8; 256], fis: &[u8; 8])
-    requires spells { Spells fis.now (SetBits (set_bits_at fis.now)) }
+    requires spells { Spells fis.now (fis_of.SetBits (set_bits_at fis.now)) }
     ensures area { area.new ≡ put_at bits_place fis.now area.old }
     ensures registers { registers.new ≡ after_bits registers.old (set_bits_at fis.now).status (set_bits_at fis.now).error (set_bits_at fis.now).i (set_bits_at fis.now).sactive }
 {
     put(area, BITS, fis);
-    if let Ok(Fis::SetBits(bits)) = &decode(fis) {
-        registers.receive_bits(bits.status, bits.error, bits.i, bits.sactive);
+    match &decode(fis) {
+        Ok(Fis::SetBits(bits)) => {
+            registers.receive_bits(bits.status, bits.error, bits.i, bits.sactive);
+        }
+        _ => unreachable!(),
     }
 }
 
 /// A PIO Setup FIS for slot 0, with its data behind it.
 pub(crate) fn receive_pio(registers: &mut PortRegs, area: &mut [u8; 256], fis: &[u8; 20])
-    requires spells { Spells fis.now (PioSetup (pio_setup_at fis.now)) }
+    requires spells { Spells fis.now (fis_of.PioSetup (pio_setup_at fis.now)) }
     ensures area { area.new ≡ put_at pio_place fis.now area.old }
     ensures registers { registers.new ≡ after_pio_end (after_pio registers.old (pio_setup_at fis.now).status (pio_setup_at fis.now).error) (pio_setup_at fis.now).e_status (pio_setup_at fis.now).i 0 }
 {
     put(area, PIO, fis);
-    if let Ok(Fis::PioSetup(setup)) = &decode(fis) {
-        registers.receive_pio(setup.status, setup.error);
-        registers.end_pio(setup.e_status, setup.i, 0);
+    match &decode(fis) {
+        Ok(Fis::PioSetup(setup)) => {
+            registers.receive_pio(setup.status, setup.error);
+            registers.end_pio(setup.e_status, setup.i, 0);
+        }
+        _ => unreachable!(),
     }
 }

@@ -1,44 +1,39 @@
-ghost use Rattle.std.specs.Prelude.{◌≡◌, ◌≤◌, length, map, IfSome, None, Some, if◌then◌else◌};
+ghost use Rattle.std.specs.Prelude.{◌≡◌, map, IfSome, IsSome, None, Some};
+ghost use Rattle.std.specs.Option.{option_map};
 ghost use Rattle.ahci_table.specs.Command.{cfis, queued_of};
 ghost use Rattle.ahci_table.specs.Fit.{IsFit};
+ghost use Rattle.ahci_table.specs.Prdt.{pieces};
 ghost use Rattle.ahci_table.specs.Text.{text};
 ghost use Rattle.ncq_core.specs.DiskFis.{setup_bytes, completed_bytes};
 ghost use Rattle.ncq_core.specs.DiskState.{command_of};
 ghost use Rattle.ncq_core.specs.Serving.{HasMoved, serve_fault, served};
 ghost use Rattle.ahci_port.specs.Memory.{IsKept};
-ghost use Rattle.ncq_journal.specs.Entry.{entry_of};
-ghost use Rattle.sata_fis.specs.declared.fis.Fis.TheVariants.{D2h};
-ghost use Rattle.sata_fis.specs.Layout.{d2h_at};
-ghost use Rattle.sata_fis.specs.Spelling.{Spells};
-ghost use Rattle.std.specs.Option.{option_map};
-ghost use Rattle.ncq_journal.specs.Phase.{failed, recovered};
 ghost use Rattle.ahci_port.specs.Keeping.{slot_at};
 ghost use Rattle.ahci_port.specs.Slots.{phase_in};
-ghost use Rattle.ahci_port.specs.Moves.{collect_fault, issued_slot, outcome_of, served_slot, refuses, taken_entry, taken_slot, taken_step, reissued_slot, accepted_slot, failed_slot, recovered_slot};
+ghost use Rattle.ahci_port.specs.Moves.{collect_fault, issued_slot, outcome_of, served_slot, taken_slot, reissued_slot, accepted_slot, failed_slot, recovered_slot};
 
 use crate::ended::Ended;
 use crate::fault::CollectFault;
 use crate::memory::Memory;
+use crate::receiving::is_refusal;
 use crate::reply::Reply;
-use crate::step::Stepped;
-use ahci_table::Window;
-use ncq_core::{Disk, Event, Outcome, Phase};
-use sata_fis::{Fis, Queued, decode};
+use ahci_table::{Command, Window};
+use ncq_core::{Disk, Outcome, Phase};
+use sata_fis::D2h;
 use std::alloc::{Allocator, Global};
 use std::marker::Model;
-use word_bits::is_set;
 
 /// A tag's request.
 #[derive(Drop)]
 pub(crate) struct Slot<A: Allocator = Global> {
-    pub(crate) number: u64,
-    pub(crate) is_write: bool,
-    pub(crate) lba: u64,
-    pub(crate) sectors: u32,
-    pub(crate) phase: Phase,
+    number: u64,
+    is_write: bool,
+    lba: u64,
+    sectors: u32,
+    phase: Phase,
     /// How it was answered, once it is rejected, broken or done.
-    pub(crate) ended: Option<Ended>,
-    pub(crate) window: Window<A>,
+    ended: Option<Ended>,
+    memory: Memory<A>,
 }
 
 impl<A: Allocator> Model for Slot<A> {
@@ -46,74 +41,137 @@ impl<A: Allocator> Model for Slot<A> {
 
     ghost Value = { SlotState };
 
-    ghost view = { λ s. record { number = s.number; is_write = s.is_write; lba = s.lba; sectors = s.sectors; phase = s.phase; ended = s.ended; window = s.window } };
+    ghost view = { λ s. record { number = s.number; is_write = s.is_write; lba = s.lba; sectors = s.sectors; phase = s.phase; ended = s.ended; window = s.memory.window } };
 }
 
-/// The phase of a command that fails in this one.
-pub(crate) fn failed(phase: Phase) -> Phase
-    ensures { result ≡ failed phase }
+/// What serving a command sends: the DMA Setup FIS and the Set Device Bits FIS.
+#[derive(Clone, Copy)]
+pub(crate) struct Served {
+    pub(crate) setup: [u8; 28],
+    pub(crate) bits: [u8; 8],
+}
+
+/// How a command ends that doesn't fail.
+fn outcome_of(is_write: bool) -> Outcome
+    ensures { result ≡ outcome_of is_write }
 {
-    match phase {
-        Phase::Issued => Phase::Rejected,
-        _ => Phase::Broken,
+    if is_write {
+        Outcome::Wrote
+    } else {
+        Outcome::Read
     }
 }
 
-/// The phase after a recovery (AHCI 1.3.1, section 6.2.2): the failed command is answered, those that the error ended are
-/// held.
-pub(crate) fn recovered(phase: Phase) -> Phase
-    ensures { result ≡ recovered phase }
-{
-    match phase {
-        Phase::Rejected | Phase::Broken => Phase::Done,
-        Phase::Issued | Phase::Accepted => Phase::Held,
-        _ => phase,
+impl<A: Allocator> Slot<A> {
+    /// A command that is issued, as request `number`.
+    pub(crate) fn issued(number: u64, command: Command, window: Window<A>) -> Self
+        requires fit { IsFit window }
+        requires list { command.pieces.items ≡ pieces window }
+        ensures { result ≡ issued_slot number command.queued window }
+    {
+        Slot {
+            number,
+            is_write: command.queued.write,
+            lba: command.queued.lba,
+            sectors: command.queued.sectors,
+            phase: Phase::Issued,
+            ended: None,
+            memory: Memory::of(window, command.pieces),
+        }
     }
-}
 
-/// The slot once its command is issued again.
-pub(crate) fn reissued_slot<A: Allocator>(slot: Option<Slot<A>>) -> Option<Slot<A>>
-    ensures { result ≡ option_map reissued_slot slot }
-{
-    let mut slot = slot?;
-    slot.phase = Phase::Issued;
-    Some(slot)
-}
+    /// The command is issued again.
+    pub(crate) fn reissue(&mut self)
+        ensures { self.new ≡ reissued_slot self.old }
+    {
+        self.phase = Phase::Issued;
+    }
 
-/// The slot once its command is accepted.
-pub(crate) fn accepted_slot<A: Allocator>(slot: Option<Slot<A>>) -> Option<Slot<A>>
-    ensures { result ≡ option_map accepted_slot slot }
-{
-    let mut slot = slot?;
-    slot.phase = Phase::Accepted;
-    Some(slot)
-}
+    /// The device has answered the command, at an entry: it has accepted it, or, where ERR is set, refused it.
+    pub(crate) fn take(&mut self, entry: u64, answer: &D2h)
+        ensures { self.new ≡ taken_slot self.old entry answer.now }
+    {
+        if is_refusal(answer) {
+            self.fail(entry, answer.error, answer.lba);
+        } else {
+            self.accept();
+        }
+    }
 
-/// The slot once its command has failed, at an entry.
-pub(crate) fn failed_slot<A: Allocator>(
-    slot: Option<Slot<A>>,
-    entry: u64,
-    error: u8,
-    lba: u64,
-) -> Option<Slot<A>>
-    ensures { result ≡ option_map (λ s. failed_slot s entry error lba) slot }
-{
-    let mut slot = slot?;
-    slot.phase = failed(slot.phase);
-    slot.ended = Some(Ended {
-        entry,
-        outcome: Outcome::Failed { error, lba },
-    });
-    Some(slot)
-}
+    /// The device has accepted the command.
+    fn accept(&mut self)
+        ensures { self.new ≡ accepted_slot self.old }
+    {
+        self.phase = Phase::Accepted;
+    }
 
-/// The slot once the port has recovered.
-pub(crate) fn recovered_slot<A: Allocator>(slot: Option<Slot<A>>) -> Option<Slot<A>>
-    ensures { result ≡ option_map recovered_slot slot }
-{
-    let mut slot = slot?;
-    slot.phase = recovered(slot.phase);
-    Some(slot)
+    /// The command has failed, at an entry.
+    pub(crate) fn fail(&mut self, entry: u64, error: u8, lba: u64)
+        ensures { self.new ≡ failed_slot self.old entry error lba }
+    {
+        self.phase = self.phase.failed();
+        self.ended = Some(Ended {
+            entry,
+            outcome: Outcome::Failed { error, lba },
+        });
+    }
+
+    /// The port has recovered.
+    pub(crate) fn recover(&mut self)
+        ensures { self.new ≡ recovered_slot self.old }
+    {
+        self.phase = self.phase.recovered();
+    }
+
+    /// The disk serves the command, over the window's memory, and completes it at an entry.
+    pub(crate) fn serve(&mut self, disk: &mut Disk<A>, tag: u8, entry: u64) -> Served
+        requires fit { IsFit self.old.window }
+        requires there { command_of disk.old tag ≡ Some (queued_of self.old.window) }
+        requires running { serve_fault disk.old tag ≡ None }
+        ensures state { disk.new ≡ served disk.old tag disk.new.image }
+        ensures data { HasMoved (queued_of self.old.window) disk.old.image disk.new.image (text self.old.window) (text self.new.window) }
+        ensures fit { IsFit self.new.window }
+        ensures kept { IsKept self.old.window self.new.window }
+        ensures slot { self.new ≡ served_slot self.old entry self.new.window }
+        ensures setup { result.setup ≡ setup_bytes (queued_of self.old.window) }
+        ensures bits { result.bits ≡ completed_bytes tag }
+    {
+        let bits = disk.serve(tag, &mut self.memory).unwrap();
+        let setup = self.memory.setup;
+        self.phase = Phase::Done;
+        self.ended = Some(Ended {
+            entry,
+            outcome: outcome_of(self.is_write),
+        });
+        Served { setup, bits }
+    }
+
+    /// The command FIS: the first 20 bytes of CFIS (AHCI 1.3.1, section 4.2.3).
+    pub(crate) fn cfis(&self) -> &[u8]
+        requires { IsFit self.now.window }
+        ensures { result.now ≡ cfis self.now.window }
+    {
+        &self.memory.window.bytes()[..20]
+    }
+
+    /// The answer of a request that is done, and its window.
+    pub(crate) fn reply(self) -> (Reply, Window<A>)
+        requires { IsSome self.ended }
+        ensures number { result.0.number ≡ self.number }
+        ensures ended { IfSome self.ended (λ e. (result.0.entry ≡ e.entry) × (result.0.outcome ≡ e.outcome)) }
+        ensures window { result.1 ≡ self.window }
+    {
+        let Ended { entry, outcome } = self.ended.unwrap();
+        let number = self.number;
+        (
+            Reply {
+                number,
+                entry,
+                outcome,
+            },
+            self.memory.window,
+        )
+    }
 }
 
 /// The phase of a tag, by its slot.
@@ -153,166 +211,13 @@ pub(crate) fn collect_fault<A: Allocator>(
     }
 }
 
-/// The answer of a slot, and its window. A slot that has none yet is answered as a write.
-pub(crate) fn reply<A: Allocator>(slot: Slot<A>) -> (Reply, Window<A>)
-    ensures number { result.0.number ≡ slot.number }
-    ensures ended { IfSome slot.ended (λ e. (result.0.entry ≡ e.entry) × (result.0.outcome ≡ e.outcome)) }
-    ensures window { result.1 ≡ slot.window }
-{
-    let ended = match slot.ended {
-        Some(ended) => ended,
-        None => Ended {
-            entry: 0,
-            outcome: Outcome::Wrote,
-        },
-    };
-    let reply = Reply {
-        number: slot.number,
-        entry: ended.entry,
-        outcome: ended.outcome,
-    };
-    (reply, slot.window)
-}
-
-/// The command FIS of a tag's slot: the first 20 bytes of CFIS (AHCI 1.3.1, section 4.2.3).
-pub(crate) fn cfis_in<A: Allocator>(slots: &[Option<Slot<A>>], tag: u8) -> [u8; 20]
-    ensures { IfSome (slot_at slots.now tag) (λ s. 20 ≤ length s.window.bytes → result ≡ cfis s.window) }
-{
-    let mut cfis = [0; 20];
-    if let Some(Some(slot)) = slots.get(tag as usize) {
-        if let Some(bytes) = slot.window.bytes().get(..20) {
-            cfis.copy_from_slice(bytes);
-        }
-    }
-    cfis
-}
-
-/// ERR and the fields of the D2H Register FIS that answers a command: the error, and the LBA that it names.
-fn refusal(fis: &[u8; 20]) -> Option<(u8, u64)>
-    requires { Spells fis.now (D2h (d2h_at fis.now)) }
-    ensures { result ≡ (if refuses fis.now then Some ((d2h_at fis.now).error, (d2h_at fis.now).lba) else None) }
-{
-    match &decode(fis) {
-        Ok(Fis::D2h(answer)) if is_set(u32::from(answer.status), 0) => {
-            Some((answer.error, answer.lba))
-        }
-        _ => None,
-    }
-}
-
-/// The slot once its command is answered by a D2H Register FIS, at an entry.
-pub(crate) fn taken_slot<A: Allocator>(
-    slot: Option<Slot<A>>,
-    entry: u64,
-    fis: &[u8; 20],
-) -> Option<Slot<A>>
-    requires { Spells fis.now (D2h (d2h_at fis.now)) }
-    ensures { result ≡ option_map (λ s. taken_slot s entry fis.now) slot }
-{
-    match refusal(fis) {
-        Some((error, lba)) => failed_slot(slot, entry, error, lba),
-        None => accepted_slot(slot),
-    }
-}
-
-/// The event of that answer.
-pub(crate) fn taken_event<A: Allocator>(tag: u8, fis: &[u8; 20]) -> Event<A>
-    requires { Spells fis.now (D2h (d2h_at fis.now)) }
-    ensures { entry_of result ≡ taken_entry tag fis.now }
-{
-    match refusal(fis) {
-        Some((error, lba)) => Event::Fail { tag, error, lba },
-        None => Event::Accept(tag),
-    }
-}
-
-/// What the step answers then.
-pub(crate) fn taken_step(entry: u64, fis: &[u8; 20]) -> Stepped
-    requires { Spells fis.now (D2h (d2h_at fis.now)) }
-    ensures { result ≡ taken_step entry fis.now }
-{
-    match refusal(fis) {
-        Some(_) => Stepped::Failed(entry),
-        None => Stepped::Accepted(entry),
-    }
-}
-
-/// How a command ends that doesn't fail.
-fn outcome_of(is_write: bool) -> Outcome
-    ensures { result ≡ outcome_of is_write }
-{
-    if is_write {
-        Outcome::Wrote
-    } else {
-        Outcome::Read
-    }
-}
-
-/// What serving a command leaves: its slot, the DMA Setup FIS and the Set Device Bits FIS.
-#[derive(Drop)]
-pub(crate) struct Served<A: Allocator = Global> {
-    pub(crate) slot: Slot<A>,
-    pub(crate) setup: [u8; 28],
-    pub(crate) bits: [u8; 8],
-}
-
-/// Lets the disk serve the command of a slot, over the window's memory.
-pub(crate) fn serve_slot<A: Allocator>(
-    slot: Slot<A>,
-    disk: &mut Disk<A>,
-    tag: u8,
-    entry: u64,
-) -> Served<A>
-    requires fit { IsFit slot.window }
-    requires there { command_of disk.old tag ≡ Some (queued_of slot.window) }
-    requires running { serve_fault disk.old tag ≡ None }
-    ensures state { disk.new ≡ served disk.old tag disk.new.image }
-    ensures data { HasMoved (queued_of slot.window) disk.old.image disk.new.image (text slot.window) (text result.slot.window) }
-    ensures fit { IsFit result.slot.window }
-    ensures kept { IsKept slot.window result.slot.window }
-    ensures slot { result.slot ≡ served_slot slot entry result.slot.window }
-    ensures setup { result.setup ≡ setup_bytes (queued_of slot.window) }
-    ensures bits { result.bits ≡ completed_bytes tag }
-{
-    let mut memory = Memory::of(slot.window);
-    let bits = disk.serve(tag, &mut memory).unwrap();
-    let Memory { window, setup, .. } = memory;
-    let slot = Slot {
-        number: slot.number,
-        is_write: slot.is_write,
-        lba: slot.lba,
-        sectors: slot.sectors,
-        phase: Phase::Done,
-        ended: Some(Ended {
-            entry,
-            outcome: outcome_of(slot.is_write),
-        }),
-        window,
-    };
-    Served { slot, setup, bits }
-}
-
-/// The slot of a command that is issued, as request `number`.
-pub(crate) fn issued_slot<A: Allocator>(number: u64, queued: &Queued, window: Window<A>) -> Slot<A>
-    ensures { result ≡ issued_slot number queued.now window }
-{
-    Slot {
-        number,
-        is_write: queued.write,
-        lba: queued.lba,
-        sectors: queued.sectors,
-        phase: Phase::Issued,
-        ended: None,
-        window,
-    }
-}
-
-/// The slots once the port has recovered.
+/// All slots, once the port has recovered.
 pub(crate) fn recover_slots<A: Allocator>(slots: &mut [Option<Slot<A>>])
     ensures { slots.new ≡ map (option_map recovered_slot) slots.old }
 {
     for index in 0..slots.len() {
-        let slot = slots[index].take();
-        slots[index] = recovered_slot(slot);
+        if let Some(slot) = &mut slots[index] {
+            slot.recover();
+        }
     }
 }

@@ -1,3 +1,6 @@
+//! Moves between the outside and a window's text. The pieces of the text stand in the window's PRDT; who moves data more
+//! than once reads them once, by `check`, and hands them in.
+
 ghost use Rattle.std.specs.Prelude.{◌≡◌, ◌+◌, ◌≤◌, length, take, drop, IfOk};
 ghost use Rattle.ahci_table.specs.Fit.{IsFit};
 ghost use Rattle.ahci_table.specs.Prdt.{pieces};
@@ -26,7 +29,17 @@ impl<A: Allocator> Window<A> {
         requires within { offset + length out.old ≤ length (text self.now) }
         ensures { out.new ≡ take (length out.old) (drop offset (text self.now)) }
     {
-        runs::gather(&self.listed(), &self.bytes, offset as usize, out);
+        self.gather_in(&self.listed(), offset, out);
+    }
+
+    /// The same, where the window's pieces are at hand.
+    pub fn gather_in(&self, list: &[Piece], offset: u32, out: &mut [u8])
+        requires fit { IsFit self.now }
+        requires list { list.now ≡ pieces self.now }
+        requires within { offset + length out.old ≤ length (text self.now) }
+        ensures { out.new ≡ take (length out.old) (drop offset (text self.now)) }
+    {
+        runs::gather(list, &self.bytes, offset as usize, out);
     }
 
     /// Copies these bytes over those of the text from an offset on. No other byte of the text and no byte outside the
@@ -37,8 +50,19 @@ impl<A: Allocator> Window<A> {
         ensures scattered { IsScattered self.old offset from.now self.new }
         ensures fit { IsFit self.new }
     {
-        let pieces = self.listed();
-        runs::scatter(&pieces, &mut self.bytes, offset as usize, from);
+        let list = self.listed();
+        self.scatter_in(&list, offset, from);
+    }
+
+    /// The same, where the window's pieces are at hand. They stay its pieces.
+    pub fn scatter_in(&mut self, list: &[Piece], offset: u32, from: &[u8])
+        requires fit { IsFit self.old }
+        requires list { list.now ≡ pieces self.old }
+        requires within { offset + length from.now ≤ length (text self.old) }
+        ensures scattered { IsScattered self.old offset from.now self.new }
+        ensures fit { IsFit self.new }
+    {
+        runs::scatter(list, &mut self.bytes, offset as usize, from);
     }
 
     /// The bytes of the pieces, joined in the order of the list. It fails only where memory is refused.
@@ -46,8 +70,15 @@ impl<A: Allocator> Window<A> {
         requires { IsFit self.now }
         ensures { IfOk result (λ v. v.items ≡ text self.now) }
     {
-        let pieces = self.listed();
-        let len = total(&pieces) as usize;
-        runs::joined(alloc, &pieces, &self.bytes, len)
+        self.text_in(&self.listed(), alloc)
+    }
+
+    /// The same, where the window's pieces are at hand.
+    pub fn text_in<B: Allocator>(&self, list: &[Piece], alloc: B) -> Result<Vec<u8, B>, AllocError>
+        requires fit { IsFit self.now }
+        requires list { list.now ≡ pieces self.now }
+        ensures { IfOk result (λ v. v.items ≡ text self.now) }
+    {
+        runs::joined(alloc, list, &self.bytes, total(list) as usize)
     }
 }

@@ -16,6 +16,7 @@ ghost use Rattle.ncq_core.specs.Identify.{identify_page};
 
 use crate::disk::error::DiskError;
 use crate::disk::identify::identify_page;
+use crate::disk::moving::DATA_FIS;
 use crate::disk_fault::DiskFault;
 use ncq_journal::read_sectors;
 use sata_fis::Queued;
@@ -31,6 +32,8 @@ pub struct Disk<A: Allocator = Global> {
     depth: u32,
     commands: [Option<Queued>; 32],
     error: Option<DiskError>,
+    /// Room in which a Data FIS is put together.
+    room: [u8; DATA_FIS],
 }
 
 impl<A: Allocator> Model for Disk<A> {
@@ -65,6 +68,7 @@ impl<A: Allocator> Disk<A> {
             depth,
             commands: no_commands(),
             error: None,
+            room: [0; DATA_FIS],
         })
     }
 

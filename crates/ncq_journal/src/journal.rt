@@ -88,7 +88,7 @@ impl<A: Allocator> Journal<A> {
         ensures room { self.new.room + 1 ≡ self.old.room }
     {
         self.room -= 1;
-        self.events.push(event).unwrap();
+        self.events.push_reserved(event);
     }
 }
 

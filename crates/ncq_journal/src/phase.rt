@@ -1,6 +1,6 @@
 ghost use Rattle.std.specs.Prelude.{◌≡◌};
 ghost use Rattle.ncq_journal.specs.History.{history_of};
-ghost use Rattle.ncq_journal.specs.Phase.{phase, phase_after, failed, recovered};
+ghost use Rattle.ncq_journal.specs.Phase.{phase, phase_after};
 ghost use Rattle.ncq_journal.specs.Entry.{entry_of};
 
 use crate::event::Event;
@@ -26,7 +26,7 @@ pub enum Phase {
 }
 
 impl Phase {
-    ghost use Rattle.ncq_journal.specs.Phase.{is_failed, is_busy};
+    ghost use Rattle.ncq_journal.specs.Phase.{is_failed, is_busy, failed, recovered};
 
     /// Whether the command failed and the port has not recovered.
     pub fn is_failed(self) -> bool
@@ -41,6 +41,27 @@ impl Phase {
     {
         matches!(self, Phase::Issued | Phase::Accepted)
     }
+
+    /// The phase of a command that fails in this one.
+    pub fn failed(self) -> Phase
+        ensures { result ≡ failed self }
+    {
+        match self {
+            Phase::Issued => Phase::Rejected,
+            _ => Phase::Broken,
+        }
+    }
+
+    /// The phase after a recovery: the failed command is answered, those that the error ended are held.
+    pub fn recovered(self) -> Phase
+        ensures { result ≡ recovered self }
+    {
+        match self {
+            Phase::Rejected | Phase::Broken => Phase::Done,
+            Phase::Issued | Phase::Accepted => Phase::Held,
+            other => other,
+        }
+    }
 }
 
 /// The phase of a tag after one more event.
@@ -52,28 +73,9 @@ fn phase_after<A: Allocator>(tag: u8, before: Phase, event: &Event<A>) -> Phase
         Event::Accept(t) if *t == tag => Phase::Accepted,
         Event::Complete(t) if *t == tag => Phase::Done,
         Event::Collect(t) if *t == tag => Phase::Free,
-        Event::Fail { tag: t, .. } if *t == tag => failed(before),
-        Event::Recover(_) => recovered(before),
+        Event::Fail { tag: t, .. } if *t == tag => before.failed(),
+        Event::Recover(_) => before.recovered(),
         _ => before,
-    }
-}
-
-fn failed(before: Phase) -> Phase
-    ensures { result ≡ failed before }
-{
-    match before {
-        Phase::Issued => Phase::Rejected,
-        _ => Phase::Broken,
-    }
-}
-
-fn recovered(before: Phase) -> Phase
-    ensures { result ≡ recovered before }
-{
-    match before {
-        Phase::Rejected | Phase::Broken => Phase::Done,
-        Phase::Issued | Phase::Accepted => Phase::Held,
-        other => other,
     }
 }
 

@@ -10,9 +10,9 @@ ghost use Rattle.ahci_port.specs.Steps.{IsCollected, IsReissued};
 
 use crate::fault::{CollectFault, ReissueFault};
 use crate::port::Port;
-use crate::receiving::issue;
 use crate::reply::Reply;
-use crate::slot::{collect_fault, reissued_slot, reply};
+use crate::slot::collect_fault;
+use crate::software::issue;
 use ahci_table::Window;
 use ncq_core::{Event, Phase};
 use std::alloc::Allocator;
@@ -37,7 +37,7 @@ impl<A: Allocator> Port<A> {
         }
         let slot = self.slots[tag as usize].take().unwrap();
         self.journal.push_reserved(Event::Collect(tag));
-        Ok(reply(slot))
+        Ok(slot.reply())
     }
 
     /// Why request `number` of a tag is not collected.
@@ -59,8 +59,10 @@ impl<A: Allocator> Port<A> {
         if let Some(fault) = self.reissue_fault(tag) {
             return Err(fault);
         }
-        let slot = self.slots[tag as usize].take();
-        self.slots[tag as usize] = reissued_slot(slot);
+        match &mut self.slots[tag as usize] {
+            Some(slot) => slot.reissue(),
+            None => unreachable!(),
+        }
         issue(&mut self.registers, tag);
         self.journal.push_reserved(Event::Reissue(tag));
         Ok(())

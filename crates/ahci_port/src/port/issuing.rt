@@ -3,6 +3,7 @@
 ghost use Rattle.std.specs.Prelude.{◌≡◌, length, IfOk, IfErr, OnOk};
 ghost use Rattle.ahci_table.specs.Command.{op, queued_of};
 ghost use Rattle.ahci_table.specs.Fit.{IsFit};
+ghost use Rattle.ahci_table.specs.Prdt.{pieces};
 ghost use Rattle.ncq_journal.specs.Lawful.{IsProper};
 ghost use Rattle.ncq_journal.specs.Work.{work_of};
 ghost use Rattle.ahci_port.specs.Faults.{RefusesIssue, MayTake, early_refusal};
@@ -11,9 +12,9 @@ ghost use Rattle.ahci_port.specs.Steps.{IsIssued};
 
 use crate::fault::IssueFault;
 use crate::port::{Port, ROOM};
-use crate::receiving::issue;
-use crate::slot::issued_slot;
-use ahci_table::{TableFault, Window};
+use crate::slot::Slot;
+use crate::software::issue;
+use ahci_table::{Piece, TableFault, Window};
 use ncq_core::{Bytes, Event, Op, Phase};
 use sata_fis::Queued;
 use std::alloc::{AllocError, Allocator};
@@ -36,9 +37,11 @@ fn op_of<A: Allocator + Clone>(
     alloc: &A,
     window: &Window<A>,
     queued: &Queued,
+    list: &[Piece],
 ) -> Result<Op<A>, AllocError>
     requires fit { IsFit window.now }
     requires queued { queued.now ≡ queued_of window.now }
+    requires list { list.now ≡ pieces window.now }
     ensures work { IfOk result (λ o. work_of o ≡ op window.now) }
     ensures proper { IfOk result (λ o. IsProper (op window.now)) }
 {
@@ -47,7 +50,7 @@ fn op_of<A: Allocator + Clone>(
         let sectors = queued.sectors;
         return Ok(Op::Read { lba, sectors });
     }
-    let bytes = window.text(alloc.clone()?)?;
+    let bytes = window.text_in(list, alloc.clone()?)?;
     Ok(Op::Write {
         lba,
         bytes: Bytes::from_vec(bytes),
@@ -95,7 +98,7 @@ impl<A: Allocator + Clone> Port<A> {
             Ok(command) => command,
             Err(fault) => return Err((window, issue_fault(fault))),
         };
-        let Ok(op) = op_of(&self.alloc, &window, &command.queued) else {
+        let Ok(op) = op_of(&self.alloc, &window, &command.queued, &command.pieces) else {
             return Err((window, IssueFault::OutOfMemory));
         };
         let Ok(()) = self.journal.reserve(ROOM) else {
@@ -104,7 +107,7 @@ impl<A: Allocator + Clone> Port<A> {
         let number = self.journal.len();
         self.headers[tag as usize] = *window.header();
         issue(&mut self.registers, tag);
-        self.slots[tag as usize] = Some(issued_slot(number, &command.queued, window));
+        self.slots[tag as usize] = Some(Slot::issued(number, command, window));
         self.journal.push_reserved(Event::Issue(tag, op));
         Ok(number)
     }

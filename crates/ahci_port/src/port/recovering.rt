@@ -6,31 +6,17 @@ ghost use Rattle.ncq_core.specs.Identify.{identify_page};
 ghost use Rattle.ncq_journal.specs.Phase.{phase, is_failed};
 ghost use Rattle.ahci_port.specs.Faults.{AnswersOr, recover_refusal, plain_refusal};
 ghost use Rattle.ahci_port.specs.PortView.{sectors_in};
-ghost use Rattle.ahci_port.specs.Registers.{restarted};
 ghost use Rattle.ahci_port.specs.Steps.{IsRecovered, IsIdentified, IsFlushed};
 
 use crate::fault::{PlainFault, RecoverFault};
 use crate::port::{Port, ROOM};
-use crate::receiving::{receive_pio, receive_register, write};
+use crate::receiving::{receive_pio, receive_register};
 use crate::slot::recover_slots;
-use crate::unqueued::{FLUSH, IDENTIFY, NO_DATA_HEADER, READ_HEADER, READ_LOG};
-use ahci_regs::PortRegs;
+use crate::software::restart;
+use crate::unqueued::send;
 use ncq_core::laws::the_disks_answers_are_these_bytes;
 use ncq_core::{Disk, Event, Plain};
 use std::alloc::Allocator;
-
-/// PxCI.
-const PXCI: u32 = 0x138;
-
-/// Stops the port, clears PxSERR and PxIS, and starts it again.
-fn restart(registers: &mut PortRegs)
-    ensures { registers.new ≡ restarted registers.old }
-{
-    write(registers, 0x118, 0x10);
-    write(registers, 0x130, 0xFFFF_FFFF);
-    write(registers, 0x110, 0xFFFF_FFFF);
-    write(registers, 0x118, 0x11);
-}
 
 impl<A: Allocator> Port<A> {
     /// Recovers from a failure: the port is stopped and started, and the page that READ LOG EXT reads tells the failed tag,
@@ -52,12 +38,18 @@ impl<A: Allocator> Port<A> {
         };
         restart(&mut self.registers);
         let aside = self.headers[0];
-        self.headers[0] = READ_HEADER;
-        self.unqueued.command(&READ_LOG);
-        write(&mut self.registers, PXCI, 1);
-        let _taken = self.disk.take(self.unqueued.cfis());
+        let taken = send(
+            Plain::ReadLog,
+            &mut self.headers[0],
+            &mut self.unqueued,
+            &mut self.registers,
+            &mut self.disk,
+        );
         receive_pio(&mut self.registers, &mut self.area, &Disk::<A>::pio_setup());
-        self.unqueued.take_page(self.disk.read_log());
+        match taken {
+            Plain::ReadLog => self.unqueued.take_page(self.disk.read_log()),
+            _ => unreachable!(),
+        }
         self.headers[0] = aside;
         let tag = self.unqueued.page()[0] % 32; // bits 4:0
         recover_slots(&mut self.slots);
@@ -83,12 +75,18 @@ impl<A: Allocator> Port<A> {
             return Err(PlainFault::OutOfMemory);
         };
         let aside = self.headers[0];
-        self.headers[0] = READ_HEADER;
-        self.unqueued.command(&IDENTIFY);
-        write(&mut self.registers, PXCI, 1);
-        let _taken = self.disk.take(self.unqueued.cfis());
+        let taken = send(
+            Plain::Identify,
+            &mut self.headers[0],
+            &mut self.unqueued,
+            &mut self.registers,
+            &mut self.disk,
+        );
         receive_pio(&mut self.registers, &mut self.area, &Disk::<A>::pio_setup());
-        self.unqueued.take_page(self.disk.identify());
+        match taken {
+            Plain::Identify => self.unqueued.take_page(self.disk.identify()),
+            _ => unreachable!(),
+        }
         self.headers[0] = aside;
         self.journal.push_reserved(Event::Plain(Plain::Identify));
         Ok(self.unqueued.page())
@@ -110,16 +108,24 @@ impl<A: Allocator> Port<A> {
             return Err(PlainFault::OutOfMemory);
         };
         let aside = self.headers[0];
-        self.headers[0] = NO_DATA_HEADER;
-        self.unqueued.command(&FLUSH);
-        write(&mut self.registers, PXCI, 1);
-        let _taken = self.disk.take(self.unqueued.cfis());
-        receive_register(
+        let taken = send(
+            Plain::Flush,
+            &mut self.headers[0],
+            &mut self.unqueued,
             &mut self.registers,
-            &mut self.area,
-            &Disk::<A>::flushed(),
-            0,
+            &mut self.disk,
         );
+        match taken {
+            Plain::Flush => {
+                receive_register(
+                    &mut self.registers,
+                    &mut self.area,
+                    &Disk::<A>::flushed(),
+                    0,
+                );
+            }
+            _ => unreachable!(),
+        }
         self.headers[0] = aside;
         self.journal.push_reserved(Event::Plain(Plain::Flush));
         Ok(())

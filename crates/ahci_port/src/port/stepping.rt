@@ -1,17 +1,18 @@
 //! What the device does with a tag's command: it accepts or refuses it, serves it, or fails it.
 
-ghost use Rattle.std.specs.Prelude.{◌≡◌, IfOk, OnErr};
+ghost use Rattle.std.specs.Prelude.{◌≡◌, IfOk, IsSome, OnErr, Some};
+ghost use Rattle.ncq_journal.specs.Entry.{entry_of};
 ghost use Rattle.ahci_port.specs.Faults.{Answers, step_refusal};
-ghost use Rattle.ahci_port.specs.Moves.{step_fault_of, fis_of};
+ghost use Rattle.ahci_port.specs.Moves.{step_fault_of, fis_of, taken_entry, taken_step};
 ghost use Rattle.ahci_port.specs.Steps.{IsStepped};
 
 use crate::fault::StepFault;
 use crate::port::Port;
-use crate::receiving::{receive_bits, receive_register, receive_setup};
-use crate::slot::{cfis_in, failed_slot, serve_slot, taken_event, taken_slot, taken_step};
+use crate::receiving::{is_refusal, receive_bits, receive_register, receive_setup};
 use crate::step::{DeviceStep, Stepped};
 use ncq_core::laws::the_disks_answers_are_these_bytes;
 use ncq_core::{Event, Phase, ServeFault, Taken};
+use sata_fis::D2h;
 use std::alloc::Allocator;
 
 /// The port's fault where the disk has refused to end a command.
@@ -26,12 +27,39 @@ fn step_fault(fault: ServeFault) -> StepFault
 }
 
 /// The FIS by which the disk answers a queued command.
-fn fis_of(taken: Taken) -> Option<[u8; 20]>
-    ensures { result ≡ fis_of taken }
+fn answer_in(taken: Taken) -> [u8; 20]
+    requires { IsSome (fis_of taken) }
+    ensures { Some result ≡ fis_of taken }
 {
     match taken {
-        Taken::Accepted(fis) | Taken::Refused(fis) => Some(fis),
-        Taken::Plain(_) => None,
+        Taken::Accepted(fis) | Taken::Refused(fis) => fis,
+        Taken::Plain(_) => unreachable!(),
+    }
+}
+
+/// The event of a command that the device has answered.
+fn taken_event<A: Allocator>(tag: u8, answer: &D2h) -> Event<A>
+    ensures { entry_of result ≡ taken_entry tag answer.now }
+{
+    if is_refusal(answer) {
+        Event::Fail {
+            tag,
+            error: answer.error,
+            lba: answer.lba,
+        }
+    } else {
+        Event::Accept(tag)
+    }
+}
+
+/// What the step answers then.
+fn taken_step(entry: u64, answer: &D2h) -> Stepped
+    ensures { result ≡ taken_step entry answer.now }
+{
+    if is_refusal(answer) {
+        Stepped::Failed(entry)
+    } else {
+        Stepped::Accepted(entry)
     }
 }
 
@@ -68,14 +96,14 @@ impl<A: Allocator> Port<A> {
         }
         the_disks_answers_are_these_bytes();
         let entry = self.journal.len();
-        let Some(fis) = fis_of(self.disk.take(&cfis_in(&self.slots, tag))) else {
-            return Err(StepFault::NotIssued);
+        let Some(slot) = &mut self.slots[tag as usize] else {
+            unreachable!();
         };
-        receive_register(&mut self.registers, &mut self.area, &fis, tag);
-        let slot = self.slots[tag as usize].take();
-        self.slots[tag as usize] = taken_slot(slot, entry, &fis);
-        self.journal.push_reserved(taken_event(tag, &fis));
-        Ok(taken_step(entry, &fis))
+        let fis = answer_in(self.disk.take(slot.cfis()));
+        let answer = receive_register(&mut self.registers, &mut self.area, &fis, tag);
+        slot.take(entry, &answer);
+        self.journal.push_reserved(taken_event(tag, &answer));
+        Ok(taken_step(entry, &answer))
     }
 
     /// Why the device does not take a tag's command.
@@ -103,8 +131,10 @@ impl<A: Allocator> Port<A> {
         };
         let entry = self.journal.len();
         receive_bits(&mut self.registers, &mut self.area, &bits);
-        let slot = self.slots[tag as usize].take();
-        self.slots[tag as usize] = failed_slot(slot, entry, error, at);
+        match &mut self.slots[tag as usize] {
+            Some(slot) => slot.fail(entry, error, at),
+            None => unreachable!(),
+        }
         self.journal.push_reserved(Event::Fail {
             tag,
             error,
@@ -124,11 +154,12 @@ impl<A: Allocator> Port<A> {
         }
         the_disks_answers_are_these_bytes();
         let entry = self.journal.len();
-        let slot = self.slots[tag as usize].take().unwrap();
-        let served = serve_slot(slot, &mut self.disk, tag, entry);
-        receive_setup(&mut self.area, &served.setup);
-        receive_bits(&mut self.registers, &mut self.area, &served.bits);
-        self.slots[tag as usize] = Some(served.slot);
+        let Some(slot) = &mut self.slots[tag as usize] else {
+            unreachable!();
+        };
+        let sent = slot.serve(&mut self.disk, tag, entry);
+        receive_setup(&mut self.area, &sent.setup);
+        receive_bits(&mut self.registers, &mut self.area, &sent.bits);
         self.journal.push_reserved(Event::Complete(tag));
         Ok(Stepped::Completed(entry))
     }

@@ -14,12 +14,8 @@ use sata_fis::{Queued, data_head};
 /// The most bytes that one Data FIS carries.
 const MOST_PAYLOAD: usize = 8192;
 
-/// Room for the largest Data FIS.
-fn data_room() -> [u8; 8196]
-    ensures { length result ≡ 8196 }
-{
-    [0; 8196]
-}
+/// How many bytes the largest Data FIS has: its head, and the payload.
+pub(super) const DATA_FIS: usize = 4 + MOST_PAYLOAD;
 
 /// Puts a Data FIS together: its head, and the payload behind it.
 fn put_data(fis: &mut [u8], payload: &[u8])
@@ -32,8 +28,7 @@ fn put_data(fis: &mut [u8], payload: &[u8])
 }
 
 /// Sends a payload in one Data FIS, which is put together in `room`.
-fn deliver_one<H: Host>(host: &mut H, room: &mut [u8], payload: &[u8])
-    requires room { length room.old ≡ 8196 }
+fn deliver_one<H: Host>(host: &mut H, room: &mut [u8; DATA_FIS], payload: &[u8])
     requires payload { IsPayload payload.now }
     requires text { H.offset host.old + length payload.now ≤ length (H.text host.old) }
     ensures text { H.text host.new ≡ replace_range (H.text host.old) (H.offset host.old) (H.offset host.old + length payload.now) payload.now }
@@ -47,8 +42,7 @@ fn deliver_one<H: Host>(host: &mut H, room: &mut [u8], payload: &[u8])
 }
 
 /// Fills `out` by one Data FIS, for which a DMA Activate asks and which comes into `room`.
-fn fetch_one<H: Host>(host: &mut H, room: &mut [u8], out: &mut [u8])
-    requires room { length room.old ≡ 8196 }
+fn fetch_one<H: Host>(host: &mut H, room: &mut [u8; DATA_FIS], out: &mut [u8])
     requires payload { IsPayload out.old }
     requires text { H.offset host.old + length out.old ≤ length (H.text host.old) }
     ensures out { out.new ≡ slice_range (H.text host.old) (H.offset host.old) (H.offset host.old + length out.old) }
@@ -63,7 +57,7 @@ fn fetch_one<H: Host>(host: &mut H, room: &mut [u8], out: &mut [u8])
 }
 
 /// Puts whole sectors at the beginning of the host's text.
-pub(super) fn deliver<H: Host>(host: &mut H, bytes: &[u8])
+fn deliver<H: Host>(host: &mut H, room: &mut [u8; DATA_FIS], bytes: &[u8])
     requires whole { length bytes.now ≡ 512 * (length bytes.now / 512) }
     requires start { H.offset host.old ≡ 0 }
     requires room { length bytes.now ≤ length (H.text host.old) }
@@ -72,17 +66,16 @@ pub(super) fn deliver<H: Host>(host: &mut H, bytes: &[u8])
     ensures setup { H.last_setup host.new ≡ H.last_setup host.old }
     ensures others { H.keeps host.old host.new }
 {
-    let mut room = data_room();
     let mut sent = 0;
     while sent < bytes.len() {
         let end = bytes.len().min(sent + MOST_PAYLOAD);
-        deliver_one(host, &mut room, &bytes[sent..end]);
+        deliver_one(host, room, &bytes[sent..end]);
         sent = end;
     }
 }
 
 /// Makes whole sectors the first bytes of the host's text.
-pub(super) fn fetch<H: Host>(host: &mut H, out: &mut [u8])
+fn fetch<H: Host>(host: &mut H, room: &mut [u8; DATA_FIS], out: &mut [u8])
     requires whole { length out.old ≡ 512 * (length out.old / 512) }
     requires start { H.offset host.old ≡ 0 }
     requires room { length out.old ≤ length (H.text host.old) }
@@ -92,11 +85,10 @@ pub(super) fn fetch<H: Host>(host: &mut H, out: &mut [u8])
     ensures setup { H.last_setup host.new ≡ H.last_setup host.old }
     ensures others { H.keeps host.old host.new }
 {
-    let mut room = data_room();
     let mut filled = 0;
     while filled < out.len() {
         let end = out.len().min(filled + MOST_PAYLOAD);
-        fetch_one(host, &mut room, &mut out[filled..end]);
+        fetch_one(host, room, &mut out[filled..end]);
         filled = end;
     }
 }
@@ -117,7 +109,7 @@ fn byte_count(command: &Queued) -> usize
 
 /// Moves the data of a read: its sectors stand at the beginning of the host's text afterwards.
 #[tactic(auto, using(crate::proofs::MovingLemmas::read_moves))]
-fn read_data<H: Host>(host: &mut H, command: &Queued, image: &[u8])
+fn read_data<H: Host>(host: &mut H, room: &mut [u8; DATA_FIS], command: &Queued, image: &[u8])
     requires sectors { 512 * (command.now.lba + command.now.sectors) ≤ length image.now }
     requires start { H.offset host.old ≡ 0 }
     requires room { byte_count command.now ≤ length (H.text host.old) }
@@ -127,11 +119,11 @@ fn read_data<H: Host>(host: &mut H, command: &Queued, image: &[u8])
     ensures others { H.keeps host.old host.new }
 {
     let start = first_byte(command);
-    deliver(host, &image[start..start + byte_count(command)]);
+    deliver(host, room, &image[start..start + byte_count(command)]);
 }
 
 /// Moves the data of a write: its sectors are the first bytes of the host's text afterwards.
-fn write_data<H: Host>(host: &mut H, command: &Queued, image: &mut [u8])
+fn write_data<H: Host>(host: &mut H, room: &mut [u8; DATA_FIS], command: &Queued, image: &mut [u8])
     requires sectors { 512 * (command.now.lba + command.now.sectors) ≤ length image.old }
     requires start { H.offset host.old ≡ 0 }
     requires room { byte_count command.now ≤ length (H.text host.old) }
@@ -141,11 +133,16 @@ fn write_data<H: Host>(host: &mut H, command: &Queued, image: &mut [u8])
     ensures others { H.keeps host.old host.new }
 {
     let start = first_byte(command);
-    fetch(host, &mut image[start..start + byte_count(command)]);
+    fetch(host, room, &mut image[start..start + byte_count(command)]);
 }
 
 /// Moves the data of a command between an image and the host, whose last DMA Setup is the command's.
-pub(super) fn move_data<H: Host>(host: &mut H, command: &Queued, image: &mut [u8])
+pub(super) fn move_data<H: Host>(
+    host: &mut H,
+    room: &mut [u8; DATA_FIS],
+    command: &Queued,
+    image: &mut [u8],
+)
     requires sectors { 512 * (command.now.lba + command.now.sectors) ≤ length image.old }
     requires start { H.offset host.old ≡ 0 }
     requires room { byte_count command.now ≤ length (H.text host.old) }
@@ -155,8 +152,8 @@ pub(super) fn move_data<H: Host>(host: &mut H, command: &Queued, image: &mut [u8
     ensures others { H.keeps host.old host.new }
 {
     if command.write {
-        write_data(host, command, image);
+        write_data(host, room, command, image);
     } else {
-        read_data(host, command, image);
+        read_data(host, room, command, image);
     }
 }

@@ -103,7 +103,7 @@ impl<A: Allocator> Disk<A> {
         ensures setup { H.last_setup host.new ≡ H.last_setup host.old }
         ensures others { H.keeps host.old host.new }
     {
-        move_data(host, command, self.image.as_mut_slice());
+        move_data(host, &mut self.room, command, self.image.as_mut_slice());
     }
 
     /// Ends the command at a tag. The others stay.

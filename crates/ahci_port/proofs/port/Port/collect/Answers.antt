@@ -3,43 +3,40 @@ use Rattle.std.proofs.Math.ListN.{get_or-map}
 use Rattle.std.proofs.lemmas.List.{get_or_read, map-set}
 use Rattle.std.proofs.lemmas.Option.{same_Some}
 use Rattle.ahci_table.specs.Fit.{IsFit}
-use Rattle.ahci_port.specs.Faults.{collect_refusal}
-use Rattle.ahci_port.specs.Keeping.{slot_at}
-use Rattle.ahci_port.specs.Moves.{collect_fault}
 use Rattle.ahci_port.specs.Slots.{answer_in, window_in}
-use Rattle.ahci_port.proofs.CollectingLemmas.{collect_agrees, collected, answer_given}
+use Rattle.ahci_port.proofs.CollectingLemmas.{collecting, answer_given, ended_there}
 use Rattle.ahci_port.proofs.IssuingLemmas.{keeps_collect}
 use Rattle.ahci_port.proofs.port.Port.collect.Goals as goal
 
 pub index_mut-requires : goal.index_mut-requires
 index_mut-requires g c =
-    let i = c.self.inside in
-    let may : collect_fault (slot_at i.slots.items c.args.tag) c.args.number ≡ None = collect_agrees i.starting.items i.journal.past c.args.tag c.args.number (slot_at i.slots.items c.args.tag) (c.self.invariant.each c.args.tag) ∙ ap (λ p. collect_refusal p c.args.tag c.args.number) c.self.view_is ∙ sym c.collect_fault.ensures ∙ c.in_default.is in
-    let found = collected i.starting.items i.disk i.registers i.slots.items i.headers i.journal.past i.journal.room c.args.tag c.args.number c.self.invariant may in
-    let b = found.below in search rules
+    let f = collecting _ _ _ _ _ _ _ c.args.tag c.args.number c.args.self.now c.self.invariant (ap (λ p. p.past) c.self.view_is) (sym c.collect_fault.ensures ∙ c.in_default.is) in
+    let b = f.below in search rules
 
 pub unwrap-slot-requires : goal.unwrap-slot-requires
 unwrap-slot-requires g c =
-    let i = c.self.inside in
-    let may : collect_fault (slot_at i.slots.items c.args.tag) c.args.number ≡ None = collect_agrees i.starting.items i.journal.past c.args.tag c.args.number (slot_at i.slots.items c.args.tag) (c.self.invariant.each c.args.tag) ∙ ap (λ p. collect_refusal p c.args.tag c.args.number) c.self.view_is ∙ sym c.collect_fault.ensures ∙ c.in_default.is in
-    let found = collected i.starting.items i.disk i.registers i.slots.items i.headers i.journal.past i.journal.room c.args.tag c.args.number c.self.invariant may in
-    let here : c.index_mut.result.now ≡ slot_at i.slots.items c.args.tag = get_or_read i.slots.items _ _ found.below c.index_mut.ensures.value None in
-    subst IsSome (sym (c.take.ensures.value ∙ here ∙ found.here)) refl
+    let f = collecting _ _ _ _ _ _ _ c.args.tag c.args.number c.args.self.now c.self.invariant (ap (λ p. p.past) c.self.view_is) (sym c.collect_fault.ensures ∙ c.in_default.is) in
+    let here = get_or_read _ _ _ f.below c.index_mut.ensures.value None in
+    subst IsSome (sym (c.take.ensures.value ∙ here ∙ f.here)) refl
 
 pub push_reserved-requires : goal.push_reserved-requires
 push_reserved-requires g c =
-    let i = c.self.inside in
-    let may : collect_fault (slot_at i.slots.items c.args.tag) c.args.number ≡ None = collect_agrees i.starting.items i.journal.past c.args.tag c.args.number (slot_at i.slots.items c.args.tag) (c.self.invariant.each c.args.tag) ∙ ap (λ p. collect_refusal p c.args.tag c.args.number) c.self.view_is ∙ sym c.collect_fault.ensures ∙ c.in_default.is in
-    let found = collected i.starting.items i.disk i.registers i.slots.items i.headers i.journal.past i.journal.room c.args.tag c.args.number c.self.invariant may in
-    found.room
+    let f = collecting _ _ _ _ _ _ _ c.args.tag c.args.number c.args.self.now c.self.invariant (ap (λ p. p.past) c.self.view_is) (sym c.collect_fault.ensures ∙ c.in_default.is) in
+    f.room
+
+pub reply-requires : goal.reply-requires
+reply-requires g c =
+    let f = collecting _ _ _ _ _ _ _ c.args.tag c.args.number c.args.self.now c.self.invariant (ap (λ p. p.past) c.self.view_is) (sym c.collect_fault.ensures ∙ c.in_default.is) in
+    let here = get_or_read _ _ _ f.below c.index_mut.ensures.value None in
+    let same : f.slot ≡ c.unwrap-slot.result = same_Some _ _ (sym f.here ∙ sym here ∙ sym c.take.ensures.value ∙ c.unwrap-slot.ensures) in
+    ended_there c.unwrap-slot.result (ap (λ s. is_some (answer_in s)) (sym same) ∙ f.answered)
 
 pub invariant_of-self : goal.invariant_of-self
 invariant_of-self g c =
     let i = c.self.inside in
-    let may : collect_fault (slot_at i.slots.items c.args.tag) c.args.number ≡ None = collect_agrees i.starting.items i.journal.past c.args.tag c.args.number (slot_at i.slots.items c.args.tag) (c.self.invariant.each c.args.tag) ∙ ap (λ p. collect_refusal p c.args.tag c.args.number) c.self.view_is ∙ sym c.collect_fault.ensures ∙ c.in_default.is in
-    let found = collected i.starting.items i.disk i.registers i.slots.items i.headers i.journal.past i.journal.room c.args.tag c.args.number c.self.invariant may in
+    let f = collecting _ _ _ _ _ _ _ c.args.tag c.args.number c.args.self.now c.self.invariant (ap (λ p. p.past) c.self.view_is) (sym c.collect_fault.ensures ∙ c.in_default.is) in
     rw (c.take.ensures.after, c.push_reserved.ensures.past)
-    (keeps_collect i.starting.items i.disk i.registers i.slots.items i.headers i.journal.past i.journal.room c.push_reserved.new.self.room c.args.tag found.slot c.self.invariant found.done found.here c.push_reserved.ensures.room)
+    (keeps_collect i.starting.items i.disk i.registers i.slots.items i.headers i.journal.past i.journal.room c.push_reserved.new.self.room c.args.tag f.slot c.self.invariant f.done f.here c.push_reserved.ensures.room)
 
 pub returns-clause-ok : goal.returns-clause-ok
 returns-clause-ok g c =
@@ -53,39 +50,32 @@ returns-clause-ok g c =
 
 pub returns-clause-number : goal.returns-clause-number
 returns-clause-number g c =
-    let i = c.self.inside in
-    let may : collect_fault (slot_at i.slots.items c.args.tag) c.args.number ≡ None = collect_agrees i.starting.items i.journal.past c.args.tag c.args.number (slot_at i.slots.items c.args.tag) (c.self.invariant.each c.args.tag) ∙ ap (λ p. collect_refusal p c.args.tag c.args.number) c.self.view_is ∙ sym c.collect_fault.ensures ∙ c.in_default.is in
-    let found = collected i.starting.items i.disk i.registers i.slots.items i.headers i.journal.past i.journal.room c.args.tag c.args.number c.self.invariant may in
-    let here : c.index_mut.result.now ≡ slot_at i.slots.items c.args.tag = get_or_read i.slots.items _ _ found.below c.index_mut.ensures.value None in
-    let same : found.slot ≡ c.unwrap-slot.result = same_Some found.slot c.unwrap-slot.result (sym found.here ∙ sym here ∙ sym c.take.ensures.value ∙ c.unwrap-slot.ensures) in
-    c.reply.ensures.number ∙ ap (λ s. s.number) (sym same) ∙ found.number_is
+    let f = collecting _ _ _ _ _ _ _ c.args.tag c.args.number c.args.self.now c.self.invariant (ap (λ p. p.past) c.self.view_is) (sym c.collect_fault.ensures ∙ c.in_default.is) in
+    let here = get_or_read _ _ _ f.below c.index_mut.ensures.value None in
+    let same : f.slot ≡ c.unwrap-slot.result = same_Some _ _ (sym f.here ∙ sym here ∙ sym c.take.ensures.value ∙ c.unwrap-slot.ensures) in
+    c.reply.ensures.number ∙ ap (λ s. s.number) (sym same) ∙ f.number_is
 
 pub returns-clause-reply : goal.returns-clause-reply
 returns-clause-reply g c =
-    let i = c.self.inside in
-    let may : collect_fault (slot_at i.slots.items c.args.tag) c.args.number ≡ None = collect_agrees i.starting.items i.journal.past c.args.tag c.args.number (slot_at i.slots.items c.args.tag) (c.self.invariant.each c.args.tag) ∙ ap (λ p. collect_refusal p c.args.tag c.args.number) c.self.view_is ∙ sym c.collect_fault.ensures ∙ c.in_default.is in
-    let found = collected i.starting.items i.disk i.registers i.slots.items i.headers i.journal.past i.journal.room c.args.tag c.args.number c.self.invariant may in
-    let here : c.index_mut.result.now ≡ slot_at i.slots.items c.args.tag = get_or_read i.slots.items _ _ found.below c.index_mut.ensures.value None in
-    let same : found.slot ≡ c.unwrap-slot.result = same_Some found.slot c.unwrap-slot.result (sym found.here ∙ sym here ∙ sym c.take.ensures.value ∙ c.unwrap-slot.ensures) in
+    let f = collecting _ _ _ _ _ _ _ c.args.tag c.args.number c.args.self.now c.self.invariant (ap (λ p. p.past) c.self.view_is) (sym c.collect_fault.ensures ∙ c.in_default.is) in
+    let here = get_or_read _ _ _ f.below c.index_mut.ensures.value None in
+    let same : f.slot ≡ c.unwrap-slot.result = same_Some _ _ (sym f.here ∙ sym here ∙ sym c.take.ensures.value ∙ c.unwrap-slot.ensures) in
     rw (← c.self.view_is)
-    (found.answer_is ∙ ap answer_in same
-    ∙ answer_given c.unwrap-slot.result c.reply.result.0.entry c.reply.result.0.outcome c.reply.result.1 (ap (λ s. is_some (answer_in s)) (sym same) ∙ found.answered) c.reply.ensures.ended c.reply.ensures.window)
+    (f.answer_is ∙ ap answer_in same
+    ∙ answer_given c.unwrap-slot.result c.reply.result.0.entry c.reply.result.0.outcome c.reply.result.1 (ap (λ s. is_some (answer_in s)) (sym same) ∙ f.answered) c.reply.ensures.ended c.reply.ensures.window)
 
 pub returns-clause-window : goal.returns-clause-window
 returns-clause-window g c =
     let i = c.self.inside in
-    let may : collect_fault (slot_at i.slots.items c.args.tag) c.args.number ≡ None = collect_agrees i.starting.items i.journal.past c.args.tag c.args.number (slot_at i.slots.items c.args.tag) (c.self.invariant.each c.args.tag) ∙ ap (λ p. collect_refusal p c.args.tag c.args.number) c.self.view_is ∙ sym c.collect_fault.ensures ∙ c.in_default.is in
-    let found = collected i.starting.items i.disk i.registers i.slots.items i.headers i.journal.past i.journal.room c.args.tag c.args.number c.self.invariant may in
-    let here : c.index_mut.result.now ≡ slot_at i.slots.items c.args.tag = get_or_read i.slots.items _ _ found.below c.index_mut.ensures.value None in
-    let same : found.slot ≡ c.unwrap-slot.result = same_Some found.slot c.unwrap-slot.result (sym found.here ∙ sym here ∙ sym c.take.ensures.value ∙ c.unwrap-slot.ensures) in
+    let f = collecting _ _ _ _ _ _ _ c.args.tag c.args.number c.args.self.now c.self.invariant (ap (λ p. p.past) c.self.view_is) (sym c.collect_fault.ensures ∙ c.in_default.is) in
+    let here = get_or_read _ _ _ f.below c.index_mut.ensures.value None in
+    let same : f.slot ≡ c.unwrap-slot.result = same_Some _ _ (sym f.here ∙ sym here ∙ sym c.take.ensures.value ∙ c.unwrap-slot.ensures) in
     rw (← c.self.view_is)
-    (get_or-map window_in i.slots.items c.args.tag None ∙ ap window_in found.here ∙ ap (λ s. Some s.window) same ∙ ap (λ w. Some w) (sym c.reply.ensures.window))
+    (get_or-map window_in i.slots.items c.args.tag None ∙ ap window_in f.here ∙ ap (λ s. Some s.window) same ∙ ap (λ w. Some w) (sym c.reply.ensures.window))
 
 pub returns-clause-fit : goal.returns-clause-fit
 returns-clause-fit g c =
-    let i = c.self.inside in
-    let may : collect_fault (slot_at i.slots.items c.args.tag) c.args.number ≡ None = collect_agrees i.starting.items i.journal.past c.args.tag c.args.number (slot_at i.slots.items c.args.tag) (c.self.invariant.each c.args.tag) ∙ ap (λ p. collect_refusal p c.args.tag c.args.number) c.self.view_is ∙ sym c.collect_fault.ensures ∙ c.in_default.is in
-    let found = collected i.starting.items i.disk i.registers i.slots.items i.headers i.journal.past i.journal.room c.args.tag c.args.number c.self.invariant may in
-    let here : c.index_mut.result.now ≡ slot_at i.slots.items c.args.tag = get_or_read i.slots.items _ _ found.below c.index_mut.ensures.value None in
-    let same : found.slot ≡ c.unwrap-slot.result = same_Some found.slot c.unwrap-slot.result (sym found.here ∙ sym here ∙ sym c.take.ensures.value ∙ c.unwrap-slot.ensures) in
-    subst IsFit (ap (λ s. s.window) same ∙ sym c.reply.ensures.window) found.fit
+    let f = collecting _ _ _ _ _ _ _ c.args.tag c.args.number c.args.self.now c.self.invariant (ap (λ p. p.past) c.self.view_is) (sym c.collect_fault.ensures ∙ c.in_default.is) in
+    let here = get_or_read _ _ _ f.below c.index_mut.ensures.value None in
+    let same : f.slot ≡ c.unwrap-slot.result = same_Some _ _ (sym f.here ∙ sym here ∙ sym c.take.ensures.value ∙ c.unwrap-slot.ensures) in
+    subst IsFit (ap (λ s. s.window) same ∙ sym c.reply.ensures.window) f.fit

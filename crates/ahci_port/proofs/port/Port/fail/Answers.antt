@@ -1,6 +1,5 @@
-use Rattle.std.proofs.Common.{◌≡◌, ◌∙◌, None, Some, true, length, ap, sym, refl, rules}
+use Rattle.std.proofs.Common.{◌≡◌, ◌∙◌, Some, true, length, ap, sym, refl, rules}
 use Rattle.std.specs.Option.{option_map}
-use Rattle.std.proofs.lemmas.List.{get_or_read, set-set}
 use Rattle.ncq_core.specs.Serving.{fail_fault}
 use Rattle.ncq_core.specs.DiskFis.{failed_bytes}
 use Rattle.ncq_journal.specs.Phase.{phase, is_busy}
@@ -9,10 +8,9 @@ use Rattle.ahci_port.specs.Registers.{failed}
 use Rattle.ahci_port.specs.declared.step.Stepped.TheVariants.{Failed}
 use Rattle.ahci_regs.specs.Receiving.{after_bits}
 use Rattle.sata_fis.specs.Layout.{set_bits_at}
-use Rattle.ahci_port.specs.Keeping.{slot_at}
 use Rattle.ahci_port.specs.Moves.{failed_slot, step_fault_of}
 use Rattle.ahci_port.proofs.FailingLemmas.{keeps_fail}
-use Rattle.ahci_port.proofs.OwningLemmas.{windows_same}
+use Rattle.ahci_port.proofs.OwningLemmas.{owner_is, windows_same}
 use Rattle.ahci_port.proofs.RegisterLemmas.{tracks_fail}
 use Rattle.ahci_port.proofs.StepLemmas.{answered_err, answered_ok, fail_agrees, may_fail}
 use Rattle.ahci_port.proofs.port.Port.fail.Goals as goal
@@ -22,40 +20,34 @@ returns-in-Err-clause-fault g c =
     let i = c.self.inside in
     let stands = answered_err (fail_fault i.disk c.args.tag c.args.at) (failed_bytes c.args.error) c.in-Err.fault c.in-Err.ensures.answer in
     rw (← c.self.view_is)
-    (rw (sym (fail_agrees i.starting.items i.disk i.registers i.slots.items i.headers i.journal.past i.journal.room c.args.tag c.args.at c.self.invariant) ∙ ap (option_map step_fault_of) stands ∙ ap (λ f. Some f) (sym c.step_fault.ensures)) refl)
+    (rw (sym (fail_agrees _ _ _ _ _ _ _ c.args.tag c.args.at c.self.invariant) ∙ ap (option_map step_fault_of) stands ∙ ap (λ f. Some f) (sym c.step_fault.ensures)) refl)
 
 pub index_mut-requires : goal.index_mut-requires
 index_mut-requires g c =
     let i = c.self.inside in
     let a = answered_ok (fail_fault i.disk c.args.tag c.args.at) (failed_bytes c.args.error) c.in-Ok.bits c.in-Ok.ensures.answer in
-    let m = may_fail i.starting.items i.disk i.registers i.slots.items i.headers i.journal.past i.journal.room c.args.tag c.args.error c.args.at c.self.invariant a.0 in
-    let b = m.owner.below in search rules
-
-pub index_mut-requires-2 : goal.index_mut-requires-2
-index_mut-requires-2 g c =
-    let i = c.self.inside in
-    let a = answered_ok (fail_fault i.disk c.args.tag c.args.at) (failed_bytes c.args.error) c.in-Ok.bits c.in-Ok.ensures.answer in
-    let m = may_fail i.starting.items i.disk i.registers i.slots.items i.headers i.journal.past i.journal.room c.args.tag c.args.error c.args.at c.self.invariant a.0 in
+    let m = may_fail _ _ _ _ _ _ _ c.args.tag c.args.error c.args.at c.self.invariant a.0 in
     let b = m.owner.below in search rules
 
 pub push_reserved-requires : goal.push_reserved-requires
 push_reserved-requires g c =
     let i = c.self.inside in
     let a = answered_ok (fail_fault i.disk c.args.tag c.args.at) (failed_bytes c.args.error) c.in-Ok.bits c.in-Ok.ensures.answer in
-    (may_fail i.starting.items i.disk i.registers i.slots.items i.headers i.journal.past i.journal.room c.args.tag c.args.error c.args.at c.self.invariant a.0).room
+    let m = may_fail _ _ _ _ _ _ _ c.args.tag c.args.error c.args.at c.self.invariant a.0 in
+    m.room
 
 pub invariant_of-self-2 : goal.invariant_of-self-2
 invariant_of-self-2 g c =
     let i = c.self.inside in
     let a = answered_ok (fail_fault i.disk c.args.tag c.args.at) (failed_bytes c.args.error) c.in-Ok.bits c.in-Ok.ensures.answer in
-    let m = may_fail i.starting.items i.disk i.registers i.slots.items i.headers i.journal.past i.journal.room c.args.tag c.args.error c.args.at c.self.invariant a.0 in
-    let here : c.index_mut.result.now ≡ slot_at i.slots.items c.args.tag = get_or_read i.slots.items _ _ m.owner.below c.index_mut.ensures.value None in
+    let m = may_fail _ _ _ _ _ _ _ c.args.tag c.args.error c.args.at c.self.invariant a.0 in
+    let same = owner_is m.owner _ _ c.index_mut.ensures.value c.in-Some.is in
+    let slot : c.fail-in-Some.new.self ≡ failed_slot m.owner.slot (length i.journal.past) c.args.error c.args.at =
+    c.fail-in-Some.ensures ∙ ap (λ n. failed_slot c.in-Some.slot n c.args.error c.args.at) c.len-entry.ensures ∙ ap (λ s. failed_slot s (length i.journal.past) c.args.error c.args.at) (sym same) in
+    let moved : c.receive_bits.new.registers ≡ failed i.registers c.args.error =
+    c.receive_bits.ensures.registers ∙ ap (λ b. after_bits i.registers (set_bits_at b).status (set_bits_at b).error (set_bits_at b).i (set_bits_at b).sactive) a.1 in
     let busy : is_busy (phase i.journal.past c.args.tag) ≡ true = ap is_busy m.accepted in
-    let moved : c.receive_bits.new.registers ≡ failed i.registers c.args.error = c.receive_bits.ensures.registers ∙ ap (λ b. after_bits i.registers (set_bits_at b).status (set_bits_at b).error (set_bits_at b).i (set_bits_at b).sactive) a.1 in
-    let slot : c.failed_slot.result ≡ Some (failed_slot m.owner.slot (length i.journal.past) c.args.error c.args.at) =
-    c.failed_slot.ensures ∙ ap (λ n. option_map (λ s. failed_slot s n c.args.error c.args.at) c.take-slot.result) c.len-entry.ensures
-    ∙ ap (option_map (λ s. failed_slot s (length i.journal.past) c.args.error c.args.at)) (c.take-slot.ensures.value ∙ here ∙ m.owner.here) in
-    rw (c.take-slot.ensures.after, set-set, slot, moved, c.push_reserved.ensures.past, c.in-Ok.ensures.state)
+    rw (slot, moved, c.push_reserved.ensures.past, c.in-Ok.ensures.state)
     (keeps_fail i.starting.items i.disk i.registers (failed i.registers c.args.error) i.slots.items i.headers i.journal.past i.journal.room c.push_reserved.new.self.room c.args.tag c.args.error c.args.at m.owner.slot
     c.self.invariant busy m.owner.here m.allowed (tracks_fail i.disk.depth i.journal.past i.registers c.args.tag c.args.error c.args.at c.self.invariant.tracks busy) c.push_reserved.ensures.room)
 
@@ -63,16 +55,17 @@ pub returns-clause-ok : goal.returns-clause-ok
 returns-clause-ok g c =
     let i = c.self.inside in
     let a = answered_ok (fail_fault i.disk c.args.tag c.args.at) (failed_bytes c.args.error) c.in-Ok.bits c.in-Ok.ensures.answer in
-    let m = may_fail i.starting.items i.disk i.registers i.slots.items i.headers i.journal.past i.journal.room c.args.tag c.args.error c.args.at c.self.invariant a.0 in
-    let here : c.index_mut.result.now ≡ slot_at i.slots.items c.args.tag = get_or_read i.slots.items _ _ m.owner.below c.index_mut.ensures.value None in
-    let slot : c.failed_slot.result ≡ Some (failed_slot m.owner.slot (length i.journal.past) c.args.error c.args.at) =
-    c.failed_slot.ensures ∙ ap (λ n. option_map (λ s. failed_slot s n c.args.error c.args.at) c.take-slot.result) c.len-entry.ensures
-    ∙ ap (option_map (λ s. failed_slot s (length i.journal.past) c.args.error c.args.at)) (c.take-slot.ensures.value ∙ here ∙ m.owner.here) in
-    rw (← c.self.view_is, c.take-slot.ensures.after, set-set, slot)
+    let m = may_fail _ _ _ _ _ _ _ c.args.tag c.args.error c.args.at c.self.invariant a.0 in
+    let same = owner_is m.owner _ _ c.index_mut.ensures.value c.in-Some.is in
+    let slot : c.fail-in-Some.new.self ≡ failed_slot m.owner.slot (length i.journal.past) c.args.error c.args.at =
+    c.fail-in-Some.ensures ∙ ap (λ n. failed_slot c.in-Some.slot n c.args.error c.args.at) c.len-entry.ensures ∙ ap (λ s. failed_slot s (length i.journal.past) c.args.error c.args.at) (sym same) in
+    let moved : c.receive_bits.new.registers ≡ failed i.registers c.args.error =
+    c.receive_bits.ensures.registers ∙ ap (λ b. after_bits i.registers (set_bits_at b).status (set_bits_at b).error (set_bits_at b).i (set_bits_at b).sactive) a.1 in
+    rw (← c.self.view_is, slot)
     (record {
       answer_is = ap (λ n. Failed n) c.len-entry.ensures;
       appended = record { starting_same = refl; depth_same = ap (λ d. d.depth) c.in-Ok.ensures.state; past_is = c.push_reserved.ensures.past };
-      registers_are = c.receive_bits.ensures.registers ∙ ap (λ b. after_bits i.registers (set_bits_at b).status (set_bits_at b).error (set_bits_at b).i (set_bits_at b).sactive) a.1;
+      registers_are = moved;
       area_is = c.receive_bits.ensures.area ∙ ap (λ b. put_at bits_place b i.area) a.1;
       windows_same = windows_same i.slots.items c.args.tag m.owner.slot (failed_slot m.owner.slot (length i.journal.past) c.args.error c.args.at) m.owner.here refl;
     })
@@ -81,5 +74,5 @@ pub returns-clause-fault : goal.returns-clause-fault
 returns-clause-fault g c =
     let i = c.self.inside in
     let a = answered_ok (fail_fault i.disk c.args.tag c.args.at) (failed_bytes c.args.error) c.in-Ok.bits c.in-Ok.ensures.answer in
-    let none = sym (fail_agrees i.starting.items i.disk i.registers i.slots.items i.headers i.journal.past i.journal.room c.args.tag c.args.at c.self.invariant) ∙ ap (option_map step_fault_of) a.0 in
+    let none = sym (fail_agrees _ _ _ _ _ _ _ c.args.tag c.args.at c.self.invariant) ∙ ap (option_map step_fault_of) a.0 in
     rw (← c.self.view_is) (rw none refl)

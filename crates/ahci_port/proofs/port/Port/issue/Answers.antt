@@ -24,7 +24,7 @@ invariant_of-self-2 g c =
     let past_same = c.in-Ok-reserve.ensures.past in
     let work = c.in-Ok-op_of.ensures.work in
     let room = c.in-Ok-reserve.ensures.room in
-    rw (c.issued_slot.ensures, c.issue.ensures, c.header.ensures, c.push_reserved.ensures.past, past_same, work)
+    rw (c.issued.ensures, c.issue.ensures, c.header.ensures, c.push_reserved.ensures.past, past_same, work)
     (keeps_issue i.starting.items i.disk i.registers i.slots.items i.headers i.journal.past i.journal.room c.push_reserved.new.self.room c.tag-tag.result (issued_slot c.len-number.result c.in-Ok.command.queued w)
     c.self.invariant m.below m.free m.running vacant c.in-Ok.ensures.fit (sym c.tag-tag.ensures.value) c.in-Ok-op_of.ensures.proper (c.len-number.ensures ∙ ap length past_same)
     (ap (λ q. q.write) queued ∙ sym (op_direction w), ap (λ q. q.lba) queued ∙ sym (op_lba w), ap (λ q. q.sectors) queued ∙ sym (op_sectors w (fit_sized w c.in-Ok.ensures.fit))) refl refl
@@ -33,7 +33,7 @@ invariant_of-self-2 g c =
 pub returns-clause-issued : goal.returns-clause-issued
 returns-clause-issued g c =
     let i = c.self.inside in
-    rw (← c.self.view_is, c.issued_slot.ensures, c.tag-tag.ensures.value)
+    rw (← c.self.view_is, c.issued.ensures, c.tag-tag.ensures.value)
     (record {
       appended = record {
         starting_same = refl;

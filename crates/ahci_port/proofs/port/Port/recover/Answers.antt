@@ -10,45 +10,53 @@ use Rattle.ncq_journal.specs.Entry.{Recover}
 use Rattle.ahci_port.specs.Slots.{window_in}
 use Rattle.ahci_port.specs.Moves.{recovered_slot}
 use Rattle.ahci_port.specs.PortView.{put_at, pio_place}
+use Rattle.ahci_port.specs.Unqueued.{cfis_for}
+use Rattle.ncq_journal.specs.declared.plain.Plain.TheVariants.{ReadLog}
 use Rattle.ahci_port.specs.Registers.{after_write, recovered, read_data}
-use Rattle.ahci_port.proofs.LogLemmas.{read_header, no_error, stopped_state, logged, tag_of_page, failed_low, whole_write, back_again, windows_recover}
+use Rattle.ahci_port.proofs.LogLemmas.{log_passes, no_error, stopped_state, logged, tag_of_page, failed_low, whole_write, back_again, windows_recover}
 use Rattle.ahci_port.proofs.ReadingLemmas.{stopped_here}
 use Rattle.ahci_port.proofs.RecoveringLemmas.{keeps_recover}
 use Rattle.ahci_port.proofs.port.Port.recover.Goals as goal
+
+pub send-taken-requires : goal.send-taken-requires
+send-taken-requires g c =
+    let i = c.self.inside in
+    let stop : halted i.journal.past ≡ true = ap (λ p. halted p.past) c.self.view_is ∙ sym c.halted.ensures ∙ c.if-not-halted.false in
+    log_passes i.disk (stopped_here _ _ _ _ _ _ _ c.self.invariant ∙ stop)
 
 pub read_log-requires : goal.read_log-requires
 read_log-requires g c =
     let i = c.self.inside in
     let stop : halted i.journal.past ≡ true = ap (λ p. halted p.past) c.self.view_is ∙ sym c.halted.ensures ∙ c.if-not-halted.false in
-    let stopped : is_stopped i.disk ≡ true = stopped_here i.starting.items i.disk i.registers i.slots.items i.headers i.journal.past i.journal.room c.self.invariant ∙ stop in
-    let state : c.take-taken.new.self ≡ i.disk = c.take-taken.ensures.state ∙ stopped_state i.disk c.cfis.result.now stopped in
+    let stopped : is_stopped i.disk ≡ true = stopped_here _ _ _ _ _ _ _ c.self.invariant ∙ stop in
+    let state : c.send-taken.new.disk ≡ i.disk = c.send-taken.ensures.disk ∙ stopped_state i.disk (cfis_for ReadLog) stopped in
     subst (λ d. IsSome d.error) (sym state) stopped
 
 pub returns-clause-failed : goal.returns-clause-failed
 returns-clause-failed g c =
     let i = c.self.inside in
     let stop : halted i.journal.past ≡ true = ap (λ p. halted p.past) c.self.view_is ∙ sym c.halted.ensures ∙ c.if-not-halted.false in
-    let stopped : is_stopped i.disk ≡ true = stopped_here i.starting.items i.disk i.registers i.slots.items i.headers i.journal.past i.journal.room c.self.invariant ∙ stop in
-    let state : c.take-taken.new.self ≡ i.disk = c.take-taken.ensures.state ∙ stopped_state i.disk c.cfis.result.now stopped in
+    let stopped : is_stopped i.disk ≡ true = stopped_here _ _ _ _ _ _ _ c.self.invariant ∙ stop in
+    let state : c.send-taken.new.disk ≡ i.disk = c.send-taken.ensures.disk ∙ stopped_state i.disk (cfis_for ReadLog) stopped in
     let page : c.page.result ≡ c.read_log.result = c.page.ensures ∙ c.take_page.ensures in
     let is : IsSomeAnd i.disk.error (λ e. c.page.result ≡ log_page e) = subst (λ x. IsSomeAnd i.disk.error (λ e. x ≡ log_page e)) (sym page) (subst (λ d. IsSomeAnd d.error (λ e. c.read_log.result ≡ log_page e)) state c.read_log.ensures.page) in
-    let bad = tag_of_page i.disk.error c.page.result i.journal.past (logged i.starting.items i.disk i.registers i.slots.items i.headers i.journal.past i.journal.room c.self.invariant stop) is (failed_low i.starting.items i.disk i.registers i.slots.items i.headers i.journal.past i.journal.room c.self.invariant) in
+    let bad = tag_of_page i.disk.error c.page.result i.journal.past (logged _ _ _ _ _ _ _ c.self.invariant stop) is (failed_low _ _ _ _ _ _ _ c.self.invariant) in
     rw (← c.self.view_is) bad
 
 pub invariant_of-self-2 : goal.invariant_of-self-2
 invariant_of-self-2 g c =
     let i = c.self.inside in
     let stop : halted i.journal.past ≡ true = ap (λ p. halted p.past) c.self.view_is ∙ sym c.halted.ensures ∙ c.if-not-halted.false in
-    let stopped : is_stopped i.disk ≡ true = stopped_here i.starting.items i.disk i.registers i.slots.items i.headers i.journal.past i.journal.room c.self.invariant ∙ stop in
-    let state : c.take-taken.new.self ≡ i.disk = c.take-taken.ensures.state ∙ stopped_state i.disk c.cfis.result.now stopped in
+    let stopped : is_stopped i.disk ≡ true = stopped_here _ _ _ _ _ _ _ c.self.invariant ∙ stop in
+    let state : c.send-taken.new.disk ≡ i.disk = c.send-taken.ensures.disk ∙ stopped_state i.disk (cfis_for ReadLog) stopped in
     let page : c.page.result ≡ c.read_log.result = c.page.ensures ∙ c.take_page.ensures in
     let is : IsSomeAnd i.disk.error (λ e. c.page.result ≡ log_page e) = subst (λ x. IsSomeAnd i.disk.error (λ e. x ≡ log_page e)) (sym page) (subst (λ d. IsSomeAnd d.error (λ e. c.read_log.result ≡ log_page e)) state c.read_log.ensures.page) in
-    let bad = tag_of_page i.disk.error c.page.result i.journal.past (logged i.starting.items i.disk i.registers i.slots.items i.headers i.journal.past i.journal.room c.self.invariant stop) is (failed_low i.starting.items i.disk i.registers i.slots.items i.headers i.journal.past i.journal.room c.self.invariant) in
+    let bad = tag_of_page i.disk.error c.page.result i.journal.past (logged _ _ _ _ _ _ _ c.self.invariant stop) is (failed_low _ _ _ _ _ _ _ c.self.invariant) in
     let disk : c.read_log.new.self ≡ no_error i.disk = c.read_log.ensures.state ∙ ap no_error state in
     let regs : c.receive_pio.new.registers ≡ recovered i.registers =
-    c.receive_pio.ensures.registers ∙ ap (λ b. after_pio_end (after_pio c.write.new.registers (pio_setup_at b).status (pio_setup_at b).error) (pio_setup_at b).e_status (pio_setup_at b).i 0) c.pio_setup.ensures
-    ∙ ap read_data (c.write.ensures ∙ ap (λ r. after_write r 0x138 1) c.restart.ensures) in
-    let headers = back_again i.headers read_header (let h = c.self.invariant.header_count in omega arith) in
+    c.receive_pio.ensures.registers ∙ ap (λ b. after_pio_end (after_pio c.send-taken.new.registers (pio_setup_at b).status (pio_setup_at b).error) (pio_setup_at b).e_status (pio_setup_at b).i 0) c.pio_setup.ensures
+    ∙ ap read_data (c.send-taken.ensures.registers ∙ ap (λ r. after_write r 0x138 1) c.restart.ensures) in
+    let headers = back_again i.headers c.send-taken.new.header (let h = c.self.invariant.header_count in omega arith) in
     let slots = whole_write i.slots.items c.recover_slots.new.slots i.slots.len (sym c.deref_mut.ensures.len ∙ ap length c.deref_mut.ensures.value)
     (ap length c.recover_slots.ensures ∙ length-map c.deref_mut.result.now (option_map recovered_slot) ∙ ap length c.deref_mut.ensures.value) ∙ c.recover_slots.ensures ∙ ap (map (option_map recovered_slot)) c.deref_mut.ensures.value in
     rw (headers, disk, regs, slots, c.push_reserved.ensures.past, c.in-Ok.ensures.past)
@@ -59,15 +67,15 @@ pub returns-clause-recovered : goal.returns-clause-recovered
 returns-clause-recovered g c =
     let i = c.self.inside in
     let stop : halted i.journal.past ≡ true = ap (λ p. halted p.past) c.self.view_is ∙ sym c.halted.ensures ∙ c.if-not-halted.false in
-    let stopped : is_stopped i.disk ≡ true = stopped_here i.starting.items i.disk i.registers i.slots.items i.headers i.journal.past i.journal.room c.self.invariant ∙ stop in
-    let state : c.take-taken.new.self ≡ i.disk = c.take-taken.ensures.state ∙ stopped_state i.disk c.cfis.result.now stopped in
+    let stopped : is_stopped i.disk ≡ true = stopped_here _ _ _ _ _ _ _ c.self.invariant ∙ stop in
+    let state : c.send-taken.new.disk ≡ i.disk = c.send-taken.ensures.disk ∙ stopped_state i.disk (cfis_for ReadLog) stopped in
     let page : c.page.result ≡ c.read_log.result = c.page.ensures ∙ c.take_page.ensures in
     let is : IsSomeAnd i.disk.error (λ e. c.page.result ≡ log_page e) = subst (λ x. IsSomeAnd i.disk.error (λ e. x ≡ log_page e)) (sym page) (subst (λ d. IsSomeAnd d.error (λ e. c.read_log.result ≡ log_page e)) state c.read_log.ensures.page) in
-    let bad = tag_of_page i.disk.error c.page.result i.journal.past (logged i.starting.items i.disk i.registers i.slots.items i.headers i.journal.past i.journal.room c.self.invariant stop) is (failed_low i.starting.items i.disk i.registers i.slots.items i.headers i.journal.past i.journal.room c.self.invariant) in
+    let bad = tag_of_page i.disk.error c.page.result i.journal.past (logged _ _ _ _ _ _ _ c.self.invariant stop) is (failed_low _ _ _ _ _ _ _ c.self.invariant) in
     let disk : c.read_log.new.self ≡ no_error i.disk = c.read_log.ensures.state ∙ ap no_error state in
     let regs : c.receive_pio.new.registers ≡ recovered i.registers =
-    c.receive_pio.ensures.registers ∙ ap (λ b. after_pio_end (after_pio c.write.new.registers (pio_setup_at b).status (pio_setup_at b).error) (pio_setup_at b).e_status (pio_setup_at b).i 0) c.pio_setup.ensures
-    ∙ ap read_data (c.write.ensures ∙ ap (λ r. after_write r 0x138 1) c.restart.ensures) in
+    c.receive_pio.ensures.registers ∙ ap (λ b. after_pio_end (after_pio c.send-taken.new.registers (pio_setup_at b).status (pio_setup_at b).error) (pio_setup_at b).e_status (pio_setup_at b).i 0) c.pio_setup.ensures
+    ∙ ap read_data (c.send-taken.ensures.registers ∙ ap (λ r. after_write r 0x138 1) c.restart.ensures) in
     let slots = whole_write i.slots.items c.recover_slots.new.slots i.slots.len (sym c.deref_mut.ensures.len ∙ ap length c.deref_mut.ensures.value)
     (ap length c.recover_slots.ensures ∙ length-map c.deref_mut.result.now (option_map recovered_slot) ∙ ap length c.deref_mut.ensures.value) ∙ c.recover_slots.ensures ∙ ap (map (option_map recovered_slot)) c.deref_mut.ensures.value in
     rw (← c.self.view_is)

@@ -1,9 +1,9 @@
 -- The pieces end within the window.
 use Rattle.std.proofs.Common.{◌≡◌, ap}
 use Rattle.ahci_table.proofs.WindowLemmas.{pieces_inside}
-use Rattle.ahci_table.proofs.window.Window.gather.Goals as goal
+use Rattle.ahci_table.proofs.window.Window.gather_in.Goals as goal
 
 pub gather-requires-clause-inside : goal.gather-requires-clause-inside
 gather-requires-clause-inside g c =
     let own : c.self.inside.bytes.items ≡ c.args.self.now.bytes = ap (λ w. w.bytes) c.self.view_is in
-    rw (c.deref.ensures.0, c.listed.ensures, c.deref-2.ensures.value, own) (pieces_inside c.args.self.now c.requires.fit.listed.entries)
+    rw (c.requires.list, c.deref.ensures.value, own) (pieces_inside c.args.self.now c.requires.fit.listed.entries)

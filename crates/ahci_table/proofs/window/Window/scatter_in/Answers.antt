@@ -6,12 +6,12 @@ use Rattle.ahci_table.specs.Fit.{IsFit}
 use Rattle.ahci_table.specs.Prdt.{pieces}
 use Rattle.ahci_table.specs.Scatter.{IsScattered}
 use Rattle.ahci_table.proofs.WindowLemmas.{pieces_inside, scattered_window, with_bytes}
-use Rattle.ahci_table.proofs.window.Window.scatter.Goals as goal
+use Rattle.ahci_table.proofs.window.Window.scatter_in.Goals as goal
 
 pub scatter-requires-clause-inside : goal.scatter-requires-clause-inside
 scatter-requires-clause-inside g c =
     let own : c.self.inside.bytes.items ≡ c.args.self.now.bytes = ap (λ w. w.bytes) c.self.view_is in
-    rw (c.deref.ensures.0, c.listed-pieces.ensures, c.deref_mut.ensures.value, own) (pieces_inside c.args.self.now c.requires.fit.listed.entries)
+    rw (c.requires.list, c.deref_mut.ensures.value, own) (pieces_inside c.args.self.now c.requires.fit.listed.entries)
 
 -- the new window is the old one with the new bytes
 abbrev made : ℕ → List ℕ → List ℕ → WindowState
@@ -23,7 +23,7 @@ window_is tag header items bytes after w is same = ap (made tag header) same ∙
 pub returns-clause-scattered : goal.returns-clause-scattered
 returns-clause-scattered g c =
     let own : c.self.inside.bytes.items ≡ c.args.self.now.bytes = ap (λ w. w.bytes) c.self.view_is in
-    let list : c.deref.result.now ≡ pieces c.args.self.now = c.deref.ensures.0 ∙ c.listed-pieces.ensures in
+    let list : c.args.list.now ≡ pieces c.args.self.now = c.requires.list in
     let bytes : c.deref_mut.result.now ≡ c.args.self.now.bytes = c.deref_mut.ensures.value ∙ own in
     let after = with_items_is c.self.inside.bytes c.scatter.new.bytes (c.scatter.ensures.len ∙ c.deref_mut.ensures.len) in
     let both = scattered_window c.args.self.now c.args.offset c.args.from.now c.scatter.new.bytes c.requires.fit (c.scatter.ensures.len ∙ ap length bytes) (rw (list, bytes) at c.scatter.ensures.text) (rw (list, bytes) at c.scatter.ensures.others) in
@@ -32,7 +32,7 @@ returns-clause-scattered g c =
 pub returns-clause-fit : goal.returns-clause-fit
 returns-clause-fit g c =
     let own : c.self.inside.bytes.items ≡ c.args.self.now.bytes = ap (λ w. w.bytes) c.self.view_is in
-    let list : c.deref.result.now ≡ pieces c.args.self.now = c.deref.ensures.0 ∙ c.listed-pieces.ensures in
+    let list : c.args.list.now ≡ pieces c.args.self.now = c.requires.list in
     let bytes : c.deref_mut.result.now ≡ c.args.self.now.bytes = c.deref_mut.ensures.value ∙ own in
     let after = with_items_is c.self.inside.bytes c.scatter.new.bytes (c.scatter.ensures.len ∙ c.deref_mut.ensures.len) in
     let both = scattered_window c.args.self.now c.args.offset c.args.from.now c.scatter.new.bytes c.requires.fit (c.scatter.ensures.len ∙ ap length bytes) (rw (list, bytes) at c.scatter.ensures.text) (rw (list, bytes) at c.scatter.ensures.others) in
