@@ -2,7 +2,7 @@
 mod counting;
 mod telling;
 
-use Look::{Byte, Entries, Owed, Phase as Stands, Tags};
+use Look::{Byte, Entries, Owed, Stands, Tags};
 use Note::{Accept, Collect, Complete, Fail as Failing, Read, Recover, Reissue, Write};
 use Step::{Answer, Falling, Never, Next, Rising, Shows};
 use ncq_journal::{Outcome, Phase, Plain};

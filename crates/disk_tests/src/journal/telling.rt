@@ -29,7 +29,8 @@ pub enum Look {
     Entries(usize),
     /// PxSACT, PxCI and the device's tags.
     Tags(u32, u32, u32),
-    Phase(u8, Phase),
+    /// Where a tag's command stands.
+    Stands(u8, Phase),
     /// How many entries requests can still need.
     Owed(u32),
     /// The first byte of a sector, none where the disk has no such sector.
@@ -149,7 +150,7 @@ impl Story {
                 let tags = (sact_of(past), ci_of(past), device_tags_of(past));
                 equal(rt, row, &tags, &(sact, ci, device));
             }
-            Look::Phase(tag, phase) => equal(rt, row, &phase_of(past, tag), &phase),
+            Look::Stands(tag, phase) => equal(rt, row, &phase_of(past, tag), &phase),
             Look::Owed(count) => equal(rt, row, &owed_by(past), &count),
             Look::Byte(lba, byte) => {
                 let sector = sector_of(self.image.as_slice(), past, lba);

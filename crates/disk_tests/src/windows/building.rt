@@ -1,8 +1,8 @@
 //! The bytes of two windows, and when none is built.
 
-use super::{Asked, Place, Refusal, built, refuses, rising};
+use super::{Asked, Place, Refusal, built, op_of, refuses, rising};
 use crate::table::{equal, equal_bytes};
-use ahci_table::{BuildFault, Window};
+use ahci_table::{BuildFault, Window, default_pieces};
 use std::process::Abort;
 use std::test::Fail;
 
@@ -18,8 +18,8 @@ fn has(rt: &impl Abort, window: &Window, header: &[u8], parts: &[(usize, &[u8])]
 
 #[test]
 fn the_bytes_of_a_read_of_eight_sectors(rt: HostRuntime) -> Result<(), Fail> {
-    let asked = Asked::Read(0x12_3456_789A, 8);
-    let window = built(rt.alloc(), 5, asked, &[(0x1000, 4096)])?;
+    let op = op_of(rt.alloc(), Asked::Read(0x12_3456_789A, 8))?;
+    let window = Window::build(rt.alloc(), 5, &op, &default_pieces(8))?;
     let header =
         b"\x05\x00\x01\x00\x00\x00\x00\x00\x00\x00\x00\x24\x00\x00\x00\x00\x00\x00\x00\x00\x00\x00\x00\x00\x00\x00\x00\x00\x00\x00\x00\x00";
     let command =
