@@ -162,8 +162,8 @@ fn ends(
     equal_bytes(rt, row, written.as_slice(), answers);
 }
 
-/// Compares each line's answer.
-fn answers(rt: &impl Abort, alloc: Global, row: usize, rows: &[Row]) -> Result<(), AllocError> {
+/// Compares the answers to the lines of a table.
+fn answers_all(rt: &impl Abort, alloc: Global, row: usize, rows: &[Row]) -> Result<(), AllocError> {
     let script = joined(alloc, rows, false)?;
     let answers = joined(alloc, rows, true)?;
     ends(
@@ -191,7 +191,7 @@ fn each_line_has_its_answer(rt: HostRuntime) -> Result<(), Fail> {
     .iter()
     .enumerate()
     {
-        answers(&rt, rt.alloc(), number, rows)?;
+        answers_all(&rt, rt.alloc(), number, rows)?;
     }
     Ok(())
 }

@@ -161,8 +161,8 @@ impl Story {
         Ok(true)
     }
 
-    /// The answer of the entries, with its number, and whether the text of its window agrees: a read's has the sectors. There
-    /// is none where the entries are not lawful.
+    /// The answer of the entries, with its number, and whether the text of its window agrees: a read's has the sectors.
+    /// There is none where the entries are not lawful.
     fn answer(
         &self,
         number: u64,

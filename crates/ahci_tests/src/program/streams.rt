@@ -154,8 +154,8 @@ fn to_sink(alloc: Global, script: &[u8], step: usize, calls: u64, failure: Failu
     (writer.written, outcome)
 }
 
-/// A writer that never fails has all answers, and then the script's fault. One that takes little at once fails; another one may
-/// have taken all before.
+/// A writer that never fails takes all answers, and the script's fault ends it. Any other fails, but for one that had
+/// taken all at once before.
 fn may_end(failure: Failure, step: usize, outcome: Result<(), CliFault>, is_whole: bool) -> bool {
     let never = matches!(failure, Failure::Never);
     match outcome {

@@ -184,8 +184,8 @@ impl Rig {
     }
 }
 
-/// Makes the calls of a table on a disk of as many sectors as the image, which were filled with `byte`, beside a host whose
-/// text is filled with `text`. Then the link has seen this, and each sector is filled with its byte of the image.
+/// Makes the calls of a table on a disk of `depth` tags with as many sectors as the image, all full of `byte`, beside a
+/// host whose text is full of `text`. Then the link has seen this, and each sector is full of its byte of the image.
 pub fn plays(
     rt: &impl Abort,
     alloc: Global,
