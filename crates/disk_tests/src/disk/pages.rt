@@ -1,5 +1,5 @@
 //! The identify page, word by word.
-ghost use Rattle.std.specs.Prelude.{◌≤◌, ◌<◌};
+ghost use Rattle.std.specs.Prelude.{◌<◌};
 
 use super::rig::disk_of;
 use crate::table::equal;

@@ -3,7 +3,7 @@ ghost use Rattle.std.specs.Prelude.{◌≤◌, ◌<◌};
 
 use super::memory::{Link, Memory, serve};
 use crate::table::equal;
-use ncq_core::{Disk, Plain, ServeFault, Taken};
+use ncq_core::{Disk, ServeFault, Taken};
 use std::alloc::Global;
 use std::process::Abort;
 use std::test::Fail;
