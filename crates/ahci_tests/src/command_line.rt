@@ -1,4 +1,5 @@
 //! What a command line asks for, and what it is told where it is wrong.
+use crate::table::equal;
 use ahci_args::{Asked, asked, not_text};
 use clap::error::ErrorKind;
 use std::alloc::Global;
@@ -23,56 +24,68 @@ fn replay_is_the_one_command(rt: HostRuntime) -> Result<(), Fail> {
     Ok(())
 }
 
+static WRONG: [(&str, ErrorKind, &str); 10] = [
+    (
+        "ahci --help",
+        ErrorKind::DisplayHelp,
+        "replay  Read a script",
+    ),
+    ("ahci -h", ErrorKind::DisplayHelp, "Usage: ahci <COMMAND>"),
+    (
+        "ahci replay --help",
+        ErrorKind::DisplayHelp,
+        "collect T K      take the answer",
+    ),
+    ("ahci replay -h", ErrorKind::DisplayHelp, "| ahci replay"),
+    ("ahci --version", ErrorKind::DisplayVersion, "ahci 0.1.0\n"),
+    (
+        "ahci",
+        ErrorKind::MissingSubcommand,
+        "requires a subcommand",
+    ),
+    (
+        "ahci run",
+        ErrorKind::InvalidSubcommand,
+        "unrecognized subcommand 'run'",
+    ),
+    (
+        "ahci --replay",
+        ErrorKind::UnknownArgument,
+        "unexpected argument '--replay'",
+    ),
+    (
+        "ahci replay replay",
+        ErrorKind::UnknownArgument,
+        "Usage: ahci replay",
+    ),
+    (
+        "ahci replay --version",
+        ErrorKind::UnknownArgument,
+        "Usage: ahci replay",
+    ),
+];
+
+/// What a line that asks for nothing is told: its kind and its text.
+fn told(alloc: Global, line: &str) -> Result<(ErrorKind, String), Fail> {
+    let words = words(alloc, line)?;
+    let error = asked(alloc, words.as_slice()).err().ok_or("asked")?;
+    Ok((error.kind(), format!(in alloc; "{error}")?))
+}
+
 #[test]
 fn help_and_wrong_words_are_told_in_clap_s_words(rt: HostRuntime) -> Result<(), Fail> {
-    for (line, kind, part) in [
-        (
-            "ahci --help",
-            ErrorKind::DisplayHelp,
-            "replay  Read a script",
-        ),
-        ("ahci -h", ErrorKind::DisplayHelp, "Usage: ahci <COMMAND>"),
-        (
-            "ahci replay --help",
-            ErrorKind::DisplayHelp,
-            "collect T K      take the answer",
-        ),
-        ("ahci replay -h", ErrorKind::DisplayHelp, "| ahci replay"),
-        ("ahci --version", ErrorKind::DisplayVersion, "ahci 0.1.0\n"),
-        (
-            "ahci",
-            ErrorKind::MissingSubcommand,
-            "requires a subcommand",
-        ),
-        (
-            "ahci run",
-            ErrorKind::InvalidSubcommand,
-            "unrecognized subcommand 'run'",
-        ),
-        (
-            "ahci --replay",
-            ErrorKind::UnknownArgument,
-            "unexpected argument '--replay'",
-        ),
-        (
-            "ahci replay replay",
-            ErrorKind::UnknownArgument,
-            "Usage: ahci replay",
-        ),
-        (
-            "ahci replay --version",
-            ErrorKind::UnknownArgument,
-            "Usage: ahci replay",
-        ),
-    ] {
-        let line = words(rt.alloc(), line)?;
-        let error = asked(rt.alloc(), line.as_slice()).err().ok_or("asked")?;
-        assert_eq!(rt; error.kind(), kind);
-        let text = format!(in rt.alloc(); "{error}")?;
-        assert!(rt; text.as_str().contains(part), "{text}");
-        assert!(rt; text.as_str().ends_with('\n') && !text.as_str().ends_with("\n\n"));
+    for (row, (line, wanted, part)) in WRONG.iter().enumerate() {
+        let (kind, text) = told(rt.alloc(), line)?;
+        let text = text.as_str();
+        let ends = text.ends_with('\n') && !text.ends_with("\n\n");
+        equal(
+            &rt,
+            row,
+            &(kind, text.contains(*part), ends),
+            &(*wanted, true, true),
+        );
     }
     let error = not_text(rt.alloc()).map_err(|_| "no error")?;
-    assert_eq!(rt; error.kind(), ErrorKind::InvalidValue);
+    equal(&rt, WRONG.len(), &error.kind(), &ErrorKind::InvalidValue);
     Ok(())
 }

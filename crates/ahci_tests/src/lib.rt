@@ -8,3 +8,5 @@ mod command_line;
 mod port;
 #[cfg(test)]
 mod program;
+#[cfg(test)]
+mod table;

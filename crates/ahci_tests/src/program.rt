@@ -1,7 +1,9 @@
 //! What no clause says: the worked scripts, and the texts of the faults. Hostile input and readers and writers that
 //! fail have modules of their own.
+use crate::table::{equal, equal_bytes};
 use ahci_cli::{CliFault, replay};
-use std::alloc::Global;
+use std::alloc::{AllocError, Global};
+use std::process::Abort;
 use std::test::Fail;
 
 mod hostile;
@@ -125,7 +127,7 @@ static EDGES: [Row; 15] = [
 ];
 
 /// The lines of a script, or its answers, each with a line feed.
-fn joined(alloc: Global, rows: &[Row], answers: bool) -> Result<Vec<u8>, Fail> {
+fn joined(alloc: Global, rows: &[Row], answers: bool) -> Result<Vec<u8>, AllocError> {
     let mut text = Vec::new(alloc);
     for (line, answer) in rows {
         let part = if answers { answer } else { line };
@@ -138,16 +140,45 @@ fn joined(alloc: Global, rows: &[Row], answers: bool) -> Result<Vec<u8>, Fail> {
 }
 
 /// What a script writes, and how it ends.
-fn replayed(alloc: Global, script: &[u8]) -> (Vec<u8>, Result<(), CliFault>) {
+fn replayed(alloc: Global, script: &[u8]) -> Replayed {
     let mut written = Vec::new(alloc);
     let mut reader = script;
     let outcome = replay(alloc, &mut reader, &mut written);
     (written, outcome)
 }
 
+/// What was written, and how it ended.
+type Replayed = (Vec<u8>, Result<(), CliFault>);
+
+/// Compares how a script ends and what it writes.
+fn ends(
+    rt: &impl Abort,
+    row: usize,
+    (written, outcome): Replayed,
+    ending: Result<(), CliFault>,
+    answers: &[u8],
+) {
+    equal(rt, row, &outcome, &ending);
+    equal_bytes(rt, row, written.as_slice(), answers);
+}
+
+/// Compares the answers to the lines of a table.
+fn answers_all(rt: &impl Abort, alloc: Global, row: usize, rows: &[Row]) -> Result<(), AllocError> {
+    let script = joined(alloc, rows, false)?;
+    let answers = joined(alloc, rows, true)?;
+    ends(
+        rt,
+        row,
+        replayed(alloc, script.as_slice()),
+        Ok(()),
+        answers.as_slice(),
+    );
+    Ok(())
+}
+
 #[test]
 fn each_line_has_its_answer(rt: HostRuntime) -> Result<(), Fail> {
-    let rows = [
+    for (number, rows) in [
         TWO_WRITES.as_slice(),
         READ_BETWEEN_WRITES.as_slice(),
         STRANGERS.as_slice(),
@@ -156,30 +187,31 @@ fn each_line_has_its_answer(rt: HostRuntime) -> Result<(), Fail> {
         LOGGED.as_slice(),
         DISKS.as_slice(),
         EDGES.as_slice(),
-    ];
-    for row in rows {
-        let script = joined(rt.alloc(), row, false)?;
-        let answers = joined(rt.alloc(), row, true)?;
-        let (written, outcome) = replayed(rt.alloc(), script.as_slice());
-        assert_eq!(rt; outcome, Ok(()));
-        assert_eq!(rt; written.as_slice(), answers.as_slice());
+    ]
+    .iter()
+    .enumerate()
+    {
+        answers_all(&rt, rt.alloc(), number, rows)?;
     }
     Ok(())
 }
 
+static FAULTS: [(CliFault, &str, u8); 7] = [
+    (CliFault::Line(3), "ahci: line 3: not understood", 1),
+    (CliFault::Job(0), "ahci: job 0: bad count or address", 1),
+    (CliFault::Read, "ahci: input failed", 1),
+    (CliFault::Write, "ahci: output failed", 1),
+    (CliFault::Unsettled, "ahci: run not settled", 1),
+    (CliFault::Lost(7), "ahci: run not settled", 1),
+    (CliFault::OutOfMemory, "ahci: out of memory", 3),
+];
+
 #[test]
 fn each_fault_has_its_text_and_its_status(rt: HostRuntime) -> Result<(), Fail> {
-    for (fault, text, status) in [
-        (CliFault::Line(3), "ahci: line 3: not understood", 1),
-        (CliFault::Job(0), "ahci: job 0: bad count or address", 1),
-        (CliFault::Read, "ahci: input failed", 1),
-        (CliFault::Write, "ahci: output failed", 1),
-        (CliFault::Unsettled, "ahci: run not settled", 1),
-        (CliFault::Lost(7), "ahci: run not settled", 1),
-        (CliFault::OutOfMemory, "ahci: out of memory", 3),
-    ] {
-        assert_eq!(rt; format!(in rt.alloc(); "{fault}")?.as_str(), text);
-        assert_eq!(rt; fault.status(), status);
+    for (row, (fault, text, status)) in FAULTS.iter().enumerate() {
+        let said = format!(in rt.alloc(); "{fault}")?;
+        equal_bytes(&rt, row, said.as_bytes(), text.as_bytes());
+        equal(&rt, row, &fault.status(), status);
     }
     Ok(())
 }

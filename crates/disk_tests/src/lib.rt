@@ -7,4 +7,6 @@ mod disk;
 #[cfg(test)]
 mod journal;
 #[cfg(test)]
+mod table;
+#[cfg(test)]
 mod windows;

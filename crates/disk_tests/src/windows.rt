@@ -4,49 +4,82 @@ mod hostile;
 mod lists;
 mod moving;
 
-use ahci_table::{BuildFault, Piece, TableFault, Window};
+use crate::table::equal;
+use ahci_table::{BuildFault, Piece, Window};
 use ncq_core::{Bytes, Op};
+use std::alloc::{AllocError, Global};
+use std::process::Abort;
 use std::test::Fail;
 
-/// A read of so many sectors from LBA 0.
-fn read(sectors: u32) -> Op {
-    Op::Read { lba: 0, sectors }
+/// A piece's place and its length.
+type Place = (u32, u32);
+
+/// What a window is asked to carry.
+#[derive(Clone, Copy)]
+enum Asked {
+    /// A read from an LBA on, of so many sectors.
+    Read(u64, u32),
+    /// A write of so many bytes at LBA 0, each the low byte of its place plus one.
+    Write(usize),
 }
 
-/// A write of so many bytes at LBA 0, each the low byte of its place plus one.
-fn write<R: AllocGlobal>(rt: &R, len: usize) -> Result<Op, Fail> {
-    let mut bytes = vec![in rt.alloc(); 0u8; len]?;
+/// A command, a list of pieces, and why no window of tag 0 is built of them, if none is.
+type Refusal = (Asked, &'static [Place], Option<BuildFault>);
+
+/// So many bytes, each the low byte of its place plus one.
+fn rising(alloc: Global, len: usize) -> Result<Bytes, AllocError> {
+    let mut bytes = vec![in alloc; 0u8; len]?;
     let mut next = 1u8;
     for byte in bytes.iter_mut() {
         *byte = next;
         next = next.wrapping_add(1);
     }
-    Ok(Op::Write {
-        lba: 0,
-        bytes: Bytes::from_vec(bytes),
+    Ok(Bytes::from_vec(bytes))
+}
+
+fn op_of(alloc: Global, asked: Asked) -> Result<Op, AllocError> {
+    Ok(match asked {
+        Asked::Read(lba, sectors) => Op::Read { lba, sectors },
+        Asked::Write(len) => Op::Write {
+            lba: 0,
+            bytes: rising(alloc, len)?,
+        },
     })
 }
 
-/// Some bytes from a place on, fewer where they end there.
-fn part(bytes: &[u8], at: usize, len: usize) -> &[u8] {
-    bytes.get(at..at.saturating_add(len)).unwrap_or(&[])
+fn pieces_of(alloc: Global, places: &[Place]) -> Result<Vec<Piece>, AllocError> {
+    let mut pieces = Vec::new(alloc);
+    for (at, len) in places {
+        pieces.push(Piece { at: *at, len: *len })?;
+    }
+    Ok(pieces)
 }
 
-/// Writes these bytes at their places, where they have one.
-fn put(bytes: &mut [u8], changes: &[(usize, u8)]) {
-    for (place, value) in changes {
-        if let Some(byte) = bytes.get_mut(*place) {
-            *byte = *value;
-        }
+/// A window that carries a command with its data in these pieces.
+fn built(alloc: Global, tag: u8, asked: Asked, places: &[Place]) -> Result<Window, Fail> {
+    let op = op_of(alloc, asked)?;
+    let pieces = pieces_of(alloc, places)?;
+    if tag >= 32 {
+        return Err(Fail::new("no tag"));
     }
+    Ok(Window::build(alloc, tag, &op, pieces.as_slice())?)
 }
 
 /// Why `build` refuses, for tag 0.
-fn refused<R: AllocGlobal>(rt: &R, op: &Op, pieces: &[Piece]) -> Option<BuildFault> {
-    Window::build(rt.alloc(), 0, op, pieces).err()
+fn refused(
+    alloc: Global,
+    asked: Asked,
+    places: &[Place],
+) -> Result<Option<BuildFault>, AllocError> {
+    let op = op_of(alloc, asked)?;
+    let pieces = pieces_of(alloc, places)?;
+    Ok(Window::build(alloc, 0, &op, pieces.as_slice()).err())
 }
 
-/// Why `check` refuses a window.
-fn faulty(window: &Window) -> Option<TableFault> {
-    window.check().err()
+/// Compares what `build` says to each row.
+fn refuses(rt: &impl Abort, alloc: Global, rows: &[Refusal]) -> Result<(), AllocError> {
+    for (row, (asked, places, fault)) in rows.iter().enumerate() {
+        equal(rt, row, &refused(alloc, *asked, places)?, fault);
+    }
+    Ok(())
 }

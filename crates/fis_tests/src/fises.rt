@@ -2,6 +2,7 @@
 mod checker;
 mod examples;
 
+use crate::table::{equal, equal_bytes};
 use arrayvec::ArrayVec;
 use checker::agrees;
 use examples::{answers, commands};
@@ -9,6 +10,7 @@ use sata_fis::{
     Fis, FisFault, H2d, Payload, Queued, SetBits, data_head, decode, h2d_of, is_lba,
     is_sector_count, is_set_bits_status, is_tag, queued,
 };
+use std::alloc::{AllocError, Global};
 use std::process::Abort;
 use std::test::Fail;
 
@@ -32,92 +34,119 @@ fn written(fis: &Fis<'_>) -> Option<ArrayVec<u8, 28>> {
     }
 }
 
-fn reads_and_writes(rt: &impl Abort, bytes: &[u8], fis: &Fis<'_>) {
-    assert!(rt;
-        decode(bytes).is_ok_and(|found| found == *fis),
-        "at {bytes:?}"
-    );
-    if let Some(list) = written(fis) {
-        assert_eq!(rt; list.as_slice(), bytes);
-    }
+/// Whether the bytes are read as the FIS, and the FIS is written as the bytes.
+fn reads_and_writes(bytes: &[u8], fis: &Fis<'_>) -> bool {
+    let is_read = match decode(bytes) {
+        Ok(found) => found == *fis,
+        Err(_) => false,
+    };
+    let is_written = match written(fis) {
+        Some(list) => list.as_slice() == bytes,
+        None => true,
+    };
+    is_read && is_written
 }
 
 #[test]
 fn each_example_is_read_and_written_again(rt: HostRuntime) {
     for (bytes, fis) in commands() {
-        reads_and_writes(&rt, bytes, &fis);
+        assert!(rt; reads_and_writes(bytes, &fis), "at {bytes:?}");
     }
     for (bytes, fis) in answers() {
-        reads_and_writes(&rt, bytes, &fis);
+        assert!(rt; reads_and_writes(bytes, &fis), "at {bytes:?}");
     }
 }
 
 /// What `decode` answers to a FIS of this type with this many bytes, the others 0.
-fn fault_of<R: AllocGlobal>(rt: &R, kind: u8, len: usize) -> Result<Option<FisFault>, Fail> {
-    let mut text = vec![in rt.alloc(); 0; len]?;
+fn fault_of(alloc: Global, kind: u8, len: usize) -> Result<Option<FisFault>, AllocError> {
+    let mut text = vec![in alloc; 0; len]?;
     if let Some(first) = text.first_mut() {
         *first = kind;
     }
     Ok(decode(&text).err())
 }
 
-#[test]
-fn one_byte_less_or_more_is_a_wrong_length(rt: HostRuntime) -> Result<(), Fail> {
-    for (kind, len) in LENGTHS {
-        for wrong in [len.saturating_sub(1), len.saturating_add(1)] {
-            let fault = fault_of(&rt, kind, wrong)?;
-            assert_eq!(rt; fault, Some(FisFault::WrongLength(wrong)), "type {kind}");
-        }
-        assert_eq!(rt; fault_of(&rt, kind, len)?, None, "type {kind}");
+/// Types, lengths and their faults.
+static FAULTS: [(u8, usize, Option<FisFault>); 3] = [
+    (0x46, 8200, Some(FisFault::WrongLength(8200))),
+    (0x46, 4, Some(FisFault::WrongLength(4))),
+    (0, 0, Some(FisFault::Empty)),
+];
+
+/// Compares the faults of a type at a length, at one byte less and at one more.
+fn lengths(rt: &impl Abort, alloc: Global, kind: u8, len: usize) -> Result<(), AllocError> {
+    for wrong in [len.saturating_sub(1), len.saturating_add(1)] {
+        let fault = fault_of(alloc, kind, wrong)?;
+        equal(
+            rt,
+            usize::from(kind),
+            &fault,
+            &Some(FisFault::WrongLength(wrong)),
+        );
     }
-    assert_eq!(rt;
-        fault_of(&rt, 0x46, 8200)?,
-        Some(FisFault::WrongLength(8200))
-    );
-    assert_eq!(rt; fault_of(&rt, 0x46, 4)?, Some(FisFault::WrongLength(4)));
+    equal(rt, usize::from(kind), &fault_of(alloc, kind, len)?, &None);
     Ok(())
 }
 
 #[test]
-fn bytes_begin_with_one_of_seven_types(rt: HostRuntime) -> Result<(), Fail> {
-    assert_eq!(rt; fault_of(&rt, 0, 0)?, Some(FisFault::Empty));
-    for kind in 0..=u8::MAX {
-        let known = LENGTHS.iter().any(|(known, _)| *known == kind);
-        let fault = if known {
-            FisFault::WrongLength(1)
-        } else {
-            FisFault::UnknownType(kind)
-        };
-        assert_eq!(rt; fault_of(&rt, kind, 1)?, Some(fault));
+fn one_byte_less_or_more_is_a_wrong_length(rt: HostRuntime) -> Result<(), Fail> {
+    for (kind, len) in LENGTHS {
+        lengths(&rt, rt.alloc(), kind, len)?;
+    }
+    for (kind, len, fault) in FAULTS {
+        equal(&rt, len, &fault_of(rt.alloc(), kind, len)?, &fault);
     }
     Ok(())
+}
+
+/// What one byte alone answers: it is of one of seven types, or unknown.
+fn fault_of_byte(kind: u8) -> FisFault {
+    for (known, _) in LENGTHS {
+        if known == kind {
+            return FisFault::WrongLength(1);
+        }
+    }
+    FisFault::UnknownType(kind)
+}
+
+#[test]
+fn bytes_begin_with_one_of_seven_types(rt: HostRuntime) {
+    equal(&rt, 0, &decode(&[]).err(), &Some(FisFault::Empty));
+    for kind in 0..=u8::MAX {
+        let fault = decode(&[kind]).err();
+        equal(&rt, usize::from(kind), &fault, &Some(fault_of_byte(kind)));
+    }
 }
 
 fn shorter_is_wrong(rt: &impl Abort, bytes: &[u8]) {
     for len in 1..bytes.len() {
         let fault = decode(&bytes[..len]).err();
-        assert_eq!(rt; fault, Some(FisFault::WrongLength(len)), "at {bytes:?}");
+        equal(rt, len, &fault, &Some(FisFault::WrongLength(len)));
+    }
+}
+
+/// Whether the bytes are read field by field, and what was read is written and read again.
+fn is_read(bytes: &[u8]) -> bool {
+    let Ok(fis) = decode(bytes) else {
+        return false;
+    };
+    let is_right = agrees(bytes, &fis);
+    match written(&fis) {
+        Some(list) => is_right && decode(&list) == Ok(fis),
+        None => is_right,
     }
 }
 
 /// Reads the bytes with each byte changed to each value. Behind byte 0 no value is refused.
-fn each_change_is_read<R: AllocGlobal + Abort>(rt: &R, bytes: &[u8]) -> Result<(), Fail> {
+fn each_change_is_read(rt: &impl Abort, alloc: Global, bytes: &[u8]) -> Result<(), AllocError> {
     for place in 0..bytes.len() {
-        let mut text = Vec::from_slice(rt.alloc(), bytes)?;
+        let mut text = Vec::from_slice(alloc, bytes)?;
         for value in 0..=u8::MAX {
             if let Some(byte) = text.get_mut(place) {
                 *byte = value;
             }
-            let found = decode(&text);
-            assert!(rt; place == 0 || found.is_ok(), "at {text:?}");
-            if let Ok(fis) = found {
-                assert!(rt; agrees(&text, &fis), "at {text:?}");
-                let again = written(&fis);
-                assert!(rt;
-                    again.is_none_or(|list| decode(&list) == Ok(fis)),
-                    "at {text:?}"
-                );
-            }
+            let is_refused = place == 0 && decode(&text).is_err();
+            assert!(rt; is_refused || is_read(&text), "at {text:?}");
         }
     }
     Ok(())
@@ -127,27 +156,31 @@ fn each_change_is_read<R: AllocGlobal + Abort>(rt: &R, bytes: &[u8]) -> Result<(
 fn each_prefix_and_each_changed_byte_is_read_field_by_field(rt: HostRuntime) -> Result<(), Fail> {
     for (bytes, _) in commands() {
         shorter_is_wrong(&rt, bytes);
-        each_change_is_read(&rt, bytes)?;
+        each_change_is_read(&rt, rt.alloc(), bytes)?;
     }
     for (bytes, _) in answers() {
         shorter_is_wrong(&rt, bytes);
-        each_change_is_read(&rt, bytes)?;
+        each_change_is_read(&rt, rt.alloc(), bytes)?;
     }
     Ok(())
 }
 
 #[test]
 fn busy_and_request_bits_do_not_come_through(rt: HostRuntime) {
-    let fis = decode(&[0xA1, 0, 0xFF, 0, 0, 0, 0, 0]);
     let bits = SetBits {
         i: false,
         status: 0x77,
         error: 0,
         sactive: 0,
     };
-    assert_eq!(rt; fis, Ok(Fis::SetBits(bits)));
-    let list = Fis::SetBits(bits).encode();
-    assert_eq!(rt; list.as_slice(), [0xA1, 0, 0x77, 0, 0, 0, 0, 0].as_slice());
+    let fis = decode(&[0xA1, 0, 0xFF, 0, 0, 0, 0, 0]);
+    assert!(rt; fis == Ok(Fis::SetBits(bits)));
+    equal_bytes(
+        &rt,
+        0,
+        Fis::SetBits(bits).encode().as_slice(),
+        &[0xA1, 0, 0x77, 0, 0, 0, 0, 0],
+    );
 }
 
 /// READ FPDMA QUEUED of 8 sectors at LBA 123456789Ah with tag 5.
@@ -161,15 +194,20 @@ const READ: H2d = H2d {
     control: 0,
 };
 
-#[test]
-fn a_queued_command_is_asked_for_by_the_standards_fields(rt: HostRuntime) {
-    let asked = Queued {
+/// What it asks.
+fn asked() -> Queued {
+    Queued {
         write: false,
         tag: 5,
         lba: 0x12_3456_789A,
         sectors: 8,
         fua: false,
-    };
+    }
+}
+
+/// Commands, and what they ask.
+fn asking() -> [(H2d, Option<Queued>); 12] {
+    let asked = asked();
     let write = Queued {
         write: true,
         ..asked
@@ -180,7 +218,7 @@ fn a_queued_command_is_asked_for_by_the_standards_fields(rt: HostRuntime) {
         ..asked
     };
     let fua = Queued { fua: true, ..asked };
-    for (h2d, queued_) in [
+    [
         (READ, Some(asked)),
         (
             H2d {
@@ -253,24 +291,46 @@ fn a_queued_command_is_asked_for_by_the_standards_fields(rt: HostRuntime) {
             None,
         ),
         (H2d { c: false, ..READ }, None),
-    ] {
-        assert_eq!(rt; queued(&h2d), queued_, "at {h2d:?}");
+    ]
+}
+
+/// What is asked, and the command that asks it.
+fn asked_by() -> [(Queued, H2d); 3] {
+    let most = Queued {
+        sectors: 65_536,
+        ..asked()
+    };
+    let fua = Queued {
+        fua: true,
+        ..asked()
+    };
+    [
+        (asked(), READ),
+        (
+            most,
+            H2d {
+                features: 0,
+                ..READ
+            },
+        ),
+        (
+            fua,
+            H2d {
+                device: 0xC0,
+                ..READ
+            },
+        ),
+    ]
+}
+
+#[test]
+fn a_queued_command_is_asked_for_by_the_standards_fields(rt: HostRuntime) {
+    for (row, (h2d, wanted)) in asking().iter().enumerate() {
+        equal(&rt, row, &queued(h2d), wanted);
     }
-    assert_eq!(rt; h2d_of(&asked), READ);
-    assert_eq!(rt;
-        h2d_of(&most),
-        H2d {
-            features: 0,
-            ..READ
-        }
-    );
-    assert_eq!(rt;
-        h2d_of(&fua),
-        H2d {
-            device: 0xC0,
-            ..READ
-        }
-    );
+    for (row, (wanted, h2d)) in asked_by().iter().enumerate() {
+        equal(&rt, row, &h2d_of(wanted), h2d);
+    }
 }
 
 #[test]

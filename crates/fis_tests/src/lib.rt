@@ -8,3 +8,5 @@ mod bits;
 mod fises;
 #[cfg(test)]
 mod registers;
+#[cfg(test)]
+mod table;

@@ -3,7 +3,8 @@
 mod calls;
 mod entries;
 
-use ahci_port::{DeviceStep, Outcome, Port, Reply};
+use crate::table::{equal, equal_bytes};
+use ahci_port::{DeviceStep, Outcome, Port};
 use ahci_regs::RegFault;
 use ahci_table::{Window, default_pieces};
 use calls::{Call, Command, Picks, SECTORS};
@@ -47,35 +48,26 @@ fn op_of(alloc: Global, command: Command) -> Result<Op, AllocError> {
 }
 
 /// What no entry tells of a port: PxIS, PxTFD, PxSERR and the received FIS area.
-#[derive(Clone, Copy, Debug, PartialEq, Eq)]
-struct Shown {
-    interrupts: Result<u32, RegFault>,
-    task: Result<u32, RegFault>,
-    errors: Result<u32, RegFault>,
-    area: [u8; 256],
-}
+type Shown = ([Result<u32, RegFault>; 3], [u8; 256]);
 
 impl Story {
-    fn new(rt: &impl Abort, alloc: Global, depth: u32) -> Result<Self, Fail> {
-        let image = sectors_from(alloc, SECTORS, 0x5A)?;
-        match Port::new(alloc, image.as_slice().to_vec(alloc)?, depth) {
-            Ok(port) => Ok(Story {
-                alloc,
-                port,
-                image,
-                events: Vec::new(alloc),
-            }),
-            Err(fault) => panic!(rt; "{fault:?}"),
-        }
+    fn new(alloc: Global, depth: u32) -> Result<Self, Fail> {
+        Ok(Story {
+            alloc,
+            port: Port::new(alloc, sectors_from(alloc, SECTORS, 0x5A)?, depth)?,
+            image: sectors_from(alloc, SECTORS, 0x5A)?,
+            events: Vec::new(alloc),
+        })
     }
 
     fn shown(&self) -> Shown {
-        Shown {
-            interrupts: self.port.register(0x110),
-            task: self.port.register(0x120),
-            errors: self.port.register(0x130),
-            area: *self.port.received(),
-        }
+        let port = &self.port;
+        let words = [
+            port.register(0x110),
+            port.register(0x120),
+            port.register(0x130),
+        ];
+        (words, *port.received())
     }
 
     /// Whether the port is to take a call, by the entries so far.
@@ -148,7 +140,7 @@ impl Story {
         let window = Window::build(self.alloc, tag, &op, &default_pieces(sectors))?;
         match self.port.issue(window) {
             Ok(number) => {
-                assert_eq!(rt; number, self.events.len() as u64);
+                equal(rt, self.events.len(), &number, &(self.events.len() as u64));
                 Ok(true)
             }
             Err(_) => Ok(false),
@@ -159,35 +151,35 @@ impl Story {
         let Ok((reply, window)) = self.port.collect(tag, number) else {
             return Ok(false);
         };
-        assert_eq!(rt; reply.number, number);
         let Ok(_command) = window.check() else {
             panic!(rt; "the window of {number} is not fit");
         };
         let text = window.text(self.alloc)?;
-        self.is_answer(rt, reply, text.as_slice())?;
+        let found = (reply.number, reply.entry, reply.outcome, true);
+        let answer = self.answer(number, text.as_slice())?;
+        equal(rt, self.events.len(), &Some(found), &answer);
         Ok(true)
     }
 
-    /// Compares an answer with that of the entries: a read's window has the sectors.
-    fn is_answer(&self, rt: &impl Abort, reply: Reply, text: &[u8]) -> Result<(), Fail> {
+    /// The answer of the entries, with its number, and whether the text of its window agrees: a read's has the sectors.
+    /// There is none where the entries are not lawful.
+    fn answer(
+        &self,
+        number: u64,
+        text: &[u8],
+    ) -> Result<Option<(u64, u64, Outcome, bool)>, AllocError> {
         let past = self.events.as_slice();
         if !is_lawful(SECTORS, self.port.depth(), past) {
-            panic!(rt; "{} entries are not lawful", past.len());
+            return Ok(None);
         }
-        let answer = answer_of(self.alloc, self.image.as_slice(), past, reply.number)?;
-        let Some(answer) = answer else {
-            panic!(rt; "{} has no answer", reply.number);
+        let Some(answer) = answer_of(self.alloc, self.image.as_slice(), past, number)? else {
+            return Ok(None);
         };
-        assert_eq!(rt;
-            (reply.entry, reply.outcome),
-            (answer.entry(), answer.outcome())
-        );
-        if reply.outcome == Outcome::Read {
-            assert!(rt; text == answer.bytes(), "request {}", reply.number);
-        } else {
-            assert!(rt; answer.bytes().is_empty());
-        }
-        Ok(())
+        let agrees = match answer.outcome() {
+            Outcome::Read => text == answer.bytes(),
+            _ => answer.bytes().is_empty(),
+        };
+        Ok(Some((number, answer.entry(), answer.outcome(), agrees)))
     }
 
     /// Makes a call and compares what it leaves. The answer says whether it was taken.
@@ -195,19 +187,15 @@ impl Story {
         let wanted = self.takes(call);
         let before = self.shown();
         let taken = self.make(rt, call)?;
-        assert_eq!(rt; taken, wanted, "{call:?} after {}", self.events.len());
-        if !taken {
-            assert_eq!(rt;
-                self.shown(),
-                before,
-                "{call:?} after {}",
-                self.events.len()
-            );
-        }
+        let keeps = taken || self.shown() == before;
         let appended = self.catch_up(rt, call)?;
-        assert_eq!(rt; appended, taken && call.kind() != 0x200);
+        let appends = taken && call.kind() != 0x200;
+        let row = self.events.len();
+        equal(rt, row, &(taken, keeps, appended), &(wanted, true, appends));
         self.compare(rt);
-        self.compare_image(rt);
+        for lba in 0..u64::from(SECTORS) {
+            self.compare_sector(rt, lba);
+        }
         Ok(taken)
     }
 
@@ -216,34 +204,39 @@ impl Story {
         let Some(event) = self.port.journal().get(self.events.len() as u64) else {
             return Ok(false);
         };
-        assert!(rt; appends(call, event), "{event:?} of {call:?}");
+        equal(rt, self.events.len(), &appends(call, event), &true);
         let event = copy_of(self.alloc, event)?;
         self.events.push(event)?;
         Ok(true)
     }
 
-    /// Compares PxSACT, PxCI, `halted`, the owners and the room with the plain functions over the entries.
+    /// Compares the entries' number, PxSACT, PxCI, `halted`, the room and the owners with the plain functions over the
+    /// entries.
     fn compare(&self, rt: &impl Abort) {
         let past = self.events.as_slice();
-        assert_eq!(rt; self.port.journal().len(), past.len() as u64);
-        let sact = Ok(sact_of(past));
-        assert_eq!(rt; self.port.register(0x134), sact, "after {}", past.len());
-        let ci = Ok(ci_of(past));
-        assert_eq!(rt; self.port.register(0x138), ci, "after {}", past.len());
-        assert_eq!(rt; self.port.halted(), is_halted(past), "after {}", past.len());
-        assert!(rt; u64::from(owed_by(past)) <= self.port.journal().room());
+        let port = &self.port;
+        let journal = port.journal();
+        let words = (port.register(0x134), port.register(0x138));
+        let room = u64::from(owed_by(past)) <= journal.room();
+        let found = (journal.len(), words, port.halted(), room);
+        let words = (Ok(sact_of(past)), Ok(ci_of(past)));
+        let wanted = (past.len() as u64, words, is_halted(past), true);
+        equal(rt, past.len(), &found, &wanted);
         for tag in 0..40u8 {
-            let owner = match phase_of(past, tag) {
-                Phase::Free => None,
-                _ => self.number_of(tag),
-            };
-            assert_eq!(rt; self.port.owner(tag), owner, "at tag {tag}");
+            equal(
+                rt,
+                past.len(),
+                &(tag, port.owner(tag)),
+                &(tag, self.owner(tag)),
+            );
         }
     }
 
-    fn compare_image(&self, rt: &impl Abort) {
-        for lba in 0..u64::from(SECTORS) {
-            self.compare_sector(rt, lba);
+    /// The number of the request that owns a tag, by the entries.
+    fn owner(&self, tag: u8) -> Option<u64> {
+        match phase_of(self.events.as_slice(), tag) {
+            Phase::Free => None,
+            _ => self.number_of(tag),
         }
     }
 
@@ -252,65 +245,39 @@ impl Story {
         assert!(rt; lba < u64::from(self.port.sectors()));
         self.port.copy(lba, &mut sector);
         let wanted = sector_of(self.image.as_slice(), self.events.as_slice(), lba);
-        assert!(rt;
-            sector.as_slice() == wanted,
-            "sector {lba} after {}",
-            self.events.len()
-        );
+        equal_bytes(rt, self.events.len(), &sector, wanted);
     }
 }
 
 /// The kinds of calls that were taken, and of those that were refused.
-#[derive(Clone, Copy, Debug, PartialEq, Eq)]
-struct Kinds {
-    taken: u32,
-    refused: u32,
-}
+type Kinds = (u32, u32);
 
-/// 200 calls on a new port.
-fn run(
-    rt: &impl Abort,
-    alloc: Global,
-    seed: u64,
-    depth: u32,
-    kinds: &mut Kinds,
-) -> Result<(), Fail> {
-    let mut story = Story::new(rt, alloc, depth)?;
+/// 200 calls on a new port, and the kinds of these and of the calls before.
+fn run(rt: &impl Abort, alloc: Global, seed: u64, depth: u32, kinds: Kinds) -> Result<Kinds, Fail> {
+    let mut story = Story::new(alloc, depth)?;
     let mut picks = Picks::from_seed(seed);
+    let (mut taken, mut refused) = kinds;
     for _ in 0..200 {
         let call = picks.call(&story.port, story.events.as_slice());
         if story.go_on(rt, call)? {
-            kinds.taken |= call.kind();
+            taken |= call.kind();
         } else {
-            kinds.refused |= call.kind();
+            refused |= call.kind();
         }
     }
     assert!(rt; is_lawful(SECTORS, depth, story.events.as_slice()));
-    Ok(())
-}
-
-/// The kinds that runs at a depth take and refuse.
-fn kinds_of(rt: &impl Abort, alloc: Global, depth: u32) -> Result<Kinds, Fail> {
-    let mut kinds = Kinds {
-        taken: 0,
-        refused: 0,
-    };
-    for seed in 1..=4 {
-        run(rt, alloc, seed, depth, &mut kinds)?;
-    }
-    Ok(kinds)
+    Ok((taken, refused))
 }
 
 // A port of one slot has no held command to issue again.
 #[test]
 fn the_port_agrees_with_its_journal(rt: HostRuntime) -> Result<(), Fail> {
     for (depth, taken) in [(1, 0x3BF), (4, 0x3FF), (32, 0x3FF)] {
-        let kinds = kinds_of(&rt, rt.alloc(), depth)?;
-        let wanted = Kinds {
-            taken,
-            refused: 0x1FF,
-        };
-        assert_eq!(rt; kinds, wanted, "at depth {depth}");
+        let mut kinds = (0, 0);
+        for seed in 1..=4 {
+            kinds = run(&rt, rt.alloc(), seed, depth, kinds)?;
+        }
+        equal(&rt, depth as usize, &kinds, &(taken, 0x1FF));
     }
     Ok(())
 }

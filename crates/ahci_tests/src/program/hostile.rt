@@ -1,6 +1,7 @@
 //! Lines that are not understood, or stand where they may not, and lines that are nothing.
-use super::{REFUSED_REQUESTS, TWO_WRITES, joined, replayed};
-use ahci_cli::CliFault;
+use super::{CliFault, REFUSED_REQUESTS, TWO_WRITES, ends, joined, replayed};
+use std::alloc::{AllocError, Global};
+use std::process::Abort;
 use std::test::Fail;
 
 /// Lines that are not understood, behind an accepted disk.
@@ -63,58 +64,75 @@ static WRONG: [&[u8]; 56] = [
     b"raw 0 00 00",
 ];
 
-#[test]
-fn a_wrong_line_ends_the_script_after_the_answers_before_it(rt: HostRuntime) -> Result<(), Fail> {
-    let mut script = joined(rt.alloc(), REFUSED_REQUESTS.as_slice(), false)?;
-    let answers = joined(rt.alloc(), REFUSED_REQUESTS.as_slice(), true)?;
-    let whole = script.len();
-    for line in WRONG {
-        for end in [b"".as_slice(), b"\n".as_slice(), b"\njournal\n".as_slice()] {
-            script.truncate(whole);
-            script.extend_from_slice(line)?;
-            script.extend_from_slice(end)?;
-            let (written, outcome) = replayed(rt.alloc(), script.as_slice());
-            assert_eq!(rt; outcome, Err(CliFault::Line(9)), "at {line:?}");
-            assert_eq!(rt; written.as_slice(), answers.as_slice());
-        }
+/// Compares what a script with this line behind an accepted disk comes to, whatever follows the line.
+fn is_wrong(rt: &impl Abort, alloc: Global, row: usize, line: &[u8]) -> Result<(), AllocError> {
+    let answers = joined(alloc, REFUSED_REQUESTS.as_slice(), true)?;
+    for end in [b"".as_slice(), b"\n".as_slice(), b"\njournal\n".as_slice()] {
+        let mut script = joined(alloc, REFUSED_REQUESTS.as_slice(), false)?;
+        script.extend_from_slice(line)?;
+        script.extend_from_slice(end)?;
+        let found = replayed(alloc, script.as_slice());
+        ends(rt, row, found, Err(CliFault::Line(9)), answers.as_slice());
     }
     Ok(())
 }
 
 #[test]
-fn a_command_needs_an_accepted_disk(rt: HostRuntime) -> Result<(), Fail> {
-    for line in [
-        b"journal".as_slice(),
-        b"show 0".as_slice(),
-        b"serve 0".as_slice(),
-        b"read 0 0 1".as_slice(),
-    ] {
-        let mut script = Vec::from_slice(rt.alloc(), b"\n# no disk\ndisk 0 1\n")?;
-        script.extend_from_slice(line)?;
-        let (written, outcome) = replayed(rt.alloc(), script.as_slice());
-        assert_eq!(rt; outcome, Err(CliFault::Line(4)));
-        assert_eq!(rt; written.as_slice(), b"refused BadSize\n".as_slice());
-    }
-    for nothing in [
-        b"".as_slice(),
-        b"\n".as_slice(),
-        b"\n\n#".as_slice(),
-        b"# a comment\n".as_slice(),
-    ] {
-        let (written, outcome) = replayed(rt.alloc(), nothing);
-        assert_eq!(rt; outcome, Ok(()));
-        assert!(rt; written.is_empty());
+fn a_wrong_line_ends_the_script_after_the_answers_before_it(rt: HostRuntime) -> Result<(), Fail> {
+    for (row, line) in WRONG.iter().enumerate() {
+        is_wrong(&rt, rt.alloc(), row, line)?;
     }
     Ok(())
+}
+
+/// Scripts with how they end, and what they write.
+static DISKLESS: [(&[u8], Result<(), CliFault>, &[u8]); 8] = [
+    (
+        b"\n# no disk\ndisk 0 1\njournal",
+        Err(CliFault::Line(4)),
+        b"refused BadSize\n",
+    ),
+    (
+        b"\n# no disk\ndisk 0 1\nshow 0",
+        Err(CliFault::Line(4)),
+        b"refused BadSize\n",
+    ),
+    (
+        b"\n# no disk\ndisk 0 1\nserve 0",
+        Err(CliFault::Line(4)),
+        b"refused BadSize\n",
+    ),
+    (
+        b"\n# no disk\ndisk 0 1\nread 0 0 1",
+        Err(CliFault::Line(4)),
+        b"refused BadSize\n",
+    ),
+    (b"", Ok(()), b""),
+    (b"\n", Ok(()), b""),
+    (b"\n\n#", Ok(()), b""),
+    (b"# a comment\n", Ok(()), b""),
+];
+
+#[test]
+fn a_command_needs_an_accepted_disk(rt: HostRuntime) {
+    for (row, (script, ending, answers)) in DISKLESS.iter().enumerate() {
+        ends(&rt, row, replayed(rt.alloc(), script), *ending, answers);
+    }
 }
 
 #[test]
 fn the_last_line_may_lack_its_line_feed(rt: HostRuntime) -> Result<(), Fail> {
-    let mut script = joined(rt.alloc(), TWO_WRITES.as_slice(), false)?;
+    let script = joined(rt.alloc(), TWO_WRITES.as_slice(), false)?;
     let answers = joined(rt.alloc(), TWO_WRITES.as_slice(), true)?;
-    assert_eq!(rt; script.pop(), Some(b'\n'));
-    let (written, outcome) = replayed(rt.alloc(), script.as_slice());
-    assert_eq!(rt; outcome, Ok(()));
-    assert_eq!(rt; written.as_slice(), answers.as_slice());
+    let Some(script) = script.as_slice().strip_suffix(b"\n".as_slice()) else {
+        panic!(rt; "the script has no last line feed");
+    };
+    ends(
+        &rt,
+        0,
+        replayed(rt.alloc(), script),
+        Ok(()),
+        answers.as_slice(),
+    );
     Ok(())
 }

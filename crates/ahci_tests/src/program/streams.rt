@@ -1,8 +1,10 @@
 //! Readers and writers that give and take little at once, or fail, and the limits of lines and input.
-use super::{TWO_WRITES, joined};
-use ahci_cli::{CliFault, replay};
+use super::{CliFault, Replayed, TWO_WRITES, ends, joined, replay};
+use crate::table::equal;
+use std::alloc::{AllocError, Global};
 use std::io;
 use std::io::{Read, Write};
+use std::process::Abort;
 use std::test::Fail;
 
 /// A reader that gives at most `step` bytes at once, and fails behind its bytes where it must.
@@ -26,7 +28,7 @@ impl Read for Source<'_> {
 }
 
 /// How a writer fails.
-#[derive(Clone, Copy, PartialEq, Eq, Debug)]
+#[derive(Clone, Copy)]
 enum Failure {
     Never,
     Write,
@@ -45,11 +47,12 @@ struct Sink {
 
 impl Write for Sink {
     fn write(&mut self, buf: &[u8]) -> io::Result<usize> {
-        if self.calls == 0 && self.failure == Failure::Write {
-            return Err(io::Error::from(io::ErrorKind::Interrupted));
-        }
-        if self.calls == 0 && self.failure == Failure::TakesNone {
-            return Ok(0);
+        match self.failure {
+            Failure::Write if self.calls == 0 => {
+                return Err(io::Error::from(io::ErrorKind::Interrupted));
+            }
+            Failure::TakesNone if self.calls == 0 => return Ok(0),
+            _ => {}
         }
         self.calls = self.calls.saturating_sub(1);
         let count = self.step.min(buf.len());
@@ -58,38 +61,68 @@ impl Write for Sink {
     }
 
     fn flush(&mut self) -> io::Result<()> {
-        if self.calls == 0 && self.failure == Failure::Flush {
-            return Err(io::Error::from(io::ErrorKind::Other));
+        match self.failure {
+            Failure::Flush if self.calls == 0 => Err(io::Error::from(io::ErrorKind::Other)),
+            _ => Ok(()),
         }
-        Ok(())
     }
+}
+
+/// What a script comes to that is given in steps, and behind which a read fails where it must.
+fn from_source(alloc: Global, bytes: &[u8], step: usize, fails: bool) -> Replayed {
+    let mut reader = Source { bytes, step, fails };
+    let mut written = Vec::new(alloc);
+    let outcome = replay(alloc, &mut reader, &mut written);
+    (written, outcome)
+}
+
+/// A third line of so many bytes, and what follows it.
+static LINES: [(usize, &[u8], Result<(), CliFault>); 5] = [
+    (4096, b"", Ok(())),
+    (4096, b"\n", Ok(())),
+    (4097, b"", Err(CliFault::Line(3))),
+    (4097, b"\n", Err(CliFault::Line(3))),
+    (4096, b"\njournal", Err(CliFault::Line(4))),
+];
+
+/// A script whose third line is a comment of so many bytes.
+fn with_comment(alloc: Global, length: usize, end: &[u8]) -> Result<Vec<u8>, AllocError> {
+    let mut script = Vec::from_slice(alloc, b"disk 0 0\n\n")?;
+    script.extend_from_slice(vec![in alloc; b'#'; length]?.as_slice())?;
+    script.extend_from_slice(end)?;
+    Ok(script)
 }
 
 #[test]
 fn a_line_has_at_most_4096_bytes(rt: HostRuntime) -> Result<(), Fail> {
-    for (length, end, outcome) in [
-        (4096, b"".as_slice(), Ok(())),
-        (4096, b"\n".as_slice(), Ok(())),
-        (4097, b"".as_slice(), Err(CliFault::Line(3))),
-        (4097, b"\n".as_slice(), Err(CliFault::Line(3))),
-        (4096, b"\njournal".as_slice(), Err(CliFault::Line(4))),
-    ] {
+    for (row, (length, end, ending)) in LINES.iter().enumerate() {
+        let script = with_comment(rt.alloc(), *length, end)?;
+        let fails = *ending == Err(CliFault::Line(3));
         for step in [1, 4096, 1_000_000] {
-            let mut script = Vec::from_slice(rt.alloc(), b"disk 0 0\n\n")?;
-            for _ in 0..length {
-                script.push(b'#')?;
-            }
-            script.extend_from_slice(end)?;
-            let mut reader = Source {
-                bytes: script.as_slice(),
-                step,
-                fails: outcome == Err(CliFault::Line(3)),
-            };
-            let mut written = Vec::new(rt.alloc());
-            assert_eq!(rt; replay(rt.alloc(), &mut reader, &mut written), outcome);
-            assert_eq!(rt; written.as_slice(), b"refused BadSize\n".as_slice());
+            let found = from_source(rt.alloc(), script.as_slice(), step, fails);
+            ends(&rt, row, found, *ending, b"refused BadSize\n");
         }
     }
+    Ok(())
+}
+
+/// Gives the first bytes of a script, behind which a read fails. The lines that came whole are answered.
+fn breaks_off(rt: &impl Abort, alloc: Global, given: &[u8], step: usize) -> Result<(), AllocError> {
+    let mut whole = 0usize;
+    for byte in given {
+        if *byte == b'\n' {
+            whole = whole.saturating_add(1);
+        }
+    }
+    let answers = joined(alloc, &TWO_WRITES[..whole.min(14)], true)?;
+    let found = from_source(alloc, given, step, true);
+    ends(
+        rt,
+        given.len(),
+        found,
+        Err(CliFault::Read),
+        answers.as_slice(),
+    );
     Ok(())
 }
 
@@ -98,23 +131,55 @@ fn a_failed_read_loses_no_answer_to_a_whole_line(rt: HostRuntime) -> Result<(), 
     let script = joined(rt.alloc(), TWO_WRITES.as_slice(), false)?;
     for step in [1, 5, 1000] {
         for end in 0..script.len() {
-            let mut reader = Source {
-                bytes: &script.as_slice()[..end],
-                step,
-                fails: true,
-            };
-            let mut written = Vec::new(rt.alloc());
-            assert_eq!(rt;
-                replay(rt.alloc(), &mut reader, &mut written),
-                Err(CliFault::Read)
-            );
-            let given = &script.as_slice()[..end];
-            let whole = given.iter().filter(|b| **b == b'\n').count().min(14);
-            let answers = joined(rt.alloc(), &TWO_WRITES[..whole], true)?;
-            assert_eq!(rt; written.as_slice(), answers.as_slice());
+            breaks_off(&rt, rt.alloc(), &script.as_slice()[..end], step)?;
         }
     }
     Ok(())
+}
+
+/// What a script comes to over a writer that takes so many bytes at once, and fails after so many good writes.
+fn to_sink(alloc: Global, script: &[u8], step: usize, calls: u64, failure: Failure) -> Replayed {
+    let mut reader = Source {
+        bytes: script,
+        step: 40,
+        fails: false,
+    };
+    let mut writer = Sink {
+        written: Vec::new(alloc),
+        step,
+        calls,
+        failure,
+    };
+    let outcome = replay(alloc, &mut reader, &mut writer);
+    (writer.written, outcome)
+}
+
+/// A writer that never fails takes all answers, and the script's fault ends it. Any other fails, but for one that had
+/// taken all at once before.
+fn may_end(failure: Failure, step: usize, outcome: Result<(), CliFault>, is_whole: bool) -> bool {
+    let never = matches!(failure, Failure::Never);
+    match outcome {
+        Err(CliFault::Write) => !never,
+        Err(CliFault::Line(15)) => is_whole && (never || step >= 1000),
+        _ => false,
+    }
+}
+
+/// Compares what was written with the answers, for each number of good writes.
+fn fails_after_each(
+    rt: &impl Abort,
+    alloc: Global,
+    script: &[u8],
+    answers: &[u8],
+    failure: Failure,
+    step: usize,
+) {
+    for calls in 0..20 {
+        let (written, outcome) = to_sink(alloc, script, step, calls, failure);
+        let is_part = answers.starts_with(written.as_slice());
+        let ends = may_end(failure, step, outcome, written.as_slice() == answers);
+        equal(rt, step, &(calls, is_part, ends), &(calls, true, true));
+    }
 }
 
 #[test]
@@ -129,29 +194,8 @@ fn a_failed_write_leaves_a_first_part_of_the_answers(rt: HostRuntime) -> Result<
         Failure::Never,
     ] {
         for step in [1, 3, 1000] {
-            for calls in 0..20 {
-                let mut reader = Source {
-                    bytes: script.as_slice(),
-                    step: 40,
-                    fails: false,
-                };
-                let mut writer = Sink {
-                    written: Vec::new(rt.alloc()),
-                    step,
-                    calls,
-                    failure,
-                };
-                let outcome = replay(rt.alloc(), &mut reader, &mut writer);
-                let is_whole = writer.written.as_slice() == answers.as_slice();
-                assert!(rt; answers.as_slice().starts_with(writer.written.as_slice()));
-                assert!(rt; outcome == Err(CliFault::Write) || is_whole);
-                assert!(rt; outcome == Err(CliFault::Write) || outcome == Err(CliFault::Line(15)));
-                if failure == Failure::Never {
-                    assert_eq!(rt; outcome, Err(CliFault::Line(15)));
-                } else if step < 1000 {
-                    assert_eq!(rt; outcome, Err(CliFault::Write));
-                }
-            }
+            let (script, answers) = (script.as_slice(), answers.as_slice());
+            fails_after_each(&rt, rt.alloc(), script, answers, failure, step);
         }
     }
     Ok(())
@@ -177,12 +221,15 @@ impl Read for Comments {
 }
 
 #[test]
-fn the_input_has_at_most_64_mebibytes(rt: HostRuntime) -> Result<(), Fail> {
-    for (left, outcome) in [(67_108_864, Ok(())), (67_108_865, Err(CliFault::Read))] {
-        let mut reader = b"disk 0 0\n".as_slice().chain(Comments { left: left - 9 });
+fn the_input_has_at_most_64_mebibytes(rt: HostRuntime) {
+    for (row, (left, ending)) in [(67_108_864, Ok(())), (67_108_865, Err(CliFault::Read))]
+        .iter()
+        .enumerate()
+    {
+        let comments = Comments { left: *left - 9 };
+        let mut reader = b"disk 0 0\n".as_slice().chain(comments);
         let mut written = Vec::new(rt.alloc());
-        assert_eq!(rt; replay(rt.alloc(), &mut reader, &mut written), outcome);
-        assert_eq!(rt; written.as_slice(), b"refused BadSize\n".as_slice());
+        let outcome = replay(rt.alloc(), &mut reader, &mut written);
+        ends(&rt, row, (written, outcome), *ending, b"refused BadSize\n");
     }
-    Ok(())
 }

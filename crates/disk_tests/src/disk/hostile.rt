@@ -1,12 +1,13 @@
 //! Every prefix and every change of one byte of the example commands, beside a slow reading of the five cases.
-use super::{ABORTED, ACCEPTED, FAR_READ, FLUSH, IDENTIFY, READ_LOG, WRITE, disk_of, queued};
+use super::rig::{ABORTED, ACCEPTED, FAR_READ, FLUSH, IDENTIFY, READ_LOG, WRITE, disk_of, queued};
+use crate::table::equal;
 use ncq_core::{Disk, Plain, Taken};
 use std::alloc::Global;
 use std::process::Abort;
 use std::test::Fail;
 
 /// What happened before on a disk of 8 sectors and 4 tags.
-#[derive(Clone, Copy, Debug, PartialEq, Eq)]
+#[derive(Clone, Copy)]
 enum Before {
     Nothing,
     /// A command is outstanding at tag 1.
@@ -15,14 +16,24 @@ enum Before {
     Error,
 }
 
+/// The tags that are outstanding, and whether an error stands.
+fn state_of(before: Before) -> (u32, bool) {
+    match before {
+        Before::Nothing => (0, false),
+        Before::Outstanding => (2, false),
+        Before::Error => (0, true),
+    }
+}
+
 fn disk_after(rt: &impl Abort, alloc: Global, before: Before) -> Result<Disk, Fail> {
-    let mut disk = disk_of(rt, alloc, 0, 8, 4)?;
-    if before != Before::Nothing {
-        assert_eq!(rt; disk.take(&WRITE), ACCEPTED);
+    let mut disk = disk_of(alloc, 0, 8, 4)?;
+    if !matches!(before, Before::Nothing) {
+        let _accepted = disk.take(&WRITE);
     }
-    if before == Before::Error {
-        assert!(rt; disk.fail(1, 0x40, 3).is_ok());
+    if matches!(before, Before::Error) {
+        let _failed = disk.fail(1, 0x40, 3);
     }
+    equal(rt, 0, &(disk.tags(), disk.stopped()), &state_of(before));
     Ok(disk)
 }
 
@@ -36,7 +47,7 @@ fn lba_of(bytes: &[u8; 20]) -> u64 {
 /// A queued command is refused for its tag or its end, else accepted.
 fn wanted_of_queued(bytes: &[u8; 20], before: Before) -> Taken {
     let tag = bytes[12] / 8;
-    if tag >= 4 || tag == 1 && before == Before::Outstanding {
+    if tag >= 4 || tag == 1 && matches!(before, Before::Outstanding) {
         return ABORTED;
     }
     let sectors = match u16::from_le_bytes([bytes[3], bytes[11]]) {
@@ -73,26 +84,19 @@ fn wanted(bytes: &[u8], before: Before) -> Taken {
 
 /// The tags and the error after an answer.
 fn left(answer: Taken, bytes: &[u8], before: Before) -> (u32, bool) {
-    let outstanding = if before == Before::Outstanding { 2 } else { 0 };
+    let (tags, stopped) = state_of(before);
     match answer {
-        Taken::Accepted(_) if bytes.len() == 20 => {
-            (outstanding | 1 << u32::from(bytes[12] / 8), false)
-        }
+        Taken::Accepted(_) if bytes.len() == 20 => (tags | 1 << u32::from(bytes[12] / 8), false),
         Taken::Refused(fis) if fis[3] == 0x10 => (0, true),
-        _ => (outstanding, before == Before::Error),
+        _ => (tags, stopped),
     }
 }
 
-fn takes(rt: &impl Abort, alloc: Global, bytes: &[u8], before: Before) -> Result<(), Fail> {
-    let mut disk = disk_after(rt, alloc, before)?;
+fn takes(rt: &impl Abort, disk: &mut Disk, row: usize, bytes: &[u8], before: Before) {
     let answer = disk.take(bytes);
-    assert_eq!(rt; answer, wanted(bytes, before), "{bytes:?} after {before:?}");
-    assert_eq!(rt;
-        (disk.tags(), disk.stopped()),
-        left(answer, bytes, before),
-        "{bytes:?} after {before:?}"
-    );
-    Ok(())
+    let (tags, stopped) = left(answer, bytes, before);
+    let found = (answer, disk.tags(), disk.stopped());
+    equal(rt, row, &found, &(wanted(bytes, before), tags, stopped));
 }
 
 /// All prefixes of a command, and all changes of one of its bytes.
@@ -103,13 +107,25 @@ fn takes_all_near(
     before: Before,
 ) -> Result<(), Fail> {
     for len in 0..=20 {
-        takes(rt, alloc, &command[..len], before)?;
+        takes(
+            rt,
+            &mut disk_after(rt, alloc, before)?,
+            len,
+            &command[..len],
+            before,
+        );
     }
     for place in 0..20 {
         let mut bytes = *command;
         for byte in 0..=255u8 {
             bytes[place] = byte;
-            takes(rt, alloc, &bytes, before)?;
+            takes(
+                rt,
+                &mut disk_after(rt, alloc, before)?,
+                place,
+                &bytes,
+                before,
+            );
         }
     }
     Ok(())

@@ -6,31 +6,48 @@ use sata_fis::data_head;
 use std::alloc::{AllocError, Global};
 use std::process::Abort;
 
-/// A text, and what has come over the link so far.
+/// What has come over the link so far.
+#[derive(Clone, Copy, Debug, PartialEq)]
+pub struct Link {
+    /// The last DMA Setup, how many came, and how many bytes have moved since.
+    pub setup: [u8; 28],
+    pub setups: usize,
+    pub offset: usize,
+    /// The head of the last Data FIS that was delivered.
+    pub head: [u8; 4],
+    /// The last DMA Activate, and how many came.
+    pub activate: [u8; 4],
+    pub activates: usize,
+    /// How many Data FISes moved, either way, and the length of the last.
+    pub data: usize,
+    pub last: usize,
+}
+
+/// Nothing has come.
+pub const QUIET: Link = Link {
+    setup: [0xFF; 28],
+    setups: 0,
+    offset: 0,
+    head: [0; 4],
+    activate: [0; 4],
+    activates: 0,
+    data: 0,
+    last: 0,
+};
+
+/// A text, and what has come over the link.
 #[derive(Drop)]
 pub struct Memory {
     pub text: Vec<u8>,
-    pub setup: [u8; 28],
-    pub offset: usize,
-    /// How many DMA Setups came.
-    pub setups: usize,
-    /// The head of the last Data FIS that was delivered, and the last DMA Activate.
-    pub head: [u8; 4],
-    pub activate: [u8; 4],
-    /// How many Data FISes moved, either way.
-    pub data: usize,
-    /// The length of the last of them.
-    pub last: usize,
-    /// How many DMA Activates came.
-    pub activates: usize,
+    pub link: Link,
 }
 
 impl Host for Memory {
     ghost text = { λ h. h.text.items };
 
-    ghost last_setup = { λ h. h.setup };
+    ghost last_setup = { λ h. h.link.setup };
 
-    ghost offset = { λ h. h.offset };
+    ghost offset = { λ h. h.link.offset };
 
     ghost keeps = { λ a b. vec_len b.text ≡ vec_len a.text };
 
@@ -39,29 +56,29 @@ impl Host for Memory {
     ghost keeps_on = { λ a b c ab bc. Prim.cc };
 
     fn setup(&mut self, fis: &[u8; 28]) {
-        self.setup = *fis;
-        self.setups = self.setups.saturating_add(1);
-        self.offset = 0;
+        self.link.setup = *fis;
+        self.link.setups = self.link.setups.saturating_add(1);
+        self.link.offset = 0;
     }
 
     fn deliver(&mut self, fis: &[u8]) {
-        let end = self.offset + fis.len() - 4;
-        self.text.as_mut_slice()[self.offset..end].copy_from_slice(&fis[4..]);
-        self.offset = end;
-        self.head.copy_from_slice(&fis[..4]);
-        self.data = self.data.saturating_add(1);
-        self.last = fis.len();
+        let end = self.link.offset + fis.len() - 4;
+        self.text.as_mut_slice()[self.link.offset..end].copy_from_slice(&fis[4..]);
+        self.link.offset = end;
+        self.link.head.copy_from_slice(&fis[..4]);
+        self.link.data = self.link.data.saturating_add(1);
+        self.link.last = fis.len();
     }
 
     fn activate(&mut self, fis: &[u8; 4], out: &mut [u8]) {
-        let end = self.offset + out.len() - 4;
+        let end = self.link.offset + out.len() - 4;
         out[..4].copy_from_slice(&data_head());
-        out[4..].copy_from_slice(&self.text.as_slice()[self.offset..end]);
-        self.offset = end;
-        self.data = self.data.saturating_add(1);
-        self.last = out.len();
-        self.activate = *fis;
-        self.activates = self.activates.saturating_add(1);
+        out[4..].copy_from_slice(&self.text.as_slice()[self.link.offset..end]);
+        self.link.offset = end;
+        self.link.data = self.link.data.saturating_add(1);
+        self.link.last = out.len();
+        self.link.activate = *fis;
+        self.link.activates = self.link.activates.saturating_add(1);
     }
 }
 
@@ -70,14 +87,7 @@ impl Memory {
     pub fn new(alloc: Global, disk: &Disk, byte: u8) -> Result<Self, AllocError> {
         Ok(Memory {
             text: vec![in alloc; byte; disk.sectors() as usize * 512]?,
-            setup: [0xFF; 28],
-            offset: 0,
-            setups: 0,
-            head: [0; 4],
-            activate: [0; 4],
-            data: 0,
-            last: 0,
-            activates: 0,
+            link: QUIET,
         })
     }
 }

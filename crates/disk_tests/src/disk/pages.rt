@@ -1,8 +1,8 @@
 //! The identify page, word by word.
-ghost use Rattle.std.specs.Prelude.{◌≤◌, ◌<◌};
+ghost use Rattle.std.specs.Prelude.{◌<◌};
 
-use super::disk_of;
-use std::process::Abort;
+use super::rig::disk_of;
+use crate::table::equal;
 use std::test::Fail;
 
 /// The words of a disk of 1,000 sectors and 32 tags (ACS-3, "IDENTIFY DEVICE"); all others are 0.
@@ -64,6 +64,7 @@ fn word(page: &[u8; 512], number: usize) -> u16
     u16::from_le_bytes([page[2 * number], page[2 * number + 1]])
 }
 
+/// The word of the table at this number; 0 where it has none.
 fn wanted(number: usize) -> u16 {
     for (place, word) in &WORDS {
         if *place == number {
@@ -75,16 +76,16 @@ fn wanted(number: usize) -> u16 {
 
 #[test]
 fn identify_tells_the_words_of_the_table(rt: HostRuntime) -> Result<(), Fail> {
-    let page = disk_of(&rt, rt.alloc(), 0, 1000, 32)?.identify();
+    let page = disk_of(rt.alloc(), 0, 1000, 32)?.identify();
     for number in 0..256 {
-        assert_eq!(&rt; word(&page, number), wanted(number), "word {number}");
+        equal(&rt, number, &word(&page, number), &wanted(number));
     }
     Ok(())
 }
 
 #[test]
 fn the_number_of_sectors_has_its_low_word_first(rt: HostRuntime) -> Result<(), Fail> {
-    let page = disk_of(&rt, rt.alloc(), 0, 131_072, 1)?.identify();
+    let page = disk_of(rt.alloc(), 0, 131_072, 1)?.identify();
     for (number, wanted) in [
         (60, 0),
         (61, 2),
@@ -94,7 +95,7 @@ fn the_number_of_sectors_has_its_low_word_first(rt: HostRuntime) -> Result<(), F
         (102, 0),
         (103, 0),
     ] {
-        assert_eq!(&rt; word(&page, number), wanted, "word {number}");
+        equal(&rt, number, &word(&page, number), &wanted);
     }
     Ok(())
 }

@@ -1,76 +1,129 @@
 //! Where commands and disks are refused.
-use super::memory::{Memory, serve};
-use super::{ABORTED, ACCEPTED, FAR_READ, disk_of, queued};
+use super::memory::QUIET;
+use super::rig::Call::{Queue, ReadLog, Serve, Take};
+use super::rig::{ABORTED, ACCEPTED, FAR_READ, Rig, Row, disk_of, plays};
+use crate::table::equal;
 use ncq_core::{Disk, DiskFault, Taken};
-use std::process::Abort;
+use std::alloc::Global;
 use std::test::Fail;
 
-/// Refused with IDNF at an LBA below 256.
-fn not_found(lba: u8) -> Taken {
-    Taken::Refused([
-        0x34, 0x40, 0x41, 0x10, lba, 0, 0, 0, 0, 0, 0, 0, 0, 0, 0, 0, 0, 0, 0, 0,
-    ])
-}
+/// Refused with IDNF at LBA 123456789Ah.
+const FAR_REFUSED: Taken = Taken::Refused([
+    0x34, 0x40, 0x41, 0x10, 0x9A, 0x78, 0x56, 0, 0x34, 0x12, 0, 0, 0, 0, 0, 0, 0, 0, 0, 0,
+]);
+
+/// What the log tells of it: tag 5, status, error, LBA, and the byte that makes the sum 0.
+const FAR_LOG: [(usize, u8); 9] = [
+    (0, 5),
+    (2, 0x41),
+    (3, 0x10),
+    (4, 0x9A),
+    (5, 0x78),
+    (6, 0x56),
+    (8, 0x34),
+    (9, 0x12),
+    (511, 0xFC),
+];
+
+static FAR: [Row; 3] = [
+    (Queue(0x61, 9, 0, 1, ACCEPTED), 1 << 9, false),
+    (Take(FAR_READ, FAR_REFUSED), 0, true),
+    (ReadLog(&FAR_LOG), 0, false),
+];
 
 #[test]
 fn a_far_command_is_refused_at_acceptance(rt: HostRuntime) -> Result<(), Fail> {
-    let mut disk = disk_of(&rt, rt.alloc(), 0, 1000, 32)?;
-    assert_eq!(&rt; disk.take(&queued(0x61, 9, 0, 1)), ACCEPTED);
-    let refused = [
-        0x34, 0x40, 0x41, 0x10, 0x9A, 0x78, 0x56, 0, 0x34, 0x12, 0, 0, 0, 0, 0, 0, 0, 0, 0, 0,
-    ];
-    assert_eq!(&rt; disk.take(&FAR_READ), Taken::Refused(refused));
-    assert_eq!(&rt; (disk.tags(), disk.stopped()), (0, true));
-    let page = disk.read_log();
-    assert_eq!(&rt;
-        &page[..11],
-        [5, 0, 0x41, 0x10, 0x9A, 0x78, 0x56, 0, 0x34, 0x12, 0].as_slice()
-    );
-    Ok(())
+    plays(
+        &rt,
+        rt.alloc(),
+        (32, 0, 0),
+        FAR.as_slice(),
+        &QUIET,
+        &[0; 1000],
+    )
 }
+
+/// Refused with IDNF at LBA 8.
+const AT_8: Taken = Taken::Refused([
+    0x34, 0x40, 0x41, 0x10, 8, 0, 0, 0, 0, 0, 0, 0, 0, 0, 0, 0, 0, 0, 0, 0,
+]);
+
+/// Refused with IDNF at LBA 9.
+const AT_9: Taken = Taken::Refused([
+    0x34, 0x40, 0x41, 0x10, 9, 0, 0, 0, 0, 0, 0, 0, 0, 0, 0, 0, 0, 0, 0, 0,
+]);
+
+/// A command, and then one of a tag that the disk has not.
+static ENDS: [[Row; 2]; 7] = [
+    [
+        (Queue(0x60, 1, 7, 1, ACCEPTED), 2, false),
+        (Queue(0x60, 2, 0, 1, ABORTED), 2, false),
+    ],
+    [
+        (Queue(0x61, 1, 0, 8, ACCEPTED), 2, false),
+        (Queue(0x60, 2, 0, 1, ABORTED), 2, false),
+    ],
+    [
+        (Queue(0x61, 1, 8, 1, AT_8), 0, true),
+        (Queue(0x60, 2, 0, 1, ABORTED), 0, true),
+    ],
+    [
+        (Queue(0x60, 1, 7, 2, AT_8), 0, true),
+        (Queue(0x60, 2, 0, 1, ABORTED), 0, true),
+    ],
+    [
+        (Queue(0x60, 1, 9, 1, AT_9), 0, true),
+        (Queue(0x60, 2, 0, 1, ABORTED), 0, true),
+    ],
+    [
+        (Queue(0x61, 1, 0, 9, AT_8), 0, true),
+        (Queue(0x60, 2, 0, 1, ABORTED), 0, true),
+    ],
+    [
+        (Queue(0x60, 1, 0, 0, AT_8), 0, true),
+        (Queue(0x60, 2, 0, 1, ABORTED), 0, true),
+    ],
+];
 
 #[test]
 fn the_last_sector_and_one_past_it(rt: HostRuntime) -> Result<(), Fail> {
-    for (command, lba, sectors, wanted) in [
-        (0x60, 7, 1, ACCEPTED),
-        (0x61, 0, 8, ACCEPTED),
-        (0x61, 8, 1, not_found(8)),
-        (0x60, 7, 2, not_found(8)),
-        (0x60, 9, 1, not_found(9)),
-        (0x61, 0, 9, not_found(8)),
-        (0x60, 0, 0, not_found(8)),
-    ] {
-        let mut disk = disk_of(&rt, rt.alloc(), 0, 8, 2)?;
-        assert_eq!(&rt;
-            disk.take(&queued(command, 1, lba, sectors)),
-            wanted,
-            "{lba} {sectors}"
-        );
-        assert_eq!(&rt; disk.stopped(), wanted != ACCEPTED);
-        assert_eq!(&rt; disk.take(&queued(0x60, 2, 0, 1)), ABORTED);
+    for rows in &ENDS {
+        plays(&rt, rt.alloc(), (2, 0, 0), rows.as_slice(), &QUIET, &[0; 8])?;
     }
     Ok(())
 }
 
 #[test]
 fn each_of_32_tags_is_taken_once(rt: HostRuntime) -> Result<(), Fail> {
-    let mut disk = disk_of(&rt, rt.alloc(), 0, 64, 32)?;
+    let mut rig = Rig::new(rt.alloc(), 64, 32, 0, 1)?;
     for tag in 0..32u8 {
-        assert_eq!(&rt; disk.take(&queued(0x61, tag, tag, 1)), ACCEPTED);
+        let tags = u32::MAX >> (31 - u32::from(tag));
+        rig.goes(
+            &rt,
+            usize::from(tag),
+            (Queue(0x61, tag, tag, 1, ACCEPTED), tags, false),
+        );
     }
     for tag in 0..32u8 {
-        assert_eq!(&rt; disk.take(&queued(0x61, tag, tag, 1)), ABORTED);
-        assert_eq!(&rt; disk.take(&queued(0x60, tag, 63, 2)), ABORTED);
-        assert_eq!(&rt; disk.tags(), u32::MAX);
+        for refused in [
+            Queue(0x61, tag, tag, 1, ABORTED),
+            Queue(0x60, tag, 63, 2, ABORTED),
+        ] {
+            rig.goes(&rt, usize::from(tag), (refused, u32::MAX, false));
+        }
     }
-    let mut host = Memory::new(rt.alloc(), &disk, 1)?;
-    let mut left = u32::MAX;
     for tag in (0..32u8).rev() {
-        assert!(&rt; serve(&rt, &mut disk, tag, &mut host).is_ok());
-        left &= !(1 << tag);
-        assert_eq!(&rt; disk.tags(), left);
+        let bit = 1u32 << tag;
+        let [a, b, c, d] = bit.to_le_bytes();
+        let done = Serve(tag, Ok([0xA1, 0x40, 0x40, 0, a, b, c, d]));
+        rig.goes(&rt, usize::from(tag), (done, bit - 1, false));
     }
     Ok(())
+}
+
+/// Why a disk of so many bytes is refused.
+fn refused(alloc: Global, bytes: usize, depth: u32) -> Result<Option<DiskFault>, Fail> {
+    Ok(Disk::new(vec![in alloc; 0u8; bytes]?, depth).err())
 }
 
 #[test]
@@ -83,13 +136,14 @@ fn a_disk_has_1_to_131072_sectors_and_1_to_32_tags(rt: HostRuntime) -> Result<()
         (512, 0, DiskFault::BadDepth),
         (512, 33, DiskFault::BadDepth),
     ] {
-        let image = vec![in rt.alloc(); 0u8; bytes]?;
-        assert!(&rt;
-            Disk::new(image, depth).is_err_and(|found| found == fault),
-            "{bytes}"
+        equal(
+            &rt,
+            bytes,
+            &refused(rt.alloc(), bytes, depth)?,
+            &Some(fault),
         );
     }
-    let disk = disk_of(&rt, rt.alloc(), 0, 131_072, 1)?;
-    assert_eq!(&rt; (disk.sectors(), disk.depth()), (131_072, 1));
+    let disk = disk_of(rt.alloc(), 0, 131_072, 1)?;
+    equal(&rt, 0, &(disk.sectors(), disk.depth()), &(131_072, 1));
     Ok(())
 }

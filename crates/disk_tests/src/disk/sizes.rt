@@ -1,14 +1,18 @@
 //! How many Data FISes a command has, and how long they are.
-ghost use Rattle.std.specs.Prelude.{◌≤◌, ◌<◌};
+ghost use Rattle.std.specs.Prelude.{◌≤◌};
 
-use super::memory::{Memory, serve};
-use super::{ACCEPTED, disk_of, queued};
+use super::memory::{Link, QUIET};
+use super::rig::Call::{Queue, Serve};
+use super::rig::{ACCEPTED, Rig, is_filled};
+use crate::table::equal;
 use std::alloc::Global;
 use std::process::Abort;
 use std::test::Fail;
 
 /// Sectors, features of the command, Data FISes, length of the last, and the byte count in the DMA Setup.
-static SIZES: [(usize, u16, usize, usize, [u8; 4]); 5] = [
+type Size = (usize, u16, usize, usize, [u8; 4]);
+
+static SIZES: [Size; 5] = [
     (1, 1, 1, 516, [0, 2, 0, 0]),
     (16, 16, 1, 8196, [0, 0x20, 0, 0]),
     (17, 17, 2, 516, [0, 0x22, 0, 0]),
@@ -16,60 +20,76 @@ static SIZES: [(usize, u16, usize, usize, [u8; 4]); 5] = [
     (65_536, 0, 4096, 8196, [0, 0, 0, 2]),
 ];
 
-/// Moves the sectors from LBA 1 on, and compares all that was sent.
-fn moves(
-    rt: &impl Abort,
-    alloc: Global,
-    write: bool,
-    row: &(usize, u16, usize, usize, [u8; 4]),
-) -> Result<(), Fail>
-    requires { row.now.0 ≤ 65536 }
+/// What a command of a size sends.
+fn sent(size: Size, write: bool) -> Link
+    requires { size.0 ≤ 65536 }
 {
-    let (sectors, features, data, last, count) = *row;
-    let mut disk = disk_of(rt, alloc, 0x22, sectors + 2, 32)?;
-    let mut host = Memory::new(alloc, &disk, 0x33)?;
-    let command = if write { 0x61 } else { 0x60 };
-    assert_eq!(rt; disk.take(&queued(command, 31, 1, features)), ACCEPTED);
-    let answer = serve(rt, &mut disk, 31, &mut host);
-    assert_eq!(rt; answer, Ok([0xA1, 0x40, 0x40, 0, 0, 0, 0, 0x80]));
-    assert_eq!(rt;
-        (host.data, host.last, host.offset),
-        (data, last, sectors * 512)
-    );
-    assert_eq!(rt;
-        (host.setups, host.activates),
-        (1, if write { data } else { 0 })
-    );
-    let (activate, head) = if write {
-        ([0x39, 0, 0, 0], [0; 4])
-    } else {
-        ([0; 4], [0x46, 0, 0, 0])
+    let (sectors, _, data, last, [a, b, c, d]) = size;
+    let direction = if write { 0 } else { 0x20 };
+    let moved = Link {
+        setup: [
+            0x41, direction, 0, 0, 31, 0, 0, 0, 0, 0, 0, 0, 0, 0, 0, 0, 0, 0, 0, 0, a, b, c, d, 0,
+            0, 0, 0,
+        ],
+        setups: 1,
+        offset: sectors * 512,
+        data,
+        last,
+        ..QUIET
     };
-    assert_eq!(rt; (host.activate, host.head), (activate, head));
-    assert_eq!(rt;
-        &host.setup[..8],
-        [0x41, if write { 0 } else { 0x20 }, 0, 0, 31, 0, 0, 0].as_slice()
+    if write {
+        Link {
+            activate: [0x39, 0, 0, 0],
+            activates: data,
+            ..moved
+        }
+    } else {
+        Link {
+            head: [0x46, 0, 0, 0],
+            ..moved
+        }
+    }
+}
+
+/// Moves the sectors from LBA 1 on, and compares all that was sent.
+fn moves(rt: &impl Abort, alloc: Global, write: bool, size: Size) -> Result<(), Fail>
+    requires { size.0 ≤ 65536 }
+{
+    let (sectors, features, ..) = size;
+    let (command, moved) = if write { (0x61, 0x33) } else { (0x60, 0x22) };
+    let mut rig = Rig::new(alloc, sectors + 2, 32, 0x22, 0x33)?;
+    rig.goes(
+        rt,
+        sectors,
+        (Queue(command, 31, 1, features, ACCEPTED), 1 << 31, false),
     );
-    assert_eq!(rt; &host.setup[20..24], count.as_slice());
-    let moved = if write { 0x33 } else { 0x22 };
-    let text = host.text.as_slice();
-    assert!(rt; text.iter().take(sectors * 512).all(|byte| *byte == moved));
-    assert!(rt; text.iter().skip(sectors * 512).all(|byte| *byte == 0x33));
-    for (lba, byte) in [(0, 0x22), (1, moved), (sectors, moved), (sectors + 1, 0x22)] {
-        let mut sector = [0; 512];
-        assert!(rt; (lba as u64) < u64::from(disk.sectors()));
-        disk.copy(lba as u64, &mut sector);
-        assert!(rt; sector == [byte; 512], "sector {lba}");
+    let done = Serve(31, Ok([0xA1, 0x40, 0x40, 0, 0, 0, 0, 0x80]));
+    rig.goes(rt, sectors, (done, 0, false));
+    equal(rt, sectors, &rig.host.link, &sent(size, write));
+    let text = rig.host.text.as_slice();
+    let halves = (text.get(..sectors * 512), text.get(sectors * 512..));
+    let (Some(first), Some(rest)) = halves else {
+        panic!(rt; "the text is short");
+    };
+    equal(
+        rt,
+        sectors,
+        &(is_filled(first, moved), is_filled(rest, 0x33)),
+        &(true, true),
+    );
+    let last = sectors as u64;
+    for (lba, byte) in [(0, 0x22), (1, moved), (last, moved), (last + 1, 0x22)] {
+        equal(rt, sectors, &rig.filling(lba), &Some(byte));
     }
     Ok(())
 }
 
 #[test]
 fn data_move_in_pieces_of_8192_bytes(rt: HostRuntime) -> Result<(), Fail> {
-    for row in &SIZES {
-        assert!(&rt; row.0 <= 65_536);
-        moves(&rt, rt.alloc(), false, row)?;
-        moves(&rt, rt.alloc(), true, row)?;
+    for size in SIZES {
+        assert!(rt; size.0 <= 65_536);
+        moves(&rt, rt.alloc(), false, size)?;
+        moves(&rt, rt.alloc(), true, size)?;
     }
     Ok(())
 }

@@ -14,7 +14,7 @@ pub struct Picks {
 }
 
 /// A command: its tag, LBA and count, and for a write the byte from which its data are made.
-#[derive(Clone, Copy, Debug)]
+#[derive(Clone, Copy)]
 pub struct Command {
     pub tag: u8,
     pub lba: u64,
@@ -23,7 +23,7 @@ pub struct Command {
 }
 
 /// A call of a port.
-#[derive(Clone, Copy, Debug)]
+#[derive(Clone, Copy)]
 pub enum Call {
     Issue(Command),
     Step(DeviceStep),

@@ -1,0 +1,160 @@
+//! Calls of a port as the rows of a table.
+ghost use Rattle.std.specs.Prelude.{◌≤◌, ◌<◌};
+
+use crate::table::equal;
+use ahci_port::{
+    CollectFault, DeviceStep, IssueFault, Outcome, PlainFault, Port, RecoverFault, ReissueFault,
+    Reply, StepFault, Stepped,
+};
+use ahci_regs::RegFault;
+use ahci_table::{Window, default_pieces};
+use ncq_core::{Bytes, Op};
+use std::alloc::{AllocError, Global};
+use std::process::Abort;
+use std::test::Fail;
+
+/// A call of a port with its answer, or something that the port shows.
+#[derive(Clone, Copy)]
+pub enum Row {
+    /// A command of one sector: its tag and LBA, and a write's byte. The answer is its number.
+    Issue(u8, u64, Option<u8>, Result<u64, IssueFault>),
+    Step(DeviceStep, Result<Stepped, StepFault>),
+    /// A request by its tag and number: its entry and outcome, and the first byte of its window's text.
+    Collect(u8, u64, Result<(u64, Outcome, u8), CollectFault>),
+    Recover(Result<u8, RecoverFault>),
+    Reissue(u8, Result<(), ReissueFault>),
+    /// A word of the identify page, low byte first.
+    Identify(usize, Result<[u8; 2], PlainFault>),
+    Flush(Result<(), PlainFault>),
+    Acknowledge(u32),
+    Register(u32, Result<u32, RegFault>),
+    /// Eight bytes of the received FIS area.
+    Received(usize, [u8; 8]),
+    /// The first byte of a sector.
+    Sector(u64, u8),
+    /// How many entries the journal has.
+    Entries(u64),
+}
+
+/// A port over so many sectors of zeros.
+fn port_of(alloc: Global, sectors: usize, depth: u32) -> Result<Port, Fail>
+    requires { sectors ≤ 131072 }
+{
+    Ok(Port::new(alloc, vec![in alloc; 0u8; sectors * 512]?, depth)?)
+}
+
+/// What a command of one sector asks: a write of sectors filled with a byte, or a read where there is none.
+fn op_of(alloc: Global, lba: u64, byte: Option<u8>) -> Result<Op, AllocError> {
+    Ok(match byte {
+        Some(byte) => Op::Write {
+            lba,
+            bytes: Bytes::from_vec(vec![in alloc; byte; 512]?),
+        },
+        None => Op::Read { lba, sectors: 1 },
+    })
+}
+
+/// Issues a command, and answers its number.
+fn issue(
+    alloc: Global,
+    port: &mut Port,
+    tag: u8,
+    lba: u64,
+    byte: Option<u8>,
+) -> Result<Result<u64, IssueFault>, Fail>
+    requires { tag < 32 }
+{
+    let op = op_of(alloc, lba, byte)?;
+    let window = Window::build(alloc, tag, &op, &default_pieces(1))?;
+    Ok(match port.issue(window) {
+        Ok(number) => Ok(number),
+        Err((_, fault)) => Err(fault),
+    })
+}
+
+/// The reply of a request, and the first byte of its window's text.
+fn collect(port: &mut Port, tag: u8, number: u64) -> Result<(Reply, Option<u8>), CollectFault> {
+    let (reply, window) = port.collect(tag, number)?;
+    Ok((reply, window.bytes().get(0x1000).copied()))
+}
+
+/// What a row of a request wants.
+fn collected(
+    number: u64,
+    answer: Result<(u64, Outcome, u8), CollectFault>,
+) -> Result<(Reply, Option<u8>), CollectFault> {
+    let (entry, outcome, byte) = answer?;
+    let reply = Reply {
+        number,
+        entry,
+        outcome,
+    };
+    Ok((reply, Some(byte)))
+}
+
+/// A word of the identify page.
+fn identify(port: &mut Port, word: usize) -> Result<[u8; 2], PlainFault> {
+    let page = port.identify()?;
+    let low = page.get(word.saturating_mul(2)).copied().unwrap_or(0);
+    let high = page.get(word.saturating_mul(2).saturating_add(1));
+    Ok([low, high.copied().unwrap_or(0)])
+}
+
+/// The first byte of a sector, where there is such a sector.
+fn first_byte(port: &Port, lba: u64) -> Option<u8> {
+    let mut sector = [0; 512];
+    if lba >= u64::from(port.sectors()) {
+        return None;
+    }
+    port.copy(lba, &mut sector);
+    Some(sector[0])
+}
+
+fn goes(
+    rt: &impl Abort,
+    alloc: Global,
+    port: &mut Port,
+    row: usize,
+    call: Row,
+) -> Result<(), Fail> {
+    match call {
+        Row::Issue(tag, lba, byte, answer) => {
+            assert!(rt; tag < 32);
+            equal(rt, row, &issue(alloc, port, tag, lba, byte)?, &answer);
+        }
+        Row::Step(step, answer) => equal(rt, row, &port.step(step), &answer),
+        Row::Collect(tag, number, answer) => {
+            let found = collect(port, tag, number);
+            equal(rt, row, &found, &collected(number, answer));
+        }
+        Row::Recover(answer) => equal(rt, row, &port.recover(), &answer),
+        Row::Reissue(tag, answer) => equal(rt, row, &port.reissue(tag), &answer),
+        Row::Identify(word, answer) => equal(rt, row, &identify(port, word), &answer),
+        Row::Flush(answer) => equal(rt, row, &port.flush(), &answer),
+        Row::Acknowledge(mask) => port.acknowledge(mask),
+        Row::Register(off, word) => equal(rt, row, &port.register(off), &word),
+        Row::Received(at, bytes) => {
+            let found = port.received().get(at..at.saturating_add(8));
+            equal(rt, row, &(found == Some(bytes.as_slice())), &true);
+        }
+        Row::Sector(lba, byte) => equal(rt, row, &first_byte(port, lba), &Some(byte)),
+        Row::Entries(count) => equal(rt, row, &port.journal().len(), &count),
+    }
+    Ok(())
+}
+
+/// Makes the calls of a table on a port over so many sectors of zeros, and compares what they answer.
+pub fn plays(
+    rt: &impl Abort,
+    alloc: Global,
+    sectors: usize,
+    depth: u32,
+    rows: &[Row],
+) -> Result<(), Fail> {
+    assert!(rt; sectors <= 131_072);
+    let mut port = port_of(alloc, sectors, depth)?;
+    for (number, row) in rows.iter().enumerate() {
+        goes(rt, alloc, &mut port, number, *row)?;
+    }
+    Ok(())
+}
