@@ -1,0 +1,4 @@
+pub mod SetLemmas
+pub mod PartitionLemmas
+pub mod StepLemmas
+pub mod BoardLemmas

@@ -1,0 +1,4 @@
+pub mod View
+pub mod Partition
+pub mod Steps
+pub mod Board

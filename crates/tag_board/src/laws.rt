@@ -1,0 +1,1 @@
+//! Laws: each function is empty, and its clause holds of all boards.
