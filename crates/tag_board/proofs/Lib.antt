@@ -2,3 +2,4 @@ pub mod SetLemmas
 pub mod PartitionLemmas
 pub mod StepLemmas
 pub mod BoardLemmas
+pub mod LawLemmas

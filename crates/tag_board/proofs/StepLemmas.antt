@@ -42,6 +42,13 @@ kept : (d n : ℕ) (ws : List ℕ) (views : List View) → length ws ≡ 1 → I
 kept d n ws views l p = let w = with_word ws n l in (w.0, subst (λ (m : ℕ). IsPartition d m views) (sym w.1) p)
 
 module _ {S : Type 0} where
+  -- of a seat after a step, its tags and its slots
+  pub tags_after : (m n : Me S View) → m ≡ n → m.0.tags ≡ n.0.tags
+  tags_after m n e = ap (λ (x : Me S View). x.0.tags) e
+
+  pub slots_after : (m n : Me S View) → m ≡ n → m.1 ≡ n.1
+  slots_after m n e = ap (λ (x : Me S View). x.1) e
+
   pub loads : (d slots id : ℕ) (me : Me S View) → me.0.depth ≡ d
       → Allows (IsKept d) slots id me 0 (λ n. n) (Loads (step slots 0 0 0 none) me)
   loads d slots id me e s h homes at lt =

@@ -2,3 +2,4 @@ pub mod View
 pub mod Partition
 pub mod Steps
 pub mod Board
+pub mod Laws

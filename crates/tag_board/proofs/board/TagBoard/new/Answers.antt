@@ -2,6 +2,7 @@ use Rattle.std.proofs.Common.{refl, arith, sym, ap, ◌∙◌, ◌<◌, ◌^◌}
 use Rattle.word_bits.specs.Places.{bits}
 use Rattle.word_bits.proofs.BitsLemmas.{bits_zero}
 use Rattle.tag_board.proofs.PartitionLemmas.{opens}
+use Rattle.tag_board.proofs.StepLemmas.{tags_after, slots_after}
 use Rattle.tag_board.proofs.board.TagBoard.new.Goals as goal
 
 pub of_words-requires : goal.of_words-requires
@@ -11,4 +12,4 @@ of_words-requires g c =
 
 pub invariant_of-result-2 : goal.invariant_of-result-2
 invariant_of-result-2 g c =
-    let me = c.in-Ok.ensures.4 in (bits_zero ∙ sym (ap (λ m. m.0.tags) me), ap (λ m. m.1) me)
+    let me = c.in-Ok.ensures.4 in (bits_zero ∙ sym (tags_after _ _ me), slots_after _ _ me)

@@ -1,6 +1,6 @@
 use Rattle.std.proofs.Common.{rules, sym, ap, ◌∙◌}
 use Rattle.word_bits.proofs.BitsLemmas.{bits_zero}
-use Rattle.tag_board.proofs.StepLemmas.{splits}
+use Rattle.tag_board.proofs.StepLemmas.{tags_after, slots_after, splits}
 use Rattle.tag_board.proofs.board.TagBoard.split.Goals as goal
 
 pub split_seat-place-requires : goal.split_seat-place-requires
@@ -8,4 +8,4 @@ split_seat-place-requires g c = (search rules, search rules, splits _ _ _ _ _)
 
 pub invariant_of-result : goal.invariant_of-result
 invariant_of-result g c =
-    let me = c.split_seat-place.ensures.4 in (bits_zero ∙ sym (ap (λ m. m.0.tags) me), ap (λ m. m.1) me)
+    let me = c.split_seat-place.ensures.4 in (bits_zero ∙ sym (tags_after _ _ me), slots_after _ _ me)
