@@ -21,9 +21,9 @@ holder [] t e = absurd (omega arith)
 holder (x ∷ views) t e =
     ⊎_elim (λ q. (zero, x, refl, q))
     (λ (q : has_place x.tags t ≡ false).
-      let none = once-false x.tags t q in
-      let h = holder views t (omega arith) in
-      (suc h.0, h.1, h.2, h.3))
+    let none = once-false x.tags t q in
+    let h = holder views t (omega arith) in
+    (suc h.0, h.1, h.2, h.3))
     (true_or_false (has_place x.tags t))
 
 held_at : (word : ℕ) (views : List View) (t place : ℕ) (v : View) → once (bits word) t + holders views t ≤ 1 → get_elem? views place ≡ some v → has_place v.tags t ≡ true → IsHeldAt word views t place
@@ -41,12 +41,12 @@ free_or_held_once depth word views t p b =
     let e = p.below t b in
     ⊎_elim
     (λ (q : has_place (bits word) t ≡ true).
-      let one = once-true (bits word) t q in
-      inl (record { here = q; nowhere = in_no_view views t (omega arith) }))
+    let one = once-true (bits word) t q in
+    inl (record { here = q; nowhere = in_no_view views t (omega arith) }))
     (λ (q : has_place (bits word) t ≡ false).
-      let none = once-false (bits word) t q in
-      let h = holder views t (omega arith) in
-      inr (h.0, held_at word views t h.0 h.1 (omega arith) h.2 h.3))
+    let none = once-false (bits word) t q in
+    let h = holder views t (omega arith) in
+    inr (h.0, held_at word views t h.0 h.1 (omega arith) h.2 h.3))
     (true_or_false (has_place (bits word) t))
 
 pub none_from_depth : NoneFromDepth

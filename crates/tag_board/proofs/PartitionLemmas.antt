@@ -94,13 +94,13 @@ joins_views d word views id other v w p at apart at' = record {
 pub opens : (d word : ℕ) → d ≤ 32 → word < 2 ^ 32 → bits word ≡ only_below d all_places → IsPartition d word (blank d ∷ [])
 opens d word l fits e = record {
   below = λ t h.
-    let n = once-false no_places t (has_place-no_places t) in
-    let f = once-true (bits word) t (ap (λ s. has_place s t) e ∙ (has_place-only_below d all_places t h ∙ has_place-all_places t (omega arith))) in
-    omega arith;
+      let n = once-false no_places t (has_place-no_places t) in
+      let f = once-true (bits word) t (ap (λ s. has_place s t) e ∙ (has_place-only_below d all_places t h ∙ has_place-all_places t (omega arith))) in
+      omega arith;
   past = λ t h.
-    let n = once-false no_places t (has_place-no_places t) in
-    let f = once-false (bits word) t (ap (λ s. has_place s t) e ∙ has_place-only_below_past d all_places t h) in
-    omega arith;
+      let n = once-false no_places t (has_place-no_places t) in
+      let f = once-false (bits word) t (ap (λ s. has_place s t) e ∙ has_place-only_below_past d all_places t h) in
+      omega arith;
   fits = fits;
 }
 

@@ -57,29 +57,29 @@ pub tried_stays : (f s : List Bool) (t : ℕ) (had : Bool) → has_place f t ≡
 tried_stays f s t true e l b apart i =
     ⊎_elim
     (λ (q : i ≡ t).
-      let P : ℕ → Type 0 = λ k. once (without_place f t) k + once (with_place s t) k ≡ once f k + once s k in
-      let w = once-false (without_place f t) t (has_place-without_same f t) in
-      let g = once-true (with_place s t) t (has_place-with_same s t (omega arith)) in
-      let h = once-true f t e in
-      let n = once-false s t (apart refl) in
-      let here : P t = omega arith in
-      subst P (sym q) here)
+    let P : ℕ → Type 0 = λ k. once (without_place f t) k + once (with_place s t) k ≡ once f k + once s k in
+    let w = once-false (without_place f t) t (has_place-without_same f t) in
+    let g = once-true (with_place s t) t (has_place-with_same s t (omega arith)) in
+    let h = once-true f t e in
+    let n = once-false s t (apart refl) in
+    let here : P t = omega arith in
+    subst P (sym q) here)
     (λ (q : i ≢ t).
-      let w : once (without_place f t) i ≡ once f i = ap one_if (has_place-without_other f t i q) in
-      let g : once (with_place s t) i ≡ once s i = ap one_if (has_place-with_other s t i q) in
-      omega arith)
+    let w : once (without_place f t) i ≡ once f i = ap one_if (has_place-without_other f t i q) in
+    let g : once (with_place s t) i ≡ once s i = ap one_if (has_place-with_other s t i q) in
+    omega arith)
     (cases_eq i t)
 tried_stays f s t false e l b apart i =
     ⊎_elim
     (λ (q : i ≡ t).
-      let P : ℕ → Type 0 = λ k. once (without_place f t) k + once s k ≡ once f k + once s k in
-      let w = once-false (without_place f t) t (has_place-without_same f t) in
-      let h = once-false f t e in
-      let here : P t = omega arith in
-      subst P (sym q) here)
+    let P : ℕ → Type 0 = λ k. once (without_place f t) k + once s k ≡ once f k + once s k in
+    let w = once-false (without_place f t) t (has_place-without_same f t) in
+    let h = once-false f t e in
+    let here : P t = omega arith in
+    subst P (sym q) here)
     (λ (q : i ≢ t).
-      let w : once (without_place f t) i ≡ once f i = ap one_if (has_place-without_other f t i q) in
-      omega arith)
+    let w : once (without_place f t) i ≡ once f i = ap one_if (has_place-without_other f t i q) in
+    omega arith)
     (cases_eq i t)
 
 -- ---- a tag that is given back
@@ -89,17 +89,17 @@ pub gave_stays : (f s : List Bool) (t : ℕ) → length f ≡ 32 → t < 32 → 
 gave_stays f s t l b free held i =
     ⊎_elim
     (λ (q : i ≡ t).
-      let P : ℕ → Type 0 = λ k. once (with_place f t) k + once (without_place s t) k ≡ once f k + once s k in
-      let w = once-true (with_place f t) t (has_place-with_same f t (omega arith)) in
-      let g = once-false (without_place s t) t (has_place-without_same s t) in
-      let h = once-false f t free in
-      let n = once-true s t held in
-      let here : P t = omega arith in
-      subst P (sym q) here)
+    let P : ℕ → Type 0 = λ k. once (with_place f t) k + once (without_place s t) k ≡ once f k + once s k in
+    let w = once-true (with_place f t) t (has_place-with_same f t (omega arith)) in
+    let g = once-false (without_place s t) t (has_place-without_same s t) in
+    let h = once-false f t free in
+    let n = once-true s t held in
+    let here : P t = omega arith in
+    subst P (sym q) here)
     (λ (q : i ≢ t).
-      let w : once (with_place f t) i ≡ once f i = ap one_if (has_place-with_other f t i q) in
-      let g : once (without_place s t) i ≡ once s i = ap one_if (has_place-without_other s t i q) in
-      omega arith)
+    let w : once (with_place f t) i ≡ once f i = ap one_if (has_place-with_other f t i q) in
+    let g : once (without_place s t) i ≡ once s i = ap one_if (has_place-without_other s t i q) in
+    omega arith)
     (cases_eq i t)
 
 -- ---- two sets that have no tag in common
@@ -122,9 +122,9 @@ pub same_bit : (t u : ℕ) → 2 ^ t ≡ 2 ^ u → t ≡ u
 same_bit t u e =
     ⊎_elim (λ q. q)
     (λ (q : t ≢ u).
-      let one = bit_at-pow_same t in
-      let none : bit_at (2 ^ t) t ≡ 0 = ap (λ n. bit_at n t) e ∙ bit_at-pow_other u t q in
-      absurd (omega arith))
+    let one = bit_at-pow_same t in
+    let none : bit_at (2 ^ t) t ≡ 0 = ap (λ n. bit_at n t) e ∙ bit_at-pow_other u t q in
+    absurd (omega arith))
     (cases_eq t u)
 
 pub same_mask : (t u : ℕ) → t < 32 → u < 32 → bit_not w32 (2 ^ t) ≡ bit_not w32 (2 ^ u) → t ≡ u

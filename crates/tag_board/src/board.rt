@@ -89,6 +89,7 @@ impl<A: Allocator> TagBoard<A> {
     }
 
     /// Tries the tags from 0 upwards, one step each, and takes the first that was free when it was tried.
+    #[tactic(auto, using(crate::proofs::BoardLemmas::missed_none, crate::proofs::BoardLemmas::missed_next))]
     pub fn claim(&self, seat: &mut TagSeat) -> Result<u8, Full>
         requires { seat.old.board ≡ self.now }
         ensures board { seat.new.board ≡ seat.old.board }
