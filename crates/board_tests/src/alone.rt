@@ -60,7 +60,7 @@ fn two_seats_claim_in_turn_until_the_board_is_full(rt: HostRuntime) -> Result<()
     static LATER: [(Step, u32); 4] = [
         (Claim, FULL),
         (Look, 0),
-        (Give(16), 0x5554_5555),
+        (Give(16), 0x5556_5555),
         (Look, 0x1_0000),
     ];
     let (board, mut first) = TagBoard::new(rt.alloc(), 32)?;

@@ -1,5 +1,5 @@
 -- Where one tag is, read off the counts of a partition.
-use Rattle.std.proofs.Common.{◌≡◌, ◌≢◌, ℕ, zero, suc, ◌+◌, ◌<◌, ◌≤◌, ◌⊎◌, inl, inr, ⊎_elim, true, false, List, [], ◌∷◌, length, sym, ◌∙◌, refl, ap, subst, arith}
+use Rattle.std.proofs.Common.{◌≡◌, ℕ, zero, suc, ◌+◌, ◌≤◌, inl, inr, ⊎_elim, true, false, List, [], ◌∷◌, ◌∙◌, refl, ap, subst, arith}
 use mathlib.Core.Option.{some}
 use lib.ListN.{get_elem?}
 use Rattle.word_bits.specs.Places.{bits, has_place}
@@ -7,10 +7,10 @@ use Rattle.tag_board.specs.declared.finding.Finding.{Finding}
 use Rattle.tag_board.specs.declared.finding.Finding.TheVariants.{Tried}
 use Rattle.tag_board.specs.declared.view.View.{View}
 use Rattle.tag_board.specs.View.{missed}
-use Rattle.tag_board.specs.Partition.{once, holders, IsPartition, Stands}
-use Rattle.tag_board.specs.Laws.{InNoView, IsFree, IsHeldAt, FreeOrHeldOnce, NoneFromDepth, HeldAlone, FreeInNoView, EachTried, TriedOnce, TakenIsHeld}
+use Rattle.tag_board.specs.Partition.{once, holders}
+use Rattle.tag_board.specs.Laws.{InNoView, IsHeldAt, FreeOrHeldOnce, NoneFromDepth, HeldAlone, FreeInNoView, EachTried, TriedOnce, TakenIsHeld}
 use Rattle.tag_board.proofs.SetLemmas.{once-true, once-false, has_not, true_or_false}
-use Rattle.tag_board.proofs.PartitionLemmas.{holders-at, two-at, at_most_once, stands_apart}
+use Rattle.tag_board.proofs.PartitionLemmas.{holders-at, two-at, at_most_once}
 
 in_no_view : (views : List View) (t : ℕ) → holders views t ≡ 0 → InNoView views t
 in_no_view views t none place v at = let h = holders-at views place v t at in has_not v.tags t (omega arith)

@@ -1,15 +1,15 @@
 -- The partition when one view changes, when a view comes, and when two are joined.
-use Rattle.std.proofs.Common.{◌≡◌, ◌≢◌, ℕ, zero, suc, ◌+◌, ◌^◌, ◌<◌, ◌≤◌, Bool, true, false, List, [], ◌∷◌, ◌++◌, length, set, sym, ◌∙◌, refl, ap, subst, ⊎_elim, arith}
+use Rattle.std.proofs.Common.{◌≡◌, ◌≢◌, ℕ, zero, suc, ◌+◌, ◌^◌, ◌<◌, ◌≤◌, true, false, List, [], ◌∷◌, ◌++◌, length, set, sym, ◌∙◌, ap, ⊎_elim, arith}
 use mathlib.Core.Option.{some, some-injective, some-ne-none}
 use lib.ListN.{get_elem?}
 use Rattle.std.proofs.lemmas.Bool.{cases_lt}
 use Rattle.word_bits.specs.Places.{bits, has_place, no_places, only_below, all_places}
 use Rattle.word_bits.proofs.PlacesLemmas.{has_place-no_places, has_place-all_places, has_place-only_below, has_place-only_below_past}
-use Rattle.atomic_table.proofs.Lists.{set_here, set_else}
+use Rattle.atomic_table.proofs.Lists.{set_else}
 use Rattle.tag_board.specs.declared.view.View.{View}
 use Rattle.tag_board.specs.View.{blank, spent, joined}
 use Rattle.tag_board.specs.Partition.{once, holders, IsPartition, Stands}
-use Rattle.tag_board.proofs.SetLemmas.{once-true, once-false, once-lt, has_not, has, once-union}
+use Rattle.tag_board.proofs.SetLemmas.{once-true, once-false, has_not, once-union}
 
 pub at-lt : (views : List View) (id : ℕ) (v : View) → get_elem? views id ≡ some v → id < length views
 at-lt [] id v at = absurd (some-ne-none v (sym at))

@@ -1,11 +1,11 @@
 -- What the table asks of each kind of step.
-use Rattle.std.proofs.Common.{◌≡◌, ◌≢◌, ℕ, ◌+◌, ◌^◌, ◌<◌, ◌≤◌, Bool, true, false, List, [], ◌∷◌, ◌++◌, length, get_or, set, bit_and, bit_or, sym, ◌∙◌, refl, ap, subst, arith, length-set, get_or-set_same, ⊎_elim, true≢false}
+use Rattle.std.proofs.Common.{◌≡◌, ℕ, ◌+◌, ◌^◌, ◌<◌, Bool, true, false, List, [], ◌∷◌, ◌++◌, length, get_or, set, bit_and, bit_or, sym, ◌∙◌, refl, ap, subst, arith, length-set, get_or-set_same, ⊎_elim, true≢false}
 use mathlib.Core.Option.{none, some, some-injective, some-ne-none}
 use lib.ListN.{get_elem?}
 use Rattle.std.specs.Int.{w32, bit_not}
 use Rattle.word_bits.specs.Places.{bits, has_place, without_place, with_place}
 use Rattle.word_bits.proofs.BitsLemmas.{length-bits}
-use Rattle.atomic_table.specs.Table.{State, Me, step, keeps, Allows, Splits, Joins, Final, Seen}
+use Rattle.atomic_table.specs.Table.{Me, step, keeps, Allows, Splits, Joins, Final, Seen}
 use Rattle.atomic_table.proofs.Lists.{set_here, set_again}
 use Rattle.tag_board.specs.declared.view.View.{View}
 use Rattle.tag_board.specs.View.{blank, spent, joined, after_seen, after_tried, after_gave}

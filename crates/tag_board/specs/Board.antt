@@ -1,5 +1,5 @@
 -- A board and a seat as contracts see them.
-use Rattle.std.specs.Prelude.{◌≡◌, ℕ, ◌<◌, ◌≤◌, Bool, false, true, List, []}
+use Rattle.std.specs.Prelude.{◌≡◌, ℕ, ◌≤◌, Bool, false, true, List, []}
 use Rattle.word_bits.specs.Places.{bits, has_place, no_places}
 use Rattle.atomic_table.specs.Seated.{TableId}
 use Rattle.tag_board.specs.declared.finding.Finding.{Finding}

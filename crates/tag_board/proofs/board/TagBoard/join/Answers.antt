@@ -1,4 +1,4 @@
-use Rattle.std.proofs.Common.{rules, sym, ap, ◌∙◌}
+use Rattle.std.proofs.Common.{rules, sym, ◌∙◌}
 use Rattle.tag_board.proofs.SetLemmas.{bits_union}
 use Rattle.tag_board.proofs.StepLemmas.{tags_after, slots_after, joins}
 use Rattle.tag_board.proofs.board.TagBoard.join.Goals as goal

@@ -1,4 +1,4 @@
-use Rattle.std.proofs.Common.{rules, sym, ap, ◌∙◌}
+use Rattle.std.proofs.Common.{rules, sym, ◌∙◌}
 use Rattle.word_bits.proofs.BitsLemmas.{bits_zero}
 use Rattle.tag_board.proofs.StepLemmas.{tags_after, slots_after, splits}
 use Rattle.tag_board.proofs.board.TagBoard.split.Goals as goal

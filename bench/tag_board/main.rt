@@ -118,10 +118,10 @@ fn four_on_mutex<R: Threads + Wait + Sync>(rt: &R, free: &Mutex<u32>, rounds: u6
     );
 }
 
-fn shows(rt: &impl Print, what: &str, threads: u128, took: Duration) -> io::Result<()> {
-    let each = took.as_micros().max(1);
-    let all = threads * u128::from(ROUNDS) / each;
-    println!(rt; "{what} {threads} threads: {all} claims and returns a microsecond, {each} microseconds")
+fn shows(rt: &impl Print, what: &str, threads: u8, took: Duration) -> io::Result<()> {
+    let micros = took.as_micros().max(1);
+    let thousands = u128::from(threads) * u128::from(ROUNDS) * 1_000 / micros;
+    println!(rt; "{what}, threads {threads}: {thousands} thousand claims and returns a second")
 }
 
 fn main(rt: HostRuntime) -> io::Result<()> {
