@@ -26,7 +26,8 @@ holder (x ∷ views) t e =
     (suc h.0, h.1, h.2, h.3))
     (true_or_false (has_place x.tags t))
 
-held_at : (word : ℕ) (views : List View) (t place : ℕ) (v : View) → once (bits word) t + holders views t ≤ 1 → get_elem? views place ≡ some v → has_place v.tags t ≡ true → IsHeldAt word views t place
+held_at : (word : ℕ) (views : List View) (t place : ℕ) (v : View) → once (bits word) t + holders views t ≤ 1 → get_elem? views place ≡ some v
+    → has_place v.tags t ≡ true → IsHeldAt word views t place
 held_at word views t place v few at has =
     let one = once-true v.tags t has in
     let h = holders-at views place v t at in

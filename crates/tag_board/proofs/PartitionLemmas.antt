@@ -36,7 +36,8 @@ holders-more [] w t = omega arith
 holders-more (x ∷ views) w t = let h = holders-more views w t in omega arith
 
 -- two views at different places have no tag in common
-pub two-at : (views : List View) (id other : ℕ) (v w : View) (t : ℕ) → other ≢ id → get_elem? views id ≡ some v → get_elem? views other ≡ some w → once v.tags t + once w.tags t ≤ holders views t
+pub two-at : (views : List View) (id other : ℕ) (v w : View) (t : ℕ) → other ≢ id → get_elem? views id ≡ some v → get_elem? views other ≡ some w
+    → once v.tags t + once w.tags t ≤ holders views t
 two-at views id other v w t apart at at' =
     let left = set views id spent in
     let there : get_elem? left other ≡ some w = set_else views id other spent apart ∙ at' in
