@@ -1,0 +1,222 @@
+//! Threads over one board. A second table of owners, apart from the board, notes where two hands have one tag.
+ghost use Rattle.std.specs.Prelude.{◌≡◌};
+ghost use denote.Param.Send.{IsSync};
+
+use std::alloc::{AllocError, Global};
+use std::process::Abort;
+use std::sync::atomic::AtomicU64;
+use std::sync::atomic::Ordering::SeqCst;
+use std::test::Fail;
+use std::thread;
+use std::thread::{Threads, join};
+use tag_board::{Full, TagBoard, TagSeat};
+
+/// Who has which tag, counted beside the board.
+#[derive(Drop)]
+struct Owners {
+    tags: Vec<AtomicU64>,
+    clashes: AtomicU64,
+    claims: AtomicU64,
+}
+
+impl Owners {
+    fn new(alloc: Global) -> Result<Self, AllocError> {
+        let mut tags = Vec::new(alloc);
+        for _ in 0..32u8 {
+            tags.push(AtomicU64::new(0))?;
+        }
+        let clashes = AtomicU64::new(0);
+        let claims = AtomicU64::new(0);
+        Ok(Owners {
+            tags,
+            clashes,
+            claims,
+        })
+    }
+
+    fn take(&self, tag: u8) {
+        self.claims.fetch_add(1, SeqCst);
+        match self.tags.get(usize::from(tag)) {
+            Some(owners) if owners.fetch_add(1, SeqCst) == 0 => {}
+            _ => {
+                self.clashes.fetch_add(1, SeqCst);
+            }
+        }
+    }
+
+    fn leave(&self, tag: u8) {
+        if let Some(owners) = self.tags.get(usize::from(tag)) {
+            owners.fetch_sub(1, SeqCst);
+        }
+    }
+}
+
+/// What each thread does: so many claims, within so many tries.
+#[derive(Clone, Copy)]
+struct Work {
+    claims: u32,
+    tries: u32,
+}
+
+/// Claims a tag and gives it back, over and over. A thread that meets `Full` lets others go on and tries again.
+fn works(board: &TagBoard, mut seat: TagSeat, owners: &Owners, work: Work) -> TagSeat
+    requires { seat.board ≡ board.now }
+    ensures { result.board ≡ board.now }
+{
+    let mut left = work.claims;
+    for _ in 0..work.tries {
+        if left == 0 {
+            break;
+        }
+        match board.claim(&mut seat) {
+            Ok(tag) => {
+                owners.take(tag);
+                owners.leave(tag);
+                board.give_back(&mut seat, tag);
+                left -= 1;
+            }
+            Err(Full) => thread::yield_now(),
+        }
+    }
+    seat
+}
+
+fn two<R: Threads + Sync>(
+    rt: &R,
+    board: &TagBoard,
+    mut seat: TagSeat,
+    owners: &Owners,
+    work: Work,
+) -> TagSeat
+    requires { seat.board ≡ board.now }
+    ensures { result.board ≡ board.now }
+{
+    let other = board.split(&mut seat);
+    let (mut seat, other) = join(
+        rt,
+        move || -> TagSeat
+            requires { seat.board ≡ board.now }
+            ensures { result.board ≡ board.entry.now }
+        { works(board, seat, owners, work) },
+        move || -> TagSeat
+            requires { other.board ≡ board.now }
+            ensures { result.board ≡ board.entry.now }
+        { works(board, other, owners, work) },
+    );
+    board.join(&mut seat, other);
+    seat
+}
+
+fn three<R: Threads + Sync>(
+    rt: &R,
+    board: &TagBoard,
+    mut seat: TagSeat,
+    owners: &Owners,
+    work: Work,
+) -> TagSeat
+    requires { seat.board ≡ board.now }
+    ensures { result.board ≡ board.now }
+{
+    let other = board.split(&mut seat);
+    let (mut seat, other) = join(
+        rt,
+        move || -> TagSeat
+            requires { seat.board ≡ board.now }
+            ensures { result.board ≡ board.entry.now }
+        { works(board, seat, owners, work) },
+        move || -> TagSeat
+            requires { IsSync R.row × (other.board ≡ board.now) }
+            ensures { result.board ≡ board.entry.now }
+        { two(rt, board, other, owners, work) },
+    );
+    board.join(&mut seat, other);
+    seat
+}
+
+fn four<R: Threads + Sync>(
+    rt: &R,
+    board: &TagBoard,
+    mut seat: TagSeat,
+    owners: &Owners,
+    work: Work,
+) -> TagSeat
+    requires { seat.board ≡ board.now }
+    ensures { result.board ≡ board.now }
+{
+    let other = board.split(&mut seat);
+    let (mut seat, other) = join(
+        rt,
+        move || -> TagSeat
+            requires { IsSync R.row × (seat.board ≡ board.now) }
+            ensures { result.board ≡ board.entry.now }
+        { two(rt, board, seat, owners, work) },
+        move || -> TagSeat
+            requires { IsSync R.row × (other.board ≡ board.now) }
+            ensures { result.board ≡ board.entry.now }
+        { two(rt, board, other, owners, work) },
+    );
+    board.join(&mut seat, other);
+    seat
+}
+
+fn eight<R: Threads + Sync>(
+    rt: &R,
+    board: &TagBoard,
+    mut seat: TagSeat,
+    owners: &Owners,
+    work: Work,
+) -> TagSeat
+    requires { seat.board ≡ board.now }
+    ensures { result.board ≡ board.now }
+{
+    let other = board.split(&mut seat);
+    let (mut seat, other) = join(
+        rt,
+        move || -> TagSeat
+            requires { IsSync R.row × (seat.board ≡ board.now) }
+            ensures { result.board ≡ board.entry.now }
+        { four(rt, board, seat, owners, work) },
+        move || -> TagSeat
+            requires { IsSync R.row × (other.board ≡ board.now) }
+            ensures { result.board ≡ board.entry.now }
+        { four(rt, board, other, owners, work) },
+    );
+    board.join(&mut seat, other);
+    seat
+}
+
+fn equal(rt: &impl Abort, found: u64, wanted: u64) {
+    assert!(rt; found == wanted, "{found}, not {wanted}");
+}
+
+#[test]
+fn three_threads_claim_a_thousand_times_each(rt: HostRuntime) -> Result<(), Fail> {
+    let owners = Owners::new(rt.alloc())?;
+    let work = Work {
+        claims: 1_000,
+        tries: 1_001_000,
+    };
+    let (board, seat) = TagBoard::new(rt.alloc(), 3)?;
+    let seat = three(&rt, &board, seat, &owners, work);
+    equal(&rt, owners.claims.load(SeqCst), 3_000);
+    equal(&rt, owners.clashes.load(SeqCst), 0);
+    equal(&rt, u64::from(seat.held()), 0);
+    equal(&rt, u64::from(board.close(seat)), 7);
+    Ok(())
+}
+
+#[test]
+fn eight_threads_over_five_tags_never_share_one(rt: HostRuntime) -> Result<(), Fail> {
+    let owners = Owners::new(rt.alloc())?;
+    let work = Work {
+        claims: 1_000,
+        tries: 1_000,
+    };
+    let (board, seat) = TagBoard::new(rt.alloc(), 5)?;
+    let seat = eight(&rt, &board, seat, &owners, work);
+    assert!(rt; owners.claims.load(SeqCst) > 0);
+    equal(&rt, owners.clashes.load(SeqCst), 0);
+    equal(&rt, u64::from(seat.held()), 0);
+    equal(&rt, u64::from(board.close(seat)), 31);
+    Ok(())
+}
