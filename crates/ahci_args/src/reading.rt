@@ -22,14 +22,32 @@ const REPLAY_LONG_ABOUT: &str = "Read a script on standard input, and answer it 
 Each line is one command, and each command has one line as its answer.";
 
 const REPLAY_HELP: &str = "Commands of a script:
-  disk S D         a disk of S sectors of zeros, and D slots
+  disk S D         a disk of S sectors of zeros, and D slots: the first command
   write T LBA N BB issue a write of N sectors of the byte BB with tag T
   read T LBA N     issue a read of N sectors with tag T
   accept T         the device takes the command of tag T
   serve T          the device moves the data of tag T, and completes it
+  fail T EE LBA    the device fails the command of tag T at a sector, with error EE
   collect T K      take the answer of the request with number K
+  recover          end an error, and hold all commands that it has stopped
+  reissue T        issue the held command of tag T again
+  identify W       word W of the disk's identify page
+  flush            flush the disk's cache
+  reg OFF          the register at the offset OFF
+  ack MASK         clear the bits of MASK in PxIS
   show LBA         a sector of the disk, by its first byte
   journal          how many entries the journal has
+
+S, D, T, LBA, N, K and W are decimal numbers. BB and EE are two hexadecimal digits,
+OFF and MASK one to eight. An empty line, and a line that begins with #, is skipped.
+A command that the port refuses changes nothing: its answer is 'refused' and a name,
+and the script goes on.
+
+Exit status:
+  0  the input ended
+  1  a line was not understood or stood where it may not, or input or output failed
+  2  the command line was wrong
+  3  the system gave no memory
 
 Example:
   printf 'disk 8 4\\nwrite 0 3 1 aa\\naccept 0\\nserve 0\\ncollect 0 0\\n' | ahci replay";

@@ -1,9 +1,5 @@
-//! Scripts on a port: what `ahci replay` does, over any reader and writer.
+//! What the program `ahci` calls: the command line, and scripts.
 #![tactic(auto)]
 
-mod fault;
-mod replaying;
-
 pub use ahci_args::{Asked, asked, not_text};
-pub use fault::CliFault;
-pub use replaying::replay;
+pub use ahci_replay::{CliFault, replay};

@@ -1,7 +1,7 @@
 //! Runs each script of the examples, and compares what it writes with the text that stands beside it.
 #![tactic(auto)]
 
-use ahci_cli::replay;
+use ahci_replay::replay;
 use std::fs;
 use std::rt::Files;
 

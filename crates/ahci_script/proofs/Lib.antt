@@ -1,3 +1,2 @@
 pub mod DecimalLemmas
-pub mod HexTextLemmas
 pub mod HexValueLemmas

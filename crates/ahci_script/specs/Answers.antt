@@ -1,8 +1,7 @@
 -- The answers of a script, as they are written.
-use Rattle.std.specs.Prelude.{ℕ, zero, suc, ◌*◌, ◌/◌, ◌%◌, List, [], ◌∷◌, ◌++◌, length, slice_index, codes, false}
+use Rattle.std.specs.Prelude.{ℕ, zero, suc, ◌+◌, ◌*◌, ◌/◌, ◌%◌, List, [], ◌∷◌, ◌++◌, length, slice_index, codes, false}
 use Rattle.std.specs.Fmt.{decimal, digit_glyph}
-use Rattle.ahci_script.specs.declared.answer.Answer.{Answer}
-use Rattle.ahci_script.specs.declared.answer.Answer.TheVariants.{Disk, Issued, Accepted, Completed, FailedStep, Wrote, Read, Failed, Recovered, Reissued, Register, Acked, Word, Flushed, Sector, Journal, Refused}
+use Rattle.ahci_script.specs.Said.{Said, Disk, Issued, Accepted, Completed, FailedStep, Wrote, Read, Failed, Recovered, Reissued, Register, Acked, Word, Flushed, Sector, Journal, Refused}
 use Rattle.ahci_script.specs.declared.refusal.Refusal.{Refusal}
 use Rattle.ahci_script.specs.declared.refusal.Refusal.TheVariants.{BadSize, BadDepth, BadCount, BadLba, NoSuchTag, SlotOwned, Halted, NotIssued, NotAccepted, OutsideCommand, NotHalted, NotHeld, QueueBusy, Stranger, NotYet, Unaligned, NoSuchRegister, NoSuchSector}
 
@@ -42,19 +41,15 @@ name_of Unaligned = codes "Unaligned"
 name_of NoSuchRegister = codes "NoSuchRegister"
 name_of NoSuchSector = codes "NoSuchSector"
 
--- a finished read: its entry and its sectors
-abbrev pub read_text : ℕ → List ℕ → List ℕ
-read_text entry bytes = codes "read " ++ (decimal entry ++ sectors_text bytes (length bytes / 512))
-
 -- an answer, without its line feed
-abbrev pub answer_text : Answer → List ℕ
+abbrev pub answer_text : Said → List ℕ
 answer_text (Disk sectors depth) = codes "disk " ++ (decimal sectors ++ (codes " " ++ decimal depth))
 answer_text (Issued entry) = codes "issued " ++ decimal entry
 answer_text (Accepted entry) = codes "accepted " ++ decimal entry
 answer_text (Completed entry) = codes "completed " ++ decimal entry
 answer_text (FailedStep entry) = codes "failed " ++ decimal entry
 answer_text (Wrote entry) = codes "wrote " ++ decimal entry
-answer_text (Read entry bytes) = read_text entry bytes.now
+answer_text (Read entry bytes) = codes "read " ++ (decimal entry ++ sectors_text bytes (length bytes / 512))
 answer_text (Failed entry error lba) =
     codes "failed " ++ (decimal entry ++ (codes " " ++ (hex_of 2 error ++ (codes " " ++ decimal lba))))
 answer_text (Recovered tag) = codes "recovered " ++ decimal tag
@@ -66,3 +61,8 @@ answer_text Flushed = codes "flushed"
 answer_text (Sector lba byte) = codes "sector " ++ (decimal lba ++ (codes " " ++ hex_of 2 byte))
 answer_text (Journal entries) = codes "journal " ++ decimal entries
 answer_text (Refused refusal) = codes "refused " ++ name_of refusal
+
+-- how many bytes its line has at most
+abbrev pub room_of : Said → ℕ
+room_of (Read entry bytes) = 64 + 3 * (length bytes / 512)
+room_of said = 64

@@ -7,6 +7,7 @@ mod line;
 mod number;
 mod output;
 mod refusal;
+mod text;
 mod words;
 
 pub use answer::Answer;

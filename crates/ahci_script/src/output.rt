@@ -1,8 +1,10 @@
-ghost use Rattle.std.specs.Prelude.{◌≡◌, ◌∷◌, ◌++◌, ◌↔◌, ◌≤◌, ℕ, [], IfOk, IsTrue, OnErr, OnOk, length, take};
+ghost use Rattle.std.specs.Prelude.{◌≡◌, ◌∷◌, ◌++◌, ◌↔◌, ◌≤◌, ℕ, [], IsTrue, OnErr, OnOk, length, take};
 ghost use Rattle.std.specs.Io.KnownBytes.{Appends};
 ghost use Rattle.ahci_script.specs.Answers.{answer_text};
+ghost use Rattle.ahci_script.specs.Said.{said};
 
 use crate::answer::Answer;
+use crate::text::{push_line, room_for};
 use std::alloc::{AllocError, Allocator, Global};
 use std::io::Write;
 use std::marker::Model;
@@ -17,30 +19,25 @@ pub struct OutputFailed;
 /// The answers that wait for the output, as text. Each ends in a line feed.
 #[derive(Drop)]
 pub struct Output<A: Allocator = Global> {
-    waiting: String<A>,
-    line: String<A>,
+    waiting: Vec<u8, A>,
 }
 
 impl<A: Allocator> Model for Output<A> {
     ghost use Rattle.std.specs.Prelude.{List, ℕ};
-    ghost use Rattle.std.specs.String.{string_bytes};
 
     ghost Value = { List ℕ };
 
-    ghost view = { λ o. string_bytes o.waiting };
+    ghost view = { λ o. o.waiting.items };
 }
 
 impl<A: Allocator> Output<A> {
     /// No answer waits.
-    pub fn new(alloc: A) -> Result<Self, AllocError>
-    where
-        A: Clone,
-        ensures { IfOk result (λ o. o ≡ []) }
+    pub fn new(alloc: A) -> Self
+        ensures { result ≡ [] }
     {
-        Ok(Output {
-            waiting: String::new(alloc.clone()?),
-            line: String::new(alloc),
-        })
+        Output {
+            waiting: Vec::new(alloc),
+        }
     }
 
     /// Whether enough text waits to be sent.
@@ -50,14 +47,15 @@ impl<A: Allocator> Output<A> {
         self.waiting.len() >= FULL
     }
 
-    /// Appends an answer and its line feed. After a refused growth no byte of it waits.
-    pub fn put(&mut self, answer: &Answer<'_>) -> Result<(), AllocError>
-        ensures ok { OnOk result (self.new ≡ self.old ++ (answer_text answer.now ++ 10 ∷ [])) }
+    /// Appends an answer's text and its line feed. Room for both is asked for first, so after a refused growth no byte of
+    /// them waits.
+    pub fn put<B: Allocator>(&mut self, answer: &Answer<B>) -> Result<(), AllocError>
+        ensures ok { OnOk result (self.new ≡ self.old ++ (answer_text (said answer.now) ++ 10 ∷ [])) }
         ensures err { OnErr result (self.new ≡ self.old) }
     {
-        self.line.clear();
-        writeln!(self.line, "{answer}")?;
-        self.waiting.push_str(self.line.as_str())
+        self.waiting.reserve(room_for(answer))?;
+        push_line(&mut self.waiting, answer);
+        Ok(())
     }
 
     /// Writes all that waits, and flushes. After a failure some first part of it was written.
@@ -68,7 +66,7 @@ impl<A: Allocator> Output<A> {
         ensures part { OnErr result
             ((n : ℕ) × Appends (W.contents writer.old) (W.contents writer.new) (take n self.old)) }
     {
-        write_whole(writer, self.waiting.as_bytes())?;
+        write_whole(writer, &self.waiting)?;
         self.waiting.clear();
         Ok(())
     }

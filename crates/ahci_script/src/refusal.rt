@@ -1,4 +1,4 @@
-ghost use Rattle.std.specs.Prelude.{◌≡◌};
+ghost use Rattle.std.specs.Prelude.{◌≡◌, ◌≤◌, length};
 ghost use Rattle.ahci_script.specs.Answers.{name_of};
 
 /// Why a call refused what a line asked for. The script goes on.
@@ -26,7 +26,8 @@ pub enum Refusal {
 
 /// The refusal's name, as a script's answer shows it.
 pub fn name(refusal: Refusal) -> &'static str
-    ensures { result.now ≡ name_of refusal }
+    ensures name { result.now ≡ name_of refusal }
+    ensures short { length result.now ≤ 20 }
 {
     match refusal {
         Refusal::BadSize => "BadSize",

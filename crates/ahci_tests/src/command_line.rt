@@ -89,3 +89,34 @@ fn help_and_wrong_words_are_told_in_clap_s_words(rt: HostRuntime) -> Result<(), 
     equal(&rt, WRONG.len(), &error.kind(), &ErrorKind::InvalidValue);
     Ok(())
 }
+
+/// The commands of a script, as help shows them.
+static COMMANDS: [&str; 15] = [
+    "disk S D",
+    "write T LBA N BB",
+    "read T LBA N",
+    "accept T",
+    "serve T",
+    "fail T EE LBA",
+    "collect T K",
+    "recover",
+    "reissue T",
+    "identify W",
+    "flush",
+    "reg OFF",
+    "ack MASK",
+    "show LBA",
+    "journal",
+];
+
+#[test]
+fn help_has_a_line_for_each_command_of_a_script(rt: HostRuntime) -> Result<(), Fail> {
+    let line = words(rt.alloc(), "ahci replay --help")?;
+    let error = asked(rt.alloc(), line.as_slice()).err().ok_or("asked")?;
+    let text = format!(in rt.alloc(); "{error}")?;
+    for command in COMMANDS {
+        let shown = format!(in rt.alloc(); "\n  {command} ")?;
+        assert!(rt; text.as_str().contains(shown.as_str()), "{command}");
+    }
+    Ok(())
+}

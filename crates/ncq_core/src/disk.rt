@@ -24,6 +24,12 @@ use std::alloc::{Allocator, Global};
 use std::marker::Model;
 use word_bits::with_bit;
 
+/// How many sectors of 512 bytes a disk has at most.
+pub const MAX_SECTORS: u32 = 131_072;
+
+/// How many slots a disk has at most.
+pub const MAX_DEPTH: u32 = 32;
+
 /// A queueing disk over an image in memory (ACS-3, "Native Command Queuing feature set"). Commands are taken by their
 /// FISes, and served or failed in any order. Contracts see a `DiskState`, of which `IsDisk` holds.
 #[derive(Drop)]
@@ -57,10 +63,10 @@ impl<A: Allocator> Disk<A> {
         ensures err { IfErr result (λ e. new_fault image.items depth ≡ Some e) }
     {
         let len = image.len();
-        if len == 0 || len % 512 != 0 || len / 512 > 131_072 {
+        if len == 0 || len % 512 != 0 || len / 512 > MAX_SECTORS as usize {
             return Err(DiskFault::BadSize);
         }
-        if depth == 0 || depth > 32 {
+        if depth == 0 || depth > MAX_DEPTH {
             return Err(DiskFault::BadDepth);
         }
         Ok(Disk {

@@ -13,6 +13,12 @@ use crate::request::request_of;
 use crate::sector::is_covered;
 use std::alloc::Allocator;
 
+/// How many sectors a command has at most.
+pub const MAX_COUNT: u32 = 256;
+
+/// Every LBA of a command is below this.
+pub const LBA_LIMIT: u64 = 1 << 48;
+
 /// Whether a command can be issued: 1 to 256 whole sectors from a 48-bit LBA on.
 pub fn is_proper<A: Allocator>(op: &Op<A>) -> bool
     ensures { IsTrue result ↔ IsProper (work_of op.now) }
@@ -21,7 +27,7 @@ pub fn is_proper<A: Allocator>(op: &Op<A>) -> bool
         Op::Read { .. } => true,
         Op::Write { bytes, .. } => bytes.as_slice().len() % 512 == 0,
     };
-    whole && op.sectors() >= 1 && op.sectors() <= 256 && op.lba() < 1 << 48
+    whole && op.sectors() >= 1 && op.sectors() <= u64::from(MAX_COUNT) && op.lba() < LBA_LIMIT
 }
 
 fn may_issue<A: Allocator>(depth: u32, past: &[Event<A>], tag: u8, op: &Op<A>) -> bool

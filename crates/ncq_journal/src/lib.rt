@@ -24,7 +24,7 @@ pub use bytes::Bytes;
 pub use event::Event;
 pub use halted::{is_busy, is_halted};
 pub use journal::{Journal, entry_in};
-pub use lawful::{is_allowed, is_lawful, is_proper};
+pub use lawful::{LBA_LIMIT, MAX_COUNT, is_allowed, is_lawful, is_proper};
 pub use op::Op;
 pub use outcome::Outcome;
 pub use owed::owed_by;

@@ -1,0 +1,71 @@
+-- Lemmas about what a line adds.
+use Rattle.std.proofs.Common.{◌≡◌, ℕ, Bool, true, false, cond, List, [], ◌++◌, Option, Some, None, Result, Ok, Err, IfErr, OnOk, refl, sym, ap, ◌∙◌, append-nil}
+use Rattle.std.specs.Option.{option_and_then}
+use Rattle.ahci_port.specs.PortView.{PortView}
+use Rattle.ahci_script.specs.Lines.{line_of}
+use Rattle.ahci_script.specs.declared.line.Command.{Command}
+use Rattle.ahci_script.specs.declared.line.Line.TheVariants as line
+use Rattle.ahci_replay.specs.Commands.{is_in_place}
+use Rattle.ahci_replay.specs.Transcript.{Grown, HasRun, IsCommandFault, IsLineFault, placed, placed_by}
+use Rattle.ahci_replay.specs.declared.fault.CliFault.{CliFault}
+use Rattle.ahci_replay.specs.declared.fault.CliFault.TheVariants.{Line, Job, Read, Write, Unsettled, Lost, OutOfMemory}
+
+-- a skipped line adds nothing
+pub skip_grown : (port : Option PortView) (text old : List ℕ) → line_of text ≡ Some line.Skip → Grown port text port old old
+skip_grown port text old is = record {
+  spelled = line.Skip;
+  is = ap (option_and_then (placed_by port)) is;
+  added = [];
+  ran = (refl, refl);
+  grown = sym (append-nil old);
+}
+
+-- a line with a command may stand where its command may
+command_placed : (port : Option PortView) (text : List ℕ) (command : Command) → line_of text ≡ Some (line.Run command) → placed port text ≡ cond (is_in_place port command) (Some (line.Run command)) None
+command_placed port text command is = ap (option_and_then (placed_by port)) is
+
+-- a command adds its answer
+run_grown : (port port' : Option PortView) (text old new : List ℕ) (command : Command) → line_of text ≡ Some (line.Run command) → is_in_place port command ≡ true → (added : List ℕ) × HasRun port command port' added × (new ≡ old ++ added) → Grown port text port' old new
+run_grown port port' text old new command is may ran = record {
+  spelled = line.Run command;
+  is = command_placed port text command is ∙ ap (λ b. cond b (Some (line.Run command)) None) may;
+  added = ran.0;
+  ran = ran.1;
+  grown = ran.2;
+}
+
+abbrev well : Unit {0} → Result (Unit {0}) CliFault
+well x = Ok x
+
+-- what went well was in place
+in_place : (b : Bool) (x : Unit {0}) (fault : CliFault) → (b ≡ false → well x ≡ Err fault) → b ≡ true
+in_place true x fault out = refl
+in_place false x fault out = let told : well x ≡ Err fault = out refl in cc
+
+-- the same of a result: where the command was out of place there is none
+pub ran_grown : (result : Result (Unit {0}) CliFault) (fault : CliFault) (port port' : Option PortView) (text old new : List ℕ) (command : Command) → line_of text ≡ Some (line.Run command) → (is_in_place port command ≡ false → result ≡ Err fault)
+    → OnOk result ((added : List ℕ) × HasRun port command port' added × (new ≡ old ++ added)) → OnOk result (Grown port text port' old new)
+ran_grown (Err e) fault port port' text old new command is told ran = ran
+ran_grown (Ok x) fault port port' text old new command is told ran =
+    run_grown port port' text old new command is (in_place (is_in_place port command) x fault told) ran
+
+-- a fault of the command is one of the line
+pub fault_of_line : (result : Result (Unit {0}) CliFault) (port : Option PortView) (text : List ℕ) (command : Command) (n : ℕ) → line_of text ≡ Some (line.Run command) → IfErr result (IsCommandFault port command n) → IfErr result (IsLineFault port text n)
+fault_of_line (Ok x) port text command n is fault = fault
+fault_of_line (Err (Line k)) port text command n is fault =
+    (fault.0, command_placed port text command is ∙ ap (λ b. cond b (Some (line.Run command)) None) fault.1)
+fault_of_line (Err (Job k)) port text command n is fault = fault
+fault_of_line (Err Read) port text command n is fault = fault
+fault_of_line (Err Write) port text command n is fault = fault
+fault_of_line (Err Unsettled) port text command n is fault = fault
+fault_of_line (Err (Lost k)) port text command n is fault = fault
+fault_of_line (Err OutOfMemory) port text command n is fault = fault
+
+-- a line with a command that may not stand there is refused as the command is
+pub wrong_line : (result : Result (Unit {0}) CliFault) (fault : CliFault) (port : Option PortView) (text : List ℕ) (command : Command) → line_of text ≡ Some (line.Run command) → (is_in_place port command ≡ false → result ≡ Err fault) → placed port text ≡ None → result ≡ Err fault
+wrong_line result fault port text command is told none =
+    told (out (is_in_place port command) (sym (command_placed port text command is) ∙ none))
+  where
+    out : (b : Bool) → cond b (Some (line.Run command)) None ≡ None → b ≡ false
+    out true e = cc
+    out false e = refl

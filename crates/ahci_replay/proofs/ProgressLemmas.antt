@@ -1,0 +1,128 @@
+-- Lemmas about what lines add, and about a script's progress.
+use Rattle.std.proofs.Common.{◌≡◌, ℕ, ◌+◌, ◌<◌, ◌==◌, Bool, true, false, List, [], ◌∷◌, ◌++◌, Option, Some, MatchBool, length, take, drop, get_or, refl, sym, ap, ◌∙◌, subst, append_assoc, append-nil, add-one, drop-cons, length-append, take-append-drop, arith}
+use Rattle.std.proofs.lemmas.Bool.{eqb-true}
+use Rattle.std.proofs.lemmas.List.Quantifiers.{position-Some}
+use Rattle.std.proofs.KnownBytes.{Appends-nil, Appends-trans, Consumes-nil, Consumes-trans}
+use Rattle.std.specs.Io.KnownBytes.{Appends, Consumes, IsAtEnd}
+use Rattle.ahci_script.specs.Unread.{Grows, Unread, found_of, line_end, whole}
+use Rattle.ahci_replay.specs.Place.{Place}
+use Rattle.ahci_replay.specs.Transcript.{Adds, Grown, Progress, RunsLine, no_line, one_more, placed, with_feeds}
+use Rattle.ahci_port.specs.PortView.{PortView}
+use Rattle.ahci_script.specs.declared.line.Line as script
+
+abbrev pub Bytes : Type 0
+Bytes = List ℕ
+
+abbrev pub Known : Type 0
+Known = Option (List ℕ)
+
+abbrev pub Port : Type 0
+Port = Option PortView
+
+-- a place, part by part
+abbrev pub parts : Known → Known → Bytes → Bytes → Port → ℕ → Place
+parts r c u w p n = record { remaining = r; contents = c; unread = u; waiting = w; port = p; line = n }
+
+-- lines, and those that come after them
+pub Adds-append : (p q r : Port) (ls ms : List Bytes) (s t : Bytes) → Adds p ls s q → Adds q ms t r → Adds p (ls ++ ms) (s ++ t) r
+Adds-append _ _ r _ ms _ t (no_line p) rest = rest
+Adds-append _ q r _ ms _ t (one_more p first l next added more text last fed is ran others) rest =
+    subst (λ x. Adds p (first ∷ (more ++ ms)) x r) (sym (append_assoc added text t)) (one_more p first l next added (more ++ ms) (text ++ t) r fed is ran (Adds-append next last r more ms text t others rest))
+
+pub with_feeds-append : (ls ms : List Bytes) → with_feeds (ls ++ ms) ≡ with_feeds ls ++ with_feeds ms
+with_feeds-append [] ms = refl
+with_feeds-append (l ∷ ls) ms =
+    rw (with_feeds-append ls ms) (sym (append_assoc l (10 ∷ with_feeds ls) (with_feeds ms)))
+
+-- two parts of a script, one after the other
+pub Progress-trans : (a b c : Place) → Progress a b → Progress b c → Progress a c
+Progress-trans a b c p q = record {
+  lines = p.lines ++ q.lines;
+  text = p.text ++ q.text;
+  came = p.came ++ q.came;
+  answered = Adds-append a.port b.port c.port p.lines q.lines p.text q.text p.answered q.answered;
+  consumed = Consumes-trans a.remaining b.remaining c.remaining p.came q.came p.consumed q.consumed;
+  read = sym (append_assoc a.unread p.came q.came) ∙ ap (λ l. l ++ q.came) p.read ∙ append_assoc (with_feeds p.lines) b.unread q.came ∙ ap (λ l. with_feeds p.lines ++ l) q.read ∙ sym (append_assoc (with_feeds p.lines) (with_feeds q.lines) c.unread) ∙ ap (λ l. l ++ c.unread) (sym (with_feeds-append p.lines q.lines));
+  counted = rw (length-append p.lines q.lines) (omega (arith, p.counted, q.counted));
+  sent = p.sent ++ q.sent;
+  written = Appends-trans a.contents b.contents c.contents p.sent q.sent p.written q.written;
+  said = sym (append_assoc a.waiting p.text q.text) ∙ ap (λ l. l ++ q.text) p.said ∙ append_assoc p.sent b.waiting q.text ∙ ap (λ l. p.sent ++ l) q.said ∙ sym (append_assoc p.sent q.sent c.waiting);
+}
+
+-- text up to its first line feed, that line feed, and the text behind it
+pub cut_at_feed : (u : Bytes) (e : ℕ) → line_end u ≡ Some e → u ≡ take e u ++ 10 ∷ drop (e + 1) u
+cut_at_feed u e found =
+    let at = position-Some (λ b. b == 10) u e 0 found in
+    let feed : get_or u e 0 ≡ 10 = eqb-true (get_or u e 0) 10 at.1 in
+    let within : e < length u = at.0 in
+    sym (take-append-drop e u) ∙ ap (λ l. take e u ++ l) (rw (add-one, ← feed) (drop-cons u e 0 within))
+
+-- one line alone
+one_line : (p q : Port) (l : Bytes) (spelled : script.Line) (added : Bytes) → found_of (l ++ 10 ∷ []) ≡ whole l → placed p l ≡ Some spelled → RunsLine p spelled q added → Adds p (l ∷ []) (added ++ []) q
+one_line p q l spelled added fed is ran = one_more p l spelled q added [] [] q fed is ran (no_line q)
+
+-- a line was answered
+pub Progress-line : (r c : Known) (u w w' : Bytes) (p p' : Port) (n e : ℕ) → line_end u ≡ Some e → found_of (take e u ++ 10 ∷ []) ≡ whole (take e u) → Grown p (take e u) p' w w' → Progress (parts r c u w p n) (parts r c (drop (e + 1) u) w' p' (n + 1))
+Progress-line r c u w w' p p' n e found fed grown = record {
+  lines = take e u ∷ [];
+  text = grown.added ++ [];
+  came = [];
+  answered = one_line p p' (take e u) grown.spelled grown.added fed grown.is grown.ran;
+  consumed = Consumes-nil r;
+  read = append-nil u ∙ cut_at_feed u e found ∙ sym (append_assoc (take e u) (10 ∷ []) (drop (e + 1) u));
+  counted = refl;
+  sent = [];
+  written = Appends-nil c;
+  said = ap (λ l. w ++ l) (append-nil grown.added) ∙ sym grown.grown;
+}
+
+-- what waited was written
+pub Progress-sent : (r c c' : Known) (u w : Bytes) (p : Port) (n : ℕ) → Appends c c' w → Progress (parts r c u w p n) (parts r c' u [] p n)
+Progress-sent r c c' u w p n sent = record {
+  lines = [];
+  text = [];
+  came = [];
+  answered = no_line p;
+  consumed = Consumes-nil r;
+  read = append-nil u;
+  counted = omega arith;
+  sent = w;
+  written = sent;
+  said = refl;
+}
+
+-- bytes came
+pub Progress-came : (r r' c : Known) (u w came : Bytes) (p : Port) (n : ℕ) → Consumes r r' came → Progress (parts r c u w p n) (parts r' c (u ++ came) w p n)
+Progress-came r r' c u w came p n consumed = record {
+  lines = [];
+  text = [];
+  came = came;
+  answered = no_line p;
+  consumed = consumed;
+  read = refl;
+  counted = omega arith;
+  sent = [];
+  written = Appends-nil c;
+  said = append-nil w;
+}
+
+-- nothing happened
+pub Progress-refl : (r c : Known) (u w : Bytes) (p : Port) (n : ℕ) → Progress (parts r c u w p n) (parts r c u w p n)
+Progress-refl r c u w p n =
+    subst (λ l. Progress (parts r c u w p n) (parts r c l w p n)) (append-nil u) (Progress-came r r c u w [] p n (Consumes-nil r))
+
+-- what waited was written, and nothing came
+pub Progress-sent_same : (r c c' : Known) (u u' w w' : Bytes) (p : Port) (n : ℕ) → Appends c c' w → w' ≡ [] → u' ≡ u → Progress (parts r c u w p n) (parts r c' u' w' p n)
+Progress-sent_same r c c' u u' w w' p n sent empty same = rw (empty, same) (Progress-sent r c c' u w p n sent)
+
+-- bytes came, or the reader is at its end
+pub Progress-filled : (more : Bool) (old new : Unread) (r r' c : Known) (w : Bytes) (p : Port) (n : ℕ) → MatchBool more (Grows old new r r') ((new ≡ old) × IsAtEnd r' × Consumes r r' []) → Progress (parts r c old.bytes w p n) (parts r' c new.bytes w p n)
+Progress-filled true old new r r' c w p n grows =
+    rw grows.bytes (Progress-came r r' c old.bytes w grows.came p n grows.consumed)
+Progress-filled false old new r r' c w p n ended =
+    rw ended.0 (subst (λ l. Progress (parts r c old.bytes w p n) (parts r' c l w p n)) (append-nil old.bytes) (Progress-came r r' c old.bytes w [] p n ended.2))
+
+-- a line was answered, and what waited then was written
+pub Progress-line_sent : (r c c' : Known) (u u' w w1 w' : Bytes) (p p' : Port) (n e : ℕ) → line_end u ≡ Some e → found_of (take e u ++ 10 ∷ []) ≡ whole (take e u) → Grown p (take e u) p' w w1 → u' ≡ drop (e + 1) u → Appends c c' w1 → w' ≡ [] → Progress (parts r c u w p n) (parts r c' u' w' p' (n + 1))
+Progress-line_sent r c c' u u' w w1 w' p p' n e found fed grown same sent empty =
+    Progress-trans (parts r c u w p n) (parts r c (drop (e + 1) u) w1 p' (n + 1)) (parts r c' u' w' p' (n + 1)) (Progress-line r c u w w1 p p' n e found fed grown) (Progress-sent_same r c c' (drop (e + 1) u) u' w1 w' p' (n + 1) sent empty same)

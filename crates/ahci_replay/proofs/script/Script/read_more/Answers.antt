@@ -1,0 +1,24 @@
+use Rattle.std.proofs.Common.{ap, refl, ◌∙◌}
+use Rattle.ahci_replay.specs.declared.fault.CliFault.TheVariants.{Read, Write}
+use Rattle.ahci_script.specs.Unread.{found_of}
+use Rattle.ahci_replay.specs.Transcript.{Stops}
+use Rattle.ahci_replay.proofs.EndingLemmas.{if_err_from, stops_sending}
+use Rattle.ahci_replay.proofs.ProgressLemmas.{Progress-filled, Progress-sent_same, Progress-trans, parts}
+use Rattle.ahci_replay.proofs.script.Script.read_more.Goals as goal
+
+pub returns-in_err-send-clause-err : goal.returns-in_err-send-clause-err
+returns-in_err-send-clause-err g c =
+    if_err_from _ Write (Stops _ _) c.from_residual.ensures.1 (stops_sending _ _ _ _ _ _ _ _ _ _ _ _ c.in_err-send.ensures.part)
+
+pub returns-in_err-fill-clause-err : goal.returns-in_err-fill-clause-err
+returns-in_err-fill-clause-err g c =
+    let s = c.args.self.now in
+    if_err_from _ Read (Stops _ _) c.from_residual-in_err-fill.ensures.1
+    (g.R.Read.remaining c.args.reader.now, Progress-sent_same (g.R.Read.remaining c.args.reader.now) (g.W.Write.contents c.args.writer.now) (g.W.Write.contents c.send.new.writer) s.input.bytes c.fill.new.self.bytes s.output c.send.new.self s.session s.line c.in_ok-send.ensures.written c.in_ok-send.ensures.ok (ap (λ u. u.bytes) c.in_err-fill.ensures.err), ap (λ u. found_of u.bytes) c.in_err-fill.ensures.err ∙ c.requires.unfinished)
+
+pub returns-clause-ok : goal.returns-clause-ok
+returns-clause-ok g c =
+    let s = c.args.self.now in
+    Progress-trans _ (parts (g.R.Read.remaining c.args.reader.now) (g.W.Write.contents c.send.new.writer) s.input.bytes c.send.new.self s.session s.line) _
+    (Progress-sent_same (g.R.Read.remaining c.args.reader.now) (g.W.Write.contents c.args.writer.now) (g.W.Write.contents c.send.new.writer) s.input.bytes s.input.bytes s.output c.send.new.self s.session s.line c.in_ok-send.ensures.written c.in_ok-send.ensures.ok refl)
+    (Progress-filled _ s.input c.fill.new.self (g.R.Read.remaining c.args.reader.now) (g.R.Read.remaining c.fill.new.reader) (g.W.Write.contents c.send.new.writer) c.send.new.self s.session s.line c.in_ok-fill.ensures.ok)

@@ -1,0 +1,123 @@
+-- What a script's commands do: the port that each of them leaves, and its answer. Want of memory is left aside.
+use Rattle.std.specs.Prelude.{ℕ, ◌+◌, ◌*◌, Bool, true, false, List, length, replicate, slice_index, Option, Some, None, IsOkAnd, ◌≡◌, ◌⊎◌}
+use Rattle.ahci_port.specs.PortView.{PortView, new_port, sectors_in}
+use Rattle.ahci_port.specs.Registers.{acknowledged}
+use Rattle.ahci_port.specs.Steps.{IsIssued, IsStepped, IsCollected, IsRecovered, IsReissued, IsIdentified, IsFlushed}
+use Rattle.ahci_port.specs.declared.step.DeviceStep.{DeviceStep}
+use Rattle.ahci_port.specs.declared.step.DeviceStep.TheVariants as device
+use Rattle.ahci_port.specs.declared.step.Stepped.{Stepped}
+use Rattle.ahci_port.specs.declared.step.Stepped.TheVariants as stepped
+use Rattle.ahci_regs.specs.Reading.{read_of}
+use Rattle.ahci_script.specs.Said.{Said}
+use Rattle.ahci_script.specs.Said as says
+use Rattle.ahci_script.specs.declared.line.Command.{Command}
+use Rattle.ahci_script.specs.declared.line.Command.TheVariants as command
+use Rattle.ahci_script.specs.declared.refusal.Refusal.{Refusal}
+use Rattle.ahci_table.specs.Build.{IsBuilt}
+use Rattle.ahci_table.specs.Defaults.{default_list}
+use Rattle.ahci_table.specs.Window.{WindowState}
+use Rattle.ncq_core.specs.Identify.{identify_page}
+use Rattle.ncq_journal.specs.Answer.{Answer, answer}
+use Rattle.ncq_journal.specs.Phase.{is_failed, phase}
+use Rattle.ncq_journal.specs.Sector.{sector}
+use Rattle.ncq_journal.specs.Work.{Work, sectors_of}
+use Rattle.ncq_journal.specs.Work as work
+use Rattle.ncq_journal.specs.declared.outcome.Outcome.{Outcome}
+use Rattle.ncq_journal.specs.declared.outcome.Outcome.TheVariants as outcome
+use Rattle.ahci_replay.specs.Refusals.{disk_refusal, refusal_on}
+
+-- a command is issued by a window over the default pieces, and the answer has the entry of its Issue
+pub record HasIssued (tag : ℕ) (work : Work) (old new : PortView) (said : Said) : Type 0 where
+  pub window : WindowState
+  pub built : IsBuilt tag work (default_list (sectors_of work)) window
+  pub issued : IsIssued window old new
+  pub told : said ≡ says.Issued (length old.past)
+
+-- the answer of a device's step
+abbrev pub step_said : Stepped → Said
+step_said (stepped.Accepted entry) = says.Accepted entry
+step_said (stepped.Completed entry) = says.Completed entry
+step_said (stepped.Failed entry) = says.FailedStep entry
+
+-- the device has taken a step, and the answer has its entry
+pub record HasStepped (step : DeviceStep) (old new : PortView) (said : Said) : Type 0 where
+  pub done : Stepped
+  pub stepped : IsStepped step old new done
+  pub told : said ≡ step_said done
+
+-- the answer of a request that ended so at this entry; a read has its sectors
+abbrev pub outcome_said : Outcome → ℕ → List ℕ → Said
+outcome_said outcome.Read entry bytes = says.Read entry bytes
+outcome_said outcome.Wrote entry bytes = says.Wrote entry
+outcome_said (outcome.Failed error lba) entry bytes = says.Failed entry error lba
+
+-- a request is collected, and the answer is the request's
+pub record HasCollected (tag number : ℕ) (old new : PortView) (said : Said) : Type 0 where
+  pub reply : Answer
+  pub is : answer old.starting old.past number ≡ Some reply
+  pub collected : IsCollected tag old new
+  pub told : said ≡ outcome_said reply.outcome reply.entry reply.bytes
+
+-- the port has recovered from the failure of a tag's command, and the answer has the tag
+pub record HasRecovered (old new : PortView) (said : Said) : Type 0 where
+  pub tag : ℕ
+  pub failed : is_failed (phase old.past tag) ≡ true
+  pub recovered : IsRecovered tag old new
+  pub told : said ≡ says.Recovered tag
+
+-- word w of a page stands in two bytes, the low one first
+abbrev pub word_in : List ℕ → ℕ → ℕ
+word_in page w = slice_index page (2 * w) + 256 * slice_index page (2 * w + 1)
+
+-- what a command on a port does, where it is not refused: the port that it leaves, and its answer
+abbrev pub Does : PortView → Command → PortView → Said → Type 0
+Does old (command.Write tag lba sectors fill) new said = HasIssued tag (work.Write lba (replicate (sectors * 512) fill)) old new said
+Does old (command.Read tag lba sectors) new said = HasIssued tag (work.Read lba sectors) old new said
+Does old (command.Accept tag) new said = HasStepped (device.Accept tag) old new said
+Does old (command.Serve tag) new said = HasStepped (device.Serve tag) old new said
+Does old (command.Fail tag error lba) new said = HasStepped (device.Fail tag error lba) old new said
+Does old (command.Collect tag number) new said = HasCollected tag number old new said
+Does old command.Recover new said = HasRecovered old new said
+Does old (command.Reissue tag) new said = IsReissued tag old new × (said ≡ says.Reissued tag)
+Does old (command.Identify w) new said = IsIdentified old new × (said ≡ says.Word w (word_in (identify_page (sectors_in old) old.depth) w))
+Does old command.Flush new said = IsFlushed old new × (said ≡ says.Flushed)
+Does old (command.Reg off) new said = (new ≡ old) × IsOkAnd (read_of old.registers off) (λ word. said ≡ says.Register word)
+Does old (command.Ack mask) new said = (new ≡ record old { registers = acknowledged old.registers mask }) × (said ≡ says.Acked)
+Does old (command.Show lba) new said = (new ≡ old) × (said ≡ says.Sector lba (slice_index (sector old.starting old.past lba) 0))
+Does old command.Journal new said = (new ≡ old) × (said ≡ says.Journal (length old.past))
+Does old (command.Disk sectors depth) new said = ⊥
+
+-- a refusal changes nothing, and its name is the answer; where there is none, this is done
+abbrev pub RefusedOr : Option Refusal → PortView → PortView → Said → Type 0 → Type 0
+RefusedOr (Some refusal) old new said Done = (new ≡ old) × (said ≡ says.Refused refusal)
+RefusedOr None old new said Done = Done
+
+-- a command was run on a port
+abbrev pub RunsOn : PortView → Command → PortView → Said → Type 0
+RunsOn old c new said = RefusedOr (refusal_on old c) old new said (Does old c new said)
+
+-- a disk of zeros with free slots, or a refusal
+abbrev pub MakesDisk : Option Refusal → ℕ → ℕ → Option PortView → Said → Type 0
+MakesDisk (Some refusal) sectors depth new said = (new ≡ None) × (said ≡ says.Refused refusal)
+MakesDisk None sectors depth new said =
+    (new ≡ Some (new_port (replicate (sectors * 512) 0) depth)) × (said ≡ says.Disk sectors depth)
+
+-- a command may stand here: a disk first, and then none
+abbrev pub is_in_place : Option PortView → Command → Bool
+is_in_place None (command.Disk sectors depth) = true
+is_in_place None c = false
+is_in_place (Some port) (command.Disk sectors depth) = false
+is_in_place (Some port) c = true
+
+-- a command was run where it may stand: the port before it, the port that it leaves, and its answer
+abbrev pub Runs : Option PortView → Command → Option PortView → Said → Type 0
+Runs None (command.Disk sectors depth) new said = MakesDisk (disk_refusal sectors depth) sectors depth new said
+Runs (Some old) c (Some new) said = RunsOn old c new said
+Runs old c new said = ⊥
+
+-- a command that has no answer: nothing has changed, or the port is the one that the command leaves
+abbrev pub MayRunOn : PortView → Command → PortView → Type 0
+MayRunOn old c new = (new ≡ old) ⊎ ((said : Said) × RunsOn old c new said)
+
+abbrev pub MayRun : Option PortView → Command → Option PortView → Type 0
+MayRun old c new = (new ≡ old) ⊎ ((said : Said) × Runs old c new said)

@@ -1,0 +1,43 @@
+//! What the port has done, as a command's answer.
+
+ghost use Rattle.std.specs.Prelude.{◌≡◌, IfOk};
+ghost use Rattle.ahci_port.specs.Slots.{bytes_in};
+ghost use Rattle.ahci_script.specs.Said.{said};
+ghost use Rattle.ahci_table.specs.Fit.{IsFit};
+ghost use Rattle.ahci_replay.specs.Commands.{outcome_said, step_said};
+
+use ahci_port::{Outcome, Reply, Stepped};
+use ahci_script::Answer;
+use ahci_table::Window;
+use std::alloc::{AllocError, Allocator};
+
+/// The answer of a device's step.
+pub(crate) fn stepped<A: Allocator>(done: Stepped) -> Answer<A>
+    ensures { said result ≡ step_said done }
+{
+    match done {
+        Stepped::Accepted(entry) => Answer::Accepted(entry),
+        Stepped::Completed(entry) => Answer::Completed(entry),
+        Stepped::Failed(entry) => Answer::FailedStep(entry),
+    }
+}
+
+/// The answer of a request. A finished read has its sectors, which are the window's text.
+pub(crate) fn collected<A: Allocator>(
+    alloc: A,
+    reply: Reply,
+    window: &Window<A>,
+) -> Result<Answer<A>, AllocError>
+    requires { IsFit window.now }
+    ensures { IfOk result (λ answer. said answer ≡ outcome_said reply.outcome reply.entry (bytes_in reply.outcome window.now)) }
+{
+    let entry = reply.entry;
+    match reply.outcome {
+        Outcome::Read => {
+            let bytes = window.text(alloc)?;
+            Ok(Answer::Read { entry, bytes })
+        }
+        Outcome::Wrote => Ok(Answer::Wrote(entry)),
+        Outcome::Failed { error, lba } => Ok(Answer::Failed { entry, error, lba }),
+    }
+}

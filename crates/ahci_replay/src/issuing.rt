@@ -1,0 +1,121 @@
+//! How a script's commands are issued: by a window over the default pieces.
+
+ghost use Rattle.std.specs.Prelude.{◌≡◌, ◌<◌, ◌≤◌, ◌*◌, ◌^◌, false, length, IfOk, OnErr, replicate};
+ghost use Rattle.std.specs.Option.{option_map};
+ghost use Rattle.ncq_journal.specs.Work.{work_of, lba_of, sectors_of};
+ghost use Rattle.ahci_port.specs.Faults.{early_refusal};
+ghost use Rattle.ahci_port.specs.Steps.{IsIssued};
+ghost use Rattle.ahci_script.specs.Said.{said, Issued};
+ghost use Rattle.ahci_table.specs.Defaults.{default_list};
+ghost use Rattle.ahci_table.specs.Fit.{IsFit};
+ghost use Rattle.ahci_table.specs.Refusal.{is_ragged};
+ghost use Rattle.ahci_replay.specs.Commands.{HasIssued, RefusedOr, RunsOn};
+ghost use Rattle.ahci_replay.specs.Refusals.{issue_refusal, joined, of_issue};
+
+use crate::refusals::issue_refusal;
+use ahci_port::{IssueFault, Port};
+use ahci_script::{Answer, Command, Refusal};
+use ahci_table::{BuildFault, Piece, Window, default_pieces};
+use arrayvec::ArrayVec;
+use ncq_core::{Bytes, LBA_LIMIT, MAX_COUNT, MAX_SECTORS, Op};
+use std::alloc::{AllocError, Allocator};
+
+/// How many bytes a sector has.
+const SECTOR: usize = 512;
+
+/// Sectors that are filled with one byte.
+pub(crate) fn filled<A: Allocator>(
+    alloc: A,
+    sectors: u32,
+    fill: u8,
+) -> Result<Vec<u8, A>, AllocError>
+    requires { sectors ≤ MAX_SECTORS }
+    ensures { IfOk result (λ bytes. bytes.items ≡ replicate (sectors * SECTOR) fill) }
+{
+    vec![in alloc; fill; sectors as usize * SECTOR]
+}
+
+/// Issues a write. Count and address are compared before a byte of it is made, so that a bad one
+/// never ends in want of memory.
+pub(crate) fn write<A: Allocator + Clone>(
+    port: &mut Port<A>,
+    alloc: &A,
+    tag: u8,
+    lba: u64,
+    sectors: u32,
+    fill: u8,
+) -> Result<Answer<A>, AllocError>
+    requires { tag < 32 }
+    ensures ok { IfOk result (λ answer. RunsOn port.old (Command.Write tag lba sectors fill) port.new (said answer)) }
+    ensures err { OnErr result (port.new ≡ port.old) }
+{
+    if sectors == 0 || sectors > MAX_COUNT {
+        return Ok(Answer::Refused(Refusal::BadCount));
+    }
+    if lba >= LBA_LIMIT {
+        return Ok(Answer::Refused(Refusal::BadLba));
+    }
+    let bytes = Bytes::from_vec(filled(alloc.clone()?, sectors, fill)?);
+    issue(port, alloc, tag, &Op::Write { lba, bytes })
+}
+
+/// The pieces that serve for a command where nothing else is asked for.
+fn pieces_of<A: Allocator>(op: &Op<A>) -> ArrayVec<Piece, 32>
+    requires { sectors_of (work_of op.now) < 2 ^ 32 }
+    ensures { result.items ≡ default_list (sectors_of (work_of op.now)) }
+{
+    default_pieces(op.sectors() as u32)
+}
+
+/// Issues a command: its window is built first, so a bad count or address is told before anything
+/// that the port says.
+pub(crate) fn issue<A: Allocator + Clone>(
+    port: &mut Port<A>,
+    alloc: &A,
+    tag: u8,
+    op: &Op<A>,
+) -> Result<Answer<A>, AllocError>
+    requires tag { tag < 32 }
+    requires small { sectors_of (work_of op.now) < 2 ^ 32 }
+    requires whole { is_ragged (work_of op.now) ≡ false }
+    ensures ok { IfOk result (λ answer.
+        RefusedOr (issue_refusal port.old tag (lba_of (work_of op.now)) (sectors_of (work_of op.now)))
+        port.old port.new (said answer) (HasIssued tag (work_of op.now) port.old port.new (said answer))) }
+    ensures err { OnErr result (port.new ≡ port.old) }
+{
+    let pieces = pieces_of(op);
+    match Window::build(alloc.clone()?, tag, op, &pieces) {
+        Ok(window) => issue_window(port, window),
+        Err(fault) => match fault {
+            BuildFault::BadCount => Ok(Answer::Refused(Refusal::BadCount)),
+            BuildFault::BadLba => Ok(Answer::Refused(Refusal::BadLba)),
+            BuildFault::OutOfMemory => Err(AllocError),
+            // The default pieces serve every count.
+            _ => unreachable!(),
+        },
+    }
+}
+
+/// Issues a command whose window is built.
+fn issue_window<A: Allocator + Clone>(
+    port: &mut Port<A>,
+    window: Window<A>,
+) -> Result<Answer<A>, AllocError>
+    requires { IsFit window }
+    ensures ok { IfOk result (λ answer.
+        RefusedOr (joined (option_map of_issue (early_refusal port.old window.tag))) port.old port.new (said answer)
+        (IsIssued window port.old port.new × (said answer ≡ Issued (length port.old.past)))) }
+    ensures err { OnErr result (port.new ≡ port.old) }
+{
+    match port.issue(window) {
+        Ok(number) => Ok(Answer::Issued(number)),
+        Err((_window, fault)) => match issue_refusal(fault) {
+            Some(refusal) => Ok(Answer::Refused(refusal)),
+            None => match fault {
+                IssueFault::OutOfMemory => Err(AllocError),
+                // A window that is fit breaks no rule.
+                _ => unreachable!(),
+            },
+        },
+    }
+}

@@ -1,0 +1,18 @@
+//! Scripts on a port: what each command does, its answer, and a whole script over any reader and writer.
+#![tactic(auto)]
+
+mod answering;
+mod fault;
+mod issuing;
+mod lines;
+mod refusals;
+mod replaying;
+mod running;
+mod script;
+mod session;
+mod unanswered;
+
+pub use fault::CliFault;
+pub use replaying::replay;
+pub use session::Session;
+pub use unanswered::Unanswered;

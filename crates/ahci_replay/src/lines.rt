@@ -1,0 +1,52 @@
+//! A script's lines, each with its answer.
+
+ghost use Rattle.std.specs.Prelude.{◌≡◌, ◌++◌, false, IfErr, List, None, OnErr, OnOk, ℕ};
+ghost use Rattle.ahci_script.specs.Lines.{HasSmallTag};
+ghost use Rattle.ahci_replay.specs.Commands.{is_in_place};
+ghost use Rattle.ahci_replay.specs.Transcript.{Grown, HasRun, IsCommandFault, IsLineFault, placed};
+
+use crate::fault::CliFault;
+use crate::session::Session;
+use crate::unanswered::Unanswered;
+use ahci_script::{Command, Line, Output, parse};
+use std::alloc::Allocator;
+
+/// Answers a line of the given number.
+pub(crate) fn answer_line<A: Allocator + Clone>(
+    session: &mut Session<A>,
+    output: &mut Output<A>,
+    number: u64,
+    line: &[u8],
+) -> Result<(), CliFault>
+    ensures ok { OnOk result (Grown session.old line.now session.new output.old output.new) }
+    ensures err { OnErr result (output.new ≡ output.old) }
+    ensures fault { IfErr result (IsLineFault session.old line.now number) }
+    ensures wrong { placed session.old line.now ≡ None → result ≡ Err (CliFault.Line number) }
+{
+    match parse(line) {
+        None => Err(CliFault::Line(number)),
+        Some(Line::Skip) => Ok(()),
+        Some(Line::Run(command)) => answer_command(session, output, number, command),
+    }
+}
+
+/// Runs the command of a line of the given number, and puts its answer into the output.
+fn answer_command<A: Allocator + Clone>(
+    session: &mut Session<A>,
+    output: &mut Output<A>,
+    number: u64,
+    command: Command,
+) -> Result<(), CliFault>
+    requires { HasSmallTag command }
+    ensures ok { OnOk result ((text : List ℕ) × HasRun session.old command session.new text
+        × (output.new ≡ output.old ++ text)) }
+    ensures err { OnErr result (output.new ≡ output.old) }
+    ensures fault { IfErr result (IsCommandFault session.old command number) }
+    ensures wrong { is_in_place session.old command ≡ false → result ≡ Err (CliFault.Line number) }
+{
+    match session.run(command) {
+        Ok(answer) => Ok(output.put(&answer)?),
+        Err(Unanswered::OutOfPlace) => Err(CliFault::Line(number)),
+        Err(Unanswered::OutOfMemory) => Err(CliFault::OutOfMemory),
+    }
+}

@@ -1,0 +1,35 @@
+ghost use Rattle.std.specs.Prelude.{IfErr, OnOk};
+ghost use Rattle.ahci_replay.specs.Transcript.{Replayed, ReplayedTo};
+
+use crate::fault::CliFault;
+use crate::script::Script;
+use std::alloc::Allocator;
+use std::io::{Read, Write};
+
+/// Runs the script that the reader gives, and writes an answer for each command. The first fault
+/// in the order of the input ends it, after the answers to the lines before.
+pub fn replay<R: Read, W: Write, A: Allocator + Clone>(
+    alloc: A,
+    reader: &mut R,
+    writer: &mut W,
+) -> Result<(), CliFault>
+    ensures ok { OnOk result (Replayed (R.remaining reader.old) (R.remaining reader.new)
+        (W.contents writer.old) (W.contents writer.new)) }
+    ensures err { IfErr result
+        (ReplayedTo (R.remaining reader.old) (W.contents writer.old) (W.contents writer.new)) }
+{
+    let mut script = Script::new(alloc)?;
+    match script.run(reader, writer) {
+        Ok(()) => {
+            script.output.send(writer)?;
+            Ok(())
+        }
+        Err(fault) => {
+            if fault.is_of_output() {
+                return Err(fault);
+            }
+            script.output.send(writer)?;
+            Err(fault)
+        }
+    }
+}

@@ -1,0 +1,90 @@
+//! A script's port, once its disk was accepted.
+
+ghost use Rattle.std.specs.Prelude.{◌≡◌, IfErr, IfOk, OnErr, None, false};
+ghost use Rattle.ahci_script.specs.Lines.{HasSmallTag};
+ghost use Rattle.ahci_script.specs.Said.{said};
+ghost use Rattle.ahci_replay.specs.Commands.{MakesDisk, MayRun, Runs, is_in_place};
+ghost use Rattle.ahci_replay.specs.Refusals.{disk_refusal};
+
+use crate::issuing::filled;
+use crate::running::run_on;
+use crate::unanswered::Unanswered;
+use ahci_port::Port;
+use ahci_script::{Answer, Command, Refusal};
+use ncq_core::{DiskFault, MAX_DEPTH, MAX_SECTORS};
+use std::alloc::{AllocError, Allocator};
+use std::marker::Model;
+
+/// A script's port, or none before its disk was accepted.
+#[derive(Drop)]
+pub struct Session<A: Allocator> {
+    alloc: A,
+    port: Option<Port<A>>,
+}
+
+impl<A: Allocator> Model for Session<A> {
+    ghost use Rattle.std.specs.Prelude.{Option};
+    ghost use Rattle.ahci_port.specs.PortView.{PortView};
+
+    ghost Value = { Option PortView };
+
+    ghost view = { λ s. s.port };
+}
+
+impl<A: Allocator + Clone> Session<A> {
+    /// No disk yet.
+    pub fn new(alloc: A) -> Self
+        ensures { result ≡ None }
+    {
+        Session { alloc, port: None }
+    }
+
+    /// Runs a command, whose tag is below 32, and answers it.
+    ///
+    /// # Errors
+    /// `OutOfPlace` where the command stands before the disk, or is a second disk: then nothing changes. `OutOfMemory` where
+    /// a growth was refused: then the port is as it was, or a read was collected and its bytes are lost.
+    pub fn run(&mut self, command: Command) -> Result<Answer<A>, Unanswered>
+        requires { HasSmallTag command }
+        ensures ok { IfOk result (λ answer. Runs self.old command self.new (said answer)) }
+        ensures misplaced { IfErr result (λ e. e ≡ Unanswered.OutOfPlace → is_in_place self.old command ≡ false) }
+        ensures refused { is_in_place self.old command ≡ false → result ≡ Err Unanswered.OutOfPlace }
+        ensures kept { is_in_place self.old command ≡ false → self.new ≡ self.old }
+        ensures err { OnErr result (MayRun self.old command self.new) }
+    {
+        match &mut self.port {
+            Some(port) => run_on(port, &self.alloc, command),
+            None => match command {
+                Command::Disk { sectors, depth } => Ok(self.make_disk(sectors, depth)?),
+                _ => Err(Unanswered::OutOfPlace),
+            },
+        }
+    }
+
+    /// A disk of zeros. Its numbers are compared before an image is made.
+    fn make_disk(&mut self, sectors: u64, depth: u64) -> Result<Answer<A>, AllocError>
+        requires { self.old ≡ None }
+        ensures ok { IfOk result (λ answer.
+            MakesDisk (disk_refusal sectors depth) sectors depth self.new (said answer)) }
+        ensures err { OnErr result (self.new ≡ self.old) }
+    {
+        if sectors == 0 || sectors > u64::from(MAX_SECTORS) {
+            return Ok(Answer::Refused(Refusal::BadSize));
+        }
+        if depth == 0 || depth > u64::from(MAX_DEPTH) {
+            return Ok(Answer::Refused(Refusal::BadDepth));
+        }
+        let image = filled(self.alloc.clone()?, sectors as u32, 0)?;
+        match Port::new(self.alloc.clone()?, image, depth as u32) {
+            Ok(port) => {
+                self.port = Some(port);
+                Ok(Answer::Disk { sectors, depth })
+            }
+            Err(fault) => match fault {
+                DiskFault::OutOfMemory => Err(AllocError),
+                // The numbers were compared above.
+                _ => unreachable!(),
+            },
+        }
+    }
+}

@@ -1,2 +1,0 @@
-pub mod SessionLemmas
-pub mod IssuingLemmas
