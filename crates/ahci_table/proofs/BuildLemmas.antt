@@ -1,21 +1,24 @@
 -- What is written into a new window.
-use Rattle.std.proofs.Common.{◌≡◌, ℕ, ◌+◌, ◌-◌, ◌*◌, ◌<◌, ◌≤◌, zero, suc, false, List, [], ◌∷◌, ◌++◌, length, take, drop, replicate, get_or, ap, sym, refl, subst, ◌∙◌, arith, inl, inr}
+use Rattle.std.proofs.Common.{◌≡◌, ℕ, ◌+◌, ◌-◌, ◌*◌, ◌<◌, ◌≤◌, zero, suc, max, ◌%◌, true, false, nat_eq, List, [], ◌∷◌, ◌++◌, length, take, drop, replicate, get_or, ap, sym, refl, subst, ◌∙◌, arith, inl, inr}
 use Rattle.std.specs.List.{All, flat_map}
-use Rattle.std.proofs.lemmas.Bool.{cases_lt}
+use Rattle.std.proofs.lemmas.Bool.{eqb-true}
 use Rattle.std.proofs.lemmas.Grind.{flat_map-append}
-use Rattle.std.proofs.lemmas.List.{append_assoc, take_more, append-nil, length-append, length-replicate, drop_all, take_at, drop-replicate, take-replicate, replicate-append-replicate, get_or-replicate, get_or_past, get_or-append_right}
+use Rattle.std.proofs.lemmas.List.{append_assoc, take_more, append-nil, length-append, length-replicate, drop_all, take_at,
+  drop-replicate, take-replicate, replicate-append-replicate, get_or-replicate, get_or_past, get_or-append_right}
 use Rattle.sata_fis.specs.Command.{h2d_for}
 use Rattle.sata_fis.specs.Encoding.{h2d_bytes}
-use Rattle.ncq_journal.specs.Work.{Work, sectors_of}
+use Rattle.ncq_journal.specs.Work.{Work, Write, sectors_of}
 use Rattle.ahci_table.specs.declared.piece.Piece.{Piece}
 use Rattle.ahci_table.specs.Build.{IsBuilt, data_for, entry_for, header_for, queued_for, table_for}
+use Rattle.ahci_table.specs.Laying.{laid, rises}
 use Rattle.ahci_table.specs.Piece.{end_of, furthest, total}
 use Rattle.ahci_table.specs.Prdt.{entry_place}
 use Rattle.ahci_table.specs.Scatter.{in_some}
 use Rattle.ahci_table.specs.Text.{bytes_of, joined, replaced}
 use Rattle.ahci_table.specs.Window.{base}
+use Rattle.ahci_table.proofs.LayingLemmas.{joined-laid, length-laid, others-laid, zeros_behind}
 use Rattle.ahci_table.proofs.PartLemmas.{drop-append, same_part}
-use Rattle.ahci_table.proofs.RefusalLemmas.{IsFree, all_behind}
+use Rattle.ahci_table.proofs.RefusalLemmas.{IsFree, all_behind, not_false}
 use Rattle.ahci_table.proofs.WindowLemmas.{none_before}
 
 -- one entry more
@@ -61,7 +64,8 @@ table_fits t [] some h = absurd (omega arith)
 table_fits t (p ∷ ps) some h = let first : t ≤ p.at = h 0 p (omega arith) in omega arith
 
 -- pieces behind the table hold zeros at first
-pub joined-zeros : (front : List ℕ) (m : ℕ) (ps : List Piece) → All (λ p. length front ≤ p.at) ps → All (λ p. end_of p ≤ length front + m) ps → joined ps (front ++ replicate m 0) ≡ replicate (total ps) 0
+pub joined-zeros : (front : List ℕ) (m : ℕ) (ps : List Piece) → All (λ p. length front ≤ p.at) ps
+  → All (λ p. end_of p ≤ length front + m) ps → joined ps (front ++ replicate m 0) ≡ replicate (total ps) 0
 joined-zeros front m [] low high = refl
 joined-zeros front m (p ∷ ps) low high =
     let a : length front ≤ p.at = low 0 p (omega arith) in
@@ -74,51 +78,71 @@ joined-zeros front m (p ∷ ps) low high =
     ∙ ap (λ z. replicate p.len 0 ++ z) (joined-zeros front m ps (λ k d l. low (suc k) d (omega arith)) (λ k d l. high (suc k) d (omega arith)))
     ∙ replicate-append-replicate p.len (total ps) 0
 
--- a byte of zeros, and of what lies behind them
-zero_at : (m i : ℕ) → get_or {A = ℕ} (replicate m 0) i 0 ≡ 0
-zero_at m i = elim (cases_lt i m) [ inl l ↦ get_or-replicate m i 0 0 l | inr h ↦ get_or_past (replicate m 0) i 0 (subst (λ n. n ≤ i) (sym (length-replicate m 0)) h) ]
-
 -- a text that is replaced as a whole
 pub replaced_all : (from text : List ℕ) → length from ≡ length text → replaced 0 from text ≡ from
 replaced_all from text e = ap (λ z. from ++ z) (drop_all (0 + length from) text (omega arith)) ∙ append-nil from
 
 -- the window that is written
-pub built : (tag : ℕ) (work : Work) (ps : List Piece) (header bytes : List ℕ) → IsFree work ps → header ≡ header_for tag work (length ps)
-    → length bytes ≡ furthest ps → joined ps bytes ≡ data_for work
-    → ((x : ℕ) → in_some x ps ≡ false → get_or bytes x 0 ≡ get_or (table_for tag work ps ++ replicate (furthest ps - length (table_for tag work ps)) 0) x 0)
+pub built : (tag : ℕ) (work : Work) (ps : List Piece) (header bytes table : List ℕ) → IsFree work ps → header ≡ header_for tag work (length ps)
+    → table ≡ table_for tag work ps → length bytes ≡ furthest ps → joined ps bytes ≡ data_for work
+    → ((x : ℕ) → in_some x ps ≡ false → get_or bytes x 0 ≡ get_or table x 0)
     → IsBuilt tag work ps (record { tag = tag; header = header; bytes = bytes })
-built tag work ps header bytes f h len moved others =
-    let table = table_for tag work ps in
+built tag work ps header bytes table f h is len moved others =
     let n = furthest ps - length table in
     let t = entry_place (length ps) in
-    let front : length table ≡ t = length-table tag work ps in
+    let front : length table ≡ t = ap length is ∙ length-table tag work ps in
     let behind = all_behind work ps f in
     let fits : t ≤ furthest ps = table_fits t ps f.has behind in
-    let whole : length (table ++ replicate n 0) ≡ furthest ps = length-append table (replicate n 0) ∙ ap (λ k. length table + k) (length-replicate n 0) ∙ (let e : length table + n ≡ furthest ps = omega arith in e) in
+    let whole : length (table ++ replicate n 0) ≡ furthest ps = length-append table (replicate n 0)
+      ∙ ap (λ k. length table + k) (length-replicate n 0) ∙ (let e : length table + n ≡ furthest ps = omega arith in e) in
     record {
       tag_is = refl;
       header_is = h;
-      table_is = same_part 0 t bytes (table ++ replicate n 0) (len ∙ sym whole) (λ x l u. others x (none_before t x ps behind (omega arith))) ∙ take_at table (replicate n 0) t front;
+      table_is = same_part 0 t bytes (table ++ replicate n 0) (len ∙ sym whole)
+        (λ x l u. others x (none_before t x ps behind (omega arith)) ∙ sym (zeros_behind table n x)) ∙ take_at table (replicate n 0) t front ∙ is;
       end_is = len;
       data_is = moved;
-      gaps = λ x l e. others x e ∙ get_or-append_right table (replicate n 0) t x 0 front l ∙ zero_at n (x - t);
+      gaps = λ x l e. others x e ∙ get_or_past table x 0 (omega arith);
     }
 
 -- the bytes before a write's data are copied in: they end where the pieces end, and the pieces hold zeros
-pub length-blank : (tag : ℕ) (work : Work) (ps : List Piece) → IsFree work ps → length (table_for tag work ps ++ replicate (furthest ps - length (table_for tag work ps)) 0) ≡ furthest ps
-length-blank tag work ps f =
-    let table = table_for tag work ps in
+pub length-blank : (table : List ℕ) (work : Work) (ps : List Piece) → IsFree work ps → length table ≡ entry_place (length ps)
+  → length (table ++ replicate (furthest ps - length table) 0) ≡ furthest ps
+length-blank table work ps f front =
     let n = furthest ps - length table in
-    let front : length table ≡ entry_place (length ps) = length-table tag work ps in
     let fits : entry_place (length ps) ≤ furthest ps = table_fits (entry_place (length ps)) ps f.has (all_behind work ps f) in
     length-append table (replicate n 0) ∙ ap (λ k. length table + k) (length-replicate n 0) ∙ (let e : length table + n ≡ furthest ps = omega arith in e)
 
-pub joined-blank : (tag : ℕ) (work : Work) (ps : List Piece) → IsFree work ps → joined ps (table_for tag work ps ++ replicate (furthest ps - length (table_for tag work ps)) 0) ≡ replicate (512 * sectors_of work) 0
-joined-blank tag work ps f =
-    let table = table_for tag work ps in
+pub joined-blank : (table : List ℕ) (work : Work) (ps : List Piece) → IsFree work ps → length table ≡ entry_place (length ps)
+  → joined ps (table ++ replicate (furthest ps - length table) 0) ≡ replicate (512 * sectors_of work) 0
+joined-blank table work ps f front =
     let n = furthest ps - length table in
-    let front : length table ≡ entry_place (length ps) = length-table tag work ps in
     let fits : entry_place (length ps) ≤ furthest ps = table_fits (entry_place (length ps)) ps f.has (all_behind work ps f) in
     let end : furthest ps ≡ length table + n = omega arith in
-    joined-zeros table n ps (subst (λ t. All (λ p. t ≤ p.at) ps) (sym front) (all_behind work ps f)) (subst (λ e. All (λ p. end_of p ≤ e) ps) end (furthest_covers ps))
+    joined-zeros table n ps (subst (λ t. All (λ p. t ≤ p.at) ps) (sym front) (all_behind work ps f))
+      (subst (λ e. All (λ p. end_of p ≤ e) ps) end (furthest_covers ps))
     ∙ ap (λ m. replicate m 0) f.sum
+
+-- a write's bytes are as many as its pieces have
+pub write_sum : (lba : ℕ) (text : List ℕ) (ps : List Piece) → IsFree (Write lba text) ps → total ps ≡ length text
+write_sum lba text ps f =
+    let whole : length text % 512 ≡ 0 = eqb-true (length text % 512) 0 (not_false (nat_eq (length text % 512) 0) f.whole) in
+    let sum = f.sum in omega arith
+
+-- a write's data, piece by piece
+pub record IsLaid (ps : List Piece) (table text bytes : List ℕ) : Type 0 where
+  pub len : length bytes ≡ furthest ps
+  pub text_is : joined ps bytes ≡ text
+  pub others : (x : ℕ) → in_some x ps ≡ false → get_or bytes x 0 ≡ get_or table x 0
+
+pub is_laid : (lba : ℕ) (ps : List Piece) (table text bytes : List ℕ) → IsFree (Write lba text) ps → length table ≡ entry_place (length ps)
+  → rises (length table) ps ≡ true → bytes ≡ table ++ laid (length table) ps text → IsLaid ps table text bytes
+is_laid lba ps table text bytes f front r is =
+    let sum = write_sum lba text ps f in
+    let fits : entry_place (length ps) ≤ furthest ps = table_fits (entry_place (length ps)) ps f.has (all_behind (Write lba text) ps f) in
+    let end = length-laid (length table) ps text r sum in
+    record {
+      len = ap length is ∙ length-append table (laid (length table) ps text) ∙ end ∙ (let e : max (length table) (furthest ps) ≡ furthest ps = omega arith in e);
+      text_is = ap (joined ps) is ∙ joined-laid table (length table) ps text refl r sum;
+      others = λ x e. ap (λ z. get_or z x 0) is ∙ others-laid table ps text x r sum e;
+    }

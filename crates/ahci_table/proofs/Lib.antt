@@ -4,6 +4,7 @@ pub mod GatherLemmas
 pub mod PrdtLemmas
 pub mod WindowLemmas
 pub mod RefusalLemmas
+pub mod LayingLemmas
 pub mod BuildLemmas
 pub mod FitLemmas
 pub mod LawLemmas

@@ -7,6 +7,7 @@ ghost use Rattle.ncq_journal.specs.Work.{work_of, lba_of, sectors_of};
 ghost use Rattle.ahci_table.specs.Build.{IsBuilt, Carries, data_for, header_for, entry_for, table_for, queued_for};
 ghost use Rattle.ahci_table.specs.Fit.{IsFit};
 ghost use Rattle.ahci_table.specs.Piece.{are_apart, end_of, furthest};
+ghost use Rattle.ahci_table.specs.Prdt.{entry_place};
 ghost use Rattle.ahci_table.specs.Refusal.{is_ragged, refusal};
 ghost use Rattle.sata_fis.specs.Places.{byte};
 ghost use Rattle.ahci_table.specs.Scatter.{in_some};
@@ -15,6 +16,7 @@ ghost use Rattle.ahci_table.specs.Window.{base, most_bytes};
 
 use crate::checking::base;
 use crate::fault::BuildFault;
+use crate::laying::{lay, rises};
 use crate::list::furthest;
 use crate::piece::Piece;
 use crate::refusing::refusal;
@@ -115,12 +117,10 @@ impl<A: Allocator> Window<A> {
     {
         let end = furthest(pieces) as usize;
         let table = table_for(Vec::with_capacity(alloc, end)?, tag, op, pieces)?;
-        let mut bytes = zeroed_to(table, end)?;
-        fill(op, pieces, &mut bytes);
         Ok(Window {
             tag,
             header: header_for(tag, op, pieces.len() as u16),
-            bytes,
+            bytes: with_data(table, op, pieces)?,
         })
     }
 }
@@ -158,6 +158,43 @@ fn table_for<A: Allocator, B: Allocator>(
         table.extend_from_slice(&entry_for(start, piece))?;
     }
     Ok(table)
+}
+
+/// Puts a command's data behind its table: a write's bytes into its pieces, and zeros elsewhere.
+fn with_data<A: Allocator, B: Allocator>(
+    table: Vec<u8, A>,
+    op: &Op<B>,
+    pieces: &[Piece],
+) -> Result<Vec<u8, A>, AllocError>
+    requires free { refusal (work_of op.now) pieces.now ≡ None }
+    requires table { length table.items ≡ entry_place (length pieces.now) }
+    ensures len { IfOk result (λ v. length v.items ≡ furthest pieces.now) }
+    ensures text { IfOk result (λ v. joined pieces.now v.items ≡ data_for (work_of op.now)) }
+    ensures others { IfOk result (λ v. (x : ℕ) → in_some x pieces.now ≡ false → byte x v.items ≡ byte x table.items) }
+{
+    match op {
+        Op::Write { bytes: text, .. } if rises(table.len() as u64, pieces) => {
+            lay(table, pieces, text.as_slice())
+        }
+        _ => filled(table, op, pieces),
+    }
+}
+
+/// The same for pieces in any order: zeros first, and a write's bytes over them.
+fn filled<A: Allocator, B: Allocator>(
+    table: Vec<u8, A>,
+    op: &Op<B>,
+    pieces: &[Piece],
+) -> Result<Vec<u8, A>, AllocError>
+    requires free { refusal (work_of op.now) pieces.now ≡ None }
+    requires table { length table.items ≡ entry_place (length pieces.now) }
+    ensures len { IfOk result (λ v. length v.items ≡ furthest pieces.now) }
+    ensures text { IfOk result (λ v. joined pieces.now v.items ≡ data_for (work_of op.now)) }
+    ensures others { IfOk result (λ v. (x : ℕ) → in_some x pieces.now ≡ false → byte x v.items ≡ byte x table.items) }
+{
+    let mut bytes = zeroed_to(table, furthest(pieces) as usize)?;
+    fill(op, pieces, &mut bytes);
+    Ok(bytes)
 }
 
 /// Appends zeros up to an end.

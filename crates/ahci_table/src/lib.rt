@@ -10,6 +10,7 @@ mod entry;
 mod fault;
 mod header;
 pub mod laws;
+mod laying;
 mod list;
 mod moving;
 mod piece;

@@ -18,19 +18,22 @@ use Rattle.ahci_port.proofs.port.Port.accept.Goals as goal
 
 pub index_mut-requires : goal.index_mut-requires
 index_mut-requires g c =
-    let t = taking_now _ _ _ _ _ _ _ c.args.tag c.args.self.now c.self.invariant (ap (λ p. p.past) c.self.view_is) (sym c.accept_fault.ensures ∙ c.in_default.is) c.the_disks_answers_are_these_bytes.ensures.spell in
+    let t = taking_now _ _ _ _ _ _ _ c.args.tag c.args.self.now c.self.invariant (ap (λ p. p.past) c.self.view_is)
+      (sym c.accept_fault.ensures ∙ c.in_default.is) c.the_disks_answers_are_these_bytes.ensures.spell in
     let b = t.owner.below in search rules
 
 pub cfis-requires : goal.cfis-requires
 cfis-requires g c =
-    let t = taking_now _ _ _ _ _ _ _ c.args.tag c.args.self.now c.self.invariant (ap (λ p. p.past) c.self.view_is) (sym c.accept_fault.ensures ∙ c.in_default.is) c.the_disks_answers_are_these_bytes.ensures.spell in
+    let t = taking_now _ _ _ _ _ _ _ c.args.tag c.args.self.now c.self.invariant (ap (λ p. p.past) c.self.view_is)
+      (sym c.accept_fault.ensures ∙ c.in_default.is) c.the_disks_answers_are_these_bytes.ensures.spell in
     let same = owner_is t.owner _ _ c.index_mut.ensures.value c.in-Some-index_mut.is in
     subst (λ s. IsFit s.window) same t.owner.holds.fit
 
 pub answer_in-fis-requires : goal.answer_in-fis-requires
 answer_in-fis-requires g c =
     let i = c.self.inside in
-    let t = taking_now _ _ _ _ _ _ _ c.args.tag c.args.self.now c.self.invariant (ap (λ p. p.past) c.self.view_is) (sym c.accept_fault.ensures ∙ c.in_default.is) c.the_disks_answers_are_these_bytes.ensures.spell in
+    let t = taking_now _ _ _ _ _ _ _ c.args.tag c.args.self.now c.self.invariant (ap (λ p. p.past) c.self.view_is)
+      (sym c.accept_fault.ensures ∙ c.in_default.is) c.the_disks_answers_are_these_bytes.ensures.spell in
     let same = owner_is t.owner _ _ c.index_mut.ensures.value c.in-Some-index_mut.is in
     let cf : c.cfis.result.now ≡ cfis t.owner.slot.window = c.cfis.ensures ∙ ap (λ s. cfis s.window) (sym same) in
     let took : fis_of c.take.result ≡ Some (answer_bytes i.disk (queued_of t.owner.slot.window)) = ap fis_of (c.take.ensures.answer ∙ ap (λ b. (verdict i.disk b).answer) cf) ∙ t.answer_of in
@@ -39,7 +42,8 @@ answer_in-fis-requires g c =
 pub receive_register-answer-requires-clause-spells : goal.receive_register-answer-requires-clause-spells
 receive_register-answer-requires-clause-spells g c =
     let i = c.self.inside in
-    let t = taking_now _ _ _ _ _ _ _ c.args.tag c.args.self.now c.self.invariant (ap (λ p. p.past) c.self.view_is) (sym c.accept_fault.ensures ∙ c.in_default.is) c.the_disks_answers_are_these_bytes.ensures.spell in
+    let t = taking_now _ _ _ _ _ _ _ c.args.tag c.args.self.now c.self.invariant (ap (λ p. p.past) c.self.view_is)
+      (sym c.accept_fault.ensures ∙ c.in_default.is) c.the_disks_answers_are_these_bytes.ensures.spell in
     let same = owner_is t.owner _ _ c.index_mut.ensures.value c.in-Some-index_mut.is in
     let cf : c.cfis.result.now ≡ cfis t.owner.slot.window = c.cfis.ensures ∙ ap (λ s. cfis s.window) (sym same) in
     let took : fis_of c.take.result ≡ Some (answer_bytes i.disk (queued_of t.owner.slot.window)) = ap fis_of (c.take.ensures.answer ∙ ap (λ b. (verdict i.disk b).answer) cf) ∙ t.answer_of in
@@ -48,13 +52,15 @@ receive_register-answer-requires-clause-spells g c =
 
 pub push_reserved-requires : goal.push_reserved-requires
 push_reserved-requires g c =
-    let t = taking_now _ _ _ _ _ _ _ c.args.tag c.args.self.now c.self.invariant (ap (λ p. p.past) c.self.view_is) (sym c.accept_fault.ensures ∙ c.in_default.is) c.the_disks_answers_are_these_bytes.ensures.spell in
+    let t = taking_now _ _ _ _ _ _ _ c.args.tag c.args.self.now c.self.invariant (ap (λ p. p.past) c.self.view_is)
+      (sym c.accept_fault.ensures ∙ c.in_default.is) c.the_disks_answers_are_these_bytes.ensures.spell in
     t.room
 
 pub invariant_of-self : goal.invariant_of-self
 invariant_of-self g c =
     let i = c.self.inside in
-    let t = taking_now _ _ _ _ _ _ _ c.args.tag c.args.self.now c.self.invariant (ap (λ p. p.past) c.self.view_is) (sym c.accept_fault.ensures ∙ c.in_default.is) c.the_disks_answers_are_these_bytes.ensures.spell in
+    let t = taking_now _ _ _ _ _ _ _ c.args.tag c.args.self.now c.self.invariant (ap (λ p. p.past) c.self.view_is)
+      (sym c.accept_fault.ensures ∙ c.in_default.is) c.the_disks_answers_are_these_bytes.ensures.spell in
     let same = owner_is t.owner _ _ c.index_mut.ensures.value c.in-Some-index_mut.is in
     let cf : c.cfis.result.now ≡ cfis t.owner.slot.window = c.cfis.ensures ∙ ap (λ s. cfis s.window) (sym same) in
     let took : fis_of c.take.result ≡ Some (answer_bytes i.disk (queued_of t.owner.slot.window)) = ap fis_of (c.take.ensures.answer ∙ ap (λ b. (verdict i.disk b).answer) cf) ∙ t.answer_of in
@@ -72,7 +78,8 @@ invariant_of-self g c =
 pub returns-clause-ok : goal.returns-clause-ok
 returns-clause-ok g c =
     let i = c.self.inside in
-    let t = taking_now _ _ _ _ _ _ _ c.args.tag c.args.self.now c.self.invariant (ap (λ p. p.past) c.self.view_is) (sym c.accept_fault.ensures ∙ c.in_default.is) c.the_disks_answers_are_these_bytes.ensures.spell in
+    let t = taking_now _ _ _ _ _ _ _ c.args.tag c.args.self.now c.self.invariant (ap (λ p. p.past) c.self.view_is)
+      (sym c.accept_fault.ensures ∙ c.in_default.is) c.the_disks_answers_are_these_bytes.ensures.spell in
     let same = owner_is t.owner _ _ c.index_mut.ensures.value c.in-Some-index_mut.is in
     let cf : c.cfis.result.now ≡ cfis t.owner.slot.window = c.cfis.ensures ∙ ap (λ s. cfis s.window) (sym same) in
     let took : fis_of c.take.result ≡ Some (answer_bytes i.disk (queued_of t.owner.slot.window)) = ap fis_of (c.take.ensures.answer ∙ ap (λ b. (verdict i.disk b).answer) cf) ∙ t.answer_of in
@@ -86,7 +93,8 @@ returns-clause-ok g c =
     c.push_reserved.ensures.past ∙ ap (λ e. e ∷ i.journal.past) (c.taken_event.ensures ∙ ap (taken_entry c.args.tag) said) in
     let old = view_of i.starting.items i.disk i.registers i.area i.slots.items i.journal.past in
     let next = taken_slot t.owner.slot (length i.journal.past) (d2h_at c.answer_in-fis.result) in
-    let new = view_of i.starting.items c.take.new.self c.receive_register-answer.new.registers c.receive_register-answer.new.area (set i.slots.items c.args.tag (Some next)) c.push_reserved.new.self.past in
+    let new = view_of i.starting.items c.take.new.self c.receive_register-answer.new.registers c.receive_register-answer.new.area
+      (set i.slots.items c.args.tag (Some next)) c.push_reserved.new.self.past in
     let w = t.owner.slot.window in
     let size = disk_size c.self.invariant in
     let step : c.taken_step.result ≡ taken_step (length i.journal.past) (d2h_at c.answer_in-fis.result) =
@@ -94,7 +102,8 @@ returns-clause-ok g c =
     rw (← c.self.view_is, slot)
     (request_has i.starting.items i.journal.past c.args.tag t.owner.slot (λ r. IsTaken c.args.tag r.work old new c.taken_step.result) t.owner.holds
     (taken_as old new c.args.tag (op w) c.taken_step.result (first_lacking i.disk (queued_of w)) (is_past_end i.disk (queued_of w)) c.answer_in-fis.result
-    (sym (past_end i.disk (length i.starting.items / 512) w (fit_sized w t.owner.holds.fit) size)) (lacking_there i.disk (length i.starting.items / 512) w size) c.the_disks_answers_are_these_bytes.ensures.spell t.lba_small fis
+    (sym (past_end i.disk (length i.starting.items / 512) w (fit_sized w t.owner.holds.fit) size))
+      (lacking_there i.disk (length i.starting.items / 512) w size) c.the_disks_answers_are_these_bytes.ensures.spell t.lba_small fis
     step
     (record { starting_same = refl; depth_same = ap (λ d. d.depth) state ∙ state_depth i.disk (queued_of w); past_is = pasts })
     c.receive_register-answer.ensures.registers c.receive_register-answer.ensures.area

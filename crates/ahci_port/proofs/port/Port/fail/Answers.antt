@@ -48,7 +48,8 @@ invariant_of-self-2 g c =
     c.receive_bits.ensures.registers ∙ ap (λ b. after_bits i.registers (set_bits_at b).status (set_bits_at b).error (set_bits_at b).i (set_bits_at b).sactive) a.1 in
     let busy : is_busy (phase i.journal.past c.args.tag) ≡ true = ap is_busy m.accepted in
     rw (slot, moved, c.push_reserved.ensures.past, c.in-Ok.ensures.state)
-    (keeps_fail i.starting.items i.disk i.registers (failed i.registers c.args.error) i.slots.items i.headers i.journal.past i.journal.room c.push_reserved.new.self.room c.args.tag c.args.error c.args.at m.owner.slot
+    (keeps_fail i.starting.items i.disk i.registers
+      (failed i.registers c.args.error) i.slots.items i.headers i.journal.past i.journal.room c.push_reserved.new.self.room c.args.tag c.args.error c.args.at m.owner.slot
     c.self.invariant busy m.owner.here m.allowed (tracks_fail i.disk.depth i.journal.past i.registers c.args.tag c.args.error c.args.at c.self.invariant.tracks busy) c.push_reserved.ensures.room)
 
 pub returns-clause-ok : goal.returns-clause-ok

@@ -39,7 +39,8 @@ returns-clause-failed g c =
     let stopped : is_stopped i.disk ≡ true = stopped_here _ _ _ _ _ _ _ c.self.invariant ∙ stop in
     let state : c.send-taken.new.disk ≡ i.disk = c.send-taken.ensures.disk ∙ stopped_state i.disk (cfis_for ReadLog) stopped in
     let page : c.page.result ≡ c.read_log.result = c.page.ensures ∙ c.take_page.ensures in
-    let is : IsSomeAnd i.disk.error (λ e. c.page.result ≡ log_page e) = subst (λ x. IsSomeAnd i.disk.error (λ e. x ≡ log_page e)) (sym page) (subst (λ d. IsSomeAnd d.error (λ e. c.read_log.result ≡ log_page e)) state c.read_log.ensures.page) in
+    let is : IsSomeAnd i.disk.error (λ e. c.page.result ≡ log_page e) =
+      subst (λ x. IsSomeAnd i.disk.error (λ e. x ≡ log_page e)) (sym page) (subst (λ d. IsSomeAnd d.error (λ e. c.read_log.result ≡ log_page e)) state c.read_log.ensures.page) in
     let bad = tag_of_page i.disk.error c.page.result i.journal.past (logged _ _ _ _ _ _ _ c.self.invariant stop) is (failed_low _ _ _ _ _ _ _ c.self.invariant) in
     rw (← c.self.view_is) bad
 
@@ -50,15 +51,18 @@ invariant_of-self-2 g c =
     let stopped : is_stopped i.disk ≡ true = stopped_here _ _ _ _ _ _ _ c.self.invariant ∙ stop in
     let state : c.send-taken.new.disk ≡ i.disk = c.send-taken.ensures.disk ∙ stopped_state i.disk (cfis_for ReadLog) stopped in
     let page : c.page.result ≡ c.read_log.result = c.page.ensures ∙ c.take_page.ensures in
-    let is : IsSomeAnd i.disk.error (λ e. c.page.result ≡ log_page e) = subst (λ x. IsSomeAnd i.disk.error (λ e. x ≡ log_page e)) (sym page) (subst (λ d. IsSomeAnd d.error (λ e. c.read_log.result ≡ log_page e)) state c.read_log.ensures.page) in
+    let is : IsSomeAnd i.disk.error (λ e. c.page.result ≡ log_page e) =
+      subst (λ x. IsSomeAnd i.disk.error (λ e. x ≡ log_page e)) (sym page) (subst (λ d. IsSomeAnd d.error (λ e. c.read_log.result ≡ log_page e)) state c.read_log.ensures.page) in
     let bad = tag_of_page i.disk.error c.page.result i.journal.past (logged _ _ _ _ _ _ _ c.self.invariant stop) is (failed_low _ _ _ _ _ _ _ c.self.invariant) in
     let disk : c.read_log.new.self ≡ no_error i.disk = c.read_log.ensures.state ∙ ap no_error state in
     let regs : c.receive_pio.new.registers ≡ recovered i.registers =
-    c.receive_pio.ensures.registers ∙ ap (λ b. after_pio_end (after_pio c.send-taken.new.registers (pio_setup_at b).status (pio_setup_at b).error) (pio_setup_at b).e_status (pio_setup_at b).i 0) c.pio_setup.ensures
+    c.receive_pio.ensures.registers ∙ ap (λ b. after_pio_end (after_pio c.send-taken.new.registers (pio_setup_at b).status (pio_setup_at b).error)
+      (pio_setup_at b).e_status (pio_setup_at b).i 0) c.pio_setup.ensures
     ∙ ap read_data (c.send-taken.ensures.registers ∙ ap (λ r. after_write r 0x138 1) c.restart.ensures) in
     let headers = back_again i.headers c.send-taken.new.header (let h = c.self.invariant.header_count in omega arith) in
     let slots = whole_write i.slots.items c.recover_slots.new.slots i.slots.len (sym c.deref_mut.ensures.len ∙ ap length c.deref_mut.ensures.value)
-    (ap length c.recover_slots.ensures ∙ length-map c.deref_mut.result.now (option_map recovered_slot) ∙ ap length c.deref_mut.ensures.value) ∙ c.recover_slots.ensures ∙ ap (map (option_map recovered_slot)) c.deref_mut.ensures.value in
+    (ap length c.recover_slots.ensures ∙ length-map c.deref_mut.result.now (option_map recovered_slot) ∙ ap length c.deref_mut.ensures.value)
+      ∙ c.recover_slots.ensures ∙ ap (map (option_map recovered_slot)) c.deref_mut.ensures.value in
     rw (headers, disk, regs, slots, c.push_reserved.ensures.past, c.in-Ok.ensures.past)
     (keeps_recover i.starting.items i.disk i.registers i.slots.items i.headers i.journal.past i.journal.room c.push_reserved.new.self.room (get_or c.page.result 0 0 % 32) c.self.invariant bad
     (let a = c.in-Ok.ensures.room in let b = c.push_reserved.ensures.room in omega arith))
@@ -70,17 +74,21 @@ returns-clause-recovered g c =
     let stopped : is_stopped i.disk ≡ true = stopped_here _ _ _ _ _ _ _ c.self.invariant ∙ stop in
     let state : c.send-taken.new.disk ≡ i.disk = c.send-taken.ensures.disk ∙ stopped_state i.disk (cfis_for ReadLog) stopped in
     let page : c.page.result ≡ c.read_log.result = c.page.ensures ∙ c.take_page.ensures in
-    let is : IsSomeAnd i.disk.error (λ e. c.page.result ≡ log_page e) = subst (λ x. IsSomeAnd i.disk.error (λ e. x ≡ log_page e)) (sym page) (subst (λ d. IsSomeAnd d.error (λ e. c.read_log.result ≡ log_page e)) state c.read_log.ensures.page) in
+    let is : IsSomeAnd i.disk.error (λ e. c.page.result ≡ log_page e) =
+      subst (λ x. IsSomeAnd i.disk.error (λ e. x ≡ log_page e)) (sym page) (subst (λ d. IsSomeAnd d.error (λ e. c.read_log.result ≡ log_page e)) state c.read_log.ensures.page) in
     let bad = tag_of_page i.disk.error c.page.result i.journal.past (logged _ _ _ _ _ _ _ c.self.invariant stop) is (failed_low _ _ _ _ _ _ _ c.self.invariant) in
     let disk : c.read_log.new.self ≡ no_error i.disk = c.read_log.ensures.state ∙ ap no_error state in
     let regs : c.receive_pio.new.registers ≡ recovered i.registers =
-    c.receive_pio.ensures.registers ∙ ap (λ b. after_pio_end (after_pio c.send-taken.new.registers (pio_setup_at b).status (pio_setup_at b).error) (pio_setup_at b).e_status (pio_setup_at b).i 0) c.pio_setup.ensures
+    c.receive_pio.ensures.registers ∙ ap (λ b. after_pio_end (after_pio c.send-taken.new.registers (pio_setup_at b).status (pio_setup_at b).error)
+      (pio_setup_at b).e_status (pio_setup_at b).i 0) c.pio_setup.ensures
     ∙ ap read_data (c.send-taken.ensures.registers ∙ ap (λ r. after_write r 0x138 1) c.restart.ensures) in
     let slots = whole_write i.slots.items c.recover_slots.new.slots i.slots.len (sym c.deref_mut.ensures.len ∙ ap length c.deref_mut.ensures.value)
-    (ap length c.recover_slots.ensures ∙ length-map c.deref_mut.result.now (option_map recovered_slot) ∙ ap length c.deref_mut.ensures.value) ∙ c.recover_slots.ensures ∙ ap (map (option_map recovered_slot)) c.deref_mut.ensures.value in
+    (ap length c.recover_slots.ensures ∙ length-map c.deref_mut.result.now (option_map recovered_slot) ∙ ap length c.deref_mut.ensures.value)
+      ∙ c.recover_slots.ensures ∙ ap (map (option_map recovered_slot)) c.deref_mut.ensures.value in
     rw (← c.self.view_is)
     (record {
-      appended = record { starting_same = refl; depth_same = ap (λ d. d.depth) disk; past_is = c.push_reserved.ensures.past ∙ ap (λ p. Recover (get_or c.page.result 0 0 % 32) ∷ p) c.in-Ok.ensures.past };
+      appended = record { starting_same = refl; depth_same = ap (λ d. d.depth) disk; past_is = c.push_reserved.ensures.past
+        ∙ ap (λ p. Recover (get_or c.page.result 0 0 % 32) ∷ p) c.in-Ok.ensures.past };
       registers_are = regs;
       area_is = c.receive_pio.ensures.area ∙ ap (λ b. put_at pio_place b i.area) c.pio_setup.ensures;
       windows_same = ap (map window_in) slots ∙ windows_recover i.slots.items;

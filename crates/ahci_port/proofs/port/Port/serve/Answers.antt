@@ -70,12 +70,16 @@ invariant_of-self g c =
     c.serve-sent.ensures.slot ∙ ap (λ s. served_slot s c.len-entry.result w) (sym same) ∙ ap (λ n. served_slot t.owner.slot n w) c.len-entry.ensures in
     let bits = ap set_bits_at c.serve-sent.ensures.bits ∙ sym (c.the_disks_answers_are_these_bytes.ensures.spell.completed c.args.tag t.owner.low).1 in
     let regs : c.receive_bits.new.registers ≡ completed i.registers c.args.tag = c.receive_bits.ensures.registers ∙ ap (λ f. after_bits i.registers f.status f.error f.i f.sactive) bits in
-    let kept_all = keeps_serve i.starting.items i.disk i.registers i.slots.items i.headers i.journal.past i.journal.room c.push_reserved.new.self.room c.args.tag t.owner.slot c.serve-sent.new.disk.image w
+    let kept_all = keeps_serve i.starting.items i.disk i.registers i.slots.items i.headers i.journal.past i.journal.room
+      c.push_reserved.new.self.room c.args.tag t.owner.slot c.serve-sent.new.disk.image w
     c.self.invariant t.accepted t.running t.owner.here (fit_sized t.owner.slot.window t.owner.holds.fit) moved
-    (moved_window (queued_of t.owner.slot.window) t.owner.slot.window w i.disk.image c.serve-sent.new.disk.image refl t.owner.holds.fit c.serve-sent.ensures.fit kept moved) c.push_reserved.ensures.room in
+    (moved_window (queued_of t.owner.slot.window) t.owner.slot.window w i.disk.image c.serve-sent.new.disk.image refl t.owner.holds.fit c.serve-sent.ensures.fit kept moved)
+      c.push_reserved.ensures.room in
     rw (regs, c.push_reserved.ensures.past)
-    (subst (λ d. Keeps i.starting.items d (completed i.registers c.args.tag) (set i.slots.items c.args.tag (Some c.serve-sent.new.self)) i.headers (Complete c.args.tag ∷ i.journal.past) c.push_reserved.new.self.room) (sym state)
-    (subst (λ s. Keeps i.starting.items (served i.disk c.args.tag c.serve-sent.new.disk.image) (completed i.registers c.args.tag) (set i.slots.items c.args.tag (Some s)) i.headers (Complete c.args.tag ∷ i.journal.past) c.push_reserved.new.self.room)
+    (subst (λ d. Keeps i.starting.items d (completed i.registers c.args.tag) (set i.slots.items c.args.tag (Some c.serve-sent.new.self)) i.headers
+      (Complete c.args.tag ∷ i.journal.past) c.push_reserved.new.self.room) (sym state)
+    (subst (λ s. Keeps i.starting.items (served i.disk c.args.tag c.serve-sent.new.disk.image) (completed i.registers c.args.tag)
+      (set i.slots.items c.args.tag (Some s)) i.headers (Complete c.args.tag ∷ i.journal.past) c.push_reserved.new.self.room)
     (sym slot) kept_all))
 
 pub returns-clause-ok : goal.returns-clause-ok
@@ -93,7 +97,8 @@ returns-clause-ok g c =
     let bits = ap set_bits_at c.serve-sent.ensures.bits ∙ sym (c.the_disks_answers_are_these_bytes.ensures.spell.completed c.args.tag t.owner.low).1 in
     let regs : c.receive_bits.new.registers ≡ completed i.registers c.args.tag = c.receive_bits.ensures.registers ∙ ap (λ f. after_bits i.registers f.status f.error f.i f.sactive) bits in
     let old = view_of i.starting.items i.disk i.registers i.area i.slots.items i.journal.past in
-    let new = view_of i.starting.items c.serve-sent.new.disk c.receive_bits.new.registers c.receive_bits.new.area (set i.slots.items c.args.tag (Some c.serve-sent.new.self)) c.push_reserved.new.self.past in
+    let new = view_of i.starting.items c.serve-sent.new.disk c.receive_bits.new.registers c.receive_bits.new.area
+      (set i.slots.items c.args.tag (Some c.serve-sent.new.self)) c.push_reserved.new.self.past in
     let own_window : window_at old c.args.tag ≡ Some t.owner.slot.window = get_or-map window_in i.slots.items c.args.tag None ∙ ap window_in t.owner.here in
     rw (← c.self.view_is)
     (subst (λ o. IsSomeAnd o (λ x. IsServed c.args.tag x old new (Completed c.len-entry.result))) (sym own_window)
@@ -102,7 +107,9 @@ returns-clause-ok g c =
       appended = record { starting_same = refl; depth_same = ap (λ d. d.depth) state; past_is = c.push_reserved.ensures.past };
       registers_are = regs;
       area_is = c.receive_bits.ensures.area ∙ ap (λ b. put_at bits_place b c.receive_setup.new.area) c.serve-sent.ensures.bits
-          ∙ ap (put_at bits_place (completed_bytes c.args.tag)) (c.receive_setup.ensures ∙ ap (λ b. put_at setup_place b i.area) (c.serve-sent.ensures.setup ∙ ap (λ s. setup_bytes (queued_of s.window)) (sym same)));
+          ∙ ap (put_at bits_place (completed_bytes c.args.tag))
+            (c.receive_setup.ensures ∙ ap (λ b. put_at setup_place b i.area) (c.serve-sent.ensures.setup ∙ ap (λ s. setup_bytes (queued_of s.window)) (sym same)));
       moved = steps_moved i.starting.items i.journal.past i.disk.image c.serve-sent.new.disk.image i.slots.items c.args.tag (length i.journal.past) t.owner.slot w old new
-          t.owner.here t.owner.below c.self.invariant.sectors t.owner.holds.fit c.serve-sent.ensures.fit kept moved refl refl refl (ap (λ s. map window_in (set i.slots.items c.args.tag (Some s))) slot);
+          t.owner.here t.owner.below c.self.invariant.sectors t.owner.holds.fit c.serve-sent.ensures.fit kept moved refl refl refl
+            (ap (λ s. map window_in (set i.slots.items c.args.tag (Some s))) slot);
     }))

@@ -26,8 +26,10 @@ returns-clause-scattered g c =
     let list : c.args.list.now ≡ pieces c.args.self.now = c.requires.list in
     let bytes : c.deref_mut.result.now ≡ c.args.self.now.bytes = c.deref_mut.ensures.value ∙ own in
     let after = with_items_is c.self.inside.bytes c.scatter.new.bytes (c.scatter.ensures.len ∙ c.deref_mut.ensures.len) in
-    let both = scattered_window c.args.self.now c.args.offset c.args.from.now c.scatter.new.bytes c.requires.fit (c.scatter.ensures.len ∙ ap length bytes) (rw (list, bytes) at c.scatter.ensures.text) (rw (list, bytes) at c.scatter.ensures.others) in
-    subst (IsScattered c.args.self.now c.args.offset c.args.from.now) (sym (window_is c.self.inside.tag c.self.inside.header c.self.inside.bytes.items c.scatter.new.bytes _ c.args.self.now c.self.view_is after)) both.0
+    let both = scattered_window c.args.self.now c.args.offset c.args.from.now c.scatter.new.bytes c.requires.fit (c.scatter.ensures.len ∙ ap length bytes)
+      (rw (list, bytes) at c.scatter.ensures.text) (rw (list, bytes) at c.scatter.ensures.others) in
+    subst (IsScattered c.args.self.now c.args.offset c.args.from.now)
+      (sym (window_is c.self.inside.tag c.self.inside.header c.self.inside.bytes.items c.scatter.new.bytes _ c.args.self.now c.self.view_is after)) both.0
 
 pub returns-clause-fit : goal.returns-clause-fit
 returns-clause-fit g c =
@@ -35,5 +37,6 @@ returns-clause-fit g c =
     let list : c.args.list.now ≡ pieces c.args.self.now = c.requires.list in
     let bytes : c.deref_mut.result.now ≡ c.args.self.now.bytes = c.deref_mut.ensures.value ∙ own in
     let after = with_items_is c.self.inside.bytes c.scatter.new.bytes (c.scatter.ensures.len ∙ c.deref_mut.ensures.len) in
-    let both = scattered_window c.args.self.now c.args.offset c.args.from.now c.scatter.new.bytes c.requires.fit (c.scatter.ensures.len ∙ ap length bytes) (rw (list, bytes) at c.scatter.ensures.text) (rw (list, bytes) at c.scatter.ensures.others) in
+    let both = scattered_window c.args.self.now c.args.offset c.args.from.now c.scatter.new.bytes c.requires.fit (c.scatter.ensures.len ∙ ap length bytes)
+      (rw (list, bytes) at c.scatter.ensures.text) (rw (list, bytes) at c.scatter.ensures.others) in
     subst IsFit (sym (window_is c.self.inside.tag c.self.inside.header c.self.inside.bytes.items c.scatter.new.bytes _ c.args.self.now c.self.view_is after)) both.1
