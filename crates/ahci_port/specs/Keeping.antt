@@ -5,7 +5,7 @@ use Rattle.ahci_table.specs.Command.{op}
 use Rattle.ahci_table.specs.Fit.{IsFit}
 use Rattle.ncq_journal.specs.declared.phase.Phase.TheVariants.{Free}
 use Rattle.ncq_journal.specs.Answer.{answer}
-use Rattle.ncq_core.specs.DiskState.{DiskState, command_of}
+use Rattle.ncq_core.specs.DiskState.{DiskState, command_of, most_depth, most_disk_sectors}
 use Rattle.ncq_journal.specs.Entry.{Entry}
 use Rattle.ncq_journal.specs.Halted.{halted}
 use Rattle.ncq_journal.specs.Image.{sector_at, is_write}
@@ -49,9 +49,9 @@ slot_at slots tag = slice_index_or slots tag None
 
 pub record Keeps (starting : List ℕ) (disk : DiskState) (registers : PortState) (slots : List (Option SlotState)) (headers : List (List ℕ)) (past : List Entry) (free : ℕ) : Type 0 where
   pub whole : length starting ≡ 512 * (length starting / 512)
-  pub few : length starting / 512 ≤ 131072
+  pub few : length starting / 512 ≤ most_disk_sectors
   pub some_slot : 1 ≤ disk.depth
-  pub shallow : disk.depth ≤ 32
+  pub shallow : disk.depth ≤ most_depth
   pub same_size : length disk.image ≡ length starting
   pub command_count : length disk.commands ≡ 32
   pub slot_count : length slots ≡ disk.depth

@@ -23,6 +23,7 @@ use Rattle.ahci_script.specs.declared.line.Command.{Command}
 use Rattle.ahci_script.specs.declared.line.Command.TheVariants as command
 use Rattle.ahci_script.specs.declared.refusal.Refusal.{Refusal}
 use Rattle.ahci_script.specs.declared.refusal.Refusal.TheVariants.{BadSize, BadDepth, BadCount, BadLba, NoSuchTag, SlotOwned, Halted, NotIssued, NotAccepted, OutsideCommand, Stranger, NotYet, NotHalted, NotHeld, QueueBusy, Unaligned, NoSuchRegister, NoSuchSector}
+use Rattle.ncq_core.specs.DiskState.{most_depth, most_disk_sectors}
 use Rattle.ncq_journal.specs.Lawful.{most_sectors}
 
 -- a fault by the name that is shown; the window of a script's command is always fit
@@ -68,8 +69,8 @@ joined None = None
 -- why a disk is not made
 abbrev pub disk_refusal : ℕ → ℕ → Option Refusal
 disk_refusal sectors depth =
-    if nat_eq sectors 0 || nat_lt 131072 sectors then Some BadSize
-    else if nat_eq depth 0 || nat_lt 32 depth then Some BadDepth
+    if nat_eq sectors 0 || nat_lt most_disk_sectors sectors then Some BadSize
+    else if nat_eq depth 0 || nat_lt most_depth depth then Some BadDepth
     else None
 
 -- why a command of so many sectors from an LBA on is not issued: its window is built first

@@ -19,10 +19,14 @@ pub data Begins : Type 0 where
   too_long : Begins
   unfinished : Begins
 
--- where the first line feed is known: a line of at most 4,096 bytes before it, more bytes than that, or neither
+-- how many bytes a line has at most, without its line feed
+abbrev pub line_limit : ℕ
+line_limit = 4096
+
+-- where the first line feed is known: a line before it, more bytes than a line may have, or neither
 abbrev pub found_at : Option ℕ → List ℕ → Begins
-found_at None bytes = if nat_le (length bytes) 4096 then unfinished else too_long
-found_at (Some end) bytes = if nat_le end 4096 then whole (take end bytes) else too_long
+found_at None bytes = if nat_le (length bytes) line_limit then unfinished else too_long
+found_at (Some end) bytes = if nat_le end line_limit then whole (take end bytes) else too_long
 
 abbrev pub found_of : List ℕ → Begins
 found_of bytes = found_at (line_end bytes) bytes

@@ -4,10 +4,6 @@ use Rattle.std.specs.Prelude.{ℕ, ◌+◌, max, Bool, true, ◌&&◌, ◌||◌,
 use Rattle.std.specs.List.{list_all}
 use Rattle.ahci_table.specs.declared.piece.Piece.{Piece}
 
--- the place and the length, both in bytes
-abbrev pub PieceFields : Type 0
-PieceFields = Piece
-
 -- the place behind the piece's last byte
 abbrev pub end_of : Piece → ℕ
 end_of p = p.at + p.len

@@ -6,15 +6,14 @@ ghost use Rattle.ahci_table.specs.Prdt.{pieces, piece_of, entry_of, table_end};
 ghost use Rattle.ahci_table.specs.Window.{base};
 
 use crate::command::Command;
-use crate::defaults::MOST_SECTORS;
 use crate::entry::Entry;
 use crate::fault::TableFault;
 use crate::header::Header;
 use crate::list::{are_apart, total};
 use crate::piece::Piece;
-use crate::refusing::MOST_BYTES;
-use crate::window::Window;
+use crate::window::{MAX_BYTES, Window};
 use arrayvec::ArrayVec;
+use ncq_core::MAX_COUNT;
 use sata_fis::{Fis, Queued, decode, queued};
 use std::alloc::Allocator;
 
@@ -47,7 +46,7 @@ impl<A: Allocator> Window<A> {
         if queued.tag != self.tag {
             return Err(TableFault::WrongTag);
         }
-        if queued.sectors > MOST_SECTORS {
+        if queued.sectors > MAX_COUNT {
             return Err(TableFault::TooLong);
         }
         let Some(pieces) = self.whole_list(queued.sectors) else {
@@ -71,7 +70,7 @@ impl<A: Allocator> Window<A> {
             return false;
         }
         let len = self.bytes.len();
-        0x80 + 16 * usize::from(header.prdtl) <= len && len as u64 <= MOST_BYTES
+        0x80 + 16 * usize::from(header.prdtl) <= len && len as u64 <= MAX_BYTES
     }
 
     /// The queued command that CFIS spells, where the header names its direction.

@@ -3,9 +3,7 @@ ghost use Rattle.ahci_table.specs.Defaults.{default_list};
 
 use crate::piece::Piece;
 use arrayvec::ArrayVec;
-
-/// The most sectors of one command.
-pub(crate) const MOST_SECTORS: u32 = 256;
+use ncq_core::MAX_COUNT;
 
 /// The pieces of a command with so many sectors where nothing else is asked for: one of 4,096 bytes behind the other
 /// from 1000h on, the last shorter. None for no sectors, and none for more than a command may have.
@@ -13,7 +11,7 @@ pub fn default_pieces(sectors: u32) -> ArrayVec<Piece, 32>
     ensures { result.items ≡ default_list sectors }
 {
     let mut pieces = ArrayVec::new();
-    if sectors > MOST_SECTORS {
+    if sectors > MAX_COUNT {
         return pieces;
     }
     for index in 0..sectors.div_ceil(8) {

@@ -22,4 +22,4 @@ pub use command::Command;
 pub use defaults::default_pieces;
 pub use fault::{BuildFault, TableFault};
 pub use piece::Piece;
-pub use window::Window;
+pub use window::{MAX_BYTES, Window};

@@ -5,15 +5,12 @@ ghost use Rattle.std.specs.List.{list_any};
 ghost use Rattle.ncq_journal.specs.Work.{work_of};
 ghost use Rattle.ahci_table.specs.Refusal.{has_bad_count, is_ragged, is_odd, is_outside, list_refusal, refusal};
 
-use crate::defaults::MOST_SECTORS;
 use crate::fault::BuildFault;
 use crate::list::{are_apart, total};
 use crate::piece::{Piece, end_of};
-use ncq_core::Op;
+use crate::window::MAX_BYTES;
+use ncq_core::{LBA_LIMIT, MAX_COUNT, Op};
 use std::alloc::Allocator;
-
-/// The most bytes of a window.
-pub(crate) const MOST_BYTES: u64 = 0x0400_0000;
 
 /// Whether the bytes of a write aren't whole sectors.
 fn is_ragged<A: Allocator>(op: &Op<A>) -> bool
@@ -29,7 +26,7 @@ fn is_ragged<A: Allocator>(op: &Op<A>) -> bool
 fn has_bad_count<A: Allocator>(op: &Op<A>) -> bool
     ensures { result ≡ has_bad_count (work_of op.now) }
 {
-    op.sectors() == 0 || op.sectors() > u64::from(MOST_SECTORS) || is_ragged(op)
+    op.sectors() == 0 || op.sectors() > u64::from(MAX_COUNT) || is_ragged(op)
 }
 
 /// Whether a piece has an odd place, an odd length, no bytes, or more than an entry can count.
@@ -44,7 +41,7 @@ fn is_outside(entries: usize, piece: &Piece) -> bool
     requires { entries < 2 ^ 32 }
     ensures { result ≡ is_outside entries piece.now }
 {
-    u64::from(piece.at) < 0x80 + 16 * entries as u64 || end_of(piece) > MOST_BYTES
+    u64::from(piece.at) < 0x80 + 16 * entries as u64 || end_of(piece) > MAX_BYTES
 }
 
 /// Whether some piece is odd.
@@ -95,7 +92,7 @@ pub(crate) fn refusal<A: Allocator>(op: &Op<A>, pieces: &[Piece]) -> Option<Buil
     if has_bad_count(op) {
         return Some(BuildFault::BadCount);
     }
-    if op.lba() >= 1 << 48 {
+    if op.lba() >= LBA_LIMIT {
         return Some(BuildFault::BadLba);
     }
     list_refusal(pieces, 512 * op.sectors())

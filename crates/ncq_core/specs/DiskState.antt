@@ -42,11 +42,18 @@ no_commands = replicate 32 None
 abbrev pub new_disk : List ℕ → ℕ → DiskState
 new_disk image depth = record { image = image; depth = depth; commands = no_commands; error = None }
 
--- why no disk is made: the image is not 1 to 131,072 whole sectors, or the depth is not 1 to 32
+-- the most sectors of a disk, and the most tags (ACS-3, READ FPDMA QUEUED: a tag has five bits)
+abbrev pub most_disk_sectors : ℕ
+most_disk_sectors = 131072
+
+abbrev pub most_depth : ℕ
+most_depth = 32
+
+-- why no disk is made: the image has no sectors, too many or not whole ones, or the depth is not 1 to 32
 abbrev pub new_fault : List ℕ → ℕ → Option DiskFault
 new_fault image depth =
-    if nat_eq (length image) 0 || nat_lt 0 (length image % 512) || nat_lt 131072 (length image / 512) then Some BadSize
-    else if nat_eq depth 0 || nat_lt 32 depth then Some BadDepth
+    if nat_eq (length image) 0 || nat_lt 0 (length image % 512) || nat_lt most_disk_sectors (length image / 512) then Some BadSize
+    else if nat_eq depth 0 || nat_lt most_depth depth then Some BadDepth
     else None
 
 -- a command outstanding at a tag: its own, below the depth, and of at least one sector, all of them on the disk
@@ -67,9 +74,9 @@ pub record IsStanding (disk : DiskState) (e : DiskError) : Type 0 where
 pub record IsDisk (disk : DiskState) : Type 0 where
   pub whole : length disk.image ≡ 512 * disk_sectors disk
   pub least : 1 ≤ disk_sectors disk
-  pub most : disk_sectors disk ≤ 131072
+  pub most : disk_sectors disk ≤ most_disk_sectors
   pub deep : 1 ≤ disk.depth
-  pub shallow : disk.depth ≤ 32
+  pub shallow : disk.depth ≤ most_depth
   pub count : length disk.commands ≡ 32
   pub each : (tag : ℕ) (q : QueuedFields) → command_of disk tag ≡ Some q → IsOutstanding disk tag q
   pub stands : (e : DiskError) → disk.error ≡ Some e → IsStanding disk e
