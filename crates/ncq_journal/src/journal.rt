@@ -4,7 +4,7 @@ ghost use Rattle.ncq_journal.specs.Entry.{entry_of};
 ghost use Rattle.ncq_journal.specs.History.{entry_at, history_of};
 
 use crate::event::Event;
-use std::alloc::{AllocError, Allocator, Global};
+use std::alloc::{AllocError as OutOfMemory, Allocator, Global};
 use std::marker::Model;
 
 /// What the port has done, the oldest event first. It only grows. Contracts see the entries with the newest
@@ -72,7 +72,7 @@ impl<A: Allocator> Journal<A> {
     /// Makes room for `count` more entries. It fails only where the memory that is held is too little for them, and then
     /// nothing has changed.
     #[tactic(auto, using(crate::proofs::HistoryLemmas::length_history))]
-    pub fn reserve(&mut self, count: u64) -> Result<(), AllocError>
+    pub fn reserve(&mut self, count: u64) -> Result<(), OutOfMemory>
         ensures past { self.new.past ≡ self.old.past }
         ensures room { OnOk result (self.new.room ≡ max self.old.room count) }
         ensures held { OnOk result (length self.new.past + self.new.room ≤ self.new.held) }
