@@ -96,9 +96,9 @@ fn answers_of_commands_that_are_not_queued(rt: HostRuntime) {
     let pio = [
         0x5F, 0x60, 0x48, 0, 0, 0, 0, 0, 0, 0, 0, 0, 0, 0, 0, 0x40, 0, 2, 0, 0,
     ];
-    equal(&rt, 0, &<Disk>::pio_setup(), &pio);
+    equal(&rt, 0, &Disk::pio_setup(), &pio);
     let flushed = [
         0x34, 0x40, 0x40, 0, 0, 0, 0, 0, 0, 0, 0, 0, 0, 0, 0, 0, 0, 0, 0, 0,
     ];
-    equal(&rt, 1, &<Disk>::flushed(), &flushed);
+    equal(&rt, 1, &Disk::flushed(), &flushed);
 }

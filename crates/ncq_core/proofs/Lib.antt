@@ -1,3 +1,4 @@
 pub mod MovingLemmas
 pub mod DiskLemmas
 pub mod PageLemmas
+pub mod VerdictLemmas

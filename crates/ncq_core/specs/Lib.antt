@@ -5,3 +5,4 @@ pub mod Identify
 pub mod Log
 pub mod Serving
 pub mod Verdict
+pub mod VerdictTable

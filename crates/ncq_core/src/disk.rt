@@ -131,20 +131,6 @@ impl<A: Allocator> Disk<A> {
         identify_page(self.sectors(), self.depth())
     }
 
-    /// The PIO Setup FIS before the 512 bytes of a page.
-    pub fn pio_setup() -> [u8; 20]
-        ensures { result ≡ pio_bytes }
-    {
-        answers::pio_setup()
-    }
-
-    /// The Register FIS - Device to Host that ends a FLUSH CACHE EXT.
-    pub fn flushed() -> [u8; 20]
-        ensures { result ≡ flushed_bytes }
-    {
-        answers::flushed()
-    }
-
     /// The command outstanding at a tag.
     fn command(&self, tag: u8) -> Option<Queued>
         ensures { result ≡ command_of self.now tag }
@@ -160,6 +146,23 @@ impl<A: Allocator> Disk<A> {
     {
         self.commands = no_commands();
         self.error = Some(DiskError { tag, error, lba });
+    }
+}
+
+// What no disk differs in: a caller of these names no allocator.
+impl Disk {
+    /// The PIO Setup FIS before the 512 bytes of a page.
+    pub fn pio_setup() -> [u8; 20]
+        ensures { result ≡ pio_bytes }
+    {
+        answers::pio_setup()
+    }
+
+    /// The Register FIS - Device to Host that ends a FLUSH CACHE EXT.
+    pub fn flushed() -> [u8; 20]
+        ensures { result ≡ flushed_bytes }
+    {
+        answers::flushed()
     }
 }
 

@@ -1,9 +1,8 @@
 ghost use Rattle.std.specs.Prelude.{◌≡◌, ℕ, ◌+◌, ◌≤◌, ◌++◌, List, length, drop, slice_range};
 ghost use Rattle.std.specs.List.{replace_range};
-ghost use Rattle.sata_fis.specs.declared.fis.Fis.TheVariants.{Data, DmaActivate};
 ghost use Rattle.sata_fis.specs.Encoding.{data_head_bytes};
 ghost use Rattle.sata_fis.specs.Payload.{IsPayload};
-ghost use Rattle.sata_fis.specs.Spelling.{Spells};
+ghost use Rattle.ncq_core.specs.DiskFis.{activate_bytes};
 
 /// The memory that a command's data come from and go to (Serial ATA, "DMA Setup FIS", "DMA Activate FIS" and
 /// "Data FIS"). A host has a text, which is a list of bytes, the last DMA Setup that came, and an offset: the place
@@ -28,18 +27,19 @@ pub trait Host {
         ensures text { text self.new ≡ text self.old }
         ensures others { keeps self.old self.new };
 
-    /// Takes a whole Data FIS, and puts its payload at the offset.
+    /// Takes a whole Data FIS, whose reserved bytes are 0, and puts its payload at the offset.
     fn deliver(&mut self, fis: &[u8])
-        requires data { Spells fis.now (Data (drop 4 fis.now)) }
+        requires head { fis.now ≡ data_head_bytes ++ drop 4 fis.now }
+        requires data { IsPayload (drop 4 fis.now) }
         requires room { offset self.old + length (drop 4 fis.now) ≤ length (text self.old) }
         ensures text { text self.new ≡ replace_range (text self.old) (offset self.old) (offset self.old + length (drop 4 fis.now)) (drop 4 fis.now) }
         ensures offset { offset self.new ≡ offset self.old + length (drop 4 fis.now) }
         ensures setup { last_setup self.new ≡ last_setup self.old }
         ensures others { keeps self.old self.new };
 
-    /// Takes a DMA Activate, and fills `out` with a whole Data FIS: 4 bytes of head, and the text from the offset on.
+    /// Takes a DMA Activate, whose reserved bytes are 0, and fills `out` with a whole Data FIS: 4 bytes of head, and the text from the offset on.
     fn activate(&mut self, fis: &[u8; 4], out: &mut [u8])
-        requires activate { Spells fis.now DmaActivate }
+        requires activate { fis.now ≡ activate_bytes }
         requires data { IsPayload (drop 4 out.old) }
         requires room { offset self.old + length (drop 4 out.old) ≤ length (text self.old) }
         ensures out { out.new ≡ data_head_bytes ++ slice_range (text self.old) (offset self.old) (offset self.old + length (drop 4 out.old)) }

@@ -1,7 +1,7 @@
 -- When a request has its answer, and what a Complete answers.
-use Rattle.std.proofs.Common.{◌≡◌, ◌≢◌, ℕ, ◌<◌, ◌≤◌, Bool, true, false, cond, ◌==◌, List, [], ◌∷◌, length, ap, sym, refl, subst, ◌∙◌, Option, None, Some, is_some, IsSomeAnd, arith, inl, inr, suc}
+use Rattle.std.proofs.Common.{◌≡◌, ◌≢◌, ℕ, ◌-◌, ◌<◌, ◌≤◌, Bool, true, false, cond, ◌==◌, List, [], ◌∷◌, length, length-drop, ap, sym, refl, subst, ◌∙◌, Option, None, Some, is_some, IsSomeAnd, arith, inl, inr, suc}
 use Rattle.std.specs.Option.{option_or}
-use Rattle.std.proofs.lemmas.Bool.{eqb-false, eq-eqb, cond-true}
+use Rattle.std.proofs.lemmas.Bool.{both_ways, eqb-false, eq-eqb, cond-true}
 use Rattle.std.proofs.lemmas.Option.{same_Some}
 use Rattle.ncq_journal.specs.declared.outcome.Outcome.TheVariants as outcome
 use Rattle.ncq_journal.specs.declared.phase.Phase.{Phase}
@@ -9,8 +9,8 @@ use Rattle.ncq_journal.specs.declared.phase.Phase.TheVariants.{Free, Issued, Acc
 use Rattle.ncq_journal.specs.Answer.{Answer, answer, given, completes}
 use Rattle.ncq_journal.specs.Entry.{Entry, Issue, Accept, Complete, Fail, Recover, Reissue, Collect, Unqueued}
 use Rattle.ncq_journal.specs.History.{entry_at, first_of}
-use Rattle.ncq_journal.specs.Lawful.{IsLawful}
-use Rattle.ncq_journal.specs.Laws.{is_answered, AnsweredByPhase, CompletedIsAnswered, is_failure}
+use Rattle.ncq_journal.specs.Lawful.{Fails, IsLawful}
+use Rattle.ncq_journal.specs.Laws.{is_answered, answer_at, AnsweredByPhase, CompletedHasThisAnswer, CompletedIsAnswered, FailedHasThisAnswer, FailedIsNotCompleted, UnansweredIsLast, is_failure}
 use Rattle.ncq_journal.specs.Phase.{phase, failed, recovered}
 use Rattle.ncq_journal.specs.Request.{Request, request}
 use Rattle.ncq_journal.specs.Work.{Work, Read, Write}
@@ -109,17 +109,9 @@ answered_by_phase s d image (Collect t ∷ past) tag r h e =
 answered_by_phase s d image (Unqueued command ∷ past) tag r h e =
     ap is_some (silent image past r.number (Unqueued command) refl) ∙ answered_by_phase s d image past tag r h.0 e
 
-first_stands : (P : Answer → Type 0) (o later : Option Answer) → IsSomeAnd o P → IsSomeAnd (option_or o later) P
-first_stands P None later h = absurd h
-first_stands P (Some a) later h = h
-
 none_yet : (o : Option Answer) → is_some o ≡ false → o ≡ None
 none_yet None h = refl
 none_yet (Some a) h = absurd (cc)
-
-completes_well : (image : List ℕ) (past : List Entry) (work : Work) → ((completes image past work).entry ≡ length past) × (is_failure (completes image past work).outcome ≡ false)
-completes_well image past (Read lba sectors) = (refl, refl)
-completes_well image past (Write lba bytes) = (refl, refl)
 
 -- the answer that a Complete gives to its request
 pub completed_now : (s d : ℕ) (image : List ℕ) (past : List Entry) (tag : ℕ) (r : Request) → IsLawful s d (Complete tag ∷ past) → request past tag ≡ Some r → answer image (Complete tag ∷ past) r.number ≡ Some (completes image past r.work)
@@ -129,18 +121,102 @@ completed_now s d image past tag r h e =
     ∙ ap (given image past (Complete tag)) (request_is_its_issue past tag r e)
     ∙ cond-true (tag == tag) (Some (completes image past r.work)) None (eq-eqb tag tag refl)
 
-pub completed_is_answered : CompletedIsAnswered
-completed_is_answered s d image [] k tag r h at e = absurd (let w : k < 0 = entry_at-within [] k (Complete tag) at in omega arith)
-completed_is_answered s d image (newest ∷ past) k tag r h at e =
-    elim (entry_at_cases past newest (Complete tag) k at) [
+-- a command that fails has no answer yet
+fails_unanswered : (s : ℕ) (o : Option Request) (p : Phase) (error lba : ℕ) → IsSomeAnd o (λ r. Fails s p r.work error lba) → is_answered p ≡ false
+fails_unanswered s None p error lba h = absurd h
+fails_unanswered s (Some r) Issued error lba h = refl
+fails_unanswered s (Some r) Accepted error lba h = refl
+fails_unanswered s (Some r) Free error lba h = absurd h
+fails_unanswered s (Some r) Rejected error lba h = absurd h
+fails_unanswered s (Some r) Broken error lba h = absurd h
+fails_unanswered s (Some r) Held error lba h = absurd h
+fails_unanswered s (Some r) Done error lba h = absurd h
+
+-- the answer that a Fail gives to its request
+failed_now : (s d : ℕ) (image : List ℕ) (past : List Entry) (tag error lba : ℕ) (r : Request) → IsLawful s d (Fail tag error lba ∷ past) → request past tag ≡ Some r
+    → answer image (Fail tag error lba ∷ past) r.number ≡ Some (record { entry = length past; outcome = outcome.Failed error lba; bytes = [] })
+failed_now s d image past tag error lba r h e =
+    let quiet = none_yet (answer image past r.number) (answered_by_phase s d image past tag r h.0 e ∙ fails_unanswered s (request past tag) (phase past tag) error lba h.1.1) in
+    ap (λ o. option_or o (given image past (Fail tag error lba) (entry_at past r.number))) quiet
+    ∙ ap (given image past (Fail tag error lba)) (request_is_its_issue past tag r e)
+    ∙ cond-true (tag == tag) (Some (record { entry = length past; outcome = outcome.Failed error lba; bytes = [] })) None (eq-eqb tag tag refl)
+
+-- the answer that entry k gives to the request of a tag stays
+ended_at : (s d : ℕ) (image : List ℕ) (past : List Entry) (k tag n : ℕ) (entry : Entry) (o : Option Request) (a : List Entry → Answer)
+    → ((before : List Entry) → IsLawful s d (entry ∷ before) → request before tag ≡ o → answer image (entry ∷ before) n ≡ Some (a before))
+    → IsLawful s d past → entry_at past k ≡ Some entry → request (first_of past k) tag ≡ o → answer image past n ≡ Some (a (first_of past k))
+ended_at s d image [] k tag n entry o a now h at e = absurd (let w : k < 0 = entry_at-within [] k entry at in omega arith)
+ended_at s d image (newest ∷ past) k tag n entry o a now h at e =
+    elim (entry_at_cases past newest entry k at) [
       | inl older ↦
           let same = first_of-older past newest k (omega (arith, older.0)) in
-          first_stands _ (answer image past r.number) _ (completed_is_answered s d image past k tag r h.0 older.1 (ap (λ p. request p tag) (sym same) ∙ e))
+          ap (λ x. option_or x (given image past newest (entry_at past n))) (ended_at s d image past k tag n entry o a now h.0 older.1 (ap (λ p. request p tag) (sym same) ∙ e))
+          ∙ ap (λ p. Some (a p)) (sym same)
       | inr here ↦
           let whole : first_of (newest ∷ past) k ≡ past = ap (first_of (newest ∷ past)) here.0 ∙ first_of-newest past newest in
-          let its : request past tag ≡ Some r = ap (λ p. request p tag) (sym whole) ∙ e in
-          let now : answer image (newest ∷ past) r.number ≡ Some (completes image past r.work) =
-          ap (λ x. answer image (x ∷ past) r.number) here.1 ∙ completed_now s d image past tag r (subst (λ x. IsLawful s d (x ∷ past)) here.1 h) its in
-          let well = completes_well image past r.work in
-          subst (λ o. IsSomeAnd o (λ a. (a.entry ≡ k) × (is_failure a.outcome ≡ false))) (sym now) (well.0 ∙ sym here.0, well.1)
+          ap (λ x. answer image (x ∷ past) n) here.1 ∙ now past (subst (λ x. IsLawful s d (x ∷ past)) here.1 h) (ap (λ p. request p tag) (sym whole) ∙ e)
+          ∙ ap (λ p. Some (a p)) (sym whole)
+    ]
+
+-- there are k entries before entry k
+length-first_of : (past : List Entry) (k : ℕ) (entry : Entry) → entry_at past k ≡ Some entry → length (first_of past k) ≡ k
+length-first_of past k entry at = let within = entry_at-within past k entry at in length-drop (length past - k) past ∙ (omega arith)
+
+completes_at : (image : List ℕ) (before : List Entry) (k : ℕ) (work : Work) → length before ≡ k → completes image before work ≡ answer_at image before k work
+completes_at image before k (Read lba sectors) e = ap (λ n. answer_at image before n (Read lba sectors)) e
+completes_at image before k (Write lba bytes) e = ap (λ n. answer_at image before n (Write lba bytes)) e
+
+pub completed_has_this_answer : CompletedHasThisAnswer
+completed_has_this_answer s d image past k tag r h at e =
+    ended_at s d image past k tag r.number (Complete tag) (Some r) (λ p. completes image p r.work) (λ p l q. completed_now s d image p tag r l q) h at e
+    ∙ ap Some (completes_at image (first_of past k) k r.work (length-first_of past k (Complete tag) at))
+
+pub failed_has_this_answer : FailedHasThisAnswer
+failed_has_this_answer s d image past k tag error lba r h at e =
+    ended_at s d image past k tag r.number (Fail tag error lba) (Some r) (λ p. record { entry = length p; outcome = outcome.Failed error lba; bytes = [] }) (λ p l q. failed_now s d image p tag error lba r l q) h at e
+    ∙ ap (λ n. Some (record { entry = n; outcome = outcome.Failed error lba; bytes = [] })) (length-first_of past k (Fail tag error lba) at)
+
+is_no_failure : (image : List ℕ) (before : List Entry) (k : ℕ) (work : Work) → ((answer_at image before k work).entry ≡ k) × (is_failure (answer_at image before k work).outcome ≡ false)
+is_no_failure image before k (Read lba sectors) = (refl, refl)
+is_no_failure image before k (Write lba bytes) = (refl, refl)
+
+pub completed_is_answered : CompletedIsAnswered
+completed_is_answered s d image past k tag r h at e =
+    subst (λ o. IsSomeAnd o (λ a. (a.entry ≡ k) × (is_failure a.outcome ≡ false))) (sym (completed_has_this_answer s d image past k tag r h at e)) (is_no_failure image (first_of past k) k r.work)
+
+apart : (o : Option Answer) → IsSomeAnd o (λ a. is_failure a.outcome ≡ true) → (k : ℕ) → IsSomeAnd o (λ a. (a.entry ≡ k) × (is_failure a.outcome ≡ false)) → ⊥
+apart None h k g = h
+apart (Some a) h k g = both_ways (is_failure a.outcome) g.1 h
+
+pub failed_is_not_completed : FailedIsNotCompleted
+failed_is_not_completed s d image past k tag r h ended e at = apart (answer image past r.number) ended k (completed_is_answered s d image past k tag r h at e)
+
+none_before : (o later : Option Answer) → option_or o later ≡ None → o ≡ None
+none_before None later e = refl
+none_before (Some a) later e = absurd (cc)
+
+-- a request without an answer stays its tag's last
+last_stays : (s d : ℕ) (image : List ℕ) (past : List Entry) (newest : Entry) (tag : ℕ) (r : Request) → IsLawful s d (newest ∷ past) → answer image past r.number ≡ None → request past tag ≡ Some r
+    → request (newest ∷ past) tag ≡ Some r
+last_stays s d image past (Issue t work) tag r h none own =
+    let waits : is_answered (phase past tag) ≡ false = sym (answered_by_phase s d image past tag r h.0 own) ∙ ap is_some none in
+    cond_at t tag (Some (record { number = length past; work = work })) (request past tag) (λ o. o ≡ Some r) (λ same. absurd (both_ways (is_answered (phase past tag)) waits (ap (λ u. is_answered (phase past u)) (sym same) ∙ ap is_answered h.1.1))) (λ _. own)
+last_stays s d image past (Accept t) tag r h none own = own
+last_stays s d image past (Complete t) tag r h none own = own
+last_stays s d image past (Fail t error lba) tag r h none own = own
+last_stays s d image past (Recover t) tag r h none own = own
+last_stays s d image past (Reissue t) tag r h none own = own
+last_stays s d image past (Collect t) tag r h none own = own
+last_stays s d image past (Unqueued command) tag r h none own = own
+
+pub unanswered_is_last : UnansweredIsLast
+unanswered_is_last s d image [] n tag work h at none = absurd (let w : n < 0 = entry_at-within [] n (Issue tag work) at in omega arith)
+unanswered_is_last s d image (newest ∷ past) n tag work h at none =
+    elim (entry_at_cases past newest (Issue tag work) n at) [
+      | inl older ↦
+          let before = none_before (answer image past n) (given image past newest (entry_at past n)) none in
+          last_stays s d image past newest tag (record { number = n; work = work }) h before (unanswered_is_last s d image past n tag work h.0 older.1 before)
+      | inr here ↦
+          ap (λ x. request (x ∷ past) tag) here.1 ∙ cond-true (tag == tag) (Some (record { number = length past; work = work })) (request past tag) (eq-eqb tag tag refl)
+          ∙ ap (λ m. Some (record { number = m; work = work })) (sym here.0)
     ]

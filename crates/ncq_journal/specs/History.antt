@@ -3,10 +3,11 @@ use Rattle.std.specs.Prelude.{ℕ, ◌-◌, List, map, reverse, Option, slice_ge
 use Rattle.ncq_journal.specs.declared.event.Event.{Event}
 use Rattle.ncq_journal.specs.Entry.{Entry, entry_of}
 
--- the entries, and how many more can be added with no more memory
+-- the entries, how many more may be added with no more memory, and how many entries the memory that is held is enough for
 pub record History : Type 0 where
   pub past : List Entry
   pub room : ℕ
+  pub held : ℕ
 
 -- the entries of the code's events, which stand with the oldest first
 abbrev pub history_of : {A : _} → List (Event A) → List Entry

@@ -1,22 +1,23 @@
 -- What holds of every lawful journal: the laws behind the definitions.
-use Rattle.std.specs.Prelude.{◌≡◌, ◌≢◌, ◌↔◌, ℕ, ◌+◌, ◌≤◌, Bool, true, false, if◌then◌else◌, List, ◌∷◌, ◌++◌, None, Some, is_some, IsSome, IsSomeAnd}
+use Rattle.std.specs.Prelude.{◌≡◌, ◌≢◌, ◌↔◌, ℕ, ◌+◌, ◌≤◌, Bool, true, false, if◌then◌else◌, List, [], ◌∷◌, ◌++◌, None, Some, is_some, IsSome, IsSomeAnd}
 use Rattle.std.specs.List.{sum_by}
 use Rattle.word_bits.specs.Places.{has_place}
 use Rattle.ncq_journal.specs.declared.outcome.Outcome.{Outcome}
 use Rattle.ncq_journal.specs.declared.outcome.Outcome.TheVariants as outcome
 use Rattle.ncq_journal.specs.declared.phase.Phase.{Phase}
 use Rattle.ncq_journal.specs.declared.phase.Phase.TheVariants.{Free, Issued, Accepted, Held}
-use Rattle.ncq_journal.specs.Answer.{answer}
+use Rattle.ncq_journal.specs.Answer.{Answer, answer, sectors_at}
 use Rattle.ncq_journal.specs.Entry.{Entry, Issue, Accept, Complete, Fail, Recover, Reissue, Collect, Unqueued}
-use Rattle.ncq_journal.specs.Halted.{tags}
+use Rattle.ncq_journal.specs.Halted.{tags, halted, busy}
 use Rattle.ncq_journal.specs.History.{entry_at, first_of}
 use Rattle.ncq_journal.specs.Image.{sector_at, covers, written_at, is_write}
 use Rattle.ncq_journal.specs.Lawful.{IsAllowed, IsLawful}
 use Rattle.ncq_journal.specs.Owed.{owed}
-use Rattle.ncq_journal.specs.Phase.{phase}
+use Rattle.ncq_journal.specs.Phase.{phase, is_failed, is_busy}
 use Rattle.ncq_journal.specs.Request.{Request, request}
 use Rattle.ncq_journal.specs.Sector.{sector}
 use Rattle.ncq_journal.specs.Tags.{sact, ci, device_tags}
+use Rattle.ncq_journal.specs.Work.{Work, Read, Write}
 
 -- a journal is lawful exactly where each entry was allowed by the entries before it
 abbrev pub LawfulAtEach : Type 0
@@ -104,6 +105,47 @@ abbrev pub CompletedIsAnswered : Type 0
 CompletedIsAnswered =
     (s d : ℕ) (image : List ℕ) (past : List Entry) (k tag : ℕ) (r : Request) → IsLawful s d past → entry_at past k ≡ Some (Complete tag) → request (first_of past k) tag ≡ Some r
     → IsSomeAnd (answer image past r.number) (λ a. (a.entry ≡ k) × (is_failure a.outcome ≡ false))
+
+-- a request that was answered with an error was never completed
+abbrev pub FailedIsNotCompleted : Type 0
+FailedIsNotCompleted =
+    (s d : ℕ) (image : List ℕ) (past : List Entry) (k tag : ℕ) (r : Request) → IsLawful s d past → IsSomeAnd (answer image past r.number) (λ a. is_failure a.outcome ≡ true)
+    → request (first_of past k) tag ≡ Some r → entry_at past k ≢ Some (Complete tag)
+
+-- the answer of a command that entry k completes: a read has the sectors as they were before it
+abbrev pub answer_at : List ℕ → List Entry → ℕ → Work → Answer
+answer_at image before k (Read lba sectors) = record { entry = k; outcome = outcome.Read; bytes = sectors_at image before lba sectors }
+answer_at image before k (Write lba bytes) = record { entry = k; outcome = outcome.Wrote; bytes = [] }
+
+-- what a Complete answers
+abbrev pub CompletedHasThisAnswer : Type 0
+CompletedHasThisAnswer =
+    (s d : ℕ) (image : List ℕ) (past : List Entry) (k tag : ℕ) (r : Request) → IsLawful s d past → entry_at past k ≡ Some (Complete tag) → request (first_of past k) tag ≡ Some r
+    → answer image past r.number ≡ Some (answer_at image (first_of past k) k r.work)
+
+-- what a Fail answers: its error and its LBA
+abbrev pub FailedHasThisAnswer : Type 0
+FailedHasThisAnswer =
+    (s d : ℕ) (image : List ℕ) (past : List Entry) (k tag error lba : ℕ) (r : Request) → IsLawful s d past → entry_at past k ≡ Some (Fail tag error lba) → request (first_of past k) tag ≡ Some r
+    → answer image past r.number ≡ Some (record { entry = k; outcome = outcome.Failed error lba; bytes = [] })
+
+-- a request that has no answer yet is its tag's last
+abbrev pub UnansweredIsLast : Type 0
+UnansweredIsLast =
+    (s d : ℕ) (image : List ℕ) (past : List Entry) (n tag : ℕ) (work : Work) → IsLawful s d past → entry_at past n ≡ Some (Issue tag work) → answer image past n ≡ None
+    → request past tag ≡ Some (record { number = n; work = work })
+
+-- at most one tag's command has failed
+abbrev pub OneHasFailed : Type 0
+OneHasFailed =
+    (s d : ℕ) (past : List Entry) (t u : ℕ) → d ≤ 32 → IsLawful s d past → is_failed (phase past t) ≡ true → is_failed (phase past u) ≡ true → t ≡ u
+
+-- whether a port has halted, and whether it is busy, is a question about all tags, also those above 31
+abbrev pub HaltedByATag : Type 0
+HaltedByATag = (s d : ℕ) (past : List Entry) → d ≤ 32 → IsLawful s d past → (halted past ≡ true) ↔ ((tag : ℕ) × (is_failed (phase past tag) ≡ true))
+
+abbrev pub BusyByATag : Type 0
+BusyByATag = (s d : ℕ) (past : List Entry) → d ≤ 32 → IsLawful s d past → (busy past ≡ true) ↔ ((tag : ℕ) × (is_busy (phase past tag) ≡ true))
 
 -- the tags outstanding in the device are among those of PxSACT
 abbrev pub DeviceTagsInSact : Type 0

@@ -163,7 +163,7 @@ fn answer_after<A: Allocator, B: Allocator>(
 }
 
 /// What request `number` was answered after these events, the oldest first, over a starting image: the first
-/// Complete or Fail of its tag behind its Issue answers it. Only a refused growth fails.
+/// Complete or Fail of its tag behind its Issue answers it. The bytes of an answered read take memory.
 #[tactic(auto, using(crate::proofs::HistoryLemmas::history_more, crate::proofs::HistoryLemmas::history_all))]
 pub fn answer_of<A: Allocator, B: Allocator + Clone>(
     alloc: B,

@@ -4,11 +4,12 @@ ghost use Rattle.ncq_journal.specs.Entry.{entry_of};
 ghost use Rattle.ncq_journal.specs.History.{entry_at, history_of};
 
 use crate::event::Event;
-use std::alloc::{AllocError, Allocator, Global};
+use std::alloc::{AllocError as OutOfMemory, Allocator, Global};
 use std::marker::Model;
 
 /// What the port has done, the oldest event first. It only grows. Contracts see the entries with the newest
-/// first, so that every part of a history from its beginning on is a tail of it, and the room that is reserved.
+/// first, so that every part of a history from its beginning on is a tail of it, the room that is reserved, and for how
+/// many entries memory is held.
 #[derive(Drop)]
 #[derive_where(Debug)]
 pub struct Journal<A: Allocator = Global> {
@@ -22,7 +23,7 @@ impl<A: Allocator> Model for Journal<A> {
 
     ghost Value = { History };
 
-    ghost view = { λ j. record { past = history_of j.events.items; room = j.room } };
+    ghost view = { λ j. record { past = history_of j.events.items; room = j.room; held = vec_capacity j.events } };
 
     ghost invariant = { λ j. vec_len j.events + j.room ≤ vec_capacity j.events };
 }
@@ -32,6 +33,7 @@ impl<A: Allocator> Journal<A> {
     pub fn new(alloc: A) -> Self
         ensures past { result.past ≡ [] }
         ensures room { result.room ≡ 0 }
+        ensures held { result.held ≡ 0 }
     {
         Journal {
             events: Vec::new(alloc),
@@ -67,12 +69,16 @@ impl<A: Allocator> Journal<A> {
         self.room
     }
 
-    /// Makes room for `count` more entries. Only a refused growth fails, and then nothing has changed.
-    pub fn reserve(&mut self, count: u64) -> Result<(), AllocError>
+    /// Makes room for `count` more entries. It fails only where the memory that is held is too little for them, and then
+    /// nothing has changed.
+    #[tactic(auto, using(crate::proofs::HistoryLemmas::length_history))]
+    pub fn reserve(&mut self, count: u64) -> Result<(), OutOfMemory>
         ensures past { self.new.past ≡ self.old.past }
         ensures room { OnOk result (self.new.room ≡ max self.old.room count) }
+        ensures held { OnOk result (length self.new.past + self.new.room ≤ self.new.held) }
         ensures err { OnErr result (self.new ≡ self.old) }
         ensures enough { count ≤ self.old.room → IsOk result }
+        ensures lacking { OnErr result (self.old.held < length self.old.past + count) }
     {
         if count > self.room {
             self.events.reserve(count as usize)?;
@@ -81,11 +87,12 @@ impl<A: Allocator> Journal<A> {
         Ok(())
     }
 
-    /// Appends an event where `reserve` has made room.
+    /// Appends an event where `reserve` has made room, in the memory that is held.
     pub fn push_reserved(&mut self, event: Event<A>)
         requires { 0 < self.old.room }
         ensures past { self.new.past ≡ entry_of event ∷ self.old.past }
         ensures room { self.new.room + 1 ≡ self.old.room }
+        ensures held { self.new.held ≡ self.old.held }
     {
         self.room -= 1;
         self.events.push_reserved(event);

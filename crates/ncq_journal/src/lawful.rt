@@ -1,4 +1,4 @@
-ghost use Rattle.std.specs.Prelude.{◌≡◌, ◌↔◌, IsTrue};
+ghost use Rattle.std.specs.Prelude.{◌≡◌, ◌↔◌, ◌≤◌, IsTrue};
 ghost use Rattle.ncq_journal.specs.Entry.{entry_of};
 ghost use Rattle.ncq_journal.specs.History.{history_of};
 ghost use Rattle.ncq_journal.specs.Lawful.{AllProper, IsAllowed, IsLawful, IsProper, MayIssue, MayAccept, MayFail, Fails, Refuses};
@@ -59,6 +59,7 @@ pub fn is_allowed<A: Allocator>(
     past: &[Event<A>],
     event: &Event<A>,
 ) -> bool
+    requires { depth ≤ 32 }
     ensures { IsTrue result ↔ IsAllowed sectors depth (history_of past.now) (entry_of event.now) }
 {
     match event {
@@ -107,6 +108,7 @@ fn refuses<A: Allocator>(sectors: u32, op: &Op<A>, error: u8, lba: u64) -> bool
 /// most 32.
 #[tactic(auto, using(crate::proofs::HistoryLemmas::history_more, crate::proofs::HistoryLemmas::history_all, crate::proofs::LawfulLemmas::allowed_at, crate::proofs::LawfulLemmas::lawful_proper))]
 pub fn is_lawful<A: Allocator>(sectors: u32, depth: u32, events: &[Event<A>]) -> bool
+    requires { depth ≤ 32 }
     ensures lawful { IsTrue result ↔ IsLawful sectors depth (history_of events.now) }
     ensures proper { IsTrue result → AllProper (history_of events.now) }
 {

@@ -1,5 +1,5 @@
 //! Laws: each function is empty, and its clause holds of all journals.
-ghost use Rattle.ncq_journal.specs.Laws.{LawfulAtEach, FreePastDepth, OwnedHasRequest, RequestIsItsIssue, AnsweredByPhase, OwedIsFew, OwedMoves, WritesItsSectors, OthersWriteNothing, CompletedIsAnswered, DeviceTagsInSact, CiInSact, TwoParts};
+ghost use Rattle.ncq_journal.specs.Laws.{LawfulAtEach, FreePastDepth, OwnedHasRequest, RequestIsItsIssue, AnsweredByPhase, OwedIsFew, OwedMoves, WritesItsSectors, OthersWriteNothing, CompletedIsAnswered, FailedIsNotCompleted, CompletedHasThisAnswer, FailedHasThisAnswer, UnansweredIsLast, OneHasFailed, HaltedByATag, BusyByATag, DeviceTagsInSact, CiInSact, TwoParts};
 
 /// A journal is lawful exactly where each of its entries was allowed by the entries before it.
 pub fn a_journal_is_lawful_at_each_entry()
@@ -35,9 +35,30 @@ pub fn only_a_completed_write_changes_sectors()
 {}
 
 /// Each Complete answers the request whose command it completes, and not with an error. Since only the Complete of a
-/// write changes a sector, a command that failed has changed none.
+/// write changes a sector, a command that failed has changed none: no Complete carries a request that was answered with
+/// an error.
 pub fn a_failed_command_has_changed_no_sector()
-    ensures { CompletedIsAnswered }
+    ensures completed { CompletedIsAnswered }
+    ensures failed { FailedIsNotCompleted }
+{}
+
+/// What a Complete and a Fail answer to the request that they end, in full.
+pub fn an_ended_request_has_this_answer()
+    ensures completed { CompletedHasThisAnswer }
+    ensures failed { FailedHasThisAnswer }
+{}
+
+/// A request that has no answer yet is the last of its tag.
+pub fn an_unanswered_request_is_its_tags_last()
+    ensures { UnansweredIsLast }
+{}
+
+/// At most one command has failed. On a port of at most 32 slots a port has halted exactly where some command has, and is
+/// busy exactly where some command waits or is outstanding.
+pub fn at_most_one_command_has_failed()
+    ensures one { OneHasFailed }
+    ensures halted { HaltedByATag }
+    ensures busy { BusyByATag }
 {}
 
 /// The tags outstanding in the device and those of PxCI are among those of PxSACT.

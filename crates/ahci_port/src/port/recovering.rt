@@ -45,7 +45,7 @@ impl<A: Allocator> Port<A> {
             &mut self.registers,
             &mut self.disk,
         );
-        receive_pio(&mut self.registers, &mut self.area, &Disk::<A>::pio_setup());
+        receive_pio(&mut self.registers, &mut self.area, &Disk::pio_setup());
         match taken {
             Plain::ReadLog => self.unqueued.take_page(self.disk.read_log()),
             _ => unreachable!(),
@@ -82,7 +82,7 @@ impl<A: Allocator> Port<A> {
             &mut self.registers,
             &mut self.disk,
         );
-        receive_pio(&mut self.registers, &mut self.area, &Disk::<A>::pio_setup());
+        receive_pio(&mut self.registers, &mut self.area, &Disk::pio_setup());
         match taken {
             Plain::Identify => self.unqueued.take_page(self.disk.identify()),
             _ => unreachable!(),
@@ -117,12 +117,7 @@ impl<A: Allocator> Port<A> {
         );
         match taken {
             Plain::Flush => {
-                receive_register(
-                    &mut self.registers,
-                    &mut self.area,
-                    &Disk::<A>::flushed(),
-                    0,
-                );
+                receive_register(&mut self.registers, &mut self.area, &Disk::flushed(), 0);
             }
             _ => unreachable!(),
         }

@@ -169,7 +169,8 @@ impl Story {
         text: &[u8],
     ) -> Result<Option<(u64, u64, Outcome, bool)>, AllocError> {
         let past = self.events.as_slice();
-        if !is_lawful(SECTORS, self.port.depth(), past) {
+        let depth = self.port.depth();
+        if depth > 32 || !is_lawful(SECTORS, depth, past) {
             return Ok(None);
         }
         let Some(answer) = answer_of(self.alloc, self.image.as_slice(), past, number)? else {
@@ -265,7 +266,7 @@ fn run(rt: &impl Abort, alloc: Global, seed: u64, depth: u32, kinds: Kinds) -> R
             refused |= call.kind();
         }
     }
-    assert!(rt; is_lawful(SECTORS, depth, story.events.as_slice()));
+    assert!(rt; depth <= 32 && is_lawful(SECTORS, depth, story.events.as_slice()));
     Ok((taken, refused))
 }
 

@@ -2,8 +2,8 @@
 ghost use Rattle.std.specs.Prelude.{◌≤◌};
 
 use super::memory::{Link, QUIET};
-use super::rig::Call::{Queue, Serve};
-use super::rig::{ACCEPTED, Rig, is_filled};
+use super::rig::Call::{Serve, Take};
+use super::rig::{ACCEPTED, Rig, is_filled, queued};
 use crate::table::equal;
 use std::alloc::Global;
 use std::process::Abort;
@@ -12,10 +12,11 @@ use std::test::Fail;
 /// Sectors, features of the command, Data FISes, length of the last, and the byte count in the DMA Setup.
 type Size = (usize, u16, usize, usize, [u8; 4]);
 
-static SIZES: [Size; 5] = [
+static SIZES: [Size; 6] = [
     (1, 1, 1, 516, [0, 2, 0, 0]),
     (16, 16, 1, 8196, [0, 0x20, 0, 0]),
     (17, 17, 2, 516, [0, 0x22, 0, 0]),
+    (40, 40, 3, 4100, [0, 0x50, 0, 0]),
     (256, 256, 16, 8196, [0, 0, 2, 0]),
     (65_536, 0, 4096, 8196, [0, 0, 0, 2]),
 ];
@@ -51,18 +52,21 @@ fn sent(size: Size, write: bool) -> Link
     }
 }
 
-/// Moves the sectors from LBA 1 on, and compares all that was sent.
-fn moves(rt: &impl Abort, alloc: Global, write: bool, size: Size) -> Result<(), Fail>
+/// The byte of a queued command that has FUA in bit 7.
+const DEVICE: u8 = 0x40;
+
+const DEVICE_WITH_FUA: u8 = 0xC0;
+
+/// Moves the sectors from LBA 1 on by a command with this device byte, and compares all that was sent.
+fn moves(rt: &impl Abort, alloc: Global, write: bool, device: u8, size: Size) -> Result<(), Fail>
     requires { size.0 ≤ 65536 }
 {
     let (sectors, features, ..) = size;
     let (command, moved) = if write { (0x61, 0x33) } else { (0x60, 0x22) };
     let mut rig = Rig::new(alloc, sectors + 2, 32, 0x22, 0x33)?;
-    rig.goes(
-        rt,
-        sectors,
-        (Queue(command, 31, 1, features, ACCEPTED), 1 << 31, false),
-    );
+    let mut fis = queued(command, 31, 1, features);
+    fis[7] = device;
+    rig.goes(rt, sectors, (Take(fis, ACCEPTED), 1 << 31, false));
     let done = Serve(31, Ok([0xA1, 0x40, 0x40, 0, 0, 0, 0, 0x80]));
     rig.goes(rt, sectors, (done, 0, false));
     equal(rt, sectors, &rig.host.link, &sent(size, write));
@@ -88,8 +92,20 @@ fn moves(rt: &impl Abort, alloc: Global, write: bool, size: Size) -> Result<(), 
 fn data_move_in_pieces_of_8192_bytes(rt: HostRuntime) -> Result<(), Fail> {
     for size in SIZES {
         assert!(rt; size.0 <= 65_536);
-        moves(&rt, rt.alloc(), false, size)?;
-        moves(&rt, rt.alloc(), true, size)?;
+        moves(&rt, rt.alloc(), false, DEVICE, size)?;
+        moves(&rt, rt.alloc(), true, DEVICE, size)?;
+    }
+    Ok(())
+}
+
+// One DMA Setup, and the data behind it, whatever FUA is.
+#[test]
+fn fua_moves_the_same_data(rt: HostRuntime) -> Result<(), Fail> {
+    for size in SIZES {
+        if size.0 <= 40 {
+            moves(&rt, rt.alloc(), false, DEVICE_WITH_FUA, size)?;
+            moves(&rt, rt.alloc(), true, DEVICE_WITH_FUA, size)?;
+        }
     }
     Ok(())
 }

@@ -1,11 +1,11 @@
 //! A journal's entries and its room.
 use crate::table::equal;
-use ncq_journal::{Bytes, Event, Journal, Op};
-use std::alloc::{AllocError, Global};
+use ncq_journal::{Bytes, Event, Journal, Op, OutOfMemory};
+use std::alloc::Global;
 use std::test::Fail;
 
 /// A new journal with room for two entries, of which one is taken by a write.
-fn with_a_write(alloc: Global) -> Result<(bool, Journal), AllocError> {
+fn with_a_write(alloc: Global) -> Result<(bool, Journal), OutOfMemory> {
     let mut journal = Journal::new(alloc);
     let was_empty = journal.is_empty();
     let bytes = Bytes::from_vec(vec![in alloc; 7u8; 512]?);

@@ -1,4 +1,6 @@
 //! Stories as tables: events that come or may not come, and what the journal says in between.
+ghost use Rattle.std.specs.Prelude.{◌≤◌};
+
 use crate::table::equal;
 use ncq_journal::{
     Bytes, Event, Op, Outcome, Phase, Plain, answer_of, ci_of, device_tags_of, is_allowed,
@@ -95,10 +97,13 @@ struct Story {
     depth: u32,
     image: Vec<u8>,
     events: Vec<Event>,
+    ghost few: { depth ≤ 32 },
 }
 
 impl Story {
-    fn new(alloc: Global, sectors: u32, depth: u32) -> Result<Self, AllocError> {
+    fn new(alloc: Global, sectors: u32, depth: u32) -> Result<Self, AllocError>
+        requires { depth ≤ 32 }
+    {
         Ok(Story {
             alloc,
             sectors,
@@ -204,7 +209,9 @@ pub fn tells(
     sectors: u32,
     depth: u32,
     steps: &[Step],
-) -> Result<(), Fail> {
+) -> Result<(), Fail>
+    requires { depth ≤ 32 }
+{
     let mut story = Story::new(alloc, sectors, depth)?;
     for (row, step) in steps.iter().enumerate() {
         story.goes(rt, row, *step)?;
