@@ -22,3 +22,4 @@ pub mod MappedLemmas
 pub mod TakenLemmas
 pub mod LogLemmas
 pub mod QuietLemmas
+pub mod LookingLemmas

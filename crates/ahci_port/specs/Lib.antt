@@ -1,6 +1,7 @@
 pub mod Faults
 pub mod Headline
 pub mod Keeping
+pub mod Looking
 pub mod Memory
 pub mod Moves
 pub mod PortView

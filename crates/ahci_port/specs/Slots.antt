@@ -1,5 +1,5 @@
 -- A tag's request as its slot holds it, and what callers see of a port's fields.
-use Rattle.std.specs.Prelude.{ℕ, Bool, not, ◌&&◌, if◌then◌else◌, List, [], map, Option, None, Some}
+use Rattle.std.specs.Prelude.{ℕ, ◌*◌, Bool, not, ◌&&◌, if◌then◌else◌, List, [], map, Option, None, Some}
 use Rattle.std.specs.Option.{option_map}
 use Rattle.ahci_table.specs.Command.{queued_of}
 use Rattle.ahci_table.specs.Text.{text}
@@ -44,6 +44,11 @@ outstanding_in stopped (Some slot) = if in_device slot.phase && not stopped then
 abbrev pub phase_in : Option SlotState → Phase
 phase_in None = Free
 phase_in (Some slot) = slot.phase
+
+-- the bytes that the slot's request reads, where it is a read
+abbrev pub read_in : Option SlotState → Option ℕ
+read_in None = None
+read_in (Some slot) = if slot.is_write then None else Some (512 * slot.sectors)
 
 -- the window of a slot that is owned
 abbrev pub window_in : Option SlotState → Option WindowState

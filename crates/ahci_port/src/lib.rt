@@ -11,6 +11,7 @@ mod reply;
 mod slot;
 mod software;
 mod step;
+mod tag_sets;
 mod unqueued;
 
 pub use fault::{CollectFault, IssueFault, PlainFault, RecoverFault, ReissueFault, StepFault};
@@ -18,3 +19,4 @@ pub use ncq_core::{DiskFault, Outcome};
 pub use port::Port;
 pub use reply::Reply;
 pub use step::{DeviceStep, Stepped};
+pub use tag_sets::TagSets;

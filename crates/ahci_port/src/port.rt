@@ -1,5 +1,6 @@
 mod collecting;
 mod issuing;
+mod looking;
 mod recovering;
 mod stepping;
 

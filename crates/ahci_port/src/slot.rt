@@ -9,7 +9,7 @@ ghost use Rattle.ncq_core.specs.DiskState.{command_of};
 ghost use Rattle.ncq_core.specs.Serving.{HasMoved, serve_fault, served};
 ghost use Rattle.ahci_port.specs.Memory.{IsKept};
 ghost use Rattle.ahci_port.specs.Keeping.{slot_at};
-ghost use Rattle.ahci_port.specs.Slots.{phase_in};
+ghost use Rattle.ahci_port.specs.Slots.{phase_in, read_in};
 ghost use Rattle.ahci_port.specs.Moves.{collect_fault, issued_slot, outcome_of, served_slot, taken_slot, reissued_slot, accepted_slot, failed_slot, recovered_slot};
 
 use crate::ended::Ended;
@@ -190,6 +190,16 @@ pub(crate) fn number_in<A: Allocator>(slots: &[Option<Slot<A>>], tag: u8) -> Opt
 {
     match slots.get(tag as usize) {
         Some(Some(slot)) => Some(slot.number),
+        _ => None,
+    }
+}
+
+/// How many bytes the request of a tag's slot reads, where it is a read.
+pub(crate) fn read_in<A: Allocator>(slots: &[Option<Slot<A>>], tag: u8) -> Option<u64>
+    ensures { result ≡ read_in (slot_at slots.now tag) }
+{
+    match slots.get(tag as usize) {
+        Some(Some(slot)) if !slot.is_write => Some(512 * u64::from(slot.sectors)),
         _ => None,
     }
 }

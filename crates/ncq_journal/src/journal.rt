@@ -62,6 +62,13 @@ impl<A: Allocator> Journal<A> {
         entry_in(self.events.as_slice(), number)
     }
 
+    /// All entries, the oldest first: the one at index k has number k.
+    pub fn entries(&self) -> &[Event<A>]
+        ensures { history_of result.now ≡ self.now.past }
+    {
+        self.events.as_slice()
+    }
+
     /// How many entries can be pushed with no more memory.
     pub fn room(&self) -> u64
         ensures { result ≡ self.now.room }

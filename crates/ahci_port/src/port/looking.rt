@@ -1,0 +1,81 @@
+//! What a driver asks a port of. None of these calls takes memory.
+
+ghost use Rattle.std.specs.Prelude.{◌≡◌};
+ghost use Rattle.word_bits.specs.Places.{bits};
+ghost use Rattle.ahci_port.specs.Looking.{issued_tags, accepted_tags, held_tags, read_length, HasShape};
+
+use crate::port::Port;
+use crate::slot::read_in;
+use crate::tag_sets::TagSets;
+use ncq_core::Phase;
+use std::alloc::Allocator;
+use word_bits::with_bit;
+
+impl<A: Allocator> Port<A> {
+    /// Which tags wait for what, in one look at the slots.
+    #[tactic(auto, using(ncq_journal::proofs::SetLemmas::among_none, ncq_journal::proofs::SetLemmas::among_with, ncq_journal::proofs::SetLemmas::among_without, ncq_journal::proofs::SetLemmas::among_all))]
+    pub fn tag_sets(&self) -> TagSets
+        ensures issued { bits result.issued ≡ issued_tags self.now.past }
+        ensures accepted { bits result.accepted ≡ accepted_tags self.now.past }
+        ensures held { bits result.held ≡ held_tags self.now.past }
+    {
+        let mut issued = 0;
+        let mut accepted = 0;
+        let mut held = 0;
+        for tag in 0..32u8 {
+            match self.phase(tag) {
+                Phase::Issued => issued = with_bit(issued, tag),
+                Phase::Accepted => accepted = with_bit(accepted, tag),
+                Phase::Held => held = with_bit(held, tag),
+                _ => {}
+            }
+        }
+        TagSets {
+            issued,
+            accepted,
+            held,
+        }
+    }
+
+    /// The tags whose command waits for the device, as the bits of a word.
+    pub fn issued(&self) -> u32
+        ensures { bits result ≡ issued_tags self.now.past }
+    {
+        self.tag_sets().issued
+    }
+
+    /// The tags whose command the device has taken, as the bits of a word. An error doesn't empty it.
+    pub fn accepted(&self) -> u32
+        ensures { bits result ≡ accepted_tags self.now.past }
+    {
+        self.tag_sets().accepted
+    }
+
+    /// The tags whose command another's error has ended, as the bits of a word.
+    pub fn held(&self) -> u32
+        ensures { bits result ≡ held_tags self.now.past }
+    {
+        self.tag_sets().held
+    }
+
+    /// How many bytes the request of a tag's slot reads; `None` where the slot is free, or its request is a write.
+    pub fn read_length(&self, tag: u8) -> Option<u64>
+        ensures { result ≡ read_length self.now.past tag }
+    {
+        read_in(&self.slots, tag)
+    }
+
+    /// The sectors as they were when the port was made, one behind the other.
+    pub fn starting_image(&self) -> &[u8]
+        ensures { result.now ≡ self.now.starting }
+    {
+        self.starting.as_slice()
+    }
+
+    /// Shows what holds of every port: it has 1 to 32 slots and at most 131,072 sectors, all whole. It does nothing.
+    pub fn shape(&self)
+        ensures { HasShape self.now }
+    {
+        let _depth = self.disk.depth();
+    }
+}

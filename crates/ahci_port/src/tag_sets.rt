@@ -1,0 +1,10 @@
+/// Which tags wait for what, each set as the bits of a word.
+#[derive(Clone, Copy, Debug, PartialEq, Eq)]
+pub struct TagSets {
+    /// Their command waits for the device.
+    pub issued: u32,
+    /// The device has taken their command.
+    pub accepted: u32,
+    /// Another command's error has ended theirs, and it can be issued again.
+    pub held: u32,
+}
