@@ -22,6 +22,8 @@ use Rattle.word_bits.proofs.PlacesLemmas.{length-places, has_place-places, same_
 use Rattle.sata_fis.specs.Fields.{QueuedFields}
 use Rattle.ahci_port.specs.Headline.{Headline, HasWindow, IsOfRequest, HoldsBytes}
 use Rattle.ahci_port.specs.Keeping.{Keeps, HasSlot, slot_at}
+use Rattle.ahci_port.specs.Looking.{HasShape}
+use Rattle.ahci_port.specs.declared.sent.Sent.{Sent}
 use Rattle.ahci_port.specs.Slots.{SlotState, answer_in, bytes_in, outstanding_in, window_in, view_of}
 use Rattle.ahci_port.specs.declared.ended.Ended.{Ended}
 use Rattle.ahci_port.proofs.AcceptingLemmas.{request_has}
@@ -70,9 +72,9 @@ device_of starting disk regs slots headers past free k =
     get_or-map is_some disk.commands i None ∙ ap is_some (k.commands i) ∙ device_at starting past i (slot_at slots i) (k.each i)
     ∙ sym (has_place-places (λ t. in_device (phase past t) && not (halted past)) i (let l = length-map disk.commands is_some in let c = k.command_count in omega arith)))
 
-pub headline_of : (starting : List ℕ) (disk : DiskState) (regs : PortState) (area : List ℕ) (slots : List (Option SlotState)) (headers : List (List ℕ)) (past : List Entry) (free : ℕ)
-    → Keeps starting disk regs slots headers past free → Headline (view_of starting disk regs area slots past)
-headline_of starting disk regs area slots headers past free k = record {
+pub headline_of : (starting : List ℕ) (disk : DiskState) (regs : PortState) (sent : Sent) (area : List ℕ) (slots : List (Option SlotState)) (headers : List (List ℕ)) (past : List Entry) (free : ℕ)
+    → Keeps starting disk regs slots headers past free → Headline (view_of starting disk regs sent area slots past)
+headline_of starting disk regs sent area slots headers past free k = record {
   lawful = k.lawful;
   owned = λ tag. rw (get_or-map window_in slots tag None) (window_of_slot (length starting / 512) disk.depth starting past tag (slot_at slots tag) k.lawful (k.each tag));
   st = k.tracks.st;
@@ -82,4 +84,17 @@ headline_of starting disk regs area slots headers past free k = record {
   device_is = device_of starting disk regs slots headers past free k;
   error_is = k.error_is;
   sectors = k.sectors;
+}
+
+pub shape_of : (starting : List ℕ) (disk : DiskState) (regs : PortState) (sent : Sent) (area : List ℕ) (slots : List (Option SlotState))
+  (headers : List (List ℕ)) (past : List Entry) (free : ℕ)
+  → Keeps starting disk regs slots headers past free → HasShape (view_of starting disk regs sent area slots past)
+shape_of starting disk regs sent area slots headers past free k = record {
+  some = k.some_slot;
+  most = k.shallow;
+  registers = k.tracks.depth_is;
+  windows = length-map slots window_in ∙ k.slot_count;
+  whole = k.whole;
+  few = k.few;
+  size = k.same_size;
 }

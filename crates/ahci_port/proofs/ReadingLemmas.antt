@@ -20,6 +20,7 @@ use Rattle.word_bits.proofs.PlacesLemmas.{length-no_places, has_place-no_places,
 use Rattle.ahci_port.specs.Keeping.{Keeps, HasSlot, slot_at}
 use Rattle.ahci_port.specs.PortView.{is_free, owner_of, new_port}
 use Rattle.ahci_port.specs.Registers.{acknowledged, started}
+use Rattle.ahci_port.specs.Unqueued.{nothing_sent}
 use Rattle.ahci_port.specs.Slots.{SlotState, phase_in, outstanding_in, view_of, window_in}
 use Rattle.ahci_port.specs.Standing.{last_failure}
 use Rattle.ahci_port.specs.Tracking.{Tracks}
@@ -131,7 +132,7 @@ no_windows zero = refl
 no_windows (suc n) = ap (λ xs. None ∷ xs) (no_windows n)
 
 -- what callers see of it
-pub view_new : (image : List ℕ) (depth : ℕ) → view_of image (new_disk image depth) (started depth) (replicate 256 0) (replicate depth None) [] ≡ new_port image depth
+pub view_new : (image : List ℕ) (depth : ℕ) → view_of image (new_disk image depth) (started depth) nothing_sent (replicate 256 0) (replicate depth None) [] ≡ new_port image depth
 view_new image depth =
     ap (λ d. record (new_port image depth) { device = d; windows = map window_in (replicate depth None) }) (none_in_device image depth)
     ∙ ap (λ w. record (new_port image depth) { windows = w }) (no_windows depth)

@@ -33,6 +33,8 @@ use Rattle.ahci_port.proofs.MemoryLemmas.{fit_sized}
 use Rattle.ahci_port.proofs.OwningLemmas.{Owned, owned}
 use Rattle.ahci_port.specs.Faults.{step_refusal}
 use Rattle.ahci_port.specs.PortView.{PortView, put_at, register_place}
+use Rattle.ahci_port.specs.Unqueued.{sent_by}
+use Rattle.ahci_port.specs.declared.sent.Sent.{Sent}
 use Rattle.ahci_port.specs.Steps.{Appends, IsTaken, passes_end}
 use Rattle.ahci_port.specs.Steps as steps
 use Rattle.ahci_port.specs.declared.step.DeviceStep.TheVariants as step
@@ -270,3 +272,11 @@ state_depth disk q = by (is_past_end disk q)
 -- the first sector that the disk lacks, by the port
 pub lacking_there : (disk : DiskState) (s : ℕ) (w : WindowState) → disk_sectors disk ≡ s → first_lacking disk (queued_of w) ≡ max (lba_of (op w)) s
 lacking_there disk s w size = ap (λ n. max n (disk_sectors disk)) (sym (op_lba w)) ∙ ap (max (lba_of (op w))) size
+
+-- taking a queued command sends nothing from slot 0's own table
+pub sends_nothing : (tag : ℕ) (answer : D2hFields) (last : Sent) → sent_by (taken_entry tag answer) last ≡ last
+sends_nothing tag answer last = by (refuses answer)
+  where
+    by : (b : Bool) → sent_by (cond b (Fail tag answer.error answer.lba) (Accept tag)) last ≡ last
+    by true = refl
+    by false = refl

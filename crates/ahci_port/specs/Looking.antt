@@ -1,5 +1,6 @@
 -- What a driver asks a port of: which tags wait for what, and how much a tag's request reads.
 use Rattle.std.specs.Prelude.{◌≡◌, ℕ, ◌*◌, ◌/◌, ◌≤◌, Bool, if◌then◌else◌, List, length, Option, None, Some}
+use Rattle.ncq_core.specs.DiskState.{most_depth, most_disk_sectors}
 use Rattle.ncq_journal.specs.Entry.{Entry}
 use Rattle.ncq_journal.specs.Phase.{phase}
 use Rattle.ncq_journal.specs.Request.{Request, request}
@@ -34,9 +35,13 @@ read_by (Some r) = read_of r.work
 abbrev pub read_length : List Entry → ℕ → Option ℕ
 read_length past tag = if is_free (phase past tag) then None else read_by (request past tag)
 
--- what every port has: 1 to 32 slots, and at most 131,072 sectors, all of them whole
+-- what every port has: 1 to 32 slots, as many windows, registers of that depth, and whole sectors, not too many, of which
+-- none comes or goes
 pub record HasShape (port : PortView) : Type 0 where
   pub some : 1 ≤ port.depth
-  pub most : port.depth ≤ 32
+  pub most : port.depth ≤ most_depth
+  pub registers : port.registers.depth ≡ port.depth
+  pub windows : length port.windows ≡ port.depth
   pub whole : length port.starting ≡ 512 * sectors_in port
-  pub few : sectors_in port ≤ 131072
+  pub few : sectors_in port ≤ most_disk_sectors
+  pub size : length port.image ≡ length port.starting

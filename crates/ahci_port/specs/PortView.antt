@@ -12,6 +12,8 @@ use Rattle.ncq_journal.specs.Phase.{phase}
 use Rattle.ncq_journal.specs.Request.{request}
 use Rattle.word_bits.specs.Places.{no_places}
 use Rattle.ahci_port.specs.Registers.{started}
+use Rattle.ahci_port.specs.Unqueued.{nothing_sent}
+use Rattle.ahci_port.specs.declared.sent.Sent.{Sent}
 
 pub record PortView : Type 0 where
   -- the bytes of the disk's sectors when the port was made, and as they are now
@@ -22,6 +24,8 @@ pub record PortView : Type 0 where
   -- what the port has done, the newest entry first
   pub past : List Entry
   pub registers : PortState
+  -- what slot 0 sent last that was not queued
+  pub sent : Sent
   -- the 256 bytes of the received FIS area (AHCI 1.3.1, section 4.2.1)
   pub area : List ℕ
   -- by tag, the window of each slot that is owned
@@ -67,6 +71,7 @@ new_port image depth = record {
   depth = depth;
   past = [];
   registers = started depth;
+  sent = nothing_sent;
   area = replicate 256 0;
   windows = replicate depth None;
   device = no_places;

@@ -16,6 +16,7 @@ use Rattle.ncq_journal.specs.Entry.{Entry}
 use Rattle.ahci_port.specs.PortView.{PortView}
 use Rattle.sata_fis.specs.Fields.{QueuedFields}
 use Rattle.ahci_port.specs.declared.ended.Ended.{Ended}
+use Rattle.ahci_port.specs.declared.sent.Sent.{Sent}
 
 pub record SlotState : Type 0 where
   pub number : ℕ
@@ -55,13 +56,14 @@ abbrev pub window_in : Option SlotState → Option WindowState
 window_in slot = option_map (λ s. s.window) slot
 
 -- what callers see of these fields
-abbrev pub view_of : List ℕ → DiskState → PortState → List ℕ → List (Option SlotState) → List Entry → PortView
-view_of starting disk registers area slots past = record {
+abbrev pub view_of : List ℕ → DiskState → PortState → Sent → List ℕ → List (Option SlotState) → List Entry → PortView
+view_of starting disk registers sent area slots past = record {
   starting = starting;
   image = disk.image;
   depth = disk.depth;
   past = past;
   registers = registers;
+  sent = sent;
   area = area;
   windows = map window_in slots;
   device = outstanding disk;

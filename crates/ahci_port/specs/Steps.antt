@@ -13,16 +13,18 @@ use Rattle.ncq_journal.specs.Request.{request}
 use Rattle.ncq_journal.specs.Work.{Work, Read, Write, lba_of}
 use Rattle.ahci_port.specs.PortView.{PortView, sectors_in, window_at, put_at, setup_place, pio_place, register_place, bits_place}
 use Rattle.ahci_port.specs.Registers as registers
+use Rattle.ahci_port.specs.Unqueued.{sent_by}
 use Rattle.ahci_port.specs.declared.step.DeviceStep.{DeviceStep}
 use Rattle.ahci_port.specs.declared.step.DeviceStep.TheVariants as step
 use Rattle.ahci_port.specs.declared.step.Stepped.{Stepped}
 use Rattle.ahci_port.specs.declared.step.Stepped.TheVariants.{Accepted, Completed, Failed}
 
--- the journal has one entry more, and the disk and the slots are as many as before
+-- the journal has one entry more, slot 0 has sent what the entry says, and the disk and the slots are as many as before
 pub record Appends (old new : PortView) (entry : Entry) : Type 0 where
   pub starting_same : new.starting ≡ old.starting
   pub depth_same : new.depth ≡ old.depth
   pub past_is : new.past ≡ entry ∷ old.past
+  pub sent_is : new.sent ≡ sent_by entry old.sent
 
 -- a window is issued: it stands in its slot
 pub record IsIssued (w : WindowState) (old new : PortView) : Type 0 where

@@ -8,6 +8,7 @@ mod memory;
 mod port;
 mod receiving;
 mod reply;
+mod sent;
 mod slot;
 mod software;
 mod step;
@@ -18,5 +19,6 @@ pub use fault::{CollectFault, IssueFault, PlainFault, RecoverFault, ReissueFault
 pub use ncq_core::{DiskFault, Outcome};
 pub use port::Port;
 pub use reply::Reply;
+pub use sent::Sent;
 pub use step::{DeviceStep, Stepped};
 pub use tag_sets::TagSets;

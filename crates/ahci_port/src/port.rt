@@ -51,7 +51,7 @@ impl<A: Allocator> Model for Port<A> {
 
     ghost Value = { PortView };
 
-    ghost view = { λ p. view_of p.starting.items p.disk p.registers p.area p.slots.items p.journal.past };
+    ghost view = { λ p. view_of p.starting.items p.disk p.registers p.unqueued.sent p.area p.slots.items p.journal.past };
 
     ghost invariant = { λ p. Keeps p.starting.items p.disk p.registers p.slots.items p.headers p.journal.past p.journal.room };
 }

@@ -7,8 +7,9 @@ ghost use Rattle.ahci_regs.specs.RegisterTable.{offset_of};
 ghost use Rattle.ncq_core.specs.Verdict.{verdict};
 ghost use Rattle.ncq_core.specs.declared.taken.Taken.TheVariants as taken;
 ghost use Rattle.ahci_port.specs.Registers.{after_write};
-ghost use Rattle.ahci_port.specs.Unqueued.{cfis_for, entries_for, header_for};
+ghost use Rattle.ahci_port.specs.Unqueued.{cfis_for, entries_for, header_for, sent_for};
 
+use crate::sent::Sent;
 use crate::software::write;
 use ahci_regs::{PortRegs, Register};
 use ncq_core::{Disk, Plain, Taken};
@@ -52,7 +53,18 @@ fn cfis_for(plain: Plain) -> [u8; 20]
     }
 }
 
-/// Sends a command by slot 0: header and command FIS are put where the device finds them, PxCI[0] is set, and the device
+/// What is sent for a command.
+fn sent_for(plain: Plain) -> Sent
+    ensures { result ≡ sent_for plain }
+{
+    Sent {
+        header: header_for(plain),
+        cfis: cfis_for(plain),
+        entry: PAGE_ENTRY,
+    }
+}
+
+/// Sends a command by slot 0: header and command table are put where the device finds them, PxCI[0] is set, and the device
 /// takes the command, which is the answer.
 pub(crate) fn send<A: Allocator>(
     plain: Plain,
@@ -63,57 +75,52 @@ pub(crate) fn send<A: Allocator>(
 ) -> Plain
     requires { (verdict disk.old (cfis_for plain)).answer ≡ taken.Plain plain }
     ensures taken { result ≡ plain }
+    ensures sent { table.new.sent ≡ sent_for plain }
     ensures header { header.new ≡ header_for plain }
     ensures registers { registers.new ≡ after_write registers.old (offset_of PxCi) 1 }
     ensures disk { disk.new ≡ (verdict disk.old (cfis_for plain)).state }
 {
-    *header = header_for(plain);
-    table.command(&cfis_for(plain));
+    table.sent = sent_for(plain);
+    *header = table.sent.header;
     write(registers, Register::PxCi, 1);
-    match disk.take(table.cfis()) {
+    match disk.take(&table.sent.cfis) {
         Taken::Plain(taken) => taken,
         _ => unreachable!(),
     }
 }
 
 /// The PRDT's one entry: 512 bytes at 00020200h.
-const ENTRY: [u8; 16] = [0, 2, 2, 0, 0, 0, 0, 0, 0, 0, 0, 0, 0xFF, 1, 0, 0];
+const PAGE_ENTRY: [u8; 16] = [0, 2, 2, 0, 0, 0, 0, 0, 0, 0, 0, 0, 0xFF, 1, 0, 0];
 
-/// The table, by its parts: the first 20 bytes of CFIS, the PRDT's entry, and the page at 00020200h.
+/// Slot 0's table for commands that are not queued, with the header that names it, and the page at 00020200h.
 #[derive(Drop)]
 pub(crate) struct UnqueuedTable {
-    cfis: [u8; 20],
-    entry: [u8; 16],
+    pub(crate) sent: Sent,
     page: [u8; 512],
 }
 
 impl UnqueuedTable {
-    /// A table with its PRDT, and no command yet.
-    pub(crate) fn new() -> Self {
+    ghost use Rattle.std.specs.Prelude.{◌≡◌};
+    ghost use Rattle.ahci_port.specs.Unqueued.{nothing_sent};
+
+    /// A table before the first command.
+    pub(crate) fn new() -> Self
+        ensures { result.sent ≡ nothing_sent }
+    {
         UnqueuedTable {
-            cfis: [0; 20],
-            entry: ENTRY,
+            sent: Sent {
+                header: [0; 32],
+                cfis: [0; 20],
+                entry: [0; 16],
+            },
             page: [0; 512],
         }
     }
 
-    /// Puts a command FIS into CFIS.
-    pub(crate) fn command(&mut self, cfis: &[u8; 20])
-        ensures { self.new.cfis ≡ cfis.now }
-    {
-        self.cfis = *cfis;
-    }
-
-    /// The command FIS in CFIS.
-    pub(crate) fn cfis(&self) -> &[u8; 20]
-        ensures { result.now ≡ self.now.cfis }
-    {
-        &self.cfis
-    }
-
     /// Takes a page that the device sends.
     pub(crate) fn take_page(&mut self, page: [u8; 512])
-        ensures { self.new.page ≡ page }
+        ensures page { self.new.page ≡ page }
+        ensures sent { self.new.sent ≡ self.old.sent }
     {
         self.page = page;
     }

@@ -2,9 +2,11 @@
 
 ghost use Rattle.std.specs.Prelude.{◌≡◌};
 ghost use Rattle.word_bits.specs.Places.{bits};
+ghost use Rattle.ahci_port.specs.Headline.{Headline};
 ghost use Rattle.ahci_port.specs.Looking.{issued_tags, accepted_tags, held_tags, read_length, HasShape};
 
 use crate::port::Port;
+use crate::sent::Sent;
 use crate::slot::read_in;
 use crate::tag_sets::TagSets;
 use ncq_core::Phase;
@@ -72,9 +74,24 @@ impl<A: Allocator> Port<A> {
         self.starting.as_slice()
     }
 
-    /// Shows what holds of every port: it has 1 to 32 slots and at most 131,072 sectors, all whole. It does nothing.
+    /// What slot 0 sent last that was not queued: zeros before the first such command.
+    pub fn sent(&self) -> &Sent
+        ensures { result.now ≡ self.now.sent }
+    {
+        &self.unqueued.sent
+    }
+
+    /// Shows what every port has: 1 to 32 slots and at most 131,072 sectors, all whole. It does nothing.
     pub fn shape(&self)
         ensures { HasShape self.now }
+    {
+        let _depth = self.disk.depth();
+    }
+
+    /// Shows what holds of every port, so of one that comes out of a lock: the headline, and its shape. It does nothing.
+    pub fn keeps_its_promise(&self)
+        ensures headline { Headline self.now }
+        ensures shape { HasShape self.now }
     {
         let _depth = self.disk.depth();
     }

@@ -12,7 +12,7 @@ use Rattle.ahci_port.specs.Steps.{IsTaken}
 use Rattle.ahci_port.proofs.AcceptingLemmas.{disk_size, request_has}
 use Rattle.ahci_port.proofs.MemoryLemmas.{fit_sized}
 use Rattle.ahci_port.proofs.OwningLemmas.{owner_is, windows_same}
-use Rattle.ahci_port.proofs.TakingLemmas.{taking_now, answer_bytes, state_after, state_depth, keeps_taken, taken_as, taken_window, lacking_there}
+use Rattle.ahci_port.proofs.TakingLemmas.{taking_now, answer_bytes, state_after, state_depth, keeps_taken, taken_as, taken_window, lacking_there, sends_nothing}
 use Rattle.ahci_port.proofs.WorkLemmas.{past_end}
 use Rattle.ahci_port.proofs.port.Port.accept.Goals as goal
 
@@ -91,9 +91,9 @@ returns-clause-ok g c =
     ∙ ap (λ s. taken_slot s (length i.journal.past) (d2h_at c.answer_in-fis.result)) (sym same) in
     let pasts : c.push_reserved.new.self.past ≡ taken_entry c.args.tag (d2h_at c.answer_in-fis.result) ∷ i.journal.past =
     c.push_reserved.ensures.past ∙ ap (λ e. e ∷ i.journal.past) (c.taken_event.ensures ∙ ap (taken_entry c.args.tag) said) in
-    let old = view_of i.starting.items i.disk i.registers i.area i.slots.items i.journal.past in
+    let old = view_of i.starting.items i.disk i.registers i.unqueued.sent i.area i.slots.items i.journal.past in
     let next = taken_slot t.owner.slot (length i.journal.past) (d2h_at c.answer_in-fis.result) in
-    let new = view_of i.starting.items c.take.new.self c.receive_register-answer.new.registers c.receive_register-answer.new.area
+    let new = view_of i.starting.items c.take.new.self c.receive_register-answer.new.registers i.unqueued.sent c.receive_register-answer.new.area
       (set i.slots.items c.args.tag (Some next)) c.push_reserved.new.self.past in
     let w = t.owner.slot.window in
     let size = disk_size c.self.invariant in
@@ -105,6 +105,6 @@ returns-clause-ok g c =
     (sym (past_end i.disk (length i.starting.items / 512) w (fit_sized w t.owner.holds.fit) size))
       (lacking_there i.disk (length i.starting.items / 512) w size) c.the_disks_answers_are_these_bytes.ensures.spell t.lba_small fis
     step
-    (record { starting_same = refl; depth_same = ap (λ d. d.depth) state ∙ state_depth i.disk (queued_of w); past_is = pasts })
+    (record { starting_same = refl; depth_same = ap (λ d. d.depth) state ∙ state_depth i.disk (queued_of w); past_is = pasts; sent_is = sym (sends_nothing c.args.tag (d2h_at c.answer_in-fis.result) i.unqueued.sent) })
     c.receive_register-answer.ensures.registers c.receive_register-answer.ensures.area
     (windows_same i.slots.items c.args.tag t.owner.slot next t.owner.here (taken_window t.owner.slot (length i.journal.past) (d2h_at c.answer_in-fis.result)))))

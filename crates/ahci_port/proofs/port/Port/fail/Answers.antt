@@ -65,7 +65,7 @@ returns-clause-ok g c =
     rw (← c.self.view_is, slot)
     (record {
       answer_is = ap (λ n. Failed n) c.len-entry.ensures;
-      appended = record { starting_same = refl; depth_same = ap (λ d. d.depth) c.in-Ok.ensures.state; past_is = c.push_reserved.ensures.past };
+      appended = record { starting_same = refl; depth_same = ap (λ d. d.depth) c.in-Ok.ensures.state; past_is = c.push_reserved.ensures.past; sent_is = refl };
       registers_are = moved;
       area_is = c.receive_bits.ensures.area ∙ ap (λ b. put_at bits_place b i.area) a.1;
       windows_same = windows_same i.slots.items c.args.tag m.owner.slot (failed_slot m.owner.slot (length i.journal.past) c.args.error c.args.at) m.owner.here refl;

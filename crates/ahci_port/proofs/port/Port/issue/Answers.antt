@@ -18,7 +18,7 @@ pub invariant_of-self-2 : goal.invariant_of-self-2
 invariant_of-self-2 g c =
     let i = c.self.inside in
     let w = c.args.window in
-    let m = early_may (view_of i.starting.items i.disk i.registers i.area i.slots.items i.journal.past) c.tag-tag.result
+    let m = early_may (view_of i.starting.items i.disk i.registers i.unqueued.sent i.area i.slots.items i.journal.past) c.tag-tag.result
       (ap (λ p. early_refusal p c.tag-tag.result) c.self.view_is ∙ sym c.early_fault.ensures ∙ c.in_default.is) in
     let vacant : slot_at i.slots.items c.tag-tag.result ≡ None =
       vacant_slot i.starting.items i.journal.past c.tag-tag.result (slot_at i.slots.items c.tag-tag.result) (c.self.invariant.each c.tag-tag.result) m.free in
@@ -43,6 +43,7 @@ returns-clause-issued g c =
         depth_same = refl;
         past_is = c.push_reserved.ensures.past ∙ ap (λ t. Issue t (work_of c.in-Ok-op_of.op) ∷ c.reserve.new.self.past) c.tag-tag.ensures.value
             ∙ ap (λ x. Issue c.args.window.tag x ∷ c.reserve.new.self.past) c.in-Ok-op_of.ensures.work ∙ ap (λ p. Issue c.args.window.tag (op c.args.window) ∷ p) c.in-Ok-reserve.ensures.past;
+        sent_is = refl;
       };
       registers_are = c.issue.ensures ∙ ap (issued i.registers) c.tag-tag.ensures.value;
       area_same = refl;
@@ -52,6 +53,6 @@ returns-clause-issued g c =
 pub returns-clause-taken : goal.returns-clause-taken
 returns-clause-taken g c =
     let i = c.self.inside in
-    let m = early_may (view_of i.starting.items i.disk i.registers i.area i.slots.items i.journal.past) c.tag-tag.result
+    let m = early_may (view_of i.starting.items i.disk i.registers i.unqueued.sent i.area i.slots.items i.journal.past) c.tag-tag.result
       (ap (λ p. early_refusal p c.tag-tag.result) c.self.view_is ∙ sym c.early_fault.ensures ∙ c.in_default.is) in
-    rw (← c.self.view_is) (subst (λ t. MayTake (view_of i.starting.items i.disk i.registers i.area i.slots.items i.journal.past) t) c.tag-tag.ensures.value m, c.in-Ok.ensures.fit)
+    rw (← c.self.view_is) (subst (λ t. MayTake (view_of i.starting.items i.disk i.registers i.unqueued.sent i.area i.slots.items i.journal.past) t) c.tag-tag.ensures.value m, c.in-Ok.ensures.fit)

@@ -6,4 +6,4 @@ invariant_of-result g c = rw (c.requires.new, c.started.ensures, c.in_ok-slots.e
   (keeps_new c.args.starting.items c.args.depth c.no_headers.result c.requires.disk c.no_headers.ensures)
 
 pub returns : goal.returns
-returns g c = rw (c.requires.new, c.started.ensures, c.in_ok-slots.ensures, c.new-journal.ensures.past, c.empty_area.ensures) (view_new c.args.starting.items c.args.depth)
+returns g c = rw (c.new.ensures, c.requires.new, c.started.ensures, c.in_ok-slots.ensures, c.new-journal.ensures.past, c.empty_area.ensures) (view_new c.args.starting.items c.args.depth)

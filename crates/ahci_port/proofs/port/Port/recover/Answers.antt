@@ -38,7 +38,7 @@ returns-clause-failed g c =
     let stop : halted i.journal.past ≡ true = ap (λ p. halted p.past) c.self.view_is ∙ sym c.halted.ensures ∙ c.if-not-halted.false in
     let stopped : is_stopped i.disk ≡ true = stopped_here _ _ _ _ _ _ _ c.self.invariant ∙ stop in
     let state : c.send-taken.new.disk ≡ i.disk = c.send-taken.ensures.disk ∙ stopped_state i.disk (cfis_for ReadLog) stopped in
-    let page : c.page.result ≡ c.read_log.result = c.page.ensures ∙ c.take_page.ensures in
+    let page : c.page.result ≡ c.read_log.result = c.page.ensures ∙ c.take_page.ensures.page in
     let is : IsSomeAnd i.disk.error (λ e. c.page.result ≡ log_page e) =
       subst (λ x. IsSomeAnd i.disk.error (λ e. x ≡ log_page e)) (sym page) (subst (λ d. IsSomeAnd d.error (λ e. c.read_log.result ≡ log_page e)) state c.read_log.ensures.page) in
     let bad = tag_of_page i.disk.error c.page.result i.journal.past (logged _ _ _ _ _ _ _ c.self.invariant stop) is (failed_low _ _ _ _ _ _ _ c.self.invariant) in
@@ -50,7 +50,7 @@ invariant_of-self-2 g c =
     let stop : halted i.journal.past ≡ true = ap (λ p. halted p.past) c.self.view_is ∙ sym c.halted.ensures ∙ c.if-not-halted.false in
     let stopped : is_stopped i.disk ≡ true = stopped_here _ _ _ _ _ _ _ c.self.invariant ∙ stop in
     let state : c.send-taken.new.disk ≡ i.disk = c.send-taken.ensures.disk ∙ stopped_state i.disk (cfis_for ReadLog) stopped in
-    let page : c.page.result ≡ c.read_log.result = c.page.ensures ∙ c.take_page.ensures in
+    let page : c.page.result ≡ c.read_log.result = c.page.ensures ∙ c.take_page.ensures.page in
     let is : IsSomeAnd i.disk.error (λ e. c.page.result ≡ log_page e) =
       subst (λ x. IsSomeAnd i.disk.error (λ e. x ≡ log_page e)) (sym page) (subst (λ d. IsSomeAnd d.error (λ e. c.read_log.result ≡ log_page e)) state c.read_log.ensures.page) in
     let bad = tag_of_page i.disk.error c.page.result i.journal.past (logged _ _ _ _ _ _ _ c.self.invariant stop) is (failed_low _ _ _ _ _ _ _ c.self.invariant) in
@@ -73,7 +73,7 @@ returns-clause-recovered g c =
     let stop : halted i.journal.past ≡ true = ap (λ p. halted p.past) c.self.view_is ∙ sym c.halted.ensures ∙ c.if-not-halted.false in
     let stopped : is_stopped i.disk ≡ true = stopped_here _ _ _ _ _ _ _ c.self.invariant ∙ stop in
     let state : c.send-taken.new.disk ≡ i.disk = c.send-taken.ensures.disk ∙ stopped_state i.disk (cfis_for ReadLog) stopped in
-    let page : c.page.result ≡ c.read_log.result = c.page.ensures ∙ c.take_page.ensures in
+    let page : c.page.result ≡ c.read_log.result = c.page.ensures ∙ c.take_page.ensures.page in
     let is : IsSomeAnd i.disk.error (λ e. c.page.result ≡ log_page e) =
       subst (λ x. IsSomeAnd i.disk.error (λ e. x ≡ log_page e)) (sym page) (subst (λ d. IsSomeAnd d.error (λ e. c.read_log.result ≡ log_page e)) state c.read_log.ensures.page) in
     let bad = tag_of_page i.disk.error c.page.result i.journal.past (logged _ _ _ _ _ _ _ c.self.invariant stop) is (failed_low _ _ _ _ _ _ _ c.self.invariant) in
@@ -88,7 +88,7 @@ returns-clause-recovered g c =
     rw (← c.self.view_is)
     (record {
       appended = record { starting_same = refl; depth_same = ap (λ d. d.depth) disk; past_is = c.push_reserved.ensures.past
-        ∙ ap (λ p. Recover (get_or c.page.result 0 0 % 32) ∷ p) c.in-Ok.ensures.past };
+        ∙ ap (λ p. Recover (get_or c.page.result 0 0 % 32) ∷ p) c.in-Ok.ensures.past; sent_is = c.take_page.ensures.sent ∙ c.send-taken.ensures.sent };
       registers_are = regs;
       area_is = c.receive_pio.ensures.area ∙ ap (λ b. put_at pio_place b i.area) c.pio_setup.ensures;
       windows_same = ap (map window_in) slots ∙ windows_recover i.slots.items;

@@ -96,15 +96,15 @@ returns-clause-ok g c =
     c.serve-sent.ensures.slot ∙ ap (λ s. served_slot s c.len-entry.result w) (sym same) ∙ ap (λ n. served_slot t.owner.slot n w) c.len-entry.ensures in
     let bits = ap set_bits_at c.serve-sent.ensures.bits ∙ sym (c.the_disks_answers_are_these_bytes.ensures.spell.completed c.args.tag t.owner.low).1 in
     let regs : c.receive_bits.new.registers ≡ completed i.registers c.args.tag = c.receive_bits.ensures.registers ∙ ap (λ f. after_bits i.registers f.status f.error f.i f.sactive) bits in
-    let old = view_of i.starting.items i.disk i.registers i.area i.slots.items i.journal.past in
-    let new = view_of i.starting.items c.serve-sent.new.disk c.receive_bits.new.registers c.receive_bits.new.area
+    let old = view_of i.starting.items i.disk i.registers i.unqueued.sent i.area i.slots.items i.journal.past in
+    let new = view_of i.starting.items c.serve-sent.new.disk c.receive_bits.new.registers i.unqueued.sent c.receive_bits.new.area
       (set i.slots.items c.args.tag (Some c.serve-sent.new.self)) c.push_reserved.new.self.past in
     let own_window : window_at old c.args.tag ≡ Some t.owner.slot.window = get_or-map window_in i.slots.items c.args.tag None ∙ ap window_in t.owner.here in
     rw (← c.self.view_is)
     (subst (λ o. IsSomeAnd o (λ x. IsServed c.args.tag x old new (Completed c.len-entry.result))) (sym own_window)
     (record {
       answer_is = ap (λ n. Completed n) c.len-entry.ensures;
-      appended = record { starting_same = refl; depth_same = ap (λ d. d.depth) state; past_is = c.push_reserved.ensures.past };
+      appended = record { starting_same = refl; depth_same = ap (λ d. d.depth) state; past_is = c.push_reserved.ensures.past; sent_is = refl };
       registers_are = regs;
       area_is = c.receive_bits.ensures.area ∙ ap (λ b. put_at bits_place b c.receive_setup.new.area) c.serve-sent.ensures.bits
           ∙ ap (put_at bits_place (completed_bytes c.args.tag))
