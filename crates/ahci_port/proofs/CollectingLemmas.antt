@@ -21,7 +21,7 @@ use Rattle.ncq_journal.proofs.AnsweredLemmas.{answered_by_phase}
 use Rattle.ncq_journal.proofs.OwedLemmas.{owed_moves}
 use Rattle.ahci_port.specs.Faults.{collect_refusal, has_number, is_done}
 use Rattle.ahci_port.specs.Keeping.{Keeps, HasSlot, slot_at}
-use Rattle.ahci_port.specs.Moves.{collect_fault}
+use Rattle.ahci_port.specs.Moves.{collect_refusal_in}
 use Rattle.ahci_port.specs.PortView.{PortView, is_free}
 use Rattle.ahci_port.specs.Slots.{SlotState, answer_in, bytes_in}
 use Rattle.ahci_port.specs.declared.ended.Ended.{Ended}
@@ -31,7 +31,7 @@ use Rattle.ahci_port.proofs.ReadingLemmas.{taken_free}
 
 -- the slot refuses where the journal does
 pub collect_agrees : (starting : List ℕ) (past : List Entry) (tag number : ℕ) (s : Option SlotState) → HasSlot starting past tag s
-    → collect_fault s number ≡ cond (is_free (phase past tag) || not (has_number (request past tag) number)) (Some Stranger) (cond (is_done (phase past tag)) None (Some NotYet))
+    → collect_refusal_in s number ≡ cond (is_free (phase past tag) || not (has_number (request past tag) number)) (Some Stranger) (cond (is_done (phase past tag)) None (Some NotYet))
 collect_agrees starting past tag number None h = sym (ap (λ p. cond (is_free p || not (has_number (request past tag) number)) (Some Stranger) (cond (is_done (phase past tag)) None (Some NotYet))) h)
 collect_agrees starting past tag number (Some slot) h =
     sym (ap (λ b. cond (b || not (has_number (request past tag) number)) (Some Stranger) (cond (is_done (phase past tag)) None (Some NotYet))) (ap is_free h.phase_is ∙ taken_free slot.phase h.taken)
@@ -65,7 +65,7 @@ done_is Broken e = absurd (false≢true e)
 done_is Held e = absurd (false≢true e)
 
 -- a slot that doesn't refuse is done, and has this number
-none_left : (slot : SlotState) (number : ℕ) → collect_fault (Some slot) number ≡ None → (slot.number ≡ number) × (slot.phase ≡ Done)
+none_left : (slot : SlotState) (number : ℕ) → collect_refusal_in (Some slot) number ≡ None → (slot.number ≡ number) × (slot.phase ≡ Done)
 none_left slot number e = by (nat_eq slot.number number) (is_done slot.phase) refl refl e
   where
     by : (a b : Bool) → nat_eq slot.number number ≡ a → is_done slot.phase ≡ b → cond a (cond b None (Some NotYet)) (Some Stranger) ≡ None → (slot.number ≡ number) × (slot.phase ≡ Done)
@@ -80,10 +80,10 @@ within slots tag slot e = elim (cases_lt tag (length slots)) [
 ]
 
 pub collected : (starting : List ℕ) (disk : DiskState) (regs : PortState) (slots : List (Option SlotState)) (headers : List (List ℕ)) (past : List Entry) (free tag number : ℕ)
-    → Keeps starting disk regs slots headers past free → collect_fault (slot_at slots tag) number ≡ None → Collected starting past slots free tag number
+    → Keeps starting disk regs slots headers past free → collect_refusal_in (slot_at slots tag) number ≡ None → Collected starting past slots free tag number
 collected starting disk regs slots headers past free tag number k may = by (slot_at slots tag) refl (k.each tag) may
   where
-    by : (s : Option SlotState) → slot_at slots tag ≡ s → HasSlot starting past tag s → collect_fault s number ≡ None → Collected starting past slots free tag number
+    by : (s : Option SlotState) → slot_at slots tag ≡ s → HasSlot starting past tag s → collect_refusal_in s number ≡ None → Collected starting past slots free tag number
     by None e h m = absurd (cc)
     by (Some slot) e h m =
         let left = none_left slot number m in

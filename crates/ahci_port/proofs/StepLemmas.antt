@@ -17,7 +17,7 @@ use Rattle.ncq_journal.specs.Laws.{owed_less}
 use Rattle.ncq_journal.specs.Phase.{phase}
 use Rattle.ncq_journal.proofs.OwedLemmas.{owed_moves}
 use Rattle.ncq_journal.specs.Request.{Request, request}
-use Rattle.ncq_core.specs.Serving.{answered, fail_fault, is_at_command, has_sector}
+use Rattle.ncq_core.specs.Serving.{answered, fail_fault, is_at_command, covers_sector}
 use Rattle.ncq_journal.specs.Tags.{in_device}
 use Rattle.ncq_journal.specs.Work.{sectors_of}
 use Rattle.sata_fis.specs.Fields.{QueuedFields}
@@ -53,7 +53,7 @@ abbrev disk_refusal : Bool → Option QueuedFields → ℕ → Option StepFault
 disk_refusal stopped command at = option_map step_fault_of
   (cond stopped (Some serve_fault.Stopped) (cond (is_some command) (cond (is_at_command command at) None (Some serve_fault.OutsideCommand)) (Some serve_fault.NotAccepted)))
 
-covered : (slot : SlotState) (at : ℕ) (starting : List ℕ) (past : List Entry) (tag : ℕ) → Holds starting past tag slot → has_sector (queued_of slot.window) at ≡ covers (op slot.window) at
+covered : (slot : SlotState) (at : ℕ) (starting : List ℕ) (past : List Entry) (tag : ℕ) → Holds starting past tag slot → covers_sector (queued_of slot.window) at ≡ covers (op slot.window) at
 covered slot at starting past tag h =
     let lba = op_lba slot.window in
     let count = op_sectors slot.window (fit_sized slot.window h.fit) in
@@ -73,8 +73,8 @@ slot_agrees starting past tag at false (Some slot) h =
     q = queued_of slot.window
 
     by : (b : Bool) → disk_refusal false (cond (b && true) (Some (queued_of slot.window)) None) at ≡ cond b
-      (cond (has_sector (queued_of slot.window) at) None (Some fault.OutsideCommand)) (Some fault.NotAccepted)
-    by true = inner (has_sector (queued_of slot.window) at)
+      (cond (covers_sector (queued_of slot.window) at) None (Some fault.OutsideCommand)) (Some fault.NotAccepted)
+    by true = inner (covers_sector (queued_of slot.window) at)
       where
         inner : (x : Bool) → option_map step_fault_of (cond x None (Some serve_fault.OutsideCommand)) ≡ cond x None (Some fault.OutsideCommand)
         inner true = refl

@@ -60,9 +60,9 @@ pub record MovedWindow (old new : WindowState) : Type 0 where
   pub write_same : (queued_of old).write ≡ true → new ≡ old
 
 -- why a request is not collected from a slot
-abbrev pub collect_fault : Option SlotState → ℕ → Option CollectFault
-collect_fault None number = Some Stranger
-collect_fault (Some slot) number = if nat_eq slot.number number then (if is_done slot.phase then None else Some NotYet) else Some Stranger
+abbrev pub collect_refusal_in : Option SlotState → ℕ → Option CollectFault
+collect_refusal_in None number = Some Stranger
+collect_refusal_in (Some slot) number = if nat_eq slot.number number then (if is_done slot.phase then None else Some NotYet) else Some Stranger
 
 -- the port's fault where the disk has refused to end a command
 abbrev pub step_fault_of : ServeFault → StepFault

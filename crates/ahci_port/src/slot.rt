@@ -10,7 +10,7 @@ ghost use Rattle.ncq_core.specs.Serving.{HasMoved, serve_fault, served};
 ghost use Rattle.ahci_port.specs.Memory.{IsKept};
 ghost use Rattle.ahci_port.specs.Keeping.{slot_at};
 ghost use Rattle.ahci_port.specs.Slots.{phase_in, read_in};
-ghost use Rattle.ahci_port.specs.Moves.{collect_fault, issued_slot, outcome_of, served_slot, taken_slot, reissued_slot, accepted_slot, failed_slot, recovered_slot};
+ghost use Rattle.ahci_port.specs.Moves.{collect_refusal_in, issued_slot, outcome_of, served_slot, taken_slot, reissued_slot, accepted_slot, failed_slot, recovered_slot};
 
 use crate::ended::Ended;
 use crate::fault::CollectFault;
@@ -210,7 +210,7 @@ pub(crate) fn collect_fault<A: Allocator>(
     tag: u8,
     number: u64,
 ) -> Option<CollectFault>
-    ensures { result ≡ collect_fault (slot_at slots.now tag) number }
+    ensures { result ≡ collect_refusal_in (slot_at slots.now tag) number }
 {
     match slots.get(tag as usize) {
         Some(Some(slot)) if slot.number == number => match slot.phase {

@@ -9,7 +9,7 @@ use Rattle.word_bits.proofs.PlacesLemmas.{same_sets, length-places, has_place-pl
 use Rattle.sata_fis.specs.Fields.{QueuedFields}
 use Rattle.ncq_core.specs.DiskState.{DiskState, DiskError, IsDisk, IsOutstanding, IsStanding, disk_sectors, command_of, no_commands}
 use Rattle.ncq_core.proofs.MovingLemmas.{whole_write}
-use Rattle.ncq_core.specs.Serving.{has_sector, byte_count}
+use Rattle.ncq_core.specs.Serving.{covers_sector, byte_count}
 
 pub length-no_commands : length no_commands ≡ 32
 unfolding no_commands
@@ -117,7 +117,7 @@ places-commands commands count =
     (λ i h. let low : i < 32 = omega (arith, length-places p) in has_place-places p i low ∙ sym (get_or-map is_some commands i None false (omega arith)))
 
 -- a sector of a command that fits has 48 bits
-pub sector_fits : (disk : DiskState) (tag : ℕ) (q : QueuedFields) (lba : ℕ) → IsDisk disk → IsOutstanding disk tag q → has_sector q lba ≡ true → lba < 2 ^ 48
+pub sector_fits : (disk : DiskState) (tag : ℕ) (q : QueuedFields) (lba : ℕ) → IsDisk disk → IsOutstanding disk tag q → covers_sector q lba ≡ true → lba < 2 ^ 48
 sector_fits disk tag q lba d o inside =
     let below : lba < q.lba + q.sectors = ltb-true lba (q.lba + q.sectors) (and_true_right (leb q.lba lba) (ltb lba (q.lba + q.sectors)) inside) in
     omega (arith, d.most, o.fits)

@@ -12,13 +12,13 @@ abbrev pub serve_fault : DiskState → ℕ → Option ServeFault
 serve_fault disk tag = if is_stopped disk then Some Stopped else (if is_some (command_of disk tag) then None else Some NotAccepted)
 
 -- the sector is one that the command reads or writes
-abbrev pub has_sector : QueuedFields → ℕ → Bool
-has_sector q lba = nat_le q.lba lba && nat_lt lba (q.lba + q.sectors)
+abbrev pub covers_sector : QueuedFields → ℕ → Bool
+covers_sector q lba = nat_le q.lba lba && nat_lt lba (q.lba + q.sectors)
 
 -- the sector is one of the command at a tag
 abbrev pub is_at_command : Option QueuedFields → ℕ → Bool
 is_at_command None lba = false
-is_at_command (Some q) lba = has_sector q lba
+is_at_command (Some q) lba = covers_sector q lba
 
 -- why a tag's command does not fail at a sector: as for serving, or the sector is not one of the command's
 abbrev pub fail_fault : DiskState → ℕ → ℕ → Option ServeFault

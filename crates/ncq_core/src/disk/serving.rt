@@ -5,7 +5,7 @@ ghost use Rattle.ncq_core.specs.DiskState.{IsDisk, IsOutstanding, command_of, di
 ghost use Rattle.ncq_core.specs.DiskFis.{setup_bytes, completed_bytes, failed_bytes};
 ghost use Rattle.ncq_core.specs.Verdict.{stopped_by};
 ghost use Rattle.ncq_core.specs.Log.{log_page};
-ghost use Rattle.ncq_core.specs.Serving.{HasMoved, answered, byte_count, fail_fault, has_sector, serve_fault, served};
+ghost use Rattle.ncq_core.specs.Serving.{HasMoved, answered, byte_count, fail_fault, covers_sector, serve_fault, served};
 
 use crate::disk::Disk;
 use crate::disk::answers::{completed, dma_setup, failed};
@@ -17,8 +17,8 @@ use sata_fis::Queued;
 use std::alloc::Allocator;
 
 /// Whether the sector is one that the command reads or writes.
-fn has_sector(command: &Queued, lba: u64) -> bool
-    ensures { result ≡ has_sector command.now lba }
+fn covers_sector(command: &Queued, lba: u64) -> bool
+    ensures { result ≡ covers_sector command.now lba }
 {
     command.lba <= lba && lba - command.lba < u64::from(command.sectors)
 }
@@ -59,7 +59,7 @@ impl<A: Allocator> Disk<A> {
         ensures state { OnOk result (self.new ≡ stopped_by self.old (record { tag = tag; error = error; lba = at })) }
         ensures err { OnErr result (self.new ≡ self.old) }
     {
-        if !has_sector(&self.outstanding(tag)?, at) {
+        if !covers_sector(&self.outstanding(tag)?, at) {
             return Err(ServeFault::OutsideCommand);
         }
         self.stop(tag, error, at);
