@@ -1,5 +1,6 @@
 -- What is written into a new window.
-use Rattle.std.proofs.Common.{◌≡◌, ℕ, ◌+◌, ◌-◌, ◌*◌, ◌<◌, ◌≤◌, zero, suc, max, ◌%◌, true, false, nat_eq, List, [], ◌∷◌, ◌++◌, length, take, drop, replicate, get_or, ap, sym, refl, subst, ◌∙◌, arith, inl, inr}
+use Rattle.std.proofs.Common.{◌≡◌, ℕ, ◌+◌, ◌-◌, ◌*◌, ◌<◌, ◌≤◌, zero, suc, max, ◌%◌, true, false, nat_eq, List, [],
+  ◌∷◌, ◌++◌, length, take, drop, replicate, get_or, ap, sym, refl, subst, ◌∙◌, arith, inl, inr}
 use Rattle.std.specs.List.{All, flat_map}
 use Rattle.std.proofs.lemmas.Bool.{eqb-true}
 use Rattle.std.proofs.lemmas.Grind.{flat_map-append}

@@ -1,4 +1,4 @@
-use Rattle.std.proofs.Common.{◌≡◌, ◌∙◌, Some, true, length, ap, sym, refl, rules}
+use Rattle.std.proofs.Common.{◌≡◌, ◌∙◌, Some, None, true, length, ap, sym, refl, rules}
 use Rattle.std.specs.Option.{option_map}
 use Rattle.ncq_core.specs.Serving.{fail_fault}
 use Rattle.ncq_core.specs.DiskFis.{failed_bytes}
@@ -12,7 +12,7 @@ use Rattle.ahci_port.specs.Moves.{failed_slot, step_fault_of}
 use Rattle.ahci_port.proofs.FailingLemmas.{keeps_fail}
 use Rattle.ahci_port.proofs.OwningLemmas.{owner_is, windows_same}
 use Rattle.ahci_port.proofs.RegisterLemmas.{tracks_fail}
-use Rattle.ahci_port.proofs.StepLemmas.{answered_err, answered_ok, fail_agrees, may_fail}
+use Rattle.ahci_port.proofs.StepLemmas.{answered_err, answered_ok, fail_agrees, may_fail, MayFailNow}
 use Rattle.ahci_port.proofs.port.Port.fail.Goals as goal
 
 pub returns-in-Err-clause-fault : goal.returns-in-Err-clause-fault
@@ -36,38 +36,46 @@ push_reserved-requires g c =
     let m = may_fail _ _ _ _ _ _ _ c.args.tag c.args.error c.args.at c.self.invariant a.0 in
     m.room
 
+-- what stands once the disk has failed the command: its answer, the slot's request, the slot and the registers
+said : (g : _) (c : goal.After-push_reserved g) → (fail_fault c.self.inside.disk c.args.tag c.args.at ≡ None) × (c.in-Ok.bits ≡ failed_bytes c.args.error)
+said g c = answered_ok (fail_fault c.self.inside.disk c.args.tag c.args.at) (failed_bytes c.args.error) c.in-Ok.bits c.in-Ok.ensures.answer
+
+here : (g : _) (c : goal.After-push_reserved g)
+  → MayFailNow c.self.inside.starting.items c.self.inside.disk.depth c.self.inside.journal.past c.self.inside.slots.items c.self.inside.journal.room
+    c.args.tag c.args.error c.args.at
+here g c = may_fail _ _ _ _ _ _ _ c.args.tag c.args.error c.args.at c.self.invariant (said g c).0
+
+slot : (g : _) (c : goal.After-push_reserved g)
+  → c.fail-in-Some.new.self ≡ failed_slot (here g c).owner.slot (length c.self.inside.journal.past) c.args.error c.args.at
+slot g c = c.fail-in-Some.ensures ∙ ap (λ n. failed_slot c.in-Some.slot n c.args.error c.args.at) c.len-entry.ensures
+  ∙ ap (λ s. failed_slot s (length c.self.inside.journal.past) c.args.error c.args.at)
+    (sym (owner_is (here g c).owner _ _ c.index_mut.ensures.value c.in-Some.is))
+
+regs : (g : _) (c : goal.After-push_reserved g) → c.receive_bits.new.registers ≡ failed c.self.inside.registers c.args.error
+regs g c = c.receive_bits.ensures.registers
+  ∙ ap (λ b. after_bits c.self.inside.registers (set_bits_at b).status (set_bits_at b).error (set_bits_at b).i (set_bits_at b).sactive) (said g c).1
+
 pub invariant_of-self-2 : goal.invariant_of-self-2
 invariant_of-self-2 g c =
     let i = c.self.inside in
-    let a = answered_ok (fail_fault i.disk c.args.tag c.args.at) (failed_bytes c.args.error) c.in-Ok.bits c.in-Ok.ensures.answer in
-    let m = may_fail _ _ _ _ _ _ _ c.args.tag c.args.error c.args.at c.self.invariant a.0 in
-    let same = owner_is m.owner _ _ c.index_mut.ensures.value c.in-Some.is in
-    let slot : c.fail-in-Some.new.self ≡ failed_slot m.owner.slot (length i.journal.past) c.args.error c.args.at =
-    c.fail-in-Some.ensures ∙ ap (λ n. failed_slot c.in-Some.slot n c.args.error c.args.at) c.len-entry.ensures ∙ ap (λ s. failed_slot s (length i.journal.past) c.args.error c.args.at) (sym same) in
-    let moved : c.receive_bits.new.registers ≡ failed i.registers c.args.error =
-    c.receive_bits.ensures.registers ∙ ap (λ b. after_bits i.registers (set_bits_at b).status (set_bits_at b).error (set_bits_at b).i (set_bits_at b).sactive) a.1 in
+    let m = here g c in
     let busy : is_busy (phase i.journal.past c.args.tag) ≡ true = ap is_busy m.accepted in
-    rw (slot, moved, c.push_reserved.ensures.past, c.in-Ok.ensures.state)
+    rw (regs g c, c.push_reserved.ensures.past, c.in-Ok.ensures.state, slot g c)
     (keeps_fail i.starting.items i.disk i.registers
       (failed i.registers c.args.error) i.slots.items i.headers i.journal.past i.journal.room c.push_reserved.new.self.room c.args.tag c.args.error c.args.at m.owner.slot
-    c.self.invariant busy m.owner.here m.allowed (tracks_fail i.disk.depth i.journal.past i.registers c.args.tag c.args.error c.args.at c.self.invariant.tracks busy) c.push_reserved.ensures.room)
+      c.self.invariant busy m.owner.here m.allowed (tracks_fail i.disk.depth i.journal.past i.registers c.args.tag c.args.error c.args.at c.self.invariant.tracks busy)
+      c.push_reserved.ensures.room)
 
 pub returns-clause-ok : goal.returns-clause-ok
 returns-clause-ok g c =
     let i = c.self.inside in
-    let a = answered_ok (fail_fault i.disk c.args.tag c.args.at) (failed_bytes c.args.error) c.in-Ok.bits c.in-Ok.ensures.answer in
-    let m = may_fail _ _ _ _ _ _ _ c.args.tag c.args.error c.args.at c.self.invariant a.0 in
-    let same = owner_is m.owner _ _ c.index_mut.ensures.value c.in-Some.is in
-    let slot : c.fail-in-Some.new.self ≡ failed_slot m.owner.slot (length i.journal.past) c.args.error c.args.at =
-    c.fail-in-Some.ensures ∙ ap (λ n. failed_slot c.in-Some.slot n c.args.error c.args.at) c.len-entry.ensures ∙ ap (λ s. failed_slot s (length i.journal.past) c.args.error c.args.at) (sym same) in
-    let moved : c.receive_bits.new.registers ≡ failed i.registers c.args.error =
-    c.receive_bits.ensures.registers ∙ ap (λ b. after_bits i.registers (set_bits_at b).status (set_bits_at b).error (set_bits_at b).i (set_bits_at b).sactive) a.1 in
-    rw (← c.self.view_is, slot)
+    let m = here g c in
+    rw (← c.self.view_is, slot g c)
     (record {
       answer_is = ap (λ n. Failed n) c.len-entry.ensures;
       appended = record { starting_same = refl; depth_same = ap (λ d. d.depth) c.in-Ok.ensures.state; past_is = c.push_reserved.ensures.past; sent_is = refl };
-      registers_are = moved;
-      area_is = c.receive_bits.ensures.area ∙ ap (λ b. put_at bits_place b i.area) a.1;
+      registers_are = regs g c;
+      area_is = c.receive_bits.ensures.area ∙ ap (λ b. put_at bits_place b i.area) (said g c).1;
       windows_same = windows_same i.slots.items c.args.tag m.owner.slot (failed_slot m.owner.slot (length i.journal.past) c.args.error c.args.at) m.owner.here refl;
     })
 
