@@ -14,8 +14,8 @@ use Rattle.ahci_replay.specs.declared.fault.CliFault.{CliFault}
 use Rattle.ahci_replay.specs.declared.fault.CliFault.TheVariants.{Line, Job, Read, Write, Unsettled, Lost, OutOfMemory}
 use Rattle.ahci_replay.specs.Fault.{is_of_output}
 use Rattle.ahci_replay.specs.Place.{Place}
-use Rattle.ahci_replay.specs.Transcript.{Ends, EndsWith, Grown, IsFaulty, IsFaultyAs, IsLineFault, MayEnd, Progress, Replayed, ReplayedFirst, ReplayedTo, Stops, WritesPart, beginning, no_line, placed, with_feeds}
-use Rattle.ahci_replay.proofs.ProgressLemmas.{Adds-append, Bytes, Known, Port, Progress-line, Progress-refl, Progress-trans, parts, with_feeds-append}
+use Rattle.ahci_replay.specs.Transcript.{Ends, EndsWith, Grown, IsCutOff, IsFaulty, IsFaultyAs, IsLineFault, MayEnd, Progress, Replayed, ReplayedFirst, ReplayedTo, Stops, WritesPart, beginning, no_line, placed, with_feeds}
+use Rattle.ahci_replay.proofs.ProgressLemmas.{Adds-append, Bytes, Counts, Known, Port, Progress-line, Progress-refl, Progress-trans, counts, next, parts, with_feeds-append}
 
 -- a last line that was answered, behind text that was written before
 grown_after : (p q : Port) (rest before after text sent : Bytes) → text ≡ sent ++ before → Grown p rest q before after → Grown p rest q text (sent ++ after)
@@ -47,13 +47,15 @@ part_after a b c p q = record {
   count = length p.sent + q.count;
   answered = Adds-append a.port b.port q.port p.lines q.lines p.text q.text p.answered q.answered;
   consumed = Consumes-trans a.remaining b.remaining q.remaining p.came q.came p.consumed q.consumed;
-  read = sym (append_assoc a.unread p.came q.came) ∙ ap (λ l. l ++ q.came) p.read ∙ append_assoc (with_feeds p.lines) b.unread q.came ∙ ap (λ l. with_feeds p.lines ++ l) q.read ∙ sym (append_assoc (with_feeds p.lines) (with_feeds q.lines) q.rest) ∙ ap (λ l. l ++ q.rest) (sym (with_feeds-append p.lines q.lines));
-  last = may_end_after q.remaining q.port q.last_port q.rest (b.waiting ++ q.text) q.all (a.waiting ++ (p.text ++ q.text)) p.sent (sym (append_assoc a.waiting p.text q.text) ∙ ap (λ l. l ++ q.text) p.said ∙ append_assoc p.sent b.waiting q.text) q.last;
+  read = sym (append_assoc a.unread p.came q.came) ∙ ap (λ l. l ++ q.came) p.read ∙ append_assoc (with_feeds p.lines) b.unread q.came ∙ ap (λ l. with_feeds p.lines ++ l) q.read ∙ sym
+      (append_assoc (with_feeds p.lines) (with_feeds q.lines) q.rest) ∙ ap (λ l. l ++ q.rest) (sym (with_feeds-append p.lines q.lines));
+  last = may_end_after q.remaining q.port q.last_port q.rest (b.waiting ++ q.text) q.all (a.waiting ++ (p.text ++ q.text)) p.sent
+      (sym (append_assoc a.waiting p.text q.text) ∙ ap (λ l. l ++ q.text) p.said ∙ append_assoc p.sent b.waiting q.text) q.last;
   written = rw (take-append-add p.sent q.all q.count) (Appends-trans a.contents b.contents c.contents p.sent (take q.count q.all) p.written q.written);
 }
 
 -- some first part of what waited is written
-pub stops_sending : (r r' c c' : Known) (u u' w w' : Bytes) (p p' : Port) (n n' : ℕ) → (k : ℕ) × Appends c c' (take k w) → WritesPart (parts r c u w p n) (parts r' c' u' w' p' n')
+pub stops_sending : (r r' c c' : Known) (u u' w w' : Bytes) (p p' : Port) (n n' : Counts) → (k : ℕ) × Appends c c' (take k w) → WritesPart (parts r c u w p n) (parts r' c' u' w' p' n')
 stops_sending r r' c c' u u' w w' p p' n n' part = record {
   lines = [];
   rest = u;
@@ -72,13 +74,15 @@ stops_sending r r' c c' u u' w w' p p' n n' part = record {
 }
 
 -- the same behind a line that was answered
-pub stops_sending_line : (r r' c c' : Known) (u u' w w1 w' : Bytes) (p p1 p' : Port) (n n' e : ℕ) → line_end u ≡ Some e → found_of (take e u ++ 10 ∷ []) ≡ whole (take e u) → Grown p (take e u) p1 w w1 → (k : ℕ) × Appends c c' (take k w1) → WritesPart (parts r c u w p n) (parts r' c' u' w' p' n')
+pub stops_sending_line : (r r' c c' : Known) (u u' w w1 w' : Bytes) (p p1 p' : Port) (n n' : Counts) (e : ℕ) → line_end u ≡ Some e → found_of (take e u ++ 10 ∷ []) ≡ whole (take e u)
+    → Grown p (take e u) p1 w w1 → (k : ℕ) × Appends c c' (take k w1) → WritesPart (parts r c u w p n) (parts r' c' u' w' p' n')
 stops_sending_line r r' c c' u u' w w1 w' p p1 p' n n' e found fed grown part =
-    part_after (parts r c u w p n) (parts r c (drop (e + 1) u) w1 p1 (n + 1)) (parts r' c' u' w' p' n') (Progress-line r c u w w1 p p1 n e found fed grown)
-    (stops_sending r r' c c' (drop (e + 1) u) u' w1 w' p1 p' (n + 1) n' part)
+    part_after (parts r c u w p n) (parts r c (drop (e + 1) u) w1 p1 (next n)) (parts r' c' u' w' p' n') (Progress-line r c u w w1 p p1 n e found fed grown)
+    (stops_sending r r' c c' (drop (e + 1) u) u' w1 w' p1 p' (next n) n' part)
 
 -- a line stops the script where it stands
-pub stops_at_line : (f : CliFault) (a : Place) (r c : Known) (u w w' l : Bytes) (p q : Port) (n : ℕ) → Progress a (parts r c u w p n) → IsLineFault p l (n + 1) f → (placed p l ≡ None → IsFaulty p u) → w' ≡ w → Stops a (parts r c u w' q n) f
+pub stops_at_line : (f : CliFault) (a : Place) (r c : Known) (u w w' l : Bytes) (p q : Port) (n : Counts) → Progress a (parts r c u w p n) → IsLineFault p l (n.lines + 1) f →
+    (placed p l ≡ None → IsFaulty r p u) → w' ≡ w → Stops a (parts r c u w' q n) f
 stops_at_line (Line k) a r c u w w' l p q n so_far is faulty same =
     (p, rw same so_far, is.0, faulty is.1)
 stops_at_line (Job k) a r c u w w' l p q n so_far is faulty same = is
@@ -89,16 +93,16 @@ stops_at_line (Lost k) a r c u w w' l p q n so_far is faulty same = is
 stops_at_line OutOfMemory a r c u w w' l p q n so_far is faulty same = (p, rw same so_far)
 
 -- a whole line that adds nothing is faulty
-pub faulty_line : (p : Port) (u l : Bytes) → whole l ≡ found_of u → placed p l ≡ None → IsFaulty p u
-faulty_line p u l is h = subst (IsFaultyAs p u) is h
+pub faulty_line : (r : Known) (p : Port) (u l : Bytes) → whole l ≡ found_of u → placed p l ≡ None → IsFaulty r p u
+faulty_line r p u l is h = subst (IsFaultyAs r p u) is h
 
 -- a line that is too long is faulty
-pub faulty_long : (p : Port) (u : Bytes) → too_long ≡ found_of u → IsFaulty p u
-faulty_long p u is = subst (IsFaultyAs p u) is tt
+pub faulty_long : (r : Known) (p : Port) (u : Bytes) → too_long ≡ found_of u → IsFaulty r p u
+faulty_long r p u is = subst (IsFaultyAs r p u) is tt
 
 -- a last line that adds nothing is faulty
-pub faulty_rest : (p : Port) (u : Bytes) → found_of u ≡ unfinished → placed p u ≡ None → IsFaulty p u
-faulty_rest p u is h = subst (IsFaultyAs p u) (sym is) h
+pub faulty_rest : (r : Known) (p : Port) (u : Bytes) → IsAtEnd r → found_of u ≡ unfinished → placed p u ≡ None → IsFaulty r p u
+faulty_rest r p u ended is h = subst (IsFaultyAs r p u) (sym is) (ended, h)
 
 -- what holds of the one error holds of the result's error
 pub if_err_from : {T : Type 0} (r : Result T CliFault) (f : CliFault) (P : CliFault → Type 0) → IsErrAnd r (λ e. e ≡ f) → P f → IfErr r P
@@ -140,7 +144,8 @@ placed_at at len n is within =
 -- with its line feed a line ends where it ended
 feed_behind : (t : Bytes) → position_or_len (λ b. b == 10) t ≡ length t → line_end (t ++ 10 ∷ []) ≡ Some (length t)
 feed_behind t none =
-    let at : position_or_len (λ b. b == 10) (t ++ 10 ∷ []) ≡ length t = position_or_len_push (λ b. b == 10) t 10 ∙ ap (λ n. cond (n == length t) (length t + 0) n) none ∙ same_end (length t == length t) (length t) in
+    let at : position_or_len (λ b. b == 10) (t ++ 10 ∷ []) ≡ length t = position_or_len_push (λ b. b == 10) t 10 ∙ ap (λ n. cond (n == length t) (length t + 0) n) none ∙ same_end
+    (length t == length t) (length t) in
     placed_at (position_or_len (λ b. b == 10) (t ++ 10 ∷ [])) (length (t ++ 10 ∷ [])) (length t) at (omega (arith, length-append t (10 ∷ [])))
 
 -- so it is found whole
@@ -170,7 +175,8 @@ stops_after Unsettled a b c p s = s
 stops_after (Lost n) a b c p s = s
 
 -- the answers to the lines that were read are written
-pub first_written : (P : Port → Bytes → Type 0) (r c d : Known) (to : Place) → Progress (beginning r c) to → P to.port to.unread → Appends to.contents d to.waiting → ReplayedFirst r c d to.line P
+pub first_written : (P : Known → Port → Bytes → ℕ → Type 0) (r c d : Known) (to : Place) → Progress (beginning r c) to → P to.remaining to.port to.unread to.came
+    → Appends to.contents d to.waiting → ReplayedFirst r c d to.line P
 first_written P r c d to p holds sent = record {
   lines = p.lines;
   rest = to.unread;
@@ -180,14 +186,14 @@ first_written P r c d to p holds sent = record {
   answered = p.answered;
   counted = omega (arith, p.counted);
   consumed = subst (Consumes r to.remaining) p.read p.consumed;
-  holds = holds;
+  holds = subst (P to.remaining to.port to.unread) (p.all_came ∙ (omega arith) ∙ ap length p.read) holds;
   written = subst (Appends c d) (sym p.said) (Appends-trans c to.contents d p.sent to.waiting p.written sent);
 }
 
 -- a first part of the answers to the lines that were read is written
-pub part_written : (r c d : Known) (to : Place) → Progress (beginning r c) to → (k : ℕ) × Appends to.contents d (take k to.waiting) → ReplayedTo r c d Write
+pub part_written : (r c d : Known) (to : Place) → Progress (beginning r c) to → (k : ℕ) × Appends to.contents d (take k to.waiting) → ReplayedTo r r c d Write
 part_written r c d to p part =
-    part_after (beginning r c) to (beginning r d) p (stops_sending to.remaining r to.contents d to.unread [] to.waiting [] to.port None to.line 0 part)
+    part_after (beginning r c) to (beginning r d) p (stops_sending to.remaining r to.contents d to.unread [] to.waiting [] to.port None (counts to.line to.came) (counts 0 0) part)
 
 end_text : (p q : Port) (rest before waiting text sent : Bytes) → text ≡ sent ++ before → EndsWith p rest q before waiting → EndsWith p rest q text (sent ++ waiting)
 end_text p q rest before waiting text sent said (inl same) =
@@ -215,7 +221,8 @@ all_written r c d to e sent =
     }
 
 -- a first part of what waited is written, where the last line was answered
-part_with_rest : (r r' c d : Known) (u w w' : Bytes) (p q : Port) (n : ℕ) → IsAtEnd r → found_of u ≡ unfinished → Grown p u q w w' → (k : ℕ) × Appends c d (take k w') → WritesPart (parts r c u w p n) (beginning r' d)
+part_with_rest : (r r' c d : Known) (u w w' : Bytes) (p q : Port) (n : Counts) → IsAtEnd r → found_of u ≡ unfinished → Grown p u q w w' → (k : ℕ) × Appends c d (take k w') → WritesPart
+    (parts r c u w p n) (beginning r' d)
 part_with_rest r r' c d u w w' p q n ended unended last part = record {
   lines = [];
   rest = u;
@@ -233,14 +240,15 @@ part_with_rest r r' c d u w w' p q n ended unended last part = record {
   written = part.1;
 }
 
-end_part : (to : Place) (d r' : Known) (before : Bytes) (p : Port) → IsAtEnd to.remaining → found_of to.unread ≡ unfinished → EndsWith p to.unread to.port before to.waiting → (k : ℕ) × Appends to.contents d (take k to.waiting) → WritesPart (parts to.remaining to.contents to.unread before p to.line) (beginning r' d)
+end_part : (to : Place) (d r' : Known) (before : Bytes) (p : Port) → IsAtEnd to.remaining → found_of to.unread ≡ unfinished → EndsWith p to.unread to.port before to.waiting →
+    (k : ℕ) × Appends to.contents d (take k to.waiting) → WritesPart (parts to.remaining to.contents to.unread before p (counts to.line to.came)) (beginning r' d)
 end_part to d r' before p ended unended (inl same) part =
-    stops_sending to.remaining r' to.contents d to.unread [] before [] p None to.line 0 (part.0, subst (λ w. Appends to.contents d (take part.0 w)) same.2 part.1)
+    stops_sending to.remaining r' to.contents d to.unread [] before [] p None (counts to.line to.came) (counts 0 0) (part.0, subst (λ w. Appends to.contents d (take part.0 w)) same.2 part.1)
 end_part to d r' before p ended unended (inr last) part =
-    part_with_rest to.remaining r' to.contents d to.unread before to.waiting p to.port to.line ended unended last part
+    part_with_rest to.remaining r' to.contents d to.unread before to.waiting p to.port (counts to.line to.came) ended unended last part
 
 -- a whole input was read, and a first part of its answers is written
-pub all_part_written : (r c d : Known) (to : Place) → Ends (beginning r c) to → (k : ℕ) × Appends to.contents d (take k to.waiting) → ReplayedTo r c d Write
+pub all_part_written : (r c d : Known) (to : Place) → Ends (beginning r c) to → (k : ℕ) × Appends to.contents d (take k to.waiting) → ReplayedTo r r c d Write
 all_part_written r c d to e part =
     part_after (beginning r c) (record to { waiting = e.before; port = e.port }) (beginning r d) e.progress (end_part to d r e.before e.port e.end e.unended e.last part)
 
@@ -248,20 +256,21 @@ true_false : true ≡ false → ⊥
 true_false e = cc
 
 -- a fault but of the output, and the answers before it are written
-pub fault_written : (f : CliFault) (r c d : Known) (to : Place) → is_of_output f ≡ false → Stops (beginning r c) to f → Appends to.contents d to.waiting → ReplayedTo r c d f
+pub fault_written : (f : CliFault) (r c d : Known) (to : Place) → is_of_output f ≡ false → Stops (beginning r c) to f → Appends to.contents d to.waiting → ReplayedTo r to.remaining c d f
 fault_written (Line n) r c d to other s sent =
-    (to.line, s.2, first_written IsFaulty r c d (record to { port = s.0 }) s.1 s.3 sent)
+    (to.line, s.2, first_written (λ remaining port rest _. IsFaulty remaining port rest) r c d (record to { port = s.0 }) s.1 s.3 sent)
 fault_written Read r c d to other s sent =
-    (to.line, first_written (λ _ rest. found_of rest ≡ unfinished) r c d (record to { remaining = s.0 }) s.1 s.2 sent)
+    (to.line, first_written (λ remaining _ rest came. IsCutOff remaining rest came to.remaining) r c d (record to { remaining = s.0 }) s.1 s.2 sent)
 fault_written OutOfMemory r c d to other s sent =
-    (to.line, first_written (λ _ _. Unit {0}) r c d (record to { port = s.0 }) s.1 tt sent)
+    (to.line, first_written (λ _ _ _ _. Unit {0}) r c d (record to { port = s.0 }) s.1 tt sent)
 fault_written Write r c d to other s sent = absurd (true_false other)
 fault_written (Job n) r c d to other s sent = s
 fault_written Unsettled r c d to other s sent = s
 fault_written (Lost n) r c d to other s sent = s
 
 -- a fault but of the output, and a first part of the answers before it is written
-pub fault_part_written : (f : CliFault) (r c d : Known) (to : Place) → is_of_output f ≡ false → Stops (beginning r c) to f → (k : ℕ) × Appends to.contents d (take k to.waiting) → ReplayedTo r c d Write
+pub fault_part_written : (f : CliFault) (r c d : Known) (to : Place) → is_of_output f ≡ false → Stops (beginning r c) to f → (k : ℕ) × Appends to.contents d (take k to.waiting)
+    → ReplayedTo r to.remaining c d Write
 fault_part_written (Line n) r c d to other s part =
     part_written r c d (record to { port = s.0 }) s.1 part
 fault_part_written Read r c d to other s part =
@@ -274,9 +283,9 @@ fault_part_written Unsettled r c d to other s part = absurd s
 fault_part_written (Lost n) r c d to other s part = absurd s
 
 -- no memory at the start: nothing was read or written
-pub nothing_replayed : (r c : Known) → ReplayedTo r c c OutOfMemory
+pub nothing_replayed : (r c : Known) → ReplayedTo r r c c OutOfMemory
 nothing_replayed r c =
-    (0, first_written (λ _ _. Unit {0}) r c c (beginning r c) (Progress-refl r c [] [] None 0) tt (Appends-nil c))
+    (0, first_written (λ _ _ _ _. Unit {0}) r c c (beginning r c) (Progress-refl r c [] [] None (counts 0 0)) tt (Appends-nil c))
 
 -- what follows where the result is Ok
 pub on_ok_from : {T E : Type 0} (r : Result T E) (P Q : Type 0) → OnOk r P → (P → Q) → OnOk r Q
@@ -284,18 +293,22 @@ on_ok_from (Ok x) P Q p f = f p
 on_ok_from (Err e) P Q p f = p
 
 -- the last line was answered
-pub ends_rest : (a : Place) (r c : Known) (u u' w w' : Bytes) (p q : Port) (n n' : ℕ) → Progress a (parts r c u w p n) → IsAtEnd r → found_of u ≡ unfinished → u' ≡ u → n' ≡ n → EndsWith p u q w w' → Ends a (parts r c u' w' q n')
+pub ends_rest : (a : Place) (r c : Known) (u u' w w' : Bytes) (p q : Port) (n n' : Counts) → Progress a (parts r c u w p n) → IsAtEnd r → found_of u ≡ unfinished → u' ≡ u → n' ≡ n
+    → EndsWith p u q w w' → Ends a (parts r c u' w' q n')
 ends_rest a r c u u' w w' p q n n' so_far ended unended same count last =
     let at_end : Ends a (parts r c u w' q n) = record { before = w; port = p; progress = so_far; unended = unended; last = last; end = ended } in
     rw (same, count) at_end
 
 -- the last line stops the script
-pub stops_rest : {T : Type 0} (result : Result T CliFault) (a : Place) (r c : Known) (u u' w w' : Bytes) (p q : Port) (n n' : ℕ) → Progress a (parts r c u w p n) → found_of u ≡ unfinished → IfErr result (IsLineFault p u (n + 1)) → OnErr result (w' ≡ w) → u' ≡ u → n' ≡ n → IfErr result (Stops a (parts r c u' w' q n'))
-stops_rest (Ok x) a r c u u' w w' p q n n' so_far rest fault waits same count = fault
-stops_rest (Err f) a r c u u' w w' p q n n' so_far rest fault waits same count =
-    rw (same, count) (stops_at_line f a r c u w w' u p q n so_far fault (faulty_rest p u rest) waits)
+pub stops_rest : {T : Type 0} (result : Result T CliFault) (a : Place) (r c : Known) (u u' w w' : Bytes) (p q : Port) (n n' : Counts) → Progress a (parts r c u w p n) → IsAtEnd r
+    → found_of u ≡ unfinished → IfErr result (IsLineFault p u (n.lines + 1)) → OnErr result (w' ≡ w) → u' ≡ u → n' ≡ n → IfErr result (Stops a (parts r c u' w' q n'))
+stops_rest (Ok x) a r c u u' w w' p q n n' so_far ended rest fault waits same count = fault
+stops_rest (Err f) a r c u u' w w' p q n n' so_far ended rest fault waits same count =
+    rw (same, count) (stops_at_line f a r c u w w' u p q n so_far fault (faulty_rest r p u ended rest) waits)
 
 -- a script begins with nothing unread, nothing waiting, no disk and no line
-pub from_start : (P : Place → Type 0) (r c : Known) (u w : Bytes) (p : Port) (n : ℕ) → (u ≡ []) × (w ≡ []) × (p ≡ None) × (n ≡ 0) → P (parts r c u w p n) → P (beginning r c)
-from_start P r c u w p n e h =
-    subst (λ k. P (parts r c [] [] None k)) e.3 (subst (λ x. P (parts r c [] [] x n)) e.2 (subst (λ x. P (parts r c [] x p n)) e.1 (subst (λ x. P (parts r c x w p n)) e.0 h)))
+pub from_start : (P : Place → Type 0) (r c : Known) (u w : Bytes) (p : Port) (line came : ℕ) → (u ≡ []) × (w ≡ []) × (p ≡ None) × (line ≡ 0) × (came ≡ 0) → P
+    (parts r c u w p (counts line came)) → P (beginning r c)
+from_start P r c u w p line came e h =
+    subst (λ k. P (parts r c [] [] None (counts 0 k))) e.4 (subst (λ k. P (parts r c [] [] None (counts k came))) e.3 (subst (λ x. P (parts r c [] [] x (counts line came))) e.2
+    (subst (λ x. P (parts r c [] x p (counts line came))) e.1 (subst (λ x. P (parts r c x w p (counts line came))) e.0 h))))

@@ -19,15 +19,31 @@ Known = Option (List ℕ)
 abbrev pub Port : Type 0
 Port = Option PortView
 
+-- how many lines were read, and how many bytes came
+pub record Counts : Type 0 where
+  pub lines : ℕ
+  pub came : ℕ
+
+abbrev pub counts : ℕ → ℕ → Counts
+counts lines came = record { lines = lines; came = came }
+
+pub same_counts : (l m x y : ℕ) → l ≡ m → x ≡ y → counts l x ≡ counts m y
+same_counts l m x y lines came = ap (λ k. counts k x) lines ∙ ap (counts m) came
+
+-- a line more
+abbrev pub next : Counts → Counts
+next n = counts (n.lines + 1) n.came
+
 -- a place, part by part
-abbrev pub parts : Known → Known → Bytes → Bytes → Port → ℕ → Place
-parts r c u w p n = record { remaining = r; contents = c; unread = u; waiting = w; port = p; line = n }
+abbrev pub parts : Known → Known → Bytes → Bytes → Port → Counts → Place
+parts r c u w p n = record { remaining = r; contents = c; unread = u; waiting = w; port = p; line = n.lines; came = n.came }
 
 -- lines, and those that come after them
 pub Adds-append : (p q r : Port) (ls ms : List Bytes) (s t : Bytes) → Adds p ls s q → Adds q ms t r → Adds p (ls ++ ms) (s ++ t) r
 Adds-append _ _ r _ ms _ t (no_line p) rest = rest
 Adds-append _ q r _ ms _ t (one_more p first l next added more text last fed is ran others) rest =
-    subst (λ x. Adds p (first ∷ (more ++ ms)) x r) (sym (append_assoc added text t)) (one_more p first l next added (more ++ ms) (text ++ t) r fed is ran (Adds-append next last r more ms text t others rest))
+    subst (λ x. Adds p (first ∷ (more ++ ms)) x r) (sym (append_assoc added text t))
+    (one_more p first l next added (more ++ ms) (text ++ t) r fed is ran (Adds-append next last r more ms text t others rest))
 
 pub with_feeds-append : (ls ms : List Bytes) → with_feeds (ls ++ ms) ≡ with_feeds ls ++ with_feeds ms
 with_feeds-append [] ms = refl
@@ -42,8 +58,10 @@ Progress-trans a b c p q = record {
   came = p.came ++ q.came;
   answered = Adds-append a.port b.port c.port p.lines q.lines p.text q.text p.answered q.answered;
   consumed = Consumes-trans a.remaining b.remaining c.remaining p.came q.came p.consumed q.consumed;
-  read = sym (append_assoc a.unread p.came q.came) ∙ ap (λ l. l ++ q.came) p.read ∙ append_assoc (with_feeds p.lines) b.unread q.came ∙ ap (λ l. with_feeds p.lines ++ l) q.read ∙ sym (append_assoc (with_feeds p.lines) (with_feeds q.lines) c.unread) ∙ ap (λ l. l ++ c.unread) (sym (with_feeds-append p.lines q.lines));
+  read = sym (append_assoc a.unread p.came q.came) ∙ ap (λ l. l ++ q.came) p.read ∙ append_assoc (with_feeds p.lines) b.unread q.came ∙ ap (λ l. with_feeds p.lines ++ l) q.read ∙ sym
+      (append_assoc (with_feeds p.lines) (with_feeds q.lines) c.unread) ∙ ap (λ l. l ++ c.unread) (sym (with_feeds-append p.lines q.lines));
   counted = rw (length-append p.lines q.lines) (omega (arith, p.counted, q.counted));
+  all_came = rw (length-append p.came q.came) (omega (arith, p.all_came, q.all_came));
   sent = p.sent ++ q.sent;
   written = Appends-trans a.contents b.contents c.contents p.sent q.sent p.written q.written;
   said = sym (append_assoc a.waiting p.text q.text) ∙ ap (λ l. l ++ q.text) p.said ∙ append_assoc p.sent b.waiting q.text ∙ ap (λ l. p.sent ++ l) q.said ∙ sym (append_assoc p.sent q.sent c.waiting);
@@ -58,11 +76,13 @@ cut_at_feed u e found =
     sym (take-append-drop e u) ∙ ap (λ l. take e u ++ l) (rw (add-one, ← feed) (drop-cons u e 0 within))
 
 -- one line alone
-one_line : (p q : Port) (l : Bytes) (spelled : script.Line) (added : Bytes) → found_of (l ++ 10 ∷ []) ≡ whole l → placed p l ≡ Some spelled → RunsLine p spelled q added → Adds p (l ∷ []) (added ++ []) q
+one_line : (p q : Port) (l : Bytes) (spelled : script.Line) (added : Bytes) → found_of (l ++ 10 ∷ []) ≡ whole l → placed p l ≡ Some spelled → RunsLine p spelled q added → Adds p (l ∷ [])
+    (added ++ []) q
 one_line p q l spelled added fed is ran = one_more p l spelled q added [] [] q fed is ran (no_line q)
 
 -- a line was answered
-pub Progress-line : (r c : Known) (u w w' : Bytes) (p p' : Port) (n e : ℕ) → line_end u ≡ Some e → found_of (take e u ++ 10 ∷ []) ≡ whole (take e u) → Grown p (take e u) p' w w' → Progress (parts r c u w p n) (parts r c (drop (e + 1) u) w' p' (n + 1))
+pub Progress-line : (r c : Known) (u w w' : Bytes) (p p' : Port) (n : Counts) (e : ℕ) → line_end u ≡ Some e → found_of (take e u ++ 10 ∷ []) ≡ whole (take e u) → Grown p (take e u) p' w w'
+    → Progress (parts r c u w p n) (parts r c (drop (e + 1) u) w' p' (next n))
 Progress-line r c u w w' p p' n e found fed grown = record {
   lines = take e u ∷ [];
   text = grown.added ++ [];
@@ -71,13 +91,14 @@ Progress-line r c u w w' p p' n e found fed grown = record {
   consumed = Consumes-nil r;
   read = append-nil u ∙ cut_at_feed u e found ∙ sym (append_assoc (take e u) (10 ∷ []) (drop (e + 1) u));
   counted = refl;
+  all_came = omega arith;
   sent = [];
   written = Appends-nil c;
   said = ap (λ l. w ++ l) (append-nil grown.added) ∙ sym grown.grown;
 }
 
 -- what waited was written
-pub Progress-sent : (r c c' : Known) (u w : Bytes) (p : Port) (n : ℕ) → Appends c c' w → Progress (parts r c u w p n) (parts r c' u [] p n)
+pub Progress-sent : (r c c' : Known) (u w : Bytes) (p : Port) (n : Counts) → Appends c c' w → Progress (parts r c u w p n) (parts r c' u [] p n)
 Progress-sent r c c' u w p n sent = record {
   lines = [];
   text = [];
@@ -86,13 +107,14 @@ Progress-sent r c c' u w p n sent = record {
   consumed = Consumes-nil r;
   read = append-nil u;
   counted = omega arith;
+  all_came = omega arith;
   sent = w;
   written = sent;
   said = refl;
 }
 
 -- bytes came
-pub Progress-came : (r r' c : Known) (u w came : Bytes) (p : Port) (n : ℕ) → Consumes r r' came → Progress (parts r c u w p n) (parts r' c (u ++ came) w p n)
+pub Progress-came : (r r' c : Known) (u w came : Bytes) (p : Port) (n : Counts) → Consumes r r' came → Progress (parts r c u w p n) (parts r' c (u ++ came) w p (counts n.lines (n.came + length came)))
 Progress-came r r' c u w came p n consumed = record {
   lines = [];
   text = [];
@@ -101,28 +123,46 @@ Progress-came r r' c u w came p n consumed = record {
   consumed = consumed;
   read = refl;
   counted = omega arith;
+  all_came = refl;
+  sent = [];
+  written = Appends-nil c;
+  said = append-nil w;
+}
+
+-- no byte came from a reader
+Progress-none : (r r' c : Known) (u w : Bytes) (p : Port) (n : Counts) → Consumes r r' [] → Progress (parts r c u w p n) (parts r' c u w p n)
+Progress-none r r' c u w p n consumed = record {
+  lines = [];
+  text = [];
+  came = [];
+  answered = no_line p;
+  consumed = consumed;
+  read = append-nil u;
+  counted = omega arith;
+  all_came = omega arith;
   sent = [];
   written = Appends-nil c;
   said = append-nil w;
 }
 
 -- nothing happened
-pub Progress-refl : (r c : Known) (u w : Bytes) (p : Port) (n : ℕ) → Progress (parts r c u w p n) (parts r c u w p n)
-Progress-refl r c u w p n =
-    subst (λ l. Progress (parts r c u w p n) (parts r c l w p n)) (append-nil u) (Progress-came r r c u w [] p n (Consumes-nil r))
+pub Progress-refl : (r c : Known) (u w : Bytes) (p : Port) (n : Counts) → Progress (parts r c u w p n) (parts r c u w p n)
+Progress-refl r c u w p n = Progress-none r r c u w p n (Consumes-nil r)
 
 -- what waited was written, and nothing came
-pub Progress-sent_same : (r c c' : Known) (u u' w w' : Bytes) (p : Port) (n : ℕ) → Appends c c' w → w' ≡ [] → u' ≡ u → Progress (parts r c u w p n) (parts r c' u' w' p n)
+pub Progress-sent_same : (r c c' : Known) (u u' w w' : Bytes) (p : Port) (n : Counts) → Appends c c' w → w' ≡ [] → u' ≡ u → Progress (parts r c u w p n) (parts r c' u' w' p n)
 Progress-sent_same r c c' u u' w w' p n sent empty same = rw (empty, same) (Progress-sent r c c' u w p n sent)
 
 -- bytes came, or the reader is at its end
-pub Progress-filled : (more : Bool) (old new : Unread) (r r' c : Known) (w : Bytes) (p : Port) (n : ℕ) → MatchBool more (Grows old new r r') ((new ≡ old) × IsAtEnd r' × Consumes r r' []) → Progress (parts r c old.bytes w p n) (parts r' c new.bytes w p n)
-Progress-filled true old new r r' c w p n grows =
-    rw grows.bytes (Progress-came r r' c old.bytes w grows.came p n grows.consumed)
-Progress-filled false old new r r' c w p n ended =
-    rw ended.0 (subst (λ l. Progress (parts r c old.bytes w p n) (parts r' c l w p n)) (append-nil old.bytes) (Progress-came r r' c old.bytes w [] p n ended.2))
+pub Progress-filled : (more : Bool) (old new : Unread) (r r' c : Known) (w : Bytes) (p : Port) (line : ℕ) → MatchBool more (Grows old new r r') ((new ≡ old) × IsAtEnd r' × Consumes r r' [])
+    → Progress (parts r c old.bytes w p (counts line old.came)) (parts r' c new.bytes w p (counts line new.came))
+Progress-filled true old new r r' c w p line grows =
+    rw (grows.bytes, grows.count) (Progress-came r r' c old.bytes w grows.came p (counts line old.came) grows.consumed)
+Progress-filled false old new r r' c w p line ended = rw ended.0 (Progress-none r r' c old.bytes w p (counts line old.came) ended.2)
 
 -- a line was answered, and what waited then was written
-pub Progress-line_sent : (r c c' : Known) (u u' w w1 w' : Bytes) (p p' : Port) (n e : ℕ) → line_end u ≡ Some e → found_of (take e u ++ 10 ∷ []) ≡ whole (take e u) → Grown p (take e u) p' w w1 → u' ≡ drop (e + 1) u → Appends c c' w1 → w' ≡ [] → Progress (parts r c u w p n) (parts r c' u' w' p' (n + 1))
+pub Progress-line_sent : (r c c' : Known) (u u' w w1 w' : Bytes) (p p' : Port) (n : Counts) (e : ℕ) → line_end u ≡ Some e → found_of (take e u ++ 10 ∷ []) ≡ whole (take e u) → Grown p
+    (take e u) p' w w1 → u' ≡ drop (e + 1) u → Appends c c' w1 → w' ≡ [] → Progress (parts r c u w p n) (parts r c' u' w' p' (next n))
 Progress-line_sent r c c' u u' w w1 w' p p' n e found fed grown same sent empty =
-    Progress-trans (parts r c u w p n) (parts r c (drop (e + 1) u) w1 p' (n + 1)) (parts r c' u' w' p' (n + 1)) (Progress-line r c u w w1 p p' n e found fed grown) (Progress-sent_same r c c' (drop (e + 1) u) u' w1 w' p' (n + 1) sent empty same)
+    Progress-trans (parts r c u w p n) (parts r c (drop (e + 1) u) w1 p' (next n)) (parts r c' u' w' p' (next n)) (Progress-line r c u w w1 p p' n e found fed grown)
+    (Progress-sent_same r c c' (drop (e + 1) u) u' w1 w' p' (next n) sent empty same)

@@ -8,7 +8,7 @@ use Rattle.ahci_replay.specs.Place.{Place}
 use Rattle.ahci_script.specs.Answers.{answer_text}
 use Rattle.ahci_script.specs.Lines.{line_of}
 use Rattle.ahci_script.specs.Said.{Said}
-use Rattle.ahci_script.specs.Unread.{Begins, found_of, too_long, unfinished, whole}
+use Rattle.ahci_script.specs.Unread.{Begins, MayFail, found_of, too_long, unfinished, whole}
 use Rattle.ahci_script.specs.declared.line.Command.{Command}
 use Rattle.ahci_script.specs.declared.line.Line.{Line}
 use Rattle.ahci_script.specs.declared.line.Line.TheVariants as line
@@ -57,6 +57,7 @@ pub record Progress (from to : Place) : Type 0 where
   pub consumed : Consumes from.remaining to.remaining came
   pub read : from.unread ++ came ≡ with_feeds lines ++ to.unread
   pub counted : to.line ≡ from.line + length lines
+  pub all_came : to.came ≡ from.came + length came
   pub sent : List ℕ
   pub written : Appends from.contents to.contents sent
   pub said : from.waiting ++ text ≡ sent ++ to.waiting
@@ -81,14 +82,19 @@ IsLineFault port text n (fault.Line k) = (k ≡ n) × (placed port text ≡ None
 IsLineFault port text n fault.OutOfMemory = Unit {0}
 IsLineFault port text n _ = ⊥
 
--- the line that what is unread begins with is too long, or adds nothing
-abbrev pub IsFaultyAs : Option PortView → List ℕ → Begins → Type 0
-IsFaultyAs port unread (whole text) = placed port text ≡ None
-IsFaultyAs port unread too_long = Unit {0}
-IsFaultyAs port unread unfinished = placed port unread ≡ None
+-- the line that what is unread begins with is too long, or adds nothing; a line without its line feed is judged at the
+-- end of the input alone
+abbrev pub IsFaultyAs : Option (List ℕ) → Option PortView → List ℕ → Begins → Type 0
+IsFaultyAs remaining port unread (whole text) = placed port text ≡ None
+IsFaultyAs remaining port unread too_long = Unit {0}
+IsFaultyAs remaining port unread unfinished = IsAtEnd remaining × (placed port unread ≡ None)
 
-abbrev pub IsFaulty : Option PortView → List ℕ → Type 0
-IsFaulty port unread = IsFaultyAs port unread (found_of unread)
+abbrev pub IsFaulty : Option (List ℕ) → Option PortView → List ℕ → Type 0
+IsFaulty remaining port unread = IsFaultyAs remaining port unread (found_of unread)
+
+-- a read failed: no whole line is left unanswered, and the reader gave no byte, or too many came
+abbrev pub IsCutOff : Option (List ℕ) → List ℕ → ℕ → Option (List ℕ) → Type 0
+IsCutOff remaining unread came remaining_new = (found_of unread ≡ unfinished) × MayFail came remaining remaining_new
 
 -- the last line may have been answered too: it lacks its line feed, so nothing may come behind it
 abbrev pub MayEnd : Option (List ℕ) → Option PortView → List ℕ → Option PortView → List ℕ → List ℕ → Type 0
@@ -115,9 +121,9 @@ pub record WritesPart (from to : Place) : Type 0 where
 -- where a fault stops a script: behind lines that are answered, and before the line that it names
 abbrev pub Stops : Place → Place → CliFault → Type 0
 Stops from to (fault.Line n) =
-    (p : Option PortView) × Progress from (record to { port = p }) × (n ≡ to.line + 1) × IsFaulty p to.unread
+    (p : Option PortView) × Progress from (record to { port = p }) × (n ≡ to.line + 1) × IsFaulty to.remaining p to.unread
 Stops from to fault.Read =
-    (r : Option (List ℕ)) × Progress from (record to { remaining = r }) × (found_of to.unread ≡ unfinished)
+    (r : Option (List ℕ)) × Progress from (record to { remaining = r }) × IsCutOff r to.unread to.came to.remaining
 Stops from to fault.OutOfMemory = (p : Option PortView) × Progress from (record to { port = p })
 Stops from to fault.Write = WritesPart from to
 Stops from to _ = ⊥
@@ -138,7 +144,7 @@ pub record Ends (from to : Place) : Type 0 where
 
 -- a script of which nothing came yet
 abbrev pub beginning : Option (List ℕ) → Option (List ℕ) → Place
-beginning remaining contents = record { remaining = remaining; contents = contents; unread = []; waiting = []; port = None; line = 0 }
+beginning remaining contents = record { remaining = remaining; contents = contents; unread = []; waiting = []; port = None; line = 0; came = 0 }
 
 -- the lines of a whole input, the last of which may lack its line feed, and the text that they add, which is written
 pub record Replayed (remaining_old remaining_new contents_old contents_new : Option (List ℕ)) : Type 0 where
@@ -155,8 +161,9 @@ pub record Replayed (remaining_old remaining_new contents_old contents_new : Opt
   pub end : IsAtEnd remaining_new
   pub written : Appends contents_old contents_new all
 
--- lines at the front of an input, and the text that they add, which is written
-pub record ReplayedFirst (remaining_old contents_old contents_new : Option (List ℕ)) (count : ℕ) (P : Option PortView → List ℕ → Type 0) : Type 0 where
+-- lines at the front of an input, and the text that they add, which is written; what holds behind them is said of what the
+-- reader has left, of the port, of the bytes behind the lines, and of how many bytes came
+pub record ReplayedFirst (remaining_old contents_old contents_new : Option (List ℕ)) (count : ℕ) (P : Option (List ℕ) → Option PortView → List ℕ → ℕ → Type 0) : Type 0 where
   pub lines : List (List ℕ)
   pub rest : List ℕ
   pub remaining : Option (List ℕ)
@@ -165,14 +172,15 @@ pub record ReplayedFirst (remaining_old contents_old contents_new : Option (List
   pub answered : Adds None lines text port
   pub counted : length lines ≡ count
   pub consumed : Consumes remaining_old remaining (with_feeds lines ++ rest)
-  pub holds : P port rest
+  pub holds : P remaining port rest (length (with_feeds lines ++ rest))
   pub written : Appends contents_old contents_new text
 
 -- how a fault ends a script: the answers to the lines before it are written, and a failed write leaves a first part of them
-abbrev pub ReplayedTo : Option (List ℕ) → Option (List ℕ) → Option (List ℕ) → CliFault → Type 0
-ReplayedTo r c d (fault.Line n) = (count : ℕ) × (n ≡ count + 1) × ReplayedFirst r c d count IsFaulty
-ReplayedTo r c d fault.Read =
-    (count : ℕ) × ReplayedFirst r c d count (λ _ rest. found_of rest ≡ unfinished)
-ReplayedTo r c d fault.OutOfMemory = (count : ℕ) × ReplayedFirst r c d count (λ _ _. Unit {0})
-ReplayedTo r c d fault.Write = WritesPart (beginning r c) (beginning r d)
-ReplayedTo r c d _ = ⊥
+abbrev pub ReplayedTo : Option (List ℕ) → Option (List ℕ) → Option (List ℕ) → Option (List ℕ) → CliFault → Type 0
+ReplayedTo r s c d (fault.Line n) =
+    (count : ℕ) × (n ≡ count + 1) × ReplayedFirst r c d count (λ remaining port rest _. IsFaulty remaining port rest)
+ReplayedTo r s c d fault.Read =
+    (count : ℕ) × ReplayedFirst r c d count (λ remaining _ rest came. IsCutOff remaining rest came s)
+ReplayedTo r s c d fault.OutOfMemory = (count : ℕ) × ReplayedFirst r c d count (λ _ _ _ _. Unit {0})
+ReplayedTo r s c d fault.Write = WritesPart (beginning r c) (beginning r d)
+ReplayedTo r s c d _ = ⊥

@@ -16,7 +16,8 @@ pub fn replay<R: Read, W: Write, A: Allocator + Clone>(
     ensures ok { OnOk result (Replayed (R.remaining reader.old) (R.remaining reader.new)
         (W.contents writer.old) (W.contents writer.new)) }
     ensures err { IfErr result
-        (ReplayedTo (R.remaining reader.old) (W.contents writer.old) (W.contents writer.new)) }
+        (ReplayedTo (R.remaining reader.old) (R.remaining reader.new)
+        (W.contents writer.old) (W.contents writer.new)) }
 {
     let mut script = Script::new(alloc)?;
     match script.run(reader, writer) {

@@ -32,7 +32,7 @@ impl<A: Allocator + Clone> Script<A> {
     /// A script of which nothing came yet.
     pub(crate) fn new(alloc: A) -> Result<Self, AllocError>
         ensures { IfOk result (λ s.
-            (s.input.bytes ≡ []) × (s.output ≡ []) × (s.session ≡ None) × (s.line ≡ 0)) }
+            (s.input.bytes ≡ []) × (s.output ≡ []) × (s.session ≡ None) × (s.line ≡ 0) × (s.input.came ≡ 0)) }
     {
         Ok(Script {
             input: Input::new(alloc.clone()?)?,

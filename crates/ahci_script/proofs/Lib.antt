@@ -1,2 +1,4 @@
 pub mod DecimalLemmas
 pub mod HexValueLemmas
+pub mod PrintingLemmas
+pub mod ReadBackLemmas

@@ -4,3 +4,4 @@ pub mod Lines
 pub mod Said
 pub mod Answers
 pub mod Unread
+pub mod Printing

@@ -1,8 +1,8 @@
 -- What a script's reader holds: the bytes that came and were not yet taken as lines.
-use Rattle.std.specs.Prelude.{◌≡◌, ℕ, ◌+◌, ◌<◌, List, ◌++◌, Option, Some, None, length, take, position, nat_le, ◌==◌, if◌then◌else◌}
+use Rattle.std.specs.Prelude.{◌≡◌, ℕ, ◌+◌, ◌<◌, List, ◌++◌, Option, Some, None, length, take, position, nat_le, ◌==◌, if◌then◌else◌, ◌⊎◌}
 use Rattle.ahci_script.specs.declared.input.Found.{Found}
 use Rattle.ahci_script.specs.declared.input.Found.TheVariants.{Line, TooLong, Unfinished}
-use Rattle.std.specs.Io.KnownBytes.{Consumes}
+use Rattle.std.specs.Io.KnownBytes.{Consumes, Keeps}
 
 -- bytes that came and were not yet taken, and how many came in all
 pub record Unread : Type 0 where
@@ -44,3 +44,7 @@ pub record Grows (old new : Unread) (remaining_old remaining_new : Option (List 
   pub consumed : Consumes remaining_old remaining_new came
   pub bytes : new.bytes ≡ old.bytes ++ came
   pub count : new.came ≡ old.came + length came
+
+-- where reading may fail, after so many bytes: the reader failed and gave none, or 67,108,864 bytes came and there are more
+abbrev pub MayFail : ℕ → Option (List ℕ) → Option (List ℕ) → Type 0
+MayFail came remaining_old remaining_new = Keeps remaining_old remaining_new ⊎ (came ≡ 67108864)

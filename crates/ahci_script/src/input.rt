@@ -1,6 +1,6 @@
 ghost use Rattle.std.specs.Prelude.{◌≡◌, ℕ, ◌+◌, ◌<◌, ◌≤◌, [], ◌∷◌, ◌++◌, drop, length, IfOk, OnErr, Some, None, MatchBool, vec_capacity, vec_len};
 ghost use Rattle.std.specs.Io.KnownBytes.{Consumes, IsAtEnd};
-ghost use Rattle.ahci_script.specs.Unread.{Grows, found_of, line_end, shown};
+ghost use Rattle.ahci_script.specs.Unread.{Grows, MayFail, found_of, line_end, shown};
 
 use std::alloc::{AllocError, Allocator, Global};
 use std::io::Read;
@@ -90,14 +90,17 @@ impl<A: Allocator> Input<A> {
         }
     }
 
-    /// Reads more bytes. `false` at the end of the input.
+    /// Reads more bytes. `false` at the end of the input. It fails where the reader does, and where a byte comes behind the
+    /// limit.
     pub fn fill<R: Read>(&mut self, reader: &mut R) -> Result<bool, InputFailed>
         requires { length self.old.bytes ≤ LINE_LIMIT }
         ensures ok { IfOk result (λ more. MatchBool more
             (Grows self.old self.new (R.remaining reader.old) (R.remaining reader.new))
             ((self.new ≡ self.old) × IsAtEnd (R.remaining reader.new)
             × Consumes (R.remaining reader.old) (R.remaining reader.new) [])) }
-        ensures limit { self.new.came ≤ INPUT_LIMIT }
+        ensures limit { self.new.came ≤ 67108864 }
+        ensures failed { OnErr result
+            (MayFail self.old.came (R.remaining reader.old) (R.remaining reader.new)) }
         ensures err { OnErr result (self.new ≡ self.old) }
     {
         let mut chunk = [0; CHUNK];

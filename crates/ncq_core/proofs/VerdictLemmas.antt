@@ -42,7 +42,8 @@ other_while_stopped disk bytes (Some f) is other =
 
 pub stopped_table : WhileStopped
 stopped_table = record {
-  log = λ disk bytes stands asks. while_stopped disk bytes stands ∙ ap (stopped_verdict disk) (carried bytes asks.0 asks.1) ∙ cond-true (is_read_log asks.0) (passed disk ReadLog) (aborted disk) (is_log asks.0 (asks.2, asks.3, asks.4));
+  log = λ disk bytes stands asks. while_stopped disk bytes stands ∙ ap (stopped_verdict disk) (carried bytes asks.0 asks.1)
+      ∙ cond-true (is_read_log asks.0) (passed disk ReadLog) (aborted disk) (is_log asks.0 (asks.2, asks.3, asks.4));
   other = λ disk bytes stands asks. while_stopped disk bytes stands ∙ other_while_stopped disk bytes (command_in bytes) refl asks;
 }
 
@@ -97,7 +98,8 @@ any_none (o ∷ os) e (suc i) = any_none os (right_false (is_some o) (list_any i
     right_false true b e = absurd (cc)
     right_false false b e = e
 
-idle_row : (disk : DiskState) (bytes : List ℕ) (code : ℕ) (command : Plain) → disk.error ≡ None → CarriesPlain bytes code → plain_verdict disk code ≡ idle_verdict disk command → IsIdle disk → verdict disk bytes ≡ passed disk command
+idle_row : (disk : DiskState) (bytes : List ℕ) (code : ℕ) (command : Plain) → disk.error ≡ None → CarriesPlain bytes code → plain_verdict disk code ≡ idle_verdict disk command
+    → IsIdle disk → verdict disk bytes ≡ passed disk command
 idle_row disk bytes code command runs its is idle =
     plain_row disk bytes code runs its ∙ is ∙ cond-false (is_busy disk) (aborted disk) (passed disk command) (none_any disk.commands idle)
 

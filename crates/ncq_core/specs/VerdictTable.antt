@@ -36,18 +36,38 @@ IsIdle disk = (tag : ℕ) → command_of disk tag ≡ None
 
 -- while an error stands: the log that tells it is let through, and everything else is refused with ABRT
 pub record WhileStopped : Type 0 where
-  pub log : (disk : DiskState) (bytes : List ℕ) → IsSome disk.error → AsksForTheErrorLog bytes → verdict disk bytes ≡ passed disk ReadLog
-  pub other : (disk : DiskState) (bytes : List ℕ) → IsSome disk.error → ¬ (AsksForTheErrorLog bytes) → verdict disk bytes ≡ aborted disk
+  pub log :
+      (disk : DiskState) (bytes : List ℕ) → IsSome disk.error → AsksForTheErrorLog bytes
+      → verdict disk bytes ≡ passed disk ReadLog
+  pub other :
+      (disk : DiskState) (bytes : List ℕ) → IsSome disk.error → ¬ (AsksForTheErrorLog bytes)
+      → verdict disk bytes ≡ aborted disk
 
 -- while none stands: a queued command is refused with ABRT where its tag is not free, and with IDNF where it passes the last
 -- sector, which is an error; else it is accepted. IDENTIFY DEVICE (ECh) and FLUSH CACHE EXT (EAh) are let through where
 -- nothing is outstanding. All else is refused with ABRT
 pub record WhileRunning : Type 0 where
-  pub none : (disk : DiskState) (bytes : List ℕ) → disk.error ≡ None → ((f : H2dFields) → ¬ (Carries bytes f)) → verdict disk bytes ≡ aborted disk
-  pub taken : (disk : DiskState) (bytes : List ℕ) (q : QueuedFields) → disk.error ≡ None → CarriesQueued bytes q → ¬ (IsFreeTag disk q.tag) → verdict disk bytes ≡ aborted disk
-  pub past_end : (disk : DiskState) (bytes : List ℕ) (q : QueuedFields) → disk.error ≡ None → CarriesQueued bytes q → IsFreeTag disk q.tag → disk_sectors disk < q.lba + q.sectors → verdict disk bytes ≡ not_found disk q
-  pub accepts : (disk : DiskState) (bytes : List ℕ) (q : QueuedFields) → disk.error ≡ None → CarriesQueued bytes q → IsFreeTag disk q.tag → q.lba + q.sectors ≤ disk_sectors disk → verdict disk bytes ≡ accepted disk q
-  pub identify : (disk : DiskState) (bytes : List ℕ) → disk.error ≡ None → CarriesPlain bytes 0xEC → IsIdle disk → verdict disk bytes ≡ passed disk Identify
-  pub flush : (disk : DiskState) (bytes : List ℕ) → disk.error ≡ None → CarriesPlain bytes 0xEA → IsIdle disk → verdict disk bytes ≡ passed disk Flush
-  pub busy : (disk : DiskState) (bytes : List ℕ) (code : ℕ) → disk.error ≡ None → CarriesPlain bytes code → ¬ (IsIdle disk) → verdict disk bytes ≡ aborted disk
-  pub other : (disk : DiskState) (bytes : List ℕ) (code : ℕ) → disk.error ≡ None → CarriesPlain bytes code → code ≢ 0xEC → code ≢ 0xEA → verdict disk bytes ≡ aborted disk
+  pub none :
+      (disk : DiskState) (bytes : List ℕ) → disk.error ≡ None → ((f : H2dFields) → ¬ (Carries bytes f))
+      → verdict disk bytes ≡ aborted disk
+  pub taken :
+      (disk : DiskState) (bytes : List ℕ) (q : QueuedFields) → disk.error ≡ None → CarriesQueued bytes q → ¬ (IsFreeTag disk q.tag)
+      → verdict disk bytes ≡ aborted disk
+  pub past_end :
+      (disk : DiskState) (bytes : List ℕ) (q : QueuedFields) → disk.error ≡ None → CarriesQueued bytes q → IsFreeTag disk q.tag → disk_sectors disk < q.lba + q.sectors
+      → verdict disk bytes ≡ not_found disk q
+  pub accepts :
+      (disk : DiskState) (bytes : List ℕ) (q : QueuedFields) → disk.error ≡ None → CarriesQueued bytes q → IsFreeTag disk q.tag → q.lba + q.sectors ≤ disk_sectors disk
+      → verdict disk bytes ≡ accepted disk q
+  pub identify :
+      (disk : DiskState) (bytes : List ℕ) → disk.error ≡ None → CarriesPlain bytes 0xEC → IsIdle disk
+      → verdict disk bytes ≡ passed disk Identify
+  pub flush :
+      (disk : DiskState) (bytes : List ℕ) → disk.error ≡ None → CarriesPlain bytes 0xEA → IsIdle disk
+      → verdict disk bytes ≡ passed disk Flush
+  pub busy :
+      (disk : DiskState) (bytes : List ℕ) (code : ℕ) → disk.error ≡ None → CarriesPlain bytes code → ¬ (IsIdle disk)
+      → verdict disk bytes ≡ aborted disk
+  pub other :
+      (disk : DiskState) (bytes : List ℕ) (code : ℕ) → disk.error ≡ None → CarriesPlain bytes code → code ≢ 0xEC → code ≢ 0xEA
+      → verdict disk bytes ≡ aborted disk

@@ -173,7 +173,8 @@ completed_has_this_answer s d image past k tag r h at e =
 
 pub failed_has_this_answer : FailedHasThisAnswer
 failed_has_this_answer s d image past k tag error lba r h at e =
-    ended_at s d image past k tag r.number (Fail tag error lba) (Some r) (λ p. record { entry = length p; outcome = outcome.Failed error lba; bytes = [] }) (λ p l q. failed_now s d image p tag error lba r l q) h at e
+    ended_at s d image past k tag r.number (Fail tag error lba) (Some r)
+    (λ p. record { entry = length p; outcome = outcome.Failed error lba; bytes = [] }) (λ p l q. failed_now s d image p tag error lba r l q) h at e
     ∙ ap (λ n. Some (record { entry = n; outcome = outcome.Failed error lba; bytes = [] })) (length-first_of past k (Fail tag error lba) at)
 
 is_no_failure : (image : List ℕ) (before : List Entry) (k : ℕ) (work : Work) → ((answer_at image before k work).entry ≡ k) × (is_failure (answer_at image before k work).outcome ≡ false)
@@ -200,7 +201,8 @@ last_stays : (s d : ℕ) (image : List ℕ) (past : List Entry) (newest : Entry)
     → request (newest ∷ past) tag ≡ Some r
 last_stays s d image past (Issue t work) tag r h none own =
     let waits : is_answered (phase past tag) ≡ false = sym (answered_by_phase s d image past tag r h.0 own) ∙ ap is_some none in
-    cond_at t tag (Some (record { number = length past; work = work })) (request past tag) (λ o. o ≡ Some r) (λ same. absurd (both_ways (is_answered (phase past tag)) waits (ap (λ u. is_answered (phase past u)) (sym same) ∙ ap is_answered h.1.1))) (λ _. own)
+    cond_at t tag (Some (record { number = length past; work = work })) (request past tag) (λ o. o ≡ Some r)
+    (λ same. absurd (both_ways (is_answered (phase past tag)) waits (ap (λ u. is_answered (phase past u)) (sym same) ∙ ap is_answered h.1.1))) (λ _. own)
 last_stays s d image past (Accept t) tag r h none own = own
 last_stays s d image past (Complete t) tag r h none own = own
 last_stays s d image past (Fail t error lba) tag r h none own = own

@@ -1,5 +1,7 @@
 //! Laws: each function is empty, and its clause holds of all journals.
-ghost use Rattle.ncq_journal.specs.Laws.{LawfulAtEach, FreePastDepth, OwnedHasRequest, RequestIsItsIssue, AnsweredByPhase, OwedIsFew, OwedMoves, WritesItsSectors, OthersWriteNothing, CompletedIsAnswered, FailedIsNotCompleted, CompletedHasThisAnswer, FailedHasThisAnswer, UnansweredIsLast, OneHasFailed, HaltedByATag, BusyByATag, DeviceTagsInSact, CiInSact, TwoParts};
+ghost use Rattle.ncq_journal.specs.Laws.{LawfulAtEach, FreePastDepth, OwnedHasRequest, RequestIsItsIssue, AnsweredByPhase, OwedIsFew, OwedMoves};
+ghost use Rattle.ncq_journal.specs.Laws.{WritesItsSectors, OthersWriteNothing, CompletedIsAnswered, FailedIsNotCompleted, CompletedHasThisAnswer};
+ghost use Rattle.ncq_journal.specs.Laws.{FailedHasThisAnswer, UnansweredIsLast, OneHasFailed, HaltedByATag, BusyByATag, DeviceTagsInSact, CiInSact, TwoParts};
 
 /// A journal is lawful exactly where each of its entries was allowed by the entries before it.
 pub fn a_journal_is_lawful_at_each_entry()

@@ -2,6 +2,7 @@
 use super::{CliFault, Replayed, TWO_WRITES, ends, joined, replay};
 use crate::table::equal;
 use std::alloc::{AllocError, Global};
+use std::cell::Cell;
 use std::io;
 use std::io::{Read, Write};
 use std::process::Abort;
@@ -104,6 +105,106 @@ fn a_line_has_at_most_4096_bytes(rt: HostRuntime) -> Result<(), Fail> {
         }
     }
     Ok(())
+}
+
+// What came of a line says nothing before the rest of it has come.
+#[test]
+fn a_line_may_come_byte_by_byte(rt: HostRuntime) {
+    let script =
+        b"disk 1000 32\n# a comment of more than twenty bytes\nwrite 00000000000000000005 00000000000000000003 1 aa\njournal\n";
+    for step in [1, 2, 21, 1000] {
+        let found = from_source(rt.alloc(), script, step, false);
+        ends(
+            &rt,
+            step,
+            found,
+            Ok(()),
+            b"disk 1000 32\nissued 0\njournal 1\n",
+        );
+    }
+}
+
+#[test]
+fn each_comment_is_a_line_of_its_own(rt: HostRuntime) {
+    for step in [1, 3, 1000] {
+        let found = from_source(rt.alloc(), b"#\n#\nwrong\n", step, false);
+        ends(&rt, step, found, Err(CliFault::Line(3)), b"");
+        let found = from_source(rt.alloc(), b"#\n\n#\n#\nwrong", step, false);
+        ends(&rt, step, found, Err(CliFault::Line(5)), b"");
+    }
+}
+
+/// A line as it is typed, and how many bytes of answers are written before more is asked for.
+type Typed = (&'static [u8], usize);
+
+static DIALOGUE: [Typed; 5] = [
+    (b"disk 8 4\n", 9),
+    (b"# no answer\n", 9),
+    (b"write 0 3 1 aa\naccept 0\n", 29),
+    (b"jour", 29),
+    (b"nal\n", 39),
+];
+
+/// Whoever types the next line once the answers before it can be read, and gives up where one is missing.
+#[derive(Drop)]
+struct Typist<'a> {
+    lines: &'a [Typed],
+    typed: usize,
+    wanted: usize,
+    written: &'a Cell<usize>,
+}
+
+impl Read for Typist<'_> {
+    fn read(&mut self, buf: &mut [u8]) -> io::Result<usize> {
+        if self.written.get() != self.wanted {
+            return Err(io::Error::from(io::ErrorKind::Other));
+        }
+        let Some((line, wanted)) = self.lines.get(self.typed) else {
+            return Ok(0);
+        };
+        let count = line.len().min(buf.len());
+        buf[..count].copy_from_slice(&line[..count]);
+        self.wanted = *wanted;
+        self.typed = self.typed.saturating_add(1);
+        Ok(count)
+    }
+}
+
+/// A writer whose number of bytes the typist sees.
+#[derive(Drop)]
+struct Screen<'a> {
+    text: Vec<u8>,
+    written: &'a Cell<usize>,
+}
+
+impl Write for Screen<'_> {
+    fn write(&mut self, buf: &[u8]) -> io::Result<usize> {
+        self.text.extend_from_slice(buf)?;
+        self.written.set(self.text.len());
+        Ok(buf.len())
+    }
+
+    fn flush(&mut self) -> io::Result<()> {
+        Ok(())
+    }
+}
+
+#[test]
+fn answers_are_written_before_more_is_asked_for(rt: HostRuntime) {
+    let written = Cell::new(0);
+    let mut typist = Typist {
+        lines: DIALOGUE.as_slice(),
+        typed: 0,
+        wanted: 0,
+        written: &written,
+    };
+    let mut screen = Screen {
+        text: Vec::new(rt.alloc()),
+        written: &written,
+    };
+    let outcome = replay(rt.alloc(), &mut typist, &mut screen);
+    let answers = b"disk 8 4\nissued 0\naccepted 1\njournal 2\n";
+    ends(&rt, 0, (screen.text, outcome), Ok(()), answers);
 }
 
 /// Gives the first bytes of a script, behind which a read fails. The lines that came whole are answered.

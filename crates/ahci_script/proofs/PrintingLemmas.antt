@@ -1,0 +1,129 @@
+-- Printed words are read back: decimal and hexadecimal numbers, and words behind one another.
+use Rattle.std.proofs.Common.{◌≡◌, ℕ, ◌+◌, ◌*◌, ◌/◌, ◌%◌, ◌^◌, ◌<◌, ◌≤◌, ◌==◌, Bool, true, false, not, ◌&&◌, cond, ltb, leb, List, [], ◌∷◌, ◌++◌, length, take, drop, refl, ap, ◌∙◌, Some, None, zero, suc, arith, add-one, length-append, option_map, option_and_then}
+use Rattle.std.proofs.Math.Nat.{pow-suc}
+use Rattle.std.proofs.Math.Seq.{take-append_seam}
+use Rattle.std.proofs.lemmas.Bool.{and_parts, and_from, cond-true, le-leb, lt-ltb}
+use Rattle.std.proofs.lemmas.Bool.Decides.{nat_tests}
+use Rattle.std.proofs.lemmas.Fmt.{decimal_by_steps, decimal_nonempty, length-decimal-le}
+use Rattle.std.proofs.lemmas.List.Folds.{list_all-append}
+use Rattle.std.proofs.lemmas.List.Sums.{fold_push}
+use Rattle.std.specs.Char.{is_ascii_digit}
+use Rattle.std.specs.Fmt.{decimal, digit_glyph}
+use Rattle.std.specs.List.{list_all, position_or_len}
+use Rattle.ahci_script.specs.Answers.{hex_of}
+use Rattle.ahci_script.specs.Number.{below, byte_of, decimal_below, decimal_of, decimal_value, hex_digit_of, hexadecimal_of, hexadecimal_value, is_decimal, with_digit, with_hex_digit}
+use Rattle.ahci_script.specs.Printing.{before}
+use Rattle.ahci_script.specs.Words.{cut_of}
+
+-- no space is among these bytes
+abbrev pub is_word : List ℕ → Bool
+is_word bytes = list_all (λ b. not (b == 32)) bytes
+
+-- the first space behind a word
+space_behind : (word others : List ℕ) → is_word word ≡ true → position_or_len (λ b. b == 32) (before word others) ≡ length word
+space_behind [] others h = refl
+space_behind (b ∷ bs) others h =
+    let parts = and_parts (not (b == 32)) (is_word bs) h in
+    cond-true (not (b == 32)) (1 + position_or_len (λ b. b == 32) (before bs others)) 0 parts.0 ∙ ap (λ n. 1 + n) (space_behind bs others parts.1) ∙ (omega arith)
+
+drop_word : (word others : List ℕ) → drop (suc (length word)) (before word others) ≡ others
+drop_word [] others = refl
+drop_word (b ∷ bs) others = drop_word bs others
+
+-- a word is cut off at the space behind it
+pub cut-before : (word others : List ℕ) → is_word word ≡ true → cut_of (before word others) ≡ Some (word, others)
+cut-before word others h =
+    let at = space_behind word others h in
+    let within : length word < length (before word others) = omega (arith, length-append word (32 ∷ others)) in
+    let found : cond (ltb (position_or_len (λ b. b == 32) (before word others)) (length (before word others))) (Some (position_or_len (λ b. b == 32) (before word others))) None ≡ Some (length word) =
+    ap (λ n. cond (ltb n (length (before word others))) (Some n) None) at ∙ cond-true _ (Some (length word)) None (lt-ltb (length word) (length (before word others)) within) in
+    ap (λ o. option_map (λ i. (take i (before word others), drop (i + 1) (before word others))) o) found
+    ∙ ap (λ l. Some (l, drop (length word + 1) (before word others))) (take-append_seam word (32 ∷ others))
+    ∙ ap (λ n. Some (word, drop n (before word others))) (add-one (length word))
+    ∙ ap (λ l. Some (word, l)) (drop_word word others)
+
+-- what holds of the digits of a number
+pub record Digits (n : ℕ) (ds : List ℕ) : Type 0 where
+  pub value : decimal_value ds ≡ n
+  pub all : list_all is_ascii_digit ds ≡ true
+  pub word : is_word ds ≡ true
+
+one_digit : (n : ℕ) → n < 10 → Digits n ((48 + n) ∷ [])
+one_digit n h = record { value = omega arith; all = grind (arith, nat_tests); word = grind (arith, nat_tests) }
+
+digit_more : (n : ℕ) (ds : List ℕ) → 10 ≤ n → Digits (n / 10) ds → Digits n (ds ++ (48 + n % 10) ∷ [])
+digit_more n ds h d =
+    let one = one_digit (n % 10) (omega arith) in
+    record {
+      value = fold_push with_digit 0 ds (48 + n % 10) ∙ ap (λ v. with_digit v (48 + n % 10)) d.value ∙ (omega arith);
+      all = list_all-append is_ascii_digit ds ((48 + n % 10) ∷ []) ∙ and_from (list_all is_ascii_digit ds) _ d.all one.all;
+      word = list_all-append (λ b. not (b == 32)) ds ((48 + n % 10) ∷ []) ∙ and_from (is_word ds) _ d.word one.word;
+    }
+
+pub digits : (n : ℕ) → n < 2 ^ 64 → Digits n (decimal n)
+digits n h = decimal_by_steps Digits one_digit digit_more n h
+
+below-back : (limit n : ℕ) → n < limit → below limit n ≡ Some n
+below-back limit n h = cond-true (ltb n limit) (Some n) None (lt-ltb n limit h)
+
+-- a decimal number is read back
+pub decimal-back : (n : ℕ) → n < 2 ^ 64 → decimal_of (decimal n) ≡ Some n
+decimal-back n h =
+    let d = digits n h in
+    let some : 0 < length (decimal n) = decimal_nonempty n h in
+    let few : length (decimal n) ≤ 20 = length-decimal-le 20 n (omega arith) (omega arith) h in
+    let is : is_decimal (decimal n) ≡ true =
+    and_from (ltb 0 (length (decimal n)) && list_all is_ascii_digit (decimal n)) (leb (length (decimal n)) 20)
+    (and_from (ltb 0 (length (decimal n))) (list_all is_ascii_digit (decimal n)) (lt-ltb 0 (length (decimal n)) some) d.all)
+    (le-leb (length (decimal n)) 20 few) in
+    cond-true (is_decimal (decimal n)) (below (2 ^ 64) (decimal_value (decimal n))) None is ∙ ap (below (2 ^ 64)) d.value ∙ below-back (2 ^ 64) n h
+
+-- and so is one below a limit
+pub decimal_below-back : (limit n : ℕ) → limit ≤ 65537 → n < limit → decimal_below limit (decimal n) ≡ Some n
+decimal_below-back limit n few h = ap (option_and_then (below limit)) (decimal-back n (omega arith)) ∙ below-back limit n h
+
+-- a decimal number has no space in it
+pub decimal-word : (n : ℕ) → n < 2 ^ 64 → is_word (decimal n) ≡ true
+decimal-word n h = (digits n h).word
+
+-- a hexadecimal digit is read back, and is no space
+glyph-back : (d : ℕ) → d < 16 → hex_digit_of (digit_glyph false d) ≡ Some d
+glyph-back d h = grind (arith, nat_tests)
+
+glyph-word : (d : ℕ) → d < 16 → not (digit_glyph false d == 32) ≡ true
+glyph-word d h = grind (arith, nat_tests)
+
+with_digit-back : (v d : ℕ) → d < 16 → with_hex_digit (Some v) (digit_glyph false d) ≡ Some (16 * v + d)
+with_digit-back v d h = ap (option_and_then (λ x. Some (16 * v + x))) (glyph-back d h)
+
+-- so many hexadecimal digits have the value of a number that has no more
+hex-back : (k n : ℕ) → n < 16 ^ k → hexadecimal_value (hex_of k n) ≡ Some n
+hex-back zero n h = ap Some (let none : n < 1 = h in let e : 0 ≡ n = omega arith in e)
+hex-back (suc k) n h =
+    let fewer : n / 16 < 16 ^ k = high k n h in
+    fold_push with_hex_digit (Some 0) (hex_of k (n / 16)) (digit_glyph false (n % 16))
+    ∙ ap (λ v. with_hex_digit v (digit_glyph false (n % 16))) (hex-back k (n / 16) fewer)
+    ∙ with_digit-back (n / 16) (n % 16) (omega arith) ∙ ap Some (let e : 16 * (n / 16) + n % 16 ≡ n = omega arith in e)
+  where
+    high : (k n : ℕ) → n < 16 ^ suc k → n / 16 < 16 ^ k
+    high k n h = let p : 16 ^ suc k ≡ 16 ^ k * 16 = pow-suc 16 k in omega arith
+
+length-hex_of : (k n : ℕ) → length (hex_of k n) ≡ k
+length-hex_of zero n = refl
+length-hex_of (suc k) n = length-append (hex_of k (n / 16)) (digit_glyph false (n % 16) ∷ []) ∙ ap (λ m. m + 1) (length-hex_of k (n / 16)) ∙ (omega arith)
+
+-- eight hexadecimal digits are read back
+pub hexadecimal-back : (n : ℕ) → n < 2 ^ 32 → hexadecimal_of (hex_of 8 n) ≡ Some n
+hexadecimal-back n h = hex-back 8 n (omega arith)
+
+-- and so are the two of a byte
+pub byte-back : (n : ℕ) → n < 256 → byte_of (hex_of 2 n) ≡ Some n
+byte-back n h =
+    let high = glyph-back (n / 16 % 16) (omega arith) in
+    let low = glyph-back (n % 16) (omega arith) in
+    ap (option_and_then (λ x. option_and_then (λ l. Some (16 * x + l)) (hex_digit_of (digit_glyph false (n % 16))))) high
+    ∙ ap (option_and_then (λ l. Some (16 * (n / 16 % 16) + l))) low ∙ ap Some (let e : 16 * (n / 16 % 16) + n % 16 ≡ n = omega arith in e)
+
+pub byte-word : (n : ℕ) → is_word (hex_of 2 n) ≡ true
+byte-word n =
+    and_from (not (digit_glyph false (n / 16 % 16) == 32)) _ (glyph-word (n / 16 % 16) (omega arith)) (and_from (not (digit_glyph false (n % 16) == 32)) true (glyph-word (n % 16) (omega arith)) refl)
