@@ -1,0 +1,2 @@
+pub mod PumpingLemmas
+pub mod CollectingLemmas
