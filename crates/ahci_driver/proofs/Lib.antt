@@ -1,2 +1,4 @@
 pub mod PumpingLemmas
 pub mod CollectingLemmas
+pub mod SubmittingLemmas
+pub mod SettlingLemmas

@@ -23,6 +23,10 @@ issued_as port n = work_in (entry_at port.past n)
 abbrev pub answered_as : PortView → ℕ → Option Answer
 answered_as port n = answer port.starting port.past n
 
+-- the job before job i of the same worker was answered before a number
+abbrev pub AnsweredBefore : List Received → ℕ → ℕ → ℕ → Type 0
+AnsweredBefore receipts workers i n = workers ≤ i → IsSomeAnd (slice_get receipts (i - workers)) (λ q. q.answer.entry < n)
+
 -- the receipt is that of job i, whose command is given, among these receipts of so many workers
 pub record IsOfJob (port : PortView) (receipts : List Received) (workers i : ℕ) (work : Work) (r : Received) : Type 0 where
   -- its number is that of an Issue of the job's command
@@ -32,7 +36,7 @@ pub record IsOfJob (port : PortView) (receipts : List Received) (workers i : ℕ
   -- it is that request's answer
   pub answered : answered_as port r.number ≡ Some r.answer
   -- its worker's job before was answered before this one was issued
-  pub in_turn : workers ≤ i → IsSomeAnd (slice_get receipts (i - workers)) (λ q. q.answer.entry < r.number)
+  pub in_turn : AnsweredBefore receipts workers i r.number
 
 -- receipt i is that of job i
 abbrev pub IsRight : PortView → List Work → List Received → ℕ → ℕ → Type 0
@@ -46,6 +50,11 @@ AllRight port jobs receipts workers n = (i : ℕ) → i < n → IsRight port job
 abbrev pub AllNamed : PortView → List Received → ℕ → Type 0
 AllNamed port receipts n = (m : ℕ) → m < n → IsSome (issued_as port m) → is_named receipts m ≡ true
 
+-- the least entry that issues a command without a receipt, or none, where each has one
+abbrev pub IsFirstUnnamed : PortView → List Received → Option ℕ → Type 0
+IsFirstUnnamed port receipts (Some n) = AllNamed port receipts n × IsSome (issued_as port n) × (is_named receipts n ≡ false)
+IsFirstUnnamed port receipts None = (n : ℕ) → IsSome (issued_as port n) → is_named receipts n ≡ true
+
 -- a run with these jobs and receipts, by so many workers
 pub record IsSettled (port : PortView) (jobs : List Work) (receipts : List Received) (workers : ℕ) : Type 0 where
   pub count : length receipts ≡ length jobs
@@ -58,6 +67,5 @@ IsUnsettled port jobs receipts workers Count = length receipts ≢ length jobs
 IsUnsettled port jobs receipts workers (Wrong i) =
     (length receipts ≡ length jobs) × (i < length jobs) × AllRight port jobs receipts workers i × ¬ (IsRight port jobs receipts workers i)
 IsUnsettled port jobs receipts workers (Extra n) =
-    (length receipts ≡ length jobs) × AllRight port jobs receipts workers (length jobs) × AllNamed port receipts n × IsSome (issued_as port n)
-    × (is_named receipts n ≡ false)
+    (length receipts ≡ length jobs) × AllRight port jobs receipts workers (length jobs) × IsFirstUnnamed port receipts (Some n)
 IsUnsettled port jobs receipts workers OutOfMemory = length receipts ≡ length jobs

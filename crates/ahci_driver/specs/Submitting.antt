@@ -1,5 +1,5 @@
 -- Why a command is not submitted.
-use Rattle.std.specs.Prelude.{◌≡◌, ℕ, List, Option, None, Some}
+use Rattle.std.specs.Prelude.{◌≡◌, ℕ, ◌*◌, List, [], replicate, Option, None, Some}
 use Rattle.ncq_journal.specs.Work.{Work, Read, Write, sectors_of}
 use Rattle.ahci_table.specs.declared.fault.BuildFault.{BuildFault}
 use Rattle.ahci_table.specs.declared.fault.BuildFault.TheVariants as build
@@ -9,6 +9,11 @@ use Rattle.tag_board.specs.declared.finding.Finding.{Finding}
 use Rattle.tag_board.specs.View.{missed}
 use Rattle.ahci_driver.specs.declared.fault.SubmitFault.{SubmitFault}
 use Rattle.ahci_driver.specs.declared.fault.SubmitFault.TheVariants as submit
+
+-- the buffer that waits for a command's answer: a zero for each byte that is read
+abbrev pub buffer_for : Work → List ℕ
+buffer_for (Read lba sectors) = replicate (512 * sectors) 0
+buffer_for (Write lba bytes) = []
 
 -- why no window is built for a command over the default pieces
 abbrev pub default_refusal : Work → Option BuildFault

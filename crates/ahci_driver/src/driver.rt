@@ -1,9 +1,8 @@
-ghost use Rattle.std.specs.Prelude.{◌≡◌, false, true, ℕ, IfOk, IfErr, OnErr, ◌<◌};
+ghost use Rattle.std.specs.Prelude.{◌≡◌, false, true, ℕ, IfOk, IfErr, OnOk, OnErr, None, ◌<◌};
 ghost use Rattle.ncq_journal.specs.Work.{work_of};
-ghost use Rattle.tag_board.specs.View.{missed};
 ghost use Rattle.word_bits.specs.Places.{has_place, with_place, without_place};
 ghost use Rattle.ahci_port.specs.Headline.{Headline};
-ghost use Rattle.ahci_driver.specs.Submitting.{IsNotSubmitted, AllTried};
+ghost use Rattle.ahci_driver.specs.Submitting.{IsNotSubmitted, AllTried, buffer_for, default_refusal};
 
 use crate::chooser::Chooser;
 use crate::collecting::collect_locked;
@@ -105,6 +104,7 @@ impl<A: Allocator + Clone> Driver<A> {
     /// # Errors
     /// `NoTag` where each tag was found taken when it was tried; `Build` where no window is built for the command, or memory
     /// for it or for the buffer was refused; `Issue` where the port didn't issue it.
+    #[tactic(auto, using(crate::proofs::SubmittingLemmas::given_back))]
     pub fn submit(
         &self,
         rt: &impl Wait,
@@ -114,6 +114,8 @@ impl<A: Allocator + Clone> Driver<A> {
     ) -> Result<Ticket<A>, SubmitFault>
         requires { seat.old.board ≡ self.now }
         ensures board { seat.new.board ≡ seat.old.board }
+        ensures buffer { IfOk result (λ t. t.buffer ≡ buffer_for (work_of op.now)) }
+        ensures built { OnOk result (default_refusal (work_of op.now) ≡ None) }
         ensures fresh { IfOk result (λ t. has_place seat.old.tags t.tag ≡ false) }
         ensures gained { IfOk result (λ t. seat.new.tags ≡ with_place seat.old.tags t.tag) }
         ensures has { IfOk result (λ t. has_place seat.new.tags t.tag ≡ true) }

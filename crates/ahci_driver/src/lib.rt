@@ -10,6 +10,7 @@ mod gate;
 mod pumped;
 mod pumping;
 mod receipt;
+mod settling;
 mod submitting;
 mod ticket;
 
@@ -21,6 +22,7 @@ pub use gate::{Gate, Open};
 pub use pumped::Pumped;
 pub use pumping::pump_locked;
 pub use receipt::Receipt;
+pub use settling::settle_plainly;
 pub use submitting::submit_locked;
 pub use tag_board::{BoardFault, Finding, Full, TagBoard, TagSeat};
 pub use ticket::Ticket;

@@ -1,11 +1,11 @@
-ghost use Rattle.std.specs.Prelude.{◌≡◌, ◌<◌, ◌≤◌, length, replicate, IfOk, IfErr, OnOk};
-ghost use Rattle.ncq_journal.specs.Work.{work_of};
+ghost use Rattle.std.specs.Prelude.{◌≡◌, ◌<◌, ◌≤◌, length, None, IfOk, IfErr, OnOk};
+ghost use Rattle.ncq_journal.specs.Work.{work_of, sectors_of};
 ghost use Rattle.ahci_table.specs.Build.{Carries};
 ghost use Rattle.ahci_table.specs.Defaults.{default_list};
 ghost use Rattle.ahci_table.specs.Fit.{IsFit};
 ghost use Rattle.ahci_port.specs.Faults.{MayTake, RefusesIssue};
 ghost use Rattle.ahci_port.specs.Steps.{IsIssued};
-ghost use Rattle.ahci_driver.specs.Submitting.{IsNotBuilt, default_refusal};
+ghost use Rattle.ahci_driver.specs.Submitting.{IsNotBuilt, buffer_for, default_refusal};
 
 use crate::ticket::Ticket;
 use ahci_port::{IssueFault, Port};
@@ -40,30 +40,35 @@ pub fn submit_locked<A: Allocator + Clone>(
     }
 }
 
-/// The window of a command over the default pieces, and the buffer for its answer: as many zeros as it reads bytes.
+/// The window of a command over the default pieces, and the buffer for its answer.
+#[tactic(auto, using(crate::proofs::SubmittingLemmas::capped))]
 pub(crate) fn prepared<A: Allocator + Clone>(
     alloc: A,
     tag: u8,
     op: &Op<A>,
 ) -> Result<(Window<A>, Vec<u8, A>), BuildFault>
     requires { tag < 32 }
-    ensures tag { IfOk result (λ made. made.0.tag ≡ tag) }
-    ensures built { IfOk result (λ made. default_refusal (work_of op.now) ≡ None) }
-    ensures fault { IfErr result (λ f. IsNotBuilt (work_of op.now) f) }
+    ensures carries { IfOk result (λ made. Carries tag (work_of op.now) (default_list (sectors_of (work_of op.now))) made.0) }
+    ensures buffer { IfOk result (λ made. made.1.items ≡ buffer_for (work_of op.now)) }
+    ensures built { OnOk result (default_refusal (work_of op.now) ≡ None) }
+    ensures fault { IfErr result (IsNotBuilt (work_of op.now)) }
 {
-    let pieces = default_pieces(op.sectors().min(LONGEST) as u32);
-    let Ok(own) = alloc.clone() else {
+    let sectors = op.sectors().min(u64::from(u32::MAX)) as u32;
+    let spare: Result<A, AllocError> = alloc.clone();
+    let window = Window::build(alloc, tag, op, &default_pieces(sectors))?;
+    let Ok(spare) = spare else {
         return Err(BuildFault::OutOfMemory);
     };
-    let window = Window::build(own, tag, op, &pieces)?;
-    match buffer(alloc, op) {
+    match buffer_for(spare, op) {
         Ok(buffer) => Ok((window, buffer)),
         Err(_) => Err(BuildFault::OutOfMemory),
     }
 }
 
 /// As many zeros as a command reads bytes.
-fn buffer<A: Allocator>(alloc: A, op: &Op<A>) -> Result<Vec<u8, A>, AllocError> {
+fn buffer_for<A: Allocator>(alloc: A, op: &Op<A>) -> Result<Vec<u8, A>, AllocError>
+    ensures { IfOk result (λ v. v.items ≡ buffer_for (work_of op.now)) }
+{
     match op {
         Op::Read { sectors, .. } => Vec::from_elem(alloc, 0, *sectors as usize * 512),
         Op::Write { .. } => Ok(Vec::new(alloc)),
