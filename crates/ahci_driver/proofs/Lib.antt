@@ -2,3 +2,4 @@ pub mod PumpingLemmas
 pub mod CollectingLemmas
 pub mod SubmittingLemmas
 pub mod SettlingLemmas
+pub mod RunningLemmas

@@ -1,7 +1,7 @@
 use Rattle.ncq_journal.specs.Work.{work_of}
 use Rattle.ahci_driver.specs.Received.{received_of}
 use Rattle.ahci_driver.proofs.SettlingLemmas.{mapped}
-use Rattle.ahci_driver.proofs.settling.is_right.Goals as goal
+use Rattle.ahci_driver.proofs.plain.is_right.Goals as goal
 
 pub returns : goal.returns
 returns g c =

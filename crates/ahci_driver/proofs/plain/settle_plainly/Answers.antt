@@ -1,7 +1,7 @@
 use Rattle.std.proofs.Common.{map, arith}
 use Rattle.ahci_driver.specs.Received.{received_of}
 use Rattle.ahci_driver.proofs.SettlingLemmas.{all_right, counted}
-use Rattle.ahci_driver.proofs.settling.settle_plainly.Goals as goal
+use Rattle.ahci_driver.proofs.plain.settle_plainly.Goals as goal
 
 pub returns-in-Some-clause-fault : goal.returns-in-Some-clause-fault
 returns-in-Some-clause-fault g c = (

@@ -2,7 +2,7 @@ use Rattle.std.proofs.Common.{◌∙◌, map, sym}
 use Rattle.ncq_journal.specs.Work.{work_of}
 use Rattle.ahci_driver.specs.Received.{received_of}
 use Rattle.ahci_driver.proofs.SettlingLemmas.{by_answer, named_before}
-use Rattle.ahci_driver.proofs.settling.is_of_job.Goals as goal
+use Rattle.ahci_driver.proofs.plain.is_of_job.Goals as goal
 
 pub returns : goal.returns
 returns g c =
