@@ -76,7 +76,8 @@ busy_words past issued accepted i a si sa some = by (busy past) refl
     by true e = e
     by false e = absurd (some (
       zero_word issued (λ t. is_issued (phase past t)) i si (λ t low. calm_issued (phase past t) (lacks_busy t low e)),
-      zero_word accepted (λ t. is_accepted (phase past t)) a sa (λ t low. calm_accepted (phase past t) (lacks_busy t low e))))
+      zero_word accepted (λ t. is_accepted (phase past t)) a sa (λ t low. calm_accepted (phase past t) (lacks_busy t low e)),
+    ))
       where
         calm_issued : (p : Phase) → is_busy p ≡ false → is_issued p ≡ false
         calm_issued Issued h = absurd (true≢false h)

@@ -40,7 +40,9 @@ fn is_issued<A: Allocator, B: Allocator>(port: &Port<A>, number: u64, job: &Op<B
 fn has_number<B: Allocator>(receipts: &[Receipt<B>], number: u64) -> bool
     ensures { result ≡ list_any (λ r. nat_eq r.reply.number number) receipts.now }
 {
-    receipts.iter().any(|receipt| receipt.reply.number == number)
+    receipts
+        .iter()
+        .any(|receipt| receipt.reply.number == number)
 }
 
 /// Whether some receipt has this number.
@@ -81,7 +83,12 @@ fn is_answered<A: Allocator, B: Allocator, C: Allocator + Clone>(
 }
 
 /// Whether the job before of the same worker was answered before this number.
-fn is_in_turn<B: Allocator>(receipts: &[Receipt<B>], workers: u32, index: usize, number: u64) -> bool
+fn is_in_turn<B: Allocator>(
+    receipts: &[Receipt<B>],
+    workers: u32,
+    index: usize,
+    number: u64,
+) -> bool
     ensures { IsTrue result ↔ AnsweredBefore (map received_of receipts.now) workers index number }
 {
     if index < workers as usize {

@@ -1,10 +1,10 @@
-ghost use Rattle.std.specs.Prelude.{◌≡◌, ◌≤◌, map, length, vec_len, IfOk, IfErr, IfSome};
+ghost use Rattle.std.specs.Prelude.{◌≡◌, ◌≤◌, map, length, vec_len, IfOk, IfErr, IfSome, IsTrue, MatchOption};
 ghost use denote.Param.Send.{IsSync, IsSend, Frees};
 ghost use Rattle.ncq_journal.specs.Work.{work_of};
 ghost use Rattle.tag_board.specs.Board.{Board};
 ghost use Rattle.ahci_driver.specs.Received.{received_of};
 ghost use Rattle.ahci_driver.specs.Settled.{IsSettled};
-ghost use Rattle.ahci_driver.specs.Running.{HasRun, IsFirstBad, IsGivenUp, IsLate};
+ghost use Rattle.ahci_driver.specs.Running.{HasRun, IsFirstBad, IsGivenUp, IsLate, MayRun};
 
 use crate::chooser::Chooser;
 use crate::driver::Driver;
@@ -41,6 +41,20 @@ fn bad_job<A: Allocator>(jobs: &[Op<A>]) -> Option<usize>
         }
     }
     None
+}
+
+/// Why a run isn't begun.
+#[tactic(auto, using(crate::proofs::RunningLemmas::fresh, crate::proofs::RunningLemmas::not_fresh))]
+fn early_fault<A: Allocator>(port: &Port<A>, jobs: &[Op<A>]) -> Option<RunFault>
+    ensures { MatchOption result (MayRun port.now (map work_of jobs.now)) (IsGivenUp port.now (map work_of jobs.now)) }
+{
+    if !port.journal().is_empty() {
+        return Some(RunFault::NotFresh);
+    }
+    match bad_job(jobs) {
+        Some(job) => Some(RunFault::BadJob(job)),
+        None => None,
+    }
 }
 
 /// The workers of a run, each with a seat and a chooser of its own.
@@ -132,7 +146,7 @@ where
     R: Threads + Wait + Sync,
     G: Gate,
     C: Chooser + Send + Drop,
-    A: Allocator + Clone + Send + Sync + 'static,
+    A: Allocator + Clone + Send + Sync,
     requires { 1 ≤ vec_len choosers }
 {
     port.shape();
@@ -172,7 +186,7 @@ fn ended<A: Allocator + Clone>(
     let Ok(replies) = in_order(own, ends, jobs.len(), workers as usize) else {
         return Err(RunFault::OutOfMemory);
     };
-    if port.depth() != handed.depth || port.starting_image() != handed.starting.as_slice() {
+    if !is_still(&port, handed) {
         return Err(RunFault::Foreign);
     }
     match settle(alloc, &port, jobs, &replies, workers) {
@@ -187,6 +201,14 @@ fn ended<A: Allocator + Clone>(
 struct Handed<A: Allocator> {
     starting: Vec<u8, A>,
     depth: u32,
+}
+
+/// Whether the port has the starting image and the depth of the one that was handed in.
+fn is_still<A: Allocator>(port: &Port<A>, handed: &Handed<A>) -> bool
+    ensures starting { IsTrue result → port.now.starting ≡ handed.now.starting.items }
+    ensures depth { IsTrue result → port.now.depth ≡ handed.now.depth }
+{
+    port.depth() == handed.depth && port.starting_image() == handed.starting.as_slice()
 }
 
 /// A copy of what a run keeps.
@@ -212,7 +234,7 @@ where
     R: Threads + Wait + Sync,
     G: Gate,
     C: Chooser + Send + Drop,
-    A: Allocator + Clone + Send + Sync + 'static,
+    A: Allocator + Clone + Send + Sync,
     requires { 1 ≤ vec_len choosers }
     ensures starting { IfOk result (λ r. r.0.starting.items ≡ port.starting) }
     ensures depth { IfOk result (λ r. r.0.depth ≡ port.depth) }
@@ -228,7 +250,6 @@ where
 ///
 /// # Errors
 /// The first case of `RunFault` that holds; the port is given up.
-#[tactic(auto, using(crate::proofs::RunningLemmas::late))]
 pub fn run<R, G, C, A>(
     rt: &R,
     alloc: A,
@@ -242,18 +263,15 @@ where
     R: Threads + Wait + Sync,
     G: Gate,
     C: Chooser + Send + Drop,
-    A: Allocator + Clone + Send + Sync + 'static,
+    A: Allocator + Clone + Send + Sync,
     requires some { 1 ≤ workers }
     requires most { workers ≤ 32 }
     requires choosers { vec_len choosers ≡ workers }
     ensures ok { IfOk result (λ end. HasRun port end.port (map work_of jobs.now) (map received_of end.replies.items) workers) }
     ensures fault { IfErr result (IsGivenUp port (map work_of jobs.now)) }
 {
-    if !port.journal().is_empty() {
-        return Err(RunFault::NotFresh);
-    }
-    if let Some(job) = bad_job(jobs) {
-        return Err(RunFault::BadJob(job));
+    if let Some(fault) = early_fault(&port, jobs) {
+        return Err(fault);
     }
     let Ok(own) = alloc.clone() else {
         return Err(RunFault::OutOfMemory);

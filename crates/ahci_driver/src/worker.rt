@@ -51,8 +51,8 @@ fn stop_at(fault: SubmitFault, job: usize) -> Option<Stop> {
     match fault {
         SubmitFault::NoTag => None,
         SubmitFault::Issue(IssueFault::Halted | IssueFault::SlotOwned) => None,
-        SubmitFault::Build(BuildFault::OutOfMemory)
-        | SubmitFault::Issue(IssueFault::OutOfMemory) => Some(Stop::OutOfMemory),
+        SubmitFault::Build(BuildFault::OutOfMemory) | SubmitFault::Issue(IssueFault::OutOfMemory) =>
+            Some(Stop::OutOfMemory),
         SubmitFault::Build(_) | SubmitFault::Issue(_) => Some(Stop::Lost(job)),
     }
 }
