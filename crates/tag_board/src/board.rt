@@ -95,6 +95,7 @@ impl<A: Allocator> TagBoard<A> {
         ensures board { seat.new.board ≡ seat.old.board }
 
         ensures below { IfOk result (λ t. t < self.now.depth) }
+        ensures low { IfOk result (λ t. t < 32) }
         ensures fresh { IfOk result (λ t. has_place seat.old.tags t ≡ false) }
         ensures gained { IfOk result (λ t. seat.new.tags ≡ with_place seat.old.tags t) }
         ensures has { IfOk result (λ t. has_place seat.new.tags t ≡ true) }

@@ -1,0 +1,5 @@
+pub mod PumpingLemmas
+pub mod CollectingLemmas
+pub mod SubmittingLemmas
+pub mod SettlingLemmas
+pub mod RunningLemmas

@@ -1,0 +1,28 @@
+-- The default pieces of any count, and a tag that is given back.
+use Rattle.std.proofs.Common.{◌≡◌, ◌≢◌, ℕ, ◌-◌, ◌^◌, ◌<◌, ◌≤◌, Bool, true, false, cond, min, List, [], map, ◌+◌, ◌/◌, length, nat_le, ap, sym, refl, ◌∙◌, arith, inl, inr}
+use Rattle.std.specs.List.{range_with_len}
+use Rattle.std.proofs.lemmas.Bool.{cases_lt, cases_eq, lt-leb}
+use Rattle.ahci_table.specs.Defaults.{default_list, default_piece}
+use Rattle.ncq_journal.specs.Lawful.{most_sectors}
+use Rattle.word_bits.specs.Places.{has_place, with_place, without_place}
+use Rattle.word_bits.proofs.PlacesLemmas.{same_sets, length-with_place, length-without_place, has_place-with_other, has_place-without_other, has_place-without_same}
+
+no_pieces : (n : ℕ) → most_sectors < n → default_list n ≡ []
+no_pieces n h = ap (λ b. cond b (map (default_piece n) (range_with_len 0 ((n + 7) / 8))) []) (lt-leb n most_sectors h)
+
+-- a count that no word holds has no pieces, and neither has the largest word
+pub capped : (n : ℕ) → default_list (min n (2 ^ 32 - 1)) ≡ default_list n
+capped n =
+    elim (cases_lt n (2 ^ 32)) [
+      | inl low ↦ ap default_list (let e : min n (2 ^ 32 - 1) ≡ n = omega arith in e)
+      | inr high ↦ no_pieces (min n (2 ^ 32 - 1)) (omega arith) ∙ sym (no_pieces n (omega arith))
+    ]
+
+-- a tag that was not the seat's, and is given back
+pub given_back : (s : List Bool) (t : ℕ) → has_place s t ≡ false → without_place (with_place s t) t ≡ s
+given_back s t fresh =
+    same_sets (without_place (with_place s t) t) s (length-without_place (with_place s t) t ∙ length-with_place s t)
+    (λ i low. elim (cases_eq i t) [
+      | inl same ↦ ap (has_place (without_place (with_place s t) t)) same ∙ has_place-without_same (with_place s t) t ∙ sym fresh ∙ sym (ap (has_place s) same)
+      | inr other ↦ has_place-without_other (with_place s t) t i other ∙ has_place-with_other s t i other
+    ])

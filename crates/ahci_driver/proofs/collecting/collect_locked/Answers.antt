@@ -1,0 +1,12 @@
+use Rattle.std.proofs.Common.{◌≡◌, true, sym, ◌∙◌, ap, length}
+use Rattle.ahci_driver.specs.Tickets.{suits}
+use Rattle.ahci_port.specs.Looking.{read_length}
+use Rattle.ahci_driver.proofs.CollectingLemmas.{not_refused, text_length}
+use Rattle.ahci_driver.proofs.collecting.collect_locked.Goals as goal
+
+pub filled-requires-clause-len : goal.filled-requires-clause-len
+filled-requires-clause-len g c =
+    let none = not_refused c.in-Ok.collected _ c.in-Ok.ensures.fault in
+    let buffer = c.ticket.inside.buffer.items in
+    let fits = ap (λ o. suits o (length buffer)) (sym c.read_length-read.ensures) ∙ ap (λ b. suits c.read_length-read.result (length b)) (sym c.deref.ensures.value) ∙ sym c.suits.ensures in
+    text_length c.args.port.now c.ticket.inside.tag c.ticket.inside.number (length c.ticket.inside.buffer.items) c.in-Ok.collected.1 _ c.journal.ensures.headline none c.in-Ok.ensures.reply c.in-Ok.ensures.window (fits ∙ c.if-not-suits.false)

@@ -1,0 +1,42 @@
+-- What a run of workers promises.
+use Rattle.std.specs.Prelude.{◌≡◌, ◌≢◌, ℕ, ◌<◌, List, [], length, Option, None, Some, IsSomeAnd, slice_get}
+use Rattle.ncq_journal.specs.Lawful.{IsProper}
+use Rattle.ncq_journal.specs.Work.{Work}
+use Rattle.ahci_port.specs.PortView.{PortView}
+use Rattle.ahci_driver.specs.Received.{Received}
+use Rattle.ahci_driver.specs.Settled.{IsSettled}
+use Rattle.ahci_driver.specs.declared.run_fault.RunFault.{RunFault}
+use Rattle.ahci_driver.specs.declared.run_fault.RunFault.TheVariants.{NotFresh, BadJob, OutOfMemory, Lost, Foreign, Unsettled}
+
+-- the commands of all jobs below n can be issued
+abbrev pub ProperBelow : List Work → ℕ → Type 0
+ProperBelow jobs n = (i : ℕ) → i < n → IsSomeAnd (slice_get jobs i) IsProper
+
+-- the least job whose command can't be issued, or none
+abbrev pub IsFirstBad : List Work → Option ℕ → Type 0
+IsFirstBad jobs None = ProperBelow jobs (length jobs)
+IsFirstBad jobs (Some i) = ProperBelow jobs i × IsSomeAnd (slice_get jobs i) (λ work. ¬ (IsProper work))
+
+-- the run may begin: the port's journal is empty, and every command can be issued
+abbrev pub MayRun : PortView → List Work → Type 0
+MayRun port jobs = (port.past ≡ []) × IsFirstBad jobs None
+
+-- the run of these jobs by so many workers, from a port to a port: both have the same starting image and as many slots, and
+-- the run is settled
+pub record HasRun (old new : PortView) (jobs : List Work) (receipts : List Received) (workers : ℕ) : Type 0 where
+  pub fresh : MayRun old jobs
+  pub starting_same : new.starting ≡ old.starting
+  pub depth_same : new.depth ≡ old.depth
+  pub settled : IsSettled new jobs receipts workers
+
+-- a fault of a run that has begun
+abbrev pub IsLate : RunFault → Type 0
+IsLate NotFresh = ⊥
+IsLate (BadJob i) = ⊥
+IsLate fault = Unit {0}
+
+-- why it was given up
+abbrev pub IsGivenUp : PortView → List Work → RunFault → Type 0
+IsGivenUp port jobs NotFresh = port.past ≢ []
+IsGivenUp port jobs (BadJob i) = (port.past ≡ []) × IsFirstBad jobs (Some i)
+IsGivenUp port jobs fault = MayRun port jobs

@@ -1,0 +1,59 @@
+ghost use Rattle.std.specs.Prelude.{◌≡◌};
+ghost use Rattle.ahci_driver.specs.Choosing.{IsLowestStep, IsHighestStep};
+
+use ahci_port::DeviceStep;
+use word_bits::{highest, lowest};
+
+/// Who decides what the device does next.
+pub trait Chooser {
+    /// The next step, where these tags wait for the device and those are outstanding in it, as the bits of two words; one of
+    /// them is not 0. A step that the port refuses gives way to that of `Low`.
+    fn next(&mut self, issued: u32, accepted: u32) -> DeviceStep;
+}
+
+/// Serves the lowest tag that the device has, else accepts the lowest that waits.
+#[derive(Clone, Copy, Debug, Drop)]
+pub struct Low;
+
+/// Serves the highest tag that the device has, else accepts the highest that waits.
+#[derive(Clone, Copy, Debug, Drop)]
+pub struct High;
+
+/// The step of `Low`: the lowest tag is served that the device has, or, where it has none, the lowest is accepted that
+/// waits; tag 0, where none does.
+pub(crate) fn lowest_step(issued: u32, accepted: u32) -> DeviceStep
+    ensures { IsLowestStep issued accepted result }
+{
+    match (lowest(accepted), lowest(issued)) {
+        (Some(tag), _) => DeviceStep::Serve(tag),
+        (None, Some(tag)) => DeviceStep::Accept(tag),
+        (None, None) => DeviceStep::Accept(0),
+    }
+}
+
+/// The same of the highest tags.
+fn highest_step(issued: u32, accepted: u32) -> DeviceStep
+    ensures { IsHighestStep issued accepted result }
+{
+    match (highest(accepted), highest(issued)) {
+        (Some(tag), _) => DeviceStep::Serve(tag),
+        (None, Some(tag)) => DeviceStep::Accept(tag),
+        (None, None) => DeviceStep::Accept(0),
+    }
+}
+
+impl Chooser for Low {
+    fn next(&mut self, issued: u32, accepted: u32) -> DeviceStep
+        ensures { IsLowestStep issued accepted result }
+    {
+        lowest_step(issued, accepted)
+    }
+}
+
+impl Chooser for High {
+    fn next(&mut self, issued: u32, accepted: u32) -> DeviceStep
+        ensures { IsHighestStep issued accepted result }
+    {
+        highest_step(issued, accepted)
+    }
+}

@@ -1,0 +1,63 @@
+ghost use Rattle.std.specs.Prelude.{◌≡◌, ℕ, Some, IsOk, IfOk, IsErrAnd, OnOk, OnErr, MatchOption, length};
+ghost use Rattle.ahci_table.specs.Fit.{IsFit};
+ghost use Rattle.ahci_port.specs.Slots.{bytes_in};
+ghost use Rattle.ahci_port.specs.Steps.{IsCollected};
+ghost use Rattle.ahci_driver.specs.Settled.{answered_as};
+ghost use Rattle.ahci_driver.specs.Tickets.{suits, has_length, ticket_refusal};
+
+use crate::ticket::Ticket;
+use ahci_port::{CollectFault, Outcome, Port, Reply};
+use ahci_table::Window;
+use std::alloc::Allocator;
+
+/// Whether the buffer has the length of what is read; where nothing is read, any buffer will do.
+fn suits(read: Option<u64>, buffer: &[u8]) -> bool
+    ensures { result ≡ suits read (length buffer.now) }
+{
+    match read {
+        Some(len) => len == buffer.len() as u64,
+        None => true,
+    }
+}
+
+/// The bytes of a finished read, which are its window's text, in the buffer; no bytes otherwise.
+fn filled<A: Allocator>(outcome: Outcome, window: &Window<A>, mut buffer: Vec<u8, A>) -> Vec<u8, A>
+    requires fit { IsFit window.now }
+    requires len { has_length outcome window.now (length buffer.items) }
+    ensures { result.items ≡ bytes_in outcome window.now }
+{
+    match outcome {
+        Outcome::Read => window.gather(0, &mut buffer),
+        _ => buffer.clear(),
+    }
+    buffer
+}
+
+/// What `collect` does once it has the lock: it takes the answer of the ticket's request and frees its slot. The bytes are
+/// those of a finished read, in the ticket's buffer, and none otherwise. It takes no memory.
+///
+/// # Errors
+/// `Stranger` where the slot is free, has another request, or has a read of another length than the ticket's buffer;
+/// `NotYet` where the request isn't done. The ticket comes back.
+pub fn collect_locked<A: Allocator>(
+    port: &mut Port<A>,
+    ticket: Ticket<A>,
+) -> Result<(Reply, Vec<u8, A>), (Ticket<A>, CollectFault)>
+    ensures ok { OnOk result (IsCollected ticket.tag port.old port.new) }
+    ensures number { IfOk result (λ r. r.0.number ≡ ticket.number) }
+    ensures answer { IfOk result (λ r. answered_as port.old ticket.number ≡ Some (record { entry = r.0.entry; outcome = r.0.outcome; bytes = r.1.items })) }
+    ensures fault { MatchOption (ticket_refusal port.old ticket) (IsOk result) (λ f. IsErrAnd result (λ e. (e.0 ≡ ticket) × (e.1 ≡ f))) }
+    ensures err { OnErr result (port.new ≡ port.old) }
+{
+    port.journal();
+    let read = port.read_length(ticket.tag);
+    if !suits(read, &ticket.buffer) {
+        return Err((ticket, CollectFault::Stranger));
+    }
+    let (reply, window) = match port.collect(ticket.tag, ticket.number) {
+        Ok(collected) => collected,
+        Err(fault) => return Err((ticket, fault)),
+    };
+    let Ticket { buffer, .. } = ticket;
+    Ok((reply, filled(reply.outcome, &window, buffer)))
+}

@@ -1,0 +1,142 @@
+ghost use Rattle.std.specs.Prelude.{◌≡◌, false, true, ℕ, IfOk, IfErr, OnOk, OnErr, None, ◌<◌};
+ghost use Rattle.ncq_journal.specs.Work.{work_of};
+ghost use Rattle.word_bits.specs.Places.{has_place, with_place, without_place};
+ghost use Rattle.ahci_port.specs.Headline.{Headline};
+ghost use Rattle.ahci_driver.specs.Submitting.{IsNotSubmitted, AllTried, buffer_for, default_refusal};
+
+use crate::chooser::Chooser;
+use crate::collecting::collect_locked;
+use crate::fault::{PumpFault, SubmitFault};
+use crate::pumped::Pumped;
+use crate::pumping::pump_locked;
+use crate::submitting::{prepared, submit_locked};
+use crate::ticket::Ticket;
+use ahci_port::{CollectFault, Port, Reply};
+use ncq_core::Op;
+use std::alloc::{Allocator, Global};
+use std::marker::Model;
+use std::sync::{Mutex, Wait};
+use tag_board::{TagBoard, TagSeat};
+
+/// A port behind a lock, and the board of its free tags, which has none. Contracts see the board.
+#[derive(Drop)]
+pub struct Driver<A: Allocator = Global> {
+    port: Mutex<Port<A>>,
+    board: TagBoard<A>,
+}
+
+impl<A: Allocator> Model for Driver<A> {
+    ghost use Rattle.tag_board.specs.Board.{Board};
+
+    ghost Value = { Board };
+
+    ghost view = { λ d. d.board };
+}
+
+impl<A: Allocator> Driver<A> {
+    /// A driver of a port, with a board of as many tags.
+    pub fn new(port: Port<A>, board: TagBoard<A>) -> Self
+        requires { port.depth ≡ board.depth }
+        ensures { result ≡ board }
+    {
+        Driver {
+            port: Mutex::new(port),
+            board,
+        }
+    }
+
+    /// The port as the last call left it, and the board.
+    pub fn into_parts(self) -> (Port<A>, TagBoard<A>)
+        ensures headline { Headline result.0 }
+        ensures board { result.1 ≡ self }
+    {
+        let Driver { port, board } = self;
+        let port = port.into_inner();
+        port.journal();
+        (port, board)
+    }
+
+    /// The driver's board.
+    pub fn board(&self) -> &TagBoard<A>
+        ensures { result.now ≡ self.now }
+    {
+        &self.board
+    }
+
+    /// Lets the port get on by one call, whatever the chooser answers.
+    ///
+    /// # Errors
+    /// `OutOfMemory` where the port is halted and room for its recovery was refused.
+    pub fn pump<C: Chooser>(&self, rt: &impl Wait, chooser: &mut C) -> Result<Pumped, PumpFault> {
+        pump_locked(&mut self.port.lock(rt), chooser)
+    }
+
+    /// Takes the answer of a request and gives its tag back, once the slot is free. The bytes are those of a finished read,
+    /// and none otherwise.
+    ///
+    /// # Errors
+    /// `Stranger` where the slot has no such request, `NotYet` where it isn't done; the ticket comes back, and the tag stays
+    /// the seat's.
+    pub fn collect(
+        &self,
+        rt: &impl Wait,
+        seat: &mut TagSeat,
+        ticket: Ticket<A>,
+    ) -> Result<(Reply, Vec<u8, A>), (Ticket<A>, CollectFault)>
+        requires seat { seat.old.board ≡ self.now }
+        requires held { has_place seat.old.tags ticket.tag ≡ true }
+        ensures board { seat.new.board ≡ seat.old.board }
+        ensures number { IfOk result (λ r. r.0.number ≡ ticket.number) }
+        ensures tags { IfOk result (λ _. seat.new.tags ≡ without_place seat.old.tags ticket.tag) }
+        ensures err { IfErr result (λ e. (e.0 ≡ ticket) × (seat.new ≡ seat.old)) }
+    {
+        let tag = ticket.tag();
+        let collected = collect_locked(&mut self.port.lock(rt), ticket)?;
+        self.board.give_back(seat, tag);
+        Ok(collected)
+    }
+}
+
+impl<A: Allocator + Clone> Driver<A> {
+    /// Submits a command: a tag is claimed, the window is built over the default pieces and the buffer for the answer is
+    /// reserved before the lock is taken. On a fault the tag is given back.
+    ///
+    /// # Errors
+    /// `NoTag` where each tag was found taken when it was tried; `Build` where no window is built for the command, or memory
+    /// for it or for the buffer was refused; `Issue` where the port didn't issue it.
+    #[tactic(auto, using(crate::proofs::SubmittingLemmas::given_back))]
+    pub fn submit(
+        &self,
+        rt: &impl Wait,
+        alloc: A,
+        seat: &mut TagSeat,
+        op: &Op<A>,
+    ) -> Result<Ticket<A>, SubmitFault>
+        requires { seat.old.board ≡ self.now }
+        ensures board { seat.new.board ≡ seat.old.board }
+        ensures buffer { IfOk result (λ t. t.buffer ≡ buffer_for (work_of op.now)) }
+        ensures built { OnOk result (default_refusal (work_of op.now) ≡ None) }
+        ensures fresh { IfOk result (λ t. has_place seat.old.tags t.tag ≡ false) }
+        ensures gained { IfOk result (λ t. seat.new.tags ≡ with_place seat.old.tags t.tag) }
+        ensures has { IfOk result (λ t. has_place seat.new.tags t.tag ≡ true) }
+        ensures below { IfOk result (λ t. t.tag < self.now.depth) }
+        ensures kept { OnErr result (seat.new.tags ≡ seat.old.tags) }
+        ensures fault { IfErr result (IsNotSubmitted (work_of op.now)) }
+        ensures tried { IfErr result (AllTried self.now.depth seat.old.log seat.new.log) }
+    {
+        let Ok(tag) = self.board.claim(seat) else {
+            return Err(SubmitFault::NoTag);
+        };
+        let fault = match prepared(alloc, tag, op) {
+            Ok((window, buffer)) => {
+                match submit_locked(&mut self.port.lock(rt), window, buffer) {
+                    Ok(ticket) => return Ok(ticket),
+                    Err((_, _, fault)) => SubmitFault::Issue(fault),
+                }
+            }
+            Err(fault) => SubmitFault::Build(fault),
+        };
+        self.board.give_back(seat, tag);
+        Err(fault)
+    }
+}

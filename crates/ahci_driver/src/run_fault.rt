@@ -1,0 +1,19 @@
+use crate::fault::SettleFault;
+
+/// Why a run gave up its port. `NotFresh` and `BadJob` are found before a thread starts, in this order; the others after all
+/// workers have ended, in this order.
+#[derive(Clone, Copy, Debug, PartialEq, Eq)]
+pub enum RunFault {
+    /// The port's journal isn't empty.
+    NotFresh,
+    /// The least job whose command can't be issued: no sectors, too many or not whole ones, or an LBA past 48 bits.
+    BadJob(usize),
+    /// A growth was refused.
+    OutOfMemory,
+    /// The least job that the port refused in a way that the driver's own protocol excludes.
+    Lost(usize),
+    /// The port at the end doesn't have the starting image and the depth of the one handed in.
+    Foreign,
+    /// The run isn't settled.
+    Unsettled(SettleFault),
+}

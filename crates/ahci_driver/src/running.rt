@@ -1,0 +1,283 @@
+ghost use Rattle.std.specs.Prelude.{◌≡◌, ◌≤◌, map, length, vec_len, IfOk, IfErr, IfSome, IsTrue, MatchOption};
+ghost use denote.Param.Send.{IsSync, IsSend, Frees};
+ghost use Rattle.ncq_journal.specs.Work.{work_of};
+ghost use Rattle.tag_board.specs.Board.{Board};
+ghost use Rattle.ahci_driver.specs.Received.{received_of};
+ghost use Rattle.ahci_driver.specs.Settled.{IsSettled};
+ghost use Rattle.ahci_driver.specs.Running.{HasRun, IsFirstBad, IsGivenUp, IsLate, MayRun};
+
+use crate::chooser::Chooser;
+use crate::driver::Driver;
+use crate::fault::SettleFault;
+use crate::gate::Gate;
+use crate::receipt::Receipt;
+use crate::run_fault::RunFault;
+use crate::settling::settle;
+use crate::worker::{Stop, Worker};
+use ahci_port::Port;
+use ncq_core::{Op, is_proper};
+use std::alloc::{AllocError, Allocator, Global};
+use std::sync::Wait;
+use std::sync::atomic::AtomicBool;
+use std::thread;
+use std::thread::Threads;
+use std::vec::IntoIter;
+use tag_board::{TagBoard, TagSeat};
+
+/// A run that is settled: the port as the workers left it, and the receipt of each job, in the order of the jobs.
+#[derive(Drop)]
+pub struct RunEnd<A: Allocator = Global> {
+    pub port: Port<A>,
+    pub replies: Vec<Receipt<A>, A>,
+}
+
+/// The least job whose command can't be issued.
+fn bad_job<A: Allocator>(jobs: &[Op<A>]) -> Option<usize>
+    ensures { IsFirstBad (map work_of jobs.now) result }
+{
+    for (index, job) in jobs.iter().enumerate() {
+        if !is_proper(job) {
+            return Some(index);
+        }
+    }
+    None
+}
+
+/// Why a run isn't begun.
+#[tactic(auto, using(crate::proofs::RunningLemmas::fresh, crate::proofs::RunningLemmas::not_fresh))]
+fn early_fault<A: Allocator>(port: &Port<A>, jobs: &[Op<A>]) -> Option<RunFault>
+    ensures { MatchOption result (MayRun port.now (map work_of jobs.now)) (IsGivenUp port.now (map work_of jobs.now)) }
+{
+    if !port.journal().is_empty() {
+        return Some(RunFault::NotFresh);
+    }
+    match bad_job(jobs) {
+        Some(job) => Some(RunFault::BadJob(job)),
+        None => None,
+    }
+}
+
+/// The workers of a run, each with a seat and a chooser of its own.
+fn crew<'a, A: Allocator + Clone, C: Chooser + Drop, G: Gate>(
+    driver: &'a Driver<A>,
+    mut seat: TagSeat,
+    jobs: &'a [Op<A>],
+    gate: &'a G,
+    flag: &'a AtomicBool,
+    alloc: A,
+    choosers: Vec<C, A>,
+) -> Result<Vec<Worker<'a, A, C, G>, A>, AllocError>
+    requires seat { seat.board ≡ driver.now }
+    requires some { 1 ≤ vec_len choosers }
+{
+    let workers = choosers.len();
+    let mut crew = Vec::new(alloc.clone()?);
+    for (first, chooser) in choosers.into_iter().enumerate() {
+        let own = driver.board().split(&mut seat);
+        crew.push(Worker {
+            driver,
+            jobs,
+            gate,
+            flag,
+            alloc: alloc.clone()?,
+            seat: own,
+            chooser,
+            first,
+            workers,
+        })?;
+    }
+    Ok(crew)
+}
+
+/// The ends of the workers, in their order.
+type Ends<A> = Vec<Result<Vec<Receipt<A>, A>, Stop>, A>;
+
+/// Why the run is given up, where some worker has stopped: want of memory before a lost job, and the least of these.
+fn stopped<A: Allocator>(ends: &[Result<Vec<Receipt<A>, A>, Stop>]) -> Option<RunFault>
+    ensures { IfSome result IsLate }
+{
+    let mut lost = None;
+    for end in ends {
+        match end {
+            Err(Stop::OutOfMemory) => return Some(RunFault::OutOfMemory),
+            Err(Stop::Lost(job)) => lost = Some(lost.map_or(*job, |least: usize| least.min(*job))),
+            Err(Stop::Told) | Ok(_) => {}
+        }
+    }
+    lost.map(RunFault::Lost)
+}
+
+/// The receipts of all jobs in the order of the jobs, of which job i is that of worker i mod `workers`.
+fn in_order<A: Allocator + Clone>(
+    alloc: A,
+    ends: Ends<A>,
+    jobs: usize,
+    workers: usize,
+) -> Result<Vec<Receipt<A>, A>, AllocError>
+    requires { 1 ≤ workers }
+{
+    let mut piles = Vec::new(alloc.clone()?);
+    for end in ends {
+        if let Ok(receipts) = end {
+            piles.push(receipts.into_iter())?;
+        }
+    }
+    let mut replies = Vec::with_capacity(alloc, jobs)?;
+    for job in 0..jobs {
+        if let Some(pile) = piles.get_mut(job % workers) {
+            if let Some(receipt) = pile.next() {
+                replies.push(receipt)?;
+            }
+        }
+    }
+    Ok(replies)
+}
+
+/// Puts the port behind a driver, lets the workers do the jobs, and takes it out again.
+fn worked<R, G, C, A>(
+    rt: &R,
+    alloc: A,
+    port: Port<A>,
+    jobs: &[Op<A>],
+    choosers: Vec<C, A>,
+    gate: &G,
+) -> Result<(Port<A>, Ends<A>), AllocError>
+where
+    R: Threads + Wait + Sync,
+    G: Gate,
+    C: Chooser + Send + Drop,
+    A: Allocator + Clone + Send + Sync,
+    requires { 1 ≤ vec_len choosers }
+{
+    port.shape();
+    let depth = port.depth();
+    let Ok((board, seat)) = TagBoard::new(alloc.clone()?, depth) else {
+        return Err(AllocError);
+    };
+    let driver = Driver::new(port, board);
+    let flag = AtomicBool::new(false);
+    let crew = crew(&driver, seat, jobs, gate, &flag, alloc, choosers)?;
+    let ends = thread::map_vec(rt, crew, &|worker: Worker<A, C, G>| worker.work(rt))?;
+    let (port, _board) = driver.into_parts();
+    Ok((port, ends))
+}
+
+/// What a run ends with: the first reason to give it up, or the receipts, once they are settled.
+fn ended<A: Allocator + Clone>(
+    alloc: A,
+    port: Port<A>,
+    handed: &Handed<A>,
+    ends: Ends<A>,
+    jobs: &[Op<A>],
+    workers: u32,
+) -> Result<RunEnd<A>, RunFault>
+    requires { 1 ≤ workers }
+    ensures starting { IfOk result (λ end. end.port.starting ≡ handed.now.starting.items) }
+    ensures depth { IfOk result (λ end. end.port.depth ≡ handed.now.depth) }
+    ensures settled { IfOk result (λ end. IsSettled end.port (map work_of jobs.now) (map received_of end.replies.items) workers) }
+    ensures late { IfErr result IsLate }
+{
+    if let Some(fault) = stopped(&ends) {
+        return Err(fault);
+    }
+    let Ok(own) = alloc.clone() else {
+        return Err(RunFault::OutOfMemory);
+    };
+    let Ok(replies) = in_order(own, ends, jobs.len(), workers as usize) else {
+        return Err(RunFault::OutOfMemory);
+    };
+    if !is_still(&port, handed) {
+        return Err(RunFault::Foreign);
+    }
+    match settle(alloc, &port, jobs, &replies, workers) {
+        Ok(()) => Ok(RunEnd { port, replies }),
+        Err(SettleFault::OutOfMemory) => Err(RunFault::OutOfMemory),
+        Err(fault) => Err(RunFault::Unsettled(fault)),
+    }
+}
+
+/// What a run keeps of the port that it was handed.
+#[derive(Drop)]
+struct Handed<A: Allocator> {
+    starting: Vec<u8, A>,
+    depth: u32,
+}
+
+/// Whether the port has the starting image and the depth of the one that was handed in.
+fn is_still<A: Allocator>(port: &Port<A>, handed: &Handed<A>) -> bool
+    ensures starting { IsTrue result → port.now.starting ≡ handed.now.starting.items }
+    ensures depth { IsTrue result → port.now.depth ≡ handed.now.depth }
+{
+    port.depth() == handed.depth && port.starting_image() == handed.starting.as_slice()
+}
+
+/// A copy of what a run keeps.
+fn kept<A: Allocator>(alloc: A, port: &Port<A>) -> Result<Handed<A>, AllocError>
+    ensures starting { IfOk result (λ k. k.starting.items ≡ port.now.starting) }
+    ensures depth { IfOk result (λ k. k.depth ≡ port.now.depth) }
+{
+    let starting = Vec::from_slice(alloc, port.starting_image())?;
+    let depth = port.depth();
+    Ok(Handed { starting, depth })
+}
+
+/// Keeps what is to be kept of the port, and lets the workers do the jobs.
+fn begun<R, G, C, A>(
+    rt: &R,
+    alloc: A,
+    port: Port<A>,
+    jobs: &[Op<A>],
+    choosers: Vec<C, A>,
+    gate: &G,
+) -> Result<(Handed<A>, Port<A>, Ends<A>), AllocError>
+where
+    R: Threads + Wait + Sync,
+    G: Gate,
+    C: Chooser + Send + Drop,
+    A: Allocator + Clone + Send + Sync,
+    requires { 1 ≤ vec_len choosers }
+    ensures starting { IfOk result (λ r. r.0.starting.items ≡ port.starting) }
+    ensures depth { IfOk result (λ r. r.0.depth ≡ port.depth) }
+{
+    let handed = kept(alloc.clone()?, &port)?;
+    let (port, ends) = worked(rt, alloc, port, jobs, choosers, gate)?;
+    Ok((handed, port, ends))
+}
+
+/// Does all jobs on a fresh port, job i by worker i mod `workers`, each worker in rising order with one request at a time,
+/// on threads of their own where they can be made. Where it answers Ok, the port is over the same starting image with as
+/// many slots, and the run is settled, whatever the threads and the choosers did.
+///
+/// # Errors
+/// The first case of `RunFault` that holds; the port is given up.
+pub fn run<R, G, C, A>(
+    rt: &R,
+    alloc: A,
+    port: Port<A>,
+    jobs: &[Op<A>],
+    workers: u32,
+    choosers: Vec<C, A>,
+    gate: &G,
+) -> Result<RunEnd<A>, RunFault>
+where
+    R: Threads + Wait + Sync,
+    G: Gate,
+    C: Chooser + Send + Drop,
+    A: Allocator + Clone + Send + Sync,
+    requires some { 1 ≤ workers }
+    requires most { workers ≤ 32 }
+    requires choosers { vec_len choosers ≡ workers }
+    ensures ok { IfOk result (λ end. HasRun port end.port (map work_of jobs.now) (map received_of end.replies.items) workers) }
+    ensures fault { IfErr result (IsGivenUp port (map work_of jobs.now)) }
+{
+    if let Some(fault) = early_fault(&port, jobs) {
+        return Err(fault);
+    }
+    let Ok(own) = alloc.clone() else {
+        return Err(RunFault::OutOfMemory);
+    };
+    let Ok((handed, port, ends)) = begun(rt, own, port, jobs, choosers, gate) else {
+        return Err(RunFault::OutOfMemory);
+    };
+    ended(alloc, port, &handed, ends, jobs, workers)
+}

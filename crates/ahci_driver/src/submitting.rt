@@ -1,0 +1,76 @@
+ghost use Rattle.std.specs.Prelude.{◌≡◌, ◌<◌, ◌≤◌, length, None, IfOk, IfErr, OnOk};
+ghost use Rattle.ncq_journal.specs.Work.{work_of, sectors_of};
+ghost use Rattle.ahci_table.specs.Build.{Carries};
+ghost use Rattle.ahci_table.specs.Defaults.{default_list};
+ghost use Rattle.ahci_table.specs.Fit.{IsFit};
+ghost use Rattle.ahci_port.specs.Faults.{MayTake, RefusesIssue};
+ghost use Rattle.ahci_port.specs.Steps.{IsIssued};
+ghost use Rattle.ahci_driver.specs.Submitting.{IsNotBuilt, buffer_for, default_refusal};
+
+use crate::ticket::Ticket;
+use ahci_port::{IssueFault, Port};
+use ahci_table::{BuildFault, Window, default_pieces};
+use ncq_core::Op;
+use std::alloc::{AllocError, Allocator};
+
+/// What `submit` does once it has the lock: the window is issued, and the ticket has its tag, the request's number, and the
+/// buffer for its answer.
+///
+/// # Errors
+/// Those of `Port::issue`; window and buffer come back as they were.
+pub fn submit_locked<A: Allocator + Clone>(
+    port: &mut Port<A>,
+    window: Window<A>,
+    buffer: Vec<u8, A>,
+) -> Result<Ticket<A>, (Window<A>, Vec<u8, A>, IssueFault)>
+    ensures ticket { IfOk result (λ t. t ≡ record { tag = window.tag; number = length port.old.past; buffer = buffer.items }) }
+    ensures issued { OnOk result (IsIssued window port.old port.new) }
+    ensures taken { OnOk result (MayTake port.old window.tag × IsFit window) }
+    ensures fault { IfErr result (λ e. RefusesIssue port.old window e.2) }
+    ensures err { IfErr result (λ e. (e.0 ≡ window) × (e.1.items ≡ buffer.items) × (port.new ≡ port.old)) }
+{
+    let tag = window.tag();
+    match port.issue(window) {
+        Ok(number) => Ok(Ticket {
+            tag,
+            number,
+            buffer,
+        }),
+        Err((window, fault)) => Err((window, buffer, fault)),
+    }
+}
+
+/// The window of a command over the default pieces, and the buffer for its answer.
+#[tactic(auto, using(crate::proofs::SubmittingLemmas::capped))]
+pub(crate) fn prepared<A: Allocator + Clone>(
+    alloc: A,
+    tag: u8,
+    op: &Op<A>,
+) -> Result<(Window<A>, Vec<u8, A>), BuildFault>
+    requires { tag < 32 }
+    ensures carries { IfOk result (λ made. Carries tag (work_of op.now) (default_list (sectors_of (work_of op.now))) made.0) }
+    ensures buffer { IfOk result (λ made. made.1.items ≡ buffer_for (work_of op.now)) }
+    ensures built { OnOk result (default_refusal (work_of op.now) ≡ None) }
+    ensures fault { IfErr result (IsNotBuilt (work_of op.now)) }
+{
+    let sectors = op.sectors().min(u64::from(u32::MAX)) as u32;
+    let spare: Result<A, AllocError> = alloc.clone();
+    let window = Window::build(alloc, tag, op, &default_pieces(sectors))?;
+    let Ok(spare) = spare else {
+        return Err(BuildFault::OutOfMemory);
+    };
+    match buffer_for(spare, op) {
+        Ok(buffer) => Ok((window, buffer)),
+        Err(_) => Err(BuildFault::OutOfMemory),
+    }
+}
+
+/// As many zeros as a command reads bytes.
+fn buffer_for<A: Allocator>(alloc: A, op: &Op<A>) -> Result<Vec<u8, A>, AllocError>
+    ensures { IfOk result (λ v. v.items ≡ buffer_for (work_of op.now)) }
+{
+    match op {
+        Op::Read { sectors, .. } => Vec::from_elem(alloc, 0, *sectors as usize * 512),
+        Op::Write { .. } => Ok(Vec::new(alloc)),
+    }
+}

@@ -1,0 +1,160 @@
+ghost use Rattle.std.specs.Prelude.{◌≡◌, ◌≤◌, true, IfOk};
+ghost use Rattle.word_bits.specs.Places.{has_place};
+
+use crate::chooser::Chooser;
+use crate::driver::Driver;
+use crate::fault::SubmitFault;
+use crate::gate::Gate;
+use crate::pumped::Pumped;
+use crate::receipt::Receipt;
+use crate::ticket::Ticket;
+use ahci_port::{CollectFault, IssueFault, Reply};
+use ahci_table::BuildFault;
+use ncq_core::{Bytes, Op};
+use std::alloc::Allocator;
+use std::sync::Wait;
+use std::sync::atomic::AtomicBool;
+use std::sync::atomic::Ordering::SeqCst;
+use std::thread;
+use tag_board::TagSeat;
+
+/// Why a worker ended before its last job.
+#[derive(Clone, Copy, Debug, PartialEq, Eq, Drop)]
+pub(crate) enum Stop {
+    /// A growth was refused.
+    OutOfMemory,
+    /// The port refused this job in a way that the driver's own protocol excludes.
+    Lost(usize),
+    /// Another worker has raised the flag.
+    Told,
+}
+
+/// One worker of a run: job i is that of worker i mod `workers`.
+#[derive(Drop)]
+pub(crate) struct Worker<'a, A: Allocator, C, G> {
+    pub(crate) driver: &'a Driver<A>,
+    pub(crate) jobs: &'a [Op<A>],
+    pub(crate) gate: &'a G,
+    /// Raised by the first worker that has to stop.
+    pub(crate) flag: &'a AtomicBool,
+    pub(crate) alloc: A,
+    pub(crate) seat: TagSeat,
+    pub(crate) chooser: C,
+    pub(crate) first: usize,
+    pub(crate) workers: usize,
+    ghost own: { seat.board ≡ driver.now },
+    ghost some: { 1 ≤ workers },
+}
+
+/// Why a worker stops at a job that was not submitted; none, where it is to be tried again.
+fn stop_at(fault: SubmitFault, job: usize) -> Option<Stop> {
+    match fault {
+        SubmitFault::NoTag => None,
+        SubmitFault::Issue(IssueFault::Halted | IssueFault::SlotOwned) => None,
+        SubmitFault::Build(BuildFault::OutOfMemory) | SubmitFault::Issue(IssueFault::OutOfMemory) =>
+            Some(Stop::OutOfMemory),
+        SubmitFault::Build(_) | SubmitFault::Issue(_) => Some(Stop::Lost(job)),
+    }
+}
+
+impl<'a, A: Allocator + Clone, C: Chooser, G: Gate> Worker<'a, A, C, G> {
+    /// Does the worker's jobs in rising order, one at a time. Who stops raises the flag.
+    pub(crate) fn work<R: Wait>(mut self, rt: &R) -> Result<Vec<Receipt<A>, A>, Stop>
+    where
+        C: Drop,
+    {
+        let done = self.all(rt);
+        if done.is_err() {
+            self.flag.store(true, SeqCst);
+        }
+        done
+    }
+
+    /// The receipts of the worker's jobs, in order.
+    fn all<R: Wait>(&mut self, rt: &R) -> Result<Vec<Receipt<A>, A>, Stop> {
+        let Ok(alloc) = self.alloc.clone() else {
+            return Err(Stop::OutOfMemory);
+        };
+        let mut receipts = Vec::new(alloc);
+        let jobs = self.jobs;
+        for (job, op) in jobs.iter().enumerate() {
+            if job % self.workers != self.first {
+                continue;
+            }
+            let receipt = self.one(rt, job, op)?;
+            let Ok(()) = receipts.push(receipt) else {
+                return Err(Stop::OutOfMemory);
+            };
+        }
+        Ok(receipts)
+    }
+
+    /// Does one job, from its submission to its answer.
+    fn one<R: Wait>(&mut self, rt: &R, job: usize, op: &Op<A>) -> Result<Receipt<A>, Stop> {
+        self.gate.before(job);
+        let ticket = self.submitted(rt, job, op)?;
+        let (reply, bytes) = self.answered(rt, job, ticket)?;
+        self.gate.after(job);
+        let bytes = Bytes::from_vec(bytes);
+        Ok(Receipt { reply, bytes })
+    }
+
+    /// Submits a job until it is taken, with one pump between two tries.
+    fn submitted<R: Wait>(&mut self, rt: &R, job: usize, op: &Op<A>) -> Result<Ticket<A>, Stop>
+        ensures { IfOk result (λ t. has_place self.new.seat.tags t.tag ≡ true) }
+    {
+        for _ in rt.forever() {
+            if self.flag.load(SeqCst) {
+                return Err(Stop::Told);
+            }
+            let Ok(alloc) = self.alloc.clone() else {
+                return Err(Stop::OutOfMemory);
+            };
+            match self.driver.submit(rt, alloc, &mut self.seat, op) {
+                Ok(ticket) => return Ok(ticket),
+                Err(fault) => {
+                    if let Some(stop) = stop_at(fault, job) {
+                        return Err(stop);
+                    }
+                }
+            }
+            self.pump(rt)?;
+        }
+        unreachable!()
+    }
+
+    /// Collects a job's answer once it is there, with one pump between two tries.
+    fn answered<R: Wait>(
+        &mut self,
+        rt: &R,
+        job: usize,
+        mut ticket: Ticket<A>,
+    ) -> Result<(Reply, Vec<u8, A>), Stop>
+        requires { has_place self.old.seat.tags ticket.tag ≡ true }
+    {
+        for _ in rt.forever() {
+            if self.flag.load(SeqCst) {
+                return Err(Stop::Told);
+            }
+            match self.driver.collect(rt, &mut self.seat, ticket) {
+                Ok(collected) => return Ok(collected),
+                Err((_, CollectFault::Stranger)) => return Err(Stop::Lost(job)),
+                Err((waiting, CollectFault::NotYet)) => ticket = waiting,
+            }
+            self.pump(rt)?;
+        }
+        unreachable!()
+    }
+
+    /// Lets the port get on. A worker that finds nothing to do lets others go first.
+    fn pump<R: Wait>(&mut self, rt: &R) -> Result<(), Stop>
+        ensures { self.new.seat ≡ self.old.seat }
+    {
+        match self.driver.pump(rt, &mut self.chooser) {
+            Ok(Pumped::Idle) => thread::yield_now(),
+            Ok(_) => {}
+            Err(_) => return Err(Stop::OutOfMemory),
+        }
+        Ok(())
+    }
+}

@@ -1,0 +1,117 @@
+//! What the tests share: commands, ports and choosers.
+ghost use Rattle.std.specs.Prelude.{◌≡◌, ◌≤◌, vec_len, IfOk};
+
+use ahci_driver::{Chooser, High, Low, Receipt};
+use ahci_port::DeviceStep;
+use ncq_core::{Bytes, Op};
+use std::alloc::{AllocError, Global};
+use std::process::Abort;
+
+/// A job of one sector: its LBA, and the byte of a write.
+#[derive(Clone, Copy, Debug)]
+pub enum Job {
+    Read(u64),
+    Write(u64, u8),
+}
+
+/// The command of a job.
+pub fn op_of(alloc: Global, job: Job) -> Result<Op, AllocError> {
+    match job {
+        Job::Read(lba) => Ok(Op::Read { lba, sectors: 1 }),
+        Job::Write(lba, byte) => {
+            let bytes = Bytes::from_vec(vec![in alloc; byte; 512]?);
+            Ok(Op::Write { lba, bytes })
+        }
+    }
+}
+
+/// The commands of jobs.
+pub fn ops_of(alloc: Global, jobs: &[Job]) -> Result<Vec<Op>, AllocError> {
+    let mut ops = Vec::new(alloc);
+    for job in jobs {
+        ops.push(op_of(alloc, *job)?)?;
+    }
+    Ok(ops)
+}
+
+/// As many of one chooser.
+pub fn crowd(alloc: Global, one: Way, workers: u32) -> Result<Vec<Way>, AllocError>
+    ensures { IfOk result (λ v. vec_len v ≡ workers) }
+{
+    let mut choosers = Vec::new(alloc);
+    for _i in 0..workers {
+        choosers.push(one)?;
+    }
+    Ok(choosers)
+}
+
+/// How a chooser goes about it.
+#[derive(Clone, Copy, Debug, Drop)]
+pub enum Way {
+    Lowest,
+    Highest,
+    /// It knows one step.
+    Always(DeviceStep),
+    /// As the lowest, but that its second call fails tag 0 at sector 0; with the calls so far.
+    FailsSecond(u8),
+    /// Any step of any tag, by a generator with this state.
+    Random(u64),
+}
+
+impl Chooser for Way {
+    fn next(&mut self, issued: u32, accepted: u32) -> DeviceStep {
+        match self {
+            Way::Lowest => Low.next(issued, accepted),
+            Way::Highest => High.next(issued, accepted),
+            Way::Always(step) => *step,
+            Way::FailsSecond(calls) => {
+                *calls = calls.saturating_add(1);
+                if *calls == 2 {
+                    return DeviceStep::Fail {
+                        tag: 0,
+                        error: 0x40,
+                        at: 0,
+                    };
+                }
+                Low.next(issued, accepted)
+            }
+            Way::Random(state) => {
+                *state = state
+                    .wrapping_mul(6_364_136_223_846_793_005)
+                    .wrapping_add(1);
+                random_step(*state >> 32)
+            }
+        }
+    }
+}
+
+/// A step made of the low bits of a number.
+fn random_step(bits: u64) -> DeviceStep {
+    let tag = (bits % 33) as u8;
+    match bits / 64 % 5 {
+        0 | 1 => DeviceStep::Accept(tag),
+        2 | 3 => DeviceStep::Serve(tag),
+        _ => DeviceStep::Fail {
+            tag,
+            error: 0x40,
+            at: bits / 512 % 9,
+        },
+    }
+}
+
+/// Whether so many bytes are all the same one.
+pub fn is_filled(bytes: &[u8], len: usize, byte: u8) -> bool {
+    bytes.len() == len && bytes.iter().all(|b| *b == byte)
+}
+
+/// Whether a receipt has one sector of this byte.
+pub fn has_sector(receipts: &[Receipt], index: usize, byte: u8) -> bool {
+    match receipts.get(index) {
+        Some(receipt) => is_filled(receipt.bytes.as_slice(), 512, byte),
+        None => false,
+    }
+}
+
+pub fn holds(rt: &impl Abort, what: &str, fact: bool) {
+    assert!(rt; fact, "{what}");
+}

@@ -1,0 +1,187 @@
+//! One thread with one seat: the worked story of a write and a read.
+ghost use Rattle.std.specs.Prelude.{◌≡◌};
+
+use crate::common::{Job, Way, is_filled, op_of};
+use ahci_driver::{Driver, Low, Pumped, SubmitFault, TagBoard, TagSeat, Ticket};
+use ahci_port::{CollectFault, DeviceStep, Outcome, Port, Reply, Stepped};
+use std::alloc::{AllocError, Global};
+use std::process::Abort;
+use std::sync::Wait;
+use std::test::Fail;
+use word_bits::is_set;
+
+/// A call of the driver.
+#[derive(Clone, Copy, Debug)]
+enum Call {
+    Submit(Job),
+    /// With a chooser that always answers `Accept(255)`.
+    Stubborn,
+    /// With `Low`.
+    Pump,
+    Collect,
+    FreeNow,
+}
+
+/// What it answers.
+#[derive(Clone, Copy, Debug, PartialEq, Eq)]
+enum Said {
+    Ticket(u8, u64),
+    Refused(SubmitFault),
+    Pumped(Pumped),
+    /// The reply, how many bytes came, and the first of them.
+    Collected(Reply, usize, Option<u8>),
+    Waits(CollectFault),
+    Free(u32),
+    Nothing,
+}
+
+/// A driver with one seat, and the ticket that waits.
+#[derive(Drop)]
+struct Story {
+    driver: Driver,
+    seat: TagSeat,
+    ticket: Option<Ticket>,
+    ghost own: { seat.board ≡ driver },
+}
+
+impl Story {
+    fn goes<R: Wait>(&mut self, rt: &R, alloc: Global, call: Call) -> Result<Said, AllocError> {
+        Ok(match call {
+            Call::Submit(job) => {
+                let op = op_of(alloc, job)?;
+                match self.driver.submit(rt, alloc, &mut self.seat, &op) {
+                    Ok(ticket) => {
+                        let said = Said::Ticket(ticket.tag(), ticket.number());
+                        self.ticket = Some(ticket);
+                        said
+                    }
+                    Err(fault) => Said::Refused(fault),
+                }
+            }
+            Call::Stubborn => {
+                let mut chooser = Way::Always(DeviceStep::Accept(255));
+                self.driver
+                    .pump(rt, &mut chooser)
+                    .map_or(Said::Nothing, Said::Pumped)
+            }
+            Call::Pump => self
+                .driver
+                .pump(rt, &mut Low)
+                .map_or(Said::Nothing, Said::Pumped),
+            Call::Collect => self.collects(rt),
+            Call::FreeNow => Said::Free(self.driver.board().free_now(&mut self.seat)),
+        })
+    }
+
+    fn collects<R: Wait>(&mut self, rt: &R) -> Said {
+        let Some(ticket) = self.ticket.take() else {
+            return Said::Nothing;
+        };
+        if !is_set(self.seat.held(), ticket.tag()) {
+            return Said::Nothing;
+        }
+        match self.driver.collect(rt, &mut self.seat, ticket) {
+            Ok((reply, bytes)) => {
+                let first = bytes.first().copied();
+                let whole = is_filled(&bytes, 512, first.unwrap_or(0)) || bytes.is_empty();
+                let len = if whole { bytes.len() } else { 1 };
+                Said::Collected(reply, len, first)
+            }
+            Err((ticket, fault)) => {
+                self.ticket = Some(ticket);
+                Said::Waits(fault)
+            }
+        }
+    }
+}
+
+static STORY: [(Call, Said); 13] = [
+    (Call::Submit(Job::Write(1, 0x77)), Said::Ticket(0, 0)),
+    (Call::Collect, Said::Waits(CollectFault::NotYet)),
+    (
+        Call::Stubborn,
+        Said::Pumped(Pumped::Stepped(Stepped::Accepted(1))),
+    ),
+    (
+        Call::Stubborn,
+        Said::Pumped(Pumped::Stepped(Stepped::Completed(2))),
+    ),
+    (Call::Stubborn, Said::Pumped(Pumped::Idle)),
+    (
+        Call::Collect,
+        Said::Collected(
+            Reply {
+                number: 0,
+                entry: 2,
+                outcome: Outcome::Wrote,
+            },
+            0,
+            None,
+        ),
+    ),
+    (Call::FreeNow, Said::Free(3)),
+    (Call::Submit(Job::Read(1)), Said::Ticket(0, 4)),
+    (
+        Call::Pump,
+        Said::Pumped(Pumped::Stepped(Stepped::Accepted(5))),
+    ),
+    (
+        Call::Pump,
+        Said::Pumped(Pumped::Stepped(Stepped::Completed(6))),
+    ),
+    (Call::Pump, Said::Pumped(Pumped::Idle)),
+    (
+        Call::Collect,
+        Said::Collected(
+            Reply {
+                number: 4,
+                entry: 6,
+                outcome: Outcome::Read,
+            },
+            512,
+            Some(0x77),
+        ),
+    ),
+    (Call::FreeNow, Said::Free(3)),
+];
+
+fn equal(rt: &impl Abort, call: Call, found: Said, wanted: Said) {
+    assert!(rt;
+        found == wanted,
+        "{call:?} answers {found:?}, not {wanted:?}"
+    );
+}
+
+fn one_driver(alloc: Global) -> Result<Story, Fail> {
+    let image = vec![in alloc; 0x5a; 4096]?;
+    let port = Port::new(alloc, image, 2)?;
+    let (board, seat) = TagBoard::new(alloc, 2)?;
+    Ok(Story {
+        driver: Driver::new(port, board),
+        seat,
+        ticket: None,
+    })
+}
+
+#[test]
+fn a_write_is_read_back_by_one_seat(rt: HostRuntime) -> Result<(), Fail> {
+    let mut story = one_driver(rt.alloc())?;
+    for (call, wanted) in STORY {
+        equal(&rt, call, story.goes(&rt, rt.alloc(), call)?, wanted);
+    }
+    let Story {
+        driver,
+        seat,
+        ticket: _,
+    } = story;
+    let (port, board) = driver.into_parts();
+    assert!(rt; board.close(seat) == 3);
+    assert!(rt; port.journal().len() == 8);
+    let mut sector = [0; 512];
+    assert!(rt; port.sectors() == 8);
+    port.starting(1, &mut sector);
+    assert!(rt; is_filled(&sector, 512, 0x5a));
+    port.copy(0, &mut sector);
+    assert!(rt; is_filled(&sector, 512, 0x5a));
+    Ok(())
+}
