@@ -1,5 +1,5 @@
 -- What a port keeps is the headline.
-use Rattle.std.proofs.Common.{◌≡◌, ℕ, ◌/◌, Bool, true, false, not, ◌&&◌, cond, List, length, ap, sym, refl, subst, ◌∙◌, Option, None, Some, is_some, IsSomeAnd, arith}
+use Rattle.std.proofs.Common.{◌≡◌, ℕ, ◌/◌, ◌≤◌, Bool, true, false, not, ◌&&◌, cond, List, length, ap, sym, refl, subst, ◌∙◌, Option, None, Some, is_some, IsSomeAnd, arith}
 use Rattle.std.specs.Option.{option_map}
 use Rattle.std.proofs.lemmas.Bool.{true≢false}
 use Rattle.std.proofs.lemmas.List.{length-map}
@@ -10,7 +10,7 @@ use Rattle.ahci_table.specs.Window.{WindowState}
 use Rattle.ncq_journal.specs.declared.outcome.Outcome.{Outcome}
 use Rattle.ncq_journal.specs.declared.outcome.Outcome.TheVariants as outcome
 use Rattle.ncq_journal.specs.Answer.{Answer}
-use Rattle.ncq_core.specs.DiskState.{DiskState, outstanding}
+use Rattle.ncq_core.specs.DiskState.{IsDisk, DiskState, outstanding}
 use Rattle.ncq_journal.specs.Entry.{Entry}
 use Rattle.ncq_journal.specs.Halted.{halted}
 use Rattle.ncq_journal.specs.Laws.{is_answered}
@@ -88,13 +88,14 @@ headline_of starting disk regs sent area slots headers past free k = record {
 
 pub shape_of : (starting : List ℕ) (disk : DiskState) (regs : PortState) (sent : Sent) (area : List ℕ) (slots : List (Option SlotState))
   (headers : List (List ℕ)) (past : List Entry) (free : ℕ)
-  → Keeps starting disk regs slots headers past free → HasShape (view_of starting disk regs sent area slots past)
-shape_of starting disk regs sent area slots headers past free k = record {
+  → Keeps starting disk regs slots headers past free → IsDisk disk → HasShape (view_of starting disk regs sent area slots past)
+shape_of starting disk regs sent area slots headers past free k d = record {
   some = k.some_slot;
   most = k.shallow;
   registers = k.tracks.depth_is;
   windows = length-map slots window_in ∙ k.slot_count;
   whole = k.whole;
+  least = subst (λ n. 1 ≤ n / 512) k.same_size d.least;
   few = k.few;
   size = k.same_size;
 }

@@ -43,5 +43,6 @@ pub record HasShape (port : PortView) : Type 0 where
   pub registers : port.registers.depth ≡ port.depth
   pub windows : length port.windows ≡ port.depth
   pub whole : length port.starting ≡ 512 * sectors_in port
+  pub least : 1 ≤ sectors_in port
   pub few : sectors_in port ≤ most_disk_sectors
   pub size : length port.image ≡ length port.starting

@@ -81,7 +81,7 @@ impl<A: Allocator> Port<A> {
         &self.unqueued.sent
     }
 
-    /// Shows what every port has: 1 to 32 slots and at most 131,072 sectors, all whole. It does nothing.
+    /// Shows what every port has: 1 to 32 slots and 1 to 131,072 sectors, all whole. It does nothing.
     pub fn shape(&self)
         ensures { HasShape self.now }
     {
