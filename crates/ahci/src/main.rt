@@ -1,6 +1,13 @@
 //! `ahci`: a reference model of one AHCI port, run by scripts.
 #![tactic(auto)]
 
+ghost use Rattle.std.specs.Prelude.{◌≡◌, ◌⊎◌, map};
+ghost use Rattle.std.specs.Process.{exit_status};
+ghost use Rattle.std.specs.String.{string_bytes};
+ghost use Rattle.ahci.specs.Ending.{EndsFor, Explains, IsScriptStatus, script_status};
+ghost use Rattle.ahci_replay.specs.Fault.{status_of};
+ghost use Rattle.clap.specs.Words.{kind_of};
+
 use ahci_cli::{Asked, CliFault, asked, not_text, replay};
 use clap::error::ErrorKind;
 use std::io;
@@ -11,14 +18,9 @@ const USAGE: u8 = 2;
 
 fn main(rt: HostRuntime) -> ExitCode {
     match words(&rt) {
-        Err(ArgsFault::NotText) => match not_text(rt.alloc()) {
-            Ok(error) | Err(error) => explain(&rt, &error),
-        },
+        Err(ArgsFault::NotText) => explain_not_text(&rt),
         Err(ArgsFault::OutOfMemory) => fail(&rt, CliFault::OutOfMemory),
-        Ok(words) => match asked(rt.alloc(), words.as_slice()) {
-            Ok(Asked::Replay) => run(&rt),
-            Err(error) => explain(&rt, &error),
-        },
+        Ok(words) => answer(&rt, words.as_slice()),
     }
 }
 
@@ -40,23 +42,57 @@ fn words(rt: &HostRuntime) -> Result<Vec<String>, ArgsFault> {
     }
 }
 
+/// Does what the words ask for.
+fn answer(rt: &HostRuntime, words: &[String]) -> ExitCode
+    ensures { EndsFor (map string_bytes words.now) (exit_status result) }
+{
+    match asked(rt.alloc(), words) {
+        Ok(Asked::Replay) => run(rt),
+        Err(error) => explain(rt, &error),
+    }
+}
+
 /// Runs the script on standard input.
-fn run(rt: &HostRuntime) -> ExitCode {
-    match replay(rt.alloc(), &mut rt.stdin(), &mut rt.stdout()) {
+fn run(rt: &HostRuntime) -> ExitCode
+    ensures { IsScriptStatus (exit_status result) }
+{
+    end(rt, replay(rt.alloc(), &mut rt.stdin(), &mut rt.stdout()))
+}
+
+/// Ends a script.
+fn end(rt: &HostRuntime, outcome: Result<(), CliFault>) -> ExitCode
+    ensures status { exit_status result ≡ script_status outcome }
+    ensures script { IsScriptStatus (exit_status result) }
+{
+    match outcome {
         Ok(()) => ExitCode::SUCCESS,
         Err(fault) => fail(rt, fault),
     }
 }
 
 /// Says what went wrong.
-fn fail(rt: &HostRuntime, fault: CliFault) -> ExitCode {
+fn fail(rt: &HostRuntime, fault: CliFault) -> ExitCode
+    ensures status { exit_status result ≡ status_of fault }
+    ensures script { IsScriptStatus (exit_status result) }
+{
     let _ = rt.eprintln(fault);
     ExitCode::from(fault.status())
 }
 
+/// Says that an argument isn't text.
+fn explain_not_text(rt: &HostRuntime) -> ExitCode
+    ensures { (exit_status result ≡ 2) ⊎ (exit_status result ≡ 3) }
+{
+    match not_text(rt.alloc()) {
+        Ok(error) | Err(error) => explain(rt, &error),
+    }
+}
+
 /// Prints what the command line's parser has to say: help and the version on standard output, a
 /// wrong command line on standard error.
-fn explain(rt: &HostRuntime, error: &clap::Error) -> ExitCode {
+fn explain(rt: &HostRuntime, error: &clap::Error) -> ExitCode
+    ensures { Explains (kind_of error.now) (exit_status result) }
+{
     if error.kind() == ErrorKind::OutOfMemory {
         return fail(rt, CliFault::OutOfMemory);
     }
