@@ -23,12 +23,14 @@ on_err (Ok x) P p = tt
 on_err (Err e) P p = p
 
 -- a call that the port carried out
-pub carried_out : {F : Type 0} (T : Type 0) (x : T) (o : Option F) (show : F → Refusal) (old new : PortView) (said : Said) (Done : Type 0) → Answers {T = T} {E = F} (Ok x) o → Done → RefusedOr (option_map show o) old new said Done
+pub carried_out : {F : Type 0} (T : Type 0) (x : T) (o : Option F) (show : F → Refusal) (old new : PortView) (said : Said) (Done : Type 0)
+  → Answers {T = T} {E = F} (Ok x) o → Done → RefusedOr (option_map show o) old new said Done
 carried_out T x None show old new said Done is done = done
 carried_out T x (Some f) show old new said Done is done = cc
 
 -- a call that the port refused
-pub refused : {F : Type 0} (T : Type 0) (f : F) (o : Option F) (show : F → Refusal) (q : Refusal) (old new : PortView) (Done : Type 0) → Answers {T = T} {E = F} (Err f) o → q ≡ show f → new ≡ old → RefusedOr (option_map show o) old new (says.Refused q) Done
+pub refused : {F : Type 0} (T : Type 0) (f : F) (o : Option F) (show : F → Refusal) (q : Refusal) (old new : PortView) (Done : Type 0)
+  → Answers {T = T} {E = F} (Err f) o → q ≡ show f → new ≡ old → RefusedOr (option_map show o) old new (says.Refused q) Done
 refused T f None show q old new Done is named same = cc
 refused T f (Some g) show q old new Done is named same =
     let inner : f ≡ g = cc in (same, ap says.Refused (named ∙ ap show inner))
@@ -49,4 +51,5 @@ pub collects : (T : Type 0) (x : T) (tag number : ℕ) (old new : PortView) (out
     → answer old.starting old.past number ≡ Some (record { entry = entry; outcome = outcome; bytes = bytes }) → IsCollected tag old new → said ≡ outcome_said outcome entry bytes
     → RefusedOr (option_map of_collect (collect_refusal old tag number)) old new said (HasCollected tag number old new said)
 collects T x tag number old new outcome entry bytes said taken is collected told =
-    carried_out T x (collect_refusal old tag number) of_collect old new said (HasCollected tag number old new said) taken (record { reply = record { entry = entry; outcome = outcome; bytes = bytes }; is = is; collected = collected; told = told })
+    carried_out T x (collect_refusal old tag number) of_collect old new said (HasCollected tag number old new said) taken
+      (record { reply = record { entry = entry; outcome = outcome; bytes = bytes }; is = is; collected = collected; told = told })

@@ -41,7 +41,8 @@ RunsLine old (line.Run command) new text = HasRun old command new text
 -- lines, one after the other, none of which holds a line feed: the text that they add, and the port behind them
 pub data Adds : Option PortView → List (List ℕ) → List ℕ → Option PortView → Type 0 where
   no_line : (port : Option PortView) → Adds port [] [] port
-  one_more : (port : Option PortView) (first : List ℕ) (l : Line) (next : Option PortView) (added : List ℕ) (more : List (List ℕ)) (text : List ℕ) (last : Option PortView) → found_of (first ++ 10 ∷ []) ≡ whole first → placed port first ≡ Some l → RunsLine port l next added → Adds next more text last → Adds port (first ∷ more) (added ++ text) last
+  one_more : (port : Option PortView) (first : List ℕ) (l : Line) (next : Option PortView) (added : List ℕ) (more : List (List ℕ)) (text : List ℕ) (last : Option PortView)
+    → found_of (first ++ 10 ∷ []) ≡ whole first → placed port first ≡ Some l → RunsLine port l next added → Adds next more text last → Adds port (first ∷ more) (added ++ text) last
 
 -- lines with their line feeds, joined
 abbrev pub with_feeds : List (List ℕ) → List ℕ

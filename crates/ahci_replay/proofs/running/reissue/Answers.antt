@@ -6,4 +6,5 @@ use Rattle.ahci_replay.proofs.running.reissue.Goals as goal
 pub returns-in-Err : goal.returns-in-Err
 returns-in-Err g c =
     let a = c.args in
-    refused _ c.in-Err.fault (reissue_refusal a.port.now a.tag) of_reissue c.reissue_refusal.result a.port.now c.reissue.new.self _ c.in-Err.ensures.fault c.reissue_refusal.ensures c.in-Err.ensures.err
+    refused _ c.in-Err.fault (reissue_refusal a.port.now a.tag) of_reissue c.reissue_refusal.result a.port.now
+      c.reissue.new.self _ c.in-Err.ensures.fault c.reissue_refusal.ensures c.in-Err.ensures.err
