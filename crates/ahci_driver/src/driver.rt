@@ -90,9 +90,9 @@ impl<A: Allocator> Driver<A> {
         ensures tags { IfOk result (λ _. seat.new.tags ≡ without_place seat.old.tags ticket.tag) }
         ensures err { IfErr result (λ e. (e.0 ≡ ticket) × (seat.new ≡ seat.old)) }
     {
-        let tag = ticket.tag();
+        let freed = ticket.tag();
         let collected = collect_locked(&mut self.port.lock(rt), ticket)?;
-        self.board.give_back(seat, tag);
+        self.board.give_back(seat, freed);
         Ok(collected)
     }
 }
