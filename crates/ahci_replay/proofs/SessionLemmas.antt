@@ -1,7 +1,7 @@
 -- Lemmas about what a command does.
 use Rattle.std.proofs.Common.{◌≡◌, ℕ, List, Option, Some, None, Result, Ok, Err, IfOk, OnErr, refl, sym, ap, ◌∙◌, subst}
 use Rattle.std.specs.Option.{option_map}
-use Rattle.ahci_port.specs.Faults.{Answers, collect_refusal}
+use Rattle.ahci_port.specs.Faults.{Answers, AnswersOr, collect_refusal}
 use Rattle.ahci_port.specs.PortView.{PortView}
 use Rattle.ahci_port.specs.Steps.{IsCollected}
 use Rattle.ahci_script.specs.Said.{Said}
@@ -10,7 +10,7 @@ use Rattle.ahci_script.specs.declared.refusal.Refusal.{Refusal}
 use Rattle.ncq_journal.specs.Answer.{answer}
 use Rattle.ncq_journal.specs.declared.outcome.Outcome.{Outcome}
 use Rattle.ahci_replay.specs.Commands.{HasCollected, RefusedOr, outcome_said}
-use Rattle.ahci_replay.specs.Refusals.{of_collect}
+use Rattle.ahci_replay.specs.Refusals.{joined, of_collect}
 
 -- what follows for the value of an Ok
 pub if_ok_from : {T E : Type 0} (r : Result T E) (P Q : T → Type 0) → IfOk r P → ((x : T) → P x → Q x) → IfOk r Q
@@ -52,4 +52,10 @@ pub collects : (T : Type 0) (x : T) (tag number : ℕ) (old new : PortView) (out
     → RefusedOr (option_map of_collect (collect_refusal old tag number)) old new said (HasCollected tag number old new said)
 collects T x tag number old new outcome entry bytes said taken is collected told =
     carried_out T x (collect_refusal old tag number) of_collect old new said (HasCollected tag number old new said) taken
-      (record { reply = record { entry = entry; outcome = outcome; bytes = bytes }; is = is; collected = collected; told = told })
+    (record { reply = record { entry = entry; outcome = outcome; bytes = bytes }; is = is; collected = collected; told = told })
+
+-- where a call of the port lacked memory, it refused nothing
+pub nothing_stands_against : {F : Type 0} (T : Type 0) (f lacking : F) (o : Option F) (show : F → Option Refusal)
+    → AnswersOr {T = T} {E = F} (Err f) o lacking → show f ≡ None → joined (option_map show o) ≡ None
+nothing_stands_against T f lacking None show is none = refl
+nothing_stands_against T f lacking (Some g) show is none = let same : g ≡ f = cc in ap show same ∙ none

@@ -1,5 +1,5 @@
 -- What a script's commands do: the port that each of them leaves, and its answer. Want of memory is left aside.
-use Rattle.std.specs.Prelude.{ℕ, ◌+◌, ◌*◌, Bool, true, false, List, length, replicate, slice_index, Option, Some, None, IsOkAnd, ◌≡◌, ◌⊎◌}
+use Rattle.std.specs.Prelude.{ℕ, ◌+◌, ◌*◌, ◌^◌, ◌<◌, ◌≤◌, Bool, true, false, List, length, replicate, slice_index, Option, Some, None, IsOkAnd, ◌≡◌, ◌⊎◌}
 use Rattle.ahci_port.specs.PortView.{PortView, new_port, sectors_in}
 use Rattle.ahci_port.specs.Registers.{acknowledged}
 use Rattle.ahci_port.specs.Steps.{IsIssued, IsStepped, IsCollected, IsRecovered, IsReissued, IsIdentified, IsFlushed}
@@ -18,6 +18,7 @@ use Rattle.ahci_table.specs.Defaults.{default_list}
 use Rattle.ahci_table.specs.Window.{WindowState}
 use Rattle.ncq_core.specs.Identify.{identify_page}
 use Rattle.ncq_journal.specs.Answer.{Answer, answer}
+use Rattle.ncq_journal.specs.Lawful.{most_sectors}
 use Rattle.ncq_journal.specs.Phase.{is_failed, phase}
 use Rattle.ncq_journal.specs.Sector.{sector}
 use Rattle.ncq_journal.specs.Work.{Work, sectors_of}
@@ -121,3 +122,19 @@ MayRunOn old c new = (new ≡ old) ⊎ ((said : Said) × RunsOn old c new said)
 
 abbrev pub MayRun : Option PortView → Command → Option PortView → Type 0
 MayRun old c new = (new ≡ old) ⊎ ((said : Said) × Runs old c new said)
+
+-- a command may lack memory: one that takes some, and that nothing stands against which is looked at before. The others never
+-- lack any
+abbrev pub MayLackOn : PortView → Command → Type 0
+MayLackOn port (command.Write tag lba sectors fill) = (1 ≤ sectors) × (sectors ≤ most_sectors) × (lba < 2 ^ 48)
+MayLackOn port (command.Read tag lba sectors) = Unit {0}
+MayLackOn port (command.Collect tag number) = Unit {0}
+MayLackOn port command.Recover = refusal_on port command.Recover ≡ None
+MayLackOn port (command.Identify word) = refusal_on port (command.Identify word) ≡ None
+MayLackOn port command.Flush = refusal_on port command.Flush ≡ None
+MayLackOn port c = ⊥
+
+abbrev pub MayLack : Option PortView → Command → Type 0
+MayLack None (command.Disk sectors depth) = disk_refusal sectors depth ≡ None
+MayLack None c = ⊥
+MayLack (Some port) c = MayLackOn port c

@@ -9,7 +9,7 @@ ghost use Rattle.ahci_script.specs.Said.{said, Issued};
 ghost use Rattle.ahci_table.specs.Defaults.{default_list};
 ghost use Rattle.ahci_table.specs.Fit.{IsFit};
 ghost use Rattle.ahci_table.specs.Refusal.{is_ragged};
-ghost use Rattle.ahci_replay.specs.Commands.{HasIssued, RefusedOr, RunsOn};
+ghost use Rattle.ahci_replay.specs.Commands.{HasIssued, MayLackOn, RefusedOr, RunsOn};
 ghost use Rattle.ahci_replay.specs.Refusals.{issue_refusal, joined, of_issue};
 
 use crate::refusals::issue_refusal;
@@ -48,6 +48,7 @@ pub(crate) fn write<A: Allocator + Clone>(
     requires { tag < 32 }
     ensures ok { IfOk result (λ answer. RunsOn port.old (Command.Write tag lba sectors fill) port.new (said answer)) }
     ensures err { OnErr result (port.new ≡ port.old) }
+    ensures lacking { OnErr result (MayLackOn port.old (Command.Write tag lba sectors fill)) }
 {
     if sectors == 0 || sectors > MAX_COUNT {
         return Ok(Answer::Refused(Refusal::BadCount));

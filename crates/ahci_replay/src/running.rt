@@ -1,12 +1,12 @@
 //! Commands on a port, each with its answer.
 
-ghost use Rattle.std.specs.Prelude.{◌≡◌, IfErr, IfOk, OnErr, Some, false};
+ghost use Rattle.std.specs.Prelude.{◌≡◌, IfErr, IfOk, None, OnErr, Some, false};
 ghost use Rattle.std.specs.Option.{option_map};
 ghost use Rattle.ahci_port.specs.Faults.{step_refusal};
 ghost use Rattle.ahci_script.specs.Lines.{HasSmallTag};
 ghost use Rattle.ahci_script.specs.Said.{said};
-ghost use Rattle.ahci_replay.specs.Commands.{HasStepped, MayRunOn, RefusedOr, RunsOn, is_in_place, word_in};
-ghost use Rattle.ahci_replay.specs.Refusals.{of_step};
+ghost use Rattle.ahci_replay.specs.Commands.{HasStepped, MayLackOn, MayRunOn, RefusedOr, RunsOn, is_in_place, word_in};
+ghost use Rattle.ahci_replay.specs.Refusals.{of_step, refusal_on};
 
 use crate::answering::{collected, stepped};
 use crate::issuing::{issue, write};
@@ -32,6 +32,7 @@ pub(crate) fn run_on<A: Allocator + Clone>(
     ensures refused { is_in_place (Some port.old) command ≡ false → result ≡ Err Unanswered.OutOfPlace }
     ensures kept { is_in_place (Some port.old) command ≡ false → port.new ≡ port.old }
     ensures err { OnErr result (MayRunOn port.old command port.new) }
+    ensures lacking { IfErr result (λ e. e ≡ Unanswered.OutOfMemory → MayLackOn port.old command) }
 {
     match command {
         Command::Disk { .. } => Err(Unanswered::OutOfPlace),
@@ -91,9 +92,11 @@ fn collect<A: Allocator + Clone>(
 }
 
 /// Recovers from a failure.
+#[tactic(auto, using(crate::proofs::SessionLemmas::nothing_stands_against))]
 fn recover<A: Allocator + Clone>(port: &mut Port<A>) -> Result<Answer<A>, AllocError>
     ensures ok { IfOk result (λ answer. RunsOn port.old Command.Recover port.new (said answer)) }
     ensures err { OnErr result (port.new ≡ port.old) }
+    ensures lacking { OnErr result (refusal_on port.old Command.Recover ≡ None) }
 {
     match port.recover() {
         Ok(tag) => Ok(Answer::Recovered(tag)),
@@ -115,9 +118,11 @@ fn reissue<A: Allocator + Clone>(port: &mut Port<A>, tag: u8) -> Answer<A>
 }
 
 /// Shows a word of the page that IDENTIFY DEVICE reads.
+#[tactic(auto, using(crate::proofs::SessionLemmas::nothing_stands_against))]
 fn identify<A: Allocator + Clone>(port: &mut Port<A>, word: u8) -> Result<Answer<A>, AllocError>
     ensures ok { IfOk result (λ answer. RunsOn port.old (Command.Identify word) port.new (said answer)) }
     ensures err { OnErr result (port.new ≡ port.old) }
+    ensures lacking { OnErr result (refusal_on port.old (Command.Identify word) ≡ None) }
 {
     match port.identify() {
         Ok(page) => {
@@ -140,9 +145,11 @@ fn word_in(page: &[u8; 512], word: u8) -> u16
 }
 
 /// Sends FLUSH CACHE EXT.
+#[tactic(auto, using(crate::proofs::SessionLemmas::nothing_stands_against))]
 fn flush<A: Allocator + Clone>(port: &mut Port<A>) -> Result<Answer<A>, AllocError>
     ensures ok { IfOk result (λ answer. RunsOn port.old Command.Flush port.new (said answer)) }
     ensures err { OnErr result (port.new ≡ port.old) }
+    ensures lacking { OnErr result (refusal_on port.old Command.Flush ≡ None) }
 {
     match port.flush() {
         Ok(()) => Ok(Answer::Flushed),

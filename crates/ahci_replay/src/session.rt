@@ -3,7 +3,7 @@
 ghost use Rattle.std.specs.Prelude.{◌≡◌, IfErr, IfOk, OnErr, None, false};
 ghost use Rattle.ahci_script.specs.Lines.{HasSmallTag};
 ghost use Rattle.ahci_script.specs.Said.{said};
-ghost use Rattle.ahci_replay.specs.Commands.{MakesDisk, MayRun, Runs, is_in_place};
+ghost use Rattle.ahci_replay.specs.Commands.{MakesDisk, MayLack, MayRun, Runs, is_in_place};
 ghost use Rattle.ahci_replay.specs.Refusals.{disk_refusal};
 
 use crate::issuing::filled;
@@ -43,7 +43,8 @@ impl<A: Allocator + Clone> Session<A> {
     ///
     /// # Errors
     /// `OutOfPlace` where the command stands before the disk, or is a second disk: then nothing changes. `OutOfMemory` where
-    /// a growth was refused: then the port is as it was, or a read was collected and its bytes are lost.
+    /// a growth was refused: then the port is as it was, or a read was collected and its bytes are lost. A command that takes
+    /// no memory never lacks any, and a bad size or count is told before.
     pub fn run(&mut self, command: Command) -> Result<Answer<A>, Unanswered>
         requires { HasSmallTag command }
         ensures ok { IfOk result (λ answer. Runs self.old command self.new (said answer)) }
@@ -51,6 +52,7 @@ impl<A: Allocator + Clone> Session<A> {
         ensures refused { is_in_place self.old command ≡ false → result ≡ Err Unanswered.OutOfPlace }
         ensures kept { is_in_place self.old command ≡ false → self.new ≡ self.old }
         ensures err { OnErr result (MayRun self.old command self.new) }
+        ensures lacking { IfErr result (λ e. e ≡ Unanswered.OutOfMemory → MayLack self.old command) }
     {
         match &mut self.port {
             Some(port) => run_on(port, &self.alloc, command),
@@ -67,6 +69,7 @@ impl<A: Allocator + Clone> Session<A> {
         ensures ok { IfOk result (λ answer.
             MakesDisk (disk_refusal sectors depth) sectors depth self.new (said answer)) }
         ensures err { OnErr result (self.new ≡ self.old) }
+        ensures lacking { OnErr result (disk_refusal sectors depth ≡ None) }
     {
         if sectors == 0 || sectors > u64::from(MAX_SECTORS) {
             return Ok(Answer::Refused(Refusal::BadSize));
