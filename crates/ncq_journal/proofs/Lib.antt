@@ -10,3 +10,4 @@ pub mod EntryLemmas
 pub mod AnsweredLemmas
 pub mod OwedLemmas
 pub mod PartLemmas
+pub mod PassLemmas
