@@ -6,6 +6,7 @@ pub mod Image
 pub mod Lawful
 pub mod Laws
 pub mod Owed
+pub mod Passing
 pub mod Phase
 pub mod Request
 pub mod Sector

@@ -1,3 +1,5 @@
+mod all;
+
 ghost use Rattle.std.specs.Prelude.{◌≡◌, ◌^◌, ◌<◌, IfOk, Some};
 ghost use Rattle.std.specs.Option.{option_or};
 ghost use Rattle.ncq_journal.specs.Answer.{answer, given, completes, sectors_at};
@@ -6,6 +8,7 @@ ghost use Rattle.ncq_journal.specs.History.{history_of, entry_at};
 ghost use Rattle.ncq_journal.specs.Lawful.{AllProper, IsProper, IsProperEntry};
 ghost use Rattle.ncq_journal.specs.Work.{work_of};
 
+pub use crate::answer::all::answers_of;
 use crate::event::Event;
 use crate::journal::entry_in;
 use crate::op::Op;

@@ -19,7 +19,7 @@ mod request;
 mod sector;
 mod tags;
 
-pub use answer::{Answer, answer_of};
+pub use answer::{Answer, answer_of, answers_of};
 pub use bytes::Bytes;
 pub use event::Event;
 pub use halted::{is_busy, is_halted};
