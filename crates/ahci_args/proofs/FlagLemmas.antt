@@ -5,8 +5,28 @@ use Rattle.std.specs.Option.{option_map_or}
 use Rattle.std.specs.Str.{bytes_eq, chars}
 use Rattle.std.proofs.lemmas.Slice.Eq.{bytes_eq-Decides}
 use Rattle.clap.specs.Lexer.{long_of, short_of}
-use Rattle.clap.specs.Walk.{Held, Names, Rule, Text, idle, value, after_flag, arg_by_index, arg_by_long, arg_by_short, bundle_met,
-  bundle_step, long_or_other, nothing_held, plain, short_or_plain, subcommand_met, takes_values, walk_from, walked}
+use Rattle.clap.specs.Walk.{
+  Held,
+  Names,
+  Rule,
+  Text,
+  idle,
+  value,
+  after_flag,
+  arg_by_index,
+  arg_by_long,
+  arg_by_short,
+  bundle_met,
+  bundle_step,
+  long_or_other,
+  nothing_held,
+  plain,
+  short_or_plain,
+  subcommand_met,
+  takes_values,
+  walk_from,
+  walked,
+}
 use Rattle.clap.specs.Simple.{Shape}
 use Rattle.clap.specs.Kinds.{Kinds, or_else}
 use Rattle.clap.specs.Faults.{bundle_fault, bundle_step_fault, flag_word_fault, flags_fault, long_fault, react_fault, short_fault, step_fault, stray_fault, turn_fault, walk_fault}
@@ -66,7 +86,7 @@ module _ (s : Shape) (only : AsksOnly s.args_override_self s.rules) where
       go : (x : Option ℕ)
           → or_else (bundle_step_fault s.rules again x flags 0 nothing_held (flags_fault s.rules again n))
           (let met = after_flag s.rules idle word (bundle_step s.rules x flags 0 plain nothing_held (bundle_met s.rules n)).0
-            (bundle_step s.rules x flags 0 plain nothing_held (bundle_met s.rules n)).1 in step_fault s 1 met.0 met.1)
+          (bundle_step s.rules x flags 0 plain nothing_held (bundle_met s.rules n)).1 in step_fault s 1 met.0 met.1)
           ≡ [] → ⊥
       go None e = stray nothing_held e
       go (Some x) e =

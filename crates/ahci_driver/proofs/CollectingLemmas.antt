@@ -39,13 +39,13 @@ not_read : (o p : Outcome) → o ≡ p → p ≡ outcome.Read → o ≡ outcome.
 not_read o p e r = e ∙ r
 
 completed_read : (image : List ℕ) (past : List Entry) (t tag : ℕ) (work : Work) (b : Bool) (a : Answer)
-  → cond b (Some (completes image past work)) None ≡ Some a → a.outcome ≡ outcome.Read → IsReadAt (Some (Issue tag work))
+    → cond b (Some (completes image past work)) None ≡ Some a → a.outcome ≡ outcome.Read → IsReadAt (Some (Issue tag work))
 completed_read image past t tag (Read lba sectors) b a e r = record { tag = tag; lba = lba; sectors = sectors; is = refl }
 completed_read image past t tag (Write lba bytes) true a e r = absurd (let z : outcome.Wrote ≡ outcome.Read = ap (λ (x : Answer). x.outcome) (same_Some _ a e) ∙ r in cc)
 completed_read image past t tag (Write lba bytes) false a e r = absurd (cc)
 
 failed_read : (past : List Entry) (error lba : ℕ) (b : Bool) (a : Answer)
-  → cond b (Some (record { entry = length past; outcome = outcome.Failed error lba; bytes = [] })) None ≡ Some a → a.outcome ≡ outcome.Read → ⊥
+    → cond b (Some (record { entry = length past; outcome = outcome.Failed error lba; bytes = [] })) None ≡ Some a → a.outcome ≡ outcome.Read → ⊥
 failed_read past error lba true a e r = let z : outcome.Failed error lba ≡ outcome.Read = ap (λ (x : Answer). x.outcome) (same_Some _ a e) ∙ r in cc
 failed_read past error lba false a e r = cc
 
@@ -89,7 +89,7 @@ read_answer image [] n a e r = absurd (cc)
 read_answer image (entry ∷ past) n a e r = newer past entry n (by (answer image past n) refl e (λ q. read_answer image past n a q r))
   where
     by : (o : Option Answer) → answer image past n ≡ o → option_or o (given image past entry (entry_at past n)) ≡ Some a
-      → (answer image past n ≡ Some a → IsReadAt (entry_at past n)) → IsReadAt (entry_at past n)
+        → (answer image past n ≡ Some a → IsReadAt (entry_at past n)) → IsReadAt (entry_at past n)
     by (Some b) q h older = older (q ∙ h)
     by None q h older = given_read image past entry (entry_at past n) a h r
 
@@ -105,8 +105,8 @@ numbered : (port : PortView) (tag number : ℕ) → collect_refusal port tag num
 numbered port tag number e = by (is_free (phase port.past tag)) (has_number (request port.past tag) number) refl refl e
   where
     by : (a b : Bool) → is_free (phase port.past tag) ≡ a → has_number (request port.past tag) number ≡ b
-      → cond (a || not b) (Some Stranger) (cond (is_done (phase port.past tag)) None (Some NotYet)) ≡ None
-      → (is_free (phase port.past tag) ≡ false) × (has_number (request port.past tag) number ≡ true)
+        → cond (a || not b) (Some Stranger) (cond (is_done (phase port.past tag)) None (Some NotYet)) ≡ None
+        → (is_free (phase port.past tag) ≡ false) × (has_number (request port.past tag) number ≡ true)
     by true b p q h = absurd (cc)
     by false true p q h = (p, q)
     by false false p q h = absurd (cc)
@@ -118,7 +118,7 @@ not_refused x (Some fault) h = absurd (cc)
 
 -- the number and the command of a request that a read's answer is given to
 same_read : (past : List Entry) (tag number : ℕ) (r : Request) → request past tag ≡ Some r → has_number (Some r) number ≡ true
-  → (at : IsReadAt (entry_at past number)) → r.work ≡ Read at.lba at.sectors
+    → (at : IsReadAt (entry_at past number)) → r.work ≡ Read at.lba at.sectors
 same_read past tag number r e h at =
     let same : r.number ≡ number = eqb-true r.number number h in
     issue_work tag at.tag r.work (Read at.lba at.sectors) (same_Some _ _ (sym (request_is_its_issue past tag r e) ∙ ap (entry_at past) same ∙ at.is))
@@ -130,7 +130,7 @@ reads_text w lba sectors n fit e len =
 
 -- the text of a finished read has the length of a buffer that suits it
 pub text_length : (port : PortView) (tag number n : ℕ) (w : WindowState) (a : Answer) → Headline port → collect_refusal port tag number ≡ None
-  → answer port.starting port.past number ≡ Some a → window_at port tag ≡ Some w → suits (read_length port.past tag) n ≡ true → has_length a.outcome w n
+    → answer port.starting port.past number ≡ Some a → window_at port tag ≡ Some w → suits (read_length port.past tag) n ≡ true → has_length a.outcome w n
 text_length port tag number n w a h none e here fits = by a.outcome refl
   where
     num : (is_free (phase port.past tag) ≡ false) × (has_number (request port.past tag) number ≡ true)

@@ -67,7 +67,7 @@ busy_sets past b none =
 
 -- one word isn't 0: some tag is busy
 pub busy_words : (past : List Entry) (issued accepted : ℕ) → bits issued ≡ issued_tags past → bits accepted ≡ accepted_tags past
-  → issued < 2 ^ 32 → accepted < 2 ^ 32 → ((issued ≡ 0) × (accepted ≡ 0) → ⊥) → busy past ≡ true
+    → issued < 2 ^ 32 → accepted < 2 ^ 32 → ((issued ≡ 0) × (accepted ≡ 0) → ⊥) → busy past ≡ true
 busy_words past issued accepted i a si sa some = by (busy past) refl
   where
     zero_word : (w : ℕ) (p : ℕ → Bool) → bits w ≡ places p → w < 2 ^ 32 → ((t : ℕ) → t < 32 → p t ≡ false) → w ≡ 0
@@ -113,7 +113,7 @@ serve_may port tag running e =
 
 -- nothing stands against the step of `Low` where some tag is busy
 pub lowest_is_lawful : (port : PortView) (issued accepted : ℕ) (step : DeviceStep) → IsLowestStep issued accepted step → halted port.past ≡ false
-  → busy port.past ≡ true → bits issued ≡ issued_tags port.past → bits accepted ≡ accepted_tags port.past → step_refusal port step ≡ None
+    → busy port.past ≡ true → bits issued ≡ issued_tags port.past → bits accepted ≡ accepted_tags port.past → step_refusal port step ≡ None
 lowest_is_lawful port issued accepted (Serve tag) h running b i a =
     serve_may port tag running (in_places (λ t. is_accepted (phase port.past t)) tag (ap (λ s. has_place s tag) (sym a) ∙ h.here))
 lowest_is_lawful port issued accepted (Accept tag) h running b i a =

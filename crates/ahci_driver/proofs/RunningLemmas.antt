@@ -19,13 +19,13 @@ use Rattle.ahci_driver.proofs.SettlingLemmas.{mapped}
 
 -- one job more
 pub proper_more : {A : _} (jobs : List (Op A)) (i : ℕ) (op : Op A) → i < length jobs → op ≡ get_or jobs i op
-  → IsProper (work_of op) → ProperBelow (map work_of jobs) i → ProperBelow (map work_of jobs) (i + 1)
+    → IsProper (work_of op) → ProperBelow (map work_of jobs) i → ProperBelow (map work_of jobs) (i + 1)
 proper_more jobs i op low e proper before =
     below_more _ _ before (subst (λ o. IsSomeAnd o IsProper) (sym (mapped work_of jobs i op low e)) proper)
 
 -- a job that is bad
 pub bad_here : {A : _} (jobs : List (Op A)) (i : ℕ) (op : Op A) → i < length jobs → op ≡ get_or jobs i op
-  → ¬ (IsProper (work_of op)) → IsSomeAnd (slice_get (map work_of jobs) i) (λ work. ¬ (IsProper work))
+    → ¬ (IsProper (work_of op)) → IsSomeAnd (slice_get (map work_of jobs) i) (λ work. ¬ (IsProper work))
 bad_here jobs i op low e bad = subst (λ o. IsSomeAnd o (λ work. ¬ (IsProper work))) (sym (mapped work_of jobs i op low e)) bad
 
 -- a run that had begun is given up for a late reason

@@ -52,5 +52,5 @@ counted receipts jobs e = length-map receipts received_of ∙ e ∙ sym (length-
 
 -- the receipts of all jobs
 pub all_right : {B : _} (port : PortView) (jobs : List (Op B)) (receipts : List Received) (workers n : ℕ) → length jobs ≤ n
-  → AllRight port (map work_of jobs) receipts workers n → AllRight port (map work_of jobs) receipts workers (length (map work_of jobs))
+    → AllRight port (map work_of jobs) receipts workers n → AllRight port (map work_of jobs) receipts workers (length (map work_of jobs))
 all_right port jobs receipts workers n h each i low = each i (let l = length-map jobs work_of in omega arith)

@@ -28,17 +28,17 @@ use Rattle.ahci_port.proofs.WorkLemmas.{IsSized, past_end}
 
 -- what holds of the request that a slot holds
 pub request_has : (starting : List ℕ) (past : List Entry) (tag : ℕ) (slot : SlotState) (P : Request → Type 0) → Holds starting past tag slot
-  → P (record { number = slot.number; work = op slot.window }) → IsSomeAnd (request past tag) P
+    → P (record { number = slot.number; work = op slot.window }) → IsSomeAnd (request past tag) P
 request_has starting past tag slot P h p = subst (λ o. IsSomeAnd o P) (sym h.request_is) p
 
 -- the disk has as many sectors as it had
 pub disk_size : {starting : List ℕ} {disk : DiskState} {regs : PortState} {slots : List (Option SlotState)} {headers : List (List ℕ)} {past : List Entry} {free : ℕ}
-  → Keeps starting disk regs slots headers past free → disk_sectors disk ≡ length starting / 512
+    → Keeps starting disk regs slots headers past free → disk_sectors disk ≡ length starting / 512
 disk_size k = ap (λ n. n / 512) k.same_size
 
 pub accept_allowed : (starting : List ℕ) (disk : DiskState) (regs : PortState) (slots : List (Option SlotState)) (headers : List (List ℕ)) (past : List Entry) (free tag : ℕ) (slot : SlotState)
     → Keeps starting disk regs slots headers past free → phase past tag ≡ Issued → halted past ≡ false
-      → slot_at slots tag ≡ Some slot → IsSized slot.window → is_past_end disk (queued_of slot.window) ≡ false
+    → slot_at slots tag ≡ Some slot → IsSized slot.window → is_past_end disk (queued_of slot.window) ≡ false
     → IsAllowed (length starting / 512) disk.depth past (Accept tag)
 accept_allowed starting disk regs slots headers past free tag slot k issued running here sized within = (
   issued,
@@ -49,7 +49,7 @@ accept_allowed starting disk regs slots headers past free tag slot k issued runn
 
 pub keeps_accept : (starting : List ℕ) (disk : DiskState) (regs : PortState) (slots : List (Option SlotState)) (headers : List (List ℕ)) (past : List Entry) (free left tag : ℕ) (slot : SlotState)
     → Keeps starting disk regs slots headers past free → phase past tag ≡ Issued → halted past ≡ false → slot_at slots tag ≡ Some slot
-      → IsSized slot.window → (queued_of slot.window).tag ≡ tag → is_past_end disk (queued_of slot.window) ≡ false → left + 1 ≡ free
+    → IsSized slot.window → (queued_of slot.window).tag ≡ tag → is_past_end disk (queued_of slot.window) ≡ false → left + 1 ≡ free
     → Keeps starting (verdict.accepted disk (queued_of slot.window)).state (registers.accepted regs tag) (set slots tag (Some (record slot { phase = Accepted }))) headers (Accept tag ∷ past) left
 keeps_accept starting disk regs slots headers past free left tag slot k issued running here sized its_tag within room =
     let below = below_depth _ disk.depth past tag Issued k.lawful issued (λ e. absurd (cc)) in
@@ -61,7 +61,7 @@ keeps_accept starting disk regs slots headers past free left tag slot k issued r
     let place = set disk.commands tag (Some q) in
     let calm : halted (Accept tag ∷ past) ≡ false = still ∙ running in
     keeps_step starting disk (verdict.accepted disk q).state regs (registers.accepted regs tag) slots headers headers past free left tag
-      (Accept tag) (Some (record slot { phase = Accepted })) k below allowed
+    (Accept tag) (Some (record slot { phase = Accepted })) k below allowed
     (λ u apart. record { phase_same = other tag u Accepted (phase past u) apart; request_same = refl; unanswered = refl })
     (slot_moves starting past (Accept tag) tag slot Accepted own_slot (own tag Accepted (phase past tag)) (λ e. absurd (cc)) refl refl)
     (record {

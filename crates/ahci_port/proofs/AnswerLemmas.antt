@@ -35,7 +35,7 @@ quiet starting past (Unqueued command) u r e = refl
 
 -- an entry that answers no request of the tag leaves its answer
 pub answer_stays : (starting : List ℕ) (past : List Entry) (entry : Entry) (u : ℕ) (r : Request) → request past u ≡ Some r
-  → answers entry u ≡ false → answer starting (entry ∷ past) r.number ≡ answer starting past r.number
+    → answers entry u ≡ false → answer starting (entry ∷ past) r.number ≡ answer starting past r.number
 answer_stays starting past entry u r asked e =
     ap (λ o. option_or (answer starting past r.number) o) (ap (given starting past entry) (request_is_its_issue past u r asked) ∙ quiet starting past entry u r e)
     ∙ or-none (answer starting past r.number)

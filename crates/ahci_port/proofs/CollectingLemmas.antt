@@ -97,7 +97,7 @@ collected starting disk regs slots headers past free tag number k may = by (slot
           fit = h.fit;
           number_is = left.0;
           answered = ap is_some (sym h.answer_is) ∙ answered_by_phase (length starting / 512) disk.depth starting past tag
-            (record { number = slot.number; work = op slot.window }) k.lawful h.request_is ∙ ap is_answered done;
+              (record { number = slot.number; work = op slot.window }) k.lawful h.request_is ∙ ap is_answered done;
           answer_is = ap (answer starting past) (sym left.0) ∙ h.answer_is;
           room = (let r = k.room in omega arith);
         }
@@ -119,7 +119,7 @@ ended_there slot some = by slot.ended some
 
 -- an answer with these fields is the one that the slot holds
 pub answer_given : (slot : SlotState) (entry : ℕ) (o : Outcome) (w : WindowState) → is_some (answer_in slot) ≡ true → IfSome slot.ended (λ e. (entry ≡ e.entry) × (o ≡ e.outcome))
-  → w ≡ slot.window → answer_in slot ≡ Some (record { entry = entry; outcome = o; bytes = bytes_in o w })
+    → w ≡ slot.window → answer_in slot ≡ Some (record { entry = entry; outcome = o; bytes = bytes_in o w })
 answer_given slot entry o w some is same = by slot.ended refl
   where
     of : Option Ended → Option Answer

@@ -80,7 +80,7 @@ busy_taken Done b e = absurd (cc)
 
 -- a command that is issued or accepted fails
 pub keeps_fail : (starting : List ℕ) (disk : DiskState) (regs moved : PortState) (slots : List (Option SlotState))
-  (headers : List (List ℕ)) (past : List Entry) (free left tag error lba : ℕ) (slot : SlotState)
+    (headers : List (List ℕ)) (past : List Entry) (free left tag error lba : ℕ) (slot : SlotState)
     → Keeps starting disk regs slots headers past free → is_busy (phase past tag) ≡ true → slot_at slots tag ≡ Some slot → IsAllowed (length starting / 512) disk.depth past (Fail tag error lba)
     → Tracks disk.depth (Fail tag error lba ∷ past) moved → left + 1 ≡ free
     → Keeps starting (stopped_by disk (record { tag = tag; error = error; lba = lba })) moved (set slots tag (Some (failed_slot slot (length past) error lba))) headers (Fail tag error lba ∷ past) left
@@ -90,7 +90,7 @@ keeps_fail starting disk regs moved slots headers past free left tag error lba s
     let moves = owed_moves _ disk.depth past (Fail tag error lba) k.shallow (k.lawful, allowed) in
     let stops = halted_fail past tag error lba (let d = k.shallow in omega arith) in
     keeps_step starting disk (stopped_by disk (record { tag = tag; error = error; lba = lba })) regs moved slots headers headers past free left tag
-      (Fail tag error lba) (Some (failed_slot slot (length past) error lba)) k below allowed
+    (Fail tag error lba) (Some (failed_slot slot (length past) error lba)) k below allowed
     (λ u apart. record { phase_same = other tag u (failed (phase past u)) (phase past u) apart; request_same = refl; unanswered = apart_answers tag u apart })
     (record {
       phase_is = own tag (failed (phase past tag)) (phase past tag) ∙ ap failed own_slot.phase_is;
@@ -100,7 +100,7 @@ keeps_fail starting disk regs moved slots headers past free left tag error lba s
       fit = own_slot.fit;
       tag_is = own_slot.tag_is;
       answer_is = failed_now (length starting / 512) disk.depth starting past tag error lba
-        (record { number = slot.number; work = op slot.window }) k.lawful own_slot.request_is (busy_open (phase past tag) busy);
+          (record { number = slot.number; work = op slot.window }) k.lawful own_slot.request_is (busy_open (phase past tag) busy);
     })
     (record {
       depth_same = refl;

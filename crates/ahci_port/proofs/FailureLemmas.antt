@@ -79,7 +79,7 @@ halted_recover past t = not_halted (Recover t ∷ past) (λ u low. none_after (p
 
 -- an entry of one tag, between two phases that are no failed ones, doesn't halt the port and doesn't start it
 pub halted_same : (past : List Entry) (entry : Entry) (t : ℕ) → is_failed (phase past t) ≡ false → is_failed (phase (entry ∷ past) t) ≡ false
-  → ((u : ℕ) → u ≢ t → phase (entry ∷ past) u ≡ phase past u) → halted (entry ∷ past) ≡ halted past
+    → ((u : ℕ) → u ≢ t → phase (entry ∷ past) u ≡ phase past u) → halted (entry ∷ past) ≡ halted past
 halted_same past entry t before after others =
     same_tags (λ u. is_failed (phase (entry ∷ past) u)) (λ u. is_failed (phase past u))
     (λ u low. elim (cases_eq u t) [

@@ -35,10 +35,10 @@ holds_bytes (outcome.Failed error lba) w = tt
 
 holds_answer : (slot : SlotState) (o : Option Ended) → o ≡ slot.ended → is_some (answer_in slot) ≡ true → IsSomeAnd (answer_in slot) (λ a. HoldsBytes a.outcome a.bytes slot.window)
 holds_answer slot None e some = absurd (true≢false
-  (sym some ∙ sym (ap (λ x. is_some {T = Answer} (option_map (λ y. record { entry = y.entry; outcome = y.outcome; bytes = bytes_in y.outcome slot.window }) x)) e)))
+    (sym some ∙ sym (ap (λ x. is_some {T = Answer} (option_map (λ y. record { entry = y.entry; outcome = y.outcome; bytes = bytes_in y.outcome slot.window }) x)) e)))
 holds_answer slot (Some x) e some = subst
-  (λ y. IsSomeAnd {T = Answer} (option_map (λ z. record { entry = z.entry; outcome = z.outcome; bytes = bytes_in z.outcome slot.window }) y)
-  (λ a. HoldsBytes a.outcome a.bytes slot.window)) e (holds_bytes x.outcome slot.window)
+    (λ y. IsSomeAnd {T = Answer} (option_map (λ z. record { entry = z.entry; outcome = z.outcome; bytes = bytes_in z.outcome slot.window }) y)
+    (λ a. HoldsBytes a.outcome a.bytes slot.window)) e (holds_bytes x.outcome slot.window)
 
 window_of_slot : (s d : ℕ) (starting : List ℕ) (past : List Entry) (tag : ℕ) (o : Option SlotState) → IsLawful s d past → HasSlot starting past tag o → HasWindow starting past tag (window_in o)
 window_of_slot s d starting past tag None lawful h = h
@@ -60,12 +60,12 @@ some_cond true q = refl
 some_cond false q = refl
 
 device_at : (starting : List ℕ) (past : List Entry) (tag : ℕ) (o : Option SlotState) → HasSlot starting past tag o
-  → is_some (outstanding_in (halted past) o) ≡ (in_device (phase past tag) && not (halted past))
+    → is_some (outstanding_in (halted past) o) ≡ (in_device (phase past tag) && not (halted past))
 device_at starting past tag None h = sym (ap (λ p. in_device p && not (halted past)) h)
 device_at starting past tag (Some slot) h = some_cond (in_device slot.phase && not (halted past)) (queued_of slot.window) ∙ sym (ap (λ p. in_device p && not (halted past)) h.phase_is)
 
 device_of : (starting : List ℕ) (disk : DiskState) (regs : PortState) (slots : List (Option SlotState)) (headers : List (List ℕ)) (past : List Entry) (free : ℕ)
-  → Keeps starting disk regs slots headers past free → outstanding disk ≡ device_tags past
+    → Keeps starting disk regs slots headers past free → outstanding disk ≡ device_tags past
 device_of starting disk regs slots headers past free k =
     same_sets (outstanding disk) (device_tags past) (length-map disk.commands is_some ∙ k.command_count ∙ sym (length-places (λ t. in_device (phase past t) && not (halted past))))
     (λ i h.
@@ -87,8 +87,8 @@ headline_of starting disk regs sent area slots headers past free k = record {
 }
 
 pub shape_of : (starting : List ℕ) (disk : DiskState) (regs : PortState) (sent : Sent) (area : List ℕ) (slots : List (Option SlotState))
-  (headers : List (List ℕ)) (past : List Entry) (free : ℕ)
-  → Keeps starting disk regs slots headers past free → IsDisk disk → HasShape (view_of starting disk regs sent area slots past)
+    (headers : List (List ℕ)) (past : List Entry) (free : ℕ)
+    → Keeps starting disk regs slots headers past free → IsDisk disk → HasShape (view_of starting disk regs sent area slots past)
 shape_of starting disk regs sent area slots headers past free k d = record {
   some = k.some_slot;
   most = k.shallow;

@@ -35,9 +35,9 @@ use Rattle.ahci_port.proofs.SetLemmas.{own, other}
 
 -- a disk that an entry leaves as it is
 pub disk_stays : (starting : List ℕ) (disk : DiskState) (regs : PortState) (slots : List (Option SlotState))
-  (headers : List (List ℕ)) (past : List Entry) (free tag : ℕ) (entry : Entry) (s : Option SlotState)
+    (headers : List (List ℕ)) (past : List Entry) (free tag : ℕ) (entry : Entry) (s : Option SlotState)
     → Keeps starting disk regs slots headers past free → ((i : ℕ) → sector_at disk.image i ≡ sector starting (entry ∷ past) i)
-      → halted (entry ∷ past) ≡ halted past → last_failure (entry ∷ past) ≡ last_failure past
+    → halted (entry ∷ past) ≡ halted past → last_failure (entry ∷ past) ≡ last_failure past
     → outstanding_in (halted past) s ≡ outstanding_in (halted past) (slot_at slots tag)
     → DiskAfter starting disk disk slots past entry tag s
 disk_stays starting disk regs slots headers past free tag entry s k sectors calm last command = record {
@@ -73,7 +73,7 @@ keeps_issue starting disk regs slots headers past free left tag slot k below is_
       fit = fit;
       tag_is = tag_is;
       answer_is = ap (λ o. option_or o (given starting past entry (entry_at past slot.number))) (no_answer_yet starting past slot.number (omega arith))
-        ∙ sym (ap (λ e. option_map (λ x. record { entry = x.entry; outcome = x.outcome; bytes = bytes_in x.outcome slot.window }) e) unended);
+          ∙ sym (ap (λ e. option_map (λ x. record { entry = x.entry; outcome = x.outcome; bytes = bytes_in x.outcome slot.window }) e) unended);
     })
     (disk_stays starting disk regs slots headers past free tag entry (Some slot) k k.sectors
     (halted_same past entry tag (ap is_failed is_free) (ap is_failed (own tag Issued (phase past tag))) (λ u apart. other tag u Issued (phase past u) apart))
@@ -88,7 +88,7 @@ keeps_issue starting disk regs slots headers past free left tag slot k below is_
 
 -- what an entry of one tag leaves of its slot, where it only changes its phase and answers nobody
 pub slot_moves : (starting : List ℕ) (past : List Entry) (entry : Entry) (tag : ℕ) (slot : SlotState) (p : Phase) → Holds starting past tag slot
-  → phase (entry ∷ past) tag ≡ p → p ≢ Free → request (entry ∷ past) tag ≡ request past tag → answers entry tag ≡ false → Holds starting (entry ∷ past) tag (record slot { phase = p })
+    → phase (entry ∷ past) tag ≡ p → p ≢ Free → request (entry ∷ past) tag ≡ request past tag → answers entry tag ≡ false → Holds starting (entry ∷ past) tag (record slot { phase = p })
 slot_moves starting past entry tag slot p h moved taken same unanswered = record {
   phase_is = moved;
   taken = taken;
@@ -101,7 +101,7 @@ slot_moves starting past entry tag slot p h moved taken same unanswered = record
 
 -- the slot of a tag that is in a phase that isn't free
 pub slot_in : (starting : List ℕ) (past : List Entry) (tag : ℕ) (s : Option SlotState) (p : Phase) → HasSlot starting past tag s
-  → phase past tag ≡ p → p ≢ Free → (slot : SlotState) × (s ≡ Some slot) × (slot.phase ≡ p) × Holds starting past tag slot
+    → phase past tag ≡ p → p ≢ Free → (slot : SlotState) × (s ≡ Some slot) × (slot.phase ≡ p) × Holds starting past tag slot
 slot_in starting past tag None p h is taken = absurd (taken (sym is ∙ h))
 slot_in starting past tag (Some slot) p h is taken = (slot, refl, sym h.phase_is ∙ is, h)
 

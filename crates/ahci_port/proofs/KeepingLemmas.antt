@@ -61,7 +61,7 @@ header_stays headers after u (Some slot) e h = e ∙ h
 
 -- one entry of a tag, with what its slot says of it afterwards
 pub keeps_step : (starting : List ℕ) (disk after : DiskState) (registers moved : PortState) (slots : List (Option SlotState))
-  (headers listed : List (List ℕ)) (past : List Entry) (free left tag : ℕ) (entry : Entry) (s : Option SlotState)
+    (headers listed : List (List ℕ)) (past : List Entry) (free left tag : ℕ) (entry : Entry) (s : Option SlotState)
     → Keeps starting disk registers slots headers past free → tag < disk.depth → IsAllowed (length starting / 512) disk.depth past entry
     → ((u : ℕ) → u ≢ tag → Others past entry u) → HasSlot starting (entry ∷ past) tag s
     → DiskAfter starting disk after slots past entry tag s → HeadersAfter headers listed tag s → Tracks disk.depth (entry ∷ past) moved → owed (entry ∷ past) ≤ left

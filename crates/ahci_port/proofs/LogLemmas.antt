@@ -1,6 +1,35 @@
 -- What recovery reads from the log.
-use Rattle.std.proofs.Common.{◌≡◌, ℕ, ◌/◌, ◌<◌, Bool, true, false, cond, map, ◌%◌, List, [], ◌∷◌, ◌++◌, length,
-  take, drop, set, get_or, ap, sym, refl, ◌∙◌, subst, Option, None, Some, IsSomeAnd, arith}
+use Rattle.std.proofs.Common.{
+  ◌≡◌,
+  ℕ,
+  ◌/◌,
+  ◌<◌,
+  Bool,
+  true,
+  false,
+  cond,
+  map,
+  ◌%◌,
+  List,
+  [],
+  ◌∷◌,
+  ◌++◌,
+  length,
+  take,
+  drop,
+  set,
+  get_or,
+  ap,
+  sym,
+  refl,
+  ◌∙◌,
+  subst,
+  Option,
+  None,
+  Some,
+  IsSomeAnd,
+  arith,
+}
 use Rattle.std.specs.Option.{option_map}
 use Rattle.ncq_journal.proofs.PhaseLemmas.{below_depth}
 use Rattle.ahci_port.specs.Moves.{recovered_slot}
@@ -53,7 +82,7 @@ page_tag e low = omega arith
 
 -- the failed tag, by the page that was read
 pub tag_of_page : (o : Option DiskError) (page : List ℕ) (past : List Entry) → IsSomeAnd o (λ e. is_failed (phase past e.tag) ≡ true)
-  → IsSomeAnd o (λ e. page ≡ log_page e) → ((t : ℕ) → is_failed (phase past t) ≡ true → t < 32)
+    → IsSomeAnd o (λ e. page ≡ log_page e) → ((t : ℕ) → is_failed (phase past t) ≡ true → t < 32)
     → is_failed (phase past (get_or page 0 0 % 32)) ≡ true
 tag_of_page None page past bad is low = absurd bad
 tag_of_page (Some e) page past bad is low = ap (λ x. is_failed (phase past (get_or x 0 0 % 32))) is ∙ ap (λ t. is_failed (phase past t)) (page_tag e (low e.tag bad)) ∙ bad

@@ -11,7 +11,7 @@ recovered_first (suc i) [] = []
 recovered_first (suc i) (x ∷ xs) = option_map recovered_slot x ∷ recovered_first i xs
 
 pub recovered_next : (i : ℕ) (xs : List (Option SlotState)) → i < length xs
-  → set (recovered_first i xs) i (option_map recovered_slot (get_or (recovered_first i xs) i None)) ≡ recovered_first (suc i) xs
+    → set (recovered_first i xs) i (option_map recovered_slot (get_or (recovered_first i xs) i None)) ≡ recovered_first (suc i) xs
 unfolding recovered_first
 recovered_next zero [] h = absurd (omega arith)
 recovered_next zero (x ∷ xs) h = refl
@@ -31,7 +31,7 @@ length-recovered (suc i) (x ∷ xs) = ap suc (length-recovered i xs)
 
 -- one slot more, as the loop writes it
 pub recovered_more : (i : ℕ) (old xs : List (Option SlotState)) (d : Option SlotState) → xs ≡ recovered_first i old
-  → i < length old → set xs i (option_map recovered_slot (get_or xs i d)) ≡ recovered_first (i + 1) old
+    → i < length old → set xs i (option_map recovered_slot (get_or xs i d)) ≡ recovered_first (i + 1) old
 recovered_more i old xs d is low =
     ap (λ s. set xs i (option_map recovered_slot s)) (same_default xs i d None (let l = ap length is ∙ length-recovered i old in omega arith))
     ∙ ap (λ ys. set ys i (option_map recovered_slot (get_or ys i None))) is ∙ recovered_next i old low ∙ ap (λ n. recovered_first n old) (omega arith)

@@ -67,12 +67,12 @@ kept_scattered old new bytes h is len = record {
 
 -- what serving leaves of a window
 pub moved_window : (q : QueuedFields) (old new : WindowState) (image image' : List ℕ) → q ≡ queued_of old → IsFit old
-  → IsFit new → IsKept old new → HasMoved q image image' (text old) (text new) → MovedWindow old new
+    → IsFit new → IsKept old new → HasMoved q image image' (text old) (text new) → MovedWindow old new
 moved_window q old new image image' is fit fit' h moved = record {
   fit = fit';
   tag_same = h.tag_is;
   header_same = h.header_is;
   cfis_same = h.cfis_is;
   write_same = λ e. let w : IsWritten q image image' (text old) (text new) =
-    subst (λ b. MovesFor b q image image' (text old) (text new)) (ap (λ x. x.write) is ∙ e) moved in kept_same old new fit h w.text_same;
+      subst (λ b. MovesFor b q image image' (text old) (text new)) (ap (λ x. x.write) is ∙ e) moved in kept_same old new fit h w.text_same;
 }

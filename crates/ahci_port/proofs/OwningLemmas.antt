@@ -55,7 +55,7 @@ pub reissue_may : (port : PortView) (tag : ℕ) → reissue_refusal port tag ≡
 reissue_may port tag e = by (halted port.past) (is_held (phase port.past tag)) refl refl e
   where
     by : (a b : Bool) → halted port.past ≡ a → is_held (phase port.past tag) ≡ b → cond a (Some reissue.Halted) (cond b None (Some reissue.NotHeld)) ≡ None
-      → (phase port.past tag ≡ Held) × (halted port.past ≡ false)
+        → (phase port.past tag ≡ Held) × (halted port.past ≡ false)
     by true b p q h = absurd (cc)
     by false true p q h = (held_is (phase port.past tag) q, p)
     by false false p q h = absurd (cc)
@@ -92,5 +92,5 @@ reissuing starting disk regs slots headers past free tag port k same none =
 
 -- a slot that keeps its window leaves the windows
 pub windows_same : (slots : List (Option SlotState)) (tag : ℕ) (slot next : SlotState) → slot_at slots tag ≡ Some slot
-  → next.window ≡ slot.window → map window_in (set slots tag (Some next)) ≡ map window_in slots
+    → next.window ≡ slot.window → map window_in (set slots tag (Some next)) ≡ map window_in slots
 windows_same slots tag slot next here same = map-set_same window_in slots tag (Some next) None (ap (λ w. Some w) same ∙ sym (ap window_in here))

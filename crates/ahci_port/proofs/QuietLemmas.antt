@@ -61,17 +61,17 @@ idle Broken e = absurd (true≢false e)
 
 quiet_sact : (past : List Entry) → halted past ≡ false → busy past ≡ false → sact past ≡ no_places
 quiet_sact past calm still = places_none (λ t. in_sact (phase past t))
-  (λ t low. quiet (phase past t) (lacks (λ u. is_busy (phase past u)) t low still) (lacks (λ u. is_failed (phase past u)) t low calm))
+    (λ t low. quiet (phase past t) (lacks (λ u. is_busy (phase past u)) t low still) (lacks (λ u. is_failed (phase past u)) t low calm))
 
 -- slot 0 has no command that waits
 pub slot_0_waits : (past : List Entry) → halted past ≡ false → busy past ≡ false → has_place (ci past) 0 ≡ false
 slot_0_waits past calm still = has_place-places (λ t. in_ci (phase past t)) 0 (omega arith)
-  ∙ quiet_ci (phase past 0) (lacks (λ u. is_busy (phase past u)) 0 (omega arith) still) (lacks (λ u. is_failed (phase past u)) 0 (omega arith) calm)
+    ∙ quiet_ci (phase past 0) (lacks (λ u. is_busy (phase past u)) 0 (omega arith) still) (lacks (λ u. is_failed (phase past u)) 0 (omega arith) calm)
 
 -- PxSACT is 0 where no command is issued or accepted
 pub quiet_word : (w : ℕ) (past : List Entry) → bits w ≡ sact past → w ≡ 0 → busy past ≡ false
 quiet_word w past is zero_word = not_busy past
-  (λ t low. idle (phase past t) (sym (has_place-places (λ u. in_sact (phase past u)) t low) ∙ ap (λ s. has_place s t) (sym is ∙ ap bits zero_word ∙ bits_zero) ∙ has_place-no_places t))
+    (λ t low. idle (phase past t) (sym (has_place-places (λ u. in_sact (phase past u)) t low) ∙ ap (λ s. has_place s t) (sym is ∙ ap bits zero_word ∙ bits_zero) ∙ has_place-no_places t))
 
 pub busy_word : (w : ℕ) (past : List Entry) → bits w ≡ sact past → w < 2 ^ 32 → halted past ≡ false → w ≢ 0 → busy past ≡ true
 busy_word w past is small calm some = by (busy past) refl

@@ -55,7 +55,7 @@ some_error (Some e) P h = refl
 
 -- the disk has stopped exactly where the port is halted
 pub stopped_here : (starting : List ℕ) (disk : DiskState) (regs : PortState) (slots : List (Option SlotState)) (headers : List (List ℕ)) (past : List Entry) (free : ℕ)
-  → Keeps starting disk regs slots headers past free → is_stopped disk ≡ halted past
+    → Keeps starting disk regs slots headers past free → is_stopped disk ≡ halted past
 stopped_here starting disk regs slots headers past free k = ap is_some k.error_is ∙ by (halted past) refl
   where
     by : (b : Bool) → halted past ≡ b → is_some (cond (halted past) (last_failure past) None) ≡ halted past
@@ -87,7 +87,7 @@ keeps_registers starting disk regs moved slots headers past free k tracks = reco
 pub keeps_acknowledge : (starting : List ℕ) (disk : DiskState) (regs : PortState) (slots : List (Option SlotState)) (headers : List (List ℕ)) (past : List Entry) (free mask : ℕ)
     → Keeps starting disk regs slots headers past free → Keeps starting disk (acknowledged regs mask) slots headers past free
 keeps_acknowledge starting disk regs slots headers past free mask k =
-  keeps_registers starting disk regs (acknowledged regs mask) slots headers past free k (tracks_acknowledge disk.depth past regs mask k.tracks)
+    keeps_registers starting disk regs (acknowledged regs mask) slots headers past free k (tracks_acknowledge disk.depth past regs mask k.tracks)
 
 -- every slot of a new port is free
 vacant : (depth u : ℕ) → slot_at (replicate depth None) u ≡ None
@@ -98,7 +98,7 @@ vacant depth u = elim (cases_lt u depth) [
 
 -- a new port
 pub keeps_new : (image : List ℕ) (depth : ℕ) (headers : List (List ℕ)) → IsDisk (new_disk image depth) → length headers ≡ 32
-  → Keeps image (new_disk image depth) (started depth) (replicate depth None) headers [] 0
+    → Keeps image (new_disk image depth) (started depth) (replicate depth None) headers [] 0
 keeps_new image depth headers d count = record {
   whole = d.whole;
   few = d.most;

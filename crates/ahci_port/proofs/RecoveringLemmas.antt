@@ -95,7 +95,7 @@ keeps_recover starting disk regs slots headers past free left tag k bad room =
       sectors = k.sectors;
       commands = λ u. k.commands u ∙ ap (λ b. outstanding_in b (slot_at slots u)) stopped ∙ none_outstanding (slot_at slots u)
           ∙ sym (ap (outstanding_in (halted (Recover tag ∷ past))) (there u)
-            ∙ ap (λ b. outstanding_in b (option_map recovered_slot (slot_at slots u))) (halted_recover past tag) ∙ idle_again (slot_at slots u));
+          ∙ ap (λ b. outstanding_in b (option_map recovered_slot (slot_at slots u))) (halted_recover past tag) ∙ idle_again (slot_at slots u));
       error_is = sym (ap (λ b. cond b (last_failure past) None) (halted_recover past tag));
       each = λ u. rw (there u) (slot_recovers starting past tag u (slot_at slots u) (k.each u));
       listed = λ u. rw (there u) (header_recovers headers u (slot_at slots u) (k.listed u));

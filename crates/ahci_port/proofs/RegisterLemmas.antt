@@ -13,13 +13,42 @@ use Rattle.ncq_journal.specs.Phase.{phase, is_busy}
 use Rattle.ncq_journal.specs.Tags.{sact, ci, in_sact, in_ci}
 use Rattle.ncq_journal.specs.Work.{Work}
 use Rattle.word_bits.specs.Places.{bits, has_place, places, no_places, with_place, without_place, union, minus, only_below}
-use Rattle.word_bits.proofs.PlacesLemmas.{length-places, length-with_place, length-without_place, length-only_below, has_place-with_other,
-  has_place-without_same, has_place-without_other, has_place-no_places, has_place-only_below, has_place-only_below_past, same_sets, places_none, union-with_place, minus-with_place, minus-no_places}
+use Rattle.word_bits.proofs.PlacesLemmas.{
+  length-places,
+  length-with_place,
+  length-without_place,
+  length-only_below,
+  has_place-with_other,
+  has_place-without_same,
+  has_place-without_other,
+  has_place-no_places,
+  has_place-only_below,
+  has_place-only_below_past,
+  same_sets,
+  places_none,
+  union-with_place,
+  minus-with_place,
+  minus-no_places,
+}
 use Rattle.word_bits.proofs.BitsLemmas.{bits_pow, bits_zero}
 use Rattle.ahci_port.specs.Registers.{after_write, started, issued, accepted, refused, completed, failed, read_by_pio, flushed, recovered, acknowledged, taken}
 use Rattle.ahci_port.specs.Tracking.{Tracks}
-use Rattle.ahci_port.proofs.SetLemmas.{sact_issue, ci_issue, sact_reissue, ci_reissue, sact_accept, ci_accept,
-  sact_complete, ci_complete, sact_fail, ci_fail, sact_recover, ci_recover, sact_collect, ci_collect}
+use Rattle.ahci_port.proofs.SetLemmas.{
+  sact_issue,
+  ci_issue,
+  sact_reissue,
+  ci_reissue,
+  sact_accept,
+  ci_accept,
+  sact_complete,
+  ci_complete,
+  sact_fail,
+  ci_fail,
+  sact_recover,
+  ci_recover,
+  sact_collect,
+  ci_collect,
+}
 
 -- a write goes to the register at its offset
 pub write_sact : (s : PortState) (value : ℕ) → after_write s 0x134 value ≡ taken s (with_sact s value)
@@ -64,7 +93,7 @@ ci_after s t st = write_ci s (2 ^ t) ∙ ap (λ b. taken s (cond b (Ok (record s
 
 -- what an issue leaves, in one piece
 pub issued_is : (s : PortState) (d t : ℕ) → s.st ≡ true → s.depth ≡ d → t < d → d ≤ 32 → length s.sact ≡ 32
-  → length s.ci ≡ 32 → issued s t ≡ record s { sact = with_place s.sact t; ci = with_place s.ci t }
+    → length s.ci ≡ 32 → issued s t ≡ record s { sact = with_place s.sact t; ci = with_place s.ci t }
 issued_is s d t st depth below few sact_whole ci_whole =
     ap (λ x. after_write x 0x138 (2 ^ t)) (sact_after s t st ∙ ap (λ x. record s { sact = x }) (ap (λ n. union s.sact (only_below n (bits (2 ^ t)))) depth ∙ gained d t s.sact below few sact_whole))
     ∙ ci_after (record s { sact = with_place s.sact t }) t st
@@ -81,7 +110,7 @@ not_done_41 = refl
 
 -- the tags of an entry that issues its tag
 tracks_issued : (d : ℕ) (past later : List Entry) (s : PortState) (t : ℕ) → Tracks d past s → t < d → d ≤ 32
-  → with_place (sact past) t ≡ sact later → with_place (ci past) t ≡ ci later → Tracks d later (issued s t)
+    → with_place (sact past) t ≡ sact later → with_place (ci past) t ≡ ci later → Tracks d later (issued s t)
 tracks_issued d past later s t k below few sact_moves ci_moves =
     let whole = ap length k.sact_is ∙ length-places (λ u. in_sact (phase past u)) in
     let whole_ci = ap length k.ci_is ∙ length-places (λ u. in_ci (phase past u)) in
@@ -147,10 +176,10 @@ tracks_collect d past s t k done = record {
 
 -- PxCI bit 0 is set and cleared again: what a command of slot 0 leaves of a port with a free or held slot 0
 slot_0 : (d : ℕ) (s : PortState) (commands : List Bool) → s.st ≡ true → s.depth ≡ d → 1 ≤ d → d ≤ 32 → s.ci ≡ commands
-  → length commands ≡ 32 → has_place commands 0 ≡ false → without_place (after_write s 0x138 1).ci 0 ≡ commands
+    → length commands ≡ 32 → has_place commands 0 ≡ false → without_place (after_write s 0x138 1).ci 0 ≡ commands
 slot_0 d s commands st depth some few ci_is whole out =
     ap (λ x. without_place x.ci 0) (ci_after s 0 st
-      ∙ ap (λ x. record s { ci = x }) (ap (λ n. union s.ci (only_below n (bits (2 ^ 0)))) depth ∙ gained d 0 s.ci (omega arith) few (ap length ci_is ∙ whole)))
+    ∙ ap (λ x. record s { ci = x }) (ap (λ n. union s.ci (only_below n (bits (2 ^ 0)))) depth ∙ gained d 0 s.ci (omega arith) few (ap length ci_is ∙ whole)))
     ∙ ap (λ x. without_place (with_place x 0) 0) ci_is ∙ back_again commands 0 out
 
 kept : (s : PortState) → (after_write s 0x138 1).sact ≡ s.sact
@@ -189,7 +218,7 @@ tracks_pio d past s k some few out = record {
   fre = kept_fre s ∙ k.fre;
   sact_is = kept s ∙ k.sact_is;
   ci_is = ap (λ b. cond b (without_place (after_write s 0x138 1).ci 0) (after_write s 0x138 1).ci) done_40
-    ∙ slot_0 d s (ci past) k.st k.depth_is some few k.ci_is (length-places (λ u. in_ci (phase past u))) out;
+      ∙ slot_0 d s (ci past) k.st k.depth_is some few k.ci_is (length-places (λ u. in_ci (phase past u))) out;
 }
 
 pub tracks_flush : (d : ℕ) (past : List Entry) (s : PortState) → Tracks d past s → 1 ≤ d → d ≤ 32 → has_place (ci past) 0 ≡ false → Tracks d past (flushed s)
@@ -199,7 +228,7 @@ tracks_flush d past s k some few out = record {
   fre = kept_fre s ∙ k.fre;
   sact_is = kept s ∙ k.sact_is;
   ci_is = ap (λ b. cond b (without_place (after_write s 0x138 1).ci 0) (after_write s 0x138 1).ci) done_40
-    ∙ slot_0 d s (ci past) k.st k.depth_is some few k.ci_is (length-places (λ u. in_ci (phase past u))) out;
+      ∙ slot_0 d s (ci past) k.st k.depth_is some few k.ci_is (length-places (λ u. in_ci (phase past u))) out;
 }
 
 -- ST and FRE in the words that stop and start the port
@@ -244,8 +273,14 @@ unfolding register_at
 cleared_is s = refl
 
 restarted_is : (s : PortState) → s.st ≡ true
-  → after_write (after_write (after_write (after_write s 0x118 0x10) 0x130 0xffffffff) 0x110 0xffffffff) 0x118 0x11 ≡ record s { st =
-  true; fre = true; sact = no_places; ci = no_places; is = minus s.is (bits 0xffffffff) }
+    → after_write (after_write (after_write (after_write s 0x118 0x10) 0x130 0xffffffff) 0x110 0xffffffff) 0x118 0x11 ≡ record s {
+      st =
+          true;
+      fre = true;
+      sact = no_places;
+      ci = no_places;
+      is = minus s.is (bits 0xffffffff);
+    }
 restarted_is s st =
     ap (λ x. after_write (after_write (after_write x 0x130 0xffffffff) 0x110 0xffffffff) 0x118 0x11) (stopped_is s st)
     ∙ ap (λ x. after_write x 0x118 0x11) (cleared_is (record s { st = false; fre = true; sact = no_places; ci = no_places }))

@@ -90,9 +90,9 @@ steps_moved starting past image image' slots tag entry slot w old new here below
         let q_same : queued_of w ≡ queued_of slot.window = ap (λ c. asked_by (h2d_at c)) kept.cfis_is in
         let len = sym (ap length is) ∙ fit_sized w fit' ∙ ap (λ q. 512 * q.sectors) q_same ∙ sym (fit_sized slot.window fit) in
         let bytes_same : sectors_at old.starting old.past (queued_of slot.window).lba (queued_of slot.window).sectors ≡ sectors_at starting past
-          (queued_of slot.window).lba (queued_of slot.window).sectors =
+        (queued_of slot.window).lba (queued_of slot.window).sectors =
         ap (λ x. sectors_at x old.past (queued_of slot.window).lba (queued_of slot.window).sectors) starts
-          ∙ ap (λ x. sectors_at starting x (queued_of slot.window).lba (queued_of slot.window).sectors) pasts in
+        ∙ ap (λ x. sectors_at starting x (queued_of slot.window).lba (queued_of slot.window).sectors) pasts in
         let own_window : window_at new tag ≡ Some w =
         ap (λ x. get_or x tag None) news ∙ get_or-map window_in (set slots tag (Some (served_slot slot entry w))) tag None
         ∙ ap window_in (get_or-set_same slots tag (Some (served_slot slot entry w)) None below) in

@@ -50,7 +50,7 @@ op_same old new m = by (queued_of old).write refl
 
 -- the text of a read is its sectors
 pub read_text : (starting : List ℕ) (past : List Entry) (image image' text text' : List ℕ) (q : QueuedFields) → ((i : ℕ) → sector_at image i ≡ sector starting past i)
-  → length text ≡ 512 * q.sectors → IsRead q image image' text text' → text' ≡ sectors_at starting past q.lba q.sectors
+    → length text ≡ 512 * q.sectors → IsRead q image image' text text' → text' ≡ sectors_at starting past q.lba q.sectors
 read_text starting past image image' text text' q each sized h =
     h.text_read ∙ ap (λ x. bytes_at q image ++ x) (drop_all (byte_count q) text (omega arith)) ∙ append-nil (bytes_at q image)
     ∙ joined-sectors (sector starting past) image each q.lba q.sectors
@@ -72,7 +72,7 @@ answer_of_slot starting past image image' slot w each direction sized moved = by
         let read : IsRead (queued_of slot.window) image image' (text slot.window) (text w) = subst (λ b. MovesFor b (queued_of slot.window) image image' (text slot.window) (text w)) e moved in
         ap (λ x. Some (completes starting past x)) (op_read slot.window e)
         ∙ ap (λ x. Some (record { entry = length past; outcome = outcome.Read; bytes = x }))
-          (sym (read_text starting past image image' (text slot.window) (text w) (queued_of slot.window) each sized read))
+        (sym (read_text starting past image image' (text slot.window) (text w) (queued_of slot.window) each sized read))
         ∙ sym (ap (λ b. Some (record { entry = length past; outcome = outcome_of b; bytes = bytes_in (outcome_of b) w })) (direction ∙ e))
 
 -- the image is that of the journal with the entry
@@ -101,7 +101,7 @@ size_stays q image image' text text' moved = by q.write refl
 
 -- an accepted command is served
 pub keeps_serve : (starting : List ℕ) (disk : DiskState) (regs : PortState) (slots : List (Option SlotState)) (headers : List (List ℕ))
-  (past : List Entry) (free left tag : ℕ) (slot : SlotState) (image : List ℕ) (w : WindowState)
+    (past : List Entry) (free left tag : ℕ) (slot : SlotState) (image : List ℕ) (w : WindowState)
     → Keeps starting disk regs slots headers past free → phase past tag ≡ Accepted → halted past ≡ false → slot_at slots tag ≡ Some slot → IsSized slot.window
     → HasMoved (queued_of slot.window) disk.image image (text slot.window) (text w) → MovedWindow slot.window w → left + 1 ≡ free
     → Keeps starting (served disk tag image) (registers.completed regs tag) (set slots tag (Some (served_slot slot (length past) w))) headers (Complete tag ∷ past) left

@@ -39,7 +39,7 @@ ci_reissue past t below = gains in_ci (phase past) (phase (Reissue t ∷ past)) 
 
 pub sact_accept : (past : List Entry) (t : ℕ) → phase past t ≡ Issued → sact past ≡ sact (Accept t ∷ past)
 sact_accept past t issued = stays in_sact (phase past) (phase (Accept t ∷ past)) t
-  (ap in_sact (own t Accepted (phase past t)) ∙ sym (ap in_sact issued)) (λ u apart. other t u Accepted (phase past u) apart)
+    (ap in_sact (own t Accepted (phase past t)) ∙ sym (ap in_sact issued)) (λ u apart. other t u Accepted (phase past u) apart)
 
 pub ci_accept : (past : List Entry) (t : ℕ) → t < 32 → without_place (ci past) t ≡ ci (Accept t ∷ past)
 ci_accept past t below = loses in_ci (phase past) (phase (Accept t ∷ past)) t below (ap in_ci (own t Accepted (phase past t))) (λ u apart. other t u Accepted (phase past u) apart)
@@ -52,7 +52,7 @@ ci_complete past t accepted = stays in_ci (phase past) (phase (Complete t ∷ pa
 
 pub sact_fail : (past : List Entry) (t error lba : ℕ) → is_busy (phase past t) ≡ true → sact past ≡ sact (Fail t error lba ∷ past)
 sact_fail past t error lba busy = stays in_sact (phase past) (phase (Fail t error lba ∷ past)) t (ap in_sact (own t (failed (phase past t)) (phase past t)) ∙ fails (phase past t) busy)
-  (λ u apart. other t u (failed (phase past u)) (phase past u) apart)
+    (λ u apart. other t u (failed (phase past u)) (phase past u) apart)
   where
     fails : (p : Phase) → is_busy p ≡ true → in_sact (failed p) ≡ in_sact p
     fails Issued b = refl
@@ -65,7 +65,7 @@ sact_fail past t error lba busy = stays in_sact (phase past) (phase (Fail t erro
 
 pub ci_fail : (past : List Entry) (t error lba : ℕ) → is_busy (phase past t) ≡ true → ci past ≡ ci (Fail t error lba ∷ past)
 ci_fail past t error lba busy = stays in_ci (phase past) (phase (Fail t error lba ∷ past)) t (ap in_ci (own t (failed (phase past t)) (phase past t)) ∙ fails (phase past t) busy)
-  (λ u apart. other t u (failed (phase past u)) (phase past u) apart)
+    (λ u apart. other t u (failed (phase past u)) (phase past u) apart)
   where
     fails : (p : Phase) → is_busy p ≡ true → in_ci (failed p) ≡ in_ci p
     fails Issued b = refl

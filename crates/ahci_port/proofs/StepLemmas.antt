@@ -51,7 +51,7 @@ refusal stopped p r at = cond stopped (Some fault.Halted) (cond (is_accepted p) 
 -- and by the disk
 abbrev disk_refusal : Bool → Option QueuedFields → ℕ → Option StepFault
 disk_refusal stopped command at = option_map step_fault_of
-  (cond stopped (Some serve_fault.Stopped) (cond (is_some command) (cond (is_at_command command at) None (Some serve_fault.OutsideCommand)) (Some serve_fault.NotAccepted)))
+    (cond stopped (Some serve_fault.Stopped) (cond (is_some command) (cond (is_at_command command at) None (Some serve_fault.OutsideCommand)) (Some serve_fault.NotAccepted)))
 
 covered : (slot : SlotState) (at : ℕ) (starting : List ℕ) (past : List Entry) (tag : ℕ) → Holds starting past tag slot → covers_sector (queued_of slot.window) at ≡ covers (op slot.window) at
 covered slot at starting past tag h =
@@ -60,7 +60,7 @@ covered slot at starting past tag h =
     sym (ap (λ n. leb n at && ltb at (n + sectors_of (op slot.window))) lba ∙ ap (λ m. leb (queued_of slot.window).lba at && ltb at ((queued_of slot.window).lba + m)) count)
 
 slot_agrees : (starting : List ℕ) (past : List Entry) (tag at : ℕ) (stopped : Bool) (s : Option SlotState) → HasSlot starting past tag s
-  → disk_refusal stopped (outstanding_in stopped s) at ≡ refusal stopped (phase past tag) (request past tag) at
+    → disk_refusal stopped (outstanding_in stopped s) at ≡ refusal stopped (phase past tag) (request past tag) at
 slot_agrees starting past tag at true s h = refl
 slot_agrees starting past tag at false None h = sym (ap (λ p. refusal false p (request past tag) at) h)
 slot_agrees starting past tag at false (Some slot) h =
@@ -73,7 +73,7 @@ slot_agrees starting past tag at false (Some slot) h =
     q = queued_of slot.window
 
     by : (b : Bool) → disk_refusal false (cond (b && true) (Some (queued_of slot.window)) None) at ≡ cond b
-      (cond (covers_sector (queued_of slot.window) at) None (Some fault.OutsideCommand)) (Some fault.NotAccepted)
+        (cond (covers_sector (queued_of slot.window) at) None (Some fault.OutsideCommand)) (Some fault.NotAccepted)
     by true = inner (covers_sector (queued_of slot.window) at)
       where
         inner : (x : Bool) → option_map step_fault_of (cond x None (Some serve_fault.OutsideCommand)) ≡ cond x None (Some fault.OutsideCommand)
@@ -110,7 +110,7 @@ none_refused : (stopped : Bool) (p : Phase) (r : Option Request) (at : ℕ) → 
 none_refused stopped p r at e = by stopped (is_accepted p) (is_of_request r at) refl refl refl e
   where
     by : (a b x : Bool) → stopped ≡ a → is_accepted p ≡ b → is_of_request r at ≡ x
-      → cond a (Some fault.Halted) (cond b (cond x None (Some fault.OutsideCommand)) (Some fault.NotAccepted)) ≡ None → (stopped ≡ false) × (p ≡ Accepted) × (is_of_request r at ≡ true)
+        → cond a (Some fault.Halted) (cond b (cond x None (Some fault.OutsideCommand)) (Some fault.NotAccepted)) ≡ None → (stopped ≡ false) × (p ≡ Accepted) × (is_of_request r at ≡ true)
     by true b x h i j m = absurd (cc)
     by false true true h i j m = (h, accepted_is p i, j)
     by false true false h i j m = absurd (cc)
@@ -152,7 +152,7 @@ pub accept_may : (port : PortView) (tag : ℕ) → step_refusal port (step.Accep
 accept_may port tag e = by (halted port.past) (is_issued (phase port.past tag)) refl refl e
   where
     by : (a b : Bool) → halted port.past ≡ a → is_issued (phase port.past tag) ≡ b → cond a (Some fault.Halted) (cond b None (Some fault.NotIssued)) ≡ None
-      → (phase port.past tag ≡ Issued) × (halted port.past ≡ false)
+        → (phase port.past tag ≡ Issued) × (halted port.past ≡ false)
     by true b p q h = absurd (cc)
     by false true p q h = (issued_is (phase port.past tag) q, p)
     by false false p q h = absurd (cc)
@@ -162,7 +162,7 @@ pub serve_may : (port : PortView) (tag : ℕ) → step_refusal port (step.Serve 
 serve_may port tag e = by (halted port.past) (is_accepted (phase port.past tag)) refl refl e
   where
     by : (a b : Bool) → halted port.past ≡ a → is_accepted (phase port.past tag) ≡ b → cond a (Some fault.Halted) (cond b None (Some fault.NotAccepted)) ≡ None
-      → (phase port.past tag ≡ Accepted) × (halted port.past ≡ false)
+        → (phase port.past tag ≡ Accepted) × (halted port.past ≡ false)
     by true b p q h = absurd (cc)
     by false true p q h = (accepted_is (phase port.past tag) q, p)
     by false false p q h = absurd (cc)

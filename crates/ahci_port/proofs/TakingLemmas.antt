@@ -62,11 +62,11 @@ abbrev pub state_after : DiskState → QueuedFields → DiskState
 state_after disk q = cond (is_past_end disk q) (verdict.not_found disk q).state (verdict.accepted disk q).state
 
 pub answer_is : (disk : DiskState) (w : WindowState) → IsFit w → disk.error ≡ None → w.tag < disk.depth
-  → command_of disk w.tag ≡ None → fis_of (verdict disk (cfis w)).answer ≡ Some (answer_bytes disk (queued_of w))
+    → command_of disk w.tag ≡ None → fis_of (verdict disk (cfis w)).answer ≡ Some (answer_bytes disk (queued_of w))
 answer_is disk w fit calm below vacant = ap (λ v. fis_of v.answer) (verdict_of disk w fit calm below vacant) ∙ by (is_past_end disk (queued_of w))
   where
     by : (b : Bool) → fis_of (cond b (verdict.not_found disk (queued_of w)) (verdict.accepted disk (queued_of w))).answer ≡ Some
-      (cond b (not_found_bytes (first_lacking disk (queued_of w))) accepted_bytes)
+        (cond b (not_found_bytes (first_lacking disk (queued_of w))) accepted_bytes)
     by true = refl
     by false = refl
 
@@ -74,7 +74,7 @@ pub state_is : (disk : DiskState) (w : WindowState) → IsFit w → disk.error �
 state_is disk w fit calm below vacant = ap (λ v. v.state) (verdict_of disk w fit calm below vacant) ∙ by (is_past_end disk (queued_of w))
   where
     by : (b : Bool) → (cond b (verdict.not_found disk (queued_of w)) (verdict.accepted disk (queued_of w))).state ≡ cond b
-      (verdict.not_found disk (queued_of w)).state (verdict.accepted disk (queued_of w)).state
+        (verdict.not_found disk (queued_of w)).state (verdict.accepted disk (queued_of w)).state
     by true = refl
     by false = refl
 
@@ -147,7 +147,7 @@ taking starting disk regs slots headers past free tag k issued running spell =
     }
   where
     by_case : (w : WindowState) → first_lacking disk (queued_of w) < 2 ^ 48 → (b : Bool)
-      → Spells (cond b (not_found_bytes (first_lacking disk (queued_of w))) accepted_bytes) (D2h (d2h_at (cond b (not_found_bytes (first_lacking disk (queued_of w))) accepted_bytes)))
+        → Spells (cond b (not_found_bytes (first_lacking disk (queued_of w))) accepted_bytes) (D2h (d2h_at (cond b (not_found_bytes (first_lacking disk (queued_of w))) accepted_bytes)))
     by_case w small true = ((spell.not_found (first_lacking disk (queued_of w)) small).0, refl)
     by_case w small false = (spell.accepted.0, refl)
 
@@ -181,14 +181,14 @@ keeps_taken starting disk regs slots headers past free left tag k spell t room b
 
     goal_for : DiskState → List ℕ → Type 0
     goal_for after b = Keeps starting after (after_register regs (d2h_at b).status (d2h_at b).error (d2h_at b).i tag)
-      (set slots tag (Some (taken_slot t.owner.slot (length past) (d2h_at b)))) headers (taken_entry tag (d2h_at b) ∷ past) left
+        (set slots tag (Some (taken_slot t.owner.slot (length past) (d2h_at b)))) headers (taken_entry tag (d2h_at b) ∷ past) left
 
     by : (b : Bool) → is_past_end disk (queued_of t.owner.slot.window) ≡ b
-      → bytes ≡ cond (is_past_end disk (queued_of t.owner.slot.window)) (not_found_bytes (first_lacking disk (queued_of t.owner.slot.window))) accepted_bytes
+        → bytes ≡ cond (is_past_end disk (queued_of t.owner.slot.window)) (not_found_bytes (first_lacking disk (queued_of t.owner.slot.window))) accepted_bytes
         → Keeps starting (cond (is_past_end disk (queued_of t.owner.slot.window)) (verdict.not_found disk (queued_of t.owner.slot.window)).state
-          (verdict.accepted disk (queued_of t.owner.slot.window)).state)
+        (verdict.accepted disk (queued_of t.owner.slot.window)).state)
         (after_register regs (d2h_at bytes).status (d2h_at bytes).error (d2h_at bytes).i tag)
-          (set slots tag (Some (taken_slot t.owner.slot (length past) (d2h_at bytes)))) headers (taken_entry tag (d2h_at bytes) ∷ past) left
+        (set slots tag (Some (taken_slot t.owner.slot (length past) (d2h_at bytes)))) headers (taken_entry tag (d2h_at bytes) ∷ past) left
     by false e same =
         let there : bytes ≡ accepted_bytes = same ∙ ap (λ b. cond b (not_found_bytes (first_lacking disk (queued_of t.owner.slot.window))) accepted_bytes) e in
         rw (there, e)
@@ -202,7 +202,7 @@ keeps_taken starting disk regs slots headers past free left tag k spell t room b
         let there : bytes ≡ not_found_bytes lba = same ∙ ap (λ b. cond b (not_found_bytes (first_lacking disk (queued_of t.owner.slot.window))) accepted_bytes) e in
         let past_it = ltb-true (length starting / 512) (end_of (op t.owner.slot.window)) (sym (past_end disk (length starting / 512) t.owner.slot.window sized (disk_size k)) ∙ e) in
         let at : lba ≡ max (lba_of (op t.owner.slot.window)) (length starting / 512) = ap (λ n. max n (disk_sectors disk)) (sym (op_lba t.owner.slot.window))
-          ∙ ap (max (lba_of (op t.owner.slot.window))) (disk_size k) in
+        ∙ ap (max (lba_of (op t.owner.slot.window))) (disk_size k) in
         let allowed : IsAllowed (length starting / 512) disk.depth past (Fail tag 0x10 lba) = (
           t.running,
           request_has starting past tag t.owner.slot (λ r. Fails (length starting / 512) (phase past tag) r.work 0x10 lba) t.owner.holds
@@ -210,10 +210,10 @@ keeps_taken starting disk regs slots headers past free left tag k spell t room b
         ) in
         let busy : is_busy (phase past tag) ≡ true = ap is_busy t.issued in
         let kept = keeps_fail starting disk regs (registers.refused regs tag) slots headers past free left tag 0x10 lba t.owner.slot k busy t.owner.here allowed
-          (tracks_refuse disk.depth past regs tag 0x10 lba k.tracks busy) room in
+        (tracks_refuse disk.depth past regs tag 0x10 lba k.tracks busy) room in
         let named = subst
         (λ n. Keeps starting (stopped_by disk (record { tag = tag; error = 0x10; lba = lba })) (registers.refused regs tag)
-          (set slots tag (Some (failed_slot t.owner.slot (length past) 0x10 n))) headers (Fail tag 0x10 n ∷ past) left)
+        (set slots tag (Some (failed_slot t.owner.slot (length past) 0x10 n))) headers (Fail tag 0x10 n ∷ past) left)
         (sym (lba_there lba spell t.lba_small)) kept in
         let tagged = subst
         (λ u. Keeps starting (stopped_by disk (record { tag = u; error = 0x10; lba = lba })) (registers.refused regs tag)
@@ -228,7 +228,7 @@ keeps_taken starting disk regs slots headers past free left tag k spell t room b
 
 -- the step is the one that the definition names
 pub taken_as : (old new : PortView) (tag : ℕ) (work : Work) (answer : Stepped) (lba : ℕ) (passes : Bool) (bytes : List ℕ)
-  → passes_end old work ≡ passes → lba ≡ steps.first_lacking old work → AnswersSpell → lba < 2 ^ 48
+    → passes_end old work ≡ passes → lba ≡ steps.first_lacking old work → AnswersSpell → lba < 2 ^ 48
     → bytes ≡ cond passes (not_found_bytes lba) accepted_bytes → answer ≡ taken_step (length old.past) (d2h_at bytes) → Appends old new (taken_entry tag (d2h_at bytes))
     → new.registers ≡ after_register old.registers (d2h_at bytes).status (d2h_at bytes).error (d2h_at bytes).i tag → new.area ≡ put_at register_place bytes old.area → new.windows ≡ old.windows
     → IsTaken tag work old new answer
@@ -237,7 +237,7 @@ taken_as old new tag work answer lba false bytes at is spell small same step app
     (record {
       answer_is = step ∙ ap (λ b. taken_step (length old.past) (d2h_at b)) same ∙ ap (λ b. cond b (Failed (length old.past)) (Accepted (length old.past))) accepts;
       appended = subst (Appends old new) (ap (λ b. taken_entry tag (d2h_at b)) same
-        ∙ ap (λ b. cond b (Fail tag (d2h_at accepted_bytes).error (d2h_at accepted_bytes).lba) (Accept tag)) accepts) appended;
+          ∙ ap (λ b. cond b (Fail tag (d2h_at accepted_bytes).error (d2h_at accepted_bytes).lba) (Accept tag)) accepts) appended;
       registers_are = moved ∙ ap (λ b. after_register old.registers (d2h_at b).status (d2h_at b).error (d2h_at b).i tag) same;
       area_is = area ∙ ap (λ b. put_at register_place b old.area) same;
       windows_same = windows;

@@ -44,7 +44,7 @@ stopped_by_write s value h e =
     let st = has_place (bits value) 0 in
     let fre = has_place (bits value) 4 in
     at_last (λ t. (t.sact ≡ no_places) × (t.ci ≡ no_places)) Running NotReceiving (commanded s st fre)
-      (remaining_of_stopped s.st st s.sact (λ k. (h.stopped k).0) e, remaining_of_stopped s.st st s.ci (λ k. (h.stopped k).1) e)
+    (remaining_of_stopped s.st st s.sact (λ k. (h.stopped k).0) e, remaining_of_stopped s.st st s.ci (λ k. (h.stopped k).1) e)
     (s.st && not fre) (not s.st && st && not (s.fre && fre))
 
 -- ---- PxCMD written back

@@ -3,9 +3,25 @@ use Rattle.std.proofs.Common.{◌≡◌, ℕ, ◌^◌, ◌<◌, ◌≤◌, Bool,
 use Rattle.std.proofs.lemmas.Bool.{cases_eq, cases_lt}
 use Rattle.std.proofs.lemmas.Nat.{or_of_8, and_le_l}
 use Rattle.word_bits.specs.Places.{bits, has_place, no_places, without_place, union, intersection, minus, only_below}
-use Rattle.word_bits.proofs.PlacesLemmas.{length-no_places, length-without_place, length-union, length-intersection, length-minus, length-only_below,
-  has_place-no_places, has_place-without_same, has_place-without_other, has_place-union, has_place-intersection,
-  has_place-minus, has_place-only_below, has_place-only_below_past, same_sets, and_true, and_false}
+use Rattle.word_bits.proofs.PlacesLemmas.{
+  length-no_places,
+  length-without_place,
+  length-union,
+  length-intersection,
+  length-minus,
+  length-only_below,
+  has_place-no_places,
+  has_place-without_same,
+  has_place-without_other,
+  has_place-union,
+  has_place-intersection,
+  has_place-minus,
+  has_place-only_below,
+  has_place-only_below_past,
+  same_sets,
+  and_true,
+  and_false,
+}
 use Rattle.word_bits.proofs.BitsLemmas.{length-bits, bits_and, bits_zero}
 use Rattle.ahci_regs.specs.PortState.{PortState, IsLawful, IsSlots, IsInterrupts, implemented, first_state}
 use Rattle.ahci_regs.specs.Writing.{remaining}
@@ -123,7 +139,7 @@ interrupts-tfes = interrupts-bit (2 ^ 30) refl
 
 -- where a FIS replaces the status, raises interrupts and takes commands away
 pub kept_by_fis : (s : PortState) (sts err : ℕ) (is sact ci : List Bool) → IsLawful s → sts < 256 → err < 256 → IsInterrupts is → IsSlots s.depth sact
-  → IsSlots s.depth ci → (s.sact ≡ no_places → sact ≡ no_places) → (s.ci ≡ no_places → ci ≡ no_places) → IsLawful (record s { sts = sts; err = err; is = is; sact = sact; ci = ci })
+    → IsSlots s.depth ci → (s.sact ≡ no_places → sact ≡ no_places) → (s.ci ≡ no_places → ci ≡ no_places) → IsLawful (record s { sts = sts; err = err; is = is; sact = sact; ci = ci })
 kept_by_fis s sts err is sact ci h below_sts below_err known slots_sact slots_ci keeps_sact keeps_ci = record {
   some_slot = h.some_slot;
   slots = h.slots;
@@ -158,7 +174,7 @@ kept_by_interrupts s is ie h known_is known_ie = record {
 
 -- where ST, FRE or a slot changes
 pub kept_by_command : (s : PortState) (st fre : Bool) (sact ci : List Bool) → IsLawful s → IsSlots s.depth sact → IsSlots s.depth ci → (st ≡ true → fre ≡ true)
-  → (st ≡ false → (sact ≡ no_places) × (ci ≡ no_places)) → IsLawful (record s { st = st; fre = fre; sact = sact; ci = ci })
+    → (st ≡ false → (sact ≡ no_places) × (ci ≡ no_places)) → IsLawful (record s { st = st; fre = fre; sact = sact; ci = ci })
 kept_by_command s st fre sact ci h slots_sact slots_ci receiving stopped = record {
   some_slot = h.some_slot;
   slots = h.slots;

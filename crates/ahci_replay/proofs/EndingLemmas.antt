@@ -1,6 +1,45 @@
 -- Lemmas about how a script ends: at the end of its input, or at a fault.
-use Rattle.std.proofs.Common.{◌≡◌, ℕ, ◌+◌, ◌<◌, ◌==◌, Bool, true, false, [], ◌∷◌, ◌++◌, Option, Some, None, Result, Ok, Err, IfErr, IsErrAnd, OnErr,
-  OnOk, cond, nat_le, nat_lt, length, take, drop, refl, sym, ap, ◌∙◌, subst, inl, inr, append_assoc, append-nil, length-append, length-take-le, arith}
+use Rattle.std.proofs.Common.{
+  ◌≡◌,
+  ℕ,
+  ◌+◌,
+  ◌<◌,
+  ◌==◌,
+  Bool,
+  true,
+  false,
+  [],
+  ◌∷◌,
+  ◌++◌,
+  Option,
+  Some,
+  None,
+  Result,
+  Ok,
+  Err,
+  IfErr,
+  IsErrAnd,
+  OnErr,
+  OnOk,
+  cond,
+  nat_le,
+  nat_lt,
+  length,
+  take,
+  drop,
+  refl,
+  sym,
+  ap,
+  ◌∙◌,
+  subst,
+  inl,
+  inr,
+  append_assoc,
+  append-nil,
+  length-append,
+  length-take-le,
+  arith,
+}
 use Rattle.std.specs.List.{position_or_len}
 use Rattle.std.proofs.lemmas.Bool.{lt-ltb}
 use Rattle.std.proofs.lemmas.List.{get_or-take}
@@ -15,8 +54,26 @@ use Rattle.ahci_replay.specs.declared.fault.CliFault.{CliFault}
 use Rattle.ahci_replay.specs.declared.fault.CliFault.TheVariants.{Line, Job, Read, Write, Unsettled, Lost, OutOfMemory}
 use Rattle.ahci_replay.specs.Fault.{is_of_output}
 use Rattle.ahci_replay.specs.Place.{Place}
-use Rattle.ahci_replay.specs.Transcript.{Ends, EndsWith, Grown, IsCutOff, IsFaulty, IsFaultyAs, IsLineFault, MayEnd,
-  Progress, Replayed, ReplayedFirst, ReplayedTo, Stops, WritesPart, beginning, no_line, placed, with_feeds}
+use Rattle.ahci_replay.specs.Transcript.{
+  Ends,
+  EndsWith,
+  Grown,
+  IsCutOff,
+  IsFaulty,
+  IsFaultyAs,
+  IsLineFault,
+  MayEnd,
+  Progress,
+  Replayed,
+  ReplayedFirst,
+  ReplayedTo,
+  Stops,
+  WritesPart,
+  beginning,
+  no_line,
+  placed,
+  with_feeds,
+}
 use Rattle.ahci_replay.proofs.ProgressLemmas.{Adds-append, Bytes, Counts, Known, Port, Progress-line, Progress-refl, Progress-trans, counts, next, parts, with_feeds-append}
 
 -- a last line that was answered, behind text that was written before

@@ -21,7 +21,7 @@ use Rattle.ncq_journal.specs.Work.{Work, lba_of, sectors_of}
 
 -- a build that succeeded had nothing against it
 pub built_free : (T : Type 0) (x : T) (o : Option BuildFault)
-  → MatchOption o (IfErr {T = T} {E = BuildFault} (Ok x) (λ e. e ≡ build.OutOfMemory)) (λ f. IsErrAnd {T = T} {E = BuildFault} (Ok x) (λ e. e ≡ f)) → o ≡ None
+    → MatchOption o (IfErr {T = T} {E = BuildFault} (Ok x) (λ e. e ≡ build.OutOfMemory)) (λ f. IsErrAnd {T = T} {E = BuildFault} (Ok x) (λ e. e ≡ f)) → o ≡ None
 built_free T x None is = refl
 built_free T x (Some f) is = absurd is
 
@@ -42,7 +42,7 @@ no_case false true false l rest whole none = cc
 no_case false false r l rest whole none = refl
 
 count_case : (c b r : Bool) (l : Option BuildFault) (rest : Option Refusal) → r ≡ false → ((c || r) ≡ false → l ≡ None)
-  → cond (c || r) (Some build.BadCount) (cond b (Some build.BadLba) l) ≡ Some build.BadCount
+    → cond (c || r) (Some build.BadCount) (cond b (Some build.BadLba) l) ≡ Some build.BadCount
     → cond c (Some refused.BadCount) (cond b (Some refused.BadLba) rest) ≡ Some refused.BadCount
 count_case true b r l rest whole free is = refl
 count_case false b true l rest whole free is = absurd (true≢false whole)
@@ -53,7 +53,7 @@ count_case false false false l rest whole free is = absurd (none_some (sym (free
     none_some e = cc
 
 address_case : (c b r : Bool) (l : Option BuildFault) (rest : Option Refusal) → r ≡ false → ((c || r) ≡ false → l ≡ None)
-  → cond (c || r) (Some build.BadCount) (cond b (Some build.BadLba) l) ≡ Some build.BadLba
+    → cond (c || r) (Some build.BadCount) (cond b (Some build.BadLba) l) ≡ Some build.BadLba
     → cond c (Some refused.BadCount) (cond b (Some refused.BadLba) rest) ≡ Some refused.BadLba
 address_case true b r l rest whole free is = cc
 address_case false b true l rest whole free is = absurd (true≢false whole)
@@ -72,10 +72,10 @@ other_case false false false l e free is memory count address = memory (subst (�
 
 -- nothing else stands against a window over the default pieces
 pub no_other_fault : (e : BuildFault) (work : Work) → MatchOption (refusal work (default_list (sectors_of work))) (e ≡ build.OutOfMemory) (λ f. e ≡ f)
-  → e ≢ build.OutOfMemory → e ≢ build.BadCount → e ≢ build.BadLba → ⊥
+    → e ≢ build.OutOfMemory → e ≢ build.BadCount → e ≢ build.BadLba → ⊥
 no_other_fault e work is memory count address =
     other_case (count_bad (sectors_of work)) (nat_le (2 ^ 48) (lba_of work)) (is_ragged work)
-      (list_refusal (default_list (sectors_of work)) (512 * sectors_of work)) e (defaults_serve work) is memory count address
+    (list_refusal (default_list (sectors_of work)) (512 * sectors_of work)) e (defaults_serve work) is memory count address
 
 -- a window that is fit is refused by a name that is shown, or for want of memory
 pub fit_is_named : (port : PortView) (w : WindowState) (e : IssueFault) → IsFit w → RefusesIssue port w e → of_issue e ≡ None → e ≢ issue.OutOfMemory → ⊥
@@ -94,18 +94,18 @@ abbrev pub port_says : PortView → ℕ → Option Refusal
 port_says port tag = joined (option_map of_issue (early_refusal port tag))
 
 pub free_issue : (port : PortView) (tag : ℕ) (work : Work) → is_ragged work ≡ false → refusal work (default_list (sectors_of work)) ≡ None
-  → issue_refusal port tag (lba_of work) (sectors_of work) ≡ port_says port tag
+    → issue_refusal port tag (lba_of work) (sectors_of work) ≡ port_says port tag
 free_issue port tag work whole free =
     no_case (count_bad (sectors_of work)) (nat_le (2 ^ 48) (lba_of work)) (is_ragged work) (list_refusal (default_list (sectors_of work)) (512 * sectors_of work)) (port_says port tag) whole free
 
 pub count_issue : (port : PortView) (tag : ℕ) (work : Work) → is_ragged work ≡ false → refusal work (default_list (sectors_of work)) ≡ Some build.BadCount
-  → issue_refusal port tag (lba_of work) (sectors_of work) ≡ Some refused.BadCount
+    → issue_refusal port tag (lba_of work) (sectors_of work) ≡ Some refused.BadCount
 count_issue port tag work whole is =
     count_case (count_bad (sectors_of work)) (nat_le (2 ^ 48) (lba_of work)) (is_ragged work)
-      (list_refusal (default_list (sectors_of work)) (512 * sectors_of work)) (port_says port tag) whole (defaults_serve work) is
+    (list_refusal (default_list (sectors_of work)) (512 * sectors_of work)) (port_says port tag) whole (defaults_serve work) is
 
 pub address_issue : (port : PortView) (tag : ℕ) (work : Work) → is_ragged work ≡ false → refusal work (default_list (sectors_of work)) ≡ Some build.BadLba
-  → issue_refusal port tag (lba_of work) (sectors_of work) ≡ Some refused.BadLba
+    → issue_refusal port tag (lba_of work) (sectors_of work) ≡ Some refused.BadLba
 address_issue port tag work whole is =
     address_case (count_bad (sectors_of work)) (nat_le (2 ^ 48) (lba_of work)) (is_ragged work)
-      (list_refusal (default_list (sectors_of work)) (512 * sectors_of work)) (port_says port tag) whole (defaults_serve work) is
+    (list_refusal (default_list (sectors_of work)) (512 * sectors_of work)) (port_says port tag) whole (defaults_serve work) is

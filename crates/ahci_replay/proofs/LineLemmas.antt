@@ -22,12 +22,12 @@ skip_grown port text old is = record {
 
 -- a line with a command may stand where its command may
 command_placed : (port : Option PortView) (text : List ℕ) (command : Command) → line_of text ≡ Some (line.Run command)
-  → placed port text ≡ cond (is_in_place port command) (Some (line.Run command)) None
+    → placed port text ≡ cond (is_in_place port command) (Some (line.Run command)) None
 command_placed port text command is = ap (option_and_then (placed_by port)) is
 
 -- a command adds its answer
 run_grown : (port port' : Option PortView) (text old new : List ℕ) (command : Command) → line_of text ≡ Some (line.Run command)
-  → is_in_place port command ≡ true → (added : List ℕ) × HasRun port command port' added × (new ≡ old ++ added) → Grown port text port' old new
+    → is_in_place port command ≡ true → (added : List ℕ) × HasRun port command port' added × (new ≡ old ++ added) → Grown port text port' old new
 run_grown port port' text old new command is may ran = record {
   spelled = line.Run command;
   is = command_placed port text command is ∙ ap (λ b. cond b (Some (line.Run command)) None) may;
@@ -46,7 +46,7 @@ in_place false x fault out = let told : well x ≡ Err fault = out refl in cc
 
 -- the same of a result: where the command was out of place there is none
 pub ran_grown : (result : Result (Unit {0}) CliFault) (fault : CliFault) (port port' : Option PortView) (text old new : List ℕ) (command : Command)
-  → line_of text ≡ Some (line.Run command) → (is_in_place port command ≡ false → result ≡ Err fault)
+    → line_of text ≡ Some (line.Run command) → (is_in_place port command ≡ false → result ≡ Err fault)
     → OnOk result ((added : List ℕ) × HasRun port command port' added × (new ≡ old ++ added)) → OnOk result (Grown port text port' old new)
 ran_grown (Err e) fault port port' text old new command is told ran = ran
 ran_grown (Ok x) fault port port' text old new command is told ran =
@@ -54,7 +54,7 @@ ran_grown (Ok x) fault port port' text old new command is told ran =
 
 -- a fault of the command is one of the line
 pub fault_of_line : (result : Result (Unit {0}) CliFault) (port : Option PortView) (text : List ℕ) (command : Command) (n : ℕ)
-  → line_of text ≡ Some (line.Run command) → IfErr result (IsCommandFault port command n) → IfErr result (IsLineFault port text n)
+    → line_of text ≡ Some (line.Run command) → IfErr result (IsCommandFault port command n) → IfErr result (IsLineFault port text n)
 fault_of_line (Ok x) port text command n is fault = fault
 fault_of_line (Err (Line k)) port text command n is fault =
     (fault.0, command_placed port text command is ∙ ap (λ b. cond b (Some (line.Run command)) None) fault.1)
@@ -67,7 +67,7 @@ fault_of_line (Err OutOfMemory) port text command n is fault = fault
 
 -- a line with a command that may not stand there is refused as the command is
 pub wrong_line : (result : Result (Unit {0}) CliFault) (fault : CliFault) (port : Option PortView) (text : List ℕ) (command : Command)
-  → line_of text ≡ Some (line.Run command) → (is_in_place port command ≡ false → result ≡ Err fault) → placed port text ≡ None → result ≡ Err fault
+    → line_of text ≡ Some (line.Run command) → (is_in_place port command ≡ false → result ≡ Err fault) → placed port text ≡ None → result ≡ Err fault
 wrong_line result fault port text command is told none =
     told (out (is_in_place port command) (sym (command_placed port text command is) ∙ none))
   where

@@ -24,13 +24,13 @@ on_err (Err e) P p = p
 
 -- a call that the port carried out
 pub carried_out : {F : Type 0} (T : Type 0) (x : T) (o : Option F) (show : F → Refusal) (old new : PortView) (said : Said) (Done : Type 0)
-  → Answers {T = T} {E = F} (Ok x) o → Done → RefusedOr (option_map show o) old new said Done
+    → Answers {T = T} {E = F} (Ok x) o → Done → RefusedOr (option_map show o) old new said Done
 carried_out T x None show old new said Done is done = done
 carried_out T x (Some f) show old new said Done is done = cc
 
 -- a call that the port refused
 pub refused : {F : Type 0} (T : Type 0) (f : F) (o : Option F) (show : F → Refusal) (q : Refusal) (old new : PortView) (Done : Type 0)
-  → Answers {T = T} {E = F} (Err f) o → q ≡ show f → new ≡ old → RefusedOr (option_map show o) old new (says.Refused q) Done
+    → Answers {T = T} {E = F} (Err f) o → q ≡ show f → new ≡ old → RefusedOr (option_map show o) old new (says.Refused q) Done
 refused T f None show q old new Done is named same = cc
 refused T f (Some g) show q old new Done is named same =
     let inner : f ≡ g = cc in (same, ap says.Refused (named ∙ ap show inner))

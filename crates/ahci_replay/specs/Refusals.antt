@@ -22,8 +22,26 @@ use Rattle.ahci_regs.specs.declared.fault.RegFault.TheVariants as reg
 use Rattle.ahci_script.specs.declared.line.Command.{Command}
 use Rattle.ahci_script.specs.declared.line.Command.TheVariants as command
 use Rattle.ahci_script.specs.declared.refusal.Refusal.{Refusal}
-use Rattle.ahci_script.specs.declared.refusal.Refusal.TheVariants.{BadSize, BadDepth, BadCount, BadLba, NoSuchTag, SlotOwned, Halted, NotIssued,
-  NotAccepted, OutsideCommand, Stranger, NotYet, NotHalted, NotHeld, QueueBusy, Unaligned, NoSuchRegister, NoSuchSector}
+use Rattle.ahci_script.specs.declared.refusal.Refusal.TheVariants.{
+  BadSize,
+  BadDepth,
+  BadCount,
+  BadLba,
+  NoSuchTag,
+  SlotOwned,
+  Halted,
+  NotIssued,
+  NotAccepted,
+  OutsideCommand,
+  Stranger,
+  NotYet,
+  NotHalted,
+  NotHeld,
+  QueueBusy,
+  Unaligned,
+  NoSuchRegister,
+  NoSuchSector,
+}
 use Rattle.ncq_core.specs.DiskState.{most_depth, most_disk_sectors}
 use Rattle.ncq_journal.specs.Lawful.{most_sectors}
 

@@ -42,7 +42,7 @@ RunsLine old (line.Run command) new text = HasRun old command new text
 pub data Adds : Option PortView → List (List ℕ) → List ℕ → Option PortView → Type 0 where
   no_line : (port : Option PortView) → Adds port [] [] port
   one_more : (port : Option PortView) (first : List ℕ) (l : Line) (next : Option PortView) (added : List ℕ) (more : List (List ℕ)) (text : List ℕ) (last : Option PortView)
-    → found_of (first ++ 10 ∷ []) ≡ whole first → placed port first ≡ Some l → RunsLine port l next added → Adds next more text last → Adds port (first ∷ more) (added ++ text) last
+      → found_of (first ++ 10 ∷ []) ≡ whole first → placed port first ≡ Some l → RunsLine port l next added → Adds next more text last → Adds port (first ∷ more) (added ++ text) last
 
 -- lines with their line feeds, joined
 abbrev pub with_feeds : List (List ℕ) → List ℕ

@@ -26,7 +26,7 @@ above_from_none limit n h = grind (arith, nat_tests)
 
 -- a digit that goes past 64 bits: so does the whole value
 pub overflows : (v i : ℕ) (xs : List ℕ) → i < length xs → fold with_digit v (drop i xs) ≡ decimal_value xs
-  → below (2 ^ 64) (with_digit v (get_or xs i 0)) ≡ None → below (2 ^ 64) (decimal_value xs) ≡ None
+    → below (2 ^ 64) (with_digit v (get_or xs i 0)) ≡ None → below (2 ^ 64) (decimal_value xs) ≡ None
 overflows v i xs within so_far none =
     let next = with_digit v (get_or xs i 0) in
     let past = above_from_none (2 ^ 64) next none in

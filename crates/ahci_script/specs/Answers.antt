@@ -3,8 +3,26 @@ use Rattle.std.specs.Prelude.{ℕ, zero, suc, ◌+◌, ◌*◌, ◌/◌, ◌%◌
 use Rattle.std.specs.Fmt.{decimal, digit_glyph}
 use Rattle.ahci_script.specs.Said.{Said, Disk, Issued, Accepted, Completed, FailedStep, Wrote, Read, Failed, Recovered, Reissued, Register, Acked, Word, Flushed, Sector, Journal, Refused}
 use Rattle.ahci_script.specs.declared.refusal.Refusal.{Refusal}
-use Rattle.ahci_script.specs.declared.refusal.Refusal.TheVariants.{BadSize, BadDepth, BadCount, BadLba, NoSuchTag, SlotOwned, Halted, NotIssued,
-  NotAccepted, OutsideCommand, NotHalted, NotHeld, QueueBusy, Stranger, NotYet, Unaligned, NoSuchRegister, NoSuchSector}
+use Rattle.ahci_script.specs.declared.refusal.Refusal.TheVariants.{
+  BadSize,
+  BadDepth,
+  BadCount,
+  BadLba,
+  NoSuchTag,
+  SlotOwned,
+  Halted,
+  NotIssued,
+  NotAccepted,
+  OutsideCommand,
+  NotHalted,
+  NotHeld,
+  QueueBusy,
+  Stranger,
+  NotYet,
+  Unaligned,
+  NoSuchRegister,
+  NoSuchSector,
+}
 
 -- the last digits of a number as hexadecimal ones, in lower case
 abbrev pub hex_of : ℕ → ℕ → List ℕ

@@ -1,11 +1,55 @@
 -- What is written into a new window.
-use Rattle.std.proofs.Common.{◌≡◌, ℕ, ◌+◌, ◌-◌, ◌*◌, ◌<◌, ◌≤◌, zero, suc, max, ◌%◌, true, false, nat_eq, List, [],
-  ◌∷◌, ◌++◌, length, take, drop, replicate, get_or, ap, sym, refl, subst, ◌∙◌, arith, inl, inr}
+use Rattle.std.proofs.Common.{
+  ◌≡◌,
+  ℕ,
+  ◌+◌,
+  ◌-◌,
+  ◌*◌,
+  ◌<◌,
+  ◌≤◌,
+  zero,
+  suc,
+  max,
+  ◌%◌,
+  true,
+  false,
+  nat_eq,
+  List,
+  [],
+  ◌∷◌,
+  ◌++◌,
+  length,
+  take,
+  drop,
+  replicate,
+  get_or,
+  ap,
+  sym,
+  refl,
+  subst,
+  ◌∙◌,
+  arith,
+  inl,
+  inr,
+}
 use Rattle.std.specs.List.{All, flat_map}
 use Rattle.std.proofs.lemmas.Bool.{eqb-true}
 use Rattle.std.proofs.lemmas.Grind.{flat_map-append}
-use Rattle.std.proofs.lemmas.List.{append_assoc, take_more, append-nil, length-append, length-replicate, drop_all, take_at,
-  drop-replicate, take-replicate, replicate-append-replicate, get_or-replicate, get_or_past, get_or-append_right}
+use Rattle.std.proofs.lemmas.List.{
+  append_assoc,
+  take_more,
+  append-nil,
+  length-append,
+  length-replicate,
+  drop_all,
+  take_at,
+  drop-replicate,
+  take-replicate,
+  replicate-append-replicate,
+  get_or-replicate,
+  get_or_past,
+  get_or-append_right,
+}
 use Rattle.sata_fis.specs.Command.{h2d_for}
 use Rattle.sata_fis.specs.Encoding.{h2d_bytes}
 use Rattle.ncq_journal.specs.Work.{Work, Write, sectors_of}
@@ -66,7 +110,7 @@ table_fits t (p ∷ ps) some h = let first : t ≤ p.at = h 0 p (omega arith) in
 
 -- pieces behind the table hold zeros at first
 pub joined-zeros : (front : List ℕ) (m : ℕ) (ps : List Piece) → All (λ p. length front ≤ p.at) ps
-  → All (λ p. end_of p ≤ length front + m) ps → joined ps (front ++ replicate m 0) ≡ replicate (total ps) 0
+    → All (λ p. end_of p ≤ length front + m) ps → joined ps (front ++ replicate m 0) ≡ replicate (total ps) 0
 joined-zeros front m [] low high = refl
 joined-zeros front m (p ∷ ps) low high =
     let a : length front ≤ p.at = low 0 p (omega arith) in
@@ -95,12 +139,12 @@ built tag work ps header bytes table f h is len moved others =
     let behind = all_behind work ps f in
     let fits : t ≤ furthest ps = table_fits t ps f.has behind in
     let whole : length (table ++ replicate n 0) ≡ furthest ps = length-append table (replicate n 0)
-      ∙ ap (λ k. length table + k) (length-replicate n 0) ∙ (let e : length table + n ≡ furthest ps = omega arith in e) in
+    ∙ ap (λ k. length table + k) (length-replicate n 0) ∙ (let e : length table + n ≡ furthest ps = omega arith in e) in
     record {
       tag_is = refl;
       header_is = h;
       table_is = same_part 0 t bytes (table ++ replicate n 0) (len ∙ sym whole)
-        (λ x l u. others x (none_before t x ps behind (omega arith)) ∙ sym (zeros_behind table n x)) ∙ take_at table (replicate n 0) t front ∙ is;
+          (λ x l u. others x (none_before t x ps behind (omega arith)) ∙ sym (zeros_behind table n x)) ∙ take_at table (replicate n 0) t front ∙ is;
       end_is = len;
       data_is = moved;
       gaps = λ x l e. others x e ∙ get_or_past table x 0 (omega arith);
@@ -108,20 +152,20 @@ built tag work ps header bytes table f h is len moved others =
 
 -- the bytes before a write's data are copied in: they end where the pieces end, and the pieces hold zeros
 pub length-blank : (table : List ℕ) (work : Work) (ps : List Piece) → IsFree work ps → length table ≡ entry_place (length ps)
-  → length (table ++ replicate (furthest ps - length table) 0) ≡ furthest ps
+    → length (table ++ replicate (furthest ps - length table) 0) ≡ furthest ps
 length-blank table work ps f front =
     let n = furthest ps - length table in
     let fits : entry_place (length ps) ≤ furthest ps = table_fits (entry_place (length ps)) ps f.has (all_behind work ps f) in
     length-append table (replicate n 0) ∙ ap (λ k. length table + k) (length-replicate n 0) ∙ (let e : length table + n ≡ furthest ps = omega arith in e)
 
 pub joined-blank : (table : List ℕ) (work : Work) (ps : List Piece) → IsFree work ps → length table ≡ entry_place (length ps)
-  → joined ps (table ++ replicate (furthest ps - length table) 0) ≡ replicate (512 * sectors_of work) 0
+    → joined ps (table ++ replicate (furthest ps - length table) 0) ≡ replicate (512 * sectors_of work) 0
 joined-blank table work ps f front =
     let n = furthest ps - length table in
     let fits : entry_place (length ps) ≤ furthest ps = table_fits (entry_place (length ps)) ps f.has (all_behind work ps f) in
     let end : furthest ps ≡ length table + n = omega arith in
     joined-zeros table n ps (subst (λ t. All (λ p. t ≤ p.at) ps) (sym front) (all_behind work ps f))
-      (subst (λ e. All (λ p. end_of p ≤ e) ps) end (furthest_covers ps))
+    (subst (λ e. All (λ p. end_of p ≤ e) ps) end (furthest_covers ps))
     ∙ ap (λ m. replicate m 0) f.sum
 
 -- a write's bytes are as many as its pieces have
@@ -137,7 +181,7 @@ pub record IsLaid (ps : List Piece) (table text bytes : List ℕ) : Type 0 where
   pub others : (x : ℕ) → in_some x ps ≡ false → get_or bytes x 0 ≡ get_or table x 0
 
 pub is_laid : (lba : ℕ) (ps : List Piece) (table text bytes : List ℕ) → IsFree (Write lba text) ps → length table ≡ entry_place (length ps)
-  → rises (length table) ps ≡ true → bytes ≡ table ++ laid (length table) ps text → IsLaid ps table text bytes
+    → rises (length table) ps ≡ true → bytes ≡ table ++ laid (length table) ps text → IsLaid ps table text bytes
 is_laid lba ps table text bytes f front r is =
     let sum = write_sum lba text ps f in
     let fits : entry_place (length ps) ≤ furthest ps = table_fits (entry_place (length ps)) ps f.has (all_behind (Write lba text) ps f) in

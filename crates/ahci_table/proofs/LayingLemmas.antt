@@ -1,9 +1,51 @@
 -- A window whose data are laid piece by piece is one whose pieces held zeros before the data were copied in.
-use Rattle.std.proofs.Common.{◌≡◌, ℕ, ◌+◌, ◌-◌, ◌<◌, ◌≤◌, max, true, false, leb, ltb, List, [], ◌∷◌, ◌++◌, length, take, drop, replicate,
-  get_or, ap, sym, refl, subst, ◌∙◌, arith, inl, inr}
+use Rattle.std.proofs.Common.{
+  ◌≡◌,
+  ℕ,
+  ◌+◌,
+  ◌-◌,
+  ◌<◌,
+  ◌≤◌,
+  max,
+  true,
+  false,
+  leb,
+  ltb,
+  List,
+  [],
+  ◌∷◌,
+  ◌++◌,
+  length,
+  take,
+  drop,
+  replicate,
+  get_or,
+  ap,
+  sym,
+  refl,
+  subst,
+  ◌∙◌,
+  arith,
+  inl,
+  inr,
+}
 use Rattle.std.proofs.lemmas.Bool.{cases_lt, and_parts, and_from, or_parts, le-leb, lt-ltb, leb-true, false≢true}
-use Rattle.std.proofs.lemmas.List.{append_assoc, append-nil, length-append, length-replicate, length-take-le, length-drop, take-append-drop, take_at,
-  nil_from_length, drop_at, get_or-replicate, get_or_past, get_or_append_left, get_or-append_right}
+use Rattle.std.proofs.lemmas.List.{
+  append_assoc,
+  append-nil,
+  length-append,
+  length-replicate,
+  length-take-le,
+  length-drop,
+  take-append-drop,
+  take_at,
+  nil_from_length,
+  drop_at,
+  get_or-replicate,
+  get_or_past,
+  get_or_append_left,
+  get_or-append_right,
+}
 use Rattle.ahci_table.specs.declared.piece.Piece.{Piece}
 use Rattle.ahci_table.specs.Laying.{laid, rises}
 use Rattle.ahci_table.specs.Piece.{covers, end_of, furthest, total}
@@ -25,7 +67,7 @@ own_length p ps text sum = length-take-le p.len text (omega arith)
 
 -- what is laid ends where the piece that reaches furthest ends
 pub length-laid : (end : ℕ) (ps : List Piece) (text : List ℕ) → rises end ps ≡ true → total ps ≡ length text
-  → end + length (laid end ps text) ≡ max end (furthest ps)
+    → end + length (laid end ps text) ≡ max end (furthest ps)
 length-laid end [] text r sum = omega arith
 length-laid end (p ∷ ps) text r sum =
     let from : end ≤ p.at = begins end p ps r in
@@ -33,11 +75,11 @@ length-laid end (p ∷ ps) text r sum =
     let own = take p.len text in
     let rest = laid (end_of p) ps (drop p.len text) in
     let all : length (gap ++ own ++ rest) ≡ length gap + length own + length rest =
-      length-append (gap ++ own) rest ∙ ap (λ n. n + length rest) (length-append gap own) in
+    length-append (gap ++ own) rest ∙ ap (λ n. n + length rest) (length-append gap own) in
     let gap_is : length gap ≡ p.at - end = length-replicate (p.at - end) 0 in
     let own_is : length own ≡ p.len = own_length p ps text sum in
     let more : end_of p + length rest ≡ max (end_of p) (furthest ps) =
-      length-laid (end_of p) ps (drop p.len text) (others_rise end p ps r) (left_over p ps text sum) in
+    length-laid (end_of p) ps (drop p.len text) (others_rise end p ps r) (left_over p ps text sum) in
     omega arith
 
 -- what is there before a piece's own bytes, and with them
@@ -47,7 +89,7 @@ before_own front end at is from =
     length-append front (replicate (at - end) 0) ∙ (let e : length front + length (replicate {A = ℕ} (at - end) 0) ≡ at = omega arith in e)
 
 with_own : (front : List ℕ) (end : ℕ) (p : Piece) (own : List ℕ) → length front ≡ end → end ≤ p.at → length own ≡ p.len
-  → length ((front ++ replicate (p.at - end) 0) ++ own) ≡ end_of p
+    → length ((front ++ replicate (p.at - end) 0) ++ own) ≡ end_of p
 with_own front end p own is from len =
     let lead : length (front ++ replicate (p.at - end) 0) ≡ p.at = before_own front end p.at is from in
     length-append (front ++ replicate (p.at - end) 0) own ∙ (let e : length (front ++ replicate (p.at - end) 0) + length own ≡ end_of p = omega arith in e)
@@ -60,7 +102,7 @@ apart front gap own rest = regroup front gap own rest ∙ append_assoc (front ++
 
 -- the pieces hold the text
 pub joined-laid : (front : List ℕ) (end : ℕ) (ps : List Piece) (text : List ℕ) → length front ≡ end → rises end ps ≡ true
-  → total ps ≡ length text → joined ps (front ++ laid end ps text) ≡ text
+    → total ps ≡ length text → joined ps (front ++ laid end ps text) ≡ text
 joined-laid front end [] text is r sum = sym (nil_from_length text (omega arith))
 joined-laid front end (p ∷ ps) text is r sum =
     let from : end ≤ p.at = begins end p ps r in
@@ -71,11 +113,11 @@ joined-laid front end (p ∷ ps) text is r sum =
     let own_is : length own ≡ p.len = own_length p ps text sum in
     let lead : length (front ++ gap) ≡ p.at = before_own front end p.at is from in
     let first : bytes_of p (front ++ (gap ++ own ++ rest)) ≡ own =
-      ap (λ z. bytes_of p z) (apart front gap own rest)
-      ∙ ap (take p.len) (drop_at (front ++ gap) (own ++ rest) p.at lead) ∙ take_at own rest p.len own_is in
+    ap (λ z. bytes_of p z) (apart front gap own rest)
+    ∙ ap (take p.len) (drop_at (front ++ gap) (own ++ rest) p.at lead) ∙ take_at own rest p.len own_is in
     let others : joined ps (front ++ (gap ++ own ++ rest)) ≡ left =
-      ap (joined ps) (regroup front gap own rest)
-      ∙ joined-laid ((front ++ gap) ++ own) (end_of p) ps left (with_own front end p own is from own_is) (others_rise end p ps r) (left_over p ps text sum) in
+    ap (joined ps) (regroup front gap own rest)
+    ∙ joined-laid ((front ++ gap) ++ own) (end_of p) ps left (with_own front end p own is from own_is) (others_rise end p ps r) (left_over p ps text sum) in
     ap (λ z. z ++ joined ps (front ++ (gap ++ own ++ rest))) first ∙ ap (λ z. own ++ z) others ∙ take-append-drop p.len text
 
 -- a place that the first piece covers is in some piece
@@ -83,19 +125,19 @@ covered : (x : ℕ) (p : Piece) (ps : List Piece) → in_some x (p ∷ ps) ≡ f
 covered x p ps e from =
     elim (cases_lt x (end_of p)) [
       | inl inside ↦ absurd (false≢true (sym (or_parts (covers x p) (in_some x ps) e).0
-        ∙ and_from (leb p.at x) (ltb x (end_of p)) (le-leb p.at x from) (lt-ltb x (end_of p) inside)))
+          ∙ and_from (leb p.at x) (ltb x (end_of p)) (le-leb p.at x from) (lt-ltb x (end_of p) inside)))
       | inr behind ↦ behind
     ]
 
 zero_in : (m i : ℕ) → get_or {A = ℕ} (replicate m 0) i 0 ≡ 0
 zero_in m i = elim (cases_lt i m) [
-    | inl l ↦ get_or-replicate m i 0 0 l
-    | inr h ↦ get_or_past (replicate m 0) i 0 (subst (λ n. n ≤ i) (sym (length-replicate m 0)) h)
-  ]
+  | inl l ↦ get_or-replicate m i 0 0 l
+  | inr h ↦ get_or_past (replicate m 0) i 0 (subst (λ n. n ≤ i) (sym (length-replicate m 0)) h)
+]
 
 -- a byte that no piece covers is zero, where it is behind what was there
 zero_behind : (front : List ℕ) (end : ℕ) (ps : List Piece) (text : List ℕ) (x : ℕ) → length front ≡ end → rises end ps ≡ true
-  → total ps ≡ length text → in_some x ps ≡ false → end ≤ x → get_or (front ++ laid end ps text) x 0 ≡ 0
+    → total ps ≡ length text → in_some x ps ≡ false → end ≤ x → get_or (front ++ laid end ps text) x 0 ≡ 0
 zero_behind front end [] text x is r sum e behind = get_or_past (front ++ []) x 0 (let n = length-append front [] in omega arith)
 zero_behind front end (p ∷ ps) text x is r sum e behind =
     let from : end ≤ p.at = begins end p ps r in
@@ -110,12 +152,12 @@ zero_behind front end (p ∷ ps) text x is r sum e behind =
           ∙ get_or_append_left (front ++ gap) (own ++ rest) 0 x (omega arith) ∙ get_or-append_right front gap end x 0 is behind ∙ zero_in (p.at - end) (x - end)
       | inr late ↦ ap (λ z. get_or z x 0) (regroup front gap own rest)
           ∙ zero_behind ((front ++ gap) ++ own) (end_of p) ps left x (with_own front end p own is from own_is) (others_rise end p ps r) (left_over p ps text sum)
-            (or_parts (covers x p) (in_some x ps) e).1 (covered x p ps e late)
+          (or_parts (covers x p) (in_some x ps) e).1 (covered x p ps e late)
     ]
 
 -- a byte that no piece covers is as it was
 pub others-laid : (front : List ℕ) (ps : List Piece) (text : List ℕ) (x : ℕ) → rises (length front) ps ≡ true
-  → total ps ≡ length text → in_some x ps ≡ false → get_or (front ++ laid (length front) ps text) x 0 ≡ get_or front x 0
+    → total ps ≡ length text → in_some x ps ≡ false → get_or (front ++ laid (length front) ps text) x 0 ≡ get_or front x 0
 others-laid front ps text x r sum e =
     elim (cases_lt x (length front)) [
       | inl early ↦ get_or_append_left front (laid (length front) ps text) 0 x early

@@ -1,7 +1,26 @@
 -- Parts of lists of bytes: fronts and rests of two lists in a row, and what copying over a part leaves.
 use Rattle.std.proofs.Common.{◌≡◌, ℕ, zero, suc, ◌+◌, ◌-◌, ◌<◌, ◌≤◌, min, ◌⊎◌, List, [], ◌∷◌, ◌++◌, length, take, drop, get_or, ap, sym, refl, ◌∙◌, arith, inl, inr}
-use Rattle.std.proofs.lemmas.List.{take_min, drop_min, append_assoc, append-nil, length-take, length-drop, length-append, length-take-le, take-append-drop,
-  take-append-le, drop-append-le, take-take, drop-take, drop-drop, take_all, drop_all, get_or-take, get_or-drop, ext_get_or}
+use Rattle.std.proofs.lemmas.List.{
+  take_min,
+  drop_min,
+  append_assoc,
+  append-nil,
+  length-take,
+  length-drop,
+  length-append,
+  length-take-le,
+  take-append-drop,
+  take-append-le,
+  drop-append-le,
+  take-take,
+  drop-take,
+  drop-drop,
+  take_all,
+  drop_all,
+  get_or-take,
+  get_or-drop,
+  ext_get_or,
+}
 use Rattle.std.proofs.lemmas.Bool.{cases_lt}
 use Rattle.std.proofs.lemmas.Slice.{take-put_mid_below, drop-put_mid}
 use borrow.Rule.Slice.PartMut.{put_mid}
@@ -57,7 +76,7 @@ replaced_right skip from xs ys h =
     ∙ ap (λ z. xs ++ z) (sym (append_assoc (take rest ys) from (drop (rest + length from) ys)))
 
 replaced_across : (skip count : ℕ) (from xs ys : List ℕ) → skip + count ≡ length xs → count ≤ length from
-  → replaced skip from (xs ++ ys) ≡ replaced skip (take count from) xs ++ replaced 0 (drop count from) ys
+    → replaced skip from (xs ++ ys) ≡ replaced skip (take count from) xs ++ replaced 0 (drop count from) ys
 replaced_across skip count from xs ys e h =
     let n = skip + length from in
     let cut : length (take count from) ≡ count = length-take-le count from h in
@@ -124,7 +143,7 @@ part-put_mid at len lead count xs ys c within inside =
     let part_len : length part ≡ length xs - at = length-drop at xs in
     let lead_len : length (take lead part) ≡ lead = length-take-le lead part (omega arith) in
     let rest_is : rest ≡ drop (lead + count) part = drop-drop count (at + lead) xs
-      ∙ ap (λ k. drop k xs) (let e : at + lead + count ≡ at + (lead + count) = omega arith in e) ∙ sym (drop-drop (lead + count) at xs) in
+    ∙ ap (λ k. drop k xs) (let e : at + lead + count ≡ at + (lead + count) = omega arith in e) ∙ sym (drop-drop (lead + count) at xs) in
     let a : drop at (put_mid (at + lead) count xs ys) ≡ take lead part ++ (ys ++ rest) =
     drop-append-le at (take (at + lead) xs) (ys ++ rest) (omega arith) ∙ ap (λ z. z ++ (ys ++ rest)) (drop-take at lead xs) in
     let b : take len (take lead part ++ (ys ++ rest)) ≡ take lead part ++ take (len - lead) (ys ++ rest) =
@@ -164,7 +183,7 @@ length-put a k xs ys len fits =
     let one : length (take a xs) ≡ a = length-take-le a xs (omega arith) in
     let two : length (drop k (drop a xs)) ≡ length xs - a - k = length-drop k (drop a xs) ∙ ap (λ n. n - k) (length-drop a xs) in
     length-append (take a xs) (ys ++ drop k (drop a xs)) ∙ ap (λ n. length (take a xs) + n) (length-append ys (drop k (drop a xs)))
-      ∙ (let e : length (take a xs) + (length ys + length (drop k (drop a xs))) ≡ length xs = omega arith in e)
+    ∙ (let e : length (take a xs) + (length ys + length (drop k (drop a xs))) ≡ length xs = omega arith in e)
 
 -- parts of lists that agree there are equal
 pub same_part : (at len : ℕ) (xs ys : List ℕ) → length xs ≡ length ys → ((x : ℕ) → at ≤ x → x < at + len → get_or xs x 0 ≡ get_or ys x 0) → take len (drop at xs) ≡ take len (drop at ys)

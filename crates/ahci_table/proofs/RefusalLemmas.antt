@@ -1,6 +1,40 @@
 -- What it says that nothing stands against a command with a list of pieces.
-use Rattle.std.proofs.Common.{◌≡◌, ℕ, ◌*◌, ◌%◌, ◌^◌, ◌<◌, ◌≤◌, ◌≢◌, zero, suc, Bool, true, false, not, cond, ◌||◌, nat_eq,
-  ltb, leb, eq-eqb, inl, inr, List, [], ◌∷◌, length, Option, Some, None, ap, sym, refl, ◌∙◌, arith}
+use Rattle.std.proofs.Common.{
+  ◌≡◌,
+  ℕ,
+  ◌*◌,
+  ◌%◌,
+  ◌^◌,
+  ◌<◌,
+  ◌≤◌,
+  ◌≢◌,
+  zero,
+  suc,
+  Bool,
+  true,
+  false,
+  not,
+  cond,
+  ◌||◌,
+  nat_eq,
+  ltb,
+  leb,
+  eq-eqb,
+  inl,
+  inr,
+  List,
+  [],
+  ◌∷◌,
+  length,
+  Option,
+  Some,
+  None,
+  ap,
+  sym,
+  refl,
+  ◌∙◌,
+  arith,
+}
 use Rattle.std.specs.List.{All, list_any}
 use Rattle.std.proofs.lemmas.Bool.{cases_lt, or_parts, eqb-true, lt-ltb, le-leb, false≢true}
 use Rattle.ncq_journal.specs.Lawful.{most_sectors}
@@ -50,7 +84,7 @@ then_not false f rest e = e
 
 list_free : (ps : List Piece) (bytes : ℕ) → list_refusal ps bytes ≡ None
     → (nat_eq (length ps) 0 ≡ false) × (ltb 32 (length ps) ≡ false) × (list_any is_odd ps ≡ false)
-      × (list_any (is_outside (length ps)) ps ≡ false) × (not (are_apart ps) ≡ false) × (not (nat_eq (total ps) bytes) ≡ false)
+    × (list_any (is_outside (length ps)) ps ≡ false) × (not (are_apart ps) ≡ false) × (not (nat_eq (total ps) bytes) ≡ false)
 list_free ps bytes e =
     let e1 = then_not (nat_eq (length ps) 0) NoPieces _ e in
     let e2 = then_not (ltb 32 (length ps)) TooManyPieces _ e1 in

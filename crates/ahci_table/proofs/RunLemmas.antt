@@ -100,7 +100,7 @@ scattered_outside (p ∷ ps) skip from bytes x h e =
 
 -- what is copied into a piece changes no piece apart from it
 joined_apart : (p : Piece) (qs : List Piece) (a k : ℕ) (bytes ys : List ℕ) → list_all (is_apart p) qs ≡ true → length ys ≡ k
-  → p.at ≤ a → a + k ≤ end_of p → end_of p ≤ length bytes → joined qs (put_mid a k bytes ys) ≡ joined qs bytes
+    → p.at ≤ a → a + k ≤ end_of p → end_of p ≤ length bytes → joined qs (put_mid a k bytes ys) ≡ joined qs bytes
 joined_apart p [] a k bytes ys e len low high inside = refl
 joined_apart p (q ∷ qs) a k bytes ys e len low high inside =
     let fits : a + k ≤ length bytes = omega arith in

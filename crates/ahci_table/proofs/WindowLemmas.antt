@@ -125,7 +125,7 @@ agree_fit w bytes h f =
       short = subst (λ xs. (asked_by (h2d_at xs)).sectors ≤ most_sectors) fis f.short;
       listed = record {
         entries = λ i below. subst (λ n. IsEntry (base w.tag) (table_end w) n (entry_of new i)) (sym h.len)
-          (subst (IsEntry (base w.tag) (table_end w) (length w.bytes)) (sym (agree_entry w bytes h i below)) (f.listed.entries i below));
+            (subst (IsEntry (base w.tag) (table_end w) (length w.bytes)) (sym (agree_entry w bytes h i below)) (f.listed.entries i below));
         apart = subst (λ ps. are_apart ps ≡ true) (sym list) f.listed.apart;
         whole = ap total list ∙ subst (λ xs. total (pieces w) ≡ 512 * (asked_by (h2d_at xs)).sectors) fis f.listed.whole;
       };

@@ -1,6 +1,39 @@
 -- What holds of every disk, and that each call leaves it so.
-use Rattle.std.proofs.Common.{◌≡◌, ℕ, ◌+◌, ◌*◌, ◌/◌, ◌^◌, ◌<◌, ◌≤◌, Bool, true, false, ◌&&◌, leb, ltb, List, ◌++◌,
-  length, take, drop, map, get_or, set, Option, Some, None, refl, ap, sym, ◌∙◌, arith, subst, inl, inr}
+use Rattle.std.proofs.Common.{
+  ◌≡◌,
+  ℕ,
+  ◌+◌,
+  ◌*◌,
+  ◌/◌,
+  ◌^◌,
+  ◌<◌,
+  ◌≤◌,
+  Bool,
+  true,
+  false,
+  ◌&&◌,
+  leb,
+  ltb,
+  List,
+  ◌++◌,
+  length,
+  take,
+  drop,
+  map,
+  get_or,
+  set,
+  Option,
+  Some,
+  None,
+  refl,
+  ap,
+  sym,
+  ◌∙◌,
+  arith,
+  subst,
+  inl,
+  inr,
+}
 use Rattle.std.proofs.lemmas.Bool.{cases_lt, cases_eq, ltb-true}
 use Rattle.std.proofs.lemmas.List.{get_or-replicate, get_or_past, length-replicate, get_or-set_same, get_or-set_other, set-get_or, length-set, get_or-map, length-map}
 use Rattle.std.specs.Option.{is_some, IfSome}
@@ -30,7 +63,7 @@ none_outstanding disk commands none tag q found =
     let is : None ≡ Some q = sym (command_of-no_commands tag) ∙ ap (λ c. get_or c tag None) (sym none) ∙ found in absurd (cc)
 
 pub is_disk_new : (image : List ℕ) (depth : ℕ) (none : List (Option QueuedFields)) → none ≡ no_commands
-  → length image ≡ 512 * (length image / 512) → 1 ≤ length image / 512 → length image / 512 ≤ 131072 → 1 ≤ depth → depth ≤ 32
+    → length image ≡ 512 * (length image / 512) → 1 ≤ length image / 512 → length image / 512 ≤ 131072 → 1 ≤ depth → depth ≤ 32
     → IsDisk (record { image = image; depth = depth; commands = none; error = None })
 is_disk_new image depth none empty whole least most deep shallow = record {
   whole = whole;
@@ -45,7 +78,7 @@ is_disk_new image depth none empty whole least most deep shallow = record {
 
 -- an error stands, and no command is left
 pub is_disk_stopped : (image : List ℕ) (depth : ℕ) (commands none : List (Option QueuedFields)) (error : Option DiskError) (tag code lba : ℕ)
-  → IsDisk (record { image = image; depth = depth; commands = commands; error = error }) → none ≡ no_commands
+    → IsDisk (record { image = image; depth = depth; commands = commands; error = error }) → none ≡ no_commands
     → tag < 32 → code < 256 → lba < 2 ^ 48 → IsDisk (record { image = image; depth = depth; commands = none; error = Some (record { tag = tag; error = code; lba = lba }) })
 is_disk_stopped image depth commands none error tag code lba d empty low byte far =
     let e : DiskError = record { tag = tag; error = code; lba = lba } in
@@ -63,7 +96,7 @@ is_disk_stopped image depth commands none error tag code lba d empty low byte fa
 
 -- other bytes stand in the image
 pub is_disk_moved : (image after : List ℕ) (depth len : ℕ) (commands : List (Option QueuedFields)) (error : Option DiskError)
-  → IsDisk (record { image = image; depth = depth; commands = commands; error = error })
+    → IsDisk (record { image = image; depth = depth; commands = commands; error = error })
     → len ≡ length image → length after ≡ length image → IsDisk (record { image = take len (after ++ drop (length after) image); depth = depth; commands = commands; error = error })
 is_disk_moved image after depth len commands error d whole size =
     let written = whole_write image after len whole size in
@@ -81,7 +114,7 @@ is_disk_moved image after depth len commands error d whole size =
 
 -- one command has ended
 pub is_disk_freed : (image : List ℕ) (depth tag : ℕ) (commands : List (Option QueuedFields)) (error : Option DiskError)
-  → IsDisk (record { image = image; depth = depth; commands = commands; error = error })
+    → IsDisk (record { image = image; depth = depth; commands = commands; error = error })
     → IsDisk (record { image = image; depth = depth; commands = set commands tag None; error = error })
 is_disk_freed image depth tag commands error d = record {
   whole = d.whole;

@@ -25,7 +25,7 @@ delivered_more bytes before after done end n e within text =
 
 -- the bytes that are filled after n more, where those before them were the text's first
 pub fetched_more : (out text part : List ℕ) (done end n : ℕ) → end ≡ done + n → done + n ≤ length out
-  → done + n ≤ length text → take done out ≡ take done text → part ≡ slice_range text done (done + n)
+    → done + n ≤ length text → take done out ≡ take done text → part ≡ slice_range text done (done + n)
     → take end (put_mid done n out part) ≡ take end text
 fetched_more out text part done end n e within room first is =
     let cut : done + n - done ≡ n = omega arith in
@@ -40,7 +40,7 @@ fetched_more out text part done end n e within room first is =
 
 -- the sectors that a write has made its bytes
 pub written_over : (lba n : ℕ) (image bytes : List ℕ) → 512 * (lba + n) ≤ length image → length bytes ≡ 512 * n
-  → (k : ℕ) → k ≡ 512 * n → IsWrittenOver lba bytes image (put_mid (lba * 512) k image bytes)
+    → (k : ℕ) → k ≡ 512 * n → IsWrittenOver lba bytes image (put_mid (lba * 512) k image bytes)
 written_over lba n image bytes fits len k size s =
     let count : n ≡ length bytes / 512 = omega arith in
     sector_at-put_mid lba (length bytes / 512) k image bytes (omega arith) (omega arith) (omega arith) s

@@ -1,6 +1,36 @@
 -- When a request has its answer, and what a Complete answers.
-use Rattle.std.proofs.Common.{◌≡◌, ◌≢◌, ℕ, ◌-◌, ◌<◌, ◌≤◌, Bool, true, false, cond, ◌==◌, List, [], ◌∷◌, length,
-  length-drop, ap, sym, refl, subst, ◌∙◌, Option, None, Some, is_some, IsSomeAnd, arith, inl, inr, suc}
+use Rattle.std.proofs.Common.{
+  ◌≡◌,
+  ◌≢◌,
+  ℕ,
+  ◌-◌,
+  ◌<◌,
+  ◌≤◌,
+  Bool,
+  true,
+  false,
+  cond,
+  ◌==◌,
+  List,
+  [],
+  ◌∷◌,
+  length,
+  length-drop,
+  ap,
+  sym,
+  refl,
+  subst,
+  ◌∙◌,
+  Option,
+  None,
+  Some,
+  is_some,
+  IsSomeAnd,
+  arith,
+  inl,
+  inr,
+  suc,
+}
 use Rattle.std.specs.Option.{option_or}
 use Rattle.std.proofs.lemmas.Bool.{both_ways, eqb-false, eq-eqb, cond-true}
 use Rattle.std.proofs.lemmas.Option.{same_Some}
@@ -50,7 +80,7 @@ silent image past n newest h = ap (option_or (answer image past n)) h ∙ or-non
 
 -- what an entry gives to a request whose tag it names, and to others
 gives : (t tag : ℕ) (o : Option Answer) (a : Answer) (p q : Phase) → is_answered q ≡ true → (t ≢ tag → is_some o ≡ is_answered p)
-  → is_some (option_or o (cond (t == tag) (Some a) None)) ≡ is_answered (cond (t == tag) q p)
+    → is_some (option_or o (cond (t == tag) (Some a) None)) ≡ is_answered (cond (t == tag) q p)
 gives t tag o a p q done older = by (t == tag) refl
   where
     by : (b : Bool) → (t == tag) ≡ b → is_some (option_or o (cond b (Some a) None)) ≡ is_answered (cond b q p)
@@ -84,8 +114,8 @@ given_quiet : (image : List ℕ) (past : List Entry) (newest : Entry) (issue : O
 given_quiet image past newest issue = given image past newest issue ≡ None
 
 issue_answered : (b : Bool) (t tag : ℕ) (image : List ℕ) (past : List Entry) (work : Work) (r : Request)
-  → (request past tag ≡ Some r → is_some (answer image past r.number) ≡ is_answered (phase past tag))
-  → cond b (Some (record { number = length past; work = work })) (request past tag) ≡ Some r → is_some (answer image past r.number) ≡ is_answered (cond b Issued (phase past tag))
+    → (request past tag ≡ Some r → is_some (answer image past r.number) ≡ is_answered (phase past tag))
+    → cond b (Some (record { number = length past; work = work })) (request past tag) ≡ Some r → is_some (answer image past r.number) ≡ is_answered (cond b Issued (phase past tag))
 issue_answered true t tag image past work r older e =
     let number : length past ≡ r.number = ap (λ (q : Request). q.number) (same_Some _ r e) in
     ap is_some (no_answer_yet image past r.number (omega arith))
@@ -104,7 +134,7 @@ answered_by_phase s d image (Complete t ∷ past) tag r h e =
 answered_by_phase s d image (Fail t error lba ∷ past) tag r h e =
     ap (λ i. is_some (option_or (answer image past r.number) (given image past (Fail t error lba) i))) (request_is_its_issue past tag r e)
     ∙ gives t tag (answer image past r.number) (record { entry = length past; outcome = outcome.Failed error lba; bytes = [] }) (phase past tag)
-      (failed (phase past tag)) (answered_failed (phase past tag)) (λ _. answered_by_phase s d image past tag r h.0 e)
+    (failed (phase past tag)) (answered_failed (phase past tag)) (λ _. answered_by_phase s d image past tag r h.0 e)
 answered_by_phase s d image (Recover t ∷ past) tag r h e =
     ap is_some (silent image past r.number (Recover t) refl) ∙ answered_by_phase s d image past tag r h.0 e ∙ sym (answered_recovered (phase past tag))
 answered_by_phase s d image (Reissue t ∷ past) tag r h e =
@@ -120,7 +150,7 @@ none_yet (Some a) h = absurd (cc)
 
 -- the answer that a Complete gives to its request
 pub completed_now : (s d : ℕ) (image : List ℕ) (past : List Entry) (tag : ℕ) (r : Request) → IsLawful s d (Complete tag ∷ past)
-  → request past tag ≡ Some r → answer image (Complete tag ∷ past) r.number ≡ Some (completes image past r.work)
+    → request past tag ≡ Some r → answer image (Complete tag ∷ past) r.number ≡ Some (completes image past r.work)
 completed_now s d image past tag r h e =
     let quiet = none_yet (answer image past r.number) (answered_by_phase s d image past tag r h.0 e ∙ ap is_answered h.1.0) in
     ap (λ o. option_or o (given image past (Complete tag) (entry_at past r.number))) quiet

@@ -44,7 +44,7 @@ entry_at-past past k h = slice_get_past (reverse past) k (let l : length (revers
 
 -- an entry of a journal is an older one or the newest
 pub entry_at_cases : (past : List Entry) (newest entry : Entry) (k : ℕ) → entry_at (newest ∷ past) k ≡ Some entry
-  → ((k < length past) × (entry_at past k ≡ Some entry)) ⊎ ((k ≡ length past) × (newest ≡ entry))
+    → ((k < length past) × (entry_at past k ≡ Some entry)) ⊎ ((k ≡ length past) × (newest ≡ entry))
 entry_at_cases past newest entry k h =
     elim (cases_lt k (length past)) [
       | inl older ↦ inl (older, sym (entry_at-older past newest k older) ∙ h)
@@ -85,8 +85,8 @@ pub lawful_at_each : LawfulAtEach
 lawful_at_each s d past = (lawful_at s d past, lawful_from s d past)
 
 issue_is : (b : Bool) (t tag : ℕ) (past : List Entry) (work : Work) (r : Request) → (b ≡ true → t ≡ tag)
-  → (b ≡ false → request past tag ≡ Some r → entry_at past r.number ≡ Some (Issue tag r.work)) → cond b (Some (record { number = length past; work = work })) (request past tag) ≡ Some r
-  → entry_at (Issue t work ∷ past) r.number ≡ Some (Issue tag r.work)
+    → (b ≡ false → request past tag ≡ Some r → entry_at past r.number ≡ Some (Issue tag r.work)) → cond b (Some (record { number = length past; work = work })) (request past tag) ≡ Some r
+    → entry_at (Issue t work ∷ past) r.number ≡ Some (Issue tag r.work)
 issue_is true t tag past work r same older e =
     let number : length past ≡ r.number = ap (λ (q : Request). q.number) (same_Some _ r e) in
     let its : work ≡ r.work = ap (λ (q : Request). q.work) (same_Some _ r e) in

@@ -16,7 +16,7 @@ history-push events event = ap reverse (map-append entry_of events (event ∷ []
 
 -- the step of a scan
 pub history_more : {A : _} (events : List (Event A)) (i : ℕ) (event : Event A) → i < length events → event ≡ get_or events i event
-  → history_of (take (i + 1) events) ≡ entry_of event ∷ history_of (take i events)
+    → history_of (take (i + 1) events) ≡ entry_of event ∷ history_of (take i events)
 history_more events i event h e =
     ap history_of (take_more events i event h) ∙ history-push (take i events) (get_or events i event) ∙ ap (λ x. entry_of x ∷ history_of (take i events)) (sym e)
 

@@ -24,7 +24,7 @@ drop-min xs n =
 
 -- the bytes from a place on, both cut at the end
 pub sector_at-slice : (bytes : List ℕ) (number start len : ℕ) → start ≡ min (512 * number) (length bytes)
-  → len ≡ min (length bytes - start) 512 → take len (take (length bytes - start) (drop start bytes)) ≡ sector_at bytes number
+    → len ≡ min (length bytes - start) 512 → take len (take (length bytes - start) (drop start bytes)) ≡ sector_at bytes number
 sector_at-slice bytes number start len s l =
     let rest : length (drop start bytes) ≡ length bytes - start = length-drop start bytes in
     let whole : take (length bytes - start) (drop start bytes) ≡ drop start bytes = take_all (length bytes - start) (drop start bytes) (omega arith) in
@@ -36,7 +36,7 @@ a_sector xs s = sym (drop-take (512 * s) 512 xs)
 
 -- each sector once whole sectors were written over a part of an image
 pub sector_at-put_mid : (lba n k : ℕ) (xs ys : List ℕ) → k ≡ 512 * n → length ys ≡ 512 * n → lba * 512 + k ≤ length xs → (s : ℕ)
-  → sector_at (put_mid (lba * 512) k xs ys) s ≡ cond (leb lba s && ltb s (lba + n)) (sector_at ys (s - lba)) (sector_at xs s)
+    → sector_at (put_mid (lba * 512) k xs ys) s ≡ cond (leb lba s && ltb s (lba + n)) (sector_at ys (s - lba)) (sector_at xs s)
 sector_at-put_mid lba n k xs ys part len fits s =
     elim (cases_lt s lba) [
       | inl below ↦

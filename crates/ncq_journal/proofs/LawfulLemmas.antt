@@ -24,7 +24,7 @@ lawful_first s d events n h =
 
 -- each event was allowed by those before it
 pub allowed_at : {A : _} (s d : ℕ) (events : List (Event A)) (n : ℕ) (event : Event A) → n < length events → event ≡ get_or events n event
-  → IsLawful s d (history_of events) → IsAllowed s d (history_of (take n events)) (entry_of event)
+    → IsLawful s d (history_of events) → IsAllowed s d (history_of (take n events)) (entry_of event)
 allowed_at s d events n event h e lawful =
     (subst (IsLawful s d) (history_more events n event h e) (lawful_first s d events (n + 1) lawful)).1
 

@@ -29,7 +29,7 @@ owed_is_few past = sum_le (λ tag. owed_in (phase past tag)) 4 (λ tag. few_in (
 
 -- where an entry moves its own tag alone, from one phase to another
 one_tag : (past : List Entry) (t : ℕ) (old new : ℕ → Phase) → t < 32 → ((u : ℕ) → new u ≡ cond (t == u) (new t) (old u))
-  → sum_by (λ u. owed_in (new u)) tags + owed_in (old t) ≡ sum_by (λ u. owed_in (old u)) tags + owed_in (new t)
+    → sum_by (λ u. owed_in (new u)) tags + owed_in (old t) ≡ sum_by (λ u. owed_in (old u)) tags + owed_in (new t)
 one_tag past t old new below moves =
     sum_one (λ u. owed_in (old u)) (λ u. owed_in (new u)) t below
     (λ u other. ap owed_in (moves u ∙ cond-false (t == u) (new t) (old u) (ne_eqb t u (λ e. other (sym e)))))
@@ -66,7 +66,7 @@ ending Done = refl
 
 -- the sum where the entry's own tag goes from one phase to another
 step : (past : List Entry) (t : ℕ) (old : Phase) (new : ℕ → Phase) (q : Phase) → t < 32 → phase past t ≡ old
-  → ((u : ℕ) → new u ≡ cond (t == u) q (phase past u)) → sum_by (λ u. owed_in (new u)) tags + owed_in old ≡ owed past + owed_in q
+    → ((u : ℕ) → new u ≡ cond (t == u) q (phase past u)) → sum_by (λ u. owed_in (new u)) tags + owed_in old ≡ owed past + owed_in q
 step past t old new q below own moves =
     let to : new t ≡ q = moves t ∙ here t q (phase past t) in
     let sums = one_tag past t (phase past) new below (λ u. moves u ∙ ap (λ x. cond (t == u) x (phase past u)) (sym to)) in

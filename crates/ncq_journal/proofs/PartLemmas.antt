@@ -36,7 +36,7 @@ command None = None
 command (Some r) = Some r.work
 
 command_issue : (b : Bool) (r q : Request) (o p : Option Request) → r.work ≡ q.work → IsSome (cond b (Some q) p)
-  → (IsSome p → command o ≡ command p) → command (cond b (Some r) o) ≡ command (cond b (Some q) p)
+    → (IsSome p → command o ≡ command p) → command (cond b (Some r) o) ≡ command (cond b (Some q) p)
 command_issue true r q o p same some older = ap Some same
 command_issue false r q o p same some older = older some
 
@@ -44,7 +44,7 @@ command_parts : (later past : List Entry) (tag : ℕ) → IsSome (request later 
 command_parts [] past tag some = absurd (false≢true some)
 command_parts (Issue t work ∷ later) past tag some =
     command_issue (t == tag) (record { number = length (later ++ past); work = work }) (record { number = length later; work = work })
-      (request (later ++ past) tag) (request later tag) refl some (command_parts later past tag)
+    (request (later ++ past) tag) (request later tag) refl some (command_parts later past tag)
 command_parts (Accept t ∷ later) past tag some = command_parts later past tag some
 command_parts (Complete t ∷ later) past tag some = command_parts later past tag some
 command_parts (Fail t error lba ∷ later) past tag some = command_parts later past tag some
@@ -89,7 +89,7 @@ lawful_parts s d (entry ∷ later) past h free =
     let own = lawful_parts s d later past h.0 free in (own, allowed_parts s d later past entry free own h.1)
 
 sector_parts : (s d : ℕ) (image middle : List ℕ) (later past : List Entry) → IsLawful s d (later ++ past) → AllFree past
-  → ((i : ℕ) → sector_at middle i ≡ sector image past i) → (i : ℕ) → sector image (later ++ past) i ≡ sector middle later i
+    → ((i : ℕ) → sector_at middle i ≡ sector image past i) → (i : ℕ) → sector image (later ++ past) i ≡ sector middle later i
 sector_parts s d image middle [] past h free cut i = sym (cut i)
 sector_parts s d image middle (Complete t ∷ later) past h free cut i =
     let own = lawful_parts s d later past h.0 free in

@@ -98,12 +98,12 @@ was_accepted t tag q p other e = by (t == tag) e
     by false e = e
 
 issue_fits : (s : ℕ) (b : Bool) (r : Request) (o : Option Request) (p : Phase) → cond b Issued p ≡ Accepted
-  → (p ≡ Accepted → IsSomeAnd o (λ q. Fits s q.work)) → IsSomeAnd (cond b (Some r) o) (λ q. Fits s q.work)
+    → (p ≡ Accepted → IsSomeAnd o (λ q. Fits s q.work)) → IsSomeAnd (cond b (Some r) o) (λ q. Fits s q.work)
 issue_fits s true r o p e older = absurd (let z : Issued ≡ Accepted = e in cc)
 issue_fits s false r o p e older = older e
 
 accept_fits : (s t tag : ℕ) (past : List Entry) → IsSomeAnd (request past t) (λ r. Fits s r.work) → (phase past tag ≡ Accepted → IsSomeAnd (request past tag) (λ r. Fits s r.work))
-  → cond (t == tag) Accepted (phase past tag) ≡ Accepted → IsSomeAnd (request past tag) (λ r. Fits s r.work)
+    → cond (t == tag) Accepted (phase past tag) ≡ Accepted → IsSomeAnd (request past tag) (λ r. Fits s r.work)
 accept_fits s t tag past own older e = by (t == tag) refl e
   where
     by : (b : Bool) → (t == tag) ≡ b → cond b Accepted (phase past tag) ≡ Accepted → IsSomeAnd (request past tag) (λ r. Fits s r.work)

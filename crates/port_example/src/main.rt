@@ -34,7 +34,10 @@ fn main(rt: HostRuntime) -> anyhow::Result<()> {
         port.copy(9, &mut sector);
     }
     let entries = port.journal().len();
-    println!(rt; "sector 9 begins with {:02x}; the journal has {entries} entries", sector[0])?;
+    println!(rt;
+        "sector 9 begins with {:02x}; the journal has {entries} entries",
+        sector[0]
+    )?;
     Ok(())
 }
 
@@ -121,7 +124,9 @@ fn show(rt: &HostRuntime, port: &Port) -> anyhow::Result<()> {
     let outstanding = taken(port.register(PX_SACT))?;
     let waiting = taken(port.register(PX_CI))?;
     let interrupts = taken(port.register(PX_IS))?;
-    println!(rt; "  PxTFD {status:08x}, PxSACT {outstanding:08x}, PxCI {waiting:08x}, PxIS {interrupts:08x}")?;
+    println!(rt;
+        "  PxTFD {status:08x}, PxSACT {outstanding:08x}, PxCI {waiting:08x}, PxIS {interrupts:08x}"
+    )?;
     Ok(())
 }
 

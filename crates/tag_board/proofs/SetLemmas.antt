@@ -1,6 +1,33 @@
 -- How often a tag stands in two sets together, when it moves from one to the other.
-use Rattle.std.proofs.Common.{◌≡◌, ◌≢◌, ℕ, ◌+◌, ◌^◌, ◌<◌, ◌≤◌, Bool, true, false, true≢false, ◌||◌, if◌then◌else◌,
-  List, length, bit_and, bit_or, sym, ◌∙◌, refl, ap, subst, ⊎_elim, inl, inr, ◌⊎◌, arith}
+use Rattle.std.proofs.Common.{
+  ◌≡◌,
+  ◌≢◌,
+  ℕ,
+  ◌+◌,
+  ◌^◌,
+  ◌<◌,
+  ◌≤◌,
+  Bool,
+  true,
+  false,
+  true≢false,
+  ◌||◌,
+  if◌then◌else◌,
+  List,
+  length,
+  bit_and,
+  bit_or,
+  sym,
+  ◌∙◌,
+  refl,
+  ap,
+  subst,
+  ⊎_elim,
+  inl,
+  inr,
+  ◌⊎◌,
+  arith,
+}
 use Rattle.std.specs.Int.{w32, bit_not, bit_at}
 use Rattle.std.proofs.lemmas.Bool.{cases_eq, cases_lt}
 use Rattle.std.proofs.lemmas.Nat.{one_shl, and_le_l, or_of_32}

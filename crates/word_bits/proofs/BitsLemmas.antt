@@ -1,18 +1,98 @@
 -- Lemmas on the set of a word's bits.
-use Rattle.std.proofs.Common.{◌≡◌, ℕ, zero, suc, ◌+◌, ◌-◌, ◌*◌, ◌/◌, ◌%◌, ◌^◌, ◌<◌, ◌≤◌, min, max, Bool, true, false, not, ◌&&◌, ◌||◌,
-  List, [], ◌∷◌, length, nat_eq, bit_and, bit_or, sym, ◌∙◌, refl, ap, subst, ⊎_elim, eq-eqb, ne_eqb, if◌then◌else◌, arith}
+use Rattle.std.proofs.Common.{
+  ◌≡◌,
+  ℕ,
+  zero,
+  suc,
+  ◌+◌,
+  ◌-◌,
+  ◌*◌,
+  ◌/◌,
+  ◌%◌,
+  ◌^◌,
+  ◌<◌,
+  ◌≤◌,
+  min,
+  max,
+  Bool,
+  true,
+  false,
+  not,
+  ◌&&◌,
+  ◌||◌,
+  List,
+  [],
+  ◌∷◌,
+  length,
+  nat_eq,
+  bit_and,
+  bit_or,
+  sym,
+  ◌∙◌,
+  refl,
+  ap,
+  subst,
+  ⊎_elim,
+  eq-eqb,
+  ne_eqb,
+  if◌then◌else◌,
+  arith,
+}
 use Rattle.std.specs.Int.{w32, bit_at, bit_not, trailing_zeros, leading_zeros}
 use Rattle.std.proofs.lemmas.Bool.{cases_eq, cases_lt}
 use Rattle.std.proofs.lemmas.Nat.{pow_pos, one_shl, leading_top}
 use Rattle.std.proofs.Math.Nat.{pow-suc}
-use Rattle.std.proofs.lemmas.Nat.Bits.{bit_at-lt, bit_at_lowest, bit_at-suc, bit_at-zero, bit_at_above, bit_at_cat_high, bit_at-trailing_zeros, bit_at_and,
-  bit_at_or, bit_at_not, bit_at-pow_same, bit_at-pow_other, bit_at_ones, bit_at_ones_above, bit_at_set_same,
-  bit_at_set_other, bit_at_clear_same, bit_at_clear_other, same_from_bits_below, shr_and_one, and_pow}
+use Rattle.std.proofs.lemmas.Nat.Bits.{
+  bit_at-lt,
+  bit_at_lowest,
+  bit_at-suc,
+  bit_at-zero,
+  bit_at_above,
+  bit_at_cat_high,
+  bit_at-trailing_zeros,
+  bit_at_and,
+  bit_at_or,
+  bit_at_not,
+  bit_at-pow_same,
+  bit_at-pow_other,
+  bit_at_ones,
+  bit_at_ones_above,
+  bit_at_set_same,
+  bit_at_set_other,
+  bit_at_clear_same,
+  bit_at_clear_other,
+  same_from_bits_below,
+  shr_and_one,
+  and_pow,
+}
 use Rattle.word_bits.specs.Places.{bits, word_of, has_place, no_places, all_places, with_place, without_place, union, intersection, minus, only_below, IsLowest, IsHighest}
-use Rattle.word_bits.proofs.PlacesLemmas.{length-places, length-no_places, length-all_places, length-with_place, length-without_place, length-union,
-  length-intersection, length-minus, length-only_below, has_place_past, has_place-places, has_place-no_places, has_place-all_places, has_place-with_same,
-  has_place-with_other, has_place-without_same, has_place-without_other, has_place-union, has_place-intersection,
-  has_place-minus, has_place-only_below, has_place-only_below_past, same_sets, and_true, and_false}
+use Rattle.word_bits.proofs.PlacesLemmas.{
+  length-places,
+  length-no_places,
+  length-all_places,
+  length-with_place,
+  length-without_place,
+  length-union,
+  length-intersection,
+  length-minus,
+  length-only_below,
+  has_place_past,
+  has_place-places,
+  has_place-no_places,
+  has_place-all_places,
+  has_place-with_same,
+  has_place-with_other,
+  has_place-without_same,
+  has_place-without_other,
+  has_place-union,
+  has_place-intersection,
+  has_place-minus,
+  has_place-only_below,
+  has_place-only_below_past,
+  same_sets,
+  and_true,
+  and_false,
+}
 
 pub length-bits : (w : ℕ) → length (bits w) ≡ 32
 unfolding bits
@@ -87,7 +167,7 @@ pub bits_ones : (d : ℕ) → d ≤ 32 → bits (2 ^ d - 1) ≡ only_below d all
 bits_ones d l =
     bits_by (2 ^ d - 1) (only_below d all_places) (length-only_below d all_places ∙ length-all_places)
     (λ i h. ⊎_elim (λ b. ap (λ x. nat_eq x 1) (bit_at_ones d i b) ∙ sym (has_place-only_below d all_places i b ∙ has_place-all_places i h))
-      (λ b. ap (λ x. nat_eq x 1) (bit_at_ones_above d i b) ∙ sym (has_place-only_below_past d all_places i b)) (cases_lt i d))
+    (λ b. ap (λ x. nat_eq x 1) (bit_at_ones_above d i b) ∙ sym (has_place-only_below_past d all_places i b)) (cases_lt i d))
 
 -- `(1u64 << d) - 1`
 pub bits_ones_shifted : (d : ℕ) → d ≤ 32 → bits (1 * 2 ^ d % 2 ^ 64 - 1) ≡ only_below d all_places
@@ -119,21 +199,21 @@ pub bits_set : (w t : ℕ) → t < 32 → bits (bit_or w (1 * 2 ^ t % 2 ^ 32)) �
 bits_set w t b =
     bits_by (bit_or w (1 * 2 ^ t % 2 ^ 32)) (with_place (bits w) t) (length-with_place (bits w) t ∙ length-bits w)
     (λ i h. ⊎_elim (λ e. rw e (ap (λ x. nat_eq x 1) (bit_at_set_same w32 w t b) ∙ sym (has_place-with_same (bits w) t (omega (arith, length-bits w)))))
-      (λ e. ap (λ x. nat_eq x 1) (bit_at_set_other w32 w t b i e) ∙ sym (has_place-with_other (bits w) t i e ∙ has_place-bits w i h)) (cases_eq i t))
+    (λ e. ap (λ x. nat_eq x 1) (bit_at_set_other w32 w t b i e) ∙ sym (has_place-with_other (bits w) t i e ∙ has_place-bits w i h)) (cases_eq i t))
 
 -- `w & !(1 << t)`
 pub bits_clear : (w t : ℕ) → t < 32 → bits (bit_and w (bit_not w32 (1 * 2 ^ t % 2 ^ 32))) ≡ without_place (bits w) t
 bits_clear w t b =
     bits_by (bit_and w (bit_not w32 (1 * 2 ^ t % 2 ^ 32))) (without_place (bits w) t) (length-without_place (bits w) t ∙ length-bits w)
     (λ i h. ⊎_elim (λ e. rw e (ap (λ x. nat_eq x 1) (bit_at_clear_same w32 w t b) ∙ sym (has_place-without_same (bits w) t)))
-      (λ e. ap (λ x. nat_eq x 1) (bit_at_clear_other w32 w t b i h e) ∙ sym (has_place-without_other (bits w) t i e ∙ has_place-bits w i h)) (cases_eq i t))
+    (λ e. ap (λ x. nat_eq x 1) (bit_at_clear_other w32 w t b i h e) ∙ sym (has_place-without_other (bits w) t i e ∙ has_place-bits w i h)) (cases_eq i t))
 
 -- the word of one place
 pub bits_pow : (t : ℕ) → t < 32 → bits (2 ^ t) ≡ with_place no_places t
 bits_pow t b =
     bits_by (2 ^ t) (with_place no_places t) (length-with_place no_places t ∙ length-no_places)
     (λ i h. ⊎_elim (λ e. rw e (ap (λ x. nat_eq x 1) (bit_at-pow_same t) ∙ sym (has_place-with_same no_places t (omega (arith, length-no_places)))))
-      (λ e. ap (λ x. nat_eq x 1) (bit_at-pow_other t i e) ∙ sym (has_place-with_other no_places t i e ∙ has_place-no_places i)) (cases_eq i t))
+    (λ e. ap (λ x. nat_eq x 1) (bit_at-pow_other t i e) ∙ sym (has_place-with_other no_places t i e ∙ has_place-no_places i)) (cases_eq i t))
 
 -- `1 << t`
 pub bits_one : (t : ℕ) → t < 32 → bits (1 * 2 ^ t % 2 ^ 32) ≡ with_place no_places t
@@ -168,9 +248,9 @@ test_contains w t b =
 pub bits_below : (w d : ℕ) → d ≤ 32 → bits (bit_and w (2 ^ d - 1)) ≡ only_below d (bits w)
 bits_below w d l =
     bits_by (bit_and w (2 ^ d - 1)) (only_below d (bits w)) (length-only_below d (bits w) ∙ length-bits w)
-      (λ i h. let both = ap (λ x. nat_eq x 1) (bit_at_and w (2 ^ d - 1) i) ∙ and_bit (bit_at w i) (bit_at (2 ^ d - 1) i) (bit_at-lt w i) (bit_at-lt (2 ^ d - 1) i) in
+    (λ i h. let both = ap (λ x. nat_eq x 1) (bit_at_and w (2 ^ d - 1) i) ∙ and_bit (bit_at w i) (bit_at (2 ^ d - 1) i) (bit_at-lt w i) (bit_at-lt (2 ^ d - 1) i) in
     ⊎_elim (λ b. both ∙ ap (λ x. nat_eq (bit_at w i) 1 && nat_eq x 1) (bit_at_ones d i b) ∙ and_true _ ∙ sym (has_place-only_below d (bits w) i b ∙ has_place-bits w i h))
-      (λ b. both ∙ ap (λ x. nat_eq (bit_at w i) 1 && nat_eq x 1) (bit_at_ones_above d i b) ∙ and_false _ ∙ sym (has_place-only_below_past d (bits w) i b)) (cases_lt i d))
+    (λ b. both ∙ ap (λ x. nat_eq (bit_at w i) 1 && nat_eq x 1) (bit_at_ones_above d i b) ∙ and_false _ ∙ sym (has_place-only_below_past d (bits w) i b)) (cases_lt i d))
 
 -- ---- the lowest and the highest place
 

@@ -150,7 +150,7 @@ same_sets s t h each = ext_get_or false s t h each
 pub same_places : (p q : ℕ → Bool) → ((i : ℕ) → i < 32 → p i ≡ q i) → places p ≡ places q
 same_places p q each =
     same_sets (places p) (places q) (length-places p ∙ sym (length-places q))
-      (λ i h. let b : i < 32 = omega (arith, length-places p) in has_place-places p i b ∙ each i b ∙ sym (has_place-places q i b))
+    (λ i h. let b : i < 32 = omega (arith, length-places p) in has_place-places p i b ∙ each i b ∙ sym (has_place-places q i b))
 
 -- a set of 32 truth values is that of the places that it has
 pub places-has_place : (s : List Bool) → length s ≡ 32 → places (has_place s) ≡ s
@@ -169,7 +169,7 @@ with_place-places p q t b here others =
     same_sets (with_place (places p) t) (places q) (l ∙ sym (length-places q))
     (λ i h. let c : i < 32 = omega arith in
     ⊎_elim (λ e. rw e (has_place-with_same (places p) t (omega (arith, length-places p)) ∙ sym (has_place-places q t b ∙ here)))
-      (λ e. has_place-with_other (places p) t i e ∙ has_place-places p i c ∙ sym (has_place-places q i c ∙ others i c e)) (cases_eq i t))
+    (λ e. has_place-with_other (places p) t i e ∙ has_place-places p i c ∙ sym (has_place-places q i c ∙ others i c e)) (cases_eq i t))
 
 pub without_place-places : (p q : ℕ → Bool) (t : ℕ) → t < 32 → q t ≡ false → ((i : ℕ) → i < 32 → i ≢ t → q i ≡ p i) → without_place (places p) t ≡ places q
 without_place-places p q t b here others =
@@ -177,7 +177,7 @@ without_place-places p q t b here others =
     same_sets (without_place (places p) t) (places q) (l ∙ sym (length-places q))
     (λ i h. let c : i < 32 = omega arith in
     ⊎_elim (λ e. rw e (has_place-without_same (places p) t ∙ sym (has_place-places q t b ∙ here)))
-      (λ e. has_place-without_other (places p) t i e ∙ has_place-places p i c ∙ sym (has_place-places q i c ∙ others i c e)) (cases_eq i t))
+    (λ e. has_place-without_other (places p) t i e ∙ has_place-places p i c ∙ sym (has_place-places q i c ∙ others i c e)) (cases_eq i t))
 
 -- ---- one place by the words for whole sets
 
@@ -187,14 +187,14 @@ union-with_place s t l b =
     same_sets (union s (with_place no_places t)) (with_place s t) (length-union s (with_place no_places t) (l ∙ sym n) ∙ sym (length-with_place s t))
     (λ i h. has_place-union s (with_place no_places t) i
     ∙ ⊎_elim (λ e. rw e (ap (λ x. has_place s t || x) (has_place-with_same no_places t (omega (arith, length-no_places))) ∙ or_true _ ∙ sym (has_place-with_same s t (omega arith))))
-      (λ e. ap (λ x. has_place s i || x) (has_place-with_other no_places t i e ∙ has_place-no_places i) ∙ or_false _ ∙ sym (has_place-with_other s t i e)) (cases_eq i t))
+    (λ e. ap (λ x. has_place s i || x) (has_place-with_other no_places t i e ∙ has_place-no_places i) ∙ or_false _ ∙ sym (has_place-with_other s t i e)) (cases_eq i t))
 
 pub minus-with_place : (s : List Bool) (t : ℕ) → t < 32 → minus s (with_place no_places t) ≡ without_place s t
 minus-with_place s t b =
     same_sets (minus s (with_place no_places t)) (without_place s t) (length-minus s (with_place no_places t) ∙ sym (length-without_place s t))
     (λ i h. has_place-minus s (with_place no_places t) i
     ∙ ⊎_elim (λ e. rw e (ap (λ x. has_place s t && not x) (has_place-with_same no_places t (omega (arith, length-no_places))) ∙ and_false _ ∙ sym (has_place-without_same s t)))
-      (λ e. ap (λ x. has_place s i && not x) (has_place-with_other no_places t i e ∙ has_place-no_places i) ∙ and_true _ ∙ sym (has_place-without_other s t i e)) (cases_eq i t))
+    (λ e. ap (λ x. has_place s i && not x) (has_place-with_other no_places t i e ∙ has_place-no_places i) ∙ and_true _ ∙ sym (has_place-without_other s t i e)) (cases_eq i t))
 
 -- ---- nothing added, nothing taken away
 

@@ -10,4 +10,4 @@ filled-requires-clause-len g c =
     let buffer = c.ticket.inside.buffer.items in
     let fits = ap (λ o. suits o (length buffer)) (sym c.read_length-read.ensures) ∙ ap (λ b. suits c.read_length-read.result (length b)) (sym c.deref.ensures.value) ∙ sym c.suits.ensures in
     text_length c.args.port.now c.ticket.inside.tag c.ticket.inside.number
-      (length c.ticket.inside.buffer.items) c.in-Ok.collected.1 _ c.journal.ensures.headline none c.in-Ok.ensures.reply c.in-Ok.ensures.window (fits ∙ c.if-not-suits.false)
+    (length c.ticket.inside.buffer.items) c.in-Ok.collected.1 _ c.journal.ensures.headline none c.in-Ok.ensures.reply c.in-Ok.ensures.window (fits ∙ c.if-not-suits.false)

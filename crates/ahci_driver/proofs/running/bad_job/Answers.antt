@@ -6,7 +6,7 @@ pub returns-then-not-is_proper : goal.returns-then-not-is_proper
 returns-then-not-is_proper g c = (
   c.loop-index.invariant,
   bad_here c.args.jobs.now c.loop-index.index c.index-jobs-index.result c.loop-index-test.true c.index-jobs-index.is
-    (λ p. both_ways c.is_proper.result c.if-not-is_proper.true (c.is_proper.ensures.1 p)),
+      (λ p. both_ways c.is_proper.result c.if-not-is_proper.true (c.is_proper.ensures.1 p)),
 )
 
 pub loop-index-preserved : goal.loop-index-preserved

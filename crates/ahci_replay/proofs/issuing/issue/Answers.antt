@@ -52,4 +52,4 @@ unreachable-requires g c =
     let work = work_of c.args.op.now in
     let fault = c.in-Err.fault in
     no_other_fault fault work (subst (λ l. MatchOption (refusal work l) (fault ≡ OutOfMemory) (λ f. fault ≡ f)) (c.deref.ensures.0 ∙ c.pieces_of-pieces.ensures) c.in-Err.ensures.fault)
-      c.in_default.not-OutOfMemory c.in_default.not-BadCount c.in_default.not-BadLba
+    c.in_default.not-OutOfMemory c.in_default.not-BadCount c.in_default.not-BadLba

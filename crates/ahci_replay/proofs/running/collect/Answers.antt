@@ -12,7 +12,7 @@ pub returns-in-Err-clause-ok : goal.returns-in-Err-clause-ok
 returns-in-Err-clause-ok g c =
     let a = c.args in
     refused _ c.in-Err.fault (collect_refusal a.port.now a.tag a.number) of_collect c.collect_refusal.result a.port.now
-      c.collect.new.self _ c.in-Err.ensures.fault c.collect_refusal.ensures c.in-Err.ensures.err
+    c.collect.new.self _ c.in-Err.ensures.fault c.collect_refusal.ensures c.in-Err.ensures.err
 
 pub returns-in-Ok-clause-ok : goal.returns-in-Ok-clause-ok
 returns-in-Ok-clause-ok g c =
@@ -31,4 +31,4 @@ returns-in-Ok-clause-err g c =
     let bytes = bytes_in reply.outcome c.in-Ok.window in
     let told = outcome_said reply.outcome reply.entry bytes in
     on_err c.collected.result _
-      (inr (told, collects _ _ a.tag a.number a.port.now c.collect.new.self reply.outcome reply.entry bytes told c.in-Ok.ensures.fault c.in-Ok.ensures.reply c.in-Ok.ensures.ok refl))
+    (inr (told, collects _ _ a.tag a.number a.port.now c.collect.new.self reply.outcome reply.entry bytes told c.in-Ok.ensures.fault c.in-Ok.ensures.reply c.in-Ok.ensures.ok refl))

@@ -7,4 +7,4 @@ pub returns-in-Err : goal.returns-in-Err
 returns-in-Err g c =
     let a = c.args in
     refused _ c.in-Err.fault (reissue_refusal a.port.now a.tag) of_reissue c.reissue_refusal.result a.port.now
-      c.reissue.new.self _ c.in-Err.ensures.fault c.reissue_refusal.ensures c.in-Err.ensures.err
+    c.reissue.new.self _ c.in-Err.ensures.fault c.reissue_refusal.ensures c.in-Err.ensures.err

@@ -11,4 +11,4 @@ returns-in-Ok g c =
     let old = a.port.now in
     let new = c.step.new.self in
     carried_out _ c.in-Ok.done (step_refusal old a.step) of_step old new (said c.stepped.result) (HasStepped a.step old new (said c.stepped.result)) c.in-Ok.ensures.fault
-      (record { done = c.in-Ok.done; stepped = c.in-Ok.ensures.ok; told = c.stepped.ensures })
+    (record { done = c.in-Ok.done; stepped = c.in-Ok.ensures.ok; told = c.stepped.ensures })

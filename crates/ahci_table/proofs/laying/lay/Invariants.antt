@@ -9,4 +9,4 @@ invariant-loop-piece g l =
     (rises (length l.bytes.items) (drop l.piece-index l.pieces) ≡ true)
     × (total (drop l.piece-index l.pieces) ≡ length l.rest)
     × (l.bytes.items ++ laid (length l.bytes.items) (drop l.piece-index l.pieces) l.rest
-      ≡ l.initial.bytes.items ++ laid (length l.initial.bytes.items) l.pieces l.text)
+    ≡ l.initial.bytes.items ++ laid (length l.initial.bytes.items) l.pieces l.text)

@@ -7,7 +7,7 @@ use Rattle.ahci_port.proofs.memory.MemoryHost.activate.Goals as goal
 pub overflow_add-self : goal.overflow_add-self
 overflow_add-self g c =
     let room : c.self.inside.offset + length (drop 4 c.args.out.now) ≤ length (text c.self.inside.window) =
-      subst (λ m. m.offset + length (drop 4 c.args.out.now) ≤ length (text m.window)) (sym c.self.view_is) c.requires.room in
+    subst (λ m. m.offset + length (drop 4 c.args.out.now) ≤ length (text m.window)) (sym c.self.view_is) c.requires.room in
     let sized = fit_sized c.self.inside.window c.self.invariant.0 in
     let short = c.self.invariant.0.short in
     let len = ap length c.gather_in.ensures in

@@ -21,13 +21,13 @@ use Rattle.ahci_port.proofs.port.Port.accept.Goals as goal
 pub index_mut-requires : goal.index_mut-requires
 index_mut-requires g c =
     let t = taking_now _ _ _ _ _ _ _ c.args.tag c.args.self.now c.self.invariant (ap (λ p. p.past) c.self.view_is)
-      (sym c.accept_fault.ensures ∙ c.in_default.is) c.the_disks_answers_are_these_bytes.ensures.spell in
+    (sym c.accept_fault.ensures ∙ c.in_default.is) c.the_disks_answers_are_these_bytes.ensures.spell in
     let b = t.owner.below in search rules
 
 pub cfis-requires : goal.cfis-requires
 cfis-requires g c =
     let t = taking_now _ _ _ _ _ _ _ c.args.tag c.args.self.now c.self.invariant (ap (λ p. p.past) c.self.view_is)
-      (sym c.accept_fault.ensures ∙ c.in_default.is) c.the_disks_answers_are_these_bytes.ensures.spell in
+    (sym c.accept_fault.ensures ∙ c.in_default.is) c.the_disks_answers_are_these_bytes.ensures.spell in
     let same = owner_is t.owner _ _ c.index_mut.ensures.value c.in-Some-index_mut.is in
     subst (λ s. IsFit s.window) same t.owner.holds.fit
 
@@ -35,7 +35,7 @@ pub answer_in-fis-requires : goal.answer_in-fis-requires
 answer_in-fis-requires g c =
     let i = c.self.inside in
     let t = taking_now _ _ _ _ _ _ _ c.args.tag c.args.self.now c.self.invariant (ap (λ p. p.past) c.self.view_is)
-      (sym c.accept_fault.ensures ∙ c.in_default.is) c.the_disks_answers_are_these_bytes.ensures.spell in
+    (sym c.accept_fault.ensures ∙ c.in_default.is) c.the_disks_answers_are_these_bytes.ensures.spell in
     let same = owner_is t.owner _ _ c.index_mut.ensures.value c.in-Some-index_mut.is in
     let cf : c.cfis.result.now ≡ cfis t.owner.slot.window = c.cfis.ensures ∙ ap (λ s. cfis s.window) (sym same) in
     let took : fis_of c.take.result ≡ Some (answer_bytes i.disk (queued_of t.owner.slot.window)) = ap fis_of (c.take.ensures.answer ∙ ap (λ b. (verdict i.disk b).answer) cf) ∙ t.answer_of in
@@ -45,7 +45,7 @@ pub receive_register-answer-requires-clause-spells : goal.receive_register-answe
 receive_register-answer-requires-clause-spells g c =
     let i = c.self.inside in
     let t = taking_now _ _ _ _ _ _ _ c.args.tag c.args.self.now c.self.invariant (ap (λ p. p.past) c.self.view_is)
-      (sym c.accept_fault.ensures ∙ c.in_default.is) c.the_disks_answers_are_these_bytes.ensures.spell in
+    (sym c.accept_fault.ensures ∙ c.in_default.is) c.the_disks_answers_are_these_bytes.ensures.spell in
     let same = owner_is t.owner _ _ c.index_mut.ensures.value c.in-Some-index_mut.is in
     let cf : c.cfis.result.now ≡ cfis t.owner.slot.window = c.cfis.ensures ∙ ap (λ s. cfis s.window) (sym same) in
     let took : fis_of c.take.result ≡ Some (answer_bytes i.disk (queued_of t.owner.slot.window)) = ap fis_of (c.take.ensures.answer ∙ ap (λ b. (verdict i.disk b).answer) cf) ∙ t.answer_of in
@@ -55,13 +55,13 @@ receive_register-answer-requires-clause-spells g c =
 pub push_reserved-requires : goal.push_reserved-requires
 push_reserved-requires g c =
     let t = taking_now _ _ _ _ _ _ _ c.args.tag c.args.self.now c.self.invariant (ap (λ p. p.past) c.self.view_is)
-      (sym c.accept_fault.ensures ∙ c.in_default.is) c.the_disks_answers_are_these_bytes.ensures.spell in
+    (sym c.accept_fault.ensures ∙ c.in_default.is) c.the_disks_answers_are_these_bytes.ensures.spell in
     t.room
 
 -- what stands once the answer is in: the slot's request, the FIS, the disk, the slot and the journal
 here : (g : _) (c : goal.After-taken_step g) → Taking c.self.inside.starting.items c.self.inside.disk c.self.inside.journal.past c.self.inside.slots.items c.self.inside.journal.room c.args.tag
 here g c = taking_now _ _ _ _ _ _ _ c.args.tag c.args.self.now c.self.invariant (ap (λ p. p.past) c.self.view_is)
-  (sym c.accept_fault.ensures ∙ c.in_default.is) c.the_disks_answers_are_these_bytes.ensures.spell
+    (sym c.accept_fault.ensures ∙ c.in_default.is) c.the_disks_answers_are_these_bytes.ensures.spell
 
 same : (g : _) (c : goal.After-taken_step g) → (here g c).owner.slot ≡ c.in-Some-index_mut.slot
 same g c = owner_is (here g c).owner _ _ c.index_mut.ensures.value c.in-Some-index_mut.is
@@ -76,15 +76,15 @@ state : (g : _) (c : goal.After-taken_step g) → c.take.new.self ≡ state_afte
 state g c = c.take.ensures.state ∙ ap (λ b. (verdict c.self.inside.disk b).state) (sent g c) ∙ (here g c).state_of
 
 slot : (g : _) (c : goal.After-taken_step g)
-  → c.take-2.new.self ≡ taken_slot (here g c).owner.slot (length c.self.inside.journal.past) (d2h_at c.answer_in-fis.result)
+    → c.take-2.new.self ≡ taken_slot (here g c).owner.slot (length c.self.inside.journal.past) (d2h_at c.answer_in-fis.result)
 slot g c = c.take-2.ensures ∙ ap (taken_slot c.in-Some-index_mut.slot c.len-entry.result) c.receive_register-answer.ensures.answer
-  ∙ ap (λ n. taken_slot c.in-Some-index_mut.slot n (d2h_at c.answer_in-fis.result)) c.len-entry.ensures
-  ∙ ap (λ s. taken_slot s (length c.self.inside.journal.past) (d2h_at c.answer_in-fis.result)) (sym (same g c))
+    ∙ ap (λ n. taken_slot c.in-Some-index_mut.slot n (d2h_at c.answer_in-fis.result)) c.len-entry.ensures
+    ∙ ap (λ s. taken_slot s (length c.self.inside.journal.past) (d2h_at c.answer_in-fis.result)) (sym (same g c))
 
 pasts : (g : _) (c : goal.After-taken_step g)
-  → c.push_reserved.new.self.past ≡ taken_entry c.args.tag (d2h_at c.answer_in-fis.result) ∷ c.self.inside.journal.past
+    → c.push_reserved.new.self.past ≡ taken_entry c.args.tag (d2h_at c.answer_in-fis.result) ∷ c.self.inside.journal.past
 pasts g c = c.push_reserved.ensures.past
-  ∙ ap (λ e. e ∷ c.self.inside.journal.past) (c.taken_event.ensures ∙ ap (taken_entry c.args.tag) c.receive_register-answer.ensures.answer)
+    ∙ ap (λ e. e ∷ c.self.inside.journal.past) (c.taken_event.ensures ∙ ap (taken_entry c.args.tag) c.receive_register-answer.ensures.answer)
 
 pub invariant_of-self : goal.invariant_of-self
 invariant_of-self g c =
@@ -95,11 +95,11 @@ invariant_of-self g c =
     let past = taken_entry c.args.tag answer ∷ i.journal.past in
     let room = c.push_reserved.new.self.room in
     let kept = keeps_taken _ _ _ _ _ _ _ room c.args.tag c.self.invariant c.the_disks_answers_are_these_bytes.ensures.spell t
-      c.push_reserved.ensures.room c.answer_in-fis.result (fis g c) in
+    c.push_reserved.ensures.room c.answer_in-fis.result (fis g c) in
     rw (c.receive_register-answer.ensures.registers, pasts g c)
     (subst (λ d. Keeps i.starting.items d regs (set i.slots.items c.args.tag (Some c.take-2.new.self)) i.headers past room) (sym (state g c))
     (subst (λ s. Keeps i.starting.items (state_after i.disk (queued_of t.owner.slot.window)) regs (set i.slots.items c.args.tag (Some s)) i.headers past room)
-      (sym (slot g c)) kept))
+    (sym (slot g c)) kept))
 
 pub returns-clause-ok : goal.returns-clause-ok
 returns-clause-ok g c =
@@ -108,17 +108,17 @@ returns-clause-ok g c =
     let old = view_of i.starting.items i.disk i.registers i.unqueued.sent i.area i.slots.items i.journal.past in
     let next = taken_slot t.owner.slot (length i.journal.past) (d2h_at c.answer_in-fis.result) in
     let new = view_of i.starting.items c.take.new.self c.receive_register-answer.new.registers i.unqueued.sent c.receive_register-answer.new.area
-      (set i.slots.items c.args.tag (Some next)) c.push_reserved.new.self.past in
+    (set i.slots.items c.args.tag (Some next)) c.push_reserved.new.self.past in
     let w = t.owner.slot.window in
     let size = disk_size c.self.invariant in
     let step : c.taken_step.result ≡ taken_step (length i.journal.past) (d2h_at c.answer_in-fis.result) =
-      c.taken_step.ensures ∙ ap (taken_step c.len-entry.result) c.receive_register-answer.ensures.answer
-      ∙ ap (λ n. taken_step n (d2h_at c.answer_in-fis.result)) c.len-entry.ensures in
+    c.taken_step.ensures ∙ ap (taken_step c.len-entry.result) c.receive_register-answer.ensures.answer
+    ∙ ap (λ n. taken_step n (d2h_at c.answer_in-fis.result)) c.len-entry.ensures in
     rw (← c.self.view_is, slot g c)
     (request_has i.starting.items i.journal.past c.args.tag t.owner.slot (λ r. IsTaken c.args.tag r.work old new c.taken_step.result) t.owner.holds
     (taken_as old new c.args.tag (op w) c.taken_step.result (first_lacking i.disk (queued_of w)) (is_past_end i.disk (queued_of w)) c.answer_in-fis.result
     (sym (past_end i.disk (length i.starting.items / 512) w (fit_sized w t.owner.holds.fit) size))
-      (lacking_there i.disk (length i.starting.items / 512) w size) c.the_disks_answers_are_these_bytes.ensures.spell t.lba_small (fis g c)
+    (lacking_there i.disk (length i.starting.items / 512) w size) c.the_disks_answers_are_these_bytes.ensures.spell t.lba_small (fis g c)
     step
     (record {
       starting_same = refl;

@@ -37,7 +37,7 @@ invariant_of-self g c =
     let f = collecting _ _ _ _ _ _ _ c.args.tag c.args.number c.args.self.now c.self.invariant (ap (λ p. p.past) c.self.view_is) (sym c.collect_fault.ensures ∙ c.in_default.is) in
     rw (c.take.ensures.after, c.push_reserved.ensures.past)
     (keeps_collect i.starting.items i.disk i.registers i.slots.items i.headers i.journal.past i.journal.room
-      c.push_reserved.new.self.room c.args.tag f.slot c.self.invariant f.done f.here c.push_reserved.ensures.room)
+    c.push_reserved.new.self.room c.args.tag f.slot c.self.invariant f.done f.here c.push_reserved.ensures.room)
 
 pub returns-clause-ok : goal.returns-clause-ok
 returns-clause-ok g c =
@@ -64,7 +64,7 @@ returns-clause-reply g c =
     rw (← c.self.view_is)
     (f.answer_is ∙ ap answer_in same
     ∙ answer_given c.unwrap-slot.result c.reply.result.0.entry c.reply.result.0.outcome c.reply.result.1
-      (ap (λ s. is_some (answer_in s)) (sym same) ∙ f.answered) c.reply.ensures.ended c.reply.ensures.window)
+    (ap (λ s. is_some (answer_in s)) (sym same) ∙ f.answered) c.reply.ensures.ended c.reply.ensures.window)
 
 pub returns-clause-window : goal.returns-clause-window
 returns-clause-window g c =

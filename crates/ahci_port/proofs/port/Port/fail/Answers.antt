@@ -41,19 +41,19 @@ said : (g : _) (c : goal.After-push_reserved g) → (fail_fault c.self.inside.di
 said g c = answered_ok (fail_fault c.self.inside.disk c.args.tag c.args.at) (failed_bytes c.args.error) c.in-Ok.bits c.in-Ok.ensures.answer
 
 here : (g : _) (c : goal.After-push_reserved g)
-  → MayFailNow c.self.inside.starting.items c.self.inside.disk.depth c.self.inside.journal.past c.self.inside.slots.items c.self.inside.journal.room
+    → MayFailNow c.self.inside.starting.items c.self.inside.disk.depth c.self.inside.journal.past c.self.inside.slots.items c.self.inside.journal.room
     c.args.tag c.args.error c.args.at
 here g c = may_fail _ _ _ _ _ _ _ c.args.tag c.args.error c.args.at c.self.invariant (said g c).0
 
 slot : (g : _) (c : goal.After-push_reserved g)
-  → c.fail-in-Some.new.self ≡ failed_slot (here g c).owner.slot (length c.self.inside.journal.past) c.args.error c.args.at
+    → c.fail-in-Some.new.self ≡ failed_slot (here g c).owner.slot (length c.self.inside.journal.past) c.args.error c.args.at
 slot g c = c.fail-in-Some.ensures ∙ ap (λ n. failed_slot c.in-Some.slot n c.args.error c.args.at) c.len-entry.ensures
-  ∙ ap (λ s. failed_slot s (length c.self.inside.journal.past) c.args.error c.args.at)
+    ∙ ap (λ s. failed_slot s (length c.self.inside.journal.past) c.args.error c.args.at)
     (sym (owner_is (here g c).owner _ _ c.index_mut.ensures.value c.in-Some.is))
 
 regs : (g : _) (c : goal.After-push_reserved g) → c.receive_bits.new.registers ≡ failed c.self.inside.registers c.args.error
 regs g c = c.receive_bits.ensures.registers
-  ∙ ap (λ b. after_bits c.self.inside.registers (set_bits_at b).status (set_bits_at b).error (set_bits_at b).i (set_bits_at b).sactive) (said g c).1
+    ∙ ap (λ b. after_bits c.self.inside.registers (set_bits_at b).status (set_bits_at b).error (set_bits_at b).i (set_bits_at b).sactive) (said g c).1
 
 pub invariant_of-self-2 : goal.invariant_of-self-2
 invariant_of-self-2 g c =
@@ -62,9 +62,9 @@ invariant_of-self-2 g c =
     let busy : is_busy (phase i.journal.past c.args.tag) ≡ true = ap is_busy m.accepted in
     rw (regs g c, c.push_reserved.ensures.past, c.in-Ok.ensures.state, slot g c)
     (keeps_fail i.starting.items i.disk i.registers
-      (failed i.registers c.args.error) i.slots.items i.headers i.journal.past i.journal.room c.push_reserved.new.self.room c.args.tag c.args.error c.args.at m.owner.slot
-      c.self.invariant busy m.owner.here m.allowed (tracks_fail i.disk.depth i.journal.past i.registers c.args.tag c.args.error c.args.at c.self.invariant.tracks busy)
-      c.push_reserved.ensures.room)
+    (failed i.registers c.args.error) i.slots.items i.headers i.journal.past i.journal.room c.push_reserved.new.self.room c.args.tag c.args.error c.args.at m.owner.slot
+    c.self.invariant busy m.owner.here m.allowed (tracks_fail i.disk.depth i.journal.past i.registers c.args.tag c.args.error c.args.at c.self.invariant.tracks busy)
+    c.push_reserved.ensures.room)
 
 pub returns-clause-ok : goal.returns-clause-ok
 returns-clause-ok g c =

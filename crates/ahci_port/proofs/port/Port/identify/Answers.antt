@@ -28,7 +28,7 @@ invariant_of-self-2 g c =
     let disk : c.send-taken.new.disk ≡ i.disk = c.send-taken.ensures.disk ∙ identify_state i.disk calm in
     let regs : c.receive_pio.new.registers ≡ read_by_pio i.registers =
     c.receive_pio.ensures.registers ∙ ap (λ b. after_pio_end (after_pio c.send-taken.new.registers (pio_setup_at b).status (pio_setup_at b).error)
-      (pio_setup_at b).e_status (pio_setup_at b).i 0) c.pio_setup.ensures
+    (pio_setup_at b).e_status (pio_setup_at b).i 0) c.pio_setup.ensures
     ∙ ap read_data c.send-taken.ensures.registers in
     let headers = back_again i.headers c.send-taken.new.header (let h = c.self.invariant.header_count in omega arith) in
     rw (headers, disk, regs, c.push_reserved.ensures.past, c.in-Ok.ensures.past)

@@ -3,7 +3,7 @@ use Rattle.ahci_port.proofs.port.Port.over.Goals as goal
 
 pub invariant_of-result : goal.invariant_of-result
 invariant_of-result g c = rw (c.requires.new, c.started.ensures, c.in_ok-slots.ensures, c.new-journal.ensures.past, c.new-journal.ensures.room)
-  (keeps_new c.args.starting.items c.args.depth c.no_headers.result c.requires.disk c.no_headers.ensures)
+    (keeps_new c.args.starting.items c.args.depth c.no_headers.result c.requires.disk c.no_headers.ensures)
 
 pub returns : goal.returns
 returns g c = rw (c.new.ensures, c.requires.new, c.started.ensures, c.in_ok-slots.ensures, c.new-journal.ensures.past, c.empty_area.ensures) (view_new c.args.starting.items c.args.depth)

@@ -45,8 +45,8 @@ bad g c =
     let i = c.self.inside in
     let page : c.page.result ≡ c.read_log.result = c.page.ensures ∙ c.take_page.ensures.page in
     let is : IsSomeAnd i.disk.error (λ e. c.page.result ≡ log_page e) =
-      subst (λ x. IsSomeAnd i.disk.error (λ e. x ≡ log_page e)) (sym page)
-        (subst (λ d. IsSomeAnd d.error (λ e. c.read_log.result ≡ log_page e)) (state g c) c.read_log.ensures.page) in
+    subst (λ x. IsSomeAnd i.disk.error (λ e. x ≡ log_page e)) (sym page)
+    (subst (λ d. IsSomeAnd d.error (λ e. c.read_log.result ≡ log_page e)) (state g c) c.read_log.ensures.page) in
     tag_of_page i.disk.error c.page.result i.journal.past (logged _ _ _ _ _ _ _ c.self.invariant (stop g c)) is (failed_low _ _ _ _ _ _ _ c.self.invariant)
 
 disk : (g : _) (c : goal.After-push_reserved g) → c.read_log.new.self ≡ no_error c.self.inside.disk
@@ -55,17 +55,17 @@ disk g c = c.read_log.ensures.state ∙ ap no_error (state g c)
 regs : (g : _) (c : goal.After-push_reserved g) → c.receive_pio.new.registers ≡ recovered c.self.inside.registers
 regs g c =
     c.receive_pio.ensures.registers ∙ ap (λ b. after_pio_end (after_pio c.send-taken.new.registers (pio_setup_at b).status (pio_setup_at b).error)
-      (pio_setup_at b).e_status (pio_setup_at b).i 0) c.pio_setup.ensures
+    (pio_setup_at b).e_status (pio_setup_at b).i 0) c.pio_setup.ensures
     ∙ ap read_data (c.send-taken.ensures.registers ∙ ap (λ r. after_write r 0x138 1) c.restart.ensures)
 
 slots : (g : _) (c : goal.After-push_reserved g)
-  → take c.self.inside.slots.len (c.recover_slots.new.slots ++ drop (length c.recover_slots.new.slots) c.self.inside.slots.items)
+    → take c.self.inside.slots.len (c.recover_slots.new.slots ++ drop (length c.recover_slots.new.slots) c.self.inside.slots.items)
     ≡ map (option_map recovered_slot) c.self.inside.slots.items
 slots g c =
     let i = c.self.inside in
     whole_write i.slots.items c.recover_slots.new.slots i.slots.len (sym c.deref_mut.ensures.len ∙ ap length c.deref_mut.ensures.value)
-      (ap length c.recover_slots.ensures ∙ length-map c.deref_mut.result.now (option_map recovered_slot) ∙ ap length c.deref_mut.ensures.value)
-      ∙ c.recover_slots.ensures ∙ ap (map (option_map recovered_slot)) c.deref_mut.ensures.value
+    (ap length c.recover_slots.ensures ∙ length-map c.deref_mut.result.now (option_map recovered_slot) ∙ ap length c.deref_mut.ensures.value)
+    ∙ c.recover_slots.ensures ∙ ap (map (option_map recovered_slot)) c.deref_mut.ensures.value
 
 pub returns-clause-failed : goal.returns-clause-failed
 returns-clause-failed g c = rw (← c.self.view_is) (bad g c)
@@ -76,7 +76,7 @@ invariant_of-self-2 g c =
     let headers = back_again i.headers c.send-taken.new.header (let h = c.self.invariant.header_count in omega arith) in
     rw (headers, disk g c, regs g c, slots g c, c.push_reserved.ensures.past, c.in-Ok.ensures.past)
     (keeps_recover i.starting.items i.disk i.registers i.slots.items i.headers i.journal.past i.journal.room c.push_reserved.new.self.room
-      (get_or c.page.result 0 0 % 32) c.self.invariant (bad g c) (let a = c.in-Ok.ensures.room in let b = c.push_reserved.ensures.room in omega arith))
+    (get_or c.page.result 0 0 % 32) c.self.invariant (bad g c) (let a = c.in-Ok.ensures.room in let b = c.push_reserved.ensures.room in omega arith))
 
 pub returns-clause-recovered : goal.returns-clause-recovered
 returns-clause-recovered g c =

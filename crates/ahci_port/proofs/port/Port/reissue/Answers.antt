@@ -22,7 +22,7 @@ invariant_of-self g c =
     let slot = c.reissue.ensures ∙ ap reissued_slot (sym same) in
     rw (slot, c.issue.ensures, c.push_reserved.ensures.past)
     (keeps_reissue i.starting.items i.disk i.registers i.slots.items i.headers i.journal.past i.journal.room c.push_reserved.new.self.room
-      c.args.tag r.owner.slot c.self.invariant r.held r.running r.owner.here c.push_reserved.ensures.room)
+    c.args.tag r.owner.slot c.self.invariant r.held r.running r.owner.here c.push_reserved.ensures.room)
 
 pub returns-clause-ok : goal.returns-clause-ok
 returns-clause-ok g c =

@@ -58,7 +58,7 @@ push_reserved-requires g c =
 
 -- what stands once the command is served: the slot's request, its window, its slot and the registers
 here : (g : _) (c : goal.After-push_reserved g)
-  → Serving c.self.inside.starting.items c.self.inside.disk c.self.inside.journal.past c.self.inside.slots.items c.self.inside.journal.room c.args.tag
+    → Serving c.self.inside.starting.items c.self.inside.disk c.self.inside.journal.past c.self.inside.slots.items c.self.inside.journal.room c.args.tag
 here g c = serving _ _ _ _ _ _ _ c.args.tag c.args.self.now c.self.invariant (ap (λ p. p.past) c.self.view_is) (sym c.serve_fault.ensures ∙ c.in_default.is)
 
 same : (g : _) (c : goal.After-push_reserved g) → (here g c).owner.slot ≡ c.in-Some-index_mut.slot
@@ -68,18 +68,18 @@ kept : (g : _) (c : goal.After-push_reserved g) → IsKept (here g c).owner.slot
 kept g c = subst (λ s. IsKept s.window c.serve-sent.new.self.window) (sym (same g c)) c.serve-sent.ensures.kept
 
 moved : (g : _) (c : goal.After-push_reserved g) → HasMoved (queued_of (here g c).owner.slot.window) c.self.inside.disk.image c.serve-sent.new.disk.image
-  (text (here g c).owner.slot.window) (text c.serve-sent.new.self.window)
+    (text (here g c).owner.slot.window) (text c.serve-sent.new.self.window)
 moved g c = subst (λ s. HasMoved (queued_of s.window) c.self.inside.disk.image c.serve-sent.new.disk.image (text s.window) (text c.serve-sent.new.self.window))
-  (sym (same g c)) c.serve-sent.ensures.data
+    (sym (same g c)) c.serve-sent.ensures.data
 
 slot : (g : _) (c : goal.After-push_reserved g)
-  → c.serve-sent.new.self ≡ served_slot (here g c).owner.slot (length c.self.inside.journal.past) c.serve-sent.new.self.window
+    → c.serve-sent.new.self ≡ served_slot (here g c).owner.slot (length c.self.inside.journal.past) c.serve-sent.new.self.window
 slot g c = c.serve-sent.ensures.slot ∙ ap (λ s. served_slot s c.len-entry.result c.serve-sent.new.self.window) (sym (same g c))
-  ∙ ap (λ n. served_slot (here g c).owner.slot n c.serve-sent.new.self.window) c.len-entry.ensures
+    ∙ ap (λ n. served_slot (here g c).owner.slot n c.serve-sent.new.self.window) c.len-entry.ensures
 
 regs : (g : _) (c : goal.After-push_reserved g) → c.receive_bits.new.registers ≡ completed c.self.inside.registers c.args.tag
 regs g c = c.receive_bits.ensures.registers ∙ ap (λ f. after_bits c.self.inside.registers f.status f.error f.i f.sactive)
-  (ap set_bits_at c.serve-sent.ensures.bits ∙ sym (c.the_disks_answers_are_these_bytes.ensures.spell.completed c.args.tag (here g c).owner.low).1)
+    (ap set_bits_at c.serve-sent.ensures.bits ∙ sym (c.the_disks_answers_are_these_bytes.ensures.spell.completed c.args.tag (here g c).owner.low).1)
 
 pub invariant_of-self : goal.invariant_of-self
 invariant_of-self g c =
@@ -87,16 +87,16 @@ invariant_of-self g c =
     let t = here g c in
     let w = c.serve-sent.new.self.window in
     let kept_all = keeps_serve i.starting.items i.disk i.registers i.slots.items i.headers i.journal.past i.journal.room
-      c.push_reserved.new.self.room c.args.tag t.owner.slot c.serve-sent.new.disk.image w
-      c.self.invariant t.accepted t.running t.owner.here (fit_sized t.owner.slot.window t.owner.holds.fit) (moved g c)
-      (moved_window (queued_of t.owner.slot.window) t.owner.slot.window w i.disk.image c.serve-sent.new.disk.image refl t.owner.holds.fit
-        c.serve-sent.ensures.fit (kept g c) (moved g c))
-      c.push_reserved.ensures.room in
+    c.push_reserved.new.self.room c.args.tag t.owner.slot c.serve-sent.new.disk.image w
+    c.self.invariant t.accepted t.running t.owner.here (fit_sized t.owner.slot.window t.owner.holds.fit) (moved g c)
+    (moved_window (queued_of t.owner.slot.window) t.owner.slot.window w i.disk.image c.serve-sent.new.disk.image refl t.owner.holds.fit
+    c.serve-sent.ensures.fit (kept g c) (moved g c))
+    c.push_reserved.ensures.room in
     rw (regs g c, c.push_reserved.ensures.past)
     (subst (λ d. Keeps i.starting.items d (completed i.registers c.args.tag) (set i.slots.items c.args.tag (Some c.serve-sent.new.self)) i.headers
-      (Complete c.args.tag ∷ i.journal.past) c.push_reserved.new.self.room) (sym c.serve-sent.ensures.state)
+    (Complete c.args.tag ∷ i.journal.past) c.push_reserved.new.self.room) (sym c.serve-sent.ensures.state)
     (subst (λ s. Keeps i.starting.items (served i.disk c.args.tag c.serve-sent.new.disk.image) (completed i.registers c.args.tag)
-      (set i.slots.items c.args.tag (Some s)) i.headers (Complete c.args.tag ∷ i.journal.past) c.push_reserved.new.self.room)
+    (set i.slots.items c.args.tag (Some s)) i.headers (Complete c.args.tag ∷ i.journal.past) c.push_reserved.new.self.room)
     (sym (slot g c)) kept_all))
 
 pub returns-clause-ok : goal.returns-clause-ok
@@ -106,7 +106,7 @@ returns-clause-ok g c =
     let w = c.serve-sent.new.self.window in
     let old = view_of i.starting.items i.disk i.registers i.unqueued.sent i.area i.slots.items i.journal.past in
     let new = view_of i.starting.items c.serve-sent.new.disk c.receive_bits.new.registers i.unqueued.sent c.receive_bits.new.area
-      (set i.slots.items c.args.tag (Some c.serve-sent.new.self)) c.push_reserved.new.self.past in
+    (set i.slots.items c.args.tag (Some c.serve-sent.new.self)) c.push_reserved.new.self.past in
     let own_window : window_at old c.args.tag ≡ Some t.owner.slot.window = get_or-map window_in i.slots.items c.args.tag None ∙ ap window_in t.owner.here in
     rw (← c.self.view_is)
     (subst (λ o. IsSomeAnd o (λ x. IsServed c.args.tag x old new (Completed c.len-entry.result))) (sym own_window)
@@ -116,8 +116,8 @@ returns-clause-ok g c =
       registers_are = regs g c;
       area_is = c.receive_bits.ensures.area ∙ ap (λ b. put_at bits_place b c.receive_setup.new.area) c.serve-sent.ensures.bits
           ∙ ap (put_at bits_place (completed_bytes c.args.tag))
-            (c.receive_setup.ensures ∙ ap (λ b. put_at setup_place b i.area) (c.serve-sent.ensures.setup ∙ ap (λ s. setup_bytes (queued_of s.window)) (sym (same g c))));
+          (c.receive_setup.ensures ∙ ap (λ b. put_at setup_place b i.area) (c.serve-sent.ensures.setup ∙ ap (λ s. setup_bytes (queued_of s.window)) (sym (same g c))));
       moved = steps_moved i.starting.items i.journal.past i.disk.image c.serve-sent.new.disk.image i.slots.items c.args.tag (length i.journal.past) t.owner.slot w old new
           t.owner.here t.owner.below c.self.invariant.sectors t.owner.holds.fit c.serve-sent.ensures.fit (kept g c) (moved g c) refl refl refl
-            (ap (λ s. map window_in (set i.slots.items c.args.tag (Some s))) (slot g c));
+          (ap (λ s. map window_in (set i.slots.items c.args.tag (Some s))) (slot g c));
     }))

@@ -11,7 +11,9 @@ invariant_of-self c =
     let h = c.self.invariant in
     let st = c.starts-starts.result in
     kept_by_command s st c.receives-receives.result _ _ h (subst (IsSlots s.depth) (sym c.remaining-self-inside.ensures) (slots-remaining s.depth _ s.sact h.sact))
-      (subst (IsSlots s.depth) (sym c.remaining-self-inside-2.ensures) (slots-remaining s.depth _ s.ci h.ci))
+    (subst (IsSlots s.depth) (sym c.remaining-self-inside-2.ensures) (slots-remaining s.depth _ s.ci h.ci))
     (λ e. grind arith)
-    (λ e. (c.remaining-self-inside.ensures ∙ remaining_of_stopped s.st st s.sact (λ k. (h.stopped k).0) e,
-      c.remaining-self-inside-2.ensures ∙ remaining_of_stopped s.st st s.ci (λ k. (h.stopped k).1) e))
+    (λ e. (
+      c.remaining-self-inside.ensures ∙ remaining_of_stopped s.st st s.sact (λ k. (h.stopped k).0) e,
+      c.remaining-self-inside-2.ensures ∙ remaining_of_stopped s.st st s.ci (λ k. (h.stopped k).1) e,
+    ))

@@ -10,6 +10,6 @@ invariant_of-self c =
     let s = state_of c.self.inside in
     let h = c.self.invariant in
     kept_by_fis s c.args.e_status s.err _ _ _ h (omega arith) h.err
-      (interrupts_after _ _ _ _ c.with-self-inside.ensures interrupts-tfes (interrupts_after _ _ _ _ c.with.ensures interrupts-pss h.is)) h.sact
+    (interrupts_after _ _ _ _ c.with-self-inside.ensures interrupts-tfes (interrupts_after _ _ _ _ c.with.ensures interrupts-pss h.is)) h.sact
     (subst (IsSlots s.depth) (sym c.ended-self-inside.ensures) (slots-ended s.depth c.args.e_status c.args.tag s.ci h.ci))
-      (λ e. e) (λ e. c.ended-self-inside.ensures ∙ ended_of_none c.args.e_status c.args.tag s.ci e)
+    (λ e. e) (λ e. c.ended-self-inside.ensures ∙ ended_of_none c.args.e_status c.args.tag s.ci e)

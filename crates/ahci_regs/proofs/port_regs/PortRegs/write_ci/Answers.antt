@@ -13,5 +13,5 @@ invariant_of-self c =
     let s = state_of c.self.inside in
     let h = c.self.invariant in
     kept_by_command s s.st s.fre _ _ h h.sact
-      (subst (IsSlots s.depth) (sym c.in_ok-self-inside.ensures.1) (slots-union s.depth s.ci (bits c.args.value) (length-bits c.args.value) h.ci)) h.receiving
-      (λ e. absurd (false≢true (sym e ∙ c.in_ok-self-inside.ensures.0)))
+    (subst (IsSlots s.depth) (sym c.in_ok-self-inside.ensures.1) (slots-union s.depth s.ci (bits c.args.value) (length-bits c.args.value) h.ci)) h.receiving
+    (λ e. absurd (false≢true (sym e ∙ c.in_ok-self-inside.ensures.0)))

@@ -13,4 +13,4 @@ invariant_of-self c =
     let s = state_of c.self.inside in
     let h = c.self.invariant in
     kept_by_command s s.st s.fre _ _ h (subst (IsSlots s.depth) (sym c.in_ok-self-inside.ensures.1) (slots-union s.depth s.sact (bits c.args.value) (length-bits c.args.value) h.sact))
-      h.ci h.receiving (λ e. absurd (false≢true (sym e ∙ c.in_ok-self-inside.ensures.0)))
+    h.ci h.receiving (λ e. absurd (false≢true (sym e ∙ c.in_ok-self-inside.ensures.0)))

@@ -14,4 +14,4 @@ push-requires g c =
 
 pub loop-index-preserved : goal.loop-index-preserved
 loop-index-preserved g c = listed_more c.args.self.now c.loop-index.index _ _ c.in_ok-piece_at.field-0 c.loop-index.invariant.0
-  c.loop-index.invariant.1 c.push.ensures.items c.in_ok-piece_at.ensures.value (c.in_ok-piece_at.ensures.fit.0 refl)
+    c.loop-index.invariant.1 c.push.ensures.items c.in_ok-piece_at.ensures.value (c.in_ok-piece_at.ensures.fit.0 refl)

@@ -27,9 +27,9 @@ returns-clause-scattered g c =
     let bytes : c.deref_mut.result.now ≡ c.args.self.now.bytes = c.deref_mut.ensures.value ∙ own in
     let after = with_items_is c.self.inside.bytes c.scatter.new.bytes (c.scatter.ensures.len ∙ c.deref_mut.ensures.len) in
     let both = scattered_window c.args.self.now c.args.offset c.args.from.now c.scatter.new.bytes c.requires.fit (c.scatter.ensures.len ∙ ap length bytes)
-      (rw (list, bytes) at c.scatter.ensures.text) (rw (list, bytes) at c.scatter.ensures.others) in
+    (rw (list, bytes) at c.scatter.ensures.text) (rw (list, bytes) at c.scatter.ensures.others) in
     subst (IsScattered c.args.self.now c.args.offset c.args.from.now)
-      (sym (window_is c.self.inside.tag c.self.inside.header c.self.inside.bytes.items c.scatter.new.bytes _ c.args.self.now c.self.view_is after)) both.0
+    (sym (window_is c.self.inside.tag c.self.inside.header c.self.inside.bytes.items c.scatter.new.bytes _ c.args.self.now c.self.view_is after)) both.0
 
 pub returns-clause-fit : goal.returns-clause-fit
 returns-clause-fit g c =
@@ -38,5 +38,5 @@ returns-clause-fit g c =
     let bytes : c.deref_mut.result.now ≡ c.args.self.now.bytes = c.deref_mut.ensures.value ∙ own in
     let after = with_items_is c.self.inside.bytes c.scatter.new.bytes (c.scatter.ensures.len ∙ c.deref_mut.ensures.len) in
     let both = scattered_window c.args.self.now c.args.offset c.args.from.now c.scatter.new.bytes c.requires.fit (c.scatter.ensures.len ∙ ap length bytes)
-      (rw (list, bytes) at c.scatter.ensures.text) (rw (list, bytes) at c.scatter.ensures.others) in
+    (rw (list, bytes) at c.scatter.ensures.text) (rw (list, bytes) at c.scatter.ensures.others) in
     subst IsFit (sym (window_is c.self.inside.tag c.self.inside.header c.self.inside.bytes.items c.scatter.new.bytes _ c.args.self.now c.self.view_is after)) both.1

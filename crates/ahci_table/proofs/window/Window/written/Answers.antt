@@ -14,5 +14,5 @@ returns g c =
     let ps = c.args.pieces.now in
     record {
       bytes = built c.args.tag work ps c.header_for.result _ _ (free_from work ps c.requires.free) c.header_for.ensures c.in_ok-table.ensures
-        c.in_ok-with_data.ensures.len c.in_ok-with_data.ensures.text c.in_ok-with_data.ensures.others;
+          c.in_ok-with_data.ensures.len c.in_ok-with_data.ensures.text c.in_ok-with_data.ensures.others;
     }
