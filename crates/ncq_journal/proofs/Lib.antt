@@ -11,3 +11,4 @@ pub mod AnsweredLemmas
 pub mod OwedLemmas
 pub mod PartLemmas
 pub mod FailedLemmas
+pub mod PassLemmas

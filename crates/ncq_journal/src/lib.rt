@@ -31,6 +31,6 @@ pub use owed::owed_by;
 pub use phase::{Phase, phase_of};
 pub use plain::Plain;
 pub use request::{Request, request_of};
-pub use sector::{is_covered, read_sectors, sector_in, sector_of};
+pub use sector::{is_covered, read_sectors, sector_in, sector_of, write_sectors};
 pub use std::alloc::AllocError as OutOfMemory;
 pub use tags::{ci_of, device_tags_of, sact_of};

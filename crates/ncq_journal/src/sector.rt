@@ -1,6 +1,6 @@
-ghost use Rattle.std.specs.Prelude.{◌≡◌, ◌+◌, ◌*◌, ◌≤◌, length, take, drop};
+ghost use Rattle.std.specs.Prelude.{◌≡◌, ◌+◌, ◌*◌, ◌/◌, ◌≤◌, length, take, drop};
 ghost use Rattle.ncq_journal.specs.History.{history_of};
-ghost use Rattle.ncq_journal.specs.Image.{sector_at, covers};
+ghost use Rattle.ncq_journal.specs.Image.{sector_at, covers, IsWrittenOver};
 ghost use Rattle.ncq_journal.specs.Sector.{sector, completed};
 ghost use Rattle.ncq_journal.specs.Work.{work_of};
 
@@ -26,6 +26,18 @@ pub fn read_sectors(image: &[u8], lba: u64, out: &mut [u8])
     let start = lba as usize * 512;
     let end = start + out.len();
     out.copy_from_slice(&image[start..end]);
+}
+
+/// Writes these bytes, whole sectors, over those of an image from `lba` on. Every other sector stays.
+pub fn write_sectors(image: &mut [u8], lba: u64, bytes: &[u8])
+    requires whole { length bytes.now ≡ 512 * (length bytes.now / 512) }
+    requires fits { 512 * lba + length bytes.now ≤ length image.old }
+    ensures len { length image.new ≡ length image.old }
+    ensures sectors { IsWrittenOver lba bytes.now image.old image.new }
+{
+    let start = lba as usize * 512;
+    let end = start + bytes.len();
+    image[start..end].copy_from_slice(bytes);
 }
 
 /// Whether the sector at `lba` is one that the command reads or writes.
