@@ -1,19 +1,26 @@
 -- Receipts in the code's list and in the contract's, and the numbers of what was issued.
-use Rattle.std.proofs.Common.{◌≡◌, ℕ, ◌<◌, ◌≤◌, Bool, true, false, ◌||◌, List, [], ◌∷◌, length, map, take, get_or, nat_eq, ap, sym, refl, subst, ◌∙◌, Option, None, Some, IsSome, arith, inl, inr}
+use Rattle.std.proofs.Common.{◌≡◌, ℕ, ◌<◌, ◌≤◌, Bool, true, false, ◌||◌, ◌+◌, ◌++◌, List, [], ◌∷◌, set, replicate, get_or-set_same, get_or-set_other, length-set, is_some, IsSomeAnd, length, map, take, get_or, nat_eq, ap, sym, refl, subst, ◌∙◌, Option, None, Some, IsSome, arith, inl, inr}
 use Rattle.std.specs.List.{list_any, slice_get, take-map}
-use Rattle.std.specs.Prelude.{◌↔◌, Result, Ok, Err, IfOk, IsTrue}
+use Rattle.std.specs.Prelude.{◌↔◌, slice_index_or, Result, Ok, Err, IfOk, IsTrue}
 use Rattle.std.specs.declared.alloc.AllocError.{AllocError}
 use Rattle.std.proofs.lemmas.List.{length-map}
 use Rattle.std.specs.Option.{option_map}
-use Rattle.std.proofs.lemmas.Bool.{cases_lt}
-use Rattle.std.proofs.lemmas.Option.{slice_get-map, slice_get_read}
+use Rattle.std.proofs.lemmas.Bool.{cases_lt, cases_eq, eq-eqb, ne_eqb, or_left, or_right}
+use Rattle.word_bits.proofs.PlacesLemmas.{or_false}
+use Rattle.std.proofs.lemmas.List.Folds.{list_any-append}
+use Rattle.std.proofs.lemmas.List.{get_or-replicate, get_or_past, length-replicate, take_all, take_more}
+use Rattle.ncq_journal.specs.Answer.{Answer, answer}
+use Rattle.ncq_journal.specs.Entry.{Entry}
+use Rattle.ncq_journal.specs.Passing.{AreAnswers}
+use Rattle.ncq_journal.proofs.AnsweredLemmas.{no_answer_yet}
+use Rattle.std.proofs.lemmas.Option.{slice_get-map, slice_get_read, slice_get_within, get_or_from_slice_get}
 use Rattle.ncq_journal.specs.declared.op.Op.{Op}
 use Rattle.ncq_journal.specs.Work.{Work, work_of}
 use Rattle.ncq_journal.proofs.EntryLemmas.{entry_at-past}
 use Rattle.ahci_port.specs.PortView.{PortView}
 use Rattle.ahci_driver.specs.declared.receipt.Receipt.{Receipt}
 use Rattle.ahci_driver.specs.Received.{Received, received_of, is_named}
-use Rattle.ahci_driver.specs.Settled.{AllRight, AnsweredBefore, IsOfJob, answered_as, issued_as, work_in}
+use Rattle.ahci_driver.specs.Settled.{AllRight, AnsweredBefore, AreSeen, IsOfJob, IsRight, answered_as, issued_as, work_in}
 
 -- the numbers are those of the code's receipts
 pub named_map : {A : _} (receipts : List (Receipt A)) (n : ℕ) → is_named (map received_of receipts) n ≡ list_any (λ r. nat_eq r.reply.number n) receipts
@@ -54,3 +61,55 @@ counted receipts jobs e = length-map receipts received_of ∙ e ∙ sym (length-
 pub all_right : {B : _} (port : PortView) (jobs : List (Op B)) (receipts : List Received) (workers n : ℕ) → length jobs ≤ n
     → AllRight port (map work_of jobs) receipts workers n → AllRight port (map work_of jobs) receipts workers (length (map work_of jobs))
 all_right port jobs receipts workers n h each i low = each i (let l = length-map jobs work_of in omega arith)
+
+-- the answer of any number, also past the journal's end
+pub answers_at : (image : List ℕ) (past : List Entry) (answers : List (Option Answer)) (n : ℕ) → AreAnswers image past answers → slice_index_or answers n None ≡ answer image past n
+answers_at image past answers n h =
+    elim (cases_lt n (length past)) [
+      | inl low ↦ h.each n low
+      | inr high ↦ get_or_past answers n None (let c = h.count in omega arith) ∙ sym (no_answer_yet image past n high)
+    ]
+
+pub seen_none : (receipts : List Received) (n : ℕ) → AreSeen receipts n 0 (replicate n false)
+seen_none receipts n = record { count = length-replicate n false; each = λ k low. get_or-replicate n k false false low }
+
+-- one receipt more
+pub seen_more : (receipts : List Received) (n i : ℕ) (seen : List Bool) (r : Received) → slice_get receipts i ≡ Some r → r.number < n → AreSeen receipts n i seen → AreSeen receipts n (i + 1) (set seen r.number true)
+seen_more receipts n i seen r here low h = record { count = length-set seen r.number true ∙ h.count; each = each }
+  where
+    more : (k : ℕ) → is_named (take (i + 1) receipts) k ≡ (is_named (take i receipts) k || (nat_eq r.number k || false))
+    more k =
+        ap (λ rs. is_named rs k) (take_more receipts i r (slice_get_within receipts i r here) ∙ ap (λ x. take i receipts ++ x ∷ []) (get_or_from_slice_get receipts i r r here))
+        ∙ list_any-append (λ x. nat_eq x.number k) (take i receipts) (r ∷ [])
+
+    each : (k : ℕ) → k < n → slice_index_or (set seen r.number true) k false ≡ is_named (take (i + 1) receipts) k
+    each k inside = elim (cases_eq k r.number) [
+      | inl same ↦
+          ap (λ x. slice_index_or (set seen r.number true) x false) same ∙ get_or-set_same seen r.number true false (let c = h.count in omega arith)
+          ∙ sym (more k ∙ or_right (is_named (take i receipts) k) (nat_eq r.number k || false) (or_left (nat_eq r.number k) false (eq-eqb r.number k (sym same))))
+      | inr other ↦
+          get_or-set_other seen r.number k true false other ∙ h.each k inside
+          ∙ sym (more k ∙ ap (λ b. is_named (take i receipts) k || (b || false)) (ne_eqb r.number k (λ e. other (sym e))) ∙ or_false (is_named (take i receipts) k))
+    ]
+
+-- all receipts
+pub seen_all : (receipts : List Received) (n i : ℕ) (seen : List Bool) → length receipts ≤ i → AreSeen receipts n i seen → (k : ℕ) → k < n → slice_index_or seen k false ≡ is_named receipts k
+seen_all receipts n i seen done h k low = h.each k low ∙ ap (λ rs. is_named rs k) (take_all i receipts done)
+
+-- a right receipt has a number of the journal
+pub right_within : (port : PortView) (jobs : List Work) (receipts : List Received) (workers i : ℕ) (r : Received) → IsRight port jobs receipts workers i → slice_get receipts i ≡ Some r → r.number < length port.past
+right_within port jobs receipts workers i r h here = by (slice_get jobs i) h
+  where
+    by : (o : Option Work) → IsSomeAnd o (λ work. IsSomeAnd (slice_get receipts i) (IsOfJob port receipts workers i work)) → r.number < length port.past
+    by None x = absurd x
+    by (Some work) x = let j : IsOfJob port receipts workers i work r = subst (λ o. IsSomeAnd o (IsOfJob port receipts workers i work)) here x in
+        issued_within port r.number (ap is_some j.issued)
+
+-- the same as `by_answer`, where the answer is found at its number
+pub by_found : (port : PortView) (receipts : List Received) (workers i : ℕ) (work : Work) (r : Received) (answers : List (Option Answer)) (b : Bool) → AreAnswers port.starting port.past answers
+    → issued_as port r.number ≡ Some work → is_named (take i receipts) r.number ≡ false → AnsweredBefore receipts workers i r.number
+    → (IsTrue b ↔ (slice_index_or answers r.number None ≡ Some r.answer)) → IsTrue b ↔ IsOfJob port receipts workers i work r
+by_found port receipts workers i work r answers b all issued fresh turn h = (
+  λ t. record { issued = issued; fresh = fresh; answered = sym (answers_at port.starting port.past answers r.number all) ∙ h.0 t; in_turn = turn },
+  λ j. h.1 (answers_at port.starting port.past answers r.number all ∙ j.answered),
+)

@@ -1,6 +1,6 @@
 -- When a run of workers is settled against the journal of its port: each job was issued once, answered as the journal says,
 -- and answered before its worker's next job was issued; and nothing else was issued.
-use Rattle.std.specs.Prelude.{◌≡◌, ◌≢◌, ℕ, ◌-◌, ◌<◌, ◌≤◌, true, false, List, length, take, Option, None, Some, IsSome, IsSomeAnd, slice_get}
+use Rattle.std.specs.Prelude.{◌≡◌, ◌≢◌, ℕ, ◌-◌, ◌<◌, ◌≤◌, Bool, true, false, List, length, take, Option, None, Some, IsSome, IsSomeAnd, slice_get, slice_index_or}
 use Rattle.ncq_journal.specs.Answer.{Answer, answer}
 use Rattle.ncq_journal.specs.Entry.{Entry, Issue}
 use Rattle.ncq_journal.specs.History.{entry_at}
@@ -69,3 +69,8 @@ IsUnsettled port jobs receipts workers (Wrong i) =
 IsUnsettled port jobs receipts workers (Extra n) =
     (length receipts ≡ length jobs) × AllRight port jobs receipts workers (length jobs) × IsFirstUnnamed port receipts (Some n)
 IsUnsettled port jobs receipts workers OutOfMemory = length receipts ≡ length jobs
+
+-- for each number below n, whether one of the first i receipts has it
+pub record AreSeen (receipts : List Received) (n i : ℕ) (seen : List Bool) : Type 0 where
+  pub count : length seen ≡ n
+  pub each : (k : ℕ) → k < n → slice_index_or seen k false ≡ is_named (take i receipts) k

@@ -27,7 +27,11 @@ fn is_same<A: Allocator, B: Allocator>(op: &Op<A>, other: &Op<B>) -> bool
 }
 
 /// Whether the job's command was issued under this number.
-fn is_issued<A: Allocator, B: Allocator>(port: &Port<A>, number: u64, job: &Op<B>) -> bool
+pub(crate) fn is_issued<A: Allocator, B: Allocator>(
+    port: &Port<A>,
+    number: u64,
+    job: &Op<B>,
+) -> bool
     ensures { IsTrue result ↔ (issued_as port.now number ≡ Some (work_of job.now)) }
 {
     match port.journal().get(number) {
@@ -54,7 +58,10 @@ fn is_named<B: Allocator>(receipts: &[Receipt<B>], number: u64) -> bool
 }
 
 /// Whether the receipt has this answer.
-fn is_answer<B: Allocator, C: Allocator>(answer: &Answer<C>, receipt: &Receipt<B>) -> bool
+pub(crate) fn is_answer<B: Allocator, C: Allocator>(
+    answer: &Answer<C>,
+    receipt: &Receipt<B>,
+) -> bool
     ensures { IsTrue result ↔ (answer.now ≡ (received_of receipt.now).answer) }
 {
     if answer.entry() != receipt.reply.entry {
@@ -83,7 +90,7 @@ fn is_answered<A: Allocator, B: Allocator, C: Allocator + Clone>(
 }
 
 /// Whether the job before of the same worker was answered before this number.
-fn is_in_turn<B: Allocator>(
+pub(crate) fn is_in_turn<B: Allocator>(
     receipts: &[Receipt<B>],
     workers: u32,
     index: usize,

@@ -272,3 +272,32 @@ fn a_run_does_not_begin_on_a_used_port_or_with_a_bad_job(rt: HostRuntime) -> Res
     equal(&rt, ended.err(), RunFault::BadJob(2));
     Ok(())
 }
+
+#[test]
+fn four_thousand_jobs_are_settled_and_swapped_receipts_are_not(
+    rt: HostRuntime,
+) -> Result<(), Fail> {
+    let alloc = rt.alloc();
+    let mut jobs = Vec::new(alloc);
+    for i in 0..4_000u32 {
+        let lba = u64::from(i % 64);
+        jobs.push(if i % 3 == 2 {
+            Job::Read(lba)
+        } else {
+            Job::Write(lba, (i % 251) as u8)
+        })?;
+    }
+    let jobs = ops_of(alloc, &jobs)?;
+    let setting = Setting {
+        workers: 8,
+        depth: 8,
+        sectors: 64,
+        byte: 0,
+    };
+    let mut end = runs(&rt, alloc, setting, &jobs, Way::Lowest)?;
+    assert!(rt; end.replies.len() == 4_000);
+    end.replies.swap(5, 9);
+    let found = settle(alloc, &end.port, &jobs, &end.replies, 8);
+    assert!(rt; found == Err(SettleFault::Wrong(5)), "{found:?}");
+    Ok(())
+}
