@@ -12,7 +12,8 @@ use crate::piece::Piece;
 use crate::runs;
 use crate::window::Window;
 use arrayvec::ArrayVec;
-use std::alloc::{AllocError, Allocator};
+use ncq_core::OutOfMemory;
+use std::alloc::Allocator;
 
 impl<A: Allocator> Window<A> {
     /// The pieces of a window that a port takes.
@@ -66,7 +67,7 @@ impl<A: Allocator> Window<A> {
     }
 
     /// The bytes of the pieces, joined in the order of the list. It fails only where memory is refused.
-    pub fn text<B: Allocator>(&self, alloc: B) -> Result<Vec<u8, B>, AllocError>
+    pub fn text<B: Allocator>(&self, alloc: B) -> Result<Vec<u8, B>, OutOfMemory>
         requires { IsFit self.now }
         ensures { IfOk result (λ v. v.items ≡ text self.now) }
     {
@@ -74,7 +75,7 @@ impl<A: Allocator> Window<A> {
     }
 
     /// The same, where the window's pieces are at hand.
-    pub fn text_in<B: Allocator>(&self, list: &[Piece], alloc: B) -> Result<Vec<u8, B>, AllocError>
+    pub fn text_in<B: Allocator>(&self, list: &[Piece], alloc: B) -> Result<Vec<u8, B>, OutOfMemory>
         requires fit { IsFit self.now }
         requires list { list.now ≡ pieces self.now }
         ensures { IfOk result (λ v. v.items ≡ text self.now) }
