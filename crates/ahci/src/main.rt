@@ -1,17 +1,19 @@
-//! `ahci`: a reference model of one AHCI port, run by scripts.
+//! `ahci`: a reference model of one AHCI port, run by scripts and by lists of jobs.
 #![tactic(auto)]
 
-ghost use Rattle.std.specs.Prelude.{◌≡◌, ◌⊎◌, map};
+ghost use Rattle.std.specs.Prelude.{◌≡◌, ◌≤◌, ◌⊎◌, map};
 ghost use Rattle.std.specs.Process.{exit_status};
 ghost use Rattle.std.specs.String.{string_bytes};
-ghost use Rattle.ahci.specs.Ending.{EndsFor, Explains, IsScriptStatus, script_status};
-ghost use Rattle.ahci_replay.specs.Fault.{status_of};
+ghost use Rattle.ahci.specs.Ending.{EndsFor, Explains, IsInputStatus, input_status};
+ghost use Rattle.ahci_script.specs.Fault.{status_of};
 ghost use Rattle.clap.specs.Words.{kind_of};
 
-use ahci_cli::{Asked, CliFault, asked, not_text, replay};
+use ahci_cli::{Asked, CliFault, Pick, asked, not_text, replay, run_jobs};
 use clap::error::ErrorKind;
 use std::io;
 use std::process::ExitCode;
+use std::sync::Wait;
+use std::thread::Threads;
 
 /// The exit status of a wrong command line.
 const USAGE: u8 = 2;
@@ -20,7 +22,7 @@ fn main(rt: HostRuntime) -> ExitCode {
     match words(&rt) {
         Err(ArgsFault::NotText) => explain_not_text(&rt),
         Err(ArgsFault::OutOfMemory) => fail(&rt, CliFault::OutOfMemory),
-        Ok(words) => answer(&rt, words.as_slice()),
+        Ok(words) => answer(&rt, &rt, words.as_slice()),
     }
 }
 
@@ -43,26 +45,61 @@ fn words(rt: &HostRuntime) -> Result<Vec<String>, ArgsFault> {
 }
 
 /// Does what the words ask for.
-fn answer(rt: &HostRuntime, words: &[String]) -> ExitCode
+fn answer<H: Threads + Wait + Sync>(rt: &HostRuntime, threads: &H, words: &[String]) -> ExitCode
     ensures { EndsFor (map string_bytes words.now) (exit_status result) }
 {
     match asked(rt.alloc(), words) {
-        Ok(Asked::Replay) => run(rt),
+        Ok(Asked::Replay) => script(rt),
+        Ok(
+            Asked::Run {
+                workers,
+                depth,
+                sectors,
+                pick,
+            },
+        ) => jobs(rt, threads, workers, depth, sectors, pick),
         Err(error) => explain(rt, &error),
     }
 }
 
 /// Runs the script on standard input.
-fn run(rt: &HostRuntime) -> ExitCode
-    ensures { IsScriptStatus (exit_status result) }
+fn script(rt: &HostRuntime) -> ExitCode
+    ensures { IsInputStatus (exit_status result) }
 {
     end(rt, replay(rt.alloc(), &mut rt.stdin(), &mut rt.stdout()))
 }
 
-/// Ends a script.
+/// Lets workers do the jobs on standard input.
+fn jobs<H: Threads + Wait + Sync>(
+    rt: &HostRuntime,
+    threads: &H,
+    workers: u32,
+    depth: u32,
+    sectors: u32,
+    pick: Pick,
+) -> ExitCode
+    requires workers { (1 ≤ workers) × (workers ≤ 32) }
+    requires depth { (1 ≤ depth) × (depth ≤ 32) }
+    requires sectors { (1 ≤ sectors) × (sectors ≤ 131072) }
+    ensures { IsInputStatus (exit_status result) }
+{
+    let outcome = run_jobs(
+        threads,
+        rt.alloc(),
+        workers,
+        depth,
+        sectors,
+        pick,
+        &mut rt.stdin(),
+        &mut rt.stdout(),
+    );
+    end(rt, outcome)
+}
+
+/// Ends what was read from standard input, a script or a list of jobs.
 fn end(rt: &HostRuntime, outcome: Result<(), CliFault>) -> ExitCode
-    ensures status { exit_status result ≡ script_status outcome }
-    ensures script { IsScriptStatus (exit_status result) }
+    ensures status { exit_status result ≡ input_status outcome }
+    ensures input { IsInputStatus (exit_status result) }
 {
     match outcome {
         Ok(()) => ExitCode::SUCCESS,
@@ -73,7 +110,7 @@ fn end(rt: &HostRuntime, outcome: Result<(), CliFault>) -> ExitCode
 /// Says what went wrong.
 fn fail(rt: &HostRuntime, fault: CliFault) -> ExitCode
     ensures status { exit_status result ≡ status_of fault }
-    ensures script { IsScriptStatus (exit_status result) }
+    ensures input { IsInputStatus (exit_status result) }
 {
     let _ = rt.eprintln(fault);
     ExitCode::from(fault.status())

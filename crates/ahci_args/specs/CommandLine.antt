@@ -1,22 +1,71 @@
--- The command line of `ahci`, as its parser knows it, and the words that it takes.
-use Rattle.std.specs.Prelude.{◌≡◌, ℕ, true, List, [], ◌∷◌, drop, codes, ◌⊎◌}
-use Rattle.clap.specs.Words.{App, Kinds, Shape, fault_of, new_app, with_subcommand}
+-- The command line of `ahci`, as its parser knows it.
+use Rattle.std.specs.Prelude.{◌≡◌, ℕ, true, pos, List, [], ◌∷◌, Some, map, codes}
+use Rattle.std.specs.Borrow.{Bor}
+use Rattle.clap.specs.Words.{App, Kinds, Rule, Shape, Text, fault_of, new_app, new_rule, with_rule, with_subcommand}
+use Rattle.clap.specs.declared.builder.value_parser.ValueParser.TheVariants.{Names, Signed}
 
 -- the subcommand `replay`, which takes no arguments
 abbrev pub replay : Shape
 replay = (new_app (codes "replay")).top
 
--- `ahci` without its subcommand: it has a version, and wants a subcommand
+-- an option that has to be given, with a number from 1 to `most`
+abbrev pub number_option : Text → ℕ → Rule
+number_option name most = record (new_rule name) {
+  long = Some name;
+  value_names = 1;
+  required = true;
+  parser = Some (Signed (pos 1) (pos most));
+}
+
+-- the words that `--pick` takes; where they stand in memory says nothing
+pub record PickWords : Type 0 where
+  pub words : Bor (List (Bor Text))
+  pub are : map (λ word. word.now) words.now ≡ codes "low" ∷ codes "high" ∷ []
+
+-- the option `--pick`, which is `low` unless it is given
+abbrev pub pick_option : PickWords → Rule
+pick_option picks = record (new_rule (codes "pick")) {
+  long = Some (codes "pick");
+  value_names = 1;
+  defaults = codes "low" ∷ [];
+  parser = Some (Names picks.words);
+}
+
+-- the most workers of a run, slots of a port and sectors of a disk
+abbrev pub most_workers : ℕ
+most_workers = 32
+
+abbrev pub most_depth : ℕ
+most_depth = 32
+
+abbrev pub most_sectors : ℕ
+most_sectors = 131072
+
+-- the subcommand `run` with its options
+abbrev pub run : PickWords → Shape
+run picks = (with_rule (with_rule (with_rule (with_rule (new_app (codes "run"))
+    (number_option (codes "workers") most_workers))
+    (number_option (codes "depth") most_depth))
+    (number_option (codes "sectors") most_sectors))
+    (pick_option picks)).top
+
+-- `ahci` without its subcommands: it has a version, and wants a subcommand
 abbrev pub top : Shape
 top = record (new_app (codes "ahci")).top { has_version = true; subcommand_required = true }
 
-abbrev pub ahci : App
-ahci = with_subcommand (record { top = top; subs = [] }) replay
+abbrev pub ahci : PickWords → App
+ahci picks = with_subcommand (with_subcommand (record { top = top; subs = [] }) replay) (run picks)
 
 -- the kinds of fault that the words may have, by the rules of the parser; none where they are taken
-abbrev pub usage_faults : List (List ℕ) → Kinds
-usage_faults words = fault_of ahci words
+abbrev pub usage_faults : PickWords → List Text → Kinds
+usage_faults picks words = fault_of (ahci picks) words
 
--- behind the program's name stands `replay` alone, or with the `--` that ends the options
-abbrev pub AsksReplay : List (List ℕ) → Type 0
-AsksReplay words = (drop 1 words ≡ codes "replay" ∷ []) ⊎ (drop 1 words ≡ codes "replay" ∷ codes "--" ∷ [])
+-- what the parser has been told
+abbrev pub IsPickOption : Rule → Type 0
+IsPickOption rule = (picks : PickWords) × (rule ≡ pick_option picks)
+
+abbrev pub IsRun : Shape → Type 0
+IsRun shape = (picks : PickWords) × (shape ≡ run picks)
+
+abbrev pub IsAhci : App → Type 0
+IsAhci app = (picks : PickWords) × (app ≡ ahci picks)

@@ -1,12 +1,11 @@
 -- How long the text of a finished read is.
-use Rattle.std.proofs.Common.{◌≡◌, ◌≢◌, ℕ, ◌*◌, Bool, true, false, not, ◌||◌, ◌==◌, cond, List, [], ◌∷◌, length, nat_eq, ap, sym, refl, subst, ◌∙◌, Option, None, Some, IsSome, IsSomeAnd}
+use Rattle.std.proofs.Common.{◌≡◌, ℕ, ◌*◌, Bool, true, false, not, ◌||◌, ◌==◌, cond, List, [], ◌∷◌, length, ap, sym, refl, subst, ◌∙◌, Option, None, Some, IsSomeAnd}
 use Rattle.std.specs.Option.{option_or}
-use Rattle.std.specs.Prelude.{Result, Ok}
-use Rattle.std.proofs.lemmas.Bool.{eqb-true, true≢false}
+use Rattle.std.specs.Prelude.{Ok}
+use Rattle.std.proofs.lemmas.Bool.{eqb-true}
 use Rattle.std.proofs.lemmas.Option.{same_Some}
 use Rattle.ncq_journal.specs.declared.outcome.Outcome.{Outcome}
 use Rattle.ncq_journal.specs.declared.outcome.Outcome.TheVariants as outcome
-use Rattle.ncq_journal.specs.declared.phase.Phase.{Phase}
 use Rattle.ncq_journal.specs.Answer.{Answer, answer, given, completes}
 use Rattle.ncq_journal.specs.Entry.{Entry, Issue, Accept, Complete, Fail, Recover, Reissue, Collect, Unqueued}
 use Rattle.ncq_journal.specs.History.{entry_at}
@@ -19,13 +18,11 @@ use Rattle.ahci_table.specs.Fit.{IsFit}
 use Rattle.ahci_table.specs.Text.{text}
 use Rattle.ahci_table.specs.Window.{WindowState}
 use Rattle.ahci_table.proofs.LawLemmas.{whole_text}
-use Rattle.ahci_port.specs.declared.fault.CollectFault.{CollectFault}
 use Rattle.ahci_port.specs.declared.fault.CollectFault.TheVariants.{Stranger, NotYet}
 use Rattle.ahci_port.specs.Faults.{Answers, collect_refusal, has_number, is_done}
 use Rattle.ahci_port.specs.Headline.{Headline, HasWindow, IsOfRequest}
 use Rattle.ahci_port.specs.Looking.{read_by, read_of, read_length}
 use Rattle.ahci_port.specs.PortView.{PortView, is_free, window_at}
-use Rattle.ahci_port.specs.Slots.{bytes_in}
 use Rattle.ahci_driver.specs.Tickets.{has_length, suits}
 
 -- an entry that issues a read
@@ -139,7 +136,8 @@ text_length port tag number n w a h none e here fits = by a.outcome refl
     owned : HasWindow port.starting port.past tag (Some w)
     owned = subst (HasWindow port.starting port.past tag) here (h.owned tag)
 
-    asked : (o : Option Request) → request port.past tag ≡ o → has_number o number ≡ true → IsSomeAnd o (IsOfRequest port.starting port.past tag w) → a.outcome ≡ outcome.Read → length (text w) ≡ n
+    asked : (o : Option Request) → request port.past tag ≡ o → has_number o number ≡ true
+        → IsSomeAnd o (IsOfRequest port.starting port.past tag w) → a.outcome ≡ outcome.Read → length (text w) ≡ n
     asked None q x y r = absurd y
     asked (Some req) q x y r =
         let at = read_answer port.starting port.past number a e r in

@@ -1,6 +1,6 @@
 -- The words that a pump looks at, and the journal that they come from.
-use Rattle.std.proofs.Common.{◌≡◌, ◌≢◌, ℕ, ◌^◌, ◌<◌, ◌≤◌, Bool, true, false, cond, List, ap, sym, refl, subst, ◌∙◌, Option, None, Some, arith, inl, inr, ◌⊎◌}
-use Rattle.std.proofs.lemmas.Bool.{cases_lt, false≢true, true≢false}
+use Rattle.std.proofs.Common.{◌≡◌, ◌≢◌, ℕ, ◌^◌, ◌<◌, Bool, true, false, cond, List, ap, sym, refl, ◌∙◌, None, Some, arith, inl, inr}
+use Rattle.std.proofs.lemmas.Bool.{cases_lt, true≢false}
 use Rattle.ncq_journal.specs.declared.phase.Phase.{Phase}
 use Rattle.ncq_journal.specs.declared.phase.Phase.TheVariants.{Free, Issued, Accepted, Rejected, Broken, Held, Done}
 use Rattle.ncq_journal.specs.Entry.{Entry}
@@ -11,7 +11,6 @@ use Rattle.word_bits.specs.Places.{places, bits, has_place, no_places, IsLowest}
 use Rattle.word_bits.proofs.PlacesLemmas.{length-places, has_place-places, has_place_past, has_place-no_places, places_none}
 use Rattle.word_bits.proofs.BitsLemmas.{bits_zero, same_word}
 use Rattle.ahci_port.specs.declared.fault.ReissueFault.TheVariants as reissue
-use Rattle.ahci_port.specs.declared.fault.StepFault.{StepFault}
 use Rattle.ahci_port.specs.declared.fault.StepFault.TheVariants as step_fault
 use Rattle.ahci_port.specs.declared.step.DeviceStep.{DeviceStep}
 use Rattle.ahci_port.specs.declared.step.DeviceStep.TheVariants.{Accept, Serve, Fail}
@@ -76,27 +75,18 @@ busy_words past issued accepted i a si sa some = by (busy past) refl
     by : (b : Bool) → busy past ≡ b → busy past ≡ true
     by true e = e
     by false e = absurd (some (
-      zero_word issued (λ t. is_issued (phase past t)) i si (λ t low. calm_issued (phase past t) (lacks_busy t low e)),
-      zero_word accepted (λ t. is_accepted (phase past t)) a sa (λ t low. calm_accepted (phase past t) (lacks_busy t low e)),
+      zero_word issued (λ t. is_issued (phase past t)) i si (λ t low. (calm (phase past t) (lacks_busy t low e)).0),
+      zero_word accepted (λ t. is_accepted (phase past t)) a sa (λ t low. (calm (phase past t) (lacks_busy t low e)).1),
     ))
       where
-        calm_issued : (p : Phase) → is_busy p ≡ false → is_issued p ≡ false
-        calm_issued Issued h = absurd (true≢false h)
-        calm_issued Free h = refl
-        calm_issued Accepted h = refl
-        calm_issued Rejected h = refl
-        calm_issued Broken h = refl
-        calm_issued Held h = refl
-        calm_issued Done h = refl
-
-        calm_accepted : (p : Phase) → is_busy p ≡ false → is_accepted p ≡ false
-        calm_accepted Accepted h = absurd (true≢false h)
-        calm_accepted Free h = refl
-        calm_accepted Issued h = refl
-        calm_accepted Rejected h = refl
-        calm_accepted Broken h = refl
-        calm_accepted Held h = refl
-        calm_accepted Done h = refl
+        calm : (p : Phase) → is_busy p ≡ false → (is_issued p ≡ false) × (is_accepted p ≡ false)
+        calm Issued h = absurd (true≢false h)
+        calm Accepted h = absurd (true≢false h)
+        calm Free h = (refl, refl)
+        calm Rejected h = (refl, refl)
+        calm Broken h = (refl, refl)
+        calm Held h = (refl, refl)
+        calm Done h = (refl, refl)
 
         lacks_busy : (t : ℕ) → t < 32 → busy past ≡ false → is_busy (phase past t) ≡ false
         lacks_busy t low calm = lacks (λ u. is_busy (phase past u)) t low calm

@@ -1,15 +1,14 @@
 -- Jobs whose commands can be issued, and the faults of a run that has begun.
-use Rattle.std.proofs.Common.{◌≡◌, ℕ, ◌+◌, ◌<◌, ◌≤◌, true, false, List, [], ◌∷◌, length, nat_eq, suc, refl, map, get_or, sym, subst, Some, IsSomeAnd, below_more, arith}
+use Rattle.std.proofs.Common.{◌≡◌, ℕ, ◌+◌, ◌<◌, true, false, List, [], ◌∷◌, length, nat_eq, suc, refl, map, get_or, sym, subst, IsSomeAnd, below_more, arith}
 use Rattle.std.specs.List.{slice_get}
 use Rattle.std.specs.Prelude.{Result, Ok, Err, IfOk, IfErr}
 use Rattle.std.proofs.lemmas.Bool.{eqb-true, true≢false}
-use Rattle.std.proofs.lemmas.List.{length-map}
 use Rattle.ncq_journal.specs.declared.op.Op.{Op}
 use Rattle.ncq_journal.specs.Entry.{Entry}
 use Rattle.ncq_journal.specs.Lawful.{IsProper}
 use Rattle.ncq_journal.specs.Work.{Work, work_of}
 use Rattle.ahci_port.specs.PortView.{PortView}
-use Rattle.ahci_driver.specs.Running.{HasRun, IsFirstBad, IsGivenUp, IsLate, MayRun, ProperBelow}
+use Rattle.ahci_driver.specs.Running.{HasRun, IsGivenUp, IsLate, MayRun, ProperBelow}
 use Rattle.ahci_driver.specs.Received.{received_of}
 use Rattle.ahci_driver.specs.Settled.{IsSettled}
 use Rattle.ahci_driver.specs.declared.run_fault.RunFault.{RunFault}

@@ -1,5 +1,6 @@
 -- Receipts in the code's list and in the contract's, and the numbers of what was issued.
-use Rattle.std.proofs.Common.{◌≡◌, ℕ, ◌<◌, ◌≤◌, Bool, true, false, ◌||◌, ◌+◌, ◌++◌, List, [], ◌∷◌, set, replicate, get_or-set_same, get_or-set_other, length-set, is_some, IsSomeAnd, length, map, take, get_or, nat_eq, ap, sym, refl, subst, ◌∙◌, Option, None, Some, IsSome, arith, inl, inr}
+use Rattle.std.proofs.Common.{◌≡◌, ℕ, ◌<◌, ◌≤◌, Bool, true, false, ◌||◌, ◌+◌, ◌++◌, List, [], ◌∷◌, set, replicate, get_or-set_same, get_or-set_other, length-set, is_some}
+use Rattle.std.proofs.Common.{IsSomeAnd, length, map, take, get_or, nat_eq, ap, sym, refl, subst, ◌∙◌, Option, None, Some, IsSome, arith, inl, inr}
 use Rattle.std.specs.List.{list_any, slice_get, take-map}
 use Rattle.std.specs.Prelude.{◌↔◌, slice_index_or, Result, Ok, Err, IfOk, IsTrue}
 use Rattle.std.specs.declared.alloc.AllocError.{AllocError}
@@ -74,7 +75,8 @@ pub seen_none : (receipts : List Received) (n : ℕ) → AreSeen receipts n 0 (r
 seen_none receipts n = record { count = length-replicate n false; each = λ k low. get_or-replicate n k false false low }
 
 -- one receipt more
-pub seen_more : (receipts : List Received) (n i : ℕ) (seen : List Bool) (r : Received) → slice_get receipts i ≡ Some r → r.number < n → AreSeen receipts n i seen → AreSeen receipts n (i + 1) (set seen r.number true)
+pub seen_more : (receipts : List Received) (n i : ℕ) (seen : List Bool) (r : Received) → slice_get receipts i ≡ Some r
+    → r.number < n → AreSeen receipts n i seen → AreSeen receipts n (i + 1) (set seen r.number true)
 seen_more receipts n i seen r here low h = record { count = length-set seen r.number true ∙ h.count; each = each }
   where
     more : (k : ℕ) → is_named (take (i + 1) receipts) k ≡ (is_named (take i receipts) k || (nat_eq r.number k || false))
@@ -97,7 +99,8 @@ pub seen_all : (receipts : List Received) (n i : ℕ) (seen : List Bool) → len
 seen_all receipts n i seen done h k low = h.each k low ∙ ap (λ rs. is_named rs k) (take_all i receipts done)
 
 -- a right receipt has a number of the journal
-pub right_within : (port : PortView) (jobs : List Work) (receipts : List Received) (workers i : ℕ) (r : Received) → IsRight port jobs receipts workers i → slice_get receipts i ≡ Some r → r.number < length port.past
+pub right_within : (port : PortView) (jobs : List Work) (receipts : List Received) (workers i : ℕ) (r : Received)
+    → IsRight port jobs receipts workers i → slice_get receipts i ≡ Some r → r.number < length port.past
 right_within port jobs receipts workers i r h here = by (slice_get jobs i) h
   where
     by : (o : Option Work) → IsSomeAnd o (λ work. IsSomeAnd (slice_get receipts i) (IsOfJob port receipts workers i work)) → r.number < length port.past
@@ -106,8 +109,8 @@ right_within port jobs receipts workers i r h here = by (slice_get jobs i) h
         issued_within port r.number (ap is_some j.issued)
 
 -- the same as `by_answer`, where the answer is found at its number
-pub by_found : (port : PortView) (receipts : List Received) (workers i : ℕ) (work : Work) (r : Received) (answers : List (Option Answer)) (b : Bool) → AreAnswers port.starting port.past answers
-    → issued_as port r.number ≡ Some work → is_named (take i receipts) r.number ≡ false → AnsweredBefore receipts workers i r.number
+pub by_found : (port : PortView) (receipts : List Received) (workers i : ℕ) (work : Work) (r : Received) (answers : List (Option Answer)) (b : Bool)
+    → AreAnswers port.starting port.past answers → issued_as port r.number ≡ Some work → is_named (take i receipts) r.number ≡ false → AnsweredBefore receipts workers i r.number
     → (IsTrue b ↔ (slice_index_or answers r.number None ≡ Some r.answer)) → IsTrue b ↔ IsOfJob port receipts workers i work r
 by_found port receipts workers i work r answers b all issued fresh turn h = (
   λ t. record { issued = issued; fresh = fresh; answered = sym (answers_at port.starting port.past answers r.number all) ∙ h.0 t; in_turn = turn },

@@ -1,6 +1,6 @@
--- What a pump does, by the first of four cases: a halted port recovers; the lowest held tag is issued again; nothing, where
--- no tag waits for the device or is outstanding in it; else the device takes one step.
-use Rattle.std.specs.Prelude.{◌≡◌, ℕ, true, false, None}
+-- What a pump does, by the first of four cases: a halted port recovers; the lowest held tag is issued again; nothing,
+-- where no tag waits for the device or is outstanding in it; else the device takes one step.
+use Rattle.std.specs.Prelude.{◌≡◌, true, false, None}
 use Rattle.ncq_journal.specs.Halted.{halted, busy}
 use Rattle.ncq_journal.specs.Phase.{phase, is_failed}
 use Rattle.word_bits.specs.Places.{no_places, IsLowest}

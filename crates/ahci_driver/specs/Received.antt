@@ -1,5 +1,5 @@
 -- What a worker brings back of a job, without the code's buffers.
-use Rattle.std.specs.Prelude.{ℕ, Bool, nat_eq, List, map}
+use Rattle.std.specs.Prelude.{ℕ, Bool, nat_eq, List}
 use Rattle.std.specs.List.{list_any}
 use Rattle.ncq_journal.specs.Answer.{Answer}
 use Rattle.ahci_driver.specs.declared.receipt.Receipt.{Receipt}

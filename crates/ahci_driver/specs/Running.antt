@@ -6,7 +6,7 @@ use Rattle.ahci_port.specs.PortView.{PortView}
 use Rattle.ahci_driver.specs.Received.{Received}
 use Rattle.ahci_driver.specs.Settled.{IsSettled}
 use Rattle.ahci_driver.specs.declared.run_fault.RunFault.{RunFault}
-use Rattle.ahci_driver.specs.declared.run_fault.RunFault.TheVariants.{NotFresh, BadJob, OutOfMemory, Lost, Foreign, Unsettled}
+use Rattle.ahci_driver.specs.declared.run_fault.RunFault.TheVariants.{NotFresh, BadJob}
 
 -- the commands of all jobs below n can be issued
 abbrev pub ProperBelow : List Work → ℕ → Type 0
@@ -21,8 +21,8 @@ IsFirstBad jobs (Some i) = ProperBelow jobs i × IsSomeAnd (slice_get jobs i) (�
 abbrev pub MayRun : PortView → List Work → Type 0
 MayRun port jobs = (port.past ≡ []) × IsFirstBad jobs None
 
--- the run of these jobs by so many workers, from a port to a port: both have the same starting image and as many slots, and
--- the run is settled
+-- the run of these jobs by so many workers, from a port to a port: both have the same starting image and as many
+-- slots, and the run is settled
 pub record HasRun (old new : PortView) (jobs : List Work) (receipts : List Received) (workers : ℕ) : Type 0 where
   pub fresh : MayRun old jobs
   pub starting_same : new.starting ≡ old.starting

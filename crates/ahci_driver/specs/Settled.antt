@@ -1,5 +1,5 @@
--- When a run of workers is settled against the journal of its port: each job was issued once, answered as the journal says,
--- and answered before its worker's next job was issued; and nothing else was issued.
+-- When a run of workers is settled against the journal of its port: each job was issued once, answered as the journal
+-- says, and answered before its worker's next job was issued; and nothing else was issued.
 use Rattle.std.specs.Prelude.{◌≡◌, ◌≢◌, ℕ, ◌-◌, ◌<◌, ◌≤◌, Bool, true, false, List, length, take, Option, None, Some, IsSome, IsSomeAnd, slice_get, slice_index_or}
 use Rattle.ncq_journal.specs.Answer.{Answer, answer}
 use Rattle.ncq_journal.specs.Entry.{Entry, Issue}

@@ -6,8 +6,8 @@ use word_bits::{highest, lowest};
 
 /// Who decides what the device does next.
 pub trait Chooser {
-    /// The next step, where these tags wait for the device and those are outstanding in it, as the bits of two words; one of
-    /// them is not 0. A step that the port refuses gives way to that of `Low`.
+    /// The next step, where these tags wait for the device and those are outstanding in it, as the bits of two words;
+    /// one of them is not 0. A step that the port refuses gives way to that of `Low`.
     fn next(&mut self, issued: u32, accepted: u32) -> DeviceStep;
 }
 

@@ -33,8 +33,8 @@ fn filled<A: Allocator>(outcome: Outcome, window: &Window<A>, mut buffer: Vec<u8
     buffer
 }
 
-/// What `collect` does once it has the lock: it takes the answer of the ticket's request and frees its slot. The bytes are
-/// those of a finished read, in the ticket's buffer, and none otherwise. It takes no memory.
+/// What `collect` does once it has the lock: it takes the answer of the ticket's request and frees its slot. The bytes
+/// are those of a finished read, in the ticket's buffer, and none otherwise. It takes no memory.
 ///
 /// # Errors
 /// `Stranger` where the slot is free, has another request, or has a read of another length than the ticket's buffer;

@@ -71,12 +71,12 @@ impl<A: Allocator> Driver<A> {
         pump_locked(&mut self.port.lock(rt), chooser)
     }
 
-    /// Takes the answer of a request and gives its tag back, once the slot is free. The bytes are those of a finished read,
-    /// and none otherwise.
+    /// Takes the answer of a request and gives its tag back, once the slot is free. The bytes are those of a finished
+    /// read, and none otherwise.
     ///
     /// # Errors
-    /// `Stranger` where the slot has no such request, `NotYet` where it isn't done; the ticket comes back, and the tag stays
-    /// the seat's.
+    /// `Stranger` where the slot has no such request, `NotYet` where it isn't done; the ticket comes back, and the tag
+    /// stays the seat's.
     pub fn collect(
         &self,
         rt: &impl Wait,
@@ -98,12 +98,12 @@ impl<A: Allocator> Driver<A> {
 }
 
 impl<A: Allocator + Clone> Driver<A> {
-    /// Submits a command: a tag is claimed, the window is built over the default pieces and the buffer for the answer is
-    /// reserved before the lock is taken. On a fault the tag is given back.
+    /// Submits a command: a tag is claimed, the window is built over the default pieces and the buffer for the answer
+    /// is reserved before the lock is taken. On a fault the tag is given back.
     ///
     /// # Errors
-    /// `NoTag` where each tag was found taken when it was tried; `Build` where no window is built for the command, or memory
-    /// for it or for the buffer was refused; `Issue` where the port didn't issue it.
+    /// `NoTag` where each tag was found taken when it was tried; `Build` where no window is built for the command, or
+    /// memory for it or for the buffer was refused; `Issue` where the port didn't issue it.
     #[tactic(auto, using(crate::proofs::SubmittingLemmas::given_back))]
     pub fn submit(
         &self,

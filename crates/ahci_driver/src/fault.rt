@@ -19,14 +19,15 @@ pub enum PumpFault {
     OutOfMemory,
 }
 
-/// Why a run is not settled. The cases are tested in this order, but that `OutOfMemory` may stand in place of those behind
-/// `Count`.
+/// Why a run is not settled. The cases are tested in this order, but that `OutOfMemory` may stand in place of those
+/// behind `Count`.
 #[derive(Clone, Copy, Debug, PartialEq, Eq)]
 pub enum SettleFault {
     /// There are not as many receipts as jobs.
     Count,
-    /// The least receipt that is wrong: its number is not that of an Issue of its job's command, or an earlier receipt has
-    /// it too, or the journal gives that request another answer, or its worker's job before was not answered by then.
+    /// The least receipt that is wrong: its number is not that of an Issue of its job's command, or an earlier receipt
+    /// has it too, or the journal gives that request another answer, or its worker's job before was not answered by
+    /// then.
     Wrong(usize),
     /// The least entry that issues a command of which there is no receipt.
     Extra(u64),

@@ -1,5 +1,5 @@
-//! A driver of one AHCI port for many threads: the port behind a lock, the free tags without one, workers that do jobs, and
-//! the check of a whole run against the port's journal.
+//! A driver of one AHCI port for many threads: the port behind a lock, the free tags without one, workers that do
+//! jobs, and the check of a whole run against the port's journal.
 #![tactic(auto)]
 
 mod chooser;

@@ -167,9 +167,9 @@ fn unnamed<A: Allocator, B: Allocator>(port: &Port<A>, receipts: &[Receipt<B>]) 
     None
 }
 
-/// Whether the run with these jobs and receipts, by so many workers, is settled against the port's journal: each job was
-/// issued once, its receipt is the journal's answer, and it was answered before its worker's next job was issued; and
-/// nothing else was issued. It takes a time that grows with the square of the journal.
+/// Whether the run with these jobs and receipts, by so many workers, is settled against the port's journal: each job
+/// was issued once, its receipt is the journal's answer, and it was answered before its worker's next job was issued;
+/// and nothing else was issued. It takes a time that grows with the square of the journal.
 ///
 /// # Errors
 /// The first case of `SettleFault` that holds.

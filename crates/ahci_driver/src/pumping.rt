@@ -11,9 +11,9 @@ use ahci_port::{Port, TagSets};
 use std::alloc::Allocator;
 use word_bits::lowest;
 
-/// What a pump does once it has the lock, the first of these that applies: a halted port recovers; the lowest held tag is
-/// issued again; nothing, where no tag waits for the device or is outstanding in it; else the chooser's step, or, where the
-/// port refuses that, the step of `Low`.
+/// What a pump does once it has the lock, the first of these that applies: a halted port recovers; the lowest held tag
+/// is issued again; nothing, where no tag waits for the device or is outstanding in it; else the chooser's step, or,
+/// where the port refuses that, the step of `Low`.
 ///
 /// # Errors
 /// `OutOfMemory` where the port is halted and a growth was refused; nothing has changed.

@@ -1,7 +1,7 @@
 use crate::fault::SettleFault;
 
-/// Why a run gave up its port. `NotFresh` and `BadJob` are found before a thread starts, in this order; the others after all
-/// workers have ended, in this order.
+/// Why a run gave up its port. `NotFresh` and `BadJob` are found before a thread starts, in this order; the others
+/// after all workers have ended, in this order.
 #[derive(Clone, Copy, Debug, PartialEq, Eq)]
 pub enum RunFault {
     /// The port's journal isn't empty.

@@ -64,7 +64,7 @@ fn crew<'a, A: Allocator + Clone, C: Chooser + Drop, G: Gate>(
     jobs: &'a [Op<A>],
     gate: &'a G,
     flag: &'a AtomicBool,
-    alloc: A,
+    alloc: &A,
     choosers: Vec<C, A>,
 ) -> Result<Vec<Worker<'a, A, C, G>, A>, AllocError>
     requires seat { seat.board ≡ driver.now }
@@ -136,7 +136,7 @@ fn in_order<A: Allocator + Clone>(
 /// Puts the port behind a driver, lets the workers do the jobs, and takes it out again.
 fn worked<R, G, C, A>(
     rt: &R,
-    alloc: A,
+    alloc: &A,
     port: Port<A>,
     jobs: &[Op<A>],
     choosers: Vec<C, A>,
@@ -212,41 +212,18 @@ fn is_still<A: Allocator>(port: &Port<A>, handed: &Handed<A>) -> bool
 }
 
 /// A copy of what a run keeps.
-fn kept<A: Allocator>(alloc: A, port: &Port<A>) -> Result<Handed<A>, AllocError>
+fn kept<A: Allocator + Clone>(alloc: &A, port: &Port<A>) -> Result<Handed<A>, AllocError>
     ensures starting { IfOk result (λ k. k.starting.items ≡ port.now.starting) }
     ensures depth { IfOk result (λ k. k.depth ≡ port.now.depth) }
 {
-    let starting = Vec::from_slice(alloc, port.starting_image())?;
+    let starting = Vec::from_slice(alloc.clone()?, port.starting_image())?;
     let depth = port.depth();
     Ok(Handed { starting, depth })
 }
 
-/// Keeps what is to be kept of the port, and lets the workers do the jobs.
-fn begun<R, G, C, A>(
-    rt: &R,
-    alloc: A,
-    port: Port<A>,
-    jobs: &[Op<A>],
-    choosers: Vec<C, A>,
-    gate: &G,
-) -> Result<(Handed<A>, Port<A>, Ends<A>), AllocError>
-where
-    R: Threads + Wait + Sync,
-    G: Gate,
-    C: Chooser + Send + Drop,
-    A: Allocator + Clone + Send + Sync,
-    requires { 1 ≤ vec_len choosers }
-    ensures starting { IfOk result (λ r. r.0.starting.items ≡ port.starting) }
-    ensures depth { IfOk result (λ r. r.0.depth ≡ port.depth) }
-{
-    let handed = kept(alloc.clone()?, &port)?;
-    let (port, ends) = worked(rt, alloc, port, jobs, choosers, gate)?;
-    Ok((handed, port, ends))
-}
-
-/// Does all jobs on a fresh port, job i by worker i mod `workers`, each worker in rising order with one request at a time,
-/// on threads of their own where they can be made. Where it answers Ok, the port is over the same starting image with as
-/// many slots, and the run is settled, whatever the threads and the choosers did.
+/// Does all jobs on a fresh port, job i by worker i mod `workers`, each worker in rising order with one request at a
+/// time, on threads of their own where they can be made. Where it answers Ok, the port is over the same starting image
+/// with as many slots, and the run is settled, whatever the threads and the choosers did.
 ///
 /// # Errors
 /// The first case of `RunFault` that holds; the port is given up.
@@ -273,10 +250,10 @@ where
     if let Some(fault) = early_fault(&port, jobs) {
         return Err(fault);
     }
-    let Ok(own) = alloc.clone() else {
+    let Ok(handed) = kept(&alloc, &port) else {
         return Err(RunFault::OutOfMemory);
     };
-    let Ok((handed, port, ends)) = begun(rt, own, port, jobs, choosers, gate) else {
+    let Ok((port, ends)) = worked(rt, &alloc, port, jobs, choosers, gate) else {
         return Err(RunFault::OutOfMemory);
     };
     ended(alloc, port, &handed, ends, jobs, workers)

@@ -109,9 +109,10 @@ fn answers_in<A: Allocator, C: Allocator + Clone>(
     answers_of(alloc, port.starting_image(), events, depth)
 }
 
-/// Whether the run with these jobs and receipts, by so many workers, is settled against the port's journal: each job was
-/// issued once, its receipt is the journal's answer, and it was answered before its worker's next job was issued; and
-/// nothing else was issued. It goes once over the journal and once over the receipts, and holds the answer of each read.
+/// Whether the run with these jobs and receipts, by so many workers, is settled against the port's journal: each job
+/// was issued once, its receipt is the journal's answer, and it was answered before its worker's next job was issued;
+/// and nothing else was issued. It goes once over the journal and once over the receipts, and holds the answer of each
+/// read.
 ///
 /// # Errors
 /// The first case of `SettleFault` that holds.

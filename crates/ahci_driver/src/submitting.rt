@@ -13,8 +13,8 @@ use ahci_table::{BuildFault, Window, default_pieces};
 use ncq_core::Op;
 use std::alloc::{AllocError, Allocator};
 
-/// What `submit` does once it has the lock: the window is issued, and the ticket has its tag, the request's number, and the
-/// buffer for its answer.
+/// What `submit` does once it has the lock: the window is issued, and the ticket has its tag, the request's number,
+/// and the buffer for its answer.
 ///
 /// # Errors
 /// Those of `Port::issue`; window and buffer come back as they were.

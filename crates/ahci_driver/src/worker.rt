@@ -70,21 +70,26 @@ impl<'a, A: Allocator + Clone, C: Chooser, G: Gate> Worker<'a, A, C, G> {
         done
     }
 
-    /// The receipts of the worker's jobs, in order.
+    /// The receipts of the worker's jobs, in order: each turn of the workers over the jobs has one for it, but that
+    /// the last turn may be too short.
     fn all<R: Wait>(&mut self, rt: &R) -> Result<Vec<Receipt<A>, A>, Stop> {
         let Ok(alloc) = self.alloc.clone() else {
             return Err(Stop::OutOfMemory);
         };
-        let mut receipts = Vec::new(alloc);
-        let jobs = self.jobs;
-        for (job, op) in jobs.iter().enumerate() {
-            if job % self.workers != self.first {
-                continue;
-            }
+        let (jobs, workers) = (self.jobs, self.workers);
+        let Ok(mut receipts) = Vec::with_capacity(alloc, jobs.len().div_ceil(workers)) else {
+            return Err(Stop::OutOfMemory);
+        };
+        let mut job = self.first;
+        for turn in jobs.chunks(workers) {
+            let Some(op) = turn.get(self.first) else {
+                break;
+            };
             let receipt = self.one(rt, job, op)?;
             let Ok(()) = receipts.push(receipt) else {
                 return Err(Stop::OutOfMemory);
             };
+            job = job.saturating_add(workers);
         }
         Ok(receipts)
     }

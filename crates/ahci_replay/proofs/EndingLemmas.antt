@@ -49,10 +49,11 @@ use Rattle.std.proofs.lemmas.List.Sums.{position_or_len_is}
 use Rattle.std.proofs.Math.Seq.{take-append-add, take-append_seam}
 use Rattle.std.proofs.KnownBytes.{Appends-nil, Appends-trans, Consumes-nil, Consumes-trans}
 use Rattle.std.specs.Io.KnownBytes.{Appends, Consumes, IsAtEnd}
-use Rattle.ahci_script.specs.Unread.{found_at, found_of, line_end, too_long, unfinished, whole}
-use Rattle.ahci_replay.specs.declared.fault.CliFault.{CliFault}
-use Rattle.ahci_replay.specs.declared.fault.CliFault.TheVariants.{Line, Job, Read, Write, Unsettled, Lost, OutOfMemory}
-use Rattle.ahci_replay.specs.Fault.{is_of_output}
+use Rattle.ahci_script.specs.Unread.{found_of, line_end, too_long, unfinished, whole, with_feeds}
+use Rattle.ahci_script.specs.declared.fault.CliFault.{CliFault}
+use Rattle.ahci_script.specs.declared.fault.CliFault.TheVariants.{Line, Job, Read, Write, Unsettled, Lost, OutOfMemory}
+use Rattle.ahci_script.specs.Fault.{is_of_output}
+use Rattle.ahci_script.proofs.FoundLemmas.{Bytes, with_feeds-append}
 use Rattle.ahci_replay.specs.Place.{Place}
 use Rattle.ahci_replay.specs.Transcript.{
   Ends,
@@ -72,9 +73,8 @@ use Rattle.ahci_replay.specs.Transcript.{
   beginning,
   no_line,
   placed,
-  with_feeds,
 }
-use Rattle.ahci_replay.proofs.ProgressLemmas.{Adds-append, Bytes, Counts, Known, Port, Progress-line, Progress-refl, Progress-trans, counts, next, parts, with_feeds-append}
+use Rattle.ahci_replay.proofs.ProgressLemmas.{Adds-append, Counts, Known, Port, Progress-line, Progress-refl, Progress-trans, counts, next, parts}
 
 -- a last line that was answered, behind text that was written before
 grown_after : (p q : Port) (rest before after text sent : Bytes) → text ≡ sent ++ before → Grown p rest q before after → Grown p rest q text (sent ++ after)
@@ -162,63 +162,6 @@ faulty_long r p u is = subst (IsFaultyAs r p u) is tt
 -- a last line that adds nothing is faulty
 pub faulty_rest : (r : Known) (p : Port) (u : Bytes) → IsAtEnd r → found_of u ≡ unfinished → placed p u ≡ None → IsFaulty r p u
 faulty_rest r p u ended is h = subst (IsFaultyAs r p u) (sym is) (ended, h)
-
--- what holds of the one error holds of the result's error
-pub if_err_from : {T : Type 0} (r : Result T CliFault) (f : CliFault) (P : CliFault → Type 0) → IsErrAnd r (λ e. e ≡ f) → P f → IfErr r P
-if_err_from (Ok x) f P is p = absurd is
-if_err_from (Err e) f P is p = subst P (sym is) p
-
-no_whole : (b : Bool) (l : Bytes) → whole l ≡ cond b unfinished too_long → ⊥
-no_whole true l is = cc
-no_whole false l is = cc
-
-that_line : (b : Bool) (l t : Bytes) → whole l ≡ cond b (whole t) too_long → l ≡ t
-that_line true l t is = cc
-that_line false l t is = cc
-
-is_short : (b : Bool) (l t : Bytes) → whole l ≡ cond b (whole t) too_long → b ≡ true
-is_short true l t is = refl
-is_short false l t is = cc
-
-found_from : (o : Option ℕ) (u l : Bytes) → whole l ≡ found_at o u → (e : ℕ) × (o ≡ Some e) × (l ≡ take e u) × (nat_le e 4096 ≡ true)
-found_from None u l is = absurd (no_whole (nat_le (length u) 4096) l is)
-found_from (Some e) u l is = (e, refl, that_line (nat_le e 4096) l (take e u) is, is_short (nat_le e 4096) l (take e u) is)
-
--- no line feed stands before the first
-before_feed : (u : Bytes) (e : ℕ) → line_end u ≡ Some e → position_or_len (λ b. b == 10) (take e u) ≡ e
-before_feed u e found =
-    let at = position-Some (λ b. b == 10) u e 0 found in
-    let len : length (take e u) ≡ e = length-take-le e u (omega (arith, at.0)) in
-    position_or_len_is (λ b. b == 10) (take e u) e 0 (omega arith) (λ k below. ap (λ b. b == 10) (get_or-take e u k 0 below) ∙ at.2 k below) (λ past. absurd (omega arith))
-
-same_end : (b : Bool) (n : ℕ) → cond b (n + 0) n ≡ n
-same_end true n = omega arith
-same_end false n = refl
-
--- a place within a length, as `position` tells it
-placed_at : (at len n : ℕ) → at ≡ n → n < len → cond (nat_lt at len) (Some at) None ≡ Some n
-placed_at at len n is within =
-    ap (λ b. cond b (Some at) None) (lt-ltb at len (omega arith)) ∙ ap Some is
-
--- with its line feed a line ends where it ended
-feed_behind : (t : Bytes) → position_or_len (λ b. b == 10) t ≡ length t → line_end (t ++ 10 ∷ []) ≡ Some (length t)
-feed_behind t none =
-    let at : position_or_len (λ b. b == 10) (t ++ 10 ∷ []) ≡ length t = position_or_len_push (λ b. b == 10) t 10 ∙ ap (λ n. cond (n == length t) (length t + 0) n) none ∙ same_end
-    (length t == length t) (length t) in
-    placed_at (position_or_len (λ b. b == 10) (t ++ 10 ∷ [])) (length (t ++ 10 ∷ [])) (length t) at (omega (arith, length-append t (10 ∷ [])))
-
--- so it is found whole
-fed_line : (t : Bytes) → position_or_len (λ b. b == 10) t ≡ length t → nat_le (length t) 4096 ≡ true → found_of (t ++ 10 ∷ []) ≡ whole t
-fed_line t none short =
-    ap (λ o. found_at o (t ++ 10 ∷ [])) (feed_behind t none) ∙ ap (λ b. cond b (whole (take (length t) (t ++ 10 ∷ []))) too_long) short ∙ ap whole (take-append_seam t (10 ∷ []))
-
--- where a whole line was found, it ends at the first line feed
-pub found_line : (u l : Bytes) → whole l ≡ found_of u → (e : ℕ) × (line_end u ≡ Some e) × (l ≡ take e u) × (length l ≡ e) × (found_of (take e u ++ 10 ∷ []) ≡ whole (take e u))
-found_line u l is =
-    let (e, found, same, short) = found_from (line_end u) u l is in
-    let at = position-Some (λ b. b == 10) u e 0 found in
-    let len : length (take e u) ≡ e = length-take-le e u (omega (arith, at.0)) in
-    (e, found, same, ap length same ∙ len, fed_line (take e u) (before_feed u e found ∙ sym len) (rw len short))
 
 -- a fault behind a part that went well
 pub stops_after : (f : CliFault) (a b c : Place) → Progress a b → Stops b c f → Stops a c f
@@ -345,11 +288,6 @@ fault_part_written (Lost n) r c d to other s part = absurd s
 pub nothing_replayed : (r c : Known) → ReplayedTo r r c c OutOfMemory
 nothing_replayed r c =
     (0, first_written (λ _ _ _ _. Unit {0}) r c c (beginning r c) (Progress-refl r c [] [] None (counts 0 0)) tt (Appends-nil c))
-
--- what follows where the result is Ok
-pub on_ok_from : {T E : Type 0} (r : Result T E) (P Q : Type 0) → OnOk r P → (P → Q) → OnOk r Q
-on_ok_from (Ok x) P Q p f = f p
-on_ok_from (Err e) P Q p f = p
 
 -- the last line was answered
 pub ends_rest : (a : Place) (r c : Known) (u u' w w' : Bytes) (p q : Port) (n n' : Counts) → Progress a (parts r c u w p n) → IsAtEnd r → found_of u ≡ unfinished → u' ≡ u → n' ≡ n

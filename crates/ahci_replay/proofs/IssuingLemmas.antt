@@ -1,14 +1,22 @@
 -- What stands against a script's command: its count, its address, and then what the port says.
-use Rattle.std.proofs.Common.{◌≡◌, ◌≢◌, ℕ, ◌*◌, ◌^◌, Bool, true, false, cond, ◌||◌, Option, Some, None, Ok, IfErr, IsErrAnd, MatchOption, nat_eq, nat_le, nat_lt, refl, sym, ap, ◌∙◌, subst}
+use Rattle.std.proofs.Common.{◌≡◌, ◌≢◌, ℕ, ◌*◌, ◌^◌, Bool, true, false, cond, ◌||◌, Option, Some, None, Ok, IfErr, IsErrAnd, MatchOption, length, nat_eq, nat_le, nat_lt, refl, sym, ap, ◌∙◌, subst}
 use Rattle.std.specs.Option.{option_map}
-use Rattle.std.proofs.lemmas.Bool.{true≢false}
+use Rattle.std.proofs.lemmas.Bool.{true≢false, le-leb, lt-leb}
 use Rattle.ahci_replay.specs.Refusals.{issue_refusal, joined, of_issue}
-use Rattle.ahci_port.specs.Faults.{RefusesIssue, early_refusal}
+use Rattle.ahci_port.specs.Faults.{MayTake, RefusesIssue, early_refusal}
+use Rattle.ahci_port.specs.Steps.{IsIssued}
 use Rattle.ahci_port.specs.declared.fault.IssueFault.{IssueFault}
 use Rattle.ahci_port.specs.declared.fault.IssueFault.TheVariants as issue
 use Rattle.ahci_table.specs.Fit.{IsFit}
 use Rattle.ahci_table.specs.Window.{WindowState}
-use Rattle.ahci_port.specs.PortView.{PortView}
+use Rattle.ahci_port.specs.PortView.{PortView, is_free}
+use Rattle.ncq_journal.specs.Halted.{halted}
+use Rattle.ncq_journal.specs.Phase.{phase}
+use Rattle.ncq_journal.specs.declared.phase.Phase.{Phase}
+use Rattle.ncq_journal.specs.declared.phase.Phase.TheVariants.{Free, Issued, Accepted, Rejected, Broken, Held, Done}
+use Rattle.ahci_script.specs.Said.{Said}
+use Rattle.ahci_script.specs.Said as says
+use Rattle.ahci_replay.specs.Commands.{AnswersWindow, is_issued, is_refused, RefusedOr}
 use Rattle.ahci_script.specs.declared.refusal.Refusal.{Refusal}
 use Rattle.ahci_script.specs.declared.refusal.Refusal.TheVariants as refused
 use Rattle.ahci_table.specs.Defaults.{default_list}
@@ -77,21 +85,70 @@ no_other_fault e work is memory count address =
     other_case (count_bad (sectors_of work)) (nat_le (2 ^ 48) (lba_of work)) (is_ragged work)
     (list_refusal (default_list (sectors_of work)) (512 * sectors_of work)) e (defaults_serve work) is memory count address
 
--- a window that is fit is refused by a name that is shown, or for want of memory
-pub fit_is_named : (port : PortView) (w : WindowState) (e : IssueFault) → IsFit w → RefusesIssue port w e → of_issue e ≡ None → e ≢ issue.OutOfMemory → ⊥
-fit_is_named port w issue.Halted fit is none memory = cc
-fit_is_named port w issue.NoSuchTag fit is none memory = cc
-fit_is_named port w issue.SlotOwned fit is none memory = cc
-fit_is_named port w issue.BadHeader fit is none memory = is.1 fit.header
-fit_is_named port w issue.BadCommand fit is none memory = is.1.1 fit.command
-fit_is_named port w issue.WrongTag fit is none memory = is.1.2 fit.tag
-fit_is_named port w issue.TooLong fit is none memory = is.1.3 fit.short
-fit_is_named port w issue.BadList fit is none memory = is.1.4 fit.listed
-fit_is_named port w issue.OutOfMemory fit is none memory = memory refl
-
 -- what the port says of the tag
 abbrev pub port_says : PortView → ℕ → Option Refusal
 port_says port tag = joined (option_map of_issue (early_refusal port tag))
+
+not_free : (p : Phase) → p ≢ Free → is_free p ≡ false
+not_free Free other = absurd (other refl)
+not_free Issued other = refl
+not_free Accepted other = refl
+not_free Rejected other = refl
+not_free Broken other = refl
+not_free Held other = refl
+not_free Done other = refl
+
+-- nothing stands against a tag that the port may take
+may_early : (port : PortView) (tag : ℕ) → MayTake port tag → early_refusal port tag ≡ None
+may_early port tag may =
+    by (halted port.past) (nat_le port.depth tag) (is_free (phase port.past tag)) may.running (lt-leb port.depth tag may.below) (ap is_free may.free)
+  where
+    by : (a b f : Bool) → a ≡ false → b ≡ false → f ≡ true → cond a (Some issue.Halted) (cond b (Some issue.NoSuchTag) (cond f None (Some issue.SlotOwned))) ≡ None
+    by false false true p q r = refl
+    by true b f p q r = cc
+    by false true f p q r = cc
+    by false false false p q r = cc
+
+-- a window that is fit is refused for its tag, or for want of memory
+early_names : (port : PortView) (w : WindowState) (fault : IssueFault) → IsFit w → RefusesIssue port w fault → fault ≢ issue.OutOfMemory → early_refusal port w.tag ≡ Some fault
+early_names port w issue.Halted fit is memory = by (halted port.past) is
+  where
+    by : (a : Bool) → a ≡ true → cond a (Some issue.Halted) (cond (nat_le port.depth w.tag) (Some issue.NoSuchTag) (cond (is_free (phase port.past w.tag)) None
+        (Some issue.SlotOwned))) ≡ Some issue.Halted
+    by true p = refl
+    by false p = cc
+early_names port w issue.NoSuchTag fit is memory = by (halted port.past) (nat_le port.depth w.tag) is.0 (le-leb port.depth w.tag is.1)
+  where
+    by : (a b : Bool) → a ≡ false → b ≡ true → cond a (Some issue.Halted) (cond b (Some issue.NoSuchTag) (cond (is_free (phase port.past w.tag)) None (Some issue.SlotOwned))) ≡ Some issue.NoSuchTag
+    by false true p q = refl
+    by true b p q = cc
+    by false false p q = cc
+early_names port w issue.SlotOwned fit is memory =
+    by (halted port.past) (nat_le port.depth w.tag) (is_free (phase port.past w.tag)) is.0 (lt-leb port.depth w.tag is.1) (not_free (phase port.past w.tag) is.2)
+  where
+    by : (a b f : Bool) → a ≡ false → b ≡ false → f ≡ false → cond a (Some issue.Halted) (cond b (Some issue.NoSuchTag) (cond f None (Some issue.SlotOwned))) ≡ Some issue.SlotOwned
+    by false false false p q r = refl
+    by true b f p q r = cc
+    by false true f p q r = cc
+    by false false true p q r = cc
+early_names port w issue.BadHeader fit is memory = absurd (is.1 fit.header)
+early_names port w issue.BadCommand fit is memory = absurd (is.1.1 fit.command)
+early_names port w issue.WrongTag fit is memory = absurd (is.1.2 fit.tag)
+early_names port w issue.TooLong fit is memory = absurd (is.1.3 fit.short)
+early_names port w issue.BadList fit is memory = absurd (is.1.4 fit.listed)
+early_names port w issue.OutOfMemory fit is memory = absurd (memory refl)
+
+-- what is answered of a window that is fit
+pub fit_answer : (old new : PortView) (w : WindowState) (said : Said) → IsFit w → AnswersWindow w old new said
+    → RefusedOr (port_says old w.tag) old new said (IsIssued w old new × (said ≡ says.Issued (length old.past)))
+fit_answer old new w said fit (is_issued may _ issued told) =
+    subst (λ o. RefusedOr o old new said (IsIssued w old new × (said ≡ says.Issued (length old.past)))) (sym (ap (λ e. joined (option_map of_issue e)) (may_early old w.tag may))) (issued, told)
+fit_answer old new w said fit (is_refused fault name refuses named same told) =
+    let known : early_refusal old w.tag ≡ Some fault = early_names old w fault fit refuses (λ e. none_some (sym (ap of_issue e) ∙ named)) in
+    subst (λ o. RefusedOr o old new said (IsIssued w old new × (said ≡ says.Issued (length old.past)))) (sym (ap (λ e. joined (option_map of_issue e)) known ∙ named)) (same, told)
+  where
+    none_some : None ≡ Some name → ⊥
+    none_some e = cc
 
 pub free_issue : (port : PortView) (tag : ℕ) (work : Work) → is_ragged work ≡ false → refusal work (default_list (sectors_of work)) ≡ None
     → issue_refusal port tag (lba_of work) (sectors_of work) ≡ port_says port tag

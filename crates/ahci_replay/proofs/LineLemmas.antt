@@ -3,12 +3,12 @@ use Rattle.std.proofs.Common.{◌≡◌, ℕ, Bool, true, false, cond, List, [],
 use Rattle.std.specs.Option.{option_and_then}
 use Rattle.ahci_port.specs.PortView.{PortView}
 use Rattle.ahci_script.specs.Lines.{line_of}
-use Rattle.ahci_script.specs.declared.line.Command.{Command}
+use Rattle.ahci_script.specs.declared.line.ScriptCommand.{ScriptCommand}
 use Rattle.ahci_script.specs.declared.line.Line.TheVariants as line
 use Rattle.ahci_replay.specs.Commands.{is_in_place}
 use Rattle.ahci_replay.specs.Transcript.{Grown, HasRun, IsCommandFault, IsLineFault, placed, placed_by}
-use Rattle.ahci_replay.specs.declared.fault.CliFault.{CliFault}
-use Rattle.ahci_replay.specs.declared.fault.CliFault.TheVariants.{Line, Job, Read, Write, Unsettled, Lost, OutOfMemory}
+use Rattle.ahci_script.specs.declared.fault.CliFault.{CliFault}
+use Rattle.ahci_script.specs.declared.fault.CliFault.TheVariants.{Line, Job, Read, Write, Unsettled, Lost, OutOfMemory}
 
 -- a skipped line adds nothing
 pub skip_grown : (port : Option PortView) (text old : List ℕ) → line_of text ≡ Some line.Skip → Grown port text port old old
@@ -21,12 +21,12 @@ skip_grown port text old is = record {
 }
 
 -- a line with a command may stand where its command may
-command_placed : (port : Option PortView) (text : List ℕ) (command : Command) → line_of text ≡ Some (line.Run command)
+command_placed : (port : Option PortView) (text : List ℕ) (command : ScriptCommand) → line_of text ≡ Some (line.Run command)
     → placed port text ≡ cond (is_in_place port command) (Some (line.Run command)) None
 command_placed port text command is = ap (option_and_then (placed_by port)) is
 
 -- a command adds its answer
-run_grown : (port port' : Option PortView) (text old new : List ℕ) (command : Command) → line_of text ≡ Some (line.Run command)
+run_grown : (port port' : Option PortView) (text old new : List ℕ) (command : ScriptCommand) → line_of text ≡ Some (line.Run command)
     → is_in_place port command ≡ true → (added : List ℕ) × HasRun port command port' added × (new ≡ old ++ added) → Grown port text port' old new
 run_grown port port' text old new command is may ran = record {
   spelled = line.Run command;
@@ -45,7 +45,7 @@ in_place true x fault out = refl
 in_place false x fault out = let told : well x ≡ Err fault = out refl in cc
 
 -- the same of a result: where the command was out of place there is none
-pub ran_grown : (result : Result (Unit {0}) CliFault) (fault : CliFault) (port port' : Option PortView) (text old new : List ℕ) (command : Command)
+pub ran_grown : (result : Result (Unit {0}) CliFault) (fault : CliFault) (port port' : Option PortView) (text old new : List ℕ) (command : ScriptCommand)
     → line_of text ≡ Some (line.Run command) → (is_in_place port command ≡ false → result ≡ Err fault)
     → OnOk result ((added : List ℕ) × HasRun port command port' added × (new ≡ old ++ added)) → OnOk result (Grown port text port' old new)
 ran_grown (Err e) fault port port' text old new command is told ran = ran
@@ -53,7 +53,7 @@ ran_grown (Ok x) fault port port' text old new command is told ran =
     run_grown port port' text old new command is (in_place (is_in_place port command) x fault told) ran
 
 -- a fault of the command is one of the line
-pub fault_of_line : (result : Result (Unit {0}) CliFault) (port : Option PortView) (text : List ℕ) (command : Command) (n : ℕ)
+pub fault_of_line : (result : Result (Unit {0}) CliFault) (port : Option PortView) (text : List ℕ) (command : ScriptCommand) (n : ℕ)
     → line_of text ≡ Some (line.Run command) → IfErr result (IsCommandFault port command n) → IfErr result (IsLineFault port text n)
 fault_of_line (Ok x) port text command n is fault = fault
 fault_of_line (Err (Line k)) port text command n is fault =
@@ -66,7 +66,7 @@ fault_of_line (Err (Lost k)) port text command n is fault = fault
 fault_of_line (Err OutOfMemory) port text command n is fault = fault
 
 -- a line with a command that may not stand there is refused as the command is
-pub wrong_line : (result : Result (Unit {0}) CliFault) (fault : CliFault) (port : Option PortView) (text : List ℕ) (command : Command)
+pub wrong_line : (result : Result (Unit {0}) CliFault) (fault : CliFault) (port : Option PortView) (text : List ℕ) (command : ScriptCommand)
     → line_of text ≡ Some (line.Run command) → (is_in_place port command ≡ false → result ≡ Err fault) → placed port text ≡ None → result ≡ Err fault
 wrong_line result fault port text command is told none =
     told (out (is_in_place port command) (sym (command_placed port text command is) ∙ none))

@@ -36,14 +36,12 @@ use Rattle.std.proofs.lemmas.Bool.{eqb-true}
 use Rattle.std.proofs.lemmas.List.Quantifiers.{position-Some}
 use Rattle.std.proofs.KnownBytes.{Appends-nil, Appends-trans, Consumes-nil, Consumes-trans}
 use Rattle.std.specs.Io.KnownBytes.{Appends, Consumes, IsAtEnd}
-use Rattle.ahci_script.specs.Unread.{Grows, Unread, found_of, line_end, whole}
+use Rattle.ahci_script.specs.Unread.{Grows, Unread, found_of, line_end, whole, with_feeds}
+use Rattle.ahci_script.proofs.FoundLemmas.{Bytes, cut_at_feed, with_feeds-append}
 use Rattle.ahci_replay.specs.Place.{Place}
-use Rattle.ahci_replay.specs.Transcript.{Adds, Grown, Progress, RunsLine, no_line, one_more, placed, with_feeds}
+use Rattle.ahci_replay.specs.Transcript.{Adds, Grown, Progress, RunsLine, no_line, one_more, placed}
 use Rattle.ahci_port.specs.PortView.{PortView}
 use Rattle.ahci_script.specs.declared.line.Line as script
-
-abbrev pub Bytes : Type 0
-Bytes = List ℕ
 
 abbrev pub Known : Type 0
 Known = Option (List ℕ)
@@ -77,11 +75,6 @@ Adds-append _ q r _ ms _ t (one_more p first l next added more text last fed is 
     subst (λ x. Adds p (first ∷ (more ++ ms)) x r) (sym (append_assoc added text t))
     (one_more p first l next added (more ++ ms) (text ++ t) r fed is ran (Adds-append next last r more ms text t others rest))
 
-pub with_feeds-append : (ls ms : List Bytes) → with_feeds (ls ++ ms) ≡ with_feeds ls ++ with_feeds ms
-with_feeds-append [] ms = refl
-with_feeds-append (l ∷ ls) ms =
-    rw (with_feeds-append ls ms) (sym (append_assoc l (10 ∷ with_feeds ls) (with_feeds ms)))
-
 -- two parts of a script, one after the other
 pub Progress-trans : (a b c : Place) → Progress a b → Progress b c → Progress a c
 Progress-trans a b c p q = record {
@@ -98,14 +91,6 @@ Progress-trans a b c p q = record {
   written = Appends-trans a.contents b.contents c.contents p.sent q.sent p.written q.written;
   said = sym (append_assoc a.waiting p.text q.text) ∙ ap (λ l. l ++ q.text) p.said ∙ append_assoc p.sent b.waiting q.text ∙ ap (λ l. p.sent ++ l) q.said ∙ sym (append_assoc p.sent q.sent c.waiting);
 }
-
--- text up to its first line feed, that line feed, and the text behind it
-pub cut_at_feed : (u : Bytes) (e : ℕ) → line_end u ≡ Some e → u ≡ take e u ++ 10 ∷ drop (e + 1) u
-cut_at_feed u e found =
-    let at = position-Some (λ b. b == 10) u e 0 found in
-    let feed : get_or u e 0 ≡ 10 = eqb-true (get_or u e 0) 10 at.1 in
-    let within : e < length u = at.0 in
-    sym (take-append-drop e u) ∙ ap (λ l. take e u ++ l) (rw (add-one, ← feed) (drop-cons u e 0 within))
 
 -- one line alone
 one_line : (p q : Port) (l : Bytes) (spelled : script.Line) (added : Bytes) → found_of (l ++ 10 ∷ []) ≡ whole l → placed p l ≡ Some spelled → RunsLine p spelled q added → Adds p (l ∷ [])

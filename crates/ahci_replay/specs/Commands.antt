@@ -1,8 +1,10 @@
 -- What a script's commands do: the port that each of them leaves, and its answer. Want of memory is left aside.
 use Rattle.std.specs.Prelude.{ℕ, ◌+◌, ◌*◌, ◌^◌, ◌<◌, ◌≤◌, Bool, true, false, List, length, replicate, slice_index, Option, Some, None, IsOkAnd, ◌≡◌, ◌⊎◌}
+use Rattle.ahci_port.specs.Faults.{MayTake, RefusesIssue}
 use Rattle.ahci_port.specs.PortView.{PortView, new_port, sectors_in}
 use Rattle.ahci_port.specs.Registers.{acknowledged}
 use Rattle.ahci_port.specs.Steps.{IsIssued, IsStepped, IsCollected, IsRecovered, IsReissued, IsIdentified, IsFlushed}
+use Rattle.ahci_port.specs.declared.fault.IssueFault.{IssueFault}
 use Rattle.ahci_port.specs.declared.step.DeviceStep.{DeviceStep}
 use Rattle.ahci_port.specs.declared.step.DeviceStep.TheVariants as device
 use Rattle.ahci_port.specs.declared.step.Stepped.{Stepped}
@@ -10,11 +12,12 @@ use Rattle.ahci_port.specs.declared.step.Stepped.TheVariants as stepped
 use Rattle.ahci_regs.specs.Reading.{read_of}
 use Rattle.ahci_script.specs.Said.{Said}
 use Rattle.ahci_script.specs.Said as says
-use Rattle.ahci_script.specs.declared.line.Command.{Command}
-use Rattle.ahci_script.specs.declared.line.Command.TheVariants as command
+use Rattle.ahci_script.specs.declared.line.ScriptCommand.{ScriptCommand}
+use Rattle.ahci_script.specs.declared.line.ScriptCommand.TheVariants as command
 use Rattle.ahci_script.specs.declared.refusal.Refusal.{Refusal}
 use Rattle.ahci_table.specs.Build.{IsBuilt}
 use Rattle.ahci_table.specs.Defaults.{default_list}
+use Rattle.ahci_table.specs.Fit.{IsFit}
 use Rattle.ahci_table.specs.Window.{WindowState}
 use Rattle.ncq_core.specs.Identify.{identify_page}
 use Rattle.ncq_journal.specs.Answer.{Answer, answer}
@@ -25,7 +28,7 @@ use Rattle.ncq_journal.specs.Work.{Work, sectors_of}
 use Rattle.ncq_journal.specs.Work as work
 use Rattle.ncq_journal.specs.declared.outcome.Outcome.{Outcome}
 use Rattle.ncq_journal.specs.declared.outcome.Outcome.TheVariants as outcome
-use Rattle.ahci_replay.specs.Refusals.{disk_refusal, refusal_on}
+use Rattle.ahci_replay.specs.Refusals.{disk_refusal, of_issue, refusal_on}
 
 -- a command is issued by a window over the default pieces, and the answer has the entry of its Issue
 pub record HasIssued (tag : ℕ) (work : Work) (old new : PortView) (said : Said) : Type 0 where
@@ -33,6 +36,12 @@ pub record HasIssued (tag : ℕ) (work : Work) (old new : PortView) (said : Said
   pub built : IsBuilt tag work (default_list (sectors_of work)) window
   pub issued : IsIssued window old new
   pub told : said ≡ says.Issued (length old.past)
+
+-- a window that a script spells is handed to the port: it is fit and issued, and the answer has the entry of its Issue; or the
+-- port refuses it, nothing changes, and the answer has the name of the fault
+pub data AnswersWindow (window : WindowState) (old new : PortView) (said : Said) : Type 0 where
+  is_issued : MayTake old window.tag → IsFit window → IsIssued window old new → said ≡ says.Issued (length old.past) → AnswersWindow window old new said
+  is_refused : (fault : IssueFault) (name : Refusal) → RefusesIssue old window fault → of_issue fault ≡ Some name → new ≡ old → said ≡ says.Refused name → AnswersWindow window old new said
 
 -- the answer of a device's step
 abbrev pub step_said : Stepped → Said
@@ -71,7 +80,7 @@ abbrev pub word_in : List ℕ → ℕ → ℕ
 word_in page w = slice_index page (2 * w) + 256 * slice_index page (2 * w + 1)
 
 -- what a command on a port does, where it is not refused: the port that it leaves, and its answer
-abbrev pub Does : PortView → Command → PortView → Said → Type 0
+abbrev pub Does : PortView → ScriptCommand → PortView → Said → Type 0
 Does old (command.Write tag lba sectors fill) new said = HasIssued tag (work.Write lba (replicate (sectors * 512) fill)) old new said
 Does old (command.Read tag lba sectors) new said = HasIssued tag (work.Read lba sectors) old new said
 Does old (command.Accept tag) new said = HasStepped (device.Accept tag) old new said
@@ -86,6 +95,7 @@ Does old (command.Reg off) new said = (new ≡ old) × IsOkAnd (read_of old.regi
 Does old (command.Ack mask) new said = (new ≡ record old { registers = acknowledged old.registers mask }) × (said ≡ says.Acked)
 Does old (command.Show lba) new said = (new ≡ old) × (said ≡ says.Sector lba (slice_index (sector old.starting old.past lba) 0))
 Does old command.Journal new said = (new ≡ old) × (said ≡ says.Journal (length old.past))
+Does old (command.Raw tag header bytes) new said = ⊥
 Does old (command.Disk sectors depth) new said = ⊥
 
 -- a refusal changes nothing, and its name is the answer; where there is none, this is done
@@ -93,8 +103,9 @@ abbrev pub RefusedOr : Option Refusal → PortView → PortView → Said → Typ
 RefusedOr (Some refusal) old new said Done = (new ≡ old) × (said ≡ says.Refused refusal)
 RefusedOr None old new said Done = Done
 
--- a command was run on a port
-abbrev pub RunsOn : PortView → Command → PortView → Said → Type 0
+-- a command was run on a port; a window of any bytes says itself what may be answered
+abbrev pub RunsOn : PortView → ScriptCommand → PortView → Said → Type 0
+RunsOn old (command.Raw tag header bytes) new said = AnswersWindow (record { tag = tag; header = header; bytes = bytes }) old new said
 RunsOn old c new said = RefusedOr (refusal_on old c) old new said (Does old c new said)
 
 -- a disk of zeros with free slots, or a refusal
@@ -104,37 +115,38 @@ MakesDisk None sectors depth new said =
     (new ≡ Some (new_port (replicate (sectors * 512) 0) depth)) × (said ≡ says.Disk sectors depth)
 
 -- a command may stand here: a disk first, and then none
-abbrev pub is_in_place : Option PortView → Command → Bool
+abbrev pub is_in_place : Option PortView → ScriptCommand → Bool
 is_in_place None (command.Disk sectors depth) = true
 is_in_place None c = false
 is_in_place (Some port) (command.Disk sectors depth) = false
 is_in_place (Some port) c = true
 
 -- a command was run where it may stand: the port before it, the port that it leaves, and its answer
-abbrev pub Runs : Option PortView → Command → Option PortView → Said → Type 0
+abbrev pub Runs : Option PortView → ScriptCommand → Option PortView → Said → Type 0
 Runs None (command.Disk sectors depth) new said = MakesDisk (disk_refusal sectors depth) sectors depth new said
 Runs (Some old) c (Some new) said = RunsOn old c new said
 Runs old c new said = ⊥
 
 -- a command that has no answer: nothing has changed, or the port is the one that the command leaves
-abbrev pub MayRunOn : PortView → Command → PortView → Type 0
+abbrev pub MayRunOn : PortView → ScriptCommand → PortView → Type 0
 MayRunOn old c new = (new ≡ old) ⊎ ((said : Said) × RunsOn old c new said)
 
-abbrev pub MayRun : Option PortView → Command → Option PortView → Type 0
+abbrev pub MayRun : Option PortView → ScriptCommand → Option PortView → Type 0
 MayRun old c new = (new ≡ old) ⊎ ((said : Said) × Runs old c new said)
 
 -- a command may lack memory: one that takes some, and that nothing stands against which is looked at before. The others never
 -- lack any
-abbrev pub MayLackOn : PortView → Command → Type 0
+abbrev pub MayLackOn : PortView → ScriptCommand → Type 0
 MayLackOn port (command.Write tag lba sectors fill) = (1 ≤ sectors) × (sectors ≤ most_sectors) × (lba < 2 ^ 48)
 MayLackOn port (command.Read tag lba sectors) = Unit {0}
+MayLackOn port (command.Raw tag header bytes) = Unit {0}
 MayLackOn port (command.Collect tag number) = Unit {0}
 MayLackOn port command.Recover = refusal_on port command.Recover ≡ None
 MayLackOn port (command.Identify word) = refusal_on port (command.Identify word) ≡ None
 MayLackOn port command.Flush = refusal_on port command.Flush ≡ None
 MayLackOn port c = ⊥
 
-abbrev pub MayLack : Option PortView → Command → Type 0
+abbrev pub MayLack : Option PortView → ScriptCommand → Type 0
 MayLack None (command.Disk sectors depth) = disk_refusal sectors depth ≡ None
 MayLack None c = ⊥
 MayLack (Some port) c = MayLackOn port c

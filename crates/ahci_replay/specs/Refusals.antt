@@ -19,8 +19,8 @@ use Rattle.ahci_port.specs.declared.step.DeviceStep.TheVariants as device
 use Rattle.ahci_regs.specs.Reading.{read_of}
 use Rattle.ahci_regs.specs.declared.fault.RegFault.{RegFault}
 use Rattle.ahci_regs.specs.declared.fault.RegFault.TheVariants as reg
-use Rattle.ahci_script.specs.declared.line.Command.{Command}
-use Rattle.ahci_script.specs.declared.line.Command.TheVariants as command
+use Rattle.ahci_script.specs.declared.line.ScriptCommand.{ScriptCommand}
+use Rattle.ahci_script.specs.declared.line.ScriptCommand.TheVariants as command
 use Rattle.ahci_script.specs.declared.refusal.Refusal.{Refusal}
 use Rattle.ahci_script.specs.declared.refusal.Refusal.TheVariants.{
   BadSize,
@@ -29,6 +29,11 @@ use Rattle.ahci_script.specs.declared.refusal.Refusal.TheVariants.{
   BadLba,
   NoSuchTag,
   SlotOwned,
+  BadHeader,
+  BadCommand,
+  WrongTag,
+  TooLong,
+  BadList,
   Halted,
   NotIssued,
   NotAccepted,
@@ -45,12 +50,17 @@ use Rattle.ahci_script.specs.declared.refusal.Refusal.TheVariants.{
 use Rattle.ncq_core.specs.DiskState.{most_depth, most_disk_sectors}
 use Rattle.ncq_journal.specs.Lawful.{most_sectors}
 
--- a fault by the name that is shown; the window of a script's command is always fit
+-- a fault by the name that is shown
 abbrev pub of_issue : IssueFault → Option Refusal
 of_issue issue.Halted = Some Halted
 of_issue issue.NoSuchTag = Some NoSuchTag
 of_issue issue.SlotOwned = Some SlotOwned
-of_issue fault = None
+of_issue issue.BadHeader = Some BadHeader
+of_issue issue.BadCommand = Some BadCommand
+of_issue issue.WrongTag = Some WrongTag
+of_issue issue.TooLong = Some TooLong
+of_issue issue.BadList = Some BadList
+of_issue issue.OutOfMemory = None
 
 abbrev pub of_step : StepFault → Refusal
 of_step step.Halted = Halted
@@ -108,8 +118,8 @@ register_refusal (Err fault) = Some (of_register fault)
 abbrev pub show_refusal : PortView → ℕ → Option Refusal
 show_refusal port lba = if nat_lt lba (sectors_in port) then None else Some NoSuchSector
 
--- why the port refuses a command, if it does
-abbrev pub refusal_on : PortView → Command → Option Refusal
+-- why the port refuses a command, if it does; a window of any bytes is not among these
+abbrev pub refusal_on : PortView → ScriptCommand → Option Refusal
 refusal_on port (command.Write tag lba sectors fill) = issue_refusal port tag lba sectors
 refusal_on port (command.Read tag lba sectors) = issue_refusal port tag lba sectors
 refusal_on port (command.Accept tag) = option_map of_step (step_refusal port (device.Accept tag))

@@ -1,15 +1,15 @@
 -- What a script's lines add to the output, and how far a script has come.
 use Rattle.std.specs.Prelude.{◌≡◌, ℕ, ◌+◌, Bool, true, false, if◌then◌else◌, List, [], ◌∷◌, ◌++◌, Option, Some, None, length, take, option_and_then, ◌⊎◌}
 use Rattle.std.specs.Io.KnownBytes.{Appends, Consumes, IsAtEnd}
-use Rattle.ahci_replay.specs.declared.fault.CliFault.{CliFault}
-use Rattle.ahci_replay.specs.declared.fault.CliFault.TheVariants as fault
+use Rattle.ahci_script.specs.declared.fault.CliFault.{CliFault}
+use Rattle.ahci_script.specs.declared.fault.CliFault.TheVariants as fault
 use Rattle.ahci_replay.specs.Commands.{Runs, is_in_place}
 use Rattle.ahci_replay.specs.Place.{Place}
 use Rattle.ahci_script.specs.Answers.{answer_text}
 use Rattle.ahci_script.specs.Lines.{line_of}
 use Rattle.ahci_script.specs.Said.{Said}
-use Rattle.ahci_script.specs.Unread.{Begins, MayFail, found_of, too_long, unfinished, whole}
-use Rattle.ahci_script.specs.declared.line.Command.{Command}
+use Rattle.ahci_script.specs.Unread.{Begins, MayFail, found_of, too_long, unfinished, whole, with_feeds}
+use Rattle.ahci_script.specs.declared.line.ScriptCommand.{ScriptCommand}
 use Rattle.ahci_script.specs.declared.line.Line.{Line}
 use Rattle.ahci_script.specs.declared.line.Line.TheVariants as line
 use Rattle.ahci_port.specs.PortView.{PortView}
@@ -28,7 +28,7 @@ abbrev pub placed : Option PortView → List ℕ → Option Line
 placed port text = option_and_then (placed_by port) (line_of text)
 
 -- a command was run, and this is its answer with its line feed
-pub record HasRun (old : Option PortView) (command : Command) (new : Option PortView) (text : List ℕ) : Type 0 where
+pub record HasRun (old : Option PortView) (command : ScriptCommand) (new : Option PortView) (text : List ℕ) : Type 0 where
   pub said : Said
   pub ran : Runs old command new said
   pub spelled : text ≡ answer_text said ++ 10 ∷ []
@@ -43,11 +43,6 @@ pub data Adds : Option PortView → List (List ℕ) → List ℕ → Option Port
   no_line : (port : Option PortView) → Adds port [] [] port
   one_more : (port : Option PortView) (first : List ℕ) (l : Line) (next : Option PortView) (added : List ℕ) (more : List (List ℕ)) (text : List ℕ) (last : Option PortView)
       → found_of (first ++ 10 ∷ []) ≡ whole first → placed port first ≡ Some l → RunsLine port l next added → Adds next more text last → Adds port (first ∷ more) (added ++ text) last
-
--- lines with their line feeds, joined
-abbrev pub with_feeds : List (List ℕ) → List ℕ
-with_feeds [] = []
-with_feeds (text ∷ more) = text ++ 10 ∷ with_feeds more
 
 -- from one place to a later one: lines were read, and what they add is written or waits
 pub record Progress (from to : Place) : Type 0 where
@@ -72,7 +67,7 @@ pub record Grown (port_old : Option PortView) (text : List ℕ) (port_new : Opti
   pub grown : new ≡ old ++ added
 
 -- the faults of a command: it is out of place, or there is no memory for it
-abbrev pub IsCommandFault : Option PortView → Command → ℕ → CliFault → Type 0
+abbrev pub IsCommandFault : Option PortView → ScriptCommand → ℕ → CliFault → Type 0
 IsCommandFault port command n (fault.Line k) = (k ≡ n) × (is_in_place port command ≡ false)
 IsCommandFault port command n fault.OutOfMemory = Unit {0}
 IsCommandFault port command n _ = ⊥

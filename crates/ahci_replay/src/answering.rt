@@ -7,18 +7,18 @@ ghost use Rattle.ahci_table.specs.Fit.{IsFit};
 ghost use Rattle.ahci_replay.specs.Commands.{outcome_said, step_said};
 
 use ahci_port::{Outcome, Reply, Stepped};
-use ahci_script::Answer;
+use ahci_script::ScriptAnswer;
 use ahci_table::Window;
 use std::alloc::{AllocError, Allocator};
 
 /// The answer of a device's step.
-pub(crate) fn stepped<A: Allocator>(done: Stepped) -> Answer<A>
+pub(crate) fn stepped<A: Allocator>(done: Stepped) -> ScriptAnswer<A>
     ensures { said result ≡ step_said done }
 {
     match done {
-        Stepped::Accepted(entry) => Answer::Accepted(entry),
-        Stepped::Completed(entry) => Answer::Completed(entry),
-        Stepped::Failed(entry) => Answer::FailedStep(entry),
+        Stepped::Accepted(entry) => ScriptAnswer::Accepted(entry),
+        Stepped::Completed(entry) => ScriptAnswer::Completed(entry),
+        Stepped::Failed(entry) => ScriptAnswer::FailedStep(entry),
     }
 }
 
@@ -27,7 +27,7 @@ pub(crate) fn collected<A: Allocator>(
     alloc: A,
     reply: Reply,
     window: &Window<A>,
-) -> Result<Answer<A>, AllocError>
+) -> Result<ScriptAnswer<A>, AllocError>
     requires { IsFit window.now }
     ensures { IfOk result (λ answer. said answer ≡ outcome_said reply.outcome reply.entry (bytes_in reply.outcome window.now)) }
 {
@@ -35,9 +35,9 @@ pub(crate) fn collected<A: Allocator>(
     match reply.outcome {
         Outcome::Read => {
             let bytes = window.text(alloc)?;
-            Ok(Answer::Read { entry, bytes })
+            Ok(ScriptAnswer::Read { entry, bytes })
         }
-        Outcome::Wrote => Ok(Answer::Wrote(entry)),
-        Outcome::Failed { error, lba } => Ok(Answer::Failed { entry, error, lba }),
+        Outcome::Wrote => Ok(ScriptAnswer::Wrote(entry)),
+        Outcome::Failed { error, lba } => Ok(ScriptAnswer::Failed { entry, error, lba }),
     }
 }

@@ -1,4 +1,4 @@
-//! How a script's commands are issued: by a window over the default pieces.
+//! How a script's commands are issued: by a window over the default pieces, or by one of any bytes.
 
 ghost use Rattle.std.specs.Prelude.{◌≡◌, ◌<◌, ◌≤◌, ◌*◌, ◌^◌, false, length, IfOk, OnErr, replicate};
 ghost use Rattle.std.specs.Option.{option_map};
@@ -9,12 +9,12 @@ ghost use Rattle.ahci_script.specs.Said.{said, Issued};
 ghost use Rattle.ahci_table.specs.Defaults.{default_list};
 ghost use Rattle.ahci_table.specs.Fit.{IsFit};
 ghost use Rattle.ahci_table.specs.Refusal.{is_ragged};
-ghost use Rattle.ahci_replay.specs.Commands.{HasIssued, MayLackOn, RefusedOr, RunsOn};
+ghost use Rattle.ahci_replay.specs.Commands.{AnswersWindow, HasIssued, MayLackOn, RefusedOr, RunsOn};
 ghost use Rattle.ahci_replay.specs.Refusals.{issue_refusal, joined, of_issue};
 
 use crate::refusals::issue_refusal;
-use ahci_port::{IssueFault, Port};
-use ahci_script::{Answer, Command, Refusal};
+use ahci_port::Port;
+use ahci_script::{HexBytes, Refusal, ScriptAnswer, ScriptCommand};
 use ahci_table::{BuildFault, Piece, Window, default_pieces};
 use arrayvec::ArrayVec;
 use ncq_core::{Bytes, LBA_LIMIT, MAX_COUNT, MAX_SECTORS, Op};
@@ -44,17 +44,17 @@ pub(crate) fn write<A: Allocator + Clone>(
     lba: u64,
     sectors: u32,
     fill: u8,
-) -> Result<Answer<A>, AllocError>
+) -> Result<ScriptAnswer<A>, AllocError>
     requires { tag < 32 }
-    ensures ok { IfOk result (λ answer. RunsOn port.old (Command.Write tag lba sectors fill) port.new (said answer)) }
+    ensures ok { IfOk result (λ answer. RunsOn port.old (ScriptCommand.Write tag lba sectors fill) port.new (said answer)) }
     ensures err { OnErr result (port.new ≡ port.old) }
-    ensures lacking { OnErr result (MayLackOn port.old (Command.Write tag lba sectors fill)) }
+    ensures lacking { OnErr result (MayLackOn port.old (ScriptCommand.Write tag lba sectors fill)) }
 {
     if sectors == 0 || sectors > MAX_COUNT {
-        return Ok(Answer::Refused(Refusal::BadCount));
+        return Ok(ScriptAnswer::Refused(Refusal::BadCount));
     }
     if lba >= LBA_LIMIT {
-        return Ok(Answer::Refused(Refusal::BadLba));
+        return Ok(ScriptAnswer::Refused(Refusal::BadLba));
     }
     let bytes = Bytes::from_vec(filled(alloc.clone()?, sectors, fill)?);
     issue(port, alloc, tag, &Op::Write { lba, bytes })
@@ -75,7 +75,7 @@ pub(crate) fn issue<A: Allocator + Clone>(
     alloc: &A,
     tag: u8,
     op: &Op<A>,
-) -> Result<Answer<A>, AllocError>
+) -> Result<ScriptAnswer<A>, AllocError>
     requires tag { tag < 32 }
     requires small { sectors_of (work_of op.now) < 2 ^ 32 }
     requires whole { is_ragged (work_of op.now) ≡ false }
@@ -88,8 +88,8 @@ pub(crate) fn issue<A: Allocator + Clone>(
     match Window::build(alloc.clone()?, tag, op, &pieces) {
         Ok(window) => issue_window(port, window),
         Err(fault) => match fault {
-            BuildFault::BadCount => Ok(Answer::Refused(Refusal::BadCount)),
-            BuildFault::BadLba => Ok(Answer::Refused(Refusal::BadLba)),
+            BuildFault::BadCount => Ok(ScriptAnswer::Refused(Refusal::BadCount)),
+            BuildFault::BadLba => Ok(ScriptAnswer::Refused(Refusal::BadLba)),
             BuildFault::OutOfMemory => Err(AllocError),
             // The default pieces serve every count.
             _ => unreachable!(),
@@ -97,26 +97,36 @@ pub(crate) fn issue<A: Allocator + Clone>(
     }
 }
 
-/// Issues a command whose window is built.
+/// Issues a window of any bytes, which are read into memory of its own.
+pub(crate) fn issue_raw<A: Allocator + Clone>(
+    port: &mut Port<A>,
+    alloc: &A,
+    tag: u8,
+    header: [u8; 32],
+    bytes: &HexBytes<'_>,
+) -> Result<ScriptAnswer<A>, AllocError>
+    requires { tag < 32 }
+    ensures ok { IfOk result (λ answer. RunsOn port.old (ScriptCommand.Raw tag header bytes.now) port.new (said answer)) }
+    ensures err { OnErr result (port.new ≡ port.old) }
+{
+    let mut read = vec![in alloc.clone()?; 0u8; bytes.len()]?;
+    bytes.read_into(&mut read);
+    issue_window(port, Window::from_parts(tag, header, read))
+}
+
+/// Issues a window.
 fn issue_window<A: Allocator + Clone>(
     port: &mut Port<A>,
     window: Window<A>,
-) -> Result<Answer<A>, AllocError>
-    requires { IsFit window }
-    ensures ok { IfOk result (λ answer.
-        RefusedOr (joined (option_map of_issue (early_refusal port.old window.tag))) port.old port.new (said answer)
-        (IsIssued window port.old port.new × (said answer ≡ Issued (length port.old.past)))) }
+) -> Result<ScriptAnswer<A>, AllocError>
+    ensures ok { IfOk result (λ answer. AnswersWindow window port.old port.new (said answer)) }
     ensures err { OnErr result (port.new ≡ port.old) }
 {
     match port.issue(window) {
-        Ok(number) => Ok(Answer::Issued(number)),
+        Ok(number) => Ok(ScriptAnswer::Issued(number)),
         Err((_window, fault)) => match issue_refusal(fault) {
-            Some(refusal) => Ok(Answer::Refused(refusal)),
-            None => match fault {
-                IssueFault::OutOfMemory => Err(AllocError),
-                // A window that is fit breaks no rule.
-                _ => unreachable!(),
-            },
+            Some(refusal) => Ok(ScriptAnswer::Refused(refusal)),
+            None => Err(AllocError),
         },
     }
 }

@@ -2,7 +2,6 @@
 #![tactic(auto)]
 
 mod answering;
-mod fault;
 mod issuing;
 mod lines;
 mod refusals;
@@ -12,7 +11,7 @@ mod script;
 mod session;
 mod unanswered;
 
-pub use fault::CliFault;
+pub use ahci_script::CliFault;
 pub use replaying::replay;
 pub use session::Session;
 pub use unanswered::Unanswered;

@@ -5,10 +5,9 @@ ghost use Rattle.ahci_script.specs.Lines.{HasSmallTag};
 ghost use Rattle.ahci_replay.specs.Commands.{is_in_place};
 ghost use Rattle.ahci_replay.specs.Transcript.{Grown, HasRun, IsCommandFault, IsLineFault, placed};
 
-use crate::fault::CliFault;
 use crate::session::Session;
 use crate::unanswered::Unanswered;
-use ahci_script::{Command, Line, Output, parse};
+use ahci_script::{CliFault, Line, Output, ScriptCommand, parse};
 use std::alloc::Allocator;
 
 /// Answers a line of the given number.
@@ -35,14 +34,14 @@ fn answer_command<A: Allocator + Clone>(
     session: &mut Session<A>,
     output: &mut Output<A>,
     number: u64,
-    command: Command,
+    command: ScriptCommand<'_>,
 ) -> Result<(), CliFault>
     requires { HasSmallTag command }
-    ensures ok { OnOk result ((text : List ℕ) × HasRun session.old command session.new text
+    ensures ok { OnOk result ((text : List ℕ) × HasRun session.old command.entry session.new text
         × (output.new ≡ output.old ++ text)) }
     ensures err { OnErr result (output.new ≡ output.old) }
-    ensures fault { IfErr result (IsCommandFault session.old command number) }
-    ensures wrong { is_in_place session.old command ≡ false → result ≡ Err (CliFault.Line number) }
+    ensures fault { IfErr result (IsCommandFault session.old command.entry number) }
+    ensures wrong { is_in_place session.old command.entry ≡ false → result ≡ Err (CliFault.Line number) }
 {
     match session.run(command) {
         Ok(answer) => Ok(output.put(&answer)?),

@@ -7,7 +7,7 @@ use ahci_port::{CollectFault, IssueFault, PlainFault, RecoverFault, ReissueFault
 use ahci_regs::RegFault;
 use ahci_script::Refusal;
 
-/// The rules of a window are none of these: a script's windows are fit.
+/// All but want of memory.
 pub(crate) fn issue_refusal(fault: IssueFault) -> Option<Refusal>
     ensures { result ≡ of_issue fault }
 {
@@ -15,7 +15,12 @@ pub(crate) fn issue_refusal(fault: IssueFault) -> Option<Refusal>
         IssueFault::Halted => Some(Refusal::Halted),
         IssueFault::NoSuchTag => Some(Refusal::NoSuchTag),
         IssueFault::SlotOwned => Some(Refusal::SlotOwned),
-        _ => None,
+        IssueFault::BadHeader => Some(Refusal::BadHeader),
+        IssueFault::BadCommand => Some(Refusal::BadCommand),
+        IssueFault::WrongTag => Some(Refusal::WrongTag),
+        IssueFault::TooLong => Some(Refusal::TooLong),
+        IssueFault::BadList => Some(Refusal::BadList),
+        IssueFault::OutOfMemory => None,
     }
 }
 

@@ -1,8 +1,8 @@
 ghost use Rattle.std.specs.Prelude.{IfErr, OnOk};
 ghost use Rattle.ahci_replay.specs.Transcript.{Replayed, ReplayedTo};
 
-use crate::fault::CliFault;
 use crate::script::Script;
+use ahci_script::CliFault;
 use std::alloc::Allocator;
 use std::io::{Read, Write};
 

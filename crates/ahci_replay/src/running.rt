@@ -9,14 +9,14 @@ ghost use Rattle.ahci_replay.specs.Commands.{HasStepped, MayLackOn, MayRunOn, Re
 ghost use Rattle.ahci_replay.specs.Refusals.{of_step, refusal_on};
 
 use crate::answering::{collected, stepped};
-use crate::issuing::{issue, write};
+use crate::issuing::{issue, issue_raw, write};
 use crate::refusals::{
     collect_refusal, plain_refusal, recover_refusal, register_refusal, reissue_refusal,
     step_refusal,
 };
 use crate::unanswered::Unanswered;
 use ahci_port::{DeviceStep, Port};
-use ahci_script::{Answer, Command, Refusal};
+use ahci_script::{Refusal, ScriptAnswer, ScriptCommand};
 use ncq_core::Op;
 use std::alloc::{AllocError, Allocator};
 
@@ -24,53 +24,56 @@ use std::alloc::{AllocError, Allocator};
 pub(crate) fn run_on<A: Allocator + Clone>(
     port: &mut Port<A>,
     alloc: &A,
-    command: Command,
-) -> Result<Answer<A>, Unanswered>
+    command: ScriptCommand<'_>,
+) -> Result<ScriptAnswer<A>, Unanswered>
     requires { HasSmallTag command }
-    ensures ok { IfOk result (λ answer. RunsOn port.old command port.new (said answer)) }
-    ensures misplaced { IfErr result (λ e. e ≡ Unanswered.OutOfPlace → is_in_place (Some port.old) command ≡ false) }
-    ensures refused { is_in_place (Some port.old) command ≡ false → result ≡ Err Unanswered.OutOfPlace }
-    ensures kept { is_in_place (Some port.old) command ≡ false → port.new ≡ port.old }
-    ensures err { OnErr result (MayRunOn port.old command port.new) }
-    ensures lacking { IfErr result (λ e. e ≡ Unanswered.OutOfMemory → MayLackOn port.old command) }
+    ensures ok { IfOk result (λ answer. RunsOn port.old command.entry port.new (said answer)) }
+    ensures misplaced { IfErr result (λ e. e ≡ Unanswered.OutOfPlace → is_in_place (Some port.old) command.entry ≡ false) }
+    ensures refused { is_in_place (Some port.old) command.entry ≡ false → result ≡ Err Unanswered.OutOfPlace }
+    ensures kept { is_in_place (Some port.old) command.entry ≡ false → port.new ≡ port.old }
+    ensures err { OnErr result (MayRunOn port.old command.entry port.new) }
+    ensures lacking { IfErr result (λ e. e ≡ Unanswered.OutOfMemory → MayLackOn port.old command.entry) }
 {
     match command {
-        Command::Disk { .. } => Err(Unanswered::OutOfPlace),
-        Command::Write {
+        ScriptCommand::Disk { .. } => Err(Unanswered::OutOfPlace),
+        ScriptCommand::Write {
             tag,
             lba,
             sectors,
             fill,
         } => Ok(write(port, alloc, tag, lba, sectors, fill)?),
-        Command::Read { tag, lba, sectors } => {
+        ScriptCommand::Read { tag, lba, sectors } => {
             Ok(issue(port, alloc, tag, &Op::Read { lba, sectors })?)
         }
-        Command::Accept { tag } => Ok(step(port, DeviceStep::Accept(tag))),
-        Command::Serve { tag } => Ok(step(port, DeviceStep::Serve(tag))),
-        Command::Fail { tag, error, lba } => {
+        ScriptCommand::Raw { tag, header, bytes } => {
+            Ok(issue_raw(port, alloc, tag, header, &bytes)?)
+        }
+        ScriptCommand::Accept { tag } => Ok(step(port, DeviceStep::Accept(tag))),
+        ScriptCommand::Serve { tag } => Ok(step(port, DeviceStep::Serve(tag))),
+        ScriptCommand::Fail { tag, error, lba } => {
             let at = lba;
             Ok(step(port, DeviceStep::Fail { tag, error, at }))
         }
-        Command::Collect { tag, number } => Ok(collect(port, alloc, tag, number)?),
-        Command::Recover => Ok(recover(port)?),
-        Command::Reissue { tag } => Ok(reissue(port, tag)),
-        Command::Identify { word } => Ok(identify(port, word)?),
-        Command::Flush => Ok(flush(port)?),
-        Command::Reg { off } => Ok(register(port, off)),
-        Command::Ack { mask } => Ok(acknowledge(port, mask)),
-        Command::Show { lba } => Ok(show(port, lba)),
-        Command::Journal => Ok(Answer::Journal(port.journal().len())),
+        ScriptCommand::Collect { tag, number } => Ok(collect(port, alloc, tag, number)?),
+        ScriptCommand::Recover => Ok(recover(port)?),
+        ScriptCommand::Reissue { tag } => Ok(reissue(port, tag)),
+        ScriptCommand::Identify { word } => Ok(identify(port, word)?),
+        ScriptCommand::Flush => Ok(flush(port)?),
+        ScriptCommand::Reg { off } => Ok(register(port, off)),
+        ScriptCommand::Ack { mask } => Ok(acknowledge(port, mask)),
+        ScriptCommand::Show { lba } => Ok(show(port, lba)),
+        ScriptCommand::Journal => Ok(ScriptAnswer::Journal(port.journal().len())),
     }
 }
 
 /// Lets the device take a step.
-fn step<A: Allocator + Clone>(port: &mut Port<A>, step: DeviceStep) -> Answer<A>
+fn step<A: Allocator + Clone>(port: &mut Port<A>, step: DeviceStep) -> ScriptAnswer<A>
     ensures { RefusedOr (option_map of_step (step_refusal port.old step)) port.old port.new (said result)
         (HasStepped step port.old port.new (said result)) }
 {
     match port.step(step) {
         Ok(done) => stepped(done),
-        Err(fault) => Answer::Refused(step_refusal(fault)),
+        Err(fault) => ScriptAnswer::Refused(step_refusal(fault)),
     }
 }
 
@@ -80,57 +83,60 @@ fn collect<A: Allocator + Clone>(
     alloc: &A,
     tag: u8,
     number: u64,
-) -> Result<Answer<A>, AllocError>
-    ensures ok { IfOk result (λ answer. RunsOn port.old (Command.Collect tag number) port.new (said answer)) }
-    ensures err { OnErr result (MayRunOn port.old (Command.Collect tag number) port.new) }
+) -> Result<ScriptAnswer<A>, AllocError>
+    ensures ok { IfOk result (λ answer. RunsOn port.old (ScriptCommand.Collect tag number) port.new (said answer)) }
+    ensures err { OnErr result (MayRunOn port.old (ScriptCommand.Collect tag number) port.new) }
 {
     let alloc = alloc.clone()?;
     match port.collect(tag, number) {
         Ok((reply, window)) => collected(alloc, reply, &window),
-        Err(fault) => Ok(Answer::Refused(collect_refusal(fault))),
+        Err(fault) => Ok(ScriptAnswer::Refused(collect_refusal(fault))),
     }
 }
 
 /// Recovers from a failure.
 #[tactic(auto, using(crate::proofs::SessionLemmas::nothing_stands_against))]
-fn recover<A: Allocator + Clone>(port: &mut Port<A>) -> Result<Answer<A>, AllocError>
-    ensures ok { IfOk result (λ answer. RunsOn port.old Command.Recover port.new (said answer)) }
+fn recover<A: Allocator + Clone>(port: &mut Port<A>) -> Result<ScriptAnswer<A>, AllocError>
+    ensures ok { IfOk result (λ answer. RunsOn port.old ScriptCommand.Recover port.new (said answer)) }
     ensures err { OnErr result (port.new ≡ port.old) }
-    ensures lacking { OnErr result (refusal_on port.old Command.Recover ≡ None) }
+    ensures lacking { OnErr result (refusal_on port.old ScriptCommand.Recover ≡ None) }
 {
     match port.recover() {
-        Ok(tag) => Ok(Answer::Recovered(tag)),
+        Ok(tag) => Ok(ScriptAnswer::Recovered(tag)),
         Err(fault) => match recover_refusal(fault) {
-            Some(refusal) => Ok(Answer::Refused(refusal)),
+            Some(refusal) => Ok(ScriptAnswer::Refused(refusal)),
             None => Err(AllocError),
         },
     }
 }
 
 /// Issues a held command again.
-fn reissue<A: Allocator + Clone>(port: &mut Port<A>, tag: u8) -> Answer<A>
-    ensures { RunsOn port.old (Command.Reissue tag) port.new (said result) }
+fn reissue<A: Allocator + Clone>(port: &mut Port<A>, tag: u8) -> ScriptAnswer<A>
+    ensures { RunsOn port.old (ScriptCommand.Reissue tag) port.new (said result) }
 {
     match port.reissue(tag) {
-        Ok(()) => Answer::Reissued(tag),
-        Err(fault) => Answer::Refused(reissue_refusal(fault)),
+        Ok(()) => ScriptAnswer::Reissued(tag),
+        Err(fault) => ScriptAnswer::Refused(reissue_refusal(fault)),
     }
 }
 
 /// Shows a word of the page that IDENTIFY DEVICE reads.
 #[tactic(auto, using(crate::proofs::SessionLemmas::nothing_stands_against))]
-fn identify<A: Allocator + Clone>(port: &mut Port<A>, word: u8) -> Result<Answer<A>, AllocError>
-    ensures ok { IfOk result (λ answer. RunsOn port.old (Command.Identify word) port.new (said answer)) }
+fn identify<A: Allocator + Clone>(
+    port: &mut Port<A>,
+    word: u8,
+) -> Result<ScriptAnswer<A>, AllocError>
+    ensures ok { IfOk result (λ answer. RunsOn port.old (ScriptCommand.Identify word) port.new (said answer)) }
     ensures err { OnErr result (port.new ≡ port.old) }
-    ensures lacking { OnErr result (refusal_on port.old (Command.Identify word) ≡ None) }
+    ensures lacking { OnErr result (refusal_on port.old (ScriptCommand.Identify word) ≡ None) }
 {
     match port.identify() {
         Ok(page) => {
             let value = word_in(&page, word);
-            Ok(Answer::Word { word, value })
+            Ok(ScriptAnswer::Word { word, value })
         }
         Err(fault) => match plain_refusal(fault) {
-            Some(refusal) => Ok(Answer::Refused(refusal)),
+            Some(refusal) => Ok(ScriptAnswer::Refused(refusal)),
             None => Err(AllocError),
         },
     }
@@ -146,47 +152,47 @@ fn word_in(page: &[u8; 512], word: u8) -> u16
 
 /// Sends FLUSH CACHE EXT.
 #[tactic(auto, using(crate::proofs::SessionLemmas::nothing_stands_against))]
-fn flush<A: Allocator + Clone>(port: &mut Port<A>) -> Result<Answer<A>, AllocError>
-    ensures ok { IfOk result (λ answer. RunsOn port.old Command.Flush port.new (said answer)) }
+fn flush<A: Allocator + Clone>(port: &mut Port<A>) -> Result<ScriptAnswer<A>, AllocError>
+    ensures ok { IfOk result (λ answer. RunsOn port.old ScriptCommand.Flush port.new (said answer)) }
     ensures err { OnErr result (port.new ≡ port.old) }
-    ensures lacking { OnErr result (refusal_on port.old Command.Flush ≡ None) }
+    ensures lacking { OnErr result (refusal_on port.old ScriptCommand.Flush ≡ None) }
 {
     match port.flush() {
-        Ok(()) => Ok(Answer::Flushed),
+        Ok(()) => Ok(ScriptAnswer::Flushed),
         Err(fault) => match plain_refusal(fault) {
-            Some(refusal) => Ok(Answer::Refused(refusal)),
+            Some(refusal) => Ok(ScriptAnswer::Refused(refusal)),
             None => Err(AllocError),
         },
     }
 }
 
 /// Shows a register's word.
-fn register<A: Allocator + Clone>(port: &Port<A>, off: u32) -> Answer<A>
-    ensures { RunsOn port.now (Command.Reg off) port.now (said result) }
+fn register<A: Allocator + Clone>(port: &Port<A>, off: u32) -> ScriptAnswer<A>
+    ensures { RunsOn port.now (ScriptCommand.Reg off) port.now (said result) }
 {
     match port.register(off) {
-        Ok(word) => Answer::Register(word),
-        Err(fault) => Answer::Refused(register_refusal(fault)),
+        Ok(word) => ScriptAnswer::Register(word),
+        Err(fault) => ScriptAnswer::Refused(register_refusal(fault)),
     }
 }
 
 /// Acknowledges interrupts.
-fn acknowledge<A: Allocator + Clone>(port: &mut Port<A>, mask: u32) -> Answer<A>
-    ensures { RunsOn port.old (Command.Ack mask) port.new (said result) }
+fn acknowledge<A: Allocator + Clone>(port: &mut Port<A>, mask: u32) -> ScriptAnswer<A>
+    ensures { RunsOn port.old (ScriptCommand.Ack mask) port.new (said result) }
 {
     port.acknowledge(mask);
-    Answer::Acked
+    ScriptAnswer::Acked
 }
 
 /// Shows a sector of the disk as it is.
-fn show<A: Allocator + Clone>(port: &Port<A>, lba: u64) -> Answer<A>
-    ensures { RunsOn port.now (Command.Show lba) port.now (said result) }
+fn show<A: Allocator + Clone>(port: &Port<A>, lba: u64) -> ScriptAnswer<A>
+    ensures { RunsOn port.now (ScriptCommand.Show lba) port.now (said result) }
 {
     if lba >= u64::from(port.sectors()) {
-        return Answer::Refused(Refusal::NoSuchSector);
+        return ScriptAnswer::Refused(Refusal::NoSuchSector);
     }
     let mut sector = [0; 512];
     port.copy(lba, &mut sector);
     let byte = sector[0];
-    Answer::Sector { lba, byte }
+    ScriptAnswer::Sector { lba, byte }
 }

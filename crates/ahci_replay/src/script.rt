@@ -1,10 +1,9 @@
 ghost use Rattle.std.specs.Prelude.{◌≤◌, ◌+◌, length};
 ghost use Rattle.ahci_script.specs.declared.input.TheConstants.{INPUT_LIMIT};
 
-use crate::fault::CliFault;
 use crate::lines::answer_line;
 use crate::session::Session;
-use ahci_script::{Found, INPUT_LIMIT, Input, Output};
+use ahci_script::{CliFault, Found, INPUT_LIMIT, Input, Output};
 use std::alloc::{AllocError, Allocator};
 use std::io::{Read, Write};
 

@@ -10,7 +10,7 @@ use crate::issuing::filled;
 use crate::running::run_on;
 use crate::unanswered::Unanswered;
 use ahci_port::Port;
-use ahci_script::{Answer, Command, Refusal};
+use ahci_script::{Refusal, ScriptAnswer, ScriptCommand};
 use ncq_core::{DiskFault, MAX_DEPTH, MAX_SECTORS};
 use std::alloc::{AllocError, Allocator};
 use std::marker::Model;
@@ -45,26 +45,26 @@ impl<A: Allocator + Clone> Session<A> {
     /// `OutOfPlace` where the command stands before the disk, or is a second disk: then nothing changes. `OutOfMemory` where
     /// a growth was refused: then the port is as it was, or a read was collected and its bytes are lost. A command that takes
     /// no memory never lacks any, and a bad size or count is told before.
-    pub fn run(&mut self, command: Command) -> Result<Answer<A>, Unanswered>
+    pub fn run(&mut self, command: ScriptCommand<'_>) -> Result<ScriptAnswer<A>, Unanswered>
         requires { HasSmallTag command }
-        ensures ok { IfOk result (λ answer. Runs self.old command self.new (said answer)) }
-        ensures misplaced { IfErr result (λ e. e ≡ Unanswered.OutOfPlace → is_in_place self.old command ≡ false) }
-        ensures refused { is_in_place self.old command ≡ false → result ≡ Err Unanswered.OutOfPlace }
-        ensures kept { is_in_place self.old command ≡ false → self.new ≡ self.old }
-        ensures err { OnErr result (MayRun self.old command self.new) }
-        ensures lacking { IfErr result (λ e. e ≡ Unanswered.OutOfMemory → MayLack self.old command) }
+        ensures ok { IfOk result (λ answer. Runs self.old command.entry self.new (said answer)) }
+        ensures misplaced { IfErr result (λ e. e ≡ Unanswered.OutOfPlace → is_in_place self.old command.entry ≡ false) }
+        ensures refused { is_in_place self.old command.entry ≡ false → result ≡ Err Unanswered.OutOfPlace }
+        ensures kept { is_in_place self.old command.entry ≡ false → self.new ≡ self.old }
+        ensures err { OnErr result (MayRun self.old command.entry self.new) }
+        ensures lacking { IfErr result (λ e. e ≡ Unanswered.OutOfMemory → MayLack self.old command.entry) }
     {
         match &mut self.port {
             Some(port) => run_on(port, &self.alloc, command),
             None => match command {
-                Command::Disk { sectors, depth } => Ok(self.make_disk(sectors, depth)?),
+                ScriptCommand::Disk { sectors, depth } => Ok(self.make_disk(sectors, depth)?),
                 _ => Err(Unanswered::OutOfPlace),
             },
         }
     }
 
     /// A disk of zeros. Its numbers are compared before an image is made.
-    fn make_disk(&mut self, sectors: u64, depth: u64) -> Result<Answer<A>, AllocError>
+    fn make_disk(&mut self, sectors: u64, depth: u64) -> Result<ScriptAnswer<A>, AllocError>
         requires { self.old ≡ None }
         ensures ok { IfOk result (λ answer.
             MakesDisk (disk_refusal sectors depth) sectors depth self.new (said answer)) }
@@ -72,16 +72,16 @@ impl<A: Allocator + Clone> Session<A> {
         ensures lacking { OnErr result (disk_refusal sectors depth ≡ None) }
     {
         if sectors == 0 || sectors > u64::from(MAX_SECTORS) {
-            return Ok(Answer::Refused(Refusal::BadSize));
+            return Ok(ScriptAnswer::Refused(Refusal::BadSize));
         }
         if depth == 0 || depth > u64::from(MAX_DEPTH) {
-            return Ok(Answer::Refused(Refusal::BadDepth));
+            return Ok(ScriptAnswer::Refused(Refusal::BadDepth));
         }
         let image = filled(self.alloc.clone()?, sectors as u32, 0)?;
         match Port::new(self.alloc.clone()?, image, depth as u32) {
             Ok(port) => {
                 self.port = Some(port);
-                Ok(Answer::Disk { sectors, depth })
+                Ok(ScriptAnswer::Disk { sectors, depth })
             }
             Err(fault) => match fault {
                 DiskFault::OutOfMemory => Err(AllocError),

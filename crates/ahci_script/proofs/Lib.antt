@@ -1,4 +1,6 @@
 pub mod DecimalLemmas
+pub mod HexBytesLemmas
 pub mod HexValueLemmas
 pub mod PrintingLemmas
 pub mod ReadBackLemmas
+pub mod FoundLemmas

@@ -17,6 +17,7 @@ use Rattle.std.proofs.Common.{
   ◌&&◌,
   cond,
   ltb,
+  nat_eq,
   leb,
   List,
   [],
@@ -47,10 +48,12 @@ use Rattle.std.proofs.lemmas.List.Folds.{list_all-append}
 use Rattle.std.proofs.lemmas.List.Sums.{fold_push}
 use Rattle.std.specs.Char.{is_ascii_digit}
 use Rattle.std.specs.Fmt.{decimal, digit_glyph}
-use Rattle.std.specs.List.{list_all, position_or_len}
+use Rattle.std.specs.List.{All, list_all, position_or_len}
+use Rattle.std.specs.Option.{is_some, unwrap_or}
 use Rattle.ahci_script.specs.Answers.{hex_of}
+use Rattle.ahci_script.specs.HexBytes.{header_of, hex_bytes_of, hex_digit_value, is_hex_digit, pairs_of}
 use Rattle.ahci_script.specs.Number.{below, byte_of, decimal_below, decimal_of, decimal_value, hex_digit_of, hexadecimal_of, hexadecimal_value, is_decimal, with_digit, with_hex_digit}
-use Rattle.ahci_script.specs.Printing.{before}
+use Rattle.ahci_script.specs.Printing.{before, hex_bytes}
 use Rattle.ahci_script.specs.Words.{cut_of}
 
 -- no space is among these bytes
@@ -165,3 +168,46 @@ byte-back n h =
 pub byte-word : (n : ℕ) → is_word (hex_of 2 n) ≡ true
 byte-word n =
     and_from (not (digit_glyph false (n / 16 % 16) == 32)) _ (glyph-word (n / 16 % 16) (omega arith)) (and_from (not (digit_glyph false (n % 16) == 32)) true (glyph-word (n % 16) (omega arith)) refl)
+
+-- bytes are read back: so many that there are two digits for each
+bytes-digits : (bytes : List ℕ) → list_all is_hex_digit (hex_bytes bytes) ≡ true
+bytes-digits [] = refl
+bytes-digits (b ∷ bytes) =
+    and_from (is_hex_digit (digit_glyph false (b / 16 % 16))) _ (ap is_some (glyph-back (b / 16 % 16) (omega arith)))
+    (and_from (is_hex_digit (digit_glyph false (b % 16))) _ (ap is_some (glyph-back (b % 16) (omega arith))) (bytes-digits bytes))
+
+length-bytes : (bytes : List ℕ) → length (hex_bytes bytes) ≡ 2 * length bytes
+length-bytes [] = refl
+length-bytes (b ∷ bytes) = let rest = length-bytes bytes in omega (arith, rest)
+
+digit-back : (d : ℕ) → d < 16 → hex_digit_value (digit_glyph false d) ≡ d
+digit-back d h = ap (λ o. unwrap_or o 0) (glyph-back d h)
+
+pairs-back : (bytes : List ℕ) → All (λ b. b < 256) bytes → pairs_of (hex_bytes bytes) ≡ bytes
+pairs-back [] all = refl
+pairs-back (b ∷ bytes) all =
+    let small : b < 256 = all 0 0 (omega arith) in
+    let high = digit-back (b / 16 % 16) (omega arith) in
+    let low = digit-back (b % 16) (omega arith) in
+    let first : 16 * hex_digit_value (digit_glyph false (b / 16 % 16)) + hex_digit_value (digit_glyph false (b % 16)) ≡ b = omega (arith, high, low, small) in
+    ap (λ x. x ∷ pairs_of (hex_bytes bytes)) first ∙ ap (λ xs. b ∷ xs) (pairs-back bytes (λ k d h. all (suc k) d (omega arith)))
+
+pub hex_bytes-back : (bytes : List ℕ) → All (λ b. b < 256) bytes → 0 < length bytes → hex_bytes_of (hex_bytes bytes) ≡ Some bytes
+hex_bytes-back bytes all some =
+    let word = hex_bytes bytes in
+    let len = length-bytes bytes in
+    let even : length word % 2 ≡ 0 = omega (arith, len) in
+    let is : (ltb 0 (length word) && nat_eq (length word % 2) 0 && list_all is_hex_digit word) ≡ true =
+    and_from (ltb 0 (length word) && nat_eq (length word % 2) 0) (list_all is_hex_digit word)
+    (and_from (ltb 0 (length word)) (nat_eq (length word % 2) 0) (lt-ltb 0 (length word) (omega (arith, len))) (ap (λ n. nat_eq n 0) even)) (bytes-digits bytes) in
+    cond-true _ (Some (pairs_of word)) None is ∙ ap Some (pairs-back bytes all)
+
+pub header-back : (header : List ℕ) → All (λ b. b < 256) header → length header ≡ 32 → header_of (hex_bytes header) ≡ Some header
+header-back header all size =
+    ap (option_and_then (λ bytes. cond (nat_eq (length bytes) 32) (Some bytes) None)) (hex_bytes-back header all (omega (arith, size)))
+    ∙ cond-true (nat_eq (length header) 32) (Some header) None (ap (λ n. nat_eq n 32) size)
+
+-- and there is no space in them
+pub bytes-word : (bytes : List ℕ) → is_word (hex_bytes bytes) ≡ true
+bytes-word [] = refl
+bytes-word (b ∷ bytes) = list_all-append (λ x. not (x == 32)) (hex_of 2 b) (hex_bytes bytes) ∙ and_from (is_word (hex_of 2 b)) _ (byte-word b) (bytes-word bytes)

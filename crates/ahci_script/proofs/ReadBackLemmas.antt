@@ -1,22 +1,24 @@
 -- Every printed command is read back, command by command.
-use Rattle.std.proofs.Common.{◌≡◌, ℕ, ◌^◌, ◌<◌, ◌≤◌, true, List, refl, ap, ◌∙◌, Option, Some, codes, option_and_then, arith}
+use Rattle.std.proofs.Common.{◌≡◌, ℕ, ◌^◌, ◌<◌, ◌≤◌, true, List, length, refl, ap, ◌∙◌, Option, Some, codes, option_and_then, arith}
 use Rattle.std.specs.Fmt.{decimal}
+use Rattle.std.specs.List.{All}
 use Rattle.ahci_script.specs.Answers.{hex_of}
-use Rattle.ahci_script.specs.Lines.{accept_of, ack_of, collect_of, command_of, disk_of, fail_of, identify_of, named, read_of, reg_of, reissue_of, serve_of, show_of, write_of}
+use Rattle.ahci_script.specs.HexBytes.{header_of, hex_bytes_of}
+use Rattle.ahci_script.specs.Lines.{accept_of, ack_of, collect_of, command_of, disk_of, fail_of, identify_of, named, raw_of, read_of, reg_of, reissue_of, serve_of, show_of, write_of}
 use Rattle.ahci_script.specs.Number.{byte_of, decimal_below, decimal_of, hexadecimal_of}
-use Rattle.ahci_script.specs.Printing.{IsReadBack, before}
+use Rattle.ahci_script.specs.Printing.{IsReadBack, before, hex_bytes}
 use Rattle.ahci_script.specs.Words.{cut_of}
-use Rattle.ahci_script.specs.declared.line.Command.{Command}
-use Rattle.ahci_script.specs.declared.line.Command.TheVariants.{Disk, Write, Read, Accept, Serve, Fail, Collect, Recover, Reissue, Reg, Ack, Identify, Flush, Show, Journal}
+use Rattle.ahci_script.specs.declared.line.ScriptCommand.{ScriptCommand}
+use Rattle.ahci_script.specs.declared.line.ScriptCommand.TheVariants.{Disk, Write, Read, Raw, Accept, Serve, Fail, Collect, Recover, Reissue, Reg, Ack, Identify, Flush, Show, Journal}
 use Rattle.ahci_script.specs.declared.line.Line.TheVariants as line
-use Rattle.ahci_script.proofs.PrintingLemmas.{byte-back, byte-word, cut-before, decimal-back, decimal-word, decimal_below-back, hexadecimal-back, is_word}
+use Rattle.ahci_script.proofs.PrintingLemmas.{byte-back, byte-word, bytes-word, cut-before, decimal-back, decimal-word, decimal_below-back, header-back, hex_bytes-back, hexadecimal-back, is_word}
 
 -- a value that is found goes on
 then : {A B : Type 0} (o : Option A) (x : A) (f : A → Option B) (y : Option B) → o ≡ Some x → f x ≡ y → option_and_then f o ≡ y
 then o x f y found next = ap (option_and_then f) found ∙ next
 
 -- a command by its name
-by_name : (name arguments : List ℕ) (command : Command) → is_word name ≡ true
+by_name : (name arguments : List ℕ) (command : ScriptCommand) → is_word name ≡ true
     → command_of (before name arguments) ≡ option_and_then (λ c. named c.0 c.1) (cut_of (before name arguments)) → named name arguments ≡ Some command
     → option_and_then (λ c. Some (line.Run c)) (command_of (before name arguments)) ≡ Some (line.Run command)
 by_name name arguments command word unnamed its =
@@ -63,6 +65,14 @@ fail-back tag error lba t e l =
 collect-back : (tag number : ℕ) → tag < 32 → number < 2 ^ 64 → collect_of (before (decimal tag) (decimal number)) ≡ Some (Collect tag number)
 collect-back tag number t n = cut_off (decimal tag) (decimal number) _ _ (tag-word tag t) (tag-back tag _ _ t (number-back number _ _ n refl))
 
+raw-back : (tag : ℕ) (header bytes : List ℕ) → tag < 32 → length header ≡ 32 → All (λ b. b < 256) header → 0 < length bytes → All (λ b. b < 256) bytes
+    → raw_of (before (decimal tag) (before (hex_bytes header) (hex_bytes bytes))) ≡ Some (Raw tag header bytes)
+raw-back tag header bytes t size heads some all =
+    cut_off (decimal tag) (before (hex_bytes header) (hex_bytes bytes)) _ _ (tag-word tag t)
+    (cut_off (hex_bytes header) (hex_bytes bytes) _ _ (bytes-word header)
+    (tag-back tag _ _ t
+    (then (header_of (hex_bytes header)) header _ _ (header-back header heads size) (then (hex_bytes_of (hex_bytes bytes)) bytes _ _ (hex_bytes-back bytes all some) refl))))
+
 accept-back : (tag : ℕ) → tag < 32 → accept_of (decimal tag) ≡ Some (Accept tag)
 accept-back tag h = tag-back tag _ _ h refl
 
@@ -91,6 +101,8 @@ read_back (Write tag lba sectors fill) h =
     (write-back tag lba sectors fill h.0 h.1 h.2 h.3)
 read_back (Read tag lba sectors) h =
     by_name (codes "read") (before (decimal tag) (before (decimal lba) (decimal sectors))) (Read tag lba sectors) refl refl (read-back tag lba sectors h.0 h.1 h.2)
+read_back (Raw tag header bytes) h =
+    by_name (codes "raw") (before (decimal tag) (before (hex_bytes header) (hex_bytes bytes))) (Raw tag header bytes) refl refl (raw-back tag header bytes h.0 h.1 h.2 h.3 h.4)
 read_back (Accept tag) h = by_name (codes "accept") (decimal tag) (Accept tag) refl refl (accept-back tag h)
 read_back (Serve tag) h = by_name (codes "serve") (decimal tag) (Serve tag) refl refl (serve-back tag h)
 read_back (Fail tag error lba) h =

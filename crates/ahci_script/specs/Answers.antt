@@ -10,6 +10,11 @@ use Rattle.ahci_script.specs.declared.refusal.Refusal.TheVariants.{
   BadLba,
   NoSuchTag,
   SlotOwned,
+  BadHeader,
+  BadCommand,
+  WrongTag,
+  TooLong,
+  BadList,
   Halted,
   NotIssued,
   NotAccepted,
@@ -47,6 +52,11 @@ name_of BadCount = codes "BadCount"
 name_of BadLba = codes "BadLba"
 name_of NoSuchTag = codes "NoSuchTag"
 name_of SlotOwned = codes "SlotOwned"
+name_of BadHeader = codes "BadHeader"
+name_of BadCommand = codes "BadCommand"
+name_of WrongTag = codes "WrongTag"
+name_of TooLong = codes "TooLong"
+name_of BadList = codes "BadList"
 name_of Halted = codes "Halted"
 name_of NotIssued = codes "NotIssued"
 name_of NotAccepted = codes "NotAccepted"

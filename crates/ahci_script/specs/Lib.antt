@@ -1,4 +1,8 @@
+pub mod Fault
+pub mod Jobs
+pub mod Results
 pub mod Number
+pub mod HexBytes
 pub mod Words
 pub mod Lines
 pub mod Said

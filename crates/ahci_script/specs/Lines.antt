@@ -2,10 +2,11 @@
 use Rattle.std.specs.Prelude.{ℕ, ◌<◌, ◌==◌, Bool, List, [], ◌∷◌, Option, Some, None, option_and_then, nat_lt, codes, if◌then◌else◌}
 use Rattle.std.specs.List.{list_all}
 use Rattle.std.specs.Str.{bytes_eq}
-use Rattle.ahci_script.specs.declared.line.Command.{Command}
-use Rattle.ahci_script.specs.declared.line.Command.TheVariants.{Disk, Write, Read, Accept, Serve, Fail, Collect, Recover, Reissue, Reg, Ack, Identify, Flush, Show, Journal}
+use Rattle.ahci_script.specs.declared.line.ScriptCommand.{ScriptCommand}
+use Rattle.ahci_script.specs.declared.line.ScriptCommand.TheVariants.{Disk, Write, Read, Raw, Accept, Serve, Fail, Collect, Recover, Reissue, Reg, Ack, Identify, Flush, Show, Journal}
 use Rattle.ahci_script.specs.declared.line.Line.{Line}
 use Rattle.ahci_script.specs.declared.line.Line.TheVariants as the-line
+use Rattle.ahci_script.specs.HexBytes.{header_of, hex_bytes_of}
 use Rattle.ahci_script.specs.Number.{byte_of, decimal_below, decimal_of, hexadecimal_of}
 use Rattle.ahci_script.specs.Words.{cut_of}
 
@@ -26,7 +27,7 @@ abbrev pub page_word_of : List ℕ → Option ℕ
 page_word_of = decimal_below 256
 
 -- disk S D
-abbrev pub disk_of : List ℕ → Option Command
+abbrev pub disk_of : List ℕ → Option ScriptCommand
 disk_of arguments = do
   s ← cut_of arguments
   sectors ← decimal_of s.0
@@ -34,7 +35,7 @@ disk_of arguments = do
   Some (Disk sectors depth)
 
 -- write T LBA N BB
-abbrev pub write_of : List ℕ → Option Command
+abbrev pub write_of : List ℕ → Option ScriptCommand
 write_of arguments = do
   t ← cut_of arguments
   l ← cut_of t.1
@@ -46,7 +47,7 @@ write_of arguments = do
   Some (Write tag lba sectors fill)
 
 -- read T LBA N
-abbrev pub read_of : List ℕ → Option Command
+abbrev pub read_of : List ℕ → Option ScriptCommand
 read_of arguments = do
   t ← cut_of arguments
   l ← cut_of t.1
@@ -55,20 +56,30 @@ read_of arguments = do
   sectors ← sectors_of l.1
   Some (Read tag lba sectors)
 
+-- raw T H B
+abbrev pub raw_of : List ℕ → Option ScriptCommand
+raw_of arguments = do
+  t ← cut_of arguments
+  h ← cut_of t.1
+  tag ← tag_of t.0
+  header ← header_of h.0
+  bytes ← hex_bytes_of h.1
+  Some (Raw tag header bytes)
+
 -- accept T
-abbrev pub accept_of : List ℕ → Option Command
+abbrev pub accept_of : List ℕ → Option ScriptCommand
 accept_of arguments = do
   tag ← tag_of arguments
   Some (Accept tag)
 
 -- serve T
-abbrev pub serve_of : List ℕ → Option Command
+abbrev pub serve_of : List ℕ → Option ScriptCommand
 serve_of arguments = do
   tag ← tag_of arguments
   Some (Serve tag)
 
 -- fail T EE LBA
-abbrev pub fail_of : List ℕ → Option Command
+abbrev pub fail_of : List ℕ → Option ScriptCommand
 fail_of arguments = do
   t ← cut_of arguments
   e ← cut_of t.1
@@ -78,7 +89,7 @@ fail_of arguments = do
   Some (Fail tag error lba)
 
 -- collect T K
-abbrev pub collect_of : List ℕ → Option Command
+abbrev pub collect_of : List ℕ → Option ScriptCommand
 collect_of arguments = do
   t ← cut_of arguments
   tag ← tag_of t.0
@@ -86,41 +97,42 @@ collect_of arguments = do
   Some (Collect tag number)
 
 -- reissue T
-abbrev pub reissue_of : List ℕ → Option Command
+abbrev pub reissue_of : List ℕ → Option ScriptCommand
 reissue_of arguments = do
   tag ← tag_of arguments
   Some (Reissue tag)
 
 -- reg OFF
-abbrev pub reg_of : List ℕ → Option Command
+abbrev pub reg_of : List ℕ → Option ScriptCommand
 reg_of arguments = do
   off ← hexadecimal_of arguments
   Some (Reg off)
 
 -- ack MASK
-abbrev pub ack_of : List ℕ → Option Command
+abbrev pub ack_of : List ℕ → Option ScriptCommand
 ack_of arguments = do
   mask ← hexadecimal_of arguments
   Some (Ack mask)
 
 -- identify W
-abbrev pub identify_of : List ℕ → Option Command
+abbrev pub identify_of : List ℕ → Option ScriptCommand
 identify_of arguments = do
   word ← page_word_of arguments
   Some (Identify word)
 
 -- show LBA
-abbrev pub show_of : List ℕ → Option Command
+abbrev pub show_of : List ℕ → Option ScriptCommand
 show_of arguments = do
   lba ← decimal_of arguments
   Some (Show lba)
 
 -- a command by its name, which stands before its arguments
-abbrev pub named : List ℕ → List ℕ → Option Command
+abbrev pub named : List ℕ → List ℕ → Option ScriptCommand
 named name arguments =
     if bytes_eq name (codes "disk") then disk_of arguments
     else if bytes_eq name (codes "write") then write_of arguments
     else if bytes_eq name (codes "read") then read_of arguments
+    else if bytes_eq name (codes "raw") then raw_of arguments
     else if bytes_eq name (codes "accept") then accept_of arguments
     else if bytes_eq name (codes "serve") then serve_of arguments
     else if bytes_eq name (codes "fail") then fail_of arguments
@@ -133,7 +145,7 @@ named name arguments =
     else None
 
 -- a command: `recover`, `flush` or `journal` alone, or a name, a space and the arguments
-abbrev pub command_of : List ℕ → Option Command
+abbrev pub command_of : List ℕ → Option ScriptCommand
 command_of line =
     if bytes_eq line (codes "recover") then Some Recover
     else if bytes_eq line (codes "flush") then Some Flush
@@ -141,9 +153,10 @@ command_of line =
     else (cut_of line >>= λ c. named c.0 c.1)
 
 -- a tag is one of 32
-abbrev pub HasSmallTag : Command → Type 0
+abbrev pub HasSmallTag : ScriptCommand → Type 0
 HasSmallTag (Write tag lba sectors fill) = tag < 32
 HasSmallTag (Read tag lba sectors) = tag < 32
+HasSmallTag (Raw tag header bytes) = tag < 32
 HasSmallTag (Accept tag) = tag < 32
 HasSmallTag (Serve tag) = tag < 32
 HasSmallTag (Fail tag error lba) = tag < 32

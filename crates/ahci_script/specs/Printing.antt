@@ -1,21 +1,28 @@
 -- How a command is printed, and which of its numbers a script can have.
-use Rattle.std.specs.Prelude.{◌≡◌, ℕ, ◌^◌, ◌<◌, ◌≤◌, List, ◌∷◌, ◌++◌, Some, codes}
+use Rattle.std.specs.Prelude.{◌≡◌, ℕ, ◌^◌, ◌<◌, ◌≤◌, List, [], ◌∷◌, ◌++◌, Some, codes, length}
+use Rattle.std.specs.List.{All}
 use Rattle.std.specs.Fmt.{decimal}
 use Rattle.ahci_script.specs.Answers.{hex_of}
 use Rattle.ahci_script.specs.Lines.{line_of}
-use Rattle.ahci_script.specs.declared.line.Command.{Command}
-use Rattle.ahci_script.specs.declared.line.Command.TheVariants.{Disk, Write, Read, Accept, Serve, Fail, Collect, Recover, Reissue, Reg, Ack, Identify, Flush, Show, Journal}
+use Rattle.ahci_script.specs.declared.line.ScriptCommand.{ScriptCommand}
+use Rattle.ahci_script.specs.declared.line.ScriptCommand.TheVariants.{Disk, Write, Read, Raw, Accept, Serve, Fail, Collect, Recover, Reissue, Reg, Ack, Identify, Flush, Show, Journal}
 use Rattle.ahci_script.specs.declared.line.Line.TheVariants as line
 
 -- a word and the words behind it
 abbrev pub before : List ℕ → List ℕ → List ℕ
 before word others = word ++ 32 ∷ others
 
+-- bytes, by two digits each
+abbrev pub hex_bytes : List ℕ → List ℕ
+hex_bytes [] = []
+hex_bytes (byte ∷ bytes) = hex_of 2 byte ++ hex_bytes bytes
+
 -- the words of a command, in the order of its fields
-abbrev pub printed : Command → List ℕ
+abbrev pub printed : ScriptCommand → List ℕ
 printed (Disk sectors depth) = before (codes "disk") (before (decimal sectors) (decimal depth))
 printed (Write tag lba sectors fill) = before (codes "write") (before (decimal tag) (before (decimal lba) (before (decimal sectors) (hex_of 2 fill))))
 printed (Read tag lba sectors) = before (codes "read") (before (decimal tag) (before (decimal lba) (decimal sectors)))
+printed (Raw tag header bytes) = before (codes "raw") (before (decimal tag) (before (hex_bytes header) (hex_bytes bytes)))
 printed (Accept tag) = before (codes "accept") (decimal tag)
 printed (Serve tag) = before (codes "serve") (decimal tag)
 printed (Fail tag error lba) = before (codes "fail") (before (decimal tag) (before (hex_of 2 error) (decimal lba)))
@@ -30,11 +37,13 @@ printed (Show lba) = before (codes "show") (decimal lba)
 printed Journal = codes "journal"
 
 -- the numbers are in their ranges: a tag is below 32, a number of sectors at most 65,536, a byte or a word of the identify
--- page below 256, an offset or a mask below 2^32, and every other number below 2^64
-abbrev pub IsInRange : Command → Type 0
+-- page below 256, an offset or a mask below 2^32, and every other number below 2^64; a header has 32 bytes, and a window one at
+-- least
+abbrev pub IsInRange : ScriptCommand → Type 0
 IsInRange (Disk sectors depth) = (sectors < 2 ^ 64) × (depth < 2 ^ 64)
 IsInRange (Write tag lba sectors fill) = (tag < 32) × (lba < 2 ^ 64) × (sectors ≤ 65536) × (fill < 256)
 IsInRange (Read tag lba sectors) = (tag < 32) × (lba < 2 ^ 64) × (sectors ≤ 65536)
+IsInRange (Raw tag header bytes) = (tag < 32) × (length header ≡ 32) × All (λ b. b < 256) header × (0 < length bytes) × All (λ b. b < 256) bytes
 IsInRange (Accept tag) = tag < 32
 IsInRange (Serve tag) = tag < 32
 IsInRange (Fail tag error lba) = (tag < 32) × (error < 256) × (lba < 2 ^ 64)
@@ -48,4 +57,4 @@ IsInRange command = Unit {0}
 
 -- every command, printed, is read back as itself
 abbrev pub IsReadBack : Type 0
-IsReadBack = (command : Command) → IsInRange command → line_of (printed command) ≡ Some (line.Run command)
+IsReadBack = (command : ScriptCommand) → IsInRange command → line_of (printed command) ≡ Some (line.Run command)

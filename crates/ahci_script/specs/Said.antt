@@ -1,7 +1,7 @@
 -- What an answer says, as plain values: a read's sectors are a list of bytes.
 use Rattle.std.specs.Prelude.{ℕ, List}
-use Rattle.ahci_script.specs.declared.answer.Answer.{Answer}
-use Rattle.ahci_script.specs.declared.answer.Answer.TheVariants as code
+use Rattle.ahci_script.specs.declared.answer.ScriptAnswer.{ScriptAnswer}
+use Rattle.ahci_script.specs.declared.answer.ScriptAnswer.TheVariants as code
 use Rattle.ahci_script.specs.declared.refusal.Refusal.{Refusal}
 
 pub data Said : Type 0 where
@@ -24,7 +24,7 @@ pub data Said : Type 0 where
   Refused : (refusal : Refusal) → Said
 
 -- what the code's answer says
-abbrev pub said : {A : _} → Answer A → Said
+abbrev pub said : {A : _} → ScriptAnswer A → Said
 said (code.Disk sectors depth) = Disk sectors depth
 said (code.Issued entry) = Issued entry
 said (code.Accepted entry) = Accepted entry

@@ -1,5 +1,5 @@
 -- What a script's reader holds: the bytes that came and were not yet taken as lines.
-use Rattle.std.specs.Prelude.{◌≡◌, ℕ, ◌+◌, ◌<◌, List, ◌++◌, Option, Some, None, length, take, position, nat_le, ◌==◌, if◌then◌else◌, ◌⊎◌}
+use Rattle.std.specs.Prelude.{◌≡◌, ℕ, ◌+◌, ◌<◌, List, [], ◌∷◌, ◌++◌, Option, Some, None, length, take, position, nat_le, ◌==◌, if◌then◌else◌, ◌⊎◌}
 use Rattle.ahci_script.specs.declared.input.Found.{Found}
 use Rattle.ahci_script.specs.declared.input.Found.TheVariants.{Line, TooLong, Unfinished}
 use Rattle.std.specs.Io.KnownBytes.{Consumes, Keeps}
@@ -48,3 +48,8 @@ pub record Grows (old new : Unread) (remaining_old remaining_new : Option (List 
 -- where reading may fail, after so many bytes: the reader failed and gave none, or 67,108,864 bytes came and there are more
 abbrev pub MayFail : ℕ → Option (List ℕ) → Option (List ℕ) → Type 0
 MayFail came remaining_old remaining_new = Keeps remaining_old remaining_new ⊎ (came ≡ 67108864)
+
+-- lines with their line feeds, joined
+abbrev pub with_feeds : List (List ℕ) → List ℕ
+with_feeds [] = []
+with_feeds (text ∷ more) = text ++ 10 ∷ with_feeds more

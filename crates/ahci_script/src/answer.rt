@@ -4,7 +4,7 @@ use std::alloc::{Allocator, Global};
 /// What a command answers. It becomes text where it is written, by `Output::put`. Contracts see it as a `Said`.
 #[derive(Drop)]
 #[derive_where(Debug)]
-pub enum Answer<A: Allocator = Global> {
+pub enum ScriptAnswer<A: Allocator = Global> {
     /// The sectors and the depth of the new disk.
     Disk { sectors: u64, depth: u64 },
     /// The request's number, the entry of its Issue.

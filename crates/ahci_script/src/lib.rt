@@ -2,17 +2,26 @@
 #![tactic(auto)]
 
 mod answer;
+mod fault;
+mod hex_bytes;
 mod input;
+mod job;
 pub mod laws;
 mod line;
 mod number;
 mod output;
 mod refusal;
+mod result_line;
+mod result_text;
 mod text;
 mod words;
 
-pub use answer::Answer;
+pub use answer::ScriptAnswer;
+pub use fault::CliFault;
+pub use hex_bytes::HexBytes;
 pub use input::{Found, INPUT_LIMIT, Input, InputFailed, LINE_LIMIT};
-pub use line::{Command, Line, parse};
+pub use job::{Job, JobLine, parse_job};
+pub use line::{Line, ScriptCommand, parse};
 pub use output::{Output, OutputFailed};
 pub use refusal::{Refusal, name};
+pub use result_line::ResultLine;

@@ -1,22 +1,23 @@
 ghost use Rattle.std.specs.Prelude.{◌≡◌, IfSome};
-ghost use Rattle.ahci_script.specs.Lines.{HasSmallTag, HasSmallTags, accept_of, ack_of, collect_of, command_of, disk_of, fail_of, identify_of, is_ascii, line_of, named, read_of, reg_of, reissue_of, serve_of, show_of, write_of};
+ghost use Rattle.ahci_script.specs.Lines.{HasSmallTag, HasSmallTags, accept_of, ack_of, collect_of, command_of, disk_of, fail_of, identify_of, is_ascii, line_of, named, raw_of, read_of, reg_of, reissue_of, serve_of, show_of, write_of};
 
+use crate::hex_bytes::{HexBytes, header};
 use crate::number::{byte, decimal, hexadecimal, page_word, sectors, tag};
 use crate::words::cut;
 
 /// A line of a script, read and not yet run.
-#[derive(Clone, Copy, Debug, PartialEq, Eq)]
-pub enum Line {
+#[derive(Debug, Drop)]
+pub enum Line<'a> {
     /// An empty line or a comment.
     Skip,
     /// A command, which has an answer.
-    Run(Command),
+    Run(ScriptCommand<'a>),
 }
 
 /// A command of a script. A tag is below 32, and sectors are at most 65,536; the other numbers
-/// are any that fit their type.
-#[derive(Clone, Copy, Debug, PartialEq, Eq)]
-pub enum Command {
+/// are any that fit their type. The bytes of a window stand in the line that was read.
+#[derive(Debug, Drop)]
+pub enum ScriptCommand<'a> {
     /// `disk S D`: a new port over a disk of zeros.
     Disk {
         sectors: u64,
@@ -34,6 +35,12 @@ pub enum Command {
         tag: u8,
         lba: u64,
         sectors: u32,
+    },
+    /// `raw T H B`: issues a window of any header and bytes.
+    Raw {
+        tag: u8,
+        header: [u8; 32],
+        bytes: HexBytes<'a>,
     },
     /// `accept T`: the device takes the tag's command.
     Accept {
@@ -83,7 +90,7 @@ pub enum Command {
 }
 
 /// Reads a line, without its line feed. `None` where it is not understood.
-pub fn parse(line: &[u8]) -> Option<Line>
+pub fn parse(line: &[u8]) -> Option<Line<'_>>
     ensures line { result ≡ line_of line.now }
     ensures tags { IfSome result (λ line. HasSmallTags line) }
 {
@@ -101,31 +108,31 @@ pub fn parse(line: &[u8]) -> Option<Line>
 }
 
 /// Whether each byte is below 128.
-fn is_all_ascii(text: &[u8]) -> bool
+pub(crate) fn is_all_ascii(text: &[u8]) -> bool
     ensures { result ≡ is_ascii text.now }
 {
     text.iter().all(|b| *b < 128)
 }
 
 /// A word alone, or a name, a space and the arguments.
-fn spelled(line: &[u8]) -> Option<Command>
+fn spelled(line: &[u8]) -> Option<ScriptCommand<'_>>
     ensures command { result ≡ command_of line.now }
     ensures tag { IfSome result (λ command. HasSmallTag command) }
 {
     if line == b"recover".as_slice() {
-        return Some(Command::Recover);
+        return Some(ScriptCommand::Recover);
     }
     if line == b"flush".as_slice() {
-        return Some(Command::Flush);
+        return Some(ScriptCommand::Flush);
     }
     if line == b"journal".as_slice() {
-        return Some(Command::Journal);
+        return Some(ScriptCommand::Journal);
     }
     let (name, arguments) = cut(line)?;
     by_name(name, arguments)
 }
 
-fn by_name(name: &[u8], arguments: &[u8]) -> Option<Command>
+fn by_name<'a>(name: &[u8], arguments: &'a [u8]) -> Option<ScriptCommand<'a>>
     ensures command { result ≡ named name.now arguments.now }
     ensures tag { IfSome result (λ command. HasSmallTag command) }
 {
@@ -135,6 +142,8 @@ fn by_name(name: &[u8], arguments: &[u8]) -> Option<Command>
         write(arguments)
     } else if name == b"read".as_slice() {
         read(arguments)
+    } else if name == b"raw".as_slice() {
+        raw(arguments)
     } else if name == b"accept".as_slice() {
         accept(arguments)
     } else if name == b"serve".as_slice() {
@@ -158,17 +167,17 @@ fn by_name(name: &[u8], arguments: &[u8]) -> Option<Command>
     }
 }
 
-fn disk(arguments: &[u8]) -> Option<Command>
+fn disk(arguments: &[u8]) -> Option<ScriptCommand<'_>>
     ensures command { result ≡ disk_of arguments.now }
     ensures tag { IfSome result (λ command. HasSmallTag command) }
 {
     let (sectors, depth) = cut(arguments)?;
     let sectors = decimal(sectors)?;
     let depth = decimal(depth)?;
-    Some(Command::Disk { sectors, depth })
+    Some(ScriptCommand::Disk { sectors, depth })
 }
 
-fn write(arguments: &[u8]) -> Option<Command>
+fn write(arguments: &[u8]) -> Option<ScriptCommand<'_>>
     ensures command { result ≡ write_of arguments.now }
     ensures tag { IfSome result (λ command. HasSmallTag command) }
 {
@@ -179,7 +188,7 @@ fn write(arguments: &[u8]) -> Option<Command>
     let lba = decimal(lba)?;
     let sectors = sectors(count)?;
     let fill = byte(fill)?;
-    Some(Command::Write {
+    Some(ScriptCommand::Write {
         tag,
         lba,
         sectors,
@@ -187,7 +196,7 @@ fn write(arguments: &[u8]) -> Option<Command>
     })
 }
 
-fn read(arguments: &[u8]) -> Option<Command>
+fn read(arguments: &[u8]) -> Option<ScriptCommand<'_>>
     ensures command { result ≡ read_of arguments.now }
     ensures tag { IfSome result (λ command. HasSmallTag command) }
 {
@@ -196,26 +205,38 @@ fn read(arguments: &[u8]) -> Option<Command>
     let tag = tag(tag_word)?;
     let lba = decimal(lba)?;
     let sectors = sectors(count)?;
-    Some(Command::Read { tag, lba, sectors })
+    Some(ScriptCommand::Read { tag, lba, sectors })
 }
 
-fn accept(arguments: &[u8]) -> Option<Command>
+fn raw(arguments: &[u8]) -> Option<ScriptCommand<'_>>
+    ensures command { result ≡ raw_of arguments.now }
+    ensures tag { IfSome result (λ command. HasSmallTag command) }
+{
+    let (tag_word, others) = cut(arguments)?;
+    let (header_word, bytes) = cut(others)?;
+    let tag = tag(tag_word)?;
+    let header = header(header_word)?;
+    let bytes = HexBytes::new(bytes)?;
+    Some(ScriptCommand::Raw { tag, header, bytes })
+}
+
+fn accept(arguments: &[u8]) -> Option<ScriptCommand<'_>>
     ensures command { result ≡ accept_of arguments.now }
     ensures tag { IfSome result (λ command. HasSmallTag command) }
 {
     let tag = tag(arguments)?;
-    Some(Command::Accept { tag })
+    Some(ScriptCommand::Accept { tag })
 }
 
-fn serve(arguments: &[u8]) -> Option<Command>
+fn serve(arguments: &[u8]) -> Option<ScriptCommand<'_>>
     ensures command { result ≡ serve_of arguments.now }
     ensures tag { IfSome result (λ command. HasSmallTag command) }
 {
     let tag = tag(arguments)?;
-    Some(Command::Serve { tag })
+    Some(ScriptCommand::Serve { tag })
 }
 
-fn fail(arguments: &[u8]) -> Option<Command>
+fn fail(arguments: &[u8]) -> Option<ScriptCommand<'_>>
     ensures command { result ≡ fail_of arguments.now }
     ensures tag { IfSome result (λ command. HasSmallTag command) }
 {
@@ -224,55 +245,55 @@ fn fail(arguments: &[u8]) -> Option<Command>
     let tag = tag(tag_word)?;
     let error = byte(error)?;
     let lba = decimal(lba)?;
-    Some(Command::Fail { tag, error, lba })
+    Some(ScriptCommand::Fail { tag, error, lba })
 }
 
-fn collect(arguments: &[u8]) -> Option<Command>
+fn collect(arguments: &[u8]) -> Option<ScriptCommand<'_>>
     ensures command { result ≡ collect_of arguments.now }
     ensures tag { IfSome result (λ command. HasSmallTag command) }
 {
     let (tag_word, number) = cut(arguments)?;
     let tag = tag(tag_word)?;
     let number = decimal(number)?;
-    Some(Command::Collect { tag, number })
+    Some(ScriptCommand::Collect { tag, number })
 }
 
-fn reissue(arguments: &[u8]) -> Option<Command>
+fn reissue(arguments: &[u8]) -> Option<ScriptCommand<'_>>
     ensures command { result ≡ reissue_of arguments.now }
     ensures tag { IfSome result (λ command. HasSmallTag command) }
 {
     let tag = tag(arguments)?;
-    Some(Command::Reissue { tag })
+    Some(ScriptCommand::Reissue { tag })
 }
 
-fn reg(arguments: &[u8]) -> Option<Command>
+fn reg(arguments: &[u8]) -> Option<ScriptCommand<'_>>
     ensures command { result ≡ reg_of arguments.now }
     ensures tag { IfSome result (λ command. HasSmallTag command) }
 {
     let off = hexadecimal(arguments)?;
-    Some(Command::Reg { off })
+    Some(ScriptCommand::Reg { off })
 }
 
-fn ack(arguments: &[u8]) -> Option<Command>
+fn ack(arguments: &[u8]) -> Option<ScriptCommand<'_>>
     ensures command { result ≡ ack_of arguments.now }
     ensures tag { IfSome result (λ command. HasSmallTag command) }
 {
     let mask = hexadecimal(arguments)?;
-    Some(Command::Ack { mask })
+    Some(ScriptCommand::Ack { mask })
 }
 
-fn identify(arguments: &[u8]) -> Option<Command>
+fn identify(arguments: &[u8]) -> Option<ScriptCommand<'_>>
     ensures command { result ≡ identify_of arguments.now }
     ensures tag { IfSome result (λ command. HasSmallTag command) }
 {
     let word = page_word(arguments)?;
-    Some(Command::Identify { word })
+    Some(ScriptCommand::Identify { word })
 }
 
-fn show(arguments: &[u8]) -> Option<Command>
+fn show(arguments: &[u8]) -> Option<ScriptCommand<'_>>
     ensures command { result ≡ show_of arguments.now }
     ensures tag { IfSome result (λ command. HasSmallTag command) }
 {
     let lba = decimal(arguments)?;
-    Some(Command::Show { lba })
+    Some(ScriptCommand::Show { lba })
 }

@@ -1,6 +1,7 @@
 ghost use Rattle.std.specs.Prelude.{◌≡◌, ◌≤◌, ◌^◌, length, true, ◌<◌, IfSome};
 ghost use Rattle.std.specs.Char.{is_ascii_digit};
 ghost use Rattle.std.specs.List.{list_all};
+ghost use Rattle.ahci_script.specs.HexBytes.{hex_digit_value};
 ghost use Rattle.ahci_script.specs.Number.{below, byte_of, decimal_below, decimal_of, decimal_value, hex_digit_of, hexadecimal_of, hexadecimal_value, with_digit};
 
 /// A decimal number: 1 to 20 digits, whose value fits 64 bits.
@@ -79,7 +80,7 @@ pub(crate) fn page_word(word: &[u8]) -> Option<u8>
 }
 
 /// The value of a hexadecimal digit, in either case.
-fn hex_digit(b: u8) -> Option<u8>
+pub(crate) fn hex_digit(b: u8) -> Option<u8>
     ensures { result ≡ hex_digit_of b }
 {
     match b {
@@ -88,6 +89,14 @@ fn hex_digit(b: u8) -> Option<u8>
         b'A'..=b'F' => Some(b - b'A' + 10),
         _ => None,
     }
+}
+
+/// The value of a hexadecimal digit, and 0 for any other letter.
+pub(crate) fn hex_digit_value(b: u8) -> u8
+    ensures value { result ≡ hex_digit_value b }
+    ensures small { result < 16 }
+{
+    hex_digit(b).unwrap_or(0)
 }
 
 /// A hexadecimal number: 1 to 8 digits, and nothing before them.

@@ -5,26 +5,26 @@ ghost use Rattle.std.specs.Fmt.{decimal, digit_glyph};
 ghost use Rattle.ahci_script.specs.Answers.{answer_text, hex_of, room_of, sectors_text};
 ghost use Rattle.ahci_script.specs.Said.{said};
 
-use crate::answer::Answer;
+use crate::answer::ScriptAnswer;
 use crate::refusal::name;
 use itoa::Buffer;
 use std::alloc::Allocator;
 
 /// How many bytes a line has at most, but for the sectors of a read.
-const SHORT: usize = 64;
+pub(crate) const SHORT: usize = 64;
 
 /// How many bytes an answer's line has at most.
-pub(crate) fn room_for<A: Allocator>(answer: &Answer<A>) -> usize
+pub(crate) fn room_for<A: Allocator>(answer: &ScriptAnswer<A>) -> usize
     ensures { result ≡ room_of (said answer.now) }
 {
     match answer {
-        Answer::Read { bytes, .. } => SHORT + 3 * (bytes.len() / 512),
+        ScriptAnswer::Read { bytes, .. } => SHORT + 3 * (bytes.len() / 512),
         _ => SHORT,
     }
 }
 
 /// Appends an answer and its line feed.
-pub(crate) fn push_line<T: Allocator, A: Allocator>(text: &mut Vec<u8, T>, answer: &Answer<A>)
+pub(crate) fn push_line<T: Allocator, A: Allocator>(text: &mut Vec<u8, T>, answer: &ScriptAnswer<A>)
     requires { vec_len text.old + room_of (said answer.now) ≤ vec_capacity text.old }
     ensures { text.new.items ≡ text.old.items ++ (answer_text (said answer.now) ++ 10 ∷ []) }
 {
@@ -32,46 +32,46 @@ pub(crate) fn push_line<T: Allocator, A: Allocator>(text: &mut Vec<u8, T>, answe
     push(text, b"\n");
 }
 
-fn push_answer<T: Allocator, A: Allocator>(text: &mut Vec<u8, T>, answer: &Answer<A>)
+fn push_answer<T: Allocator, A: Allocator>(text: &mut Vec<u8, T>, answer: &ScriptAnswer<A>)
     requires { vec_len text.old + room_of (said answer.now) ≤ vec_capacity text.old }
     ensures items { text.new.items ≡ text.old.items ++ answer_text (said answer.now) }
     ensures room { vec_len text.new < vec_capacity text.new }
 {
     match answer {
-        Answer::Disk { sectors, depth } => {
+        ScriptAnswer::Disk { sectors, depth } => {
             push_number(text, b"disk ", *sectors);
             push_number(text, b" ", *depth);
         }
-        Answer::Issued(entry) => push_number(text, b"issued ", *entry),
-        Answer::Accepted(entry) => push_number(text, b"accepted ", *entry),
-        Answer::Completed(entry) => push_number(text, b"completed ", *entry),
-        Answer::FailedStep(entry) => push_number(text, b"failed ", *entry),
-        Answer::Wrote(entry) => push_number(text, b"wrote ", *entry),
-        Answer::Read { entry, bytes } => {
+        ScriptAnswer::Issued(entry) => push_number(text, b"issued ", *entry),
+        ScriptAnswer::Accepted(entry) => push_number(text, b"accepted ", *entry),
+        ScriptAnswer::Completed(entry) => push_number(text, b"completed ", *entry),
+        ScriptAnswer::FailedStep(entry) => push_number(text, b"failed ", *entry),
+        ScriptAnswer::Wrote(entry) => push_number(text, b"wrote ", *entry),
+        ScriptAnswer::Read { entry, bytes } => {
             push_number(text, b"read ", *entry);
             push_sectors(text, bytes);
         }
-        Answer::Failed { entry, error, lba } => {
+        ScriptAnswer::Failed { entry, error, lba } => {
             push_number(text, b"failed ", *entry);
             push(text, &spaced_byte(*error));
             push_number(text, b" ", *lba);
         }
-        Answer::Recovered(tag) => push_number(text, b"recovered ", u64::from(*tag)),
-        Answer::Reissued(tag) => push_number(text, b"reissued ", u64::from(*tag)),
-        Answer::Register(value) => push(text, &eight_digits(*value)),
-        Answer::Acked => push(text, b"acked"),
-        Answer::Word { word, value } => {
+        ScriptAnswer::Recovered(tag) => push_number(text, b"recovered ", u64::from(*tag)),
+        ScriptAnswer::Reissued(tag) => push_number(text, b"reissued ", u64::from(*tag)),
+        ScriptAnswer::Register(value) => push(text, &eight_digits(*value)),
+        ScriptAnswer::Acked => push(text, b"acked"),
+        ScriptAnswer::Word { word, value } => {
             push_number(text, b"word ", u64::from(*word));
             push(text, b" ");
             push(text, &four_digits(u32::from(*value)));
         }
-        Answer::Flushed => push(text, b"flushed"),
-        Answer::Sector { lba, byte } => {
+        ScriptAnswer::Flushed => push(text, b"flushed"),
+        ScriptAnswer::Sector { lba, byte } => {
             push_number(text, b"sector ", *lba);
             push(text, &spaced_byte(*byte));
         }
-        Answer::Journal(entries) => push_number(text, b"journal ", *entries),
-        Answer::Refused(refusal) => {
+        ScriptAnswer::Journal(entries) => push_number(text, b"journal ", *entries),
+        ScriptAnswer::Refused(refusal) => {
             push(text, b"refused ");
             push(text, name(*refusal).as_bytes());
         }
@@ -79,7 +79,7 @@ fn push_answer<T: Allocator, A: Allocator>(text: &mut Vec<u8, T>, answer: &Answe
 }
 
 /// Appends bytes for which there is room.
-fn push<T: Allocator>(text: &mut Vec<u8, T>, more: &[u8])
+pub(crate) fn push<T: Allocator>(text: &mut Vec<u8, T>, more: &[u8])
     requires { vec_len text.old + length more.now ≤ vec_capacity text.old }
     ensures items { text.new.items ≡ text.old.items ++ more.now }
     ensures len { vec_len text.new ≡ vec_len text.old + length more.now }
@@ -91,7 +91,7 @@ fn push<T: Allocator>(text: &mut Vec<u8, T>, more: &[u8])
 }
 
 /// Appends a word and a decimal number.
-fn push_number<T: Allocator>(text: &mut Vec<u8, T>, word: &[u8], number: u64)
+pub(crate) fn push_number<T: Allocator>(text: &mut Vec<u8, T>, word: &[u8], number: u64)
     requires { vec_len text.old + length word.now + 20 ≤ vec_capacity text.old }
     ensures items { text.new.items ≡ text.old.items ++ (word.now ++ decimal number) }
     ensures len { vec_len text.new ≤ vec_len text.old + length word.now + 20 }
@@ -102,7 +102,7 @@ fn push_number<T: Allocator>(text: &mut Vec<u8, T>, word: &[u8], number: u64)
 }
 
 /// Appends sectors of 512 bytes, each by its first byte and behind a space.
-fn push_sectors<T: Allocator>(text: &mut Vec<u8, T>, bytes: &[u8])
+pub(crate) fn push_sectors<T: Allocator>(text: &mut Vec<u8, T>, bytes: &[u8])
     requires { vec_len text.old + 3 * (length bytes.now / 512) ≤ vec_capacity text.old }
     ensures items { text.new.items ≡ text.old.items ++ sectors_text bytes.now (length bytes.now / 512) }
     ensures len { vec_len text.new ≡ vec_len text.old + 3 * (length bytes.now / 512) }
@@ -114,7 +114,7 @@ fn push_sectors<T: Allocator>(text: &mut Vec<u8, T>, bytes: &[u8])
 }
 
 /// A space and the two hexadecimal digits of a byte.
-fn spaced_byte(byte: u8) -> [u8; 3]
+pub(crate) fn spaced_byte(byte: u8) -> [u8; 3]
     ensures { result ≡ 32 ∷ hex_of 2 byte }
 {
     let value = u32::from(byte);

@@ -34,13 +34,13 @@ pub fn ops_of(alloc: Global, jobs: &[Job]) -> Result<Vec<Op>, AllocError> {
     Ok(ops)
 }
 
-/// As many of one chooser.
+/// A chooser for each worker, all of one way.
 pub fn crowd(alloc: Global, one: Way, workers: u32) -> Result<Vec<Way>, AllocError>
     ensures { IfOk result (λ v. vec_len v ≡ workers) }
 {
     let mut choosers = Vec::new(alloc);
-    for _i in 0..workers {
-        choosers.push(one)?;
+    for worker in 0..workers {
+        choosers.push(one.of_worker(worker))?;
     }
     Ok(choosers)
 }
@@ -56,6 +56,16 @@ pub enum Way {
     FailsSecond(u8),
     /// Any step of any tag, by a generator with this state.
     Random(u64),
+}
+
+impl Way {
+    /// What a worker gets: chance isn't the same for all.
+    fn of_worker(self, worker: u32) -> Way {
+        match self {
+            Way::Random(state) => Way::Random(state.wrapping_add(u64::from(worker) << 32)),
+            _ => self,
+        }
+    }
 }
 
 impl Chooser for Way {
@@ -104,14 +114,9 @@ pub fn is_filled(bytes: &[u8], len: usize, byte: u8) -> bool {
     bytes.len() == len && bytes.iter().all(|b| *b == byte)
 }
 
-/// Whether a receipt has one sector of this byte.
-pub fn has_sector(receipts: &[Receipt], index: usize, byte: u8) -> bool {
-    match receipts.get(index) {
-        Some(receipt) => is_filled(receipt.bytes.as_slice(), 512, byte),
-        None => false,
-    }
-}
-
-pub fn holds(rt: &impl Abort, what: &str, fact: bool) {
-    assert!(rt; fact, "{what}");
+/// The byte that a receipt's one sector is filled with.
+pub fn byte_of(receipt: &Receipt) -> Option<u8> {
+    let bytes = receipt.bytes.as_slice();
+    let first = *bytes.first()?;
+    is_filled(bytes, 512, first).then_some(first)
 }

@@ -1,7 +1,9 @@
-//! Tests of what no contract of `ahci_driver` says: that calls succeed with ample memory, the worked stories, which step a
-//! pump takes, and workers that really run.
+//! Tests of what no contract of `ahci_driver` says: that calls succeed with ample memory, the worked stories, which
+//! step a pump takes, and workers that really run.
 #![tactic(auto)]
 
+#[cfg(test)]
+mod beginnings;
 #[cfg(test)]
 mod common;
 #[cfg(test)]

@@ -1,8 +1,8 @@
-//! Whole runs, and what `settle` says of receipts that were changed.
+//! Whole runs, and what `settle` says of receipts that were changed afterwards.
 ghost use Rattle.std.specs.Prelude.{◌≡◌, ◌≤◌, vec_len, IfOk};
 
-use crate::common::{Job, Way, crowd, has_sector, ops_of};
-use ahci_driver::{Open, Receipt, RunEnd, RunFault, SettleFault, run, settle, settle_plainly};
+use crate::common::{Job, Way, byte_of, crowd, op_of};
+use ahci_driver::{Open, Receipt, RunEnd, SettleFault, run, settle, settle_plainly};
 use ahci_port::{DeviceStep, Outcome, Port, Reply};
 use ncq_core::{Bytes, Op};
 use std::alloc::{AllocError, Global};
@@ -11,60 +11,21 @@ use std::sync::Wait;
 use std::test::Fail;
 use std::thread::Threads;
 
-/// How a run is set up.
+/// The jobs of a run.
 #[derive(Clone, Copy, Debug)]
-struct Setting {
-    workers: u32,
-    depth: u32,
-    sectors: usize,
-    byte: u8,
+enum Jobs {
+    None,
+    /// Twelve over three sectors.
+    Few,
+    /// A write of a sector, and a read of it.
+    Pair,
+    /// Thirty-two writes, of which that of job 17 is past the last of 64 sectors.
+    Crowd,
+    /// Four thousand over 64 sectors, of which every third reads.
+    Many,
 }
 
-/// A run of these jobs, if it can be had.
-fn runs<R: Threads + Wait + Sync>(
-    rt: &R,
-    alloc: Global,
-    setting: Setting,
-    jobs: &[Op],
-    one: Way,
-) -> Result<RunEnd, Fail>
-    requires some { 1 ≤ setting.workers }
-    requires most { setting.workers ≤ 32 }
-{
-    let Setting {
-        workers,
-        depth,
-        sectors,
-        byte,
-    } = setting;
-    let port = Port::new(
-        alloc,
-        vec![in alloc; byte; sectors.saturating_mul(512)]?,
-        depth,
-    )?;
-    let choosers = crowd(alloc, one, workers)?;
-    Ok(run(rt, alloc, port, jobs, workers, choosers, &Open)?)
-}
-
-/// Both programs say the same of these receipts.
-fn settles(
-    rt: &impl Abort,
-    alloc: Global,
-    end: &RunEnd,
-    jobs: &[Op],
-    receipts: &[Receipt],
-    workers: u32,
-    wanted: Result<(), SettleFault>,
-)
-    requires { 1 ≤ workers }
-{
-    let plain = settle_plainly(alloc, &end.port, jobs, receipts, workers);
-    assert!(rt; plain == wanted, "{plain:?}, not {wanted:?}");
-    let fast = settle(alloc, &end.port, jobs, receipts, workers);
-    assert!(rt; fast == wanted, "{fast:?}, not {wanted:?}");
-}
-
-static JOBS: [Job; 12] = [
+static FEW: [Job; 12] = [
     Job::Write(0, 0),
     Job::Read(1),
     Job::Write(1, 2),
@@ -79,225 +40,388 @@ static JOBS: [Job; 12] = [
     Job::Read(2),
 ];
 
-/// One byte of a receipt's bytes is changed.
-fn change(alloc: Global, receipts: &mut [Receipt], index: usize) -> Result<(), AllocError> {
+fn count_of(jobs: Jobs) -> u32 {
+    match jobs {
+        Jobs::None => 0,
+        Jobs::Few => 12,
+        Jobs::Pair => 2,
+        Jobs::Crowd => 32,
+        Jobs::Many => 4_000,
+    }
+}
+
+fn job_at(jobs: Jobs, index: u32) -> Job {
+    let lba = u64::from(index % 64);
+    match jobs {
+        Jobs::None | Jobs::Few => FEW[index as usize % 12],
+        Jobs::Pair if index == 0 => Job::Write(0, 0x11),
+        Jobs::Pair => Job::Read(0),
+        Jobs::Crowd => Job::Write(if index == 17 { 64 } else { lba }, (index % 32) as u8),
+        Jobs::Many if index % 3 == 2 => Job::Read(lba),
+        Jobs::Many => Job::Write(lba, (index % 251) as u8),
+    }
+}
+
+fn commands(alloc: Global, jobs: Jobs) -> Result<Vec<Op>, AllocError> {
+    let mut ops = Vec::new(alloc);
+    for index in 0..count_of(jobs) {
+        ops.push(op_of(alloc, job_at(jobs, index))?)?;
+    }
+    Ok(ops)
+}
+
+/// How a run is set up.
+#[derive(Clone, Copy, Debug)]
+struct Setting {
+    workers: u32,
+    depth: u32,
+    sectors: usize,
+    byte: u8,
+    jobs: Jobs,
+    way: Way,
+}
+
+/// A run that has ended, with what it was asked.
+#[derive(Drop)]
+struct Ran {
+    end: RunEnd,
+    jobs: Vec<Op>,
+    workers: u32,
+    ghost some: { 1 ≤ workers },
+}
+
+fn ran_of<R: Threads + Wait + Sync>(rt: &R, alloc: Global, setting: Setting) -> Result<Ran, Fail>
+    requires some { 1 ≤ setting.workers }
+    requires most { setting.workers ≤ 32 }
+{
+    let workers = setting.workers;
+    let image = vec![in alloc; setting.byte; setting.sectors.saturating_mul(512)]?;
+    let port = Port::new(alloc, image, setting.depth)?;
+    let jobs = commands(alloc, setting.jobs)?;
+    let choosers = crowd(alloc, setting.way, workers)?;
+    let end = run(rt, alloc, port, &jobs, workers, choosers, &Open)?;
+    Ok(Ran { end, jobs, workers })
+}
+
+/// What is looked at once a run has ended, or done to its receipts.
+#[derive(Clone, Copy, Debug)]
+enum Look {
+    Settle,
+    /// The plain program takes a time that grows with the square of the journal.
+    SettleInOnePass,
+    /// With no jobs and no receipts.
+    SettleNothing,
+    Receipts,
+    Reply(usize),
+    /// The byte that a receipt's one sector is filled with.
+    Byte(usize),
+    Entries,
+    /// One byte of a receipt's bytes becomes another.
+    Change(usize),
+    Swap(usize, usize),
+    /// The second becomes a copy of the first.
+    Copy(usize, usize),
+    Pop,
+}
+
+#[derive(Clone, Copy, Debug, PartialEq, Eq)]
+enum Said {
+    Settled,
+    Not(SettleFault),
+    /// The two programs don't agree.
+    Differ,
+    Receipts(usize),
+    Reply(Option<Reply>),
+    Byte(Option<u8>),
+    Entries(u64),
+    Done,
+}
+
+impl Ran {
+    fn look(&mut self, alloc: Global, look: Look) -> Result<Said, AllocError> {
+        Ok(match look {
+            Look::Settle => self.settles(alloc, &self.jobs, &self.end.replies),
+            Look::SettleInOnePass => told(settle(
+                alloc,
+                &self.end.port,
+                &self.jobs,
+                &self.end.replies,
+                self.workers,
+            )),
+            Look::SettleNothing => self.settles(alloc, &[], &[]),
+            Look::Receipts => Said::Receipts(self.end.replies.len()),
+            Look::Reply(index) => Said::Reply(self.end.replies.get(index).map(|it| it.reply)),
+            Look::Byte(index) => Said::Byte(self.end.replies.get(index).and_then(byte_of)),
+            Look::Entries => Said::Entries(self.end.port.journal().len()),
+            _ => self.edit(alloc, look)?,
+        })
+    }
+
+    /// What both programs say.
+    fn settles(&self, alloc: Global, jobs: &[Op], receipts: &[Receipt]) -> Said {
+        let fast = settle(alloc, &self.end.port, jobs, receipts, self.workers);
+        if fast == settle_plainly(alloc, &self.end.port, jobs, receipts, self.workers) {
+            told(fast)
+        } else {
+            Said::Differ
+        }
+    }
+
+    fn edit(&mut self, alloc: Global, look: Look) -> Result<Said, AllocError> {
+        let receipts = &mut self.end.replies;
+        match look {
+            Look::Change(index) => change(alloc, receipts, index),
+            Look::Swap(first, second) => {
+                if first < receipts.len() && second < receipts.len() {
+                    receipts.swap(first, second);
+                }
+            }
+            Look::Copy(from, to) => {
+                if from < receipts.len() && to < receipts.len() {
+                    receipts[to] = copy(alloc, &receipts[from])?;
+                }
+            }
+            _ => {
+                receipts.pop();
+            }
+        }
+        Ok(Said::Done)
+    }
+}
+
+fn told(settled: Result<(), SettleFault>) -> Said {
+    match settled {
+        Ok(()) => Said::Settled,
+        Err(fault) => Said::Not(fault),
+    }
+}
+
+fn change(alloc: Global, receipts: &mut [Receipt], index: usize) {
     if let Some(receipt) = receipts.get_mut(index) {
-        let mut bytes = Vec::from_slice(alloc, receipt.bytes.as_slice())?;
+        let empty = Bytes::from_vec(Vec::new(alloc));
+        let mut bytes = std::mem::replace(&mut receipt.bytes, empty).into_vec();
         if let Some(last) = bytes.last_mut() {
             *last ^= 1;
         }
         receipt.bytes = Bytes::from_vec(bytes);
     }
-    Ok(())
 }
 
-#[test]
-fn more_workers_than_tags_settle_their_run(rt: HostRuntime) -> Result<(), Fail> {
-    let alloc = rt.alloc();
-    let jobs = ops_of(alloc, JOBS.as_slice())?;
-    let setting = Setting {
-        workers: 4,
-        depth: 2,
-        sectors: 3,
-        byte: 0x5a,
-    };
-    let mut end = runs(&rt, alloc, setting, &jobs, Way::Highest)?;
-    assert!(rt; has_sector(&end.replies, 5, 0x5a) && has_sector(&end.replies, 11, 0x5a));
-    settles(&rt, alloc, &end, &jobs, &end.replies, 4, Ok(()));
-    settles(&rt, alloc, &end, &[], &[], 4, Err(SettleFault::Extra(0)));
-    change(alloc, &mut end.replies, 5)?;
-    settles(
-        &rt,
-        alloc,
-        &end,
-        &jobs,
-        &end.replies,
-        4,
-        Err(SettleFault::Wrong(5)),
-    );
-    assert!(rt; end.replies.pop().is_some());
-    settles(
-        &rt,
-        alloc,
-        &end,
-        &jobs,
-        &end.replies,
-        4,
-        Err(SettleFault::Count),
-    );
-    Ok(())
+fn copy(alloc: Global, receipt: &Receipt) -> Result<Receipt, AllocError> {
+    let bytes = Vec::from_slice(alloc, receipt.bytes.as_slice())?;
+    Ok(Receipt {
+        reply: receipt.reply,
+        bytes: Bytes::from_vec(bytes),
+    })
 }
 
-#[test]
-fn workers_settle_whatever_their_choosers_answer(rt: HostRuntime) -> Result<(), Fail> {
-    static WAYS: [Way; 3] = [
-        Way::Always(DeviceStep::Serve(31)),
-        Way::Always(DeviceStep::Accept(255)),
-        Way::Always(DeviceStep::Fail {
-            tag: 0,
-            error: 0,
-            at: u64::MAX,
-        }),
-    ];
-    let alloc = rt.alloc();
-    let jobs = ops_of(alloc, JOBS.as_slice())?;
-    let setting = Setting {
-        workers: 4,
-        depth: 2,
-        sectors: 3,
-        byte: 0x5a,
-    };
-    for way in WAYS {
-        let end = runs(&rt, alloc, setting, &jobs, way)?;
-        settles(&rt, alloc, &end, &jobs, &end.replies, 4, Ok(()));
+fn equal(rt: &impl Abort, setting: Setting, look: Look, found: Said, wanted: Said) {
+    assert!(rt;
+        found == wanted,
+        "{setting:?}: {look:?} is {found:?}, not {wanted:?}"
+    );
+}
+
+/// Does a run, and then looks, in this order.
+fn plays<R: Threads + Wait + Sync + Abort>(
+    rt: &R,
+    alloc: Global,
+    setting: Setting,
+    looks: &[(Look, Said)],
+) -> Result<(), Fail>
+    requires some { 1 ≤ setting.workers }
+    requires most { setting.workers ≤ 32 }
+{
+    let mut ran = ran_of(rt, alloc, setting)?;
+    for (look, wanted) in looks {
+        equal(rt, setting, *look, ran.look(alloc, *look)?, *wanted);
     }
     Ok(())
 }
 
+/// Four workers, two tags, three sectors of 5Ah.
+fn few(jobs: Jobs, way: Way) -> Setting
+    ensures { result.workers ≡ 4 }
+{
+    Setting {
+        workers: 4,
+        depth: 2,
+        sectors: 3,
+        byte: 0x5a,
+        jobs,
+        way,
+    }
+}
+
+static IS_SETTLED: [(Look, Said); 1] = [(Look::Settle, Said::Settled)];
+
+static CHANGED: [(Look, Said); 8] = [
+    (Look::Byte(5), Said::Byte(Some(0x5a))),
+    (Look::Byte(11), Said::Byte(Some(0x5a))),
+    (Look::Settle, Said::Settled),
+    (Look::SettleNothing, Said::Not(SettleFault::Extra(0))),
+    (Look::Change(5), Said::Done),
+    (Look::Settle, Said::Not(SettleFault::Wrong(5))),
+    (Look::Pop, Said::Done),
+    (Look::Settle, Said::Not(SettleFault::Count)),
+];
+
+#[test]
+fn more_workers_than_tags_settle_their_run(rt: HostRuntime) -> Result<(), Fail> {
+    plays(
+        &rt,
+        rt.alloc(),
+        few(Jobs::Few, Way::Highest),
+        CHANGED.as_slice(),
+    )
+}
+
+#[test]
+fn workers_settle_whatever_their_choosers_answer(rt: HostRuntime) -> Result<(), Fail> {
+    static STEPS: [DeviceStep; 3] = [
+        DeviceStep::Serve(31),
+        DeviceStep::Accept(255),
+        DeviceStep::Fail {
+            tag: 0,
+            error: 0,
+            at: u64::MAX,
+        },
+    ];
+    for step in STEPS {
+        plays(
+            &rt,
+            rt.alloc(),
+            few(Jobs::Few, Way::Always(step)),
+            IS_SETTLED.as_slice(),
+        )?;
+    }
+    Ok(())
+}
+
+static NOTHING_TO_DO: [(Look, Said); 3] = [
+    (Look::Receipts, Said::Receipts(0)),
+    (Look::Entries, Said::Entries(0)),
+    (Look::Settle, Said::Settled),
+];
+
+#[test]
+fn a_run_of_no_jobs_leaves_the_port_alone(rt: HostRuntime) -> Result<(), Fail> {
+    let setting = few(Jobs::None, Way::Lowest);
+    plays(&rt, rt.alloc(), setting, NOTHING_TO_DO.as_slice())
+}
+
+static FAILED: [(Look, Said); 6] = [
+    (Look::Receipts, Said::Receipts(2)),
+    (
+        Look::Reply(0),
+        Said::Reply(Some(Reply {
+            number: 0,
+            entry: 2,
+            outcome: Outcome::Failed {
+                error: 0x40,
+                lba: 0,
+            },
+        })),
+    ),
+    (
+        Look::Reply(1),
+        Said::Reply(Some(Reply {
+            number: 5,
+            entry: 7,
+            outcome: Outcome::Read,
+        })),
+    ),
+    (Look::Byte(1), Said::Byte(Some(0))),
+    (Look::Entries, Said::Entries(9)),
+    (Look::Settle, Said::Settled),
+];
+
 #[test]
 fn a_failed_write_changes_nothing_and_the_next_job_goes_on(rt: HostRuntime) -> Result<(), Fail> {
-    let alloc = rt.alloc();
-    let jobs = ops_of(alloc, &[Job::Write(0, 0x11), Job::Read(0)])?;
     let setting = Setting {
         workers: 1,
         depth: 1,
         sectors: 8,
         byte: 0,
+        jobs: Jobs::Pair,
+        way: Way::FailsSecond(0),
     };
-    let end = runs(&rt, alloc, setting, &jobs, Way::FailsSecond(0))?;
-    let first = Reply {
-        number: 0,
-        entry: 2,
-        outcome: Outcome::Failed {
-            error: 0x40,
-            lba: 0,
-        },
+    plays(&rt, rt.alloc(), setting, FAILED.as_slice())
+}
+
+/// In a crowd entries are numbered as threads go, so of a reply the outcome alone is known.
+fn fails_alone(rt: &impl Abort, ran: &Ran) {
+    let wanted = Outcome::Failed {
+        error: 0x10,
+        lba: 64,
     };
-    let second = Reply {
-        number: 5,
-        entry: 7,
-        outcome: Outcome::Read,
-    };
-    assert!(rt; end.replies.len() == 2);
-    assert!(rt; end.replies[0].reply == first && end.replies[1].reply == second);
-    assert!(rt; has_sector(&end.replies, 1, 0));
-    assert!(rt; end.port.journal().len() == 9);
-    Ok(())
+    for (index, receipt) in ran.end.replies.iter().enumerate() {
+        let outcome = receipt.reply.outcome;
+        let is_right = outcome == if index == 17 { wanted } else { Outcome::Wrote };
+        assert!(rt; is_right, "job {index} is {outcome:?}");
+    }
 }
 
 #[test]
 fn a_write_past_the_end_fails_alone_in_a_crowd(rt: HostRuntime) -> Result<(), Fail> {
     let alloc = rt.alloc();
-    let mut jobs = Vec::new(alloc);
-    for job in 0..32u8 {
-        let lba = if job == 17 { 64 } else { u64::from(job) };
-        jobs.push(Job::Write(lba, job))?;
-    }
-    let jobs = ops_of(alloc, &jobs)?;
     for depth in [32, 3, 1] {
         let setting = Setting {
             workers: 32,
             depth,
             sectors: 64,
             byte: 0,
+            jobs: Jobs::Crowd,
+            way: Way::Highest,
         };
-        let end = runs(&rt, alloc, setting, &jobs, Way::Highest)?;
-        assert!(rt; end.replies.len() == 32);
-        assert!(rt;
-            end.replies[17].reply.outcome
-                == Outcome::Failed {
-                    error: 0x10,
-                    lba: 64
-                }
+        let mut ran = ran_of(&rt, alloc, setting)?;
+        fails_alone(&rt, &ran);
+        equal(
+            &rt,
+            setting,
+            Look::Settle,
+            ran.look(alloc, Look::Settle)?,
+            Said::Settled,
         );
-        settles(&rt, alloc, &end, &jobs, &end.replies, 32, Ok(()));
     }
     Ok(())
 }
 
 #[test]
 fn two_hundred_runs_by_chance_are_settled(rt: HostRuntime) -> Result<(), Fail> {
-    let alloc = rt.alloc();
-    let jobs = ops_of(alloc, JOBS.as_slice())?;
     for round in 0..200u32 {
-        let depth = match round % 3 {
-            0 => 1,
-            1 => 3,
-            _ => 32,
-        };
-        let workers = 1 + round * 7 % 32;
         let setting = Setting {
-            workers,
-            depth,
+            workers: 1 + round * 7 % 32,
+            depth: [1, 3, 32][round as usize % 3],
             sectors: 8,
             byte: 0x5a,
+            jobs: Jobs::Few,
+            way: Way::Random(u64::from(round)),
         };
-        let end = runs(&rt, alloc, setting, &jobs, Way::Random(u64::from(round)))?;
-        settles(&rt, alloc, &end, &jobs, &end.replies, workers, Ok(()));
+        plays(&rt, rt.alloc(), setting, IS_SETTLED.as_slice())?;
     }
     Ok(())
 }
 
-fn equal(rt: &impl Abort, found: Option<RunFault>, wanted: RunFault) {
-    assert!(rt; found == Some(wanted), "{found:?}, not {wanted:?}");
-}
+static MIXED_UP: [(Look, Said); 7] = [
+    (Look::Receipts, Said::Receipts(4_000)),
+    (Look::Swap(5, 9), Said::Done),
+    (Look::SettleInOnePass, Said::Not(SettleFault::Wrong(5))),
+    (Look::Swap(5, 9), Said::Done),
+    (Look::SettleInOnePass, Said::Settled),
+    (Look::Copy(5, 9), Said::Done),
+    (Look::SettleInOnePass, Said::Not(SettleFault::Wrong(9))),
+];
 
 #[test]
-fn a_run_does_not_begin_on_a_used_port_or_with_a_bad_job(rt: HostRuntime) -> Result<(), Fail> {
-    let alloc = rt.alloc();
-    let mut jobs = ops_of(alloc, &[Job::Read(0), Job::Write(0, 1)])?;
-    let mut port = Port::new(alloc, vec![in alloc; 0; 512]?, 1)?;
-    assert!(rt; port.flush().is_ok());
-    let ended = run(
-        &rt,
-        alloc,
-        port,
-        &jobs,
-        1,
-        crowd(alloc, Way::Lowest, 1)?,
-        &Open,
-    );
-    equal(&rt, ended.err(), RunFault::NotFresh);
-    jobs.push(Op::Read { lba: 0, sectors: 0 })?;
-    let port = Port::new(alloc, vec![in alloc; 0; 512]?, 1)?;
-    let ended = run(
-        &rt,
-        alloc,
-        port,
-        &jobs,
-        1,
-        crowd(alloc, Way::Lowest, 1)?,
-        &Open,
-    );
-    equal(&rt, ended.err(), RunFault::BadJob(2));
-    Ok(())
-}
-
-#[test]
-fn four_thousand_jobs_are_settled_and_swapped_receipts_are_not(
-    rt: HostRuntime,
-) -> Result<(), Fail> {
-    let alloc = rt.alloc();
-    let mut jobs = Vec::new(alloc);
-    for i in 0..4_000u32 {
-        let lba = u64::from(i % 64);
-        jobs.push(if i % 3 == 2 {
-            Job::Read(lba)
-        } else {
-            Job::Write(lba, (i % 251) as u8)
-        })?;
-    }
-    let jobs = ops_of(alloc, &jobs)?;
+fn of_four_thousand_jobs_no_receipt_stands_for_another(rt: HostRuntime) -> Result<(), Fail> {
     let setting = Setting {
         workers: 8,
         depth: 8,
         sectors: 64,
         byte: 0,
+        jobs: Jobs::Many,
+        way: Way::Lowest,
     };
-    let mut end = runs(&rt, alloc, setting, &jobs, Way::Lowest)?;
-    assert!(rt; end.replies.len() == 4_000);
-    end.replies.swap(5, 9);
-    let found = settle(alloc, &end.port, &jobs, &end.replies, 8);
-    assert!(rt; found == Err(SettleFault::Wrong(5)), "{found:?}");
-    Ok(())
+    plays(&rt, rt.alloc(), setting, MIXED_UP.as_slice())
 }

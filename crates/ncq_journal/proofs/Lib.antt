@@ -11,4 +11,6 @@ pub mod AnsweredLemmas
 pub mod OwedLemmas
 pub mod PartLemmas
 pub mod FailedLemmas
+pub mod OthersLemmas
 pub mod PassLemmas
+pub mod PassEventLemmas

@@ -1,6 +1,5 @@
-use Rattle.std.proofs.Common.{◌≡◌, true, sym, ◌∙◌, ap, length}
+use Rattle.std.proofs.Common.{sym, ◌∙◌, ap, length}
 use Rattle.ahci_driver.specs.Tickets.{suits}
-use Rattle.ahci_port.specs.Looking.{read_length}
 use Rattle.ahci_driver.proofs.CollectingLemmas.{not_refused, text_length}
 use Rattle.ahci_driver.proofs.collecting.collect_locked.Goals as goal
 

@@ -7,8 +7,8 @@ use Rattle.ahci_driver.proofs.running.run.Goals as goal
 pub returns-clause-ok : goal.returns-clause-ok
 returns-clause-ok g c =
     has_run c.args.port (map work_of c.args.jobs.now) c.args.workers c.ended.result c.in_default.ensures
-    (subst (λ s. IfOk c.ended.result (λ end. end.port.starting ≡ s)) c.in-Ok-begun.ensures.starting c.ended.ensures.starting)
-    (subst (λ d. IfOk c.ended.result (λ end. end.port.depth ≡ d)) c.in-Ok-begun.ensures.depth c.ended.ensures.depth)
+    (subst (λ s. IfOk c.ended.result (λ end. end.port.starting ≡ s)) c.in-Ok.ensures.starting c.ended.ensures.starting)
+    (subst (λ d. IfOk c.ended.result (λ end. end.port.depth ≡ d)) c.in-Ok.ensures.depth c.ended.ensures.depth)
     c.ended.ensures.settled
 
 pub returns-clause-fault : goal.returns-clause-fault

@@ -9,7 +9,8 @@ pub mark-requires : goal.mark-requires
 mark-requires g c =
     let inside : c.loop-index.index < length c.args.receipts.now = omega arith in
     let at = mapped received_of c.args.receipts.now c.loop-index.index c.index-receipts-index.result inside c.index-receipts-index.is in
-    let low : c.index-receipts-index.result.reply.number < length c.args.port.now.past = right_within c.args.port.now (map work_of c.args.jobs.now) (map received_of c.args.receipts.now) c.args.workers c.loop-index.index (received_of c.index-receipts-index.result)
+    let low : c.index-receipts-index.result.reply.number < length c.args.port.now.past =
+    right_within c.args.port.now (map work_of c.args.jobs.now) (map received_of c.args.receipts.now) c.args.workers c.loop-index.index (received_of c.index-receipts-index.result)
     (c.is_right.ensures.0 c.if-not-is_right.false) at in
     let count : length c.loop-index.seen.items ≡ length c.args.port.now.past = c.loop-index.invariant.seen.count in
     subst (λ x. x.reply.number < length c.loop-index.seen.items) c.index-receipts-index.is (subst (λ n. c.index-receipts-index.result.reply.number < n) (sym count) low)
@@ -19,12 +20,15 @@ loop-index-preserved g c =
     let inside : c.loop-index.index < length c.args.receipts.now = omega arith in
     let at = mapped received_of c.args.receipts.now c.loop-index.index c.index-receipts-index.result inside c.index-receipts-index.is in
     let here = c.is_right.ensures.0 c.if-not-is_right.false in
-    let low : c.index-receipts-index.result.reply.number < length c.args.port.now.past = right_within c.args.port.now (map work_of c.args.jobs.now) (map received_of c.args.receipts.now) c.args.workers c.loop-index.index (received_of c.index-receipts-index.result) here at in
+    let low : c.index-receipts-index.result.reply.number < length c.args.port.now.past =
+    right_within c.args.port.now (map work_of c.args.jobs.now) (map received_of c.args.receipts.now) c.args.workers c.loop-index.index (received_of c.index-receipts-index.result) here at in
     record {
       right = below_more _ _ c.loop-index.invariant.right here;
       seen = subst (λ s. AreSeen (map received_of c.args.receipts.now) (length c.args.port.now.past) (c.loop-index.index + 1) s) (sym c.mark.ensures)
-          (subst (λ x. AreSeen (map received_of c.args.receipts.now) (length c.args.port.now.past) (c.loop-index.index + 1) (set c.loop-index.seen.items x.reply.number true)) c.index-receipts-index.is
-          (seen_more (map received_of c.args.receipts.now) (length c.args.port.now.past) c.loop-index.index c.loop-index.seen.items (received_of c.index-receipts-index.result) at low c.loop-index.invariant.seen));
+          (subst (λ x. AreSeen (map received_of c.args.receipts.now) (length c.args.port.now.past) (c.loop-index.index + 1) (set c.loop-index.seen.items x.reply.number true))
+          c.index-receipts-index.is
+          (seen_more (map received_of c.args.receipts.now) (length c.args.port.now.past) c.loop-index.index c.loop-index.seen.items
+          (received_of c.index-receipts-index.result) at low c.loop-index.invariant.seen));
     }
 
 pub unseen-requires : goal.unseen-requires

@@ -6,9 +6,9 @@ use Rattle.ahci_table.specs.Refusal.{refusal}
 use Rattle.ahci_table.specs.declared.fault.BuildFault.TheVariants.{BadCount, BadLba, OutOfMemory}
 use Rattle.ncq_journal.specs.Work.{lba_of, sectors_of, work_of}
 use Rattle.ahci_script.specs.declared.refusal.Refusal.TheVariants as refused
-use Rattle.ahci_replay.specs.Commands.{HasIssued, RefusedOr}
+use Rattle.ahci_replay.specs.Commands.{AnswersWindow, HasIssued, RefusedOr}
 use Rattle.ahci_replay.specs.Refusals.{issue_refusal}
-use Rattle.ahci_replay.proofs.IssuingLemmas.{address_issue, built_free, built_named, count_issue, free_issue, no_other_fault, port_says}
+use Rattle.ahci_replay.proofs.IssuingLemmas.{address_issue, built_free, built_named, count_issue, fit_answer, free_issue, no_other_fault, port_says}
 use Rattle.ahci_replay.proofs.SessionLemmas.{if_ok_from, refused_as, shown}
 use Rattle.ahci_replay.proofs.issuing.issue.Goals as goal
 
@@ -23,11 +23,12 @@ returns-in-Ok-clause-ok g c =
     let pieces : c.deref.result.now ≡ default_list (sectors_of work) = c.deref.ensures.0 ∙ c.pieces_of-pieces.ensures in
     let free : refusal work (default_list (sectors_of work)) ≡ None = ap (refusal work) (sym pieces) ∙ built_free _ window (refusal work c.deref.result.now) c.in-Ok.ensures.fault in
     let built = c.in-Ok.ensures.bytes in
-    if_ok_from c.issue_window.result (λ x. RefusedOr (port_says old window.tag) old new (said x) (IsIssued window old new × (said x ≡ Issued (length old.past))))
+    if_ok_from c.issue_window.result (λ x. AnswersWindow window old new (said x))
     (λ x. RefusedOr against old new (said x) (HasIssued a.tag work old new (said x))) c.issue_window.ensures.ok
-    (λ x. refused_as (port_says old window.tag) against old new (said x) (IsIssued window old new × (said x ≡ Issued (length old.past))) (HasIssued a.tag work old new (said x))
+    (λ x answer. refused_as (port_says old window.tag) against old new (said x) (IsIssued window old new × (said x ≡ Issued (length old.past))) (HasIssued a.tag work old new (said x))
     (free_issue old a.tag work c.requires.whole free ∙ ap (port_says old) (sym built.tag_is))
-    (λ done. record { window = window; built = rw (← pieces) built; issued = done.0; told = done.1 }))
+    (λ done. record { window = window; built = rw (← pieces) built; issued = done.0; told = done.1 })
+    (fit_answer old new window (said x) c.in-Ok.ensures.fit answer))
 
 pub returns-in-BadCount-clause-ok : goal.returns-in-BadCount-clause-ok
 returns-in-BadCount-clause-ok g c =

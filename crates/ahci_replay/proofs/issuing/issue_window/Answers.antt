@@ -1,7 +1,7 @@
-use Rattle.std.proofs.Common.{◌∙◌, sym}
-use Rattle.ahci_replay.proofs.IssuingLemmas.{fit_is_named}
+use Rattle.std.proofs.Common.{◌∙◌, refl, sym}
+use Rattle.ahci_replay.specs.Commands.{is_refused}
 use Rattle.ahci_replay.proofs.issuing.issue_window.Goals as goal
 
-pub unreachable-requires : goal.unreachable-requires
-unreachable-requires g c =
-    fit_is_named c.args.port.now c.args.window c.in-Err.fault c.requires c.in-Err.ensures.fault (sym c.issue_refusal.ensures ∙ c.in-None.is) c.in_default.not-OutOfMemory
+pub returns-in-Some-clause-ok : goal.returns-in-Some-clause-ok
+returns-in-Some-clause-ok g c =
+    is_refused c.in-Err.fault c.in-Some.refusal c.in-Err.ensures.fault (sym c.issue_refusal.ensures ∙ c.in-Some.is) c.in-Err.ensures.err.1 refl

@@ -1,7 +1,8 @@
 use Rattle.std.proofs.Common.{sym, ◌∙◌}
-use Rattle.ahci_replay.specs.declared.fault.CliFault.TheVariants.{OutOfMemory, Write}
+use Rattle.ahci_script.specs.declared.fault.CliFault.TheVariants.{OutOfMemory, Write}
 use Rattle.ahci_replay.specs.Transcript.{Ends, ReplayedTo, Stops}
-use Rattle.ahci_replay.proofs.EndingLemmas.{all_part_written, all_written, fault_part_written, fault_written, from_start, if_err_from, nothing_replayed}
+use Rattle.ahci_script.proofs.FoundLemmas.{if_err_from}
+use Rattle.ahci_replay.proofs.EndingLemmas.{all_part_written, all_written, fault_part_written, fault_written, from_start, nothing_replayed}
 use Rattle.ahci_replay.proofs.ProgressLemmas.{counts, parts}
 use Rattle.ahci_replay.proofs.replaying.replay.Goals as goal
 

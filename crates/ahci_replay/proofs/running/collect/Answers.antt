@@ -2,7 +2,7 @@ use Rattle.std.proofs.Common.{◌≡◌, inr, refl}
 use Rattle.ahci_port.specs.Faults.{collect_refusal}
 use Rattle.ahci_port.specs.Slots.{bytes_in}
 use Rattle.ahci_script.specs.Said.{said}
-use Rattle.ahci_script.specs.declared.line.Command.TheVariants.{Collect}
+use Rattle.ahci_script.specs.declared.line.ScriptCommand.TheVariants.{Collect}
 use Rattle.ahci_replay.specs.Commands.{RunsOn, outcome_said}
 use Rattle.ahci_replay.specs.Refusals.{of_collect}
 use Rattle.ahci_replay.proofs.SessionLemmas.{collects, if_ok_from, on_err, refused}

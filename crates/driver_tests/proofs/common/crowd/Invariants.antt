@@ -2,5 +2,5 @@
 use Rattle.std.proofs.Common.{◌≡◌, vec_len}
 use Rattle.driver_tests.proofs.common.crowd.Given as goal
 
-abbrev pub invariant-loop-i : goal.invariant-loop-i
-invariant-loop-i l = vec_len l.choosers ≡ l._i
+abbrev pub invariant-loop-worker : goal.invariant-loop-worker
+invariant-loop-worker l = vec_len l.choosers ≡ l.worker

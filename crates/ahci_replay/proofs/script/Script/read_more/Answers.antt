@@ -1,8 +1,9 @@
 use Rattle.std.proofs.Common.{refl, subst, sym}
-use Rattle.ahci_replay.specs.declared.fault.CliFault.TheVariants.{Read, Write}
+use Rattle.ahci_script.specs.declared.fault.CliFault.TheVariants.{Read, Write}
 use Rattle.ahci_script.specs.Unread.{Unread}
 use Rattle.ahci_replay.specs.Transcript.{Stops}
-use Rattle.ahci_replay.proofs.EndingLemmas.{if_err_from, stops_sending}
+use Rattle.ahci_script.proofs.FoundLemmas.{if_err_from}
+use Rattle.ahci_replay.proofs.EndingLemmas.{stops_sending}
 use Rattle.ahci_replay.proofs.ProgressLemmas.{Progress-filled, Progress-sent_same, Progress-trans, counts, parts}
 use Rattle.ahci_replay.proofs.script.Script.read_more.Goals as goal
 

@@ -1,6 +1,7 @@
 use Rattle.std.proofs.Common.{ap}
 use Rattle.ahci_replay.specs.Transcript.{Ends, EndsWith, Stops}
-use Rattle.ahci_replay.proofs.EndingLemmas.{ends_rest, if_err_from, on_ok_from, stops_after, stops_rest}
+use Rattle.ahci_script.proofs.FoundLemmas.{if_err_from, on_ok_from}
+use Rattle.ahci_replay.proofs.EndingLemmas.{ends_rest, stops_after, stops_rest}
 use Rattle.ahci_replay.proofs.ProgressLemmas.{Progress-refl, Progress-trans, counts, same_counts}
 use Rattle.ahci_replay.proofs.script.Script.run.Goals as goal
 

@@ -1,7 +1,8 @@
 use Rattle.std.proofs.Common.{ℕ, ◌+◌, List, drop, refl, sym, ap, ◌∙◌, subst}
-use Rattle.ahci_replay.specs.declared.fault.CliFault.TheVariants.{Write}
+use Rattle.ahci_script.specs.declared.fault.CliFault.TheVariants.{Write}
 use Rattle.ahci_replay.specs.Transcript.{Grown, Progress, Stops}
-use Rattle.ahci_replay.proofs.EndingLemmas.{faulty_line, faulty_long, found_line, if_err_from, stops_at_line, stops_sending_line}
+use Rattle.ahci_script.proofs.FoundLemmas.{found_line, if_err_from}
+use Rattle.ahci_replay.proofs.EndingLemmas.{faulty_line, faulty_long, stops_at_line, stops_sending_line}
 use Rattle.ahci_replay.proofs.ProgressLemmas.{Progress-line, Progress-line_sent, Progress-refl, counts, parts}
 use Rattle.ahci_replay.proofs.script.Script.turn.Goals as goal
 

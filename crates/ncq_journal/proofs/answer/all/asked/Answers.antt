@@ -19,4 +19,5 @@ unreachable-requires-in_default-past g c =
 pub returns : goal.returns
 returns g c =
     let a = asked_there c.args.past.now c.args.tag c.in-Some.request (sym c.in-Some.is ∙ c.requires.number) in
-    a.is ∙ same_request a.r c.in-Some.request c.args.tag c.in-Issue.field-0 (work_of c.in-Issue.op) a.number_is (ap entry_of (sym c.in-Issue.is) ∙ a.issue c.index-past-request.result c.index-past-request.is)
+    a.is ∙ same_request a.r c.in-Some.request c.args.tag c.in-Issue.field-0 (work_of c.in-Issue.op) a.number_is
+    (ap entry_of (sym c.in-Issue.is) ∙ a.issue c.index-past-request.result c.index-past-request.is)

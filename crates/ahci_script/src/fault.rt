@@ -1,7 +1,8 @@
 ghost use Rattle.std.specs.Prelude.{◌≡◌};
-ghost use Rattle.ahci_replay.specs.declared.fault.CliFault.TheVariants as the-fault;
+ghost use Rattle.ahci_script.specs.declared.fault.CliFault.TheVariants as the-fault;
 
-use ahci_script::{InputFailed, OutputFailed};
+use crate::input::InputFailed;
+use crate::output::OutputFailed;
 use std::alloc::AllocError;
 use thiserror::Error;
 
@@ -33,7 +34,7 @@ pub enum CliFault {
 
 impl CliFault {
     ghost use Rattle.std.specs.Prelude.{◌≡◌};
-    ghost use Rattle.ahci_replay.specs.Fault.{status_of};
+    ghost use Rattle.ahci_script.specs.Fault.{status_of};
 
     /// The program's exit status: 3 for want of memory, else 1.
     pub fn status(self) -> u8
@@ -48,10 +49,10 @@ impl CliFault {
 
 impl CliFault {
     ghost use Rattle.std.specs.Prelude.{◌≡◌};
-    ghost use Rattle.ahci_replay.specs.Fault.{is_of_output};
+    ghost use Rattle.ahci_script.specs.Fault.{is_of_output};
 
     /// Whether the output takes no more bytes.
-    pub(crate) fn is_of_output(self) -> bool
+    pub fn is_of_output(self) -> bool
         ensures { result ≡ is_of_output self }
     {
         matches!(self, CliFault::Write)

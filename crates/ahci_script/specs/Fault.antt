@@ -1,7 +1,7 @@
 -- How the program ends at a fault.
 use Rattle.std.specs.Prelude.{ℕ, Bool, true, false}
-use Rattle.ahci_replay.specs.declared.fault.CliFault.{CliFault}
-use Rattle.ahci_replay.specs.declared.fault.CliFault.TheVariants.{OutOfMemory, Write}
+use Rattle.ahci_script.specs.declared.fault.CliFault.{CliFault}
+use Rattle.ahci_script.specs.declared.fault.CliFault.TheVariants.{OutOfMemory, Write}
 
 -- the exit status: 3 for want of memory, 1 for any other fault
 abbrev pub status_of : CliFault → ℕ

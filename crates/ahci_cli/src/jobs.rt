@@ -1,0 +1,43 @@
+ghost use Rattle.std.specs.Prelude.{◌≤◌, IfErr, OnOk};
+ghost use Rattle.ahci_jobs.specs.RunJobs.{EndsRun, RunsJobs};
+
+use ahci_args::Pick;
+use ahci_driver::{High, Low};
+use ahci_script::CliFault;
+use std::alloc::Allocator;
+use std::io::{Read, Write};
+use std::sync::Wait;
+use std::thread::Threads;
+
+/// Does the jobs that the reader gives, as `ahci_jobs::run_jobs` does, with the chooser that is picked.
+pub fn run_jobs<H, R, W, A>(
+    rt: &H,
+    alloc: A,
+    workers: u32,
+    depth: u32,
+    sectors: u32,
+    pick: Pick,
+    reader: &mut R,
+    writer: &mut W,
+) -> Result<(), CliFault>
+where
+    H: Threads + Wait + Sync,
+    R: Read,
+    W: Write,
+    A: Allocator + Clone + Send + Sync,
+    requires some { 1 ≤ workers }
+    requires most { workers ≤ 32 }
+    requires slots { 1 ≤ depth }
+    requires deep { depth ≤ 32 }
+    requires room { 1 ≤ sectors }
+    requires limit { sectors ≤ 131072 }
+    ensures ok { OnOk result (RunsJobs workers depth sectors (R.remaining reader.old) (R.remaining reader.new)
+        (W.contents writer.old) (W.contents writer.new)) }
+    ensures err { IfErr result (EndsRun workers depth sectors (R.remaining reader.old) (R.remaining reader.new)
+        (W.contents writer.old) (W.contents writer.new)) }
+{
+    match pick {
+        Pick::Low => ahci_jobs::run_jobs(rt, alloc, workers, depth, sectors, Low, reader, writer),
+        Pick::High => ahci_jobs::run_jobs(rt, alloc, workers, depth, sectors, High, reader, writer),
+    }
+}

@@ -1,0 +1,132 @@
+-- Lemmas about the run of a job list.
+use Rattle.std.proofs.Common.{
+  ◌≡◌,
+  ◌≢◌,
+  ℕ,
+  zero,
+  suc,
+  ◌<◌,
+  List,
+  [],
+  ◌∷◌,
+  ◌++◌,
+  Option,
+  None,
+  Some,
+  IsSomeAnd,
+  Result,
+  Ok,
+  Err,
+  IfErr,
+  OnErr,
+  length,
+  sym,
+  subst,
+  ap,
+  ◌∙◌,
+  inl,
+  inr,
+  refl,
+  arith,
+}
+use Rattle.std.specs.List.{slice_get}
+use Rattle.ahci_driver.specs.Received.{Received}
+use Rattle.ahci_driver.specs.Running.{HasRun, IsFirstBad, IsGivenUp, IsLate, ProperBelow}
+use Rattle.ahci_driver.specs.declared.run_fault.RunFault.{RunFault}
+use Rattle.ahci_driver.specs.declared.run_fault.RunFault.TheVariants as of_run
+use Rattle.ahci_port.specs.PortView.{PortView}
+use Rattle.ahci_script.specs.Jobs.{job_line_of}
+use Rattle.ahci_script.specs.declared.fault.CliFault.{CliFault}
+use Rattle.ahci_script.specs.declared.fault.CliFault.TheVariants.{Line, Job, Read, Write, Unsettled, Lost, OutOfMemory}
+use Rattle.ahci_script.specs.declared.job.JobLine.{JobLine}
+use Rattle.ahci_script.specs.declared.job.JobLine.TheVariants.{Skip, Do}
+use Rattle.ncq_journal.specs.Lawful.{IsProper}
+use Rattle.ncq_journal.specs.Work.{Work}
+use Rattle.ahci_script.proofs.FoundLemmas.{Bytes}
+use Rattle.ahci_jobs.proofs.ReadingLemmas.{Known}
+use Rattle.ahci_jobs.specs.JobList.{AreGood, IsGood, IsListFault, IsListed, asked_in, command_for, commands_of, no_line, one_more}
+use Rattle.ahci_jobs.specs.Results.{IsTold, SaysPart, run_text}
+use Rattle.ahci_jobs.specs.RunJobs.{EndsRun, HasDone, IsUndone, blank_port}
+
+-- all of these commands can be issued
+abbrev pub AllProper : List Work → Type 0
+AllProper jobs = ProperBelow jobs (length jobs)
+
+proper_none : AllProper []
+proper_none i low = absurd (omega arith)
+
+proper_cons : (work : Work) (more : List Work) → IsProper work → AllProper more → AllProper (work ∷ more)
+proper_cons work more h all zero low = h
+proper_cons work more h all (suc i) low = all i (omega arith)
+
+proper_append : (xs ys : List Work) → AllProper xs → AllProper ys → AllProper (xs ++ ys)
+proper_append [] ys p q = q
+proper_append (x ∷ xs) ys p q = proper_cons x (xs ++ ys) (p 0 (omega arith)) (proper_append xs ys (λ i low. p (suc i) (omega arith)) q)
+
+proper_of : (line : Option JobLine) → IsGood line → AllProper (commands_of line)
+proper_of None h = absurd h
+proper_of (Some Skip) h = proper_none
+proper_of (Some (Do j)) h = proper_cons (command_for j) [] h proper_none
+
+proper_in : (lines : List Bytes) → AreGood lines → AllProper (asked_in lines)
+proper_in _ no_line = proper_none
+proper_in _ (one_more first more own good others) = proper_append (commands_of (job_line_of first)) (asked_in more) (proper_of (job_line_of first) good) (proper_in more others)
+
+-- a job list has jobs whose commands can be issued
+pub listed_proper : (r s : Known) (jobs : List Work) → IsListed r s jobs → AllProper jobs
+listed_proper r s jobs h =
+    subst AllProper (sym h.asked) (proper_append (asked_in h.lines) (commands_of (job_line_of h.rest)) (proper_in h.lines h.good) (proper_of (job_line_of h.rest) h.last))
+
+within : (P : Work → Type 0) (jobs : List Work) (i : ℕ) → IsSomeAnd (slice_get jobs i) P → i < length jobs
+within P [] i h = absurd h
+within P (job ∷ more) zero h = omega arith
+within P (job ∷ more) (suc i) h = let low = within P more i h in omega arith
+
+not_both : (o : Option Work) → IsSomeAnd o IsProper → IsSomeAnd o (λ work. ¬ (IsProper work)) → ⊥
+not_both None h bad = h
+not_both (Some work) h bad = bad h
+
+-- on a new port such jobs are given up for a late reason alone
+pub is_late : (port : PortView) (jobs : List Work) (sectors depth : ℕ) (fault : RunFault) → port ≡ blank_port sectors depth → IsFirstBad jobs None → IsGivenUp port jobs fault → IsLate fault
+is_late port jobs sectors depth of_run.NotFresh is all h = absurd (h (ap (λ p. p.past) is))
+is_late port jobs sectors depth (of_run.BadJob i) is all h =
+    absurd (not_both (slice_get jobs i) (all i (within (λ work. ¬ (IsProper work)) jobs i h.1.1)) h.1.1)
+is_late port jobs sectors depth of_run.OutOfMemory is all h = tt
+is_late port jobs sectors depth (of_run.Lost i) is all h = tt
+is_late port jobs sectors depth of_run.Foreign is all h = tt
+is_late port jobs sectors depth (of_run.Unsettled fault) is all h = tt
+
+-- the list ended early
+pub ends_listing : (f : CliFault) (workers depth sectors : ℕ) (r s c : Known) → IsListFault r s f → EndsRun workers depth sectors r s c c f
+ends_listing (Line n) workers depth sectors r s c h = (h, refl)
+ends_listing (Job i) workers depth sectors r s c h = (h, refl)
+ends_listing Read workers depth sectors r s c h = (h, refl)
+ends_listing OutOfMemory workers depth sectors r s c h = inl refl
+ends_listing Write workers depth sectors r s c h = absurd h
+ends_listing Unsettled workers depth sectors r s c h = absurd h
+ends_listing (Lost i) workers depth sectors r s c h = absurd h
+
+-- the run was given up
+pub ends_running : (f : CliFault) (workers depth sectors : ℕ) (r s c : Known) (jobs : List Work) → IsListed r s jobs → IsUndone f → EndsRun workers depth sectors r s c c f
+ends_running Unsettled workers depth sectors r s c jobs listed h = ((jobs, listed), refl)
+ends_running (Lost i) workers depth sectors r s c jobs listed h = ((jobs, listed), refl)
+ends_running OutOfMemory workers depth sectors r s c jobs listed h = inl refl
+ends_running (Line n) workers depth sectors r s c jobs listed h = absurd h
+ends_running (Job i) workers depth sectors r s c jobs listed h = absurd h
+ends_running Read workers depth sectors r s c jobs listed h = absurd h
+ends_running Write workers depth sectors r s c jobs listed h = absurd h
+
+-- the output took no more
+pub ends_telling : {T : Type 0} (result : Result T CliFault) (workers depth sectors : ℕ) (r s c d : Known) (jobs : List Work) (port : PortView) (replies : List Received)
+    → IsListed r s jobs → HasRun (blank_port sectors depth) port jobs replies workers → OnErr result (SaysPart c [] d (run_text port replies)) → IfErr result IsTold
+    → IfErr result (EndsRun workers depth sectors r s c d)
+ends_telling (Ok x) workers depth sectors r s c d jobs port replies listed ran part told = told
+ends_telling (Err Write) workers depth sectors r s c d jobs port replies listed ran part told =
+    record { jobs = jobs; port = port; replies = replies; listed = listed; ran = ran; told = part }
+ends_telling (Err OutOfMemory) workers depth sectors r s c d jobs port replies listed ran part told =
+    inr (record { jobs = jobs; port = port; replies = replies; listed = listed; ran = ran; told = part })
+ends_telling (Err (Line n)) workers depth sectors r s c d jobs port replies listed ran part told = absurd told
+ends_telling (Err (Job i)) workers depth sectors r s c d jobs port replies listed ran part told = absurd told
+ends_telling (Err Read) workers depth sectors r s c d jobs port replies listed ran part told = absurd told
+ends_telling (Err Unsettled) workers depth sectors r s c d jobs port replies listed ran part told = absurd told
+ends_telling (Err (Lost i)) workers depth sectors r s c d jobs port replies listed ran part told = absurd told

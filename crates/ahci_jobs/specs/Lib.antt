@@ -1,0 +1,4 @@
+pub mod JobList
+pub mod Reading
+pub mod Results
+pub mod RunJobs

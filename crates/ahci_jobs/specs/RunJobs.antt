@@ -1,0 +1,46 @@
+-- A job list from its text to the text of its results.
+use Rattle.std.specs.Prelude.{◌≡◌, ℕ, ◌*◌, List, [], Option, replicate, ◌⊎◌}
+use Rattle.std.specs.Io.KnownBytes.{Appends}
+use Rattle.ahci_driver.specs.Received.{Received}
+use Rattle.ahci_driver.specs.Running.{HasRun}
+use Rattle.ahci_port.specs.PortView.{PortView, new_port}
+use Rattle.ahci_script.specs.declared.fault.CliFault.{CliFault}
+use Rattle.ahci_script.specs.declared.fault.CliFault.TheVariants as fault
+use Rattle.ncq_journal.specs.Work.{Work}
+use Rattle.ahci_jobs.specs.JobList.{IsListFault, IsListed}
+use Rattle.ahci_jobs.specs.Results.{SaysPart, run_text}
+
+-- a new port over a disk of zeros
+abbrev pub blank_port : ℕ → ℕ → PortView
+blank_port sectors depth = new_port (replicate (sectors * 512) 0) depth
+
+-- the jobs of an input were done by so many workers, in a settled run on a disk of zeros; what holds is said of the run's text
+pub record HasDone (workers depth sectors : ℕ) (remaining_old remaining_new : Option (List ℕ)) (P : List ℕ → Type 0) : Type 0 where
+  pub jobs : List Work
+  pub port : PortView
+  pub replies : List Received
+  pub listed : IsListed remaining_old remaining_new jobs
+  pub ran : HasRun (blank_port sectors depth) port jobs replies workers
+  pub told : P (run_text port replies)
+
+-- the whole text is written
+abbrev pub RunsJobs : ℕ → ℕ → ℕ → Option (List ℕ) → Option (List ℕ) → Option (List ℕ) → Option (List ℕ) → Type 0
+RunsJobs workers depth sectors r s c d = HasDone workers depth sectors r s (Appends c d)
+
+-- the faults of a run that was given up
+abbrev pub IsUndone : CliFault → Type 0
+IsUndone fault.Unsettled = Unit {0}
+IsUndone (fault.Lost i) = Unit {0}
+IsUndone fault.OutOfMemory = Unit {0}
+IsUndone _ = ⊥
+
+-- why it isn't. A fault of the input, and a run that isn't settled, come before any text; where the output takes no more, or
+-- memory is wanted, some first part of the text may be written
+abbrev pub EndsRun : ℕ → ℕ → ℕ → Option (List ℕ) → Option (List ℕ) → Option (List ℕ) → Option (List ℕ) → CliFault → Type 0
+EndsRun workers depth sectors r s c d (fault.Line n) = IsListFault r s (fault.Line n) × (d ≡ c)
+EndsRun workers depth sectors r s c d (fault.Job i) = IsListFault r s (fault.Job i) × (d ≡ c)
+EndsRun workers depth sectors r s c d fault.Read = IsListFault r s fault.Read × (d ≡ c)
+EndsRun workers depth sectors r s c d fault.Write = HasDone workers depth sectors r s (SaysPart c [] d)
+EndsRun workers depth sectors r s c d fault.OutOfMemory = (d ≡ c) ⊎ HasDone workers depth sectors r s (SaysPart c [] d)
+EndsRun workers depth sectors r s c d fault.Unsettled = ((jobs : List Work) × IsListed r s jobs) × (d ≡ c)
+EndsRun workers depth sectors r s c d (fault.Lost i) = ((jobs : List Work) × IsListed r s jobs) × (d ≡ c)

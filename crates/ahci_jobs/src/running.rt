@@ -1,0 +1,120 @@
+ghost use Rattle.std.specs.Prelude.{◌≡◌, ◌≤◌, None, map, vec_len, IfErr, IfOk, OnOk};
+ghost use Rattle.ncq_journal.specs.Work.{work_of};
+ghost use Rattle.ahci_driver.specs.Received.{received_of};
+ghost use Rattle.ahci_driver.specs.Running.{HasRun, IsFirstBad, IsLate};
+ghost use Rattle.ahci_jobs.specs.RunJobs.{EndsRun, IsUndone, RunsJobs, blank_port};
+
+use crate::job_list::listed;
+use crate::telling::tell_run;
+use ahci_driver::{Chooser, Open, RunEnd, RunFault, run};
+use ahci_port::Port;
+use ahci_script::CliFault;
+use ncq_core::{MAX_SECTORS, Op};
+use std::alloc::{AllocError, Allocator};
+use std::io::{Read, Write};
+use std::sync::Wait;
+use std::thread::Threads;
+
+/// How many bytes a sector has.
+const SECTOR: usize = 512;
+
+/// The program's fault, where a run that has begun was given up.
+fn cli_fault(fault: RunFault) -> CliFault
+    requires { IsLate fault }
+    ensures { IsUndone result }
+{
+    match fault {
+        RunFault::OutOfMemory => CliFault::OutOfMemory,
+        RunFault::Lost(job) => CliFault::Lost(job as u64),
+        RunFault::Foreign | RunFault::Unsettled(_) => CliFault::Unsettled,
+        // The port is new, and each job was judged as it was read.
+        RunFault::NotFresh | RunFault::BadJob(_) => unreachable!(),
+    }
+}
+
+/// A new port over a disk of zeros.
+fn blank<A: Allocator + Clone>(alloc: A, sectors: u32, depth: u32) -> Result<Port<A>, AllocError>
+    requires some { 1 ≤ sectors }
+    requires most { sectors ≤ MAX_SECTORS }
+    requires slots { 1 ≤ depth }
+    requires deep { depth ≤ 32 }
+    ensures { IfOk result (λ port. port ≡ blank_port sectors depth) }
+{
+    let image = vec![in alloc.clone()?; 0; sectors as usize * SECTOR]?;
+    match Port::new(alloc, image, depth) {
+        Ok(port) => Ok(port),
+        Err(_) => Err(AllocError),
+    }
+}
+
+/// Does the jobs on a new port.
+fn done<H, C, A>(
+    rt: &H,
+    alloc: A,
+    workers: u32,
+    depth: u32,
+    sectors: u32,
+    chooser: C,
+    jobs: &[Op<A>],
+) -> Result<RunEnd<A>, CliFault>
+where
+    H: Threads + Wait + Sync,
+    C: Chooser + Copy + Send + Drop,
+    A: Allocator + Clone + Send + Sync,
+    requires some { 1 ≤ workers }
+    requires most { workers ≤ 32 }
+    requires slots { 1 ≤ depth }
+    requires deep { depth ≤ 32 }
+    requires room { 1 ≤ sectors }
+    requires limit { sectors ≤ MAX_SECTORS }
+    requires jobs { IsFirstBad (map work_of jobs.now) None }
+    ensures ok { IfOk result (λ end. HasRun (blank_port sectors depth) end.port (map work_of jobs.now) (map received_of end.replies.items) workers) }
+    ensures err { IfErr result IsUndone }
+{
+    let port = blank(alloc.clone()?, sectors, depth)?;
+    let choosers = vec![in alloc.clone()?; chooser; workers as usize]?;
+    match run(rt, alloc, port, jobs, workers, choosers, &Open) {
+        Ok(end) => Ok(end),
+        Err(fault) => Err(cli_fault(fault)),
+    }
+}
+
+/// Does the jobs that the reader gives on a disk of zeros, by workers on threads, and writes a line for each job, in the
+/// order of the jobs, and then one for each sector that isn't all zero, rising. All jobs are read and judged before the
+/// first is done. Workers and depth are 1 to 32, sectors 1 to 131,072; the chooser decides what the device does next.
+///
+/// # Errors
+/// `Line` for the first line that is not understood or too long, `Job` for the first job with a bad count or address,
+/// `Read` where the input fails or is too long, whichever comes first in the input; `Unsettled` and `Lost` for a run that
+/// its journal doesn't bear out: all these before anything is written. `Write` where the output fails. `OutOfMemory`.
+pub fn run_jobs<H, R, W, C, A>(
+    rt: &H,
+    alloc: A,
+    workers: u32,
+    depth: u32,
+    sectors: u32,
+    chooser: C,
+    reader: &mut R,
+    writer: &mut W,
+) -> Result<(), CliFault>
+where
+    H: Threads + Wait + Sync,
+    R: Read,
+    W: Write,
+    C: Chooser + Copy + Send + Drop,
+    A: Allocator + Clone + Send + Sync,
+    requires some { 1 ≤ workers }
+    requires most { workers ≤ 32 }
+    requires slots { 1 ≤ depth }
+    requires deep { depth ≤ 32 }
+    requires room { 1 ≤ sectors }
+    requires limit { sectors ≤ MAX_SECTORS }
+    ensures ok { OnOk result (RunsJobs workers depth sectors (R.remaining reader.old) (R.remaining reader.new)
+        (W.contents writer.old) (W.contents writer.new)) }
+    ensures err { IfErr result (EndsRun workers depth sectors (R.remaining reader.old) (R.remaining reader.new)
+        (W.contents writer.old) (W.contents writer.new)) }
+{
+    let jobs = listed(alloc.clone()?, reader)?;
+    let end = done(rt, alloc.clone()?, workers, depth, sectors, chooser, &jobs)?;
+    tell_run(alloc, writer, &end)
+}

@@ -1,0 +1,132 @@
+//! The text of a run: a line for each job, and one for each sector that isn't all zero.
+
+ghost use Rattle.std.specs.Prelude.{◌≡◌, [], ◌<◌, map, IfErr, OnErr, OnOk};
+ghost use Rattle.std.specs.Io.KnownBytes.{Appends};
+ghost use Rattle.ncq_journal.specs.Sector.{sector};
+ghost use Rattle.ahci_port.specs.PortView.{sectors_in};
+ghost use Rattle.ahci_script.specs.Results.{told};
+ghost use Rattle.ahci_driver.specs.Received.{received_of};
+ghost use Rattle.ahci_jobs.specs.Results.{IsTold, Says, SaysPart, fed, is_blank, line_for, replies_text, run_text, sector_text, sectors_text};
+
+use ahci_driver::{Receipt, RunEnd};
+use ahci_port::{Outcome, Port};
+use ahci_script::{CliFault, Output, ResultLine};
+use std::alloc::Allocator;
+use std::io::Write;
+
+/// How many bytes a sector has.
+const SECTOR: usize = 512;
+
+/// Appends a line to what waits, and sends it once enough waits.
+fn tell<W: Write, A: Allocator>(
+    output: &mut Output<A>,
+    writer: &mut W,
+    line: ResultLine<'_>,
+) -> Result<(), CliFault>
+    ensures ok { OnOk result (Says (W.contents writer.old) output.old (W.contents writer.new) output.new (fed (told line.entry))) }
+    ensures err { OnErr result (SaysPart (W.contents writer.old) output.old (W.contents writer.new) (fed (told line.entry))) }
+    ensures fault { IfErr result IsTold }
+{
+    output.put_result(line)?;
+    if output.is_full() {
+        output.send(writer)?;
+    }
+    Ok(())
+}
+
+/// The line of a job's receipt.
+fn line_of<A: Allocator>(receipt: &Receipt<A>) -> ResultLine<'_>
+    ensures { told result ≡ line_for (received_of receipt.now).answer }
+{
+    match receipt.reply.outcome {
+        Outcome::Read => ResultLine::Read(receipt.bytes.as_slice()),
+        Outcome::Wrote => ResultLine::Wrote,
+        Outcome::Failed { error, lba } => ResultLine::Failed { error, lba },
+    }
+}
+
+/// Tells the results of all jobs, in their order.
+fn tell_replies<W: Write, A: Allocator>(
+    output: &mut Output<A>,
+    writer: &mut W,
+    replies: &[Receipt<A>],
+) -> Result<(), CliFault>
+    ensures ok { OnOk result (Says (W.contents writer.old) output.old (W.contents writer.new) output.new (replies_text (map received_of replies.now))) }
+    ensures err { OnErr result (SaysPart (W.contents writer.old) output.old (W.contents writer.new) (replies_text (map received_of replies.now))) }
+    ensures fault { IfErr result IsTold }
+{
+    for receipt in replies {
+        tell(output, writer, line_of(receipt))?;
+    }
+    Ok(())
+}
+
+/// Whether each byte is 0.
+fn is_all_zero(bytes: &[u8]) -> bool
+    ensures { result ≡ is_blank bytes.now }
+{
+    bytes.iter().all(|b| *b == 0)
+}
+
+/// Tells a sector, where it isn't all zero.
+fn tell_sector<W: Write, A: Allocator>(
+    output: &mut Output<A>,
+    writer: &mut W,
+    port: &Port<A>,
+    lba: u32,
+) -> Result<(), CliFault>
+    requires { lba < sectors_in port.now }
+    ensures ok { OnOk result (Says (W.contents writer.old) output.old (W.contents writer.new) output.new
+        (sector_text lba (sector port.now.starting port.now.past lba))) }
+    ensures err { OnErr result (SaysPart (W.contents writer.old) output.old (W.contents writer.new)
+        (sector_text lba (sector port.now.starting port.now.past lba))) }
+    ensures fault { IfErr result IsTold }
+{
+    let lba = u64::from(lba);
+    let mut bytes = [0; SECTOR];
+    port.copy(lba, &mut bytes);
+    if is_all_zero(&bytes) {
+        return Ok(());
+    }
+    tell(
+        output,
+        writer,
+        ResultLine::Sector {
+            lba,
+            byte: bytes[0],
+        },
+    )
+}
+
+/// Tells all sectors that aren't all zero, rising.
+fn tell_sectors<W: Write, A: Allocator>(
+    output: &mut Output<A>,
+    writer: &mut W,
+    port: &Port<A>,
+) -> Result<(), CliFault>
+    ensures ok { OnOk result (Says (W.contents writer.old) output.old (W.contents writer.new) output.new (sectors_text port.now (sectors_in port.now))) }
+    ensures err { OnErr result (SaysPart (W.contents writer.old) output.old (W.contents writer.new) (sectors_text port.now (sectors_in port.now))) }
+    ensures fault { IfErr result IsTold }
+{
+    for lba in 0..port.sectors() {
+        tell_sector(output, writer, port, lba)?;
+    }
+    Ok(())
+}
+
+/// Writes all that there is to tell of a run.
+pub(crate) fn tell_run<W: Write, A: Allocator>(
+    alloc: A,
+    writer: &mut W,
+    end: &RunEnd<A>,
+) -> Result<(), CliFault>
+    ensures ok { OnOk result (Appends (W.contents writer.old) (W.contents writer.new) (run_text end.now.port (map received_of end.now.replies.items))) }
+    ensures err { OnErr result (SaysPart (W.contents writer.old) [] (W.contents writer.new) (run_text end.now.port (map received_of end.now.replies.items))) }
+    ensures fault { IfErr result IsTold }
+{
+    let mut output = Output::new(alloc);
+    tell_replies(&mut output, writer, &end.replies)?;
+    tell_sectors(&mut output, writer, &end.port)?;
+    output.send(writer)?;
+    Ok(())
+}

@@ -1,0 +1,151 @@
+//! Worked job lists: what is written, or the fault that ends them.
+use ahci_driver::{High, Low};
+use ahci_jobs::run_jobs;
+use ahci_script::CliFault;
+use std::alloc::{AllocError, Global};
+use std::process::Abort;
+use std::test::Fail;
+
+/// A job list, its workers, depth and sectors, what it writes, and how it ends.
+type List = (
+    &'static str,
+    (u32, u32, u32),
+    &'static str,
+    Result<(), CliFault>,
+);
+
+static LISTS: [List; 18] = [
+    (
+        "write 0 2 11\nwrite 4 1 22\nread 1 1\nread 4 2\n",
+        (2, 2, 8),
+        "wrote\nwrote\nread 11\nread 22 00\nsector 0 11\nsector 1 11\nsector 4 22\n",
+        Ok(()),
+    ),
+    ("", (2, 2, 8), "", Ok(())),
+    ("# no job\n\n#", (1, 1, 1), "", Ok(())),
+    ("read 0 0\n", (2, 2, 8), "", Err(CliFault::Job(0))),
+    (
+        "read 8 1\nwrite 0 1 33\n",
+        (1, 1, 8),
+        "failed 10 8\nwrote\nsector 0 33\n",
+        Ok(()),
+    ),
+    ("write 0 1 00\n", (1, 1, 1), "wrote\n", Ok(())),
+    (
+        "# the last line has no line feed\n\nwrite 999 1 Ff",
+        (32, 32, 1000),
+        "wrote\nsector 999 ff\n",
+        Ok(()),
+    ),
+    // The first fault in the order of the input ends the list, whichever it is.
+    (
+        "read 0 1\nread 0 65537\n",
+        (1, 1, 8),
+        "",
+        Err(CliFault::Line(2)),
+    ),
+    ("read 0 257\nread\n", (1, 1, 8), "", Err(CliFault::Job(0))),
+    ("read\nread 0 257\n", (1, 1, 8), "", Err(CliFault::Line(1))),
+    (
+        "# jobs alone are numbered\nread 0 1\n\nwrite 281474976710656 1 00\n",
+        (1, 1, 8),
+        "",
+        Err(CliFault::Job(1)),
+    ),
+    (
+        "read 281474976710655 2\n",
+        (1, 1, 8),
+        "failed 10 281474976710655\n",
+        Ok(()),
+    ),
+    ("write 0 1 1\n", (1, 1, 8), "", Err(CliFault::Line(1))),
+    ("write 0 1\n", (1, 1, 8), "", Err(CliFault::Line(1))),
+    ("read 0 1 00\n", (1, 1, 8), "", Err(CliFault::Line(1))),
+    ("read 0  1\n", (1, 1, 8), "", Err(CliFault::Line(1))),
+    ("disk 8 4\n", (1, 1, 8), "", Err(CliFault::Line(1))),
+    ("#\u{80}\n", (1, 1, 8), "", Err(CliFault::Line(1))),
+];
+
+#[test]
+fn each_list_is_done(rt: HostRuntime) {
+    for (list, (workers, depth, sectors), expected, ending) in &LISTS {
+        let mut written = Vec::new(rt.alloc());
+        let mut reader = list.as_bytes();
+        let ended = run_jobs(
+            &rt,
+            rt.alloc(),
+            *workers,
+            *depth,
+            *sectors,
+            Low,
+            &mut reader,
+            &mut written,
+        );
+        assert!(rt;
+            ended == *ending && written.as_slice() == expected.as_bytes(),
+            "{list}: {ended:?}"
+        );
+    }
+}
+
+/// Jobs on sectors of their own, so that their order is no matter: job i writes sector i, or reads sector i + 100.
+fn disjoint(alloc: Global) -> Result<Vec<u8>, AllocError> {
+    let mut list = Vec::new(alloc);
+    for job in 0..60u32 {
+        let line = if job % 3 == 2 {
+            format!(in alloc; "read {} 1\n", job + 100)?
+        } else {
+            format!(in alloc; "write {job} 1 {:02x}\n", job + 1)?
+        };
+        list.extend_from_slice(line.as_bytes())?;
+    }
+    Ok(list)
+}
+
+/// What they write, worked out job by job.
+fn told(alloc: Global) -> Result<Vec<u8>, AllocError> {
+    let mut text = Vec::new(alloc);
+    for job in 0..60u32 {
+        let line: &[u8] = if job % 3 == 2 {
+            b"read 00\n"
+        } else {
+            b"wrote\n"
+        };
+        text.extend_from_slice(line)?;
+    }
+    for job in 0..60u32 {
+        if job % 3 != 2 {
+            let line = format!(in alloc; "sector {job} {:02x}\n", job + 1)?;
+            text.extend_from_slice(line.as_bytes())?;
+        }
+    }
+    Ok(text)
+}
+
+/// Workers and depth.
+static CREWS: [(u32, u32); 6] = [(1, 1), (2, 2), (8, 3), (8, 32), (32, 1), (32, 32)];
+
+#[test]
+fn any_number_of_workers_tells_the_same(rt: HostRuntime) -> Result<(), Fail> {
+    let list = disjoint(rt.alloc())?;
+    let expected = told(rt.alloc())?;
+    for (workers, depth) in &CREWS {
+        let mut written = Vec::new(rt.alloc());
+        let mut reader = list.as_slice();
+        let ended = run_jobs(
+            &rt,
+            rt.alloc(),
+            *workers,
+            *depth,
+            200,
+            High,
+            &mut reader,
+            &mut written,
+        );
+        assert!(rt;
+            ended == Ok(()) && written.as_slice() == expected.as_slice(),
+            "{workers} workers, depth {depth}: {ended:?}"
+        );
+    }
+    Ok(())
+}

@@ -1,0 +1,85 @@
+//! A reader that fails after every number of bytes, and a writer that takes any number of bytes and no more.
+use ahci_driver::Low;
+use ahci_jobs::run_jobs;
+use ahci_script::CliFault;
+use std::io;
+use std::io::{Read, Write};
+use std::process::Abort;
+
+static LIST: &[u8] = b"write 0 2 11\nwrite 4 1 22\nread 1 1\nread 4 2\n";
+
+static TOLD: &[u8] = b"wrote\nwrote\nread 11\nread 22 00\nsector 0 11\nsector 1 11\nsector 4 22\n";
+
+/// A reader that gives its bytes one by one, and then fails.
+#[derive(Drop)]
+struct Broken<'a> {
+    bytes: &'a [u8],
+}
+
+impl Read for Broken<'_> {
+    fn read(&mut self, buf: &mut [u8]) -> io::Result<usize> {
+        if self.bytes.is_empty() {
+            return Err(io::Error::from(io::ErrorKind::Interrupted));
+        }
+        let count = buf.len().min(1);
+        buf[..count].copy_from_slice(&self.bytes[..count]);
+        self.bytes = &self.bytes[count..];
+        Ok(count)
+    }
+}
+
+/// A writer that takes so many bytes, and then none.
+#[derive(Drop)]
+struct Full {
+    written: Vec<u8>,
+    room: usize,
+}
+
+impl Write for Full {
+    fn write(&mut self, buf: &[u8]) -> io::Result<usize> {
+        let count = self.room.min(buf.len());
+        self.written.extend_from_slice(&buf[..count])?;
+        self.room -= count;
+        Ok(count)
+    }
+
+    fn flush(&mut self) -> io::Result<()> {
+        Ok(())
+    }
+}
+
+#[test]
+fn a_reader_may_fail_after_any_byte(rt: HostRuntime) {
+    for count in 0..=LIST.len() {
+        let mut reader = Broken {
+            bytes: &LIST[..count],
+        };
+        let mut written = Vec::new(rt.alloc());
+        let ended = run_jobs(&rt, rt.alloc(), 2, 2, 8, Low, &mut reader, &mut written);
+        assert!(rt;
+            ended == Err(CliFault::Read) && written.is_empty(),
+            "after {count} bytes: {ended:?}"
+        );
+    }
+}
+
+#[test]
+fn a_writer_may_take_any_number_of_bytes(rt: HostRuntime) {
+    for room in 0..=TOLD.len() {
+        let mut reader = LIST;
+        let mut writer = Full {
+            written: Vec::new(rt.alloc()),
+            room,
+        };
+        let ended = run_jobs(&rt, rt.alloc(), 2, 2, 8, Low, &mut reader, &mut writer);
+        let expected = if room < TOLD.len() {
+            Err(CliFault::Write)
+        } else {
+            Ok(())
+        };
+        assert!(rt;
+            ended == expected && writer.written.as_slice() == &TOLD[..room],
+            "room for {room} bytes: {ended:?}"
+        );
+    }
+}
