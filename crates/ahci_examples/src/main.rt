@@ -29,6 +29,7 @@ static SCRIPTS: [&str; 10] = [
 
 /// A job list by its name: `NAME.jobs` is the list and `NAME.out` what it writes. Workers and depth are 1 to 32, sectors 1
 /// to 131,072.
+#[derive(Drop)]
 struct JobList {
     name: &'static str,
     workers: u32,

@@ -2,5 +2,9 @@
 //! and readers and writers that fail.
 #![tactic(auto)]
 
+#[cfg(test)]
+mod common;
+#[cfg(test)]
 mod lists;
+#[cfg(test)]
 mod streams;

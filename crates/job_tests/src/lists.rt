@@ -1,18 +1,13 @@
 //! Worked job lists: what is written, or the fault that ends them.
+use crate::common::{Crew, done};
 use ahci_driver::{High, Low};
-use ahci_jobs::run_jobs;
 use ahci_script::CliFault;
 use std::alloc::{AllocError, Global};
 use std::process::Abort;
 use std::test::Fail;
 
-/// A job list, its workers, depth and sectors, what it writes, and how it ends.
-type List = (
-    &'static str,
-    (u32, u32, u32),
-    &'static str,
-    Result<(), CliFault>,
-);
+/// A job list, its crew, what it writes, and how it ends.
+type List = (&'static str, Crew, &'static str, Result<(), CliFault>);
 
 static LISTS: [List; 18] = [
     (
@@ -68,21 +63,12 @@ static LISTS: [List; 18] = [
 
 #[test]
 fn each_list_is_done(rt: HostRuntime) {
-    for (list, (workers, depth, sectors), expected, ending) in &LISTS {
+    for (list, crew, expected, ending) in &LISTS {
         let mut written = Vec::new(rt.alloc());
         let mut reader = list.as_bytes();
-        let ended = run_jobs(
-            &rt,
-            rt.alloc(),
-            *workers,
-            *depth,
-            *sectors,
-            Low,
-            &mut reader,
-            &mut written,
-        );
+        let ended = done(&rt, rt.alloc(), *crew, Low, &mut reader, &mut written);
         assert!(rt;
-            ended == *ending && written.as_slice() == expected.as_bytes(),
+            ended == Some(*ending) && written.as_slice() == expected.as_bytes(),
             "{list}: {ended:?}"
         );
     }
@@ -122,29 +108,26 @@ fn told(alloc: Global) -> Result<Vec<u8>, AllocError> {
     Ok(text)
 }
 
-/// Workers and depth.
-static CREWS: [(u32, u32); 6] = [(1, 1), (2, 2), (8, 3), (8, 32), (32, 1), (32, 32)];
+static CREWS: [Crew; 6] = [
+    (1, 1, 200),
+    (2, 2, 200),
+    (8, 3, 200),
+    (8, 32, 200),
+    (32, 1, 200),
+    (32, 32, 200),
+];
 
 #[test]
 fn any_number_of_workers_tells_the_same(rt: HostRuntime) -> Result<(), Fail> {
     let list = disjoint(rt.alloc())?;
     let expected = told(rt.alloc())?;
-    for (workers, depth) in &CREWS {
+    for crew in &CREWS {
         let mut written = Vec::new(rt.alloc());
         let mut reader = list.as_slice();
-        let ended = run_jobs(
-            &rt,
-            rt.alloc(),
-            *workers,
-            *depth,
-            200,
-            High,
-            &mut reader,
-            &mut written,
-        );
+        let ended = done(&rt, rt.alloc(), *crew, High, &mut reader, &mut written);
         assert!(rt;
-            ended == Ok(()) && written.as_slice() == expected.as_slice(),
-            "{workers} workers, depth {depth}: {ended:?}"
+            ended == Some(Ok(())) && written.as_slice() == expected.as_slice(),
+            "workers, depth and sectors {crew:?}: {ended:?}"
         );
     }
     Ok(())

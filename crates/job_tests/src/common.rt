@@ -1,0 +1,42 @@
+//! A job list, done by a crew.
+ghost use Rattle.std.specs.Prelude.{◌≤◌};
+
+use ahci_driver::Chooser;
+use ahci_jobs::run_jobs;
+use ahci_script::CliFault;
+use std::alloc::Global;
+use std::io::{Read, Write};
+use std::sync::Wait;
+use std::thread::Threads;
+
+/// Workers, depth and sectors.
+pub type Crew = (u32, u32, u32);
+
+/// Does the jobs that the reader gives. A crew out of its ranges does none, which no test expects.
+pub fn done<H, R, W, C>(
+    rt: &H,
+    alloc: Global,
+    crew: Crew,
+    chooser: C,
+    reader: &mut R,
+    writer: &mut W,
+) -> Option<Result<(), CliFault>>
+where
+    H: Threads + Wait + Sync,
+    R: Read,
+    W: Write,
+    C: Chooser + Copy + Send + Drop,
+{
+    let (workers, depth, sectors) = crew;
+    if 1 <= workers
+        && workers <= 32
+        && 1 <= depth
+        && depth <= 32
+        && 1 <= sectors
+        && sectors <= 1_000
+    {
+        Some(run_jobs(rt, alloc, workers, depth, sectors, chooser, reader, writer))
+    } else {
+        None
+    }
+}
