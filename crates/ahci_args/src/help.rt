@@ -71,8 +71,8 @@ Jobs, one a line, numbered from 0:
   write LBA N BB   write N sectors of the byte BB, from the sector LBA on
   read LBA N       read N sectors, from the sector LBA on
 
-LBA and N are decimal numbers, N from 0 to 65536; a job may have 1 to 256 sectors, and an
-LBA below 2^48. BB is two hexadecimal digits. An empty line, and a line that begins with #,
+LBA and N are decimal numbers, N from 0 to 131072; a job may have 1 to 65536 sectors, and
+an LBA below 2^48. BB is two hexadecimal digits. An empty line, and a line that begins with #,
 is skipped and is no job. Nothing is written before all jobs are read and done.
 
 Written then, a line for each job in the order of the jobs:

@@ -67,6 +67,7 @@ impl<A: Allocator> Slot<A> {
     pub(crate) fn issued(number: u64, command: Command, window: Window<A>) -> Self
         requires fit { IsFit window }
         requires list { command.pieces.items ≡ pieces window }
+        requires queued { command.queued ≡ queued_of window }
         ensures { result ≡ issued_slot number command.queued window }
     {
         Slot {

@@ -13,7 +13,6 @@ use crate::list::{are_apart, total};
 use crate::piece::Piece;
 use crate::window::{MAX_BYTES, Window};
 use arrayvec::ArrayVec;
-use ncq_core::MAX_COUNT;
 use sata_fis::{Fis, Queued, decode, queued};
 use std::alloc::Allocator;
 
@@ -45,9 +44,6 @@ impl<A: Allocator> Window<A> {
         };
         if queued.tag != self.tag {
             return Err(TableFault::WrongTag);
-        }
-        if queued.sectors > MAX_COUNT {
-            return Err(TableFault::TooLong);
         }
         let Some(pieces) = self.whole_list(queued.sectors) else {
             return Err(TableFault::BadList);
