@@ -46,7 +46,12 @@ static LISTS: [List; 19] = [
         Err(CliFault::Line(2)),
     ),
     ("read 0 65537\nread\n", (1, 1, 8), "", Err(CliFault::Job(0))),
-    ("read\nread 0 65537\n", (1, 1, 8), "", Err(CliFault::Line(1))),
+    (
+        "read\nread 0 65537\n",
+        (1, 1, 8),
+        "",
+        Err(CliFault::Line(1)),
+    ),
     (
         "# jobs alone are numbered\nread 0 1\n\nwrite 281474976710656 1 00\n",
         (1, 1, 8),
