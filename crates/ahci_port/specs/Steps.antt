@@ -77,7 +77,7 @@ pub record IsServed (tag : ℕ) (w : WindowState) (old new : PortView) (answer :
   pub answer_is : answer ≡ Completed (length old.past)
   pub appended : Appends old new (Complete tag)
   pub registers_are : new.registers ≡ registers.completed old.registers tag
-  pub area_is : new.area ≡ put_at bits_place (completed_bytes tag) (put_at setup_place (setup_bytes (queued_of w)) old.area)
+  pub area_is : new.area ≡ put_at bits_place (completed_bytes (2 ^ tag)) (put_at setup_place (setup_bytes (queued_of w)) old.area)
   pub moved : HasMoved tag (op w) w old new
 
 -- the device fails a command: a Set Device Bits FIS with ERR
