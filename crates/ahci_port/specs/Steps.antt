@@ -1,6 +1,6 @@
 -- What each call of the port does, where it is taken: one entry is appended to the journal, the registers move by the
 -- writes and FISes of the call, and its FISes stand at their places in the received FIS area.
-use Rattle.std.specs.Prelude.{◌≡◌, ◌≢◌, ℕ, max, Bool, true, false, nat_lt, ◌∷◌, length, None, Some, IsSomeAnd, slice_set}
+use Rattle.std.specs.Prelude.{◌≡◌, ◌≢◌, ◌^◌, ℕ, max, Bool, true, false, nat_lt, ◌∷◌, length, None, Some, IsSomeAnd, slice_set}
 use Rattle.ahci_table.specs.Command.{op, queued_of}
 use Rattle.ahci_table.specs.Scatter.{IsScattered}
 use Rattle.ahci_table.specs.Window.{WindowState}

@@ -47,6 +47,11 @@ serve-setup-requires-clause-running g c =
     let t = serving _ _ _ _ _ _ _ c.args.tag c.args.self.now c.self.invariant (ap (λ p. p.past) c.self.view_is) (sym c.serve_fault.ensures ∙ c.in_default.is) in
     t.served_now
 
+pub place-requires : goal.place-requires
+place-requires g c =
+    let t = serving _ _ _ _ _ _ _ c.args.tag c.args.self.now c.self.invariant (ap (λ p. p.past) c.self.view_is) (sym c.serve_fault.ensures ∙ c.in_default.is) in
+    t.owner.low
+
 pub receive_bits-requires : goal.receive_bits-requires
 receive_bits-requires g c =
     let t = serving _ _ _ _ _ _ _ c.args.tag c.args.self.now c.self.invariant (ap (λ p. p.past) c.self.view_is) (sym c.serve_fault.ensures ∙ c.in_default.is) in
