@@ -7,6 +7,7 @@ use std::process::Abort;
 use std::test::Fail;
 
 mod hostile;
+mod raw;
 mod streams;
 
 /// A line and its answer, with none where the line is skipped.
