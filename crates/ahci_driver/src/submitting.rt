@@ -1,4 +1,4 @@
-ghost use Rattle.std.specs.Prelude.{◌≡◌, ◌<◌, ◌≤◌, length, None, IfOk, IfErr, OnOk};
+ghost use Rattle.std.specs.Prelude.{◌≡◌, ◌<◌, length, None, IfOk, IfErr, OnOk};
 ghost use Rattle.ncq_journal.specs.Work.{work_of, sectors_of};
 ghost use Rattle.ahci_table.specs.Build.{Carries};
 ghost use Rattle.ahci_table.specs.Defaults.{default_list};

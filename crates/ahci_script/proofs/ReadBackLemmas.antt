@@ -1,5 +1,5 @@
 -- Every printed command is read back, command by command.
-use Rattle.std.proofs.Common.{◌≡◌, ℕ, ◌^◌, ◌<◌, ◌≤◌, true, List, length, refl, ap, ◌∙◌, Option, Some, codes, option_and_then, arith}
+use Rattle.std.proofs.Common.{◌≡◌, ℕ, ◌^◌, ◌<◌, true, List, length, refl, ap, ◌∙◌, Option, Some, codes, option_and_then, arith}
 use Rattle.std.specs.Fmt.{decimal}
 use Rattle.std.specs.List.{All}
 use Rattle.ahci_script.specs.Answers.{hex_of}

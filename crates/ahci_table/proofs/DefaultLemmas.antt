@@ -7,7 +7,6 @@ use Rattle.std.proofs.Common.{
   ◌+◌,
   ◌-◌,
   ◌*◌,
-  ◌/◌,
   ◌%◌,
   ◌^◌,
   ◌<◌,
@@ -37,7 +36,7 @@ use Rattle.std.proofs.Common.{
 use Rattle.std.specs.Int.{div_ceil}
 use Rattle.std.specs.List.{list_all, list_any, range_with_len}
 use Rattle.std.proofs.Math.Nat.{mul-suc, mul-le-mul_left}
-use Rattle.std.proofs.lemmas.Bool.{le-ltb, le-leb, leb-true, leb-false, ltb-false, eqb-true, or_parts, true≢false}
+use Rattle.std.proofs.lemmas.Bool.{le-ltb, le-leb, leb-true, ltb-false, eqb-true, or_parts, true≢false}
 use Rattle.std.proofs.lemmas.List.FromFn.{length-map-range_with_len}
 use Rattle.ahci_table.specs.Defaults.{default_list, default_piece, sectors_apiece}
 use Rattle.ahci_table.specs.Piece.{are_apart, end_of, is_apart, total}

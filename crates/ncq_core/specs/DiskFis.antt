@@ -1,6 +1,6 @@
 -- The FISes that the disk sends (Serial ATA, "FIS types"; the status and error bits: ACS-3, "Status field" and "Error
 -- field"). Status 40h is DRDY, 48h DRDY with DRQ, 41h DRDY with ERR; error 04h is ABRT, 10h IDNF.
-use Rattle.std.specs.Prelude.{ℕ, Bool, ◌*◌, ◌^◌, true, false, not, List}
+use Rattle.std.specs.Prelude.{ℕ, Bool, ◌*◌, true, false, not, List}
 use Rattle.sata_fis.specs.Fields.{D2hFields, PioSetupFields, DmaSetupFields, SetBitsFields, QueuedFields}
 use Rattle.sata_fis.specs.Encoding.{d2h_bytes, pio_setup_bytes, dma_setup_bytes, set_bits_bytes, encoded}
 use Rattle.sata_fis.specs.declared.fis.Fis.TheVariants.{DmaActivate}
