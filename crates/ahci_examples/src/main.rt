@@ -68,7 +68,8 @@ fn main(rt: HostRuntime) -> anyhow::Result<()> {
     for name in SCRIPTS {
         tell(&rt, name, is_script_as_expected(&rt, name)?)?;
     }
-    for list in &job_lists() {
+    let lists = job_lists();
+    for list in &lists[..] {
         tell(&rt, list.name, is_list_as_expected(&rt, &rt, list)?)?;
     }
     Ok(())
