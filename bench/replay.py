@@ -17,12 +17,15 @@ TOP = os.path.dirname(os.path.dirname(os.path.abspath(__file__)))
 PROGRAM = os.path.join(TOP, "crates", "ahci", "out", "ahci")
 
 # how many commands, and how many sectors each of them has
-SCRIPTS = [(10_000, 1), (100_000, 1), (1_000_000, 1), (2_000, 256)]
+SCRIPTS = [(10_000, 1), (100_000, 1), (1_000_000, 1), (2_000, 256), (20, 65_536)]
+
+# the most sectors of a disk
+MOST = 131_072
 
 
 def write_script(out, commands, sectors):
     """Writes the script, and answers how many lines it has."""
-    places = 128
+    places = min(128, MOST // sectors)
     out.write(f"disk {places * sectors} {DEPTH}\n")
     lines = 1
     entry = 0
@@ -42,28 +45,32 @@ def write_script(out, commands, sectors):
     return lines
 
 
-def seconds_of(path):
-    """The time of one run, with its answers thrown away."""
+def cost_of(path):
+    """The time of one run, with its answers thrown away, and the most memory that it had, in KiB."""
     with open(path, "rb") as script, open(os.devnull, "wb") as answers:
         begun = time.perf_counter()
-        subprocess.run([PROGRAM, "replay"], stdin=script, stdout=answers, check=True)
-        return time.perf_counter() - begun
+        program = subprocess.Popen([PROGRAM, "replay"], stdin=script, stdout=answers)
+        _, status, used = os.wait4(program.pid, 0)
+        seconds = time.perf_counter() - begun
+    if status:
+        sys.exit("bench: the program has failed")
+    return seconds, used.ru_maxrss
 
 
 def main():
     rounds = int(sys.argv[1]) if len(sys.argv) > 1 else 3
     if not os.path.exists(PROGRAM):
         sys.exit("bench: the program is not built yet: run ./ahci --version first")
-    print("| commands | sectors each | lines | seconds | microseconds a command | MB of data a second |")
-    print("|---|---|---|---|---|---|")
+    print("| commands | sectors each | lines | seconds | microseconds a command | MB of data a second | MiB of memory |")
+    print("|---|---|---|---|---|---|---|")
     for commands, sectors in SCRIPTS:
         with tempfile.TemporaryDirectory() as folder:
             path = os.path.join(folder, "script")
             with open(path, "w", encoding="ascii") as out:
                 lines = write_script(out, commands, sectors)
-            best = min(seconds_of(path) for _ in range(rounds))
+            best, memory = min(cost_of(path) for _ in range(rounds))
         rate = commands * sectors * 512 / best / 1e6
-        print(f"| {commands:,} | {sectors} | {lines:,} | {best:.3f} | {best / commands * 1e6:.2f} | {rate:,.0f} |", flush=True)
+        print(f"| {commands:,} | {sectors} | {lines:,} | {best:.3f} | {best / commands * 1e6:.2f} | {rate:,.0f} | {memory / 1024:,.0f} |", flush=True)
 
 
 if __name__ == "__main__":

@@ -20,6 +20,7 @@ pub(crate) const REPLAY_HELP: &str = "Commands of a script:
   disk S D         a disk of S sectors of zeros, and D slots: the first command
   write T LBA N BB issue a write of N sectors of the byte BB with tag T
   read T LBA N     issue a read of N sectors with tag T
+  raw T H B        issue the window of tag T with the header H and the bytes B
   accept T         the device takes the command of tag T
   serve T          the device moves the data of tag T, and completes it
   fail T EE LBA    the device fails the command of tag T at a sector, with error EE
@@ -34,7 +35,8 @@ pub(crate) const REPLAY_HELP: &str = "Commands of a script:
   journal          how many entries the journal has
 
 S, D, T, LBA, N, K and W are decimal numbers. BB and EE are two hexadecimal digits,
-OFF and MASK one to eight. An empty line, and a line that begins with #, is skipped.
+OFF and MASK one to eight, H 64, and B two for each byte. An empty line, and a line that
+begins with #, is skipped.
 A command that the port refuses changes nothing: its answer is 'refused' and a name,
 and the script goes on.
 
@@ -71,8 +73,8 @@ Jobs, one a line, numbered from 0:
   write LBA N BB   write N sectors of the byte BB, from the sector LBA on
   read LBA N       read N sectors, from the sector LBA on
 
-LBA and N are decimal numbers, N from 0 to 65536; a job may have 1 to 256 sectors, and an
-LBA below 2^48. BB is two hexadecimal digits. An empty line, and a line that begins with #,
+LBA and N are decimal numbers, N from 0 to 131072; a job may have 1 to 65536 sectors, and
+an LBA below 2^48. BB is two hexadecimal digits. An empty line, and a line that begins with #,
 is skipped and is no job. Nothing is written before all jobs are read and done.
 
 Written then, a line for each job in the order of the jobs:

@@ -1,14 +1,15 @@
 -- The default pieces of any count, and a tag that is given back.
-use Rattle.std.proofs.Common.{◌≡◌, ℕ, ◌-◌, ◌^◌, ◌<◌, Bool, false, cond, min, List, [], map, ◌+◌, ◌/◌, ap, sym, ◌∙◌, arith, inl, inr}
+use Rattle.std.proofs.Common.{◌≡◌, ℕ, ◌-◌, ◌^◌, ◌<◌, Bool, false, cond, min, List, [], map, ap, sym, ◌∙◌, arith, inl, inr}
+use Rattle.std.specs.Int.{div_ceil}
 use Rattle.std.specs.List.{range_with_len}
 use Rattle.std.proofs.lemmas.Bool.{cases_lt, cases_eq, lt-leb}
-use Rattle.ahci_table.specs.Defaults.{default_list, default_piece}
+use Rattle.ahci_table.specs.Defaults.{default_list, default_piece, sectors_apiece}
 use Rattle.ncq_journal.specs.Lawful.{most_sectors}
 use Rattle.word_bits.specs.Places.{has_place, with_place, without_place}
 use Rattle.word_bits.proofs.PlacesLemmas.{same_sets, length-with_place, length-without_place, has_place-with_other, has_place-without_other, has_place-without_same}
 
 no_pieces : (n : ℕ) → most_sectors < n → default_list n ≡ []
-no_pieces n h = ap (λ b. cond b (map (default_piece n) (range_with_len 0 ((n + 7) / 8))) []) (lt-leb n most_sectors h)
+no_pieces n h = ap (λ b. cond b (map (default_piece n (sectors_apiece n)) (range_with_len 0 (div_ceil n (sectors_apiece n)))) []) (lt-leb n most_sectors h)
 
 -- a count that no word holds has no pieces, and neither has the largest word
 pub capped : (n : ℕ) → default_list (min n (2 ^ 32 - 1)) ≡ default_list n

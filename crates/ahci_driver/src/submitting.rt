@@ -1,4 +1,4 @@
-ghost use Rattle.std.specs.Prelude.{◌≡◌, ◌<◌, ◌≤◌, length, None, IfOk, IfErr, OnOk};
+ghost use Rattle.std.specs.Prelude.{◌≡◌, ◌<◌, length, None, IfOk, IfErr, OnOk};
 ghost use Rattle.ncq_journal.specs.Work.{work_of, sectors_of};
 ghost use Rattle.ahci_table.specs.Build.{Carries};
 ghost use Rattle.ahci_table.specs.Defaults.{default_list};
@@ -9,7 +9,8 @@ ghost use Rattle.ahci_driver.specs.Submitting.{IsNotBuilt, buffer_for, default_r
 
 use crate::ticket::Ticket;
 use ahci_port::{IssueFault, Port};
-use ahci_table::{BuildFault, Window, default_pieces};
+use ahci_table::{BuildFault, Piece, Window, default_pieces};
+use arrayvec::ArrayVec;
 use ncq_core::Op;
 use std::alloc::{AllocError, Allocator};
 
@@ -40,8 +41,15 @@ pub fn submit_locked<A: Allocator + Clone>(
     }
 }
 
-/// The window of a command over the default pieces, and the buffer for its answer.
+/// The default pieces of a command. A count that 32 bits don't hold has none, and neither has the largest that they hold.
 #[tactic(auto, using(crate::proofs::SubmittingLemmas::capped))]
+fn pieces_for<A: Allocator>(op: &Op<A>) -> ArrayVec<Piece, 32>
+    ensures { result.items ≡ default_list (sectors_of (work_of op.now)) }
+{
+    default_pieces(op.sectors().min(u64::from(u32::MAX)) as u32)
+}
+
+/// The window of a command over the default pieces, and the buffer for its answer.
 pub(crate) fn prepared<A: Allocator + Clone>(
     alloc: A,
     tag: u8,
@@ -53,9 +61,8 @@ pub(crate) fn prepared<A: Allocator + Clone>(
     ensures built { OnOk result (default_refusal (work_of op.now) ≡ None) }
     ensures fault { IfErr result (IsNotBuilt (work_of op.now)) }
 {
-    let sectors = op.sectors().min(u64::from(u32::MAX)) as u32;
     let spare: Result<A, AllocError> = alloc.clone();
-    let window = Window::build(alloc, tag, op, &default_pieces(sectors))?;
+    let window = Window::build(alloc, tag, op, &pieces_for(op))?;
     let Ok(spare) = spare else {
         return Err(BuildFault::OutOfMemory);
     };

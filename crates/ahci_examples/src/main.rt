@@ -14,7 +14,8 @@ use std::thread::Threads;
 
 /// The scripts by name: `NAME.ahci` is the script, `NAME.out` its answers and `NAME.err`, where it is
 /// there, the fault that ends it.
-static SCRIPTS: [&str; 10] = [
+static SCRIPTS: [&str; 11] = [
+    "any_window",
     "broken_write",
     "crowd",
     "error_in_a_queue",

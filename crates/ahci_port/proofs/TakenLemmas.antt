@@ -9,7 +9,7 @@ use Rattle.ncq_journal.specs.declared.phase.Phase.{Phase}
 use Rattle.ncq_journal.specs.declared.phase.Phase.TheVariants.{Free, Issued, Accepted, Rejected, Broken, Held, Done}
 use Rattle.ncq_journal.specs.Entry.{Entry}
 use Rattle.ncq_journal.specs.Halted.{halted}
-use Rattle.ncq_journal.specs.Lawful.{IsProper}
+use Rattle.ncq_journal.specs.Lawful.{IsProper, most_sectors}
 use Rattle.ncq_journal.specs.Phase.{phase}
 use Rattle.ahci_port.specs.Faults.{MayTake, early_refusal}
 use Rattle.ahci_port.specs.Keeping.{HasSlot}
@@ -45,16 +45,15 @@ vacant_slot starting past tag None h e = refl
 vacant_slot starting past tag (Some slot) h e = absurd (h.taken (sym h.phase_is ∙ e))
 
 -- the command of a fit window can be issued
-pub op_proper : (w : WindowState) → IsFit w → (queued_of w).lba < 2 ^ 48 → 1 ≤ (queued_of w).sectors → IsProper (op w)
-op_proper w fit low some = by (queued_of w).write refl
+pub op_proper : (w : WindowState) → IsFit w → (queued_of w).lba < 2 ^ 48 → 1 ≤ (queued_of w).sectors → (queued_of w).sectors ≤ most_sectors → IsProper (op w)
+op_proper w fit low some short = by (queued_of w).write refl
   where
     by : (b : Bool) → (queued_of w).write ≡ b → IsProper (op w)
-    by false e = subst IsProper (sym (op_read w e)) (record { some = some; most = fit.short; lba = low; whole = tt })
+    by false e = subst IsProper (sym (op_read w e)) (record { some = some; most = short; lba = low; whole = tt })
     by true e =
         let sized = fit_sized w fit in
-        let short = fit.short in
         let bytes = text w in
         let whole : length (text w) ≡ 512 * (length (text w) / 512) = omega arith in
         let few : 1 ≤ length (text w) / 512 = omega arith in
-        let most : length (text w) / 512 ≤ 256 = omega arith in
+        let most : length (text w) / 512 ≤ most_sectors = omega (arith, sized, short) in
         subst IsProper (sym (op_write w e)) (record { some = few; most = most; lba = low; whole = whole })

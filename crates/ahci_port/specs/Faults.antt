@@ -62,7 +62,6 @@ RefusesIssue port w issue.SlotOwned = (halted port.past ≡ false) × (w.tag < p
 RefusesIssue port w issue.BadHeader = MayTake port w.tag × Breaks w table.BadHeader
 RefusesIssue port w issue.BadCommand = MayTake port w.tag × Breaks w table.BadCommand
 RefusesIssue port w issue.WrongTag = MayTake port w.tag × Breaks w table.WrongTag
-RefusesIssue port w issue.TooLong = MayTake port w.tag × Breaks w table.TooLong
 RefusesIssue port w issue.BadList = MayTake port w.tag × Breaks w table.BadList
 RefusesIssue port w issue.OutOfMemory = MayTake port w.tag × IsFit w
 

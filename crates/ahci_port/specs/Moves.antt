@@ -107,5 +107,4 @@ abbrev pub issue_fault_of : TableFault → IssueFault
 issue_fault_of table.BadHeader = issue.BadHeader
 issue_fault_of table.BadCommand = issue.BadCommand
 issue_fault_of table.WrongTag = issue.WrongTag
-issue_fault_of table.TooLong = issue.TooLong
 issue_fault_of table.BadList = issue.BadList

@@ -1,6 +1,6 @@
 -- What each call of the port does, where it is taken: one entry is appended to the journal, the registers move by the
 -- writes and FISes of the call, and its FISes stand at their places in the received FIS area.
-use Rattle.std.specs.Prelude.{◌≡◌, ◌≢◌, ℕ, max, Bool, true, false, nat_lt, ◌∷◌, length, None, Some, IsSomeAnd, slice_set}
+use Rattle.std.specs.Prelude.{◌≡◌, ◌≢◌, ◌^◌, ℕ, max, Bool, true, false, nat_lt, ◌∷◌, length, None, Some, IsSomeAnd, slice_set}
 use Rattle.ahci_table.specs.Command.{op, queued_of}
 use Rattle.ahci_table.specs.Scatter.{IsScattered}
 use Rattle.ahci_table.specs.Window.{WindowState}
@@ -77,7 +77,7 @@ pub record IsServed (tag : ℕ) (w : WindowState) (old new : PortView) (answer :
   pub answer_is : answer ≡ Completed (length old.past)
   pub appended : Appends old new (Complete tag)
   pub registers_are : new.registers ≡ registers.completed old.registers tag
-  pub area_is : new.area ≡ put_at bits_place (completed_bytes tag) (put_at setup_place (setup_bytes (queued_of w)) old.area)
+  pub area_is : new.area ≡ put_at bits_place (completed_bytes (2 ^ tag)) (put_at setup_place (setup_bytes (queued_of w)) old.area)
   pub moved : HasMoved tag (op w) w old new
 
 -- the device fails a command: a Set Device Bits FIS with ERR

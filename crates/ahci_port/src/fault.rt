@@ -13,8 +13,6 @@ pub enum IssueFault {
     BadCommand,
     /// The command's tag is not the window's.
     WrongTag,
-    /// The command has more sectors than one may have.
-    TooLong,
     /// The PRDT is none that the port takes.
     BadList,
     /// Room for a write's bytes or for the request's entries was refused.

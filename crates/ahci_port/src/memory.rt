@@ -19,7 +19,9 @@ pub(crate) struct Memory<A: Allocator = Global> {
 
 impl<A: Allocator> Model for Memory<A> {
     ghost use Rattle.ahci_port.specs.Memory.{MemoryState};
-    ghost use Rattle.std.specs.Prelude.{◌≡◌};
+    ghost use Rattle.std.specs.Prelude.{◌≡◌, ◌≤◌};
+    ghost use Rattle.ncq_journal.specs.Lawful.{most_sectors};
+    ghost use Rattle.ahci_table.specs.Command.{queued_of};
     ghost use Rattle.ahci_table.specs.Fit.{IsFit};
     ghost use Rattle.ahci_table.specs.Prdt.{pieces};
 
@@ -27,11 +29,13 @@ impl<A: Allocator> Model for Memory<A> {
 
     ghost view = { λ m. record { window = m.window; setup = m.setup; offset = m.offset } };
 
-    ghost invariant = { λ m. IsFit m.window × (m.list.items ≡ pieces m.window) };
+    ghost invariant = { λ m. IsFit m.window × (m.list.items ≡ pieces m.window) × ((queued_of m.window).sectors ≤ most_sectors) };
 }
 
 impl<A: Allocator> Memory<A> {
-    ghost use Rattle.std.specs.Prelude.{◌≡◌};
+    ghost use Rattle.std.specs.Prelude.{◌≡◌, ◌≤◌};
+    ghost use Rattle.ncq_journal.specs.Lawful.{most_sectors};
+    ghost use Rattle.ahci_table.specs.Command.{queued_of};
     ghost use Rattle.ahci_table.specs.Fit.{IsFit};
     ghost use Rattle.ahci_table.specs.Prdt.{pieces};
 
@@ -39,6 +43,7 @@ impl<A: Allocator> Memory<A> {
     pub(crate) fn of(window: Window<A>, list: ArrayVec<Piece, 32>) -> Self
         requires fit { IsFit window }
         requires list { list.items ≡ pieces window }
+        requires short { (queued_of window).sectors ≤ most_sectors }
         ensures { result.window ≡ window }
     {
         Memory {

@@ -4,7 +4,7 @@ ghost use Rattle.ahci_table.specs.Command.{cfis, queued_of};
 ghost use Rattle.ahci_table.specs.Fit.{IsFit};
 ghost use Rattle.ahci_table.specs.Prdt.{pieces};
 ghost use Rattle.ahci_table.specs.Text.{text};
-ghost use Rattle.ncq_core.specs.DiskFis.{setup_bytes, completed_bytes};
+ghost use Rattle.ncq_core.specs.DiskFis.{setup_bytes};
 ghost use Rattle.ncq_core.specs.DiskState.{command_of};
 ghost use Rattle.ncq_core.specs.Serving.{HasMoved, serve_fault, served};
 ghost use Rattle.ahci_port.specs.Memory.{IsKept};
@@ -44,13 +44,6 @@ impl<A: Allocator> Model for Slot<A> {
     ghost view = { λ s. record { number = s.number; is_write = s.is_write; lba = s.lba; sectors = s.sectors; phase = s.phase; ended = s.ended; window = s.memory.window } };
 }
 
-/// What serving a command sends: the DMA Setup FIS and the Set Device Bits FIS.
-#[derive(Clone, Copy)]
-pub(crate) struct Served {
-    pub(crate) setup: [u8; 28],
-    pub(crate) bits: [u8; 8],
-}
-
 /// How a command ends that doesn't fail.
 fn outcome_of(is_write: bool) -> Outcome
     ensures { result ≡ outcome_of is_write }
@@ -67,6 +60,7 @@ impl<A: Allocator> Slot<A> {
     pub(crate) fn issued(number: u64, command: Command, window: Window<A>) -> Self
         requires fit { IsFit window }
         requires list { command.pieces.items ≡ pieces window }
+        requires queued { command.queued ≡ queued_of window }
         ensures { result ≡ issued_slot number command.queued window }
     {
         Slot {
@@ -123,8 +117,8 @@ impl<A: Allocator> Slot<A> {
         self.phase = self.phase.recovered();
     }
 
-    /// The disk serves the command, over the window's memory, and completes it at an entry.
-    pub(crate) fn serve(&mut self, disk: &mut Disk<A>, tag: u8, entry: u64) -> Served
+    /// The disk serves the command, over the window's memory, and completes it at an entry. The DMA Setup FIS is answered.
+    pub(crate) fn serve(&mut self, disk: &mut Disk<A>, tag: u8, entry: u64) -> [u8; 28]
         requires fit { IsFit self.old.window }
         requires there { command_of disk.old tag ≡ Some (queued_of self.old.window) }
         requires running { serve_fault disk.old tag ≡ None }
@@ -133,17 +127,15 @@ impl<A: Allocator> Slot<A> {
         ensures fit { IsFit self.new.window }
         ensures kept { IsKept self.old.window self.new.window }
         ensures slot { self.new ≡ served_slot self.old entry self.new.window }
-        ensures setup { result.setup ≡ setup_bytes (queued_of self.old.window) }
-        ensures bits { result.bits ≡ completed_bytes tag }
+        ensures setup { result ≡ setup_bytes (queued_of self.old.window) }
     {
-        let bits = disk.serve(tag, &mut self.memory).unwrap();
-        let setup = self.memory.setup;
+        disk.serve(tag, &mut self.memory).unwrap();
         self.phase = Phase::Done;
         self.ended = Some(Ended {
             entry,
             outcome: outcome_of(self.is_write),
         });
-        Served { setup, bits }
+        self.memory.setup
     }
 
     /// The command FIS: the first 20 bytes of CFIS (AHCI 1.3.1, section 4.2.3).

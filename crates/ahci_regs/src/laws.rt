@@ -1,6 +1,8 @@
 //! What follows from the contracts of `PortRegs`. The functions change nothing: each stands for its clauses.
-ghost use Rattle.std.specs.Prelude.{◌≡◌, ◌≤◌, ℕ, true, false, IfOk};
+ghost use Rattle.std.specs.Prelude.{◌≡◌, ◌≤◌, ℕ, Bool, true, false, bit_or, IfOk};
 ghost use Rattle.word_bits.specs.Places.{bits, has_place, no_places};
+ghost use Rattle.ahci_regs.specs.PortState.{PortState};
+ghost use Rattle.ahci_regs.specs.Receiving.{after_bits};
 ghost use Rattle.ahci_regs.specs.RegisterTable.{offset_of};
 ghost use Rattle.ahci_regs.specs.Reading.{command_word, read_of};
 ghost use Rattle.ahci_regs.specs.Writing.{write_of};
@@ -52,3 +54,10 @@ pub fn command_can_be_written_back(regs: &PortRegs)
 {
     regs.keeps_its_rules();
 }
+
+/// One Set Device Bits FIS that names the commands of two does what the two do, one after the other, where status, error and
+/// the I bit are the same.
+pub fn one_fis_ends_the_commands_of_two()
+    ensures { (s : PortState) → (status error : ℕ) → (i : Bool) → (first second : ℕ)
+        → after_bits (after_bits s status error i first) status error i second ≡ after_bits s status error i (bit_or first second) }
+{}

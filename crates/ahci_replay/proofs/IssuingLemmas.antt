@@ -134,8 +134,7 @@ early_names port w issue.SlotOwned fit is memory =
 early_names port w issue.BadHeader fit is memory = absurd (is.1 fit.header)
 early_names port w issue.BadCommand fit is memory = absurd (is.1.1 fit.command)
 early_names port w issue.WrongTag fit is memory = absurd (is.1.2 fit.tag)
-early_names port w issue.TooLong fit is memory = absurd (is.1.3 fit.short)
-early_names port w issue.BadList fit is memory = absurd (is.1.4 fit.listed)
+early_names port w issue.BadList fit is memory = absurd (is.1.3 fit.listed)
 early_names port w issue.OutOfMemory fit is memory = absurd (memory refl)
 
 -- what is answered of a window that is fit

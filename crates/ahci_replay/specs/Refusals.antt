@@ -32,7 +32,6 @@ use Rattle.ahci_script.specs.declared.refusal.Refusal.TheVariants.{
   BadHeader,
   BadCommand,
   WrongTag,
-  TooLong,
   BadList,
   Halted,
   NotIssued,
@@ -58,7 +57,6 @@ of_issue issue.SlotOwned = Some SlotOwned
 of_issue issue.BadHeader = Some BadHeader
 of_issue issue.BadCommand = Some BadCommand
 of_issue issue.WrongTag = Some WrongTag
-of_issue issue.TooLong = Some TooLong
 of_issue issue.BadList = Some BadList
 of_issue issue.OutOfMemory = None
 

@@ -18,7 +18,6 @@ pub(crate) fn issue_refusal(fault: IssueFault) -> Option<Refusal>
         IssueFault::BadHeader => Some(Refusal::BadHeader),
         IssueFault::BadCommand => Some(Refusal::BadCommand),
         IssueFault::WrongTag => Some(Refusal::WrongTag),
-        IssueFault::TooLong => Some(Refusal::TooLong),
         IssueFault::BadList => Some(Refusal::BadList),
         IssueFault::OutOfMemory => None,
     }

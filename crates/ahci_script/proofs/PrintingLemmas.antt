@@ -52,7 +52,7 @@ use Rattle.std.specs.List.{All, list_all, position_or_len}
 use Rattle.std.specs.Option.{is_some, unwrap_or}
 use Rattle.ahci_script.specs.Answers.{hex_of}
 use Rattle.ahci_script.specs.HexBytes.{header_of, hex_bytes_of, hex_digit_value, is_hex_digit, pairs_of}
-use Rattle.ahci_script.specs.Number.{below, byte_of, decimal_below, decimal_of, decimal_value, hex_digit_of, hexadecimal_of, hexadecimal_value, is_decimal, with_digit, with_hex_digit}
+use Rattle.ahci_script.specs.Number.{below, byte_of, decimal_below, decimal_of, decimal_value, hex_digit_of, hexadecimal_of, hexadecimal_value, is_decimal, sectors_limit, with_digit, with_hex_digit}
 use Rattle.ahci_script.specs.Printing.{before, hex_bytes}
 use Rattle.ahci_script.specs.Words.{cut_of}
 
@@ -120,7 +120,7 @@ decimal-back n h =
     cond-true (is_decimal (decimal n)) (below (2 ^ 64) (decimal_value (decimal n))) None is ∙ ap (below (2 ^ 64)) d.value ∙ below-back (2 ^ 64) n h
 
 -- and so is one below a limit
-pub decimal_below-back : (limit n : ℕ) → limit ≤ 65537 → n < limit → decimal_below limit (decimal n) ≡ Some n
+pub decimal_below-back : (limit n : ℕ) → limit ≤ sectors_limit → n < limit → decimal_below limit (decimal n) ≡ Some n
 decimal_below-back limit n few h = ap (option_and_then (below limit)) (decimal-back n (omega arith)) ∙ below-back limit n h
 
 -- a decimal number has no space in it

@@ -1,11 +1,11 @@
 -- Every printed command is read back, command by command.
-use Rattle.std.proofs.Common.{◌≡◌, ℕ, ◌^◌, ◌<◌, ◌≤◌, true, List, length, refl, ap, ◌∙◌, Option, Some, codes, option_and_then, arith}
+use Rattle.std.proofs.Common.{◌≡◌, ℕ, ◌^◌, ◌<◌, true, List, length, refl, ap, ◌∙◌, Option, Some, codes, option_and_then, arith}
 use Rattle.std.specs.Fmt.{decimal}
 use Rattle.std.specs.List.{All}
 use Rattle.ahci_script.specs.Answers.{hex_of}
 use Rattle.ahci_script.specs.HexBytes.{header_of, hex_bytes_of}
 use Rattle.ahci_script.specs.Lines.{accept_of, ack_of, collect_of, command_of, disk_of, fail_of, identify_of, named, raw_of, read_of, reg_of, reissue_of, serve_of, show_of, write_of}
-use Rattle.ahci_script.specs.Number.{byte_of, decimal_below, decimal_of, hexadecimal_of}
+use Rattle.ahci_script.specs.Number.{byte_of, decimal_below, decimal_of, hexadecimal_of, sectors_limit}
 use Rattle.ahci_script.specs.Printing.{IsReadBack, before, hex_bytes}
 use Rattle.ahci_script.specs.Words.{cut_of}
 use Rattle.ahci_script.specs.declared.line.ScriptCommand.{ScriptCommand}
@@ -40,21 +40,21 @@ number-back n f y h next = then (decimal_of (decimal n)) n f y (decimal-back n h
 disk-back : (sectors depth : ℕ) → sectors < 2 ^ 64 → depth < 2 ^ 64 → disk_of (before (decimal sectors) (decimal depth)) ≡ Some (Disk sectors depth)
 disk-back sectors depth s d = cut_off (decimal sectors) (decimal depth) _ _ (decimal-word sectors s) (number-back sectors _ _ s (number-back depth _ _ d refl))
 
-write-back : (tag lba sectors fill : ℕ) → tag < 32 → lba < 2 ^ 64 → sectors ≤ 65536 → fill < 256
+write-back : (tag lba sectors fill : ℕ) → tag < 32 → lba < 2 ^ 64 → sectors < sectors_limit → fill < 256
     → write_of (before (decimal tag) (before (decimal lba) (before (decimal sectors) (hex_of 2 fill)))) ≡ Some (Write tag lba sectors fill)
 write-back tag lba sectors fill t l n b =
     cut_off (decimal tag) (before (decimal lba) (before (decimal sectors) (hex_of 2 fill))) _ _ (tag-word tag t)
     (cut_off (decimal lba) (before (decimal sectors) (hex_of 2 fill)) _ _ (decimal-word lba l)
     (cut_off (decimal sectors) (hex_of 2 fill) _ _ (decimal-word sectors (omega arith))
     (tag-back tag _ _ t (number-back lba _ _ l
-    (then (decimal_below 65537 (decimal sectors)) sectors _ _ (decimal_below-back 65537 sectors (omega arith) (omega arith))
+    (then (decimal_below sectors_limit (decimal sectors)) sectors _ _ (decimal_below-back sectors_limit sectors (omega arith) n)
     (then (byte_of (hex_of 2 fill)) fill _ _ (byte-back fill b) refl))))))
 
-read-back : (tag lba sectors : ℕ) → tag < 32 → lba < 2 ^ 64 → sectors ≤ 65536 → read_of (before (decimal tag) (before (decimal lba) (decimal sectors))) ≡ Some (Read tag lba sectors)
+read-back : (tag lba sectors : ℕ) → tag < 32 → lba < 2 ^ 64 → sectors < sectors_limit → read_of (before (decimal tag) (before (decimal lba) (decimal sectors))) ≡ Some (Read tag lba sectors)
 read-back tag lba sectors t l n =
     cut_off (decimal tag) (before (decimal lba) (decimal sectors)) _ _ (tag-word tag t)
     (cut_off (decimal lba) (decimal sectors) _ _ (decimal-word lba l)
-    (tag-back tag _ _ t (number-back lba _ _ l (then (decimal_below 65537 (decimal sectors)) sectors _ _ (decimal_below-back 65537 sectors (omega arith) (omega arith)) refl))))
+    (tag-back tag _ _ t (number-back lba _ _ l (then (decimal_below sectors_limit (decimal sectors)) sectors _ _ (decimal_below-back sectors_limit sectors (omega arith) n) refl))))
 
 fail-back : (tag error lba : ℕ) → tag < 32 → error < 256 → lba < 2 ^ 64 → fail_of (before (decimal tag) (before (hex_of 2 error) (decimal lba))) ≡ Some (Fail tag error lba)
 fail-back tag error lba t e l =

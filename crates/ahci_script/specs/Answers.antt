@@ -13,7 +13,6 @@ use Rattle.ahci_script.specs.declared.refusal.Refusal.TheVariants.{
   BadHeader,
   BadCommand,
   WrongTag,
-  TooLong,
   BadList,
   Halted,
   NotIssued,
@@ -55,7 +54,6 @@ name_of SlotOwned = codes "SlotOwned"
 name_of BadHeader = codes "BadHeader"
 name_of BadCommand = codes "BadCommand"
 name_of WrongTag = codes "WrongTag"
-name_of TooLong = codes "TooLong"
 name_of BadList = codes "BadList"
 name_of Halted = codes "Halted"
 name_of NotIssued = codes "NotIssued"

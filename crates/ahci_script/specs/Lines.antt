@@ -7,7 +7,7 @@ use Rattle.ahci_script.specs.declared.line.ScriptCommand.TheVariants.{Disk, Writ
 use Rattle.ahci_script.specs.declared.line.Line.{Line}
 use Rattle.ahci_script.specs.declared.line.Line.TheVariants as the-line
 use Rattle.ahci_script.specs.HexBytes.{header_of, hex_bytes_of}
-use Rattle.ahci_script.specs.Number.{byte_of, decimal_below, decimal_of, hexadecimal_of}
+use Rattle.ahci_script.specs.Number.{byte_of, decimal_below, decimal_of, hexadecimal_of, sectors_limit}
 use Rattle.ahci_script.specs.Words.{cut_of}
 
 infixl 10 ◌>>=◌
@@ -18,9 +18,9 @@ o >>= f = option_and_then f o
 abbrev pub tag_of : List ℕ → Option ℕ
 tag_of = decimal_below 32
 
--- a number of sectors: 0 to 65,536
+-- a number of sectors: 0 to 131,072
 abbrev pub sectors_of : List ℕ → Option ℕ
-sectors_of = decimal_below 65537
+sectors_of = decimal_below sectors_limit
 
 -- a word of the identify page: 0 to 255
 abbrev pub page_word_of : List ℕ → Option ℕ

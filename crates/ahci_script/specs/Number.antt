@@ -27,6 +27,10 @@ decimal_of word = if is_decimal word then below (2 ^ 64) (decimal_value word) el
 abbrev pub decimal_below : ℕ → List ℕ → Option ℕ
 decimal_below limit word = option_and_then (below limit) (decimal_of word)
 
+-- a number of sectors is below this: the largest disk has 131,072
+abbrev pub sectors_limit : ℕ
+sectors_limit = 131073
+
 -- the value of a hexadecimal digit, in either case
 abbrev pub hex_digit_of : ℕ → Option ℕ
 hex_digit_of b =

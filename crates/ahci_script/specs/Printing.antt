@@ -1,9 +1,10 @@
 -- How a command is printed, and which of its numbers a script can have.
-use Rattle.std.specs.Prelude.{◌≡◌, ℕ, ◌^◌, ◌<◌, ◌≤◌, List, [], ◌∷◌, ◌++◌, Some, codes, length}
+use Rattle.std.specs.Prelude.{◌≡◌, ℕ, ◌^◌, ◌<◌, List, [], ◌∷◌, ◌++◌, Some, codes, length}
 use Rattle.std.specs.List.{All}
 use Rattle.std.specs.Fmt.{decimal}
 use Rattle.ahci_script.specs.Answers.{hex_of}
 use Rattle.ahci_script.specs.Lines.{line_of}
+use Rattle.ahci_script.specs.Number.{sectors_limit}
 use Rattle.ahci_script.specs.declared.line.ScriptCommand.{ScriptCommand}
 use Rattle.ahci_script.specs.declared.line.ScriptCommand.TheVariants.{Disk, Write, Read, Raw, Accept, Serve, Fail, Collect, Recover, Reissue, Reg, Ack, Identify, Flush, Show, Journal}
 use Rattle.ahci_script.specs.declared.line.Line.TheVariants as line
@@ -41,8 +42,8 @@ printed Journal = codes "journal"
 -- least
 abbrev pub IsInRange : ScriptCommand → Type 0
 IsInRange (Disk sectors depth) = (sectors < 2 ^ 64) × (depth < 2 ^ 64)
-IsInRange (Write tag lba sectors fill) = (tag < 32) × (lba < 2 ^ 64) × (sectors ≤ 65536) × (fill < 256)
-IsInRange (Read tag lba sectors) = (tag < 32) × (lba < 2 ^ 64) × (sectors ≤ 65536)
+IsInRange (Write tag lba sectors fill) = (tag < 32) × (lba < 2 ^ 64) × (sectors < sectors_limit) × (fill < 256)
+IsInRange (Read tag lba sectors) = (tag < 32) × (lba < 2 ^ 64) × (sectors < sectors_limit)
 IsInRange (Raw tag header bytes) = (tag < 32) × (length header ≡ 32) × All (λ b. b < 256) header × (0 < length bytes) × All (λ b. b < 256) bytes
 IsInRange (Accept tag) = tag < 32
 IsInRange (Serve tag) = tag < 32

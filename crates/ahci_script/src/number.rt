@@ -2,7 +2,7 @@ ghost use Rattle.std.specs.Prelude.{◌≡◌, ◌≤◌, ◌^◌, length, true,
 ghost use Rattle.std.specs.Char.{is_ascii_digit};
 ghost use Rattle.std.specs.List.{list_all};
 ghost use Rattle.ahci_script.specs.HexBytes.{hex_digit_value};
-ghost use Rattle.ahci_script.specs.Number.{below, byte_of, decimal_below, decimal_of, decimal_value, hex_digit_of, hexadecimal_of, hexadecimal_value, with_digit};
+ghost use Rattle.ahci_script.specs.Number.{below, byte_of, decimal_below, decimal_of, decimal_value, hex_digit_of, hexadecimal_of, hexadecimal_value, sectors_limit, with_digit};
 
 /// A decimal number: 1 to 20 digits, whose value fits 64 bits.
 pub(crate) fn decimal(word: &[u8]) -> Option<u64>
@@ -55,12 +55,15 @@ pub(crate) fn tag(word: &[u8]) -> Option<u8>
     }
 }
 
-/// A number of sectors: a decimal number from 0 to 65,536.
+/// A number of sectors is below this: the largest disk has 131,072.
+const SECTORS_LIMIT: u64 = 131_073;
+
+/// A number of sectors: a decimal number from 0 to 131,072.
 pub(crate) fn sectors(word: &[u8]) -> Option<u32>
-    ensures { result ≡ decimal_below 65537 word.now }
+    ensures { result ≡ decimal_below sectors_limit word.now }
 {
     let number = decimal(word)?;
-    if number < 65_537 {
+    if number < SECTORS_LIMIT {
         Some(number as u32)
     } else {
         None

@@ -7,7 +7,6 @@ use Rattle.std.proofs.Common.{
   ◌+◌,
   ◌-◌,
   ◌*◌,
-  ◌/◌,
   ◌%◌,
   ◌^◌,
   ◌<◌,
@@ -31,35 +30,64 @@ use Rattle.std.proofs.Common.{
   refl,
   ap,
   ◌∙◌,
+  sym,
   arith,
 }
+use Rattle.std.specs.Int.{div_ceil}
 use Rattle.std.specs.List.{list_all, list_any, range_with_len}
-use Rattle.std.proofs.lemmas.Bool.{le-ltb, le-leb, ltb-false, eqb-true, or_parts, true≢false}
+use Rattle.std.proofs.Math.Nat.{mul-suc, mul-le-mul_left}
+use Rattle.std.proofs.lemmas.Bool.{le-ltb, le-leb, leb-true, ltb-false, eqb-true, or_parts, true≢false}
 use Rattle.std.proofs.lemmas.List.FromFn.{length-map-range_with_len}
-use Rattle.ahci_table.specs.Defaults.{default_list, default_piece}
+use Rattle.ahci_table.specs.Defaults.{default_list, default_piece, sectors_apiece}
 use Rattle.ahci_table.specs.Piece.{are_apart, end_of, is_apart, total}
 use Rattle.ahci_table.specs.Prdt.{entry_place}
 use Rattle.ahci_table.specs.Refusal.{has_bad_count, is_odd, is_outside, is_ragged, list_refusal}
 use Rattle.ahci_table.specs.declared.piece.Piece.{Piece}
+use Rattle.ncq_journal.specs.Lawful.{most_sectors}
 use Rattle.ncq_journal.specs.Work.{Work, sectors_of}
 
-abbrev pieces_from : ℕ → ℕ → ℕ → List Piece
-pieces_from n s k = map (default_piece n) (range_with_len s k)
+-- how many pieces a command needs, of so many sectors each
+pub record IsEnough (n a k : ℕ) : Type 0 where
+  pub some : 1 ≤ a
+  pub small : a ≤ 2048
+  pub few : k ≤ 32
+  pub begun : (i : ℕ) → i < k → a * i < n
+  pub all : n ≤ a * k
+
+pub enough : (n : ℕ) → n ≤ most_sectors → IsEnough n (sectors_apiece n) (div_ceil n (sectors_apiece n))
+enough n most = by (nat_le n 256) refl
+  where
+    by : (b : Bool) → nat_le n 256 ≡ b → IsEnough n (cond b 8 2048) (div_ceil n (cond b 8 2048))
+    by true e =
+        let short : n ≤ 256 = leb-true n 256 e in
+        record { some = omega arith; small = omega arith; few = omega (arith, short); begun = λ i l. omega (arith, l); all = omega arith }
+    by false e = record { some = omega arith; small = omega arith; few = omega (arith, most); begun = λ i l. omega (arith, l); all = omega arith }
+
+needed : (n k a : ℕ) → 1 ≤ n → n ≤ a * k → 0 < k
+needed n zero a some all = let none : a * 0 ≡ 0 = omega arith in absurd (omega (arith, some, all, none))
+needed n (suc k) a some all = omega arith
+
+-- the piece of so many sectors behind those that other pieces have
+abbrev piece_behind : ℕ → ℕ → ℕ → Piece
+piece_behind n a x = record { at = 0x1000 + 512 * x; len = 512 * min (n - x) a }
+
+abbrev pieces_from : ℕ → ℕ → ℕ → ℕ → List Piece
+pieces_from n a s k = map (default_piece n a) (range_with_len s k)
 
 -- what no piece of a run is
-none_is : (q : Piece → Bool) (n s k : ℕ) → ((i : ℕ) → s ≤ i → i < s + k → q (default_piece n i) ≡ false) → list_any q (pieces_from n s k) ≡ false
-none_is q n s zero each = refl
-none_is q n s (suc k) each =
+none_is : (q : Piece → Bool) (n a s k : ℕ) → ((i : ℕ) → s ≤ i → i < s + k → q (default_piece n a i) ≡ false) → list_any q (pieces_from n a s k) ≡ false
+none_is q n a s zero each = refl
+none_is q n a s (suc k) each =
     let first = each s (omega arith) (omega arith) in
-    let others = none_is q n (s + 1) k (λ i low high. each i (omega (arith, low)) (omega (arith, high))) in
+    let others = none_is q n a (s + 1) k (λ i low high. each i (omega (arith, low)) (omega (arith, high))) in
     rw (first, others) refl
 
 -- what each piece of a run is
-each_is : (q : Piece → Bool) (n s k : ℕ) → ((i : ℕ) → s ≤ i → i < s + k → q (default_piece n i) ≡ true) → list_all q (pieces_from n s k) ≡ true
-each_is q n s zero each = refl
-each_is q n s (suc k) each =
+each_is : (q : Piece → Bool) (n a s k : ℕ) → ((i : ℕ) → s ≤ i → i < s + k → q (default_piece n a i) ≡ true) → list_all q (pieces_from n a s k) ≡ true
+each_is q n a s zero each = refl
+each_is q n a s (suc k) each =
     let first = each s (omega arith) (omega arith) in
-    let others = each_is q n (s + 1) k (λ i low high. each i (omega (arith, low)) (omega (arith, high))) in
+    let others = each_is q n a (s + 1) k (λ i low high. each i (omega (arith, low)) (omega (arith, high))) in
     rw (first, others) refl
 
 -- tests of numbers
@@ -79,64 +107,90 @@ not_zero a l = by (nat_eq a 0) refl
     by false e = refl
     by true e = let same = eqb-true a 0 e in absurd (omega (arith, same, l))
 
--- a piece begins and ends at even places, and has some bytes and no more than a page
-piece_fine : (n i : ℕ) → 4096 * i < 512 * n → is_odd (default_piece n i) ≡ false
-piece_fine n i within =
-    let p = default_piece n i in
+-- a piece begins and ends at even places, and has some bytes and no more than DBC can count
+piece_fine : (n a x : ℕ) → 1 ≤ a → a ≤ 2048 → x < n → is_odd (piece_behind n a x) ≡ false
+piece_fine n a x has small within =
+    let p = piece_behind n a x in
     let at : nat_eq (p.at % 2) 0 ≡ true = is_eq (p.at % 2) 0 (omega arith) in
     let even : nat_eq (p.len % 2) 0 ≡ true = is_eq (p.len % 2) 0 (omega arith) in
-    let some : nat_eq p.len 0 ≡ false = not_zero p.len (omega (arith, within)) in
-    let most : nat_lt (2 ^ 22) p.len ≡ false = not_below (2 ^ 22) p.len (omega arith) in
+    let some : nat_eq p.len 0 ≡ false = not_zero p.len (omega (arith, has, within)) in
+    let most : nat_lt (2 ^ 22) p.len ≡ false = not_below (2 ^ 22) p.len (omega (arith, small)) in
     rw (at, even, some, most) refl
 
--- a piece of at most 32 lies behind the table and ends before the longest window's end
-piece_inside : (n k i : ℕ) → k ≤ 32 → i < 32 → is_outside k (default_piece n i) ≡ false
-piece_inside n k i few below =
-    let p = default_piece n i in
+-- a piece lies behind a table of at most 32 entries and ends before the longest window's end
+piece_inside : (n a x k : ℕ) → n ≤ most_sectors → k ≤ 32 → x < n → is_outside k (piece_behind n a x) ≡ false
+piece_inside n a x k most few within =
+    let p = piece_behind n a x in
     let behind : nat_lt p.at (entry_place k) ≡ false = not_below p.at (entry_place k) (omega (arith, few)) in
-    let inside : nat_lt 67108864 (end_of p) ≡ false = not_below 67108864 (end_of p) (omega (arith, below)) in
+    let inside : nat_lt 67108864 (end_of p) ≡ false = not_below 67108864 (end_of p) (omega (arith, most, within)) in
     rw (behind, inside) refl
 
+-- a piece that begins behind so many sectors more shares no byte with the first
+beside : (n a x y : ℕ) → x + a ≤ y → is_apart (piece_behind n a x) (piece_behind n a y) ≡ true
+beside n a x y behind =
+    let before : nat_le (end_of (piece_behind n a x)) (0x1000 + 512 * y) ≡ true = is_le _ _ (omega (arith, behind)) in
+    ap (λ b. b || nat_le (end_of (piece_behind n a y)) (0x1000 + 512 * x)) before
+
+-- where the next piece begins
+next : (a s : ℕ) → a * (s + 1) ≡ a * s + a
+next a s = let one : s + 1 ≡ suc s = omega arith in ap (λ z. a * z) one ∙ mul-suc a s
+
+later : (a s i : ℕ) → s < i → a * s + a ≤ a * i
+later a s i l = let more : a * suc s ≤ a * i = mul-le-mul_left a (omega (arith, l)) in let same = mul-suc a s in omega (arith, more, same)
+
 -- pieces of different numbers share no byte
-pieces_apart : (n s k : ℕ) → are_apart (pieces_from n s k) ≡ true
-pieces_apart n s zero = refl
-pieces_apart n s (suc k) =
-    let first : list_all (is_apart (default_piece n s)) (pieces_from n (s + 1) k) ≡ true = each_is (is_apart (default_piece n s)) n (s + 1) k (λ i low high.
-    let before : nat_le (end_of (default_piece n s)) (0x1000 + 0x1000 * i) ≡ true = is_le _ _ (omega (arith, low)) in
-    ap (λ b. b || nat_le (end_of (default_piece n i)) (0x1000 + 0x1000 * s)) before) in
-    let others = pieces_apart n (s + 1) k in
+pieces_apart : (n a s k : ℕ) → are_apart (pieces_from n a s k) ≡ true
+pieces_apart n a s zero = refl
+pieces_apart n a s (suc k) =
+    let first : list_all (is_apart (default_piece n a s)) (pieces_from n a (s + 1) k) ≡ true =
+    each_is (is_apart (default_piece n a s)) n a (s + 1) k (λ i low high. beside n a (a * s) (a * i) (later a s i (omega (arith, low)))) in
+    let others = pieces_apart n a (s + 1) k in
     rw (first, others) refl
 
 -- the bytes of a run of pieces
-pieces_total : (n s k : ℕ) → total (pieces_from n s k) ≡ min (512 * n - 4096 * s) (4096 * k)
-pieces_total n s zero = omega arith
-pieces_total n s (suc k) = let others = pieces_total n (s + 1) k in omega (arith, others)
+one_more : (n a x y : ℕ) → 512 * min (n - x) a + 512 * min (n - (x + a)) y ≡ 512 * min (n - x) (y + a)
+one_more n a x y = omega arith
+
+pieces_total : (n a s k : ℕ) → total (pieces_from n a s k) ≡ 512 * min (n - a * s) (a * k)
+pieces_total n a s zero = omega arith
+pieces_total n a s (suc k) =
+    ap (λ t. 512 * min (n - a * s) a + t) (pieces_total n a (s + 1) k)
+    ∙ ap (λ x. 512 * min (n - a * s) a + 512 * min (n - x) (a * k)) (next a s)
+    ∙ one_more n a (a * s) (a * k)
+    ∙ ap (λ y. 512 * min (n - a * s) y) (sym (mul-suc a k))
 
 -- nothing stands against them
-pub default_pieces_serve : (n : ℕ) → 1 ≤ n → n ≤ 256 → list_refusal (default_list n) (512 * n) ≡ None
+pub default_pieces_serve : (n : ℕ) → 1 ≤ n → n ≤ most_sectors → list_refusal (default_list n) (512 * n) ≡ None
 default_pieces_serve n some most =
-    let k = (n + 7) / 8 in
-    let k_few : k ≤ 32 = omega (arith, most) in
-    let k_some : 0 < k = omega (arith, some) in
-    let ps = pieces_from n 0 k in
-    let here : default_list n ≡ ps = ap (λ b. cond b ps []) (is_le n 256 most) in
-    let count : length ps ≡ k = length-map-range_with_len (default_piece n) 0 k in
-    let has : nat_eq (length ps) 0 ≡ false = ap (λ x. nat_eq x 0) count ∙ not_zero k k_some in
-    let few : nat_lt 32 (length ps) ≡ false = ap (nat_lt 32) count ∙ not_below 32 k k_few in
-    let fine : list_any is_odd ps ≡ false = none_is is_odd n 0 k (λ i low high. piece_fine n i (omega (arith, high))) in
+    let a = sectors_apiece n in
+    let k = div_ceil n a in
+    let e = enough n most in
+    let ps = pieces_from n a 0 k in
+    let here : default_list n ≡ ps = ap (λ b. cond b ps []) (is_le n most_sectors most) in
+    let count : length ps ≡ k = length-map-range_with_len (default_piece n a) 0 k in
+    let has : nat_eq (length ps) 0 ≡ false = ap (λ x. nat_eq x 0) count ∙ not_zero k (needed n k a some e.all) in
+    let few : nat_lt 32 (length ps) ≡ false = ap (nat_lt 32) count ∙ not_below 32 k e.few in
+    let fine : list_any is_odd ps ≡ false = none_is is_odd n a 0 k (λ i low high. piece_fine n a (a * i) e.some e.small (e.begun i (omega (arith, high)))) in
     let inside : list_any (is_outside (length ps)) ps ≡ false =
-    ap (λ x. list_any (is_outside x) ps) count ∙ none_is (is_outside k) n 0 k (λ i low high. piece_inside n k i k_few (omega (arith, high, k_few))) in
-    let apart : not (are_apart ps) ≡ false = ap not (pieces_apart n 0 k) in
-    let sum : total ps ≡ 512 * n = pieces_total n 0 k ∙ omega arith in
+    ap (λ x. list_any (is_outside x) ps) count ∙ none_is (is_outside k) n a 0 k (λ i low high. piece_inside n a (a * i) k most e.few (e.begun i (omega (arith, high)))) in
+    let apart : not (are_apart ps) ≡ false = ap not (pieces_apart n a 0 k) in
+    let all = e.all in
+    let sum : total ps ≡ 512 * n = pieces_total n a 0 k ∙ whole n a k all in
     let whole : not (nat_eq (total ps) (512 * n)) ≡ false = ap not (is_eq (total ps) (512 * n) sum) in
     ap (λ l. list_refusal l (512 * n)) here ∙ rw (has, few, fine, inside, apart, whole) refl
+  where
+    from_front : (n x : ℕ) → n ≤ x → 512 * min (n - 0) x ≡ 512 * n
+    from_front n x l = omega (arith, l)
+
+    whole : (n a k : ℕ) → n ≤ a * k → 512 * min (n - a * 0) (a * k) ≡ 512 * n
+    whole n a k l = (let none : a * 0 ≡ 0 = omega arith in ap (λ z. 512 * min (n - z) (a * k)) none) ∙ from_front n (a * k) l
 
 pub defaults_serve : (work : Work) → has_bad_count work ≡ false → list_refusal (default_list (sectors_of work)) (512 * sectors_of work) ≡ None
 defaults_serve work good =
     let n = sectors_of work in
-    let count = (or_parts (nat_eq n 0 || nat_lt 256 n) (is_ragged work) good).0 in
-    let each = or_parts (nat_eq n 0) (nat_lt 256 n) count in
-    default_pieces_serve n (from_zero n each.0) (ltb-false 256 n each.1)
+    let count = (or_parts (nat_eq n 0 || nat_lt most_sectors n) (is_ragged work) good).0 in
+    let each = or_parts (nat_eq n 0) (nat_lt most_sectors n) count in
+    default_pieces_serve n (from_zero n each.0) (ltb-false most_sectors n each.1)
   where
     from_zero : (m : ℕ) → nat_eq m 0 ≡ false → 1 ≤ m
     from_zero zero e = absurd (true≢false e)

@@ -47,7 +47,6 @@ use Rattle.sata_fis.specs.Command.{asked_by, h2d_for, is_queued}
 use Rattle.sata_fis.proofs.FieldLemmas.{two_bytes, four_bytes}
 use Rattle.sata_fis.proofs.SpellingLemmas.{h2d_at-h2d_bytes}
 use Rattle.ncq_journal.specs.Image.{is_write}
-use Rattle.ncq_journal.specs.Lawful.{most_sectors}
 use Rattle.ncq_journal.specs.Work.{Work, Read, Write, lba_of, sectors_of}
 use Rattle.ahci_table.specs.declared.piece.Piece.{Piece}
 use Rattle.ahci_table.specs.Build.{IsBuilt, Carries, dword, data_for, entry_for, header_for, queued_for}
@@ -272,7 +271,6 @@ fit_built tag work ps w low f b =
         direction = ap (λ h. h.w) hdr ∙ sym (ap (λ a. a.write) q);
       };
       tag = ap (λ a. a.tag) q ∙ sym b.tag_is;
-      short = subst (λ (a : QueuedFields). a.sectors ≤ most_sectors) (sym q) f.most;
       listed = record {
         entries = λ i l.
             let d : Piece = record { at = 0; len = 0 } in

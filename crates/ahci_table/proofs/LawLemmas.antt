@@ -5,7 +5,7 @@ use Rattle.std.proofs.lemmas.List.{append_assoc, drop-drop, drop_at, take_at, ge
 use Rattle.std.proofs.lemmas.Slice.{between-put_mid}
 use borrow.Rule.Slice.PartMut.{put_mid}
 use Rattle.ahci_table.specs.declared.fault.TableFault.{TableFault}
-use Rattle.ahci_table.specs.declared.fault.TableFault.TheVariants.{BadHeader, BadCommand, WrongTag, TooLong, BadList}
+use Rattle.ahci_table.specs.declared.fault.TableFault.TheVariants.{BadHeader, BadCommand, WrongTag, BadList}
 use Rattle.ahci_table.specs.declared.piece.Piece.{Piece}
 use Rattle.ahci_table.specs.Fit.{Breaks, IsFit}
 use Rattle.ahci_table.specs.Laws.{IsTakenAgain, HasWholeText, GivesBack, Commutes, IsBeside}
@@ -25,8 +25,7 @@ not_broken : (w : WindowState) (fault : TableFault) → IsFit w → Breaks w fau
 not_broken w BadHeader f b = b f.header
 not_broken w BadCommand f b = b.1 f.command
 not_broken w WrongTag f b = b.2 f.tag
-not_broken w TooLong f b = b.3 f.short
-not_broken w BadList f b = b.4 f.listed
+not_broken w BadList f b = b.3 f.listed
 
 pub taken_again : IsTakenAgain
 taken_again tag work ps w (Ok c) low none b h =

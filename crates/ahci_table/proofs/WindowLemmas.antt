@@ -9,7 +9,6 @@ use Rattle.sata_fis.specs.Layout.{h2d_at}
 use Rattle.sata_fis.specs.Spelling.{Spells}
 use Rattle.sata_fis.specs.Command.{is_queued, asked_by}
 use Rattle.sata_fis.specs.declared.fis.Fis.TheVariants.{H2d}
-use Rattle.ncq_journal.specs.Lawful.{most_sectors}
 use Rattle.ahci_table.specs.declared.piece.Piece.{Piece}
 use Rattle.ahci_table.specs.Piece.{end_of, covers, are_apart, total}
 use Rattle.ahci_table.specs.Window.{WindowState, base, most_bytes}
@@ -122,7 +121,6 @@ agree_fit w bytes h f =
         direction = subst (λ xs. (header_of w).w ≡ (asked_by (h2d_at xs)).write) fis f.command.direction;
       };
       tag = subst (λ xs. (asked_by (h2d_at xs)).tag ≡ w.tag) fis f.tag;
-      short = subst (λ xs. (asked_by (h2d_at xs)).sectors ≤ most_sectors) fis f.short;
       listed = record {
         entries = λ i below. subst (λ n. IsEntry (base w.tag) (table_end w) n (entry_of new i)) (sym h.len)
             (subst (IsEntry (base w.tag) (table_end w) (length w.bytes)) (sym (agree_entry w bytes h i below)) (f.listed.entries i below));

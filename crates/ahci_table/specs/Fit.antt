@@ -1,11 +1,10 @@
--- Which windows a port takes: five rules, in the order in which they are tested (profile).
+-- Which windows a port takes: four rules, in the order in which they are tested (profile).
 use Rattle.std.specs.Prelude.{◌≡◌, ◌≤◌, ◌<◌, ℕ, ◌+◌, ◌*◌, ◌%◌, true, false, length}
 use Rattle.sata_fis.specs.declared.fis.Fis.TheVariants.{H2d}
 use Rattle.sata_fis.specs.Command.{is_queued}
 use Rattle.sata_fis.specs.Spelling.{Spells}
-use Rattle.ncq_journal.specs.Lawful.{most_sectors}
 use Rattle.ahci_table.specs.declared.fault.TableFault.{TableFault}
-use Rattle.ahci_table.specs.declared.fault.TableFault.TheVariants.{BadHeader, BadCommand, WrongTag, TooLong, BadList}
+use Rattle.ahci_table.specs.declared.fault.TableFault.TheVariants.{BadHeader, BadCommand, WrongTag, BadList}
 use Rattle.ahci_table.specs.Piece.{are_apart, total}
 use Rattle.ahci_table.specs.Window.{WindowState, base, most_bytes}
 use Rattle.ahci_table.specs.Header.{header_of}
@@ -36,10 +35,6 @@ pub record HasCommand (w : WindowState) : Type 0 where
 abbrev pub HasTag : WindowState → Type 0
 HasTag w = (queued_of w).tag ≡ w.tag
 
--- 4. the command has no more sectors than one may have
-abbrev pub IsShort : WindowState → Type 0
-IsShort w = (queued_of w).sectors ≤ most_sectors
-
 -- an entry names a run of whole words, wholly between two places of the window that begins at an address
 pub record IsEntry (start first last : ℕ) (e : EntryFields) : Type 0 where
   pub even : e.dba % 2 ≡ 0
@@ -52,18 +47,17 @@ pub record IsEntry (start first last : ℕ) (e : EntryFields) : Type 0 where
 abbrev pub HasEntries : WindowState → Type 0
 HasEntries w = (i : ℕ) → i < (header_of w).prdtl → IsEntry (base w.tag) (table_end w) (length w.bytes) (entry_of w i)
 
--- 5. the entries name runs that share no byte and have just the command's bytes
+-- 4. the entries name runs that share no byte and have just the command's bytes
 pub record HasList (w : WindowState) : Type 0 where
   pub entries : HasEntries w
   pub apart : are_apart (pieces w) ≡ true
   pub whole : total (pieces w) ≡ 512 * (queued_of w).sectors
 
--- all five
+-- all four
 pub record IsFit (w : WindowState) : Type 0 where
   pub header : HasHeader w
   pub command : HasCommand w
   pub tag : HasTag w
-  pub short : IsShort w
   pub listed : HasList w
 
 -- the fault is the first rule that the window breaks
@@ -71,5 +65,4 @@ abbrev pub Breaks : WindowState → TableFault → Type 0
 Breaks w BadHeader = ¬ (HasHeader w)
 Breaks w BadCommand = HasHeader w × ¬ (HasCommand w)
 Breaks w WrongTag = HasHeader w × HasCommand w × ¬ (HasTag w)
-Breaks w TooLong = HasHeader w × HasCommand w × HasTag w × ¬ (IsShort w)
-Breaks w BadList = HasHeader w × HasCommand w × HasTag w × IsShort w × ¬ (HasList w)
+Breaks w BadList = HasHeader w × HasCommand w × HasTag w × ¬ (HasList w)

@@ -1,4 +1,4 @@
-ghost use Rattle.std.specs.Prelude.{◌≡◌, ◌*◌, ◌<◌, ◌^◌, ◌↔◌, length, IsTrue, IsSome, IfSome, IfOk, IfErr};
+ghost use Rattle.std.specs.Prelude.{◌≡◌, ◌*◌, ◌<◌, ◌↔◌, length, IsTrue, IsSome, IfSome, IfOk, IfErr};
 ghost use Rattle.ahci_table.specs.Command.{queued_of};
 ghost use Rattle.ahci_table.specs.Fit.{HasHeader, HasCommand, HasEntries, HasList, IsEntry, IsFit, Breaks};
 ghost use Rattle.ahci_table.specs.Header.{header_of};
@@ -13,7 +13,6 @@ use crate::list::{are_apart, total};
 use crate::piece::Piece;
 use crate::window::{MAX_BYTES, Window};
 use arrayvec::ArrayVec;
-use ncq_core::MAX_COUNT;
 use sata_fis::{Fis, Queued, decode, queued};
 use std::alloc::Allocator;
 
@@ -45,9 +44,6 @@ impl<A: Allocator> Window<A> {
         };
         if queued.tag != self.tag {
             return Err(TableFault::WrongTag);
-        }
-        if queued.sectors > MAX_COUNT {
-            return Err(TableFault::TooLong);
         }
         let Some(pieces) = self.whole_list(queued.sectors) else {
             return Err(TableFault::BadList);

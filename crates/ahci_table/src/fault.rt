@@ -1,7 +1,7 @@
 /// Why no window is built. The cases are tested in this order.
 #[derive(Clone, Copy, Debug, PartialEq, Eq)]
 pub enum BuildFault {
-    /// The command has no sectors or over 256, or the bytes of a write aren't whole sectors of 512 bytes.
+    /// The command has no sectors or over 65,536, or the bytes of a write aren't whole sectors of 512 bytes.
     BadCount,
     /// The LBA doesn't fit 48 bits.
     BadLba,
@@ -31,8 +31,6 @@ pub enum TableFault {
     BadCommand,
     /// The command's tag isn't the window's.
     WrongTag,
-    /// The command has over 256 sectors.
-    TooLong,
     /// An entry is odd, has a high address or lies outside, two share a byte, or all together don't have the command's
     /// bytes.
     BadList,

@@ -253,10 +253,11 @@ fn help_and_wrong_words_are_told_in_clap_s_words(rt: HostRuntime) -> Result<(), 
 }
 
 /// The commands of a script, as help shows them.
-static COMMANDS: [&str; 15] = [
+static COMMANDS: [&str; 16] = [
     "disk S D",
     "write T LBA N BB",
     "read T LBA N",
+    "raw T H B",
     "accept T",
     "serve T",
     "fail T EE LBA",

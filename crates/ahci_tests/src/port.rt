@@ -1,6 +1,8 @@
 //! The port in use: each call once with memory, and the worked rows.
 mod comparing;
 mod errors;
+mod hostile;
+mod scattered;
 mod telling;
 
 use ahci_port::{DeviceStep, Outcome, PlainFault, Stepped};

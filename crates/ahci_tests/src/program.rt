@@ -7,6 +7,7 @@ use std::process::Abort;
 use std::test::Fail;
 
 mod hostile;
+mod raw;
 mod streams;
 
 /// A line and its answer, with none where the line is skipped.
@@ -68,7 +69,7 @@ static REFUSED_REQUESTS: [Row; 8] = [
     ("disk 8 33", "refused BadDepth"),
     ("disk 8 4", "disk 8 4"),
     ("read 0 0 0", "refused BadCount"),
-    ("read 0 0 257", "refused BadCount"),
+    ("read 0 0 65537", "refused BadCount"),
     ("read 0 281474976710656 1", "refused BadLba"),
     ("show 8", "refused NoSuchSector"),
     ("journal", "journal 0"),
@@ -95,6 +96,16 @@ static LOGGED: [Row; 8] = [
     ("reg 120", "00000040"),
 ];
 
+/// The longest command that there is.
+static LONGEST: [Row; 6] = [
+    ("disk 65536 1", "disk 65536 1"),
+    ("write 0 0 65536 5a", "issued 0"),
+    ("accept 0", "accepted 1"),
+    ("serve 0", "completed 2"),
+    ("show 65535", "sector 65535 5a"),
+    ("collect 0 0", "wrote 2"),
+];
+
 /// A disk's numbers are refused by their full value, and only an accepted disk counts.
 static DISKS: [Row; 8] = [
     ("disk 131073 1", "refused BadSize"),
@@ -115,11 +126,11 @@ static EDGES: [Row; 15] = [
     ("show 00000000000000000007", "sector 7 00"),
     ("show 18446744073709551615", "refused NoSuchSector"),
     ("accept 31", "refused NotIssued"),
-    ("read 31 0 65536", "refused BadCount"),
-    ("write 31 0 65536 00", "refused BadCount"),
+    ("read 31 0 131072", "refused BadCount"),
+    ("write 31 0 131072 00", "refused BadCount"),
     ("write 31 281474976710656 0 00", "refused BadCount"),
     ("write 31 281474976710656 1 00", "refused BadLba"),
-    ("write 31 281474976710655 256 00", "issued 0"),
+    ("write 31 281474976710655 65536 00", "issued 0"),
     ("write 0 0 2 aB", "issued 1"),
     ("accept 0", "accepted 2"),
     ("serve 0", "completed 3"),
@@ -185,6 +196,7 @@ fn each_line_has_its_answer(rt: HostRuntime) -> Result<(), Fail> {
         REFUSED_REQUESTS.as_slice(),
         FAR_BEHIND_THE_END.as_slice(),
         LOGGED.as_slice(),
+        LONGEST.as_slice(),
         DISKS.as_slice(),
         EDGES.as_slice(),
     ]

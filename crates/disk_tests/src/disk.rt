@@ -18,7 +18,7 @@ static A_WRITE: [Row; 5] = [
     (Take(WRITE, ABORTED), 2, false),
     (Take(IDENTIFY, ABORTED), 2, false),
     (TakeShort(WRITE, ABORTED), 2, false),
-    (Serve(1, Ok([0xA1, 0x40, 0x40, 0, 2, 0, 0, 0])), 0, false),
+    (Serve(1, Ok(())), 0, false),
 ];
 
 /// What one sector of a write with tag 1 sends.
@@ -34,6 +34,21 @@ const A_SECTOR: Link = Link {
     data: 1,
     last: 516,
 };
+
+/// The FIS that tells which tags are completed: SActive has its low byte first.
+static COMPLETIONS: [(u32, [u8; 8]); 4] = [
+    (0x0000_0002, [0xA1, 0x40, 0x40, 0, 0x02, 0, 0, 0]),
+    (0x0000_0107, [0xA1, 0x40, 0x40, 0, 0x07, 0x01, 0, 0]),
+    (0x8000_0000, [0xA1, 0x40, 0x40, 0, 0, 0, 0, 0x80]),
+    (0xFFFF_FFFF, [0xA1, 0x40, 0x40, 0, 0xFF, 0xFF, 0xFF, 0xFF]),
+];
+
+#[test]
+fn a_completion_names_its_tags(rt: HostRuntime) {
+    for (row, (tags, fis)) in COMPLETIONS.iter().enumerate() {
+        equal(&rt, row, &Disk::completed(*tags), fis);
+    }
+}
 
 #[test]
 fn a_write_is_taken_and_served(rt: HostRuntime) -> Result<(), Fail> {

@@ -68,7 +68,7 @@ static STRANGERS: [Step; 23] = [
     Never(Accept(0)),
     Never(Complete(0)),
     Never(Read(0, 0, 0)),
-    Never(Read(0, 0, 257)),
+    Never(Read(0, 0, 65_537)),
     Never(Read(0, 1 << 48, 1)),
     Next(Read(0, 0, 1)),
     Never(Complete(0)),

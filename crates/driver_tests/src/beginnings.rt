@@ -15,12 +15,12 @@ use std::thread::Threads;
 type Row = (bool, [(u64, u32); 2], Option<RunFault>);
 
 static ROWS: [Row; 6] = [
-    (false, [(0, 1), (1, 256)], None),
+    (false, [(0, 1), (1, 65_536)], None),
     (true, [(0, 1), (0, 1)], Some(RunFault::NotFresh)),
     (true, [(0, 0), (0, 1)], Some(RunFault::NotFresh)),
     (false, [(0, 1), (0, 0)], Some(RunFault::BadJob(1))),
     (false, [(1 << 48, 1), (0, 0)], Some(RunFault::BadJob(0))),
-    (false, [(0, 1), (0, 257)], Some(RunFault::BadJob(1))),
+    (false, [(0, 1), (0, 65_537)], Some(RunFault::BadJob(1))),
 ];
 
 fn begins<R: Threads + Wait + Sync + Abort>(

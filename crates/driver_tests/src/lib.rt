@@ -9,6 +9,8 @@ mod common;
 #[cfg(test)]
 mod gates;
 #[cfg(test)]
+mod jobs;
+#[cfg(test)]
 mod one_seat;
 #[cfg(test)]
 mod runs;

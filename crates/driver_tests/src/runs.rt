@@ -1,7 +1,8 @@
 //! Whole runs, and what `settle` says of receipts that were changed afterwards.
 ghost use Rattle.std.specs.Prelude.{◌≡◌, ◌≤◌, vec_len, IfOk};
 
-use crate::common::{Job, Way, byte_of, crowd, op_of};
+use crate::common::{Way, byte_of, crowd};
+use crate::jobs::{Jobs, commands};
 use ahci_driver::{Open, Receipt, RunEnd, SettleFault, run, settle, settle_plainly};
 use ahci_port::{DeviceStep, Outcome, Port, Reply};
 use ncq_core::{Bytes, Op};
@@ -10,65 +11,6 @@ use std::process::Abort;
 use std::sync::Wait;
 use std::test::Fail;
 use std::thread::Threads;
-
-/// The jobs of a run.
-#[derive(Clone, Copy, Debug)]
-enum Jobs {
-    None,
-    /// Twelve over three sectors.
-    Few,
-    /// A write of a sector, and a read of it.
-    Pair,
-    /// Thirty-two writes, of which that of job 17 is past the last of 64 sectors.
-    Crowd,
-    /// Four thousand over 64 sectors, of which every third reads.
-    Many,
-}
-
-static FEW: [Job; 12] = [
-    Job::Write(0, 0),
-    Job::Read(1),
-    Job::Write(1, 2),
-    Job::Read(0),
-    Job::Write(0, 4),
-    Job::Read(2),
-    Job::Write(1, 6),
-    Job::Read(1),
-    Job::Write(0, 8),
-    Job::Read(0),
-    Job::Write(1, 10),
-    Job::Read(2),
-];
-
-fn count_of(jobs: Jobs) -> u32 {
-    match jobs {
-        Jobs::None => 0,
-        Jobs::Few => 12,
-        Jobs::Pair => 2,
-        Jobs::Crowd => 32,
-        Jobs::Many => 4_000,
-    }
-}
-
-fn job_at(jobs: Jobs, index: u32) -> Job {
-    let lba = u64::from(index % 64);
-    match jobs {
-        Jobs::None | Jobs::Few => FEW[index as usize % 12],
-        Jobs::Pair if index == 0 => Job::Write(0, 0x11),
-        Jobs::Pair => Job::Read(0),
-        Jobs::Crowd => Job::Write(if index == 17 { 64 } else { lba }, (index % 32) as u8),
-        Jobs::Many if index % 3 == 2 => Job::Read(lba),
-        Jobs::Many => Job::Write(lba, (index % 251) as u8),
-    }
-}
-
-fn commands(alloc: Global, jobs: Jobs) -> Result<Vec<Op>, AllocError> {
-    let mut ops = Vec::new(alloc);
-    for index in 0..count_of(jobs) {
-        ops.push(op_of(alloc, job_at(jobs, index))?)?;
-    }
-    Ok(ops)
-}
 
 /// How a run is set up.
 #[derive(Clone, Copy, Debug)]

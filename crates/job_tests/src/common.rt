@@ -33,7 +33,7 @@ where
         && 1 <= depth
         && depth <= 32
         && 1 <= sectors
-        && sectors <= 1_000
+        && sectors <= 131_072
     {
         Some(run_jobs(rt, alloc, workers, depth, sectors, chooser, reader, writer))
     } else {

@@ -9,7 +9,7 @@ use std::test::Fail;
 /// A job list, its crew, what it writes, and how it ends.
 type List = (&'static str, Crew, &'static str, Result<(), CliFault>);
 
-static LISTS: [List; 18] = [
+static LISTS: [List; 19] = [
     (
         "write 0 2 11\nwrite 4 1 22\nread 1 1\nread 4 2\n",
         (2, 2, 8),
@@ -27,6 +27,12 @@ static LISTS: [List; 18] = [
     ),
     ("write 0 1 00\n", (1, 1, 1), "wrote\n", Ok(())),
     (
+        "write 0 65536 00\nwrite 65535 1 5a\nread 65535 1\n",
+        (1, 1, 65_536),
+        "wrote\nwrote\nread 5a\nsector 65535 5a\n",
+        Ok(()),
+    ),
+    (
         "# the last line has no line feed\n\nwrite 999 1 Ff",
         (32, 32, 1000),
         "wrote\nsector 999 ff\n",
@@ -34,13 +40,18 @@ static LISTS: [List; 18] = [
     ),
     // The first fault in the order of the input ends the list, whichever it is.
     (
-        "read 0 1\nread 0 65537\n",
+        "read 0 1\nread 0 131073\n",
         (1, 1, 8),
         "",
         Err(CliFault::Line(2)),
     ),
-    ("read 0 257\nread\n", (1, 1, 8), "", Err(CliFault::Job(0))),
-    ("read\nread 0 257\n", (1, 1, 8), "", Err(CliFault::Line(1))),
+    ("read 0 65537\nread\n", (1, 1, 8), "", Err(CliFault::Job(0))),
+    (
+        "read\nread 0 65537\n",
+        (1, 1, 8),
+        "",
+        Err(CliFault::Line(1)),
+    ),
     (
         "# jobs alone are numbered\nread 0 1\n\nwrite 281474976710656 1 00\n",
         (1, 1, 8),

@@ -1,6 +1,6 @@
 -- The FISes that the disk sends (Serial ATA, "FIS types"; the status and error bits: ACS-3, "Status field" and "Error
 -- field"). Status 40h is DRDY, 48h DRDY with DRQ, 41h DRDY with ERR; error 04h is ABRT, 10h IDNF.
-use Rattle.std.specs.Prelude.{ℕ, Bool, ◌*◌, ◌^◌, true, false, not, List}
+use Rattle.std.specs.Prelude.{ℕ, Bool, ◌*◌, true, false, not, List}
 use Rattle.sata_fis.specs.Fields.{D2hFields, PioSetupFields, DmaSetupFields, SetBitsFields, QueuedFields}
 use Rattle.sata_fis.specs.Encoding.{d2h_bytes, pio_setup_bytes, dma_setup_bytes, set_bits_bytes, encoded}
 use Rattle.sata_fis.specs.declared.fis.Fis.TheVariants.{DmaActivate}
@@ -37,9 +37,9 @@ dma_setup_fis q = record { a = false; i = false; d = not q.write; tag = q.tag; o
 abbrev pub done_fis : ℕ → ℕ → ℕ → SetBitsFields
 done_fis status error sactive = record { i = true; status = status; error = error; sactive = sactive }
 
--- a tag's command is completed
+-- the commands of a word's tags are completed
 abbrev pub completed_fis : ℕ → SetBitsFields
-completed_fis tag = done_fis 0x40 0 (2 ^ tag)
+completed_fis word = done_fis 0x40 0 word
 
 -- a command failed with an error, and none is completed
 abbrev pub failed_fis : ℕ → SetBitsFields
@@ -69,7 +69,7 @@ abbrev pub activate_bytes : List ℕ
 activate_bytes = encoded DmaActivate
 
 abbrev pub completed_bytes : ℕ → List ℕ
-completed_bytes tag = set_bits_bytes (completed_fis tag)
+completed_bytes word = set_bits_bytes (completed_fis word)
 
 abbrev pub failed_bytes : ℕ → List ℕ
 failed_bytes error = set_bits_bytes (failed_fis error)

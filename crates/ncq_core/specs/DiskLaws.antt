@@ -52,7 +52,7 @@ pub record AnswersAreTheseBytes : Type 0 where
       ≡ 0x41 ∷ direction q.write ∷ 0 ∷ 0 ∷ q.tag ∷ 0 ∷ 0 ∷ 0 ∷ 0 ∷ 0 ∷ 0 ∷ 0 ∷ 0 ∷ 0 ∷ 0 ∷ 0 ∷ 0 ∷ 0 ∷ 0 ∷ 0
       ∷ byte_at 0 (512 * q.sectors) ∷ byte_at 1 (512 * q.sectors) ∷ byte_at 2 (512 * q.sectors) ∷ byte_at 3 (512 * q.sectors) ∷ 0 ∷ 0 ∷ 0 ∷ 0 ∷ []
   pub activate : activate_bytes ≡ 0x39 ∷ 0 ∷ 0 ∷ 0 ∷ []
-  pub completed : (tag : ℕ) → completed_bytes tag ≡ 0xA1 ∷ 0x40 ∷ 0x40 ∷ 0 ∷ byte_at 0 (2 ^ tag) ∷ byte_at 1 (2 ^ tag) ∷ byte_at 2 (2 ^ tag) ∷ byte_at 3 (2 ^ tag) ∷ []
+  pub completed : (word : ℕ) → completed_bytes word ≡ 0xA1 ∷ 0x40 ∷ 0x40 ∷ 0 ∷ byte_at 0 word ∷ byte_at 1 word ∷ byte_at 2 word ∷ byte_at 3 word ∷ []
   pub failed : (error : ℕ) → failed_bytes error ≡ 0xA1 ∷ 0x40 ∷ 0x41 ∷ error ∷ 0 ∷ 0 ∷ 0 ∷ 0 ∷ []
 
 -- each of them spells the FIS that it is the bytes of
@@ -64,7 +64,7 @@ pub record AnswersSpell : Type 0 where
   pub pio : Spells pio_bytes (PioSetup pio_fis)
   pub setup : (q : QueuedFields) → q.tag < 32 → q.sectors < 2 ^ 23 → Spells (setup_bytes q) (DmaSetup (dma_setup_fis q))
   pub activate : Spells activate_bytes DmaActivate
-  pub completed : (tag : ℕ) → tag < 32 → Spells (completed_bytes tag) (SetBits (completed_fis tag))
+  pub completed : (word : ℕ) → word < 2 ^ 32 → Spells (completed_bytes word) (SetBits (completed_fis word))
   pub failed : (error : ℕ) → Spells (failed_bytes error) (SetBits (failed_fis error))
 
 -- the bytes of a log page add up to 0 modulo 256

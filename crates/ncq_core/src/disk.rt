@@ -10,7 +10,7 @@ ghost use Rattle.std.specs.Prelude.{◌≡◌, ◌<◌, ◌^◌, None, Some, len
 ghost use Rattle.word_bits.specs.Places.{bits};
 ghost use Rattle.ncq_journal.specs.Image.{sector_at};
 ghost use Rattle.ncq_core.specs.DiskState.{IsDisk, disk_sectors, command_of, outstanding, is_stopped, new_disk, new_fault, no_commands};
-ghost use Rattle.ncq_core.specs.DiskFis.{pio_bytes, flushed_bytes};
+ghost use Rattle.ncq_core.specs.DiskFis.{completed_bytes, pio_bytes, flushed_bytes};
 ghost use Rattle.ncq_core.specs.Verdict.{stopped_by};
 ghost use Rattle.ncq_core.specs.Identify.{identify_page};
 
@@ -156,6 +156,13 @@ impl Disk {
         ensures { result ≡ pio_bytes }
     {
         answers::pio_setup()
+    }
+
+    /// The Set Device Bits FIS that tells that the commands of a word's tags are completed (Serial ATA, "Set Device Bits").
+    pub fn completed(word: u32) -> [u8; 8]
+        ensures { result ≡ completed_bytes word }
+    {
+        answers::completed(word)
     }
 
     /// The Register FIS - Device to Host that ends a FLUSH CACHE EXT.

@@ -14,14 +14,14 @@ use Rattle.ncq_journal.specs.Work.{Work, Read, Write, lba_of, sectors_of}
 
 -- the most sectors of one command
 abbrev pub most_sectors : ℕ
-most_sectors = 256
+most_sectors = 65536
 
 -- the bytes of a write are whole sectors
 abbrev pub IsWhole : Work → Type 0
 IsWhole (Read lba sectors) = Unit {0}
 IsWhole (Write lba bytes) = length bytes ≡ 512 * (length bytes / 512)
 
--- a command that can be issued: 1 to 256 whole sectors from a 48-bit LBA on
+-- a command that can be issued: 1 to 65,536 whole sectors from a 48-bit LBA on
 pub record IsProper (work : Work) : Type 0 where
   pub some : 1 ≤ sectors_of work
   pub most : sectors_of work ≤ most_sectors

@@ -14,12 +14,12 @@ use crate::sector::is_covered;
 use std::alloc::Allocator;
 
 /// How many sectors a command has at most.
-pub const MAX_COUNT: u32 = 256;
+pub const MAX_COUNT: u32 = 65_536;
 
 /// Every LBA of a command is below this.
 pub const LBA_LIMIT: u64 = 1 << 48;
 
-/// Whether a command can be issued: 1 to 256 whole sectors from a 48-bit LBA on.
+/// Whether a command can be issued: 1 to 65,536 whole sectors from a 48-bit LBA on.
 pub fn is_proper<A: Allocator>(op: &Op<A>) -> bool
     ensures { IsTrue result ↔ IsProper (work_of op.now) }
 {

@@ -27,7 +27,6 @@ fn issue_fault(fault: TableFault) -> IssueFault
         TableFault::BadHeader => IssueFault::BadHeader,
         TableFault::BadCommand => IssueFault::BadCommand,
         TableFault::WrongTag => IssueFault::WrongTag,
-        TableFault::TooLong => IssueFault::TooLong,
         TableFault::BadList => IssueFault::BadList,
     }
 }

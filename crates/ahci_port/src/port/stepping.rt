@@ -11,9 +11,10 @@ use crate::port::Port;
 use crate::receiving::{is_refusal, receive_bits, receive_register, receive_setup};
 use crate::step::{DeviceStep, Stepped};
 use ncq_core::laws::the_disks_answers_are_these_bytes;
-use ncq_core::{Event, Phase, ServeFault, Taken};
+use ncq_core::{Disk, Event, Phase, ServeFault, Taken};
 use sata_fis::D2h;
 use std::alloc::Allocator;
+use word_bits::place;
 
 /// The port's fault where the disk has refused to end a command.
 fn step_fault(fault: ServeFault) -> StepFault
@@ -157,9 +158,10 @@ impl<A: Allocator> Port<A> {
         let Some(slot) = &mut self.slots[tag as usize] else {
             unreachable!();
         };
-        let sent = slot.serve(&mut self.disk, tag, entry);
-        receive_setup(&mut self.area, &sent.setup);
-        receive_bits(&mut self.registers, &mut self.area, &sent.bits);
+        let setup = slot.serve(&mut self.disk, tag, entry);
+        receive_setup(&mut self.area, &setup);
+        let bits = Disk::completed(place(tag));
+        receive_bits(&mut self.registers, &mut self.area, &bits);
         self.journal.push_reserved(Event::Complete(tag));
         Ok(Stepped::Completed(entry))
     }

@@ -4,10 +4,13 @@ mod calls;
 mod entries;
 
 use crate::table::{equal, equal_bytes};
-use ahci_port::{DeviceStep, Outcome, Port};
+use ahci_port::{
+    CollectFault, DeviceStep, IssueFault, Outcome, PlainFault, Port, RecoverFault, ReissueFault,
+    StepFault,
+};
 use ahci_regs::RegFault;
 use ahci_table::{Window, default_pieces};
-use calls::{Call, Command, Picks, SECTORS};
+use calls::{Call, Command, Fault, Picks, SECTORS};
 use entries::{appends, copy_of};
 use ncq_core::{
     Bytes, Event, Op, Phase, answer_of, ci_of, device_tags_of, is_busy, is_covered, is_halted,
@@ -70,37 +73,66 @@ impl Story {
         (words, *port.received())
     }
 
-    /// Whether the port is to take a call, by the entries so far.
-    fn takes(&self, call: Call) -> bool {
+    /// Why the port is to refuse a call, by the entries so far, and by the first case that holds.
+    fn fault_of(&self, call: Call) -> Option<Fault> {
         let past = self.events.as_slice();
-        let running = !is_halted(past);
         match call {
-            Call::Issue(command) => {
-                running
-                    && u32::from(command.tag) < self.port.depth()
-                    && phase_of(past, command.tag) == Phase::Free
+            Call::Issue(command) => self.issue_fault(command.tag).map(Fault::Issue),
+            Call::Step(step) => self.step_fault(step).map(Fault::Step),
+            Call::Collect(tag, number) => self.collect_fault(tag, number).map(Fault::Collect),
+            Call::Recover if !is_halted(past) => Some(Fault::Recover(RecoverFault::NotHalted)),
+            Call::Reissue(_) if is_halted(past) => Some(Fault::Reissue(ReissueFault::Halted)),
+            Call::Reissue(tag) if phase_of(past, tag) != Phase::Held => {
+                Some(Fault::Reissue(ReissueFault::NotHeld))
             }
-            Call::Step(step) => running && self.takes_step(step),
-            Call::Collect(tag, number) => {
-                phase_of(past, tag) == Phase::Done && self.number_of(tag) == Some(number)
+            Call::Identify | Call::Flush if is_halted(past) => {
+                Some(Fault::Plain(PlainFault::Halted))
             }
-            Call::Recover => !running,
-            Call::Reissue(tag) => running && phase_of(past, tag) == Phase::Held,
-            Call::Identify | Call::Flush => running && !is_busy(past),
-            Call::Acknowledge(_) => true,
+            Call::Identify | Call::Flush if is_busy(past) => {
+                Some(Fault::Plain(PlainFault::QueueBusy))
+            }
+            _ => None,
         }
     }
 
-    /// Whether the device is to take a step, on a port that is not halted.
-    fn takes_step(&self, step: DeviceStep) -> bool {
+    fn issue_fault(&self, tag: u8) -> Option<IssueFault> {
+        let past = self.events.as_slice();
+        if is_halted(past) {
+            Some(IssueFault::Halted)
+        } else if u32::from(tag) >= self.port.depth() {
+            Some(IssueFault::NoSuchTag)
+        } else if phase_of(past, tag) != Phase::Free {
+            Some(IssueFault::SlotOwned)
+        } else {
+            None
+        }
+    }
+
+    /// Why the device is to refuse a step.
+    fn step_fault(&self, step: DeviceStep) -> Option<StepFault> {
         let past = self.events.as_slice();
         match step {
-            DeviceStep::Accept(tag) => phase_of(past, tag) == Phase::Issued,
-            DeviceStep::Serve(tag) => self.is_in_device(tag),
+            _ if is_halted(past) => Some(StepFault::Halted),
+            DeviceStep::Accept(tag) if phase_of(past, tag) != Phase::Issued => {
+                Some(StepFault::NotIssued)
+            }
+            DeviceStep::Serve(tag) | DeviceStep::Fail { tag, .. } if !self.is_in_device(tag) => {
+                Some(StepFault::NotAccepted)
+            }
             DeviceStep::Fail { tag, at, .. } => match request_of(past, tag) {
-                Some(request) => self.is_in_device(tag) && is_covered(request.op(), at),
-                None => false,
+                Some(request) if is_covered(request.op(), at) => None,
+                _ => Some(StepFault::OutsideCommand),
             },
+            _ => None,
+        }
+    }
+
+    fn collect_fault(&self, tag: u8, number: u64) -> Option<CollectFault> {
+        match phase_of(self.events.as_slice(), tag) {
+            Phase::Free => Some(CollectFault::Stranger),
+            _ if self.number_of(tag) != Some(number) => Some(CollectFault::Stranger),
+            Phase::Done => None,
+            _ => Some(CollectFault::NotYet),
         }
     }
 
@@ -115,24 +147,24 @@ impl Story {
         Some(request_of(self.events.as_slice(), tag)?.number())
     }
 
-    /// Makes a call, and answers whether it was taken.
-    fn make(&mut self, rt: &impl Abort, call: Call) -> Result<bool, Fail> {
+    /// Makes a call, and answers why it was refused, if it was.
+    fn make(&mut self, rt: &impl Abort, call: Call) -> Result<Option<Fault>, Fail> {
         Ok(match call {
-            Call::Issue(command) => self.issue(rt, command)?,
-            Call::Step(step) => self.port.step(step).is_ok(),
-            Call::Collect(tag, number) => self.collect(rt, tag, number)?,
-            Call::Recover => self.port.recover().is_ok(),
-            Call::Reissue(tag) => self.port.reissue(tag).is_ok(),
-            Call::Identify => self.port.identify().is_ok(),
-            Call::Flush => self.port.flush().is_ok(),
+            Call::Issue(command) => self.issue(rt, command)?.map(Fault::Issue),
+            Call::Step(step) => self.port.step(step).err().map(Fault::Step),
+            Call::Collect(tag, number) => self.collect(rt, tag, number)?.map(Fault::Collect),
+            Call::Recover => self.port.recover().err().map(Fault::Recover),
+            Call::Reissue(tag) => self.port.reissue(tag).err().map(Fault::Reissue),
+            Call::Identify => self.port.identify().err().map(Fault::Plain),
+            Call::Flush => self.port.flush().err().map(Fault::Plain),
             Call::Acknowledge(mask) => {
                 self.port.acknowledge(mask);
-                true
+                None
             }
         })
     }
 
-    fn issue(&mut self, rt: &impl Abort, command: Command) -> Result<bool, Fail> {
+    fn issue(&mut self, rt: &impl Abort, command: Command) -> Result<Option<IssueFault>, Fail> {
         let Command { tag, sectors, .. } = command;
         assert!(rt; tag < 32);
         assert!(rt; sectors <= 256);
@@ -141,15 +173,21 @@ impl Story {
         match self.port.issue(window) {
             Ok(number) => {
                 equal(rt, self.events.len(), &number, &(self.events.len() as u64));
-                Ok(true)
+                Ok(None)
             }
-            Err(_) => Ok(false),
+            Err((_, fault)) => Ok(Some(fault)),
         }
     }
 
-    fn collect(&mut self, rt: &impl Abort, tag: u8, number: u64) -> Result<bool, Fail> {
-        let Ok((reply, window)) = self.port.collect(tag, number) else {
-            return Ok(false);
+    fn collect(
+        &mut self,
+        rt: &impl Abort,
+        tag: u8,
+        number: u64,
+    ) -> Result<Option<CollectFault>, Fail> {
+        let (reply, window) = match self.port.collect(tag, number) {
+            Ok(collected) => collected,
+            Err(fault) => return Ok(Some(fault)),
         };
         let Ok(_command) = window.check() else {
             panic!(rt; "the window of {number} is not fit");
@@ -158,7 +196,7 @@ impl Story {
         let found = (reply.number, reply.entry, reply.outcome, true);
         let answer = self.answer(number, text.as_slice())?;
         equal(rt, self.events.len(), &Some(found), &answer);
-        Ok(true)
+        Ok(None)
     }
 
     /// The answer of the entries, with its number, and whether the text of its window agrees: a read's has the sectors.
@@ -185,14 +223,15 @@ impl Story {
 
     /// Makes a call and compares what it leaves. The answer says whether it was taken.
     fn go_on(&mut self, rt: &impl Abort, call: Call) -> Result<bool, Fail> {
-        let wanted = self.takes(call);
+        let wanted = self.fault_of(call);
         let before = self.shown();
-        let taken = self.make(rt, call)?;
+        let found = self.make(rt, call)?;
+        let taken = found.is_none();
         let keeps = taken || self.shown() == before;
         let appended = self.catch_up(rt, call)?;
         let appends = taken && call.kind() != 0x200;
         let row = self.events.len();
-        equal(rt, row, &(taken, keeps, appended), &(wanted, true, appends));
+        equal(rt, row, &(found, keeps, appended), &(wanted, true, appends));
         self.compare(rt);
         for lba in 0..u64::from(SECTORS) {
             self.compare_sector(rt, lba);
@@ -253,12 +292,18 @@ impl Story {
 /// The kinds of calls that were taken, and of those that were refused.
 type Kinds = (u32, u32);
 
-/// 200 calls on a new port, and the kinds of these and of the calls before.
-fn run(rt: &impl Abort, alloc: Global, seed: u64, depth: u32, kinds: Kinds) -> Result<Kinds, Fail> {
+/// So many calls on a new port, and the kinds of these and of the calls before.
+fn run(
+    rt: &impl Abort,
+    alloc: Global,
+    seed: u64,
+    (depth, calls): (u32, u32),
+    kinds: Kinds,
+) -> Result<Kinds, Fail> {
     let mut story = Story::new(alloc, depth)?;
     let mut picks = Picks::from_seed(seed);
     let (mut taken, mut refused) = kinds;
-    for _ in 0..200 {
+    for _ in 0..calls {
         let call = picks.call(&story.port, story.events.as_slice());
         if story.go_on(rt, call)? {
             taken |= call.kind();
@@ -276,9 +321,21 @@ fn the_port_agrees_with_its_journal(rt: HostRuntime) -> Result<(), Fail> {
     for (depth, taken) in [(1, 0x3BF), (4, 0x3FF), (32, 0x3FF)] {
         let mut kinds = (0, 0);
         for seed in 1..=4 {
-            kinds = run(&rt, rt.alloc(), seed, depth, kinds)?;
+            kinds = run(&rt, rt.alloc(), seed, (depth, 200), kinds)?;
         }
         equal(&rt, depth as usize, &kinds, &(taken, 0x1FF));
     }
+    Ok(())
+}
+
+// Each depth has other tags that the port has not.
+#[test]
+fn the_port_agrees_with_its_journal_at_each_depth(rt: HostRuntime) -> Result<(), Fail> {
+    let mut kinds = (0, 0);
+    for depth in 1..=32u32 {
+        let seed = 100 + u64::from(depth);
+        kinds = run(&rt, rt.alloc(), seed, (depth, 60), kinds)?;
+    }
+    equal(&rt, 32, &kinds, &(0x3FF, 0x1FF));
     Ok(())
 }

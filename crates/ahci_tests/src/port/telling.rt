@@ -37,7 +37,7 @@ pub enum Row {
 }
 
 /// A port over so many sectors of zeros.
-fn port_of(alloc: Global, sectors: usize, depth: u32) -> Result<Port, Fail>
+pub fn port_of(alloc: Global, sectors: usize, depth: u32) -> Result<Port, Fail>
     requires { sectors ≤ 131072 }
 {
     Ok(Port::new(alloc, vec![in alloc; 0u8; sectors * 512]?, depth)?)
@@ -54,6 +54,14 @@ fn op_of(alloc: Global, lba: u64, byte: Option<u8>) -> Result<Op, AllocError> {
     })
 }
 
+/// The window of a command of one sector, over the default pieces.
+pub fn window_of(alloc: Global, tag: u8, lba: u64, byte: Option<u8>) -> Result<Window, Fail>
+    requires { tag < 32 }
+{
+    let op = op_of(alloc, lba, byte)?;
+    Ok(Window::build(alloc, tag, &op, &default_pieces(1))?)
+}
+
 /// Issues a command, and answers its number.
 fn issue(
     alloc: Global,
@@ -64,9 +72,7 @@ fn issue(
 ) -> Result<Result<u64, IssueFault>, Fail>
     requires { tag < 32 }
 {
-    let op = op_of(alloc, lba, byte)?;
-    let window = Window::build(alloc, tag, &op, &default_pieces(1))?;
-    Ok(match port.issue(window) {
+    Ok(match port.issue(window_of(alloc, tag, lba, byte)?) {
         Ok(number) => Ok(number),
         Err((_, fault)) => Err(fault),
     })

@@ -302,6 +302,58 @@ fn a_failed_write_leaves_a_first_part_of_the_answers(rt: HostRuntime) -> Result<
     Ok(())
 }
 
+/// How many writes a script's answers take, at most `step` bytes at once.
+fn writes_of(alloc: Global, script: &[u8], step: usize) -> u64 {
+    let mut reader = Source {
+        bytes: script,
+        step: 40,
+        fails: false,
+    };
+    let mut writer = Sink {
+        written: Vec::new(alloc),
+        step,
+        calls: u64::MAX,
+        failure: Failure::Never,
+    };
+    let _outcome = replay(alloc, &mut reader, &mut writer);
+    u64::MAX.wrapping_sub(writer.calls)
+}
+
+// Each write takes a byte at least, so each failure leaves more than the one before, and where a write takes one byte, one more.
+#[test]
+fn a_writer_may_fail_at_each_write(rt: HostRuntime) -> Result<(), Fail> {
+    let script = joined(rt.alloc(), TWO_WRITES.as_slice(), false)?;
+    let answers = joined(rt.alloc(), TWO_WRITES.as_slice(), true)?;
+    for failure in [Failure::Write, Failure::TakesNone] {
+        for step in [1, 3, 1000] {
+            let writes = writes_of(rt.alloc(), script.as_slice(), step);
+            assert!(rt; writes > 1 && (step > 1 || writes == answers.len() as u64));
+            let mut more = 0;
+            for calls in 0..=writes {
+                let found = to_sink(rt.alloc(), script.as_slice(), step, calls, failure);
+                let (written, outcome) = found;
+                let is_whole = calls == writes;
+                let wanted = if is_whole {
+                    Ok(())
+                } else {
+                    Err(CliFault::Write)
+                };
+                let is_part = answers.as_slice().starts_with(written.as_slice());
+                let len = written.len();
+                let is_right = (outcome, is_part, len >= more, len == answers.len());
+                equal(
+                    &rt,
+                    calls as usize,
+                    &is_right,
+                    &(wanted, true, true, is_whole),
+                );
+                more = len.saturating_add(1);
+            }
+        }
+    }
+    Ok(())
+}
+
 /// A comment of 64 bytes with its line feed.
 static COMMENT: &[u8; 64] = b"###############################################################\n";
 

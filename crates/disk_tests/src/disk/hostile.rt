@@ -1,4 +1,5 @@
-//! Every prefix and every change of one byte of the example commands, beside a slow reading of the five cases.
+//! Every prefix and every change of one byte of the example commands, beside a slow reading of the five cases; and of FISes
+//! that are none.
 use super::rig::{ABORTED, ACCEPTED, FAR_READ, FLUSH, IDENTIFY, READ_LOG, WRITE, disk_of, queued};
 use crate::table::equal;
 use ncq_core::{Disk, Plain, Taken};
@@ -143,6 +144,64 @@ fn each_change_of_a_command_has_its_case(rt: HostRuntime) -> Result<(), Fail> {
             READ_LOG,
         ] {
             takes_all_near(&rt, rt.alloc(), &command, before)?;
+        }
+    }
+    Ok(())
+}
+
+/// FISes that a device or its data are sent by: D2H Register of a command that was accepted, refused with ABRT and with IDNF,
+/// PIO Setup, DMA Setup of a write of a sector with tag 1, DMA Activate, Set Device Bits of a completion and of an error, and
+/// Data of four bytes.
+static OTHERS: [&[u8]; 9] = [
+    &[
+        0x34, 0, 0x40, 0, 0, 0, 0, 0, 0, 0, 0, 0, 0, 0, 0, 0, 0, 0, 0, 0,
+    ],
+    &[
+        0x34, 0x40, 0x41, 4, 0, 0, 0, 0, 0, 0, 0, 0, 0, 0, 0, 0, 0, 0, 0, 0,
+    ],
+    &[
+        0x34, 0x40, 0x41, 0x10, 0x9A, 0x78, 0x56, 0, 0x34, 0x12, 0, 0, 0, 0, 0, 0, 0, 0, 0, 0,
+    ],
+    &[
+        0x5F, 0x60, 0x48, 0, 0, 0, 0, 0, 0, 0, 0, 0, 0, 0, 0, 0x40, 0, 2, 0, 0,
+    ],
+    &[
+        0x41, 0, 0, 0, 1, 0, 0, 0, 0, 0, 0, 0, 0, 0, 0, 0, 0, 0, 0, 0, 0, 2, 0, 0, 0, 0, 0, 0,
+    ],
+    &[0x39, 0, 0, 0],
+    &[0xA1, 0x40, 0x40, 0, 2, 0, 0, 0],
+    &[0xA1, 0x40, 0x41, 0x40, 0, 0, 0, 0],
+    &[0x46, 0, 0, 0, 1, 2, 3, 4],
+];
+
+/// Takes all prefixes of a FIS, and all changes of one of its bytes, by one disk: none of them is a command.
+fn refuses_all_near(
+    rt: &impl Abort,
+    alloc: Global,
+    disk: &mut Disk,
+    fis: &[u8],
+    before: Before,
+) -> Result<(), Fail> {
+    for len in 0..=fis.len() {
+        takes(rt, disk, len, &fis[..len], before);
+    }
+    for place in 0..fis.len() {
+        let mut bytes = Vec::from_slice(alloc, fis)?;
+        for byte in 0..=255u8 {
+            bytes.as_mut_slice()[place] = byte;
+            equal(rt, place, &wanted(bytes.as_slice(), before), &ABORTED);
+            takes(rt, disk, place, bytes.as_slice(), before);
+        }
+    }
+    Ok(())
+}
+
+#[test]
+fn fises_of_other_types_are_no_commands(rt: HostRuntime) -> Result<(), Fail> {
+    for before in [Before::Nothing, Before::Outstanding, Before::Error] {
+        let mut disk = disk_after(&rt, rt.alloc(), before)?;
+        for fis in OTHERS {
+            refuses_all_near(&rt, rt.alloc(), &mut disk, fis, before)?;
         }
     }
     Ok(())

@@ -99,7 +99,7 @@ pub fn serve(
     disk: &mut Disk,
     tag: u8,
     host: &mut Memory,
-) -> Result<[u8; 8], ServeFault> {
+) -> Result<(), ServeFault> {
     assert!(rt; host.text.len() >= disk.sectors() as usize * 512);
     disk.serve(tag, host)
 }

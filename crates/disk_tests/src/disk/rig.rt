@@ -46,7 +46,7 @@ pub enum Call {
     TakeShort([u8; 20], Taken),
     /// READ or WRITE FPDMA QUEUED comes, with this command byte, tag, LBA and number of sectors.
     Queue(u8, u8, u8, u16, Taken),
-    Serve(u8, Result<[u8; 8], ServeFault>),
+    Serve(u8, Result<(), ServeFault>),
     Fail(u8, u8, u64, Result<[u8; 8], ServeFault>),
     /// The log page has these bytes at these places; all others are 0.
     ReadLog(&'static [(usize, u8)]),

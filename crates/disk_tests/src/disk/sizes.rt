@@ -67,8 +67,7 @@ fn moves(rt: &impl Abort, alloc: Global, write: bool, device: u8, size: Size) ->
     let mut fis = queued(command, 31, 1, features);
     fis[7] = device;
     rig.goes(rt, sectors, (Take(fis, ACCEPTED), 1 << 31, false));
-    let done = Serve(31, Ok([0xA1, 0x40, 0x40, 0, 0, 0, 0, 0x80]));
-    rig.goes(rt, sectors, (done, 0, false));
+    rig.goes(rt, sectors, (Serve(31, Ok(())), 0, false));
     equal(rt, sectors, &rig.host.link, &sent(size, write));
     let text = rig.host.text.as_slice();
     let halves = (text.get(..sectors * 512), text.get(sectors * 512..));

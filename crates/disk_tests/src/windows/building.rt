@@ -30,6 +30,21 @@ fn the_bytes_of_a_read_of_eight_sectors(rt: HostRuntime) -> Result<(), Fail> {
     Ok(())
 }
 
+/// The most sectors that one command can have, by 32 pieces of 1 MiB.
+#[test]
+fn the_bytes_of_the_longest_write(rt: HostRuntime) -> Result<(), Fail> {
+    let op = op_of(rt.alloc(), Asked::Write(65_536 * 512))?;
+    let window = Window::build(rt.alloc(), 0, &op, &default_pieces(65_536))?;
+    let header =
+        b"\x45\x00\x20\x00\x00\x00\x00\x00\x00\x00\x00\x10\x00\x00\x00\x00\x00\x00\x00\x00\x00\x00\x00\x00\x00\x00\x00\x00\x00\x00\x00\x00";
+    let command =
+        b"\x27\x80\x61\x00\x00\x00\x00\x40\x00\x00\x00\x00\x00\x00\x00\x00\x00\x00\x00\x00";
+    let entry = b"\x00\x10\xF0\x11\x00\x00\x00\x00\x00\x00\x00\x00\xFF\xFF\x0F\x00";
+    has(&rt, &window, header, &[(0, command), (0x270, entry)]);
+    equal(&rt, 1, &window.bytes().len(), &33_558_528);
+    Ok(())
+}
+
 const THREE: [Place; 3] = [(0xE00, 2), (0xC00, 510), (0x880, 512)];
 
 #[test]
@@ -105,7 +120,7 @@ fn lists_of_pieces_are_refused_by_the_first_case(rt: HostRuntime) -> Result<(), 
 /// Rows to which two cases apply, of which the first is told.
 static TWO_CASES: [Refusal; 7] = [
     (Asked::Read(1 << 48, 0), &[], Some(BuildFault::BadCount)),
-    (Asked::Read(0, 257), &[], Some(BuildFault::BadCount)),
+    (Asked::Read(0, 65_537), &[], Some(BuildFault::BadCount)),
     (Asked::Write(513), &[], Some(BuildFault::BadCount)),
     (Asked::Read(1 << 48, 1), &[], Some(BuildFault::BadLba)),
     (Asked::Read(0, 1), &[(1, 512)], Some(BuildFault::OddPiece)),

@@ -103,7 +103,7 @@ static BYTES: [Change; 17] = [
     (&[], &[(0x0E, 0xFF)], 656, None),
     (&[], &[(0x0F, 0xFF)], 656, None),
     (&[], &[(0x03, 0x02)], 656, Some(TableFault::BadList)),
-    (&[], &[(0x0B, 0x01)], 656, Some(TableFault::TooLong)),
+    (&[], &[(0x0B, 0x01)], 656, Some(TableFault::BadList)),
     (&[], &[(0x80, 0x91)], 656, Some(TableFault::BadList)),
     (&[], &[(0x84, 0x01)], 656, Some(TableFault::BadList)),
     (&[], &[(0x8C, 0xFE)], 656, Some(TableFault::BadList)),
@@ -142,7 +142,7 @@ fn eight_sectors(alloc: Global, change: (usize, u8)) -> Result<Window, Fail> {
 #[test]
 fn a_built_window_with_one_byte_changed(rt: HostRuntime) -> Result<(), Fail> {
     for (change, wanted) in [
-        ((3, 0x00), Err(TableFault::TooLong)),
+        ((3, 0x00), Err(TableFault::BadList)),
         ((2, 0x61), Err(TableFault::BadCommand)),
         ((12, 0x30), Err(TableFault::WrongTag)),
         ((7, 0xC0), Ok((true, 8))),

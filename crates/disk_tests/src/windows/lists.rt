@@ -6,17 +6,21 @@ use ahci_table::{BuildFault, Piece, Window, default_pieces};
 use std::test::Fail;
 
 /// Sectors, the number of their default pieces, and the last of these.
-static DEFAULTS: [(u32, usize, Option<(u32, u32)>); 6] = [
+static DEFAULTS: [(u32, usize, Option<(u32, u32)>); 10] = [
     (0, 0, None),
     (1, 1, Some((0x1000, 512))),
     (8, 1, Some((0x1000, 4096))),
     (9, 2, Some((0x2000, 512))),
     (256, 32, Some((0x20000, 4096))),
-    (257, 0, None),
+    (257, 1, Some((0x1000, 131_584))),
+    (2_048, 1, Some((0x1000, 1_048_576))),
+    (2_049, 2, Some((0x10_1000, 512))),
+    (65_536, 32, Some((0x1F0_1000, 1_048_576))),
+    (65_537, 0, None),
 ];
 
 #[test]
-fn default_pieces_are_pages(rt: HostRuntime) {
+fn default_pieces_are_pages_or_mebibytes(rt: HostRuntime) {
     for (row, (sectors, count, wanted)) in DEFAULTS.iter().enumerate() {
         let pieces = default_pieces(*sectors);
         let last = match pieces.last() {

@@ -5,7 +5,6 @@ ghost use Rattle.sata_fis.specs.Encoding.{encoded, d2h_bytes, set_bits_bytes, Is
 ghost use Rattle.ncq_core.specs.DiskFis.{accepted_bytes, aborted_bytes, not_found_bytes, flushed_bytes, pio_bytes, setup_bytes, activate_bytes, completed_bytes, failed_bytes, register_fis, done_fis};
 
 use sata_fis::{D2h, DmaSetup, Fis, PioSetup, Queued, SetBits};
-use word_bits::place;
 
 /// Status DRDY, the device is ready (ACS-3, "Status field").
 const READY: u8 = 0x40;
@@ -117,12 +116,11 @@ pub(super) fn dma_setup(command: &Queued) -> [u8; 28]
     }))
 }
 
-/// A tag's command is completed.
-pub(super) fn completed(tag: u8) -> [u8; 8]
-    requires { tag < 32 }
-    ensures { result ≡ completed_bytes tag }
+/// The commands of a word's tags are completed.
+pub(super) fn completed(word: u32) -> [u8; 8]
+    ensures { result ≡ completed_bytes word }
 {
-    set_bits(READY, 0, place(tag))
+    set_bits(READY, 0, word)
 }
 
 /// A command failed, and none is completed.

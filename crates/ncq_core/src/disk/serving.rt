@@ -1,14 +1,14 @@
 //! How the disk ends a command that is outstanding: by serving it, or by an error, which a page of the log tells.
 
-ghost use Rattle.std.specs.Prelude.{◌≡◌, ◌+◌, ◌<◌, ◌≤◌, slice_set, None, Some, length, IfOk, IfErr, IfSome, OnOk, OnErr, IsSome, IsSomeAnd};
+ghost use Rattle.std.specs.Prelude.{◌≡◌, ◌+◌, ◌<◌, ◌≤◌, slice_set, None, Some, Err, length, IfOk, IfErr, IfSome, IsOk, OnOk, OnErr, IsSome, IsSomeAnd, MatchOption};
 ghost use Rattle.ncq_core.specs.DiskState.{IsDisk, IsOutstanding, command_of, disk_sectors};
-ghost use Rattle.ncq_core.specs.DiskFis.{setup_bytes, completed_bytes, failed_bytes};
+ghost use Rattle.ncq_core.specs.DiskFis.{setup_bytes, failed_bytes};
 ghost use Rattle.ncq_core.specs.Verdict.{stopped_by};
 ghost use Rattle.ncq_core.specs.Log.{log_page};
 ghost use Rattle.ncq_core.specs.Serving.{HasMoved, answered, byte_count, fail_fault, covers_sector, serve_fault, served};
 
 use crate::disk::Disk;
-use crate::disk::answers::{completed, dma_setup, failed};
+use crate::disk::answers::{dma_setup, failed};
 use crate::disk::log::log_page;
 use crate::disk::moving::move_data;
 use crate::host::Host;
@@ -25,13 +25,14 @@ fn covers_sector(command: &Queued, lba: u64) -> bool
 
 impl<A: Allocator> Disk<A> {
     /// Serves the command outstanding at a tag: one DMA Setup, then its data. A read puts its sectors at the beginning of
-    /// the host's text; a write makes its sectors the first bytes of that text. The answer is a Set Device Bits FIS.
+    /// the host's text; a write makes its sectors the first bytes of that text. Which Set Device Bits FIS tells that it is
+    /// completed, alone or with others, `completed` says.
     ///
     /// # Errors
     /// `Stopped` where an error stands, `NotAccepted` where nothing is outstanding at the tag.
-    pub fn serve<H: Host>(&mut self, tag: u8, host: &mut H) -> Result<[u8; 8], ServeFault>
+    pub fn serve<H: Host>(&mut self, tag: u8, host: &mut H) -> Result<(), ServeFault>
         requires { IfSome (command_of self.old tag) (λ q. byte_count q ≤ length (H.text host.old)) }
-        ensures answer { result ≡ answered (serve_fault self.old tag) (completed_bytes tag) }
+        ensures answer { MatchOption (serve_fault self.old tag) (IsOk result) (λ f. result ≡ Err f) }
         ensures state { OnOk result (self.new ≡ served self.old tag self.new.image) }
         ensures data { OnOk result (IsSomeAnd (command_of self.old tag) (λ q. HasMoved q self.old.image self.new.image (H.text host.old) (H.text host.new))) }
         ensures setup { OnOk result (IsSomeAnd (command_of self.old tag) (λ q. H.last_setup host.new ≡ setup_bytes q)) }
@@ -44,7 +45,7 @@ impl<A: Allocator> Disk<A> {
         host.setup(&dma_setup(&command));
         self.move_sectors(&command, host);
         self.free(tag);
-        Ok(completed(tag))
+        Ok(())
     }
 
     /// Fails the command outstanding at a tag, with an error at one of its sectors, `at`. The error stands, and has ended

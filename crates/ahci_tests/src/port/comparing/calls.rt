@@ -1,7 +1,9 @@
 //! The calls of a run, as a generator picks them.
 ghost use Rattle.std.specs.Prelude.{◌<◌, ◌≤◌};
 
-use ahci_port::{DeviceStep, Port};
+use ahci_port::{
+    CollectFault, DeviceStep, IssueFault, PlainFault, Port, RecoverFault, ReissueFault, StepFault,
+};
 use ncq_core::{Event, Phase, phase_of, request_of};
 
 /// How many sectors the disk of a run has.
@@ -33,6 +35,17 @@ pub enum Call {
     Identify,
     Flush,
     Acknowledge(u32),
+}
+
+/// Why a call is refused.
+#[derive(Clone, Copy, Debug, PartialEq, Eq)]
+pub enum Fault {
+    Issue(IssueFault),
+    Step(StepFault),
+    Collect(CollectFault),
+    Recover(RecoverFault),
+    Reissue(ReissueFault),
+    Plain(PlainFault),
 }
 
 impl Call {

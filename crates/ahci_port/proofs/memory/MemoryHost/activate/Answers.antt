@@ -9,6 +9,6 @@ overflow_add-self g c =
     let room : c.self.inside.offset + length (drop 4 c.args.out.now) ≤ length (text c.self.inside.window) =
     subst (λ m. m.offset + length (drop 4 c.args.out.now) ≤ length (text m.window)) (sym c.self.view_is) c.requires.room in
     let sized = fit_sized c.self.inside.window c.self.invariant.0 in
-    let short = c.self.invariant.0.short in
+    let short = c.self.invariant.2 in
     let len = ap length c.gather_in.ensures in
     omega (arith, length-take (length c.split_at_mut-head.result.1.now) (drop c.self.inside.offset (text c.self.inside.window)), length-drop c.self.inside.offset (text c.self.inside.window))

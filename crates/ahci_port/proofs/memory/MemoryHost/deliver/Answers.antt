@@ -9,7 +9,7 @@ overflow_add-self g c =
     let room : c.self.inside.offset + length (drop 4 c.args.fis.now) ≤ length (text c.self.inside.window) =
     subst (λ m. m.offset + length (drop 4 c.args.fis.now) ≤ length (text m.window)) (sym c.self.view_is) c.requires.room in
     let sized = fit_sized c.self.inside.window c.self.invariant.0 in
-    let short = c.self.invariant.0.short in
+    let short = c.self.invariant.2 in
     let all = take_all (length c.args.fis.now - 4) (drop 4 c.args.fis.now) (omega (arith, length-drop 4 c.args.fis.now)) in
     rw all (omega arith)
 

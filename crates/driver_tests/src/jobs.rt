@@ -1,0 +1,64 @@
+//! The jobs of the runs.
+use crate::common::{Job, op_of};
+use ncq_core::Op;
+use std::alloc::{AllocError, Global};
+
+/// The jobs of a run.
+#[derive(Clone, Copy, Debug)]
+pub enum Jobs {
+    None,
+    /// Twelve over three sectors.
+    Few,
+    /// A write of a sector, and a read of it.
+    Pair,
+    /// Thirty-two writes, of which that of job 17 is past the last of 64 sectors.
+    Crowd,
+    /// Four thousand over 64 sectors, of which every third reads.
+    Many,
+}
+
+static FEW: [Job; 12] = [
+    Job::Write(0, 0),
+    Job::Read(1),
+    Job::Write(1, 2),
+    Job::Read(0),
+    Job::Write(0, 4),
+    Job::Read(2),
+    Job::Write(1, 6),
+    Job::Read(1),
+    Job::Write(0, 8),
+    Job::Read(0),
+    Job::Write(1, 10),
+    Job::Read(2),
+];
+
+fn count_of(jobs: Jobs) -> u32 {
+    match jobs {
+        Jobs::None => 0,
+        Jobs::Few => 12,
+        Jobs::Pair => 2,
+        Jobs::Crowd => 32,
+        Jobs::Many => 4_000,
+    }
+}
+
+fn job_at(jobs: Jobs, index: u32) -> Job {
+    let lba = u64::from(index % 64);
+    match jobs {
+        Jobs::None | Jobs::Few => FEW[index as usize % 12],
+        Jobs::Pair if index == 0 => Job::Write(0, 0x11),
+        Jobs::Pair => Job::Read(0),
+        Jobs::Crowd => Job::Write(if index == 17 { 64 } else { lba }, (index % 32) as u8),
+        Jobs::Many if index % 3 == 2 => Job::Read(lba),
+        Jobs::Many => Job::Write(lba, (index % 251) as u8),
+    }
+}
+
+/// The commands of jobs.
+pub fn commands(alloc: Global, jobs: Jobs) -> Result<Vec<Op>, AllocError> {
+    let mut ops = Vec::new(alloc);
+    for index in 0..count_of(jobs) {
+        ops.push(op_of(alloc, job_at(jobs, index))?)?;
+    }
+    Ok(ops)
+}

@@ -1,0 +1,355 @@
+//! The calls of a port that may want memory: what they answer where it is refused, what stands then, and what they answer
+//! with memory.
+use crate::commands::{Command, image_of, port_of, window_of};
+use crate::heap::{Asked, Heap, Row, Tried, equal, grant_all, growths_of, refuse_from};
+use crate::journal::ENTRY;
+use crate::shown::look_at;
+use ahci_port::{DeviceStep, DiskFault, IssueFault, PlainFault, Port, RecoverFault, Stepped};
+use ahci_table::Window;
+use refusing_allocator::Refusing;
+use std::process::Abort;
+use std::test::Fail;
+
+/// How many entries' room each call of a port makes.
+const ROOM: u64 = 129;
+
+// The depth of a new port, and how many growths it meets: one is the copy of the image; the slots are pushed one by one, so
+// that there is room for 4 of them, and for 8, 16 and 32 where there are more.
+static DEPTHS: [(u32, usize); 8] = [
+    (1, 2),
+    (4, 2),
+    (5, 3),
+    (8, 3),
+    (9, 4),
+    (16, 4),
+    (17, 5),
+    (32, 5),
+];
+
+/// Why no port is made, or its depth.
+fn made(heap: &Heap, depth: u32, growth: usize) -> Result<Tried<Result<u32, DiskFault>>, Fail> {
+    let image = image_of(heap)?;
+    refuse_from(heap, growth);
+    let port = Port::new(heap, image, depth);
+    let mut tried = match &port {
+        Ok(port) => Tried::of(Ok(port.depth()), growths_of(heap), 0),
+        Err(fault) => Tried::of(Err(*fault), growths_of(heap), 0),
+    };
+    grant_all(heap);
+    if port.is_err() {
+        tried.again = Some(Ok(port_of(heap, depth)?.depth()));
+    }
+    Ok(tried)
+}
+
+#[test]
+fn a_port_is_made_or_leaves_nothing_behind(rt: HostRuntime) -> Result<(), Fail> {
+    for (depth, growths) in DEPTHS {
+        for growth in 0..=growths {
+            let heap = Refusing::new(rt.alloc());
+            let found = made(&heap, depth, growth)?;
+            let wanted = if growth < growths {
+                Tried {
+                    said: Err(DiskFault::OutOfMemory),
+                    asked: Asked::Refused(growth as u64),
+                    bytes: None,
+                    again: Some(Ok(depth)),
+                }
+            } else {
+                Tried::of(Ok(depth), Asked::Granted(growths as u64), 0)
+            };
+            equal(&rt, &depth, growth, &found, &wanted);
+            assert!(rt; heap.out() == 0);
+        }
+    }
+    Ok(())
+}
+
+/// A call of a port that may want memory, on one that has flushed so often before.
+#[derive(Clone, Copy, Debug)]
+enum Call {
+    Issue(Command, u8),
+    Identify(u8),
+    Flush(u8),
+}
+
+/// What it answers.
+#[derive(Clone, Copy, Debug, PartialEq)]
+enum Said {
+    Issued(u64),
+    NotIssued(IssueFault),
+    /// Word 75 of the page: the depth less one.
+    Word([u8; 2]),
+    Flushed,
+    NotSent(PlainFault),
+}
+
+use Said::{Flushed, Issued, NotIssued, NotSent, Word};
+
+const NOT_ISSUED: Said = NotIssued(IssueFault::OutOfMemory);
+
+const NOT_SENT: Said = NotSent(PlainFault::OutOfMemory);
+
+// A write has a copy of its bytes, which is the first growth. Room is for 129 entries beyond those that stand: a new journal
+// makes 129, one with an entry makes twice as many, and that is room enough for the next ones.
+static CALLS: [Row<Call, Said>; 13] = [
+    Row {
+        call: Call::Issue(Command::Read(0), 0),
+        refused: &[NOT_ISSUED],
+        answer: Issued(0),
+        bytes: ROOM * ENTRY,
+    },
+    Row {
+        call: Call::Issue(Command::Read(5), 1),
+        refused: &[NOT_ISSUED],
+        answer: Issued(1),
+        bytes: 2 * ROOM * ENTRY,
+    },
+    Row {
+        call: Call::Issue(Command::Read(31), 3),
+        refused: &[],
+        answer: Issued(3),
+        bytes: 0,
+    },
+    Row {
+        call: Call::Issue(Command::Write(0, 0x11), 0),
+        refused: &[NOT_ISSUED, NOT_ISSUED],
+        answer: Issued(0),
+        bytes: 512 + ROOM * ENTRY,
+    },
+    Row {
+        call: Call::Issue(Command::Write(31, 0x11), 2),
+        refused: &[NOT_ISSUED],
+        answer: Issued(2),
+        bytes: 512,
+    },
+    Row {
+        call: Call::Issue(Command::UrgentRead(2), 0),
+        refused: &[NOT_ISSUED],
+        answer: Issued(0),
+        bytes: ROOM * ENTRY,
+    },
+    Row {
+        call: Call::Issue(Command::LongWrite(31, 7), 0),
+        refused: &[NOT_ISSUED, NOT_ISSUED],
+        answer: Issued(0),
+        bytes: 131_072 + ROOM * ENTRY,
+    },
+    Row {
+        call: Call::Identify(0),
+        refused: &[NOT_SENT],
+        answer: Word([31, 0]),
+        bytes: ROOM * ENTRY,
+    },
+    Row {
+        call: Call::Identify(1),
+        refused: &[NOT_SENT],
+        answer: Word([31, 0]),
+        bytes: 2 * ROOM * ENTRY,
+    },
+    Row {
+        call: Call::Identify(2),
+        refused: &[],
+        answer: Word([31, 0]),
+        bytes: 0,
+    },
+    Row {
+        call: Call::Flush(0),
+        refused: &[NOT_SENT],
+        answer: Flushed,
+        bytes: ROOM * ENTRY,
+    },
+    Row {
+        call: Call::Flush(1),
+        refused: &[NOT_SENT],
+        answer: Flushed,
+        bytes: 2 * ROOM * ENTRY,
+    },
+    Row {
+        call: Call::Flush(2),
+        refused: &[],
+        answer: Flushed,
+        bytes: 0,
+    },
+];
+
+/// Sends a command that is not queued.
+fn sends(port: &mut Port<&Heap>, is_flush: bool) -> Said {
+    if is_flush {
+        return match port.flush() {
+            Ok(()) => Flushed,
+            Err(fault) => NotSent(fault),
+        };
+    }
+    match port.identify() {
+        Ok(page) => Word([page[150], page[151]]),
+        Err(fault) => NotSent(fault),
+    }
+}
+
+/// Sends it while growths are refused, and then with memory. A refusal leaves the port as it was.
+fn tries_to_send(
+    rt: &impl Abort,
+    heap: &Heap,
+    port: &mut Port<&Heap>,
+    is_flush: bool,
+    growth: usize,
+) -> Tried<Said> {
+    let before = look_at(port);
+    refuse_from(heap, growth);
+    let said = sends(port, is_flush);
+    let mut tried = Tried::of(said, growths_of(heap), heap.bytes());
+    grant_all(heap);
+    if matches!(said, NotSent(_)) {
+        equal(rt, &is_flush, growth, &look_at(port), &before);
+        tried.again = Some(sends(port, is_flush));
+    }
+    tried
+}
+
+/// Whether two windows have the same tag, header and bytes.
+pub fn are_same(window: &Window<&Heap>, other: &Window<&Heap>) -> bool {
+    window.tag() == other.tag()
+        && window.header() == other.header()
+        && window.bytes() == other.bytes()
+}
+
+/// Issues a command while growths are refused, and then with memory. A refusal leaves the port as it was, and gives the
+/// window back as it was.
+fn tries_to_issue<'a>(
+    rt: &impl Abort,
+    heap: &'a Heap,
+    port: &mut Port<&'a Heap>,
+    command: Command,
+    growth: usize,
+) -> Result<Tried<Said>, Fail> {
+    let window = window_of(heap, command)?;
+    let copy = window_of(heap, command)?;
+    let before = (look_at(port), heap.out());
+    refuse_from(heap, growth);
+    let answer = port.issue(window);
+    let (asked, bytes) = (growths_of(heap), heap.bytes());
+    grant_all(heap);
+    Ok(match answer {
+        Ok(number) => Tried::of(Issued(number), asked, bytes),
+        Err((window, fault)) => {
+            let left = ((look_at(port), heap.out()), are_same(&window, &copy));
+            equal(rt, &command, growth, &left, &(before, true));
+            let mut tried = Tried::of(NotIssued(fault), asked, bytes);
+            tried.again = Some(match port.issue(window) {
+                Ok(number) => Issued(number),
+                Err((_, fault)) => NotIssued(fault),
+            });
+            tried
+        }
+    })
+}
+
+/// A port of 32 slots that has flushed so often.
+fn flushed<'a>(heap: &'a Heap, often: u8) -> Result<Port<&'a Heap>, Fail> {
+    let mut port = port_of(heap, 32)?;
+    for _ in 0..often {
+        port.flush()?;
+    }
+    Ok(port)
+}
+
+fn tries(rt: &impl Abort, heap: &Heap, call: Call, growth: usize) -> Result<Tried<Said>, Fail> {
+    match call {
+        Call::Issue(command, often) => {
+            let mut port = flushed(heap, often)?;
+            let tried = tries_to_issue(rt, heap, &mut port, command, growth)?;
+            let owned = (port.owner(command.tag()), port.journal().len());
+            let number = u64::from(often);
+            equal(rt, &call, growth, &owned, &(Some(number), number + 1));
+            Ok(tried)
+        }
+        Call::Identify(often) => {
+            let mut port = flushed(heap, often)?;
+            Ok(tries_to_send(rt, heap, &mut port, false, growth))
+        }
+        Call::Flush(often) => {
+            let mut port = flushed(heap, often)?;
+            Ok(tries_to_send(rt, heap, &mut port, true, growth))
+        }
+    }
+}
+
+#[test]
+fn a_port_refused_memory_is_as_it_was_and_goes_on_with_memory(rt: HostRuntime) -> Result<(), Fail> {
+    for row in &CALLS {
+        for growth in 0..=row.refused.len() {
+            let heap = Refusing::new(rt.alloc());
+            let found = tries(&rt, &heap, row.call, growth)?;
+            equal(&rt, &row.call, growth, &found, &row.wanted(growth));
+            assert!(rt; heap.out() == 0);
+        }
+    }
+    Ok(())
+}
+
+/// A port of so many slots whose last tag has failed.
+pub fn halted<'a>(rt: &impl Abort, heap: &'a Heap, depth: u32) -> Result<Port<&'a Heap>, Fail> {
+    let mut port = port_of(heap, depth)?;
+    let tag = depth.clamp(1, 32) as u8 - 1;
+    let Ok(_) = port.issue(window_of(heap, Command::Read(tag))?) else {
+        return Err(Fail::new("not issued"));
+    };
+    let failure = DeviceStep::Fail {
+        tag,
+        error: 0x40,
+        at: 0,
+    };
+    let steps = (port.step(DeviceStep::Accept(tag)), port.step(failure));
+    let wanted = (Ok(Stepped::Accepted(1)), Ok(Stepped::Failed(2)));
+    equal(rt, &depth, 0, &steps, &wanted);
+    Ok(port)
+}
+
+/// Recovers while growths are refused, and then with memory. A refusal leaves the port as it was, which is halted.
+fn tries_to_recover(
+    rt: &impl Abort,
+    heap: &Heap,
+    depth: u32,
+    growth: usize,
+) -> Result<Tried<Result<u8, RecoverFault>>, Fail> {
+    let mut port = halted(rt, heap, depth)?;
+    let before = look_at(&port);
+    refuse_from(heap, growth);
+    let said = port.recover();
+    let mut tried = Tried::of(said, growths_of(heap), heap.bytes());
+    grant_all(heap);
+    if said.is_err() {
+        let left = (look_at(&port), port.halted());
+        equal(rt, &depth, growth, &left, &(before, true));
+        tried.again = Some(port.recover());
+    }
+    equal(
+        rt,
+        &depth,
+        growth,
+        &(port.halted(), port.journal().len()),
+        &(false, 4),
+    );
+    Ok(tried)
+}
+
+// Three entries stand, so that room for 129 more makes twice the 129 of the issue.
+#[test]
+fn a_port_refused_memory_is_still_halted_at_each_depth(rt: HostRuntime) -> Result<(), Fail> {
+    for depth in 1..=32u32 {
+        let row = Row {
+            call: depth,
+            refused: &[Err(RecoverFault::OutOfMemory)],
+            answer: Ok((depth - 1) as u8),
+            bytes: 2 * ROOM * ENTRY,
+        };
+        for growth in 0..=1 {
+            let heap = Refusing::new(rt.alloc());
+            let found = tries_to_recover(&rt, &heap, depth, growth)?;
+            equal(&rt, &depth, growth, &found, &row.wanted(growth));
+            assert!(rt; heap.out() == 0);
+        }
+    }
+    Ok(())
+}

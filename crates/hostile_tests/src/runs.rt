@@ -1,0 +1,159 @@
+//! Runs of workers in which a growth is refused: each ends as want of memory, with all its threads, and gives back what it
+//! took.
+use crate::commands::port_of;
+use crate::heap::{Heap, equal, grant_all};
+use crate::jobs::{Jobs, Way, crowd, ops_of};
+use ahci_driver::{Open, RunFault, run};
+use refusing_allocator::{Refusals, Refusing};
+use std::alloc::Global;
+use std::process::Abort;
+use std::sync::Wait;
+use std::test::Fail;
+use std::thread::Threads;
+
+/// A run on four sectors.
+#[derive(Clone, Copy, Debug)]
+struct Setting {
+    workers: u32,
+    depth: u32,
+    jobs: Jobs,
+    way: Way,
+    /// How many growths it meets.
+    growths: u64,
+    /// How many entries its journal has.
+    entries: u64,
+}
+
+// With memory every run meets, in whatever order its threads go:
+//
+// - 6: the copy of the starting image, the board's two rows, the workers, and at the end the workers' receipts, each worker's
+//   and in the order of the jobs;
+// - 3 for each worker less 1: its receipts, its end, and, but for one, a list of workers that is split off;
+// - 2 for each job: a read's window and its buffer, a write's window and its copy in the journal;
+// - 2 for the journal, whose room is made at its first entry and doubled at the next issue or recovery;
+// - 4 for `settle`, the image, the requests, the answers and the marks, and 1 for the bytes of each finished read.
+static SETTINGS: [Setting; 5] = [
+    Setting {
+        workers: 1,
+        depth: 1,
+        jobs: Jobs::Pair,
+        way: Way::Lowest,
+        growths: 6 + 2 + 4 + 2 + 5,
+        entries: 8,
+    },
+    Setting {
+        workers: 1,
+        depth: 1,
+        jobs: Jobs::Pair,
+        way: Way::FailsSecond(0),
+        growths: 6 + 2 + 4 + 2 + 5,
+        entries: 9,
+    },
+    Setting {
+        workers: 2,
+        depth: 2,
+        jobs: Jobs::Few,
+        way: Way::Lowest,
+        growths: 6 + 5 + 24 + 2 + 10,
+        entries: 48,
+    },
+    Setting {
+        workers: 4,
+        depth: 1,
+        jobs: Jobs::Few,
+        way: Way::Lowest,
+        growths: 6 + 11 + 24 + 2 + 10,
+        entries: 48,
+    },
+    Setting {
+        workers: 4,
+        depth: 2,
+        jobs: Jobs::Few,
+        way: Way::Highest,
+        growths: 6 + 11 + 24 + 2 + 10,
+        entries: 48,
+    },
+];
+
+/// How a run ended: with so many receipts and entries, or by this fault. How many requests were made, where none was refused,
+/// and how many blocks are out now that were not before.
+#[derive(Clone, Copy, Debug, PartialEq)]
+struct Ended {
+    how: Result<(usize, u64), RunFault>,
+    requests: Option<u64>,
+    left: u64,
+}
+
+/// Runs once. The port is the run's own, and its jobs are lent.
+fn runs<R: Threads + Wait + Sync>(
+    rt: &R,
+    heap: &Heap,
+    setting: Setting,
+    refusals: Refusals,
+) -> Result<Ended, Fail> {
+    let workers = setting.workers;
+    if workers < 1 || workers > 32 {
+        return Err(Fail::new("no workers"));
+    }
+    let ops = ops_of(heap, setting.jobs.list())?;
+    let before = heap.out();
+    let port = port_of(heap, setting.depth)?;
+    let choosers = crowd(heap, setting.way, workers)?;
+    heap.refuse(refusals);
+    let how = match run(rt, heap, port, &ops, workers, choosers, &Open) {
+        Ok(end) => Ok((end.replies.len(), end.port.journal().len())),
+        Err(fault) => Err(fault),
+    };
+    let requests = match heap.refused() {
+        0 => Some(heap.requests()),
+        _ => None,
+    };
+    grant_all(heap);
+    Ok(Ended {
+        how,
+        requests,
+        left: heap.out().saturating_sub(before),
+    })
+}
+
+/// What is wanted where requests from this number on are refused.
+fn wanted(setting: Setting, growth: u64) -> Ended {
+    if growth < setting.growths {
+        return Ended {
+            how: Err(RunFault::OutOfMemory),
+            requests: None,
+            left: 0,
+        };
+    }
+    Ended {
+        how: Ok((setting.jobs.list().len(), setting.entries)),
+        requests: Some(setting.growths),
+        left: 0,
+    }
+}
+
+/// Refuses each growth of a run in turn, with all that follow it and alone.
+fn refuses_each<R: Threads + Wait + Sync + Abort>(
+    rt: &R,
+    alloc: Global,
+    setting: Setting,
+) -> Result<(), Fail> {
+    for growth in 0..=setting.growths {
+        let wanted = wanted(setting, growth);
+        for refusals in [Refusals::From(growth), Refusals::Only(growth)] {
+            let heap = Refusing::new(alloc);
+            let found = runs(rt, &heap, setting, refusals)?;
+            equal(rt, &(setting, refusals), growth as usize, &found, &wanted);
+            assert!(rt; heap.out() == 0);
+        }
+    }
+    Ok(())
+}
+
+#[test]
+fn a_run_refused_memory_ends_with_all_its_threads(rt: HostRuntime) -> Result<(), Fail> {
+    for setting in SETTINGS {
+        refuses_each(&rt, rt.alloc(), setting)?;
+    }
+    Ok(())
+}

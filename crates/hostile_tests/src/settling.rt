@@ -1,0 +1,108 @@
+//! A run is settled where memory is refused.
+ghost use Rattle.std.specs.Prelude.{◌≤◌};
+
+use crate::commands::port_of;
+use crate::heap::{Asked, Heap, Tried, equal, grant_all, growths_of, refuse_from};
+use crate::jobs::{Jobs, Way, crowd, ops_of};
+use ahci_driver::{Open, RunEnd, SettleFault, run, settle, settle_plainly};
+use ncq_core::Op;
+use refusing_allocator::Refusing;
+use std::alloc::Global;
+use std::process::Abort;
+use std::sync::Wait;
+use std::test::Fail;
+use std::thread::Threads;
+
+/// A run that has ended, with what it was asked.
+#[derive(Drop)]
+struct Ran<'a> {
+    end: RunEnd<&'a Heap>,
+    jobs: Vec<Op<&'a Heap>, &'a Heap>,
+    workers: u32,
+    ghost some: { 1 ≤ workers },
+}
+
+fn run_of<'a, R: Threads + Wait + Sync>(
+    rt: &R,
+    heap: &'a Heap,
+    jobs: Jobs,
+    workers: u32,
+) -> Result<Ran<'a>, Fail> {
+    if workers < 1 || workers > 32 {
+        return Err(Fail::new("no workers"));
+    }
+    let jobs = ops_of(heap, jobs.list())?;
+    let port = port_of(heap, 2)?;
+    let choosers = crowd(heap, Way::Highest, workers)?;
+    let end = run(rt, heap, port, &jobs, workers, choosers, &Open)?;
+    Ok(Ran { end, jobs, workers })
+}
+
+impl<'a> Ran<'a> {
+    /// Settles the run in one pass, or plainly, in memory of a heap.
+    fn settles(&self, heap: &Heap, is_plain: bool) -> Result<(), SettleFault> {
+        let (port, replies) = (&self.end.port, &self.end.replies);
+        if is_plain {
+            settle_plainly(heap, port, &self.jobs, replies, self.workers)
+        } else {
+            settle(heap, port, &self.jobs, replies, self.workers)
+        }
+    }
+
+    /// Settles while growths are refused, and then with memory.
+    fn tries(&self, heap: &Heap, is_plain: bool, growth: usize) -> Tried<Result<(), SettleFault>> {
+        refuse_from(heap, growth);
+        let said = self.settles(heap, is_plain);
+        let mut tried = Tried::of(said, growths_of(heap), 0);
+        grant_all(heap);
+        if said.is_err() {
+            tried.again = Some(self.settles(heap, is_plain));
+        }
+        tried
+    }
+}
+
+/// What is wanted of a settled run that meets so many growths, where one is refused.
+fn wanted(growths: usize, growth: usize) -> Tried<Result<(), SettleFault>> {
+    if growth == growths {
+        return Tried::of(Ok(()), Asked::Granted(growth as u64), 0);
+    }
+    Tried {
+        said: Err(SettleFault::OutOfMemory),
+        asked: Asked::Refused(growth as u64),
+        bytes: None,
+        again: Some(Ok(())),
+    }
+}
+
+/// Jobs, workers, how many growths the one pass meets, and how many the plain program.
+type Row = (Jobs, u32, usize, usize);
+
+// One pass: the image, the requests, and, where there are entries, the answers, the bytes of each finished read, and the
+// marks. Plainly: the bytes of each finished read.
+static ROWS: [Row; 3] = [
+    (Jobs::None, 3, 2, 0),
+    (Jobs::Pair, 1, 4 + 1, 1),
+    (Jobs::Few, 4, 4 + 6, 6),
+];
+
+/// Settles a run with each growth refused in turn.
+fn settles_each(rt: &impl Abort, alloc: Global, ran: &Ran<'_>, is_plain: bool, growths: usize) {
+    for growth in 0..=growths {
+        let heap = Refusing::new(alloc);
+        let found = ran.tries(&heap, is_plain, growth);
+        equal(rt, &is_plain, growth, &found, &wanted(growths, growth));
+        assert!(rt; heap.out() == 0);
+    }
+}
+
+#[test]
+fn a_run_is_settled_or_memory_is_wanted(rt: HostRuntime) -> Result<(), Fail> {
+    for (jobs, workers, in_one_pass, plainly) in ROWS {
+        let heap = Refusing::new(rt.alloc());
+        let ran = run_of(&rt, &heap, jobs, workers)?;
+        settles_each(&rt, rt.alloc(), &ran, false, in_one_pass);
+        settles_each(&rt, rt.alloc(), &ran, true, plainly);
+    }
+    Ok(())
+}
