@@ -3,6 +3,9 @@
 
 ghost use Rattle.std.specs.Prelude.{◌≡◌, ◌↔◌, ◌<◌, ◌≤◌, ◌-◌, map, take, length, true, false, Some, IsTrue, IsSomeAnd, nat_eq, IfOk, OnOk, IfErr, MatchOption, slice_get};
 ghost use Rattle.std.specs.List.{list_any};
+ghost use Rattle.std.specs.Option.{option_copied, option_map};
+ghost use Rattle.ncq_journal.specs.Entry.{entry_of};
+ghost use Rattle.ncq_journal.specs.History.{entry_at};
 ghost use Rattle.ncq_journal.specs.Work.{work_of};
 ghost use Rattle.ahci_driver.specs.Received.{received_of, is_named};
 ghost use Rattle.ahci_driver.specs.Settled.{AllNamed, AnsweredBefore, IsFirstUnnamed, IsOfJob, IsRight, IsSettled, IsUnsettled, answered_as, issued_as};
@@ -10,8 +13,15 @@ ghost use Rattle.ahci_driver.specs.Settled.{AllNamed, AnsweredBefore, IsFirstUnn
 use crate::fault::SettleFault;
 use crate::receipt::Receipt;
 use ahci_port::Port;
-use ncq_core::{Answer, Event, Op, answer_of};
+use ncq_core::{Answer, Event, Op, answer_of, entry_in};
 use std::alloc::{AllocError, Allocator};
+
+/// The entry at a place of a port's journal, where there is one.
+pub(crate) fn entry_at<A: Allocator>(port: &Port<A>, place: u64) -> Option<&Event<A>>
+    ensures { option_map entry_of (option_copied result) ≡ entry_at port.now.past place }
+{
+    entry_in(port.journal().entries(), place)
+}
 
 /// Whether two commands are the same.
 fn is_same<A: Allocator, B: Allocator>(op: &Op<A>, other: &Op<B>) -> bool
@@ -34,7 +44,7 @@ pub(crate) fn is_issued<A: Allocator, B: Allocator>(
 ) -> bool
     ensures { IsTrue result ↔ (issued_as port.now number ≡ Some (work_of job.now)) }
 {
-    match port.journal().get(number) {
+    match entry_at(port, number) {
         Some(Event::Issue(_, op)) => is_same(op, job),
         _ => false,
     }
@@ -158,7 +168,7 @@ fn unnamed<A: Allocator, B: Allocator>(port: &Port<A>, receipts: &[Receipt<B>]) 
     ensures { IsFirstUnnamed port.now (map received_of receipts.now) result }
 {
     for number in 0..port.journal().len() {
-        if let Some(Event::Issue(..)) = port.journal().get(number) {
+        if let Some(Event::Issue(..)) = entry_at(port, number) {
             if !is_named(receipts, number) {
                 return Some(number);
             }

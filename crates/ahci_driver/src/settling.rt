@@ -8,7 +8,7 @@ ghost use Rattle.ahci_driver.specs.Received.{received_of};
 ghost use Rattle.ahci_driver.specs.Settled.{AreSeen, IsFirstUnnamed, IsOfJob, IsRight, IsSettled, IsUnsettled};
 
 use crate::fault::SettleFault;
-use crate::plain::{is_answer, is_in_turn, is_issued};
+use crate::plain::{entry_at, is_answer, is_in_turn, is_issued};
 use crate::receipt::Receipt;
 use ahci_port::Port;
 use ncq_core::{Answer, Event, Op, answers_of};
@@ -87,7 +87,7 @@ fn unseen<A: Allocator, B: Allocator>(
     ensures { IsFirstUnnamed port.now (map received_of receipts.now) result }
 {
     for number in 0..port.journal().len() {
-        if let Some(Event::Issue(..)) = port.journal().get(number) {
+        if let Some(Event::Issue(..)) = entry_at(port, number) {
             if !seen[number as usize] {
                 return Some(number);
             }

@@ -139,3 +139,23 @@ fn what_was_reserved_is_pushed_with_no_memory(rt: HostRuntime) -> Result<(), Fai
     );
     Ok(())
 }
+
+// The heap has nothing left when the journal is handed out, and when one is made that goes on from there.
+#[test]
+fn a_journal_is_handed_out_with_no_memory(rt: HostRuntime) -> Result<(), Fail> {
+    let heap = Refusing::new(rt.alloc());
+    let mut journal = Journal::starting_at(&heap, 7);
+    journal.reserve(2)?;
+    refuse_from(&heap, 0);
+    if journal.room() > 0 {
+        journal.push_reserved(Event::Accept(3));
+    }
+    let whole = journal.hand_out();
+    let next = Journal::starting_at(&heap, 1 << 63);
+    let old = (whole.len(), whole.get(6).is_none(), whole.get(7).is_some());
+    let new = (journal.len(), journal.first(), journal.room());
+    let found = (old, new, next.end(), growths_of(&heap));
+    let wanted = ((1, true, true), (0, 8, 0), 1 << 63, Asked::Granted(0));
+    equal(&rt, &heap.out(), 0, &found, &wanted);
+    Ok(())
+}

@@ -56,7 +56,7 @@ or-some : (o : Option Answer) (a : Answer) → is_some (option_or o (Some a)) �
 or-some None a = refl
 or-some (Some b) a = refl
 
-given_none : (image : List ℕ) (past : List Entry) (newest : Entry) → given image past newest None ≡ None
+pub given_none : (image : List ℕ) (past : List Entry) (newest : Entry) → given image past newest None ≡ None
 given_none image past (Issue t work) = refl
 given_none image past (Accept t) = refl
 given_none image past (Complete t) = refl

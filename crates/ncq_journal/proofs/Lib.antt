@@ -14,3 +14,5 @@ pub mod FailedLemmas
 pub mod OthersLemmas
 pub mod PassLemmas
 pub mod PassEventLemmas
+pub mod CutLemmas
+pub mod NumberLemmas

@@ -18,20 +18,20 @@ use Rattle.ncq_journal.specs.Work.{Work}
 use Rattle.ncq_journal.proofs.PhaseLemmas.{owned_has_request, fails_not_free}
 use Rattle.ncq_journal.proofs.TagLemmas.{same_tags}
 
-phase_parts : (later past : List Entry) (tag : ℕ) → AllFree past → phase (later ++ past) tag ≡ phase later tag
+pub phase_parts : (later past : List Entry) (tag : ℕ) → AllFree past → phase (later ++ past) tag ≡ phase later tag
 phase_parts [] past tag free = free tag
 phase_parts (entry ∷ later) past tag free = ap (λ p. phase_after tag p entry) (phase_parts later past tag free)
 
-halted_parts : (later past : List Entry) → AllFree past → halted (later ++ past) ≡ halted later
+pub halted_parts : (later past : List Entry) → AllFree past → halted (later ++ past) ≡ halted later
 halted_parts later past free =
     same_tags (λ t. is_failed (phase (later ++ past) t)) (λ t. is_failed (phase later t)) (λ t _. ap is_failed (phase_parts later past t free))
 
-busy_parts : (later past : List Entry) → AllFree past → busy (later ++ past) ≡ busy later
+pub busy_parts : (later past : List Entry) → AllFree past → busy (later ++ past) ≡ busy later
 busy_parts later past free =
     same_tags (λ t. is_busy (phase (later ++ past) t)) (λ t. is_busy (phase later t)) (λ t _. ap is_busy (phase_parts later past t free))
 
 -- the command of a request, if there is one
-abbrev command : Option Request → Option Work
+abbrev pub command : Option Request → Option Work
 command None = None
 command (Some r) = Some r.work
 
@@ -40,7 +40,7 @@ command_issue : (b : Bool) (r q : Request) (o p : Option Request) → r.work ≡
 command_issue true r q o p same some older = ap Some same
 command_issue false r q o p same some older = older some
 
-command_parts : (later past : List Entry) (tag : ℕ) → IsSome (request later tag) → command (request (later ++ past) tag) ≡ command (request later tag)
+pub command_parts : (later past : List Entry) (tag : ℕ) → IsSome (request later tag) → command (request (later ++ past) tag) ≡ command (request later tag)
 command_parts [] past tag some = absurd (false≢true some)
 command_parts (Issue t work ∷ later) past tag some =
     command_issue (t == tag) (record { number = length (later ++ past); work = work }) (record { number = length later; work = work })
@@ -53,7 +53,7 @@ command_parts (Reissue t ∷ later) past tag some = command_parts later past tag
 command_parts (Collect t ∷ later) past tag some = command_parts later past tag some
 command_parts (Unqueued c ∷ later) past tag some = command_parts later past tag some
 
-same_command : (P : Work → Type 0) (o p : Option Request) → command o ≡ command p → IsSomeAnd o (λ r. P r.work) → IsSomeAnd p (λ r. P r.work)
+pub same_command : (P : Work → Type 0) (o p : Option Request) → command o ≡ command p → IsSomeAnd o (λ r. P r.work) → IsSomeAnd p (λ r. P r.work)
 same_command P None p e h = absurd h
 same_command P (Some r) None e h = absurd (cc)
 same_command P (Some r) (Some q) e h = subst P (let s : r.work ≡ q.work = cc in s) h
@@ -83,12 +83,12 @@ allowed_parts s d later past (Reissue t) free own h = (sym (phase_parts later pa
 allowed_parts s d later past (Collect t) free own h = sym (phase_parts later past t free) ∙ h
 allowed_parts s d later past (Unqueued c) free own h = (h.0, sym (halted_parts later past free) ∙ h.1, sym (busy_parts later past free) ∙ h.2)
 
-lawful_parts : (s d : ℕ) (later past : List Entry) → IsLawful s d (later ++ past) → AllFree past → IsLawful s d later
+pub lawful_parts : (s d : ℕ) (later past : List Entry) → IsLawful s d (later ++ past) → AllFree past → IsLawful s d later
 lawful_parts s d [] past h free = tt
 lawful_parts s d (entry ∷ later) past h free =
     let own = lawful_parts s d later past h.0 free in (own, allowed_parts s d later past entry free own h.1)
 
-sector_parts : (s d : ℕ) (image middle : List ℕ) (later past : List Entry) → IsLawful s d (later ++ past) → AllFree past
+pub sector_parts : (s d : ℕ) (image middle : List ℕ) (later past : List Entry) → IsLawful s d (later ++ past) → AllFree past
     → ((i : ℕ) → sector_at middle i ≡ sector image past i) → (i : ℕ) → sector image (later ++ past) i ≡ sector middle later i
 sector_parts s d image middle [] past h free cut i = sym (cut i)
 sector_parts s d image middle (Complete t ∷ later) past h free cut i =

@@ -2,7 +2,7 @@
 use Rattle.std.proofs.Common.{◌≡◌, ◌≢◌, ℕ, ◌+◌, ◌*◌, ◌<◌, ◌≤◌, List, [], ◌∷◌, length, set, ◌/◌, take, ap, sym, refl, subst, ◌∙◌, Option, Some, get_or, arith}
 use Rattle.ncq_journal.specs.declared.outcome.Outcome.TheVariants as outcome
 use Rattle.ncq_journal.specs.Answer.{Answer, answer}
-use Rattle.ncq_journal.specs.Entry.{Entry, entry_of, Issue, Accept, Complete, Fail, Recover, Reissue, Collect}
+use Rattle.ncq_journal.specs.Entry.{Entry, entry_of, Issue, Complete, Fail}
 use Rattle.ncq_journal.specs.History.{history_of}
 use Rattle.ncq_journal.specs.Lawful.{IsAllowed, IsLawful}
 use Rattle.ncq_journal.specs.Phase.{phase}

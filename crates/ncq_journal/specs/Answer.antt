@@ -1,4 +1,4 @@
--- What a request is answered: its entry, its outcome and, for a read, the sectors as they were at that entry.
+-- What a request is answered: the place of its entry, its outcome and, for a read, the sectors as they were at that entry.
 use Rattle.std.specs.Prelude.{ℕ, ◌==◌, if◌then◌else◌, List, [], ◌∷◌, length, Option, None, Some}
 use Rattle.std.specs.List.{flat_map, range_with_len}
 use Rattle.std.specs.Option.{option_or}

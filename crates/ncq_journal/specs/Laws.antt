@@ -1,6 +1,7 @@
 -- What holds of every lawful journal: the laws behind the definitions.
-use Rattle.std.specs.Prelude.{◌≡◌, ◌≢◌, ◌↔◌, ℕ, ◌+◌, ◌≤◌, Bool, true, false, if◌then◌else◌, List, [], ◌∷◌, ◌++◌, None, Some, is_some, IsSome, IsSomeAnd}
+use Rattle.std.specs.Prelude.{◌≡◌, ◌≢◌, ◌↔◌, ℕ, ◌+◌, ◌<◌, ◌≤◌, Bool, true, false, if◌then◌else◌, List, [], ◌∷◌, ◌++◌, length, None, Some, is_some, IsSome, IsSomeAnd}
 use Rattle.std.specs.List.{sum_by}
+use Rattle.std.specs.Option.{option_map}
 use Rattle.word_bits.specs.Places.{has_place}
 use Rattle.ncq_journal.specs.declared.outcome.Outcome.{Outcome}
 use Rattle.ncq_journal.specs.declared.outcome.Outcome.TheVariants as outcome
@@ -12,6 +13,7 @@ use Rattle.ncq_journal.specs.Halted.{tags, halted, busy}
 use Rattle.ncq_journal.specs.History.{entry_at, first_of}
 use Rattle.ncq_journal.specs.Image.{sector_at, covers, written_at, is_write}
 use Rattle.ncq_journal.specs.Lawful.{IsAllowed, IsLawful}
+use Rattle.ncq_journal.specs.Numbering.{number_of, entry_numbered, request_numbered, answer_numbered}
 use Rattle.ncq_journal.specs.Owed.{owed}
 use Rattle.ncq_journal.specs.Phase.{phase, is_failed, is_busy}
 use Rattle.ncq_journal.specs.Request.{Request, request}
@@ -165,3 +167,44 @@ abbrev pub TwoParts : Type 0
 TwoParts =
     (s d : ℕ) (image middle : List ℕ) (later past : List Entry) → IsLawful s d (later ++ past) → AllFree past → ((i : ℕ) → sector_at middle i ≡ sector image past i)
     → IsLawful s d later × ((i : ℕ) → sector image (later ++ past) i ≡ sector middle later i)
+
+-- a tag stands after both parts where it stands after the later part alone
+abbrev pub PhaseOfParts : Type 0
+PhaseOfParts = (later past : List Entry) (tag : ℕ) → AllFree past → phase (later ++ past) tag ≡ phase later tag
+
+-- both parts together are lawful where each is
+abbrev pub LawfulOfParts : Type 0
+LawfulOfParts = (s d : ℕ) (later past : List Entry) → IsLawful s d past → AllFree past → IsLawful s d (later ++ past) ↔ IsLawful s d later
+
+-- a request of the later part is that of both, with its place counted on from the length of the earlier part
+abbrev pub RequestOfParts : Type 0
+RequestOfParts =
+    (later past : List Entry) (tag : ℕ) (r : Request) → request later tag ≡ Some r → request (later ++ past) tag ≡ Some (request_numbered (length past) r)
+
+-- so is the answer to a request of the later part, over the image after the earlier one
+abbrev pub AnswerOfParts : Type 0
+AnswerOfParts =
+    (s d : ℕ) (image middle : List ℕ) (later past : List Entry) (place : ℕ) → IsLawful s d (later ++ past) → AllFree past
+    → ((i : ℕ) → sector_at middle i ≡ sector image past i)
+    → answer image (later ++ past) (number_of (length past) place) ≡ option_map (answer_numbered (length past)) (answer middle later place)
+
+-- a request of the earlier part has its answer there
+abbrev pub AnswerOfEarlier : Type 0
+AnswerOfEarlier =
+    (s d : ℕ) (image : List ℕ) (later past : List Entry) (place : ℕ) → IsLawful s d past → AllFree past → place < length past
+    → answer image (later ++ past) place ≡ answer image past place
+
+-- the entry of a place's number is the entry at that place
+abbrev pub NumberOfPlace : Type 0
+NumberOfPlace = (first place : ℕ) (past : List Entry) → entry_numbered first past (number_of first place) ≡ entry_at past place
+
+-- a number below the first has no entry, and none from the end on has one
+abbrev pub NoneBelowFirst : Type 0
+NoneBelowFirst = (first number : ℕ) (past : List Entry) → number < first → entry_numbered first past number ≡ None
+
+abbrev pub NoneFromEnd : Type 0
+NoneFromEnd = (first number : ℕ) (past : List Entry) → number_of first (length past) ≤ number → entry_numbered first past number ≡ None
+
+-- two places have two numbers
+abbrev pub NumbersDiffer : Type 0
+NumbersDiffer = (first place other : ℕ) → number_of first place ≡ number_of first other → place ≡ other

@@ -5,6 +5,7 @@ pub mod History
 pub mod Image
 pub mod Lawful
 pub mod Laws
+pub mod Numbering
 pub mod Owed
 pub mod Passing
 pub mod Phase

@@ -1,4 +1,5 @@
--- The request that a tag was last issued for. A request is known by the number of its Issue entry.
+-- The request that a tag was last issued for. A request is known by the place of its Issue entry, which is its number where
+-- a journal's first number is 0.
 use Rattle.std.specs.Prelude.{ℕ, ◌==◌, if◌then◌else◌, List, [], ◌∷◌, length, Option, None, Some}
 use Rattle.ncq_journal.specs.Entry.{Entry, Issue}
 use Rattle.ncq_journal.specs.Work.{Work}

@@ -17,8 +17,8 @@ use crate::sector::sector_of;
 use std::alloc::{AllocError, Allocator, Global};
 use std::marker::Model;
 
-/// What a request was answered: the number of the entry that answered it, its outcome and, for a read, the bytes
-/// of its sectors as they were at that entry.
+/// What a request was answered: the place of the entry that answered it, counted from 0, its outcome and, for a read, the
+/// bytes of its sectors as they were at that entry.
 #[derive(Drop)]
 #[derive_where(Debug)]
 pub struct Answer<A: Allocator = Global> {
@@ -165,8 +165,8 @@ fn answer_after<A: Allocator, B: Allocator>(
     }
 }
 
-/// What request `number` was answered after these events, the oldest first, over a starting image: the first
-/// Complete or Fail of its tag behind its Issue answers it. The bytes of an answered read take memory.
+/// What the request whose Issue stands at place `number` was answered after these events, the oldest first, over a starting
+/// image: the first Complete or Fail of its tag behind its Issue answers it. The bytes of an answered read take memory.
 #[tactic(auto, using(crate::proofs::HistoryLemmas::history_more, crate::proofs::HistoryLemmas::history_all))]
 pub fn answer_of<A: Allocator, B: Allocator + Clone>(
     alloc: B,

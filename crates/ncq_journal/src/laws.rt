@@ -2,6 +2,8 @@
 ghost use Rattle.ncq_journal.specs.Laws.{LawfulAtEach, FreePastDepth, OwnedHasRequest, RequestIsItsIssue, AnsweredByPhase, OwedIsFew, OwedMoves};
 ghost use Rattle.ncq_journal.specs.Laws.{WritesItsSectors, OthersWriteNothing, CompletedIsAnswered, FailedIsNotCompleted, CompletedHasThisAnswer};
 ghost use Rattle.ncq_journal.specs.Laws.{FailedHasThisAnswer, UnansweredIsLast, OneHasFailed, HaltedByATag, BusyByATag, DeviceTagsInSact, CiInSact, TwoParts};
+ghost use Rattle.ncq_journal.specs.Laws.{PhaseOfParts, LawfulOfParts, RequestOfParts, AnswerOfParts, AnswerOfEarlier};
+ghost use Rattle.ncq_journal.specs.Laws.{NumberOfPlace, NoneBelowFirst, NoneFromEnd, NumbersDiffer};
 
 /// A journal is lawful exactly where each of its entries was allowed by the entries before it.
 pub fn a_journal_is_lawful_at_each_entry()
@@ -73,4 +75,23 @@ pub fn outstanding_tags_are_active()
 /// after both is that of the later part over the image after the earlier one.
 pub fn a_journal_may_be_cut_where_all_tags_are_free()
     ensures { TwoParts }
+{}
+
+/// Where every tag is free between two parts of a journal, what comes later knows of the earlier part by its image and its
+/// length alone: each tag's phase, what may come, each request and each answer is that of the later part, with places that
+/// are counted on from the earlier part's length. And the earlier part's requests keep their answers.
+pub fn a_cut_shifts_places_alone()
+    ensures phase { PhaseOfParts }
+    ensures lawful { LawfulOfParts }
+    ensures request { RequestOfParts }
+    ensures answer { AnswerOfParts }
+    ensures earlier { AnswerOfEarlier }
+{}
+
+/// The entries of a journal are numbered without a gap from its first number on, and nothing else has one of these numbers.
+pub fn entries_are_numbered_from_the_first()
+    ensures place { NumberOfPlace }
+    ensures below { NoneBelowFirst }
+    ensures end { NoneFromEnd }
+    ensures apart { NumbersDiffer }
 {}

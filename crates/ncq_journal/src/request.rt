@@ -7,7 +7,7 @@ use crate::op::Op;
 use std::alloc::{Allocator, Global};
 use std::marker::Model;
 
-/// What a tag was issued for: the number of the Issue entry, and the command.
+/// What a tag was issued for: the place of the Issue entry among the events, counted from 0, and the command.
 #[derive(Drop)]
 pub struct Request<'a, A: Allocator = Global> {
     number: u64,
@@ -26,7 +26,7 @@ impl<'a, A: Allocator> Model for Request<'a, A> {
 impl<'a, A: Allocator> Request<'a, A> {
     ghost use Rattle.ncq_journal.specs.Work.{work_of};
 
-    /// The number of its Issue entry.
+    /// The place of its Issue entry.
     pub fn number(&self) -> u64
         ensures { result ≡ self.now.number }
     {

@@ -6,5 +6,5 @@ use Rattle.ncq_journal.proofs.journal.entry_in.Goals as goal
 
 pub returns : goal.returns
 returns g c =
-    ap (option_map entry_of) (copied_get c.args.events.now c.args.number c.get.result c.get.ensures.lookup)
-    ∙ sym (entry_at-history c.args.events.now c.args.number)
+    ap (option_map entry_of) (copied_get c.args.events.now c.args.place c.get.result c.get.ensures.lookup)
+    ∙ sym (entry_at-history c.args.events.now c.args.place)

@@ -1,8 +1,8 @@
-use Rattle.std.proofs.Common.{◌≡◌, ◌∙◌, ◌<◌, [], Some, ap, sym, subst, set, length, rules}
+use Rattle.std.proofs.Common.{◌∙◌, ◌<◌, [], Some, ap, set, length, rules}
 use Rattle.ncq_journal.specs.declared.outcome.Outcome.TheVariants as outcome
 use Rattle.ncq_journal.specs.Passing.{completed_over}
 use Rattle.ncq_journal.specs.Work.{work_of}
-use Rattle.ncq_journal.proofs.PassEventLemmas.{IsAt, complete_ending, complete_moving, complete_next, fail_ending, fail_next, issue_low, issue_next, passed_all, passed_same, quiet_next}
+use Rattle.ncq_journal.proofs.PassEventLemmas.{complete_ending, complete_moving, complete_next, fail_ending, fail_next, issue_low, issue_next, passed_all, passed_same, quiet_next}
 use Rattle.ncq_journal.proofs.answer.all.answers_of.Goals as goal
 use Rattle.ncq_journal.proofs.answer.all.answers_of.Goals.{in-Issue, in-Complete+in_ok-own-in-Complete+in_ok-answer-in-Complete, in-Fail+in_ok-clone-in-Fail, in_default}
 
