@@ -20,7 +20,7 @@ use Rattle.ahci_args.proofs.WordLemmas.{FindsReplay, FindsRun, finds}
 -- the words of `--pick` at some place
 pub some_picks : PickWords
 some_picks = record {
-  words = record { ref_ptr = (0, 0); now = record { ref_ptr = (0, 0); now = codes "low" } ∷ record { ref_ptr = (0, 0); now = codes "high" } ∷ [] };
+  words = record { ref_ptr = (0, 0); now = record { ref_ptr = (0, 0); now = codes "low" } ∷ record { ref_ptr = (0, 0); now = codes "high" } ∷ record { ref_ptr = (0, 0); now = codes "all" } ∷ [] };
   are = refl;
 }
 

@@ -23,7 +23,7 @@ use Rattle.clap.proofs.WalkLemmas.{list_any-map}
 use Rattle.ahci_args.specs.CommandLine.{PickWords, ahci, most_depth, most_sectors, most_workers, number_option, pick_option, run}
 use Rattle.ahci_args.specs.Asking.{HasNumber, HasPick, TakesOptions}
 use Rattle.ahci_args.specs.declared.pick.Pick.{Pick}
-use Rattle.ahci_args.specs.declared.pick.Pick.TheVariants.{Low, High}
+use Rattle.ahci_args.specs.declared.pick.Pick.TheVariants.{Low, High, All}
 use Rattle.ahci_args.proofs.FlagLemmas.{second_none}
 use Rattle.ahci_args.proofs.OptionLemmas.{level_fits}
 use Rattle.ahci_args.proofs.RowLemmas.{Among, AreRowsOf, HasOptionsOnly, IsRequest, OptionText, TakesOne, defaults_row, given_row, option_text}
@@ -108,12 +108,15 @@ pick_text : (c : List Rule) (picks : PickWords) (rows : List Row) (t : OptionTex
 pick_text c picks rows t is =
     let passed = subst (λ (a : Rule). accepts a.ignore_case (parser_of_value a.parser) t.text ≡ true) is t.passed in
     let among = sym (list_any-map (λ (word : Text). bytes_eq word t.text) (λ (word : Bor Text). word.now) picks.words.now) ∙ passed in
-    go (bytes_eq (codes "low") t.text) (bytes_eq (codes "high") t.text) refl refl (subst (λ (l : List Text). list_any (λ (word : Text). bytes_eq word t.text) l ≡ true) picks.are among)
+    go (bytes_eq (codes "low") t.text) (bytes_eq (codes "high") t.text) (bytes_eq (codes "all") t.text) refl refl refl
+    (subst (λ (l : List Text). list_any (λ (word : Text). bytes_eq word t.text) l ≡ true) picks.are among)
   where
-    go : (low high : Bool) → bytes_eq (codes "low") t.text ≡ low → bytes_eq (codes "high") t.text ≡ high → (low || (high || false)) ≡ true → (p : Pick) × HasPick rows p
-    go true high is_low is_high e = (Low, t.first ∙ ap Some (sym ((bytes_eq-Decides (codes "low") t.text).0 is_low)))
-    go false true is_low is_high e = (High, t.first ∙ ap Some (sym ((bytes_eq-Decides (codes "high") t.text).0 is_high)))
-    go false false is_low is_high e = cc
+    go : (low high all : Bool) → bytes_eq (codes "low") t.text ≡ low → bytes_eq (codes "high") t.text ≡ high → bytes_eq (codes "all") t.text ≡ all
+        → (low || (high || (all || false))) ≡ true → (p : Pick) × HasPick rows p
+    go true high all is_low is_high is_all e = (Low, t.first ∙ ap Some (sym ((bytes_eq-Decides (codes "low") t.text).0 is_low)))
+    go false true all is_low is_high is_all e = (High, t.first ∙ ap Some (sym ((bytes_eq-Decides (codes "high") t.text).0 is_high)))
+    go false false true is_low is_high is_all e = (All, t.first ∙ ap Some (sym ((bytes_eq-Decides (codes "all") t.text).0 is_all)))
+    go false false false is_low is_high is_all e = cc
 
 -- ---- which rule an option has
 

@@ -5,7 +5,7 @@ use Rattle.clap.specs.Words.{FailsBy, Row, Text, first_of, one_of, subcommand_of
 use Rattle.clap.specs.declared.error.Error.{Error}
 use Rattle.ahci_args.specs.CommandLine.{PickWords, ahci, most_depth, most_sectors, most_workers, usage_faults}
 use Rattle.ahci_args.specs.declared.pick.Pick.{Pick}
-use Rattle.ahci_args.specs.declared.pick.Pick.TheVariants.{Low, High}
+use Rattle.ahci_args.specs.declared.pick.Pick.TheVariants.{Low, High, All}
 use Rattle.ahci_args.specs.declared.request.Asked.{Asked}
 use Rattle.ahci_args.specs.declared.request.Asked.TheVariants.{Replay, Run}
 
@@ -27,6 +27,7 @@ pub record HasNumber (options : List Row) (name : Text) (last n : ℕ) : Type 0 
 abbrev pub word_of : Pick → Text
 word_of Low = codes "low"
 word_of High = codes "high"
+word_of All = codes "all"
 
 -- the option `pick` has this value, by its word or as its default
 abbrev pub HasPick : List Row → Pick → Type 0

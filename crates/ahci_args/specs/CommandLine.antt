@@ -20,7 +20,7 @@ number_option name most = record (new_rule name) {
 -- the words that `--pick` takes; where they stand in memory says nothing
 pub record PickWords : Type 0 where
   pub words : Bor (List (Bor Text))
-  pub are : map (λ word. word.now) words.now ≡ codes "low" ∷ codes "high" ∷ []
+  pub are : map (λ word. word.now) words.now ≡ codes "low" ∷ codes "high" ∷ codes "all" ∷ []
 
 -- the option `--pick`, which is `low` unless it is given
 abbrev pub pick_option : PickWords → Rule

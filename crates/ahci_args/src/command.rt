@@ -23,7 +23,7 @@ pub const MAX_DEPTH: u32 = 32;
 pub const MAX_SECTORS: u32 = 131_072;
 
 /// The words that `--pick` takes.
-static PICKS: [&str; 2] = ["low", "high"];
+static PICKS: [&str; 3] = ["low", "high", "all"];
 
 /// The whole command line: `ahci` with its subcommands.
 pub(crate) fn ahci_command<'a>(alloc: Global) -> Result<Command<'a>, Error>

@@ -22,7 +22,7 @@ pub(crate) const REPLAY_HELP: &str = "Commands of a script:
   read T LBA N     issue a read of N sectors with tag T
   raw T H B        issue the window of tag T with the header H and the bytes B
   accept T         the device takes the command of tag T
-  serve T          the device moves the data of tag T, and completes it
+  serve T T ..     the device moves the data of 1 to 32 tags, and completes them by one FIS
   fail T EE LBA    the device fails the command of tag T at a sector, with error EE
   collect T K      take the answer of the request with number K
   recover          end an error, and hold all commands that it has stopped
@@ -64,7 +64,7 @@ pub(crate) const DEPTH_HELP: &str = "How many slots the port has, each for one c
 pub(crate) const SECTORS_HELP: &str = "How many sectors of 512 bytes the disk has: 1 to 131072";
 
 pub(crate) const PICK_HELP: &str =
-    "The tag whose command the device goes on with, the lowest or the highest";
+    "The tag whose command the device goes on with: the lowest, the highest, or all at once";
 
 pub(crate) const RUN_HELP: &str =
     "The options --workers, --depth and --sectors have no default. Each option is given once.

@@ -5,4 +5,6 @@ pub enum Pick {
     Low,
     /// That of the highest tag.
     High,
+    /// All that it has, once none waits for it, by one Set Device Bits FIS.
+    All,
 }

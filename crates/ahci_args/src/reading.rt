@@ -54,6 +54,7 @@ fn pick(options: &ArgMatches<'_>) -> Pick
     match options.get_str("pick").unwrap() {
         "low" => Pick::Low,
         "high" => Pick::High,
+        "all" => Pick::All,
         _ => unreachable!(),
     }
 }

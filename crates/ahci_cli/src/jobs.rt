@@ -2,7 +2,7 @@ ghost use Rattle.std.specs.Prelude.{◌≤◌, IfErr, OnOk};
 ghost use Rattle.ahci_jobs.specs.RunJobs.{EndsRun, RunsJobs};
 
 use ahci_args::Pick;
-use ahci_driver::{High, Low};
+use ahci_driver::{All, High, Low};
 use ahci_script::CliFault;
 use std::alloc::Allocator;
 use std::io::{Read, Write};
@@ -39,5 +39,6 @@ where
     match pick {
         Pick::Low => ahci_jobs::run_jobs(rt, alloc, workers, depth, sectors, Low, reader, writer),
         Pick::High => ahci_jobs::run_jobs(rt, alloc, workers, depth, sectors, High, reader, writer),
+        Pick::All => ahci_jobs::run_jobs(rt, alloc, workers, depth, sectors, All, reader, writer),
     }
 }

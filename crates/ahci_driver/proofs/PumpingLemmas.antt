@@ -1,5 +1,5 @@
 -- The words that a pump looks at, and the journal that they come from.
-use Rattle.std.proofs.Common.{◌≡◌, ◌≢◌, ℕ, ◌^◌, ◌<◌, Bool, true, false, cond, List, ap, sym, refl, ◌∙◌, None, Some, arith, inl, inr}
+use Rattle.std.proofs.Common.{◌≡◌, ◌≢◌, ℕ, ◌^◌, ◌<◌, Bool, true, false, ◌&&◌, cond, List, [], ◌∷◌, ap, sym, refl, ◌∙◌, None, Some, arith, inl, inr}
 use Rattle.std.proofs.lemmas.Bool.{cases_lt, true≢false}
 use Rattle.ncq_journal.specs.declared.phase.Phase.{Phase}
 use Rattle.ncq_journal.specs.declared.phase.Phase.TheVariants.{Free, Issued, Accepted, Rejected, Broken, Held, Done}
@@ -17,7 +17,7 @@ use Rattle.ahci_port.specs.declared.step.DeviceStep.TheVariants.{Accept, Serve, 
 use Rattle.ahci_port.specs.Faults.{is_issued, is_accepted, is_held, reissue_refusal, step_refusal}
 use Rattle.ahci_port.specs.Looking.{issued_tags, accepted_tags, held_tags}
 use Rattle.ahci_port.specs.PortView.{PortView}
-use Rattle.ahci_driver.specs.Choosing.{IsLowestStep}
+use Rattle.ahci_driver.specs.Choosing.{IsLowestStep, IsOne}
 
 -- a place of a set has the set's property
 pub in_places : (p : ℕ → Bool) (t : ℕ) → has_place (places p) t ≡ true → p t ≡ true
@@ -96,16 +96,21 @@ accept_may port tag running e =
     ap (λ b. cond b (Some step_fault.Halted) (cond (is_issued (phase port.past tag)) None (Some step_fault.NotIssued))) running
     ∙ ap (λ b. cond b None (Some step_fault.NotIssued)) e
 
-serve_may : (port : PortView) (tag : ℕ) → halted port.past ≡ false → is_accepted (phase port.past tag) ≡ true → step_refusal port (Serve tag) ≡ None
+-- one tag alone
+serve_may : (port : PortView) (tag : ℕ) → halted port.past ≡ false → is_accepted (phase port.past tag) ≡ true → step_refusal port (Serve (record { items = tag ∷ [] })) ≡ None
 serve_may port tag running e =
-    ap (λ b. cond b (Some step_fault.Halted) (cond (is_accepted (phase port.past tag)) None (Some step_fault.NotAccepted))) running
-    ∙ ap (λ b. cond b None (Some step_fault.NotAccepted)) e
+    ap (λ b. cond b (Some step_fault.Halted) (cond (is_accepted (phase port.past tag) && true) None (Some step_fault.NotAccepted))) running
+    ∙ ap (λ b. cond (b && true) None (Some step_fault.NotAccepted)) e
 
 -- nothing stands against the step of `Low` where some tag is busy
 pub lowest_is_lawful : (port : PortView) (issued accepted : ℕ) (step : DeviceStep) → IsLowestStep issued accepted step → halted port.past ≡ false
     → busy port.past ≡ true → bits issued ≡ issued_tags port.past → bits accepted ≡ accepted_tags port.past → step_refusal port step ≡ None
-lowest_is_lawful port issued accepted (Serve tag) h running b i a =
-    serve_may port tag running (in_places (λ t. is_accepted (phase port.past t)) tag (ap (λ s. has_place s tag) (sym a) ∙ h.here))
+lowest_is_lawful port issued accepted (Serve tags) h running b i a = of_one tags.items h
+  where
+    of_one : (items : List ℕ) → IsOne (IsLowest (bits accepted)) items → step_refusal port (Serve (record { items = items })) ≡ None
+    of_one [] h = absurd h
+    of_one (tag ∷ []) h = serve_may port tag running (in_places (λ t. is_accepted (phase port.past t)) tag (ap (λ s. has_place s tag) (sym a) ∙ h.here))
+    of_one (tag ∷ other ∷ tags) h = absurd h
 lowest_is_lawful port issued accepted (Accept tag) h running b i a =
     let low = h.1 (λ none. busy_sets port.past b (sym a ∙ h.0) (sym i ∙ none)) in
     accept_may port tag running (in_places (λ t. is_issued (phase port.past t)) tag (ap (λ s. has_place s tag) (sym i) ∙ low.here))

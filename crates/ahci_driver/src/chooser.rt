@@ -1,8 +1,11 @@
 ghost use Rattle.std.specs.Prelude.{◌≡◌};
-ghost use Rattle.ahci_driver.specs.Choosing.{IsLowestStep, IsHighestStep};
+ghost use Rattle.std.specs.List.{filter, range_with_len};
+ghost use Rattle.word_bits.specs.Places.{bits, has_place};
+ghost use Rattle.ahci_driver.specs.Choosing.{IsStepOfAll, IsHighestStep, IsLowestStep, tags_in};
 
 use ahci_port::DeviceStep;
-use word_bits::{highest, lowest};
+use arrayvec::ArrayVec;
+use word_bits::{highest, is_set, lowest};
 
 /// Who decides what the device does next.
 pub trait Chooser {
@@ -19,13 +22,17 @@ pub struct Low;
 #[derive(Clone, Copy, Debug, Drop)]
 pub struct High;
 
+/// Accepts the lowest tag that waits, else serves all tags that the device has, by one Set Device Bits FIS.
+#[derive(Clone, Copy, Debug, Drop)]
+pub struct All;
+
 /// The step of `Low`: the lowest tag is served that the device has, or, where it has none, the lowest is accepted that
 /// waits; tag 0, where none does.
 pub(crate) fn lowest_step(issued: u32, accepted: u32) -> DeviceStep
     ensures { IsLowestStep issued accepted result }
 {
     match (lowest(accepted), lowest(issued)) {
-        (Some(tag), _) => DeviceStep::Serve(tag),
+        (Some(tag), _) => DeviceStep::serve_one(tag),
         (None, Some(tag)) => DeviceStep::Accept(tag),
         (None, None) => DeviceStep::Accept(0),
     }
@@ -36,10 +43,23 @@ fn highest_step(issued: u32, accepted: u32) -> DeviceStep
     ensures { IsHighestStep issued accepted result }
 {
     match (highest(accepted), highest(issued)) {
-        (Some(tag), _) => DeviceStep::Serve(tag),
+        (Some(tag), _) => DeviceStep::serve_one(tag),
         (None, Some(tag)) => DeviceStep::Accept(tag),
         (None, None) => DeviceStep::Accept(0),
     }
+}
+
+/// The tags of a word, rising.
+fn tags_in(word: u32) -> ArrayVec<u8, 32>
+    ensures { result.items ≡ tags_in (bits word) }
+{
+    let mut tags = ArrayVec::new();
+    for tag in 0..32u8 {
+        if is_set(word, tag) {
+            tags.push(tag);
+        }
+    }
+    tags
 }
 
 impl Chooser for Low {
@@ -55,5 +75,16 @@ impl Chooser for High {
         ensures { IsHighestStep issued accepted result }
     {
         highest_step(issued, accepted)
+    }
+}
+
+impl Chooser for All {
+    fn next(&mut self, issued: u32, accepted: u32) -> DeviceStep
+        ensures { IsStepOfAll issued accepted result }
+    {
+        match lowest(issued) {
+            Some(tag) => DeviceStep::Accept(tag),
+            None => DeviceStep::Serve(tags_in(accepted)),
+        }
     }
 }

@@ -18,7 +18,7 @@ mod submitting;
 mod ticket;
 mod worker;
 
-pub use chooser::{Chooser, High, Low};
+pub use chooser::{All, Chooser, High, Low};
 pub use collecting::collect_locked;
 pub use driver::Driver;
 pub use fault::{PumpFault, SettleFault, SubmitFault};

@@ -14,9 +14,10 @@ use std::thread::Threads;
 
 /// The scripts by name: `NAME.ahci` is the script, `NAME.out` its answers and `NAME.err`, where it is
 /// there, the fault that ends it.
-static SCRIPTS: [&str; 11] = [
+static SCRIPTS: [&str; 12] = [
     "any_window",
     "broken_write",
+    "completed_together",
     "crowd",
     "error_in_a_queue",
     "last_sector",

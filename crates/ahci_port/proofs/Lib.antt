@@ -18,6 +18,8 @@ pub mod OwningLemmas
 pub mod StepLemmas
 pub mod TakingLemmas
 pub mod ServedLemmas
+pub mod ListLemmas
+pub mod UnderwayLemmas
 pub mod MappedLemmas
 pub mod TakenLemmas
 pub mod LogLemmas

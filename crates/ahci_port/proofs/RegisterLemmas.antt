@@ -4,7 +4,7 @@ use Rattle.std.proofs.lemmas.Bool.{cases_eq, cases_lt}
 use Rattle.ahci_regs.specs.declared.fault.RegFault.TheVariants.{NotStarted, NotReceiving, Running}
 use Rattle.ahci_regs.specs.declared.register.Register.TheVariants.{PxCmd, PxSact, PxCi}
 use Rattle.ahci_regs.specs.PortState.{PortState, first_state}
-use Rattle.ahci_regs.specs.Receiving.{is_done}
+use Rattle.ahci_regs.specs.Receiving.{after_bits, is_done}
 use Rattle.ahci_regs.specs.RegisterTable.{register_at}
 use Rattle.ahci_regs.specs.Writing.{write_at, with_sact, with_ci, with_command, commanded, remaining}
 use Rattle.ncq_journal.specs.declared.phase.Phase.TheVariants.{Issued, Accepted, Done}
@@ -31,7 +31,7 @@ use Rattle.word_bits.proofs.PlacesLemmas.{
   minus-no_places,
 }
 use Rattle.word_bits.proofs.BitsLemmas.{bits_pow, bits_zero}
-use Rattle.ahci_port.specs.Registers.{after_write, started, issued, accepted, refused, completed, failed, read_by_pio, flushed, recovered, acknowledged, taken}
+use Rattle.ahci_port.specs.Registers.{after_write, started, issued, accepted, refused, failed, read_by_pio, flushed, recovered, acknowledged, taken}
 use Rattle.ahci_port.specs.Tracking.{Tracks}
 use Rattle.ahci_port.proofs.SetLemmas.{
   sact_issue,
@@ -147,7 +147,7 @@ tracks_refuse d past s t error lba k busy = record {
   ci_is = ap (λ b. cond b (without_place s.ci t) s.ci) not_done_41 ∙ k.ci_is ∙ ci_fail past t error lba busy;
 }
 
-pub tracks_complete : (d : ℕ) (past : List Entry) (s : PortState) (t : ℕ) → Tracks d past s → t < 32 → phase past t ≡ Accepted → Tracks d (Complete t ∷ past) (completed s t)
+pub tracks_complete : (d : ℕ) (past : List Entry) (s : PortState) (t : ℕ) → Tracks d past s → t < 32 → phase past t ≡ Accepted → Tracks d (Complete t ∷ past) (after_bits s 0x40 0 true (2 ^ t))
 tracks_complete d past s t k below taken_in = record {
   depth_is = k.depth_is;
   st = k.st;
@@ -155,6 +155,10 @@ tracks_complete d past s t k below taken_in = record {
   sact_is = ap (minus s.sact) (bits_pow t below) ∙ minus-with_place s.sact t below ∙ ap (λ x. without_place x t) k.sact_is ∙ sact_complete past t below;
   ci_is = k.ci_is ∙ ci_complete past t taken_in;
 }
+
+-- a Set Device Bits FIS that names no tag leaves what the journal says of the registers
+pub tracks_bits : (d : ℕ) (past : List Entry) (s : PortState) → Tracks d past s → Tracks d past (after_bits s 0x40 0 true 0)
+tracks_bits d past s k = record { depth_is = k.depth_is; st = k.st; fre = k.fre; sact_is = ap (minus s.sact) bits_zero ∙ minus-no_places s.sact ∙ k.sact_is; ci_is = k.ci_is }
 
 pub tracks_fail : (d : ℕ) (past : List Entry) (s : PortState) (t error lba : ℕ) → Tracks d past s → is_busy (phase past t) ≡ true → Tracks d (Fail t error lba ∷ past) (failed s error)
 tracks_fail d past s t error lba k busy = record {

@@ -1,5 +1,5 @@
 -- A port keeps what it keeps when the device completes a command.
-use Rattle.std.proofs.Common.{◌-◌, take, ◌≡◌, ℕ, ◌+◌, ◌*◌, ◌/◌, Bool, true, false, cond, List, ◌∷◌, ◌++◌, length, set, ap, sym, refl, subst, ◌∙◌, Option, None, Some, arith}
+use Rattle.std.proofs.Common.{◌-◌, take, ◌≡◌, ℕ, ◌+◌, ◌*◌, ◌/◌, ◌^◌, Bool, true, false, cond, List, ◌∷◌, ◌++◌, length, set, ap, sym, refl, subst, ◌∙◌, Option, None, Some, arith}
 use Rattle.std.proofs.lemmas.List.{length-set, get_or-set_same, get_or-set_other, take_all, drop_all, append-nil}
 use Rattle.ahci_regs.specs.PortState.{PortState}
 use Rattle.ahci_table.specs.Command.{op, queued_of}
@@ -28,7 +28,7 @@ use Rattle.ahci_port.specs.Keeping.{Keeps, Holds, HasSlot, HasHeader, IsOf, slot
 use Rattle.ahci_port.specs.Slots.{SlotState, outstanding_in, answer_in, bytes_in}
 use Rattle.ahci_port.specs.Standing.{last_failure}
 use Rattle.ahci_port.specs.Moves.{MovedWindow, served_slot, outcome_of}
-use Rattle.ahci_port.specs.Registers as registers
+use Rattle.ahci_regs.specs.Receiving.{after_bits}
 use Rattle.ahci_port.proofs.AnswerLemmas.{apart_answers}
 use Rattle.ahci_port.proofs.FailureLemmas.{halted_same}
 use Rattle.ahci_port.proofs.IssuingLemmas.{headers_stay}
@@ -104,7 +104,7 @@ pub keeps_serve : (starting : List ℕ) (disk : DiskState) (regs : PortState) (s
     (past : List Entry) (free left tag : ℕ) (slot : SlotState) (image : List ℕ) (w : WindowState)
     → Keeps starting disk regs slots headers past free → phase past tag ≡ Accepted → halted past ≡ false → slot_at slots tag ≡ Some slot → IsSized slot.window
     → HasMoved (queued_of slot.window) disk.image image (text slot.window) (text w) → MovedWindow slot.window w → left + 1 ≡ free
-    → Keeps starting (served disk tag image) (registers.completed regs tag) (set slots tag (Some (served_slot slot (length past) w))) headers (Complete tag ∷ past) left
+    → Keeps starting (served disk tag image) (after_bits regs 0x40 0 true (2 ^ tag)) (set slots tag (Some (served_slot slot (length past) w))) headers (Complete tag ∷ past) left
 keeps_serve starting disk regs slots headers past free left tag slot image w k accepted running here sized moved window room =
     let below = below_depth _ disk.depth past tag Accepted k.lawful accepted (λ e. absurd (cc)) in
     let own_slot : Holds starting past tag slot = subst (HasSlot starting past tag) here (k.each tag) in
@@ -115,7 +115,7 @@ keeps_serve starting disk regs slots headers past free left tag slot image w k a
     let direction = own_slot.is_of.0 ∙ op_direction slot.window in
     let slot' = served_slot slot (length past) w in
     let still = halted_same past (Complete tag) tag (ap is_failed accepted) (ap is_failed (own tag Done (phase past tag))) (λ u apart. other tag u Done (phase past u) apart) in
-    keeps_step starting disk (served disk tag image) regs (registers.completed regs tag) slots headers headers past free left tag (Complete tag) (Some slot') k below allowed
+    keeps_step starting disk (served disk tag image) regs (after_bits regs 0x40 0 true (2 ^ tag)) slots headers headers past free left tag (Complete tag) (Some slot') k below allowed
     (λ u apart. record { phase_same = other tag u Done (phase past u) apart; request_same = refl; unanswered = apart_answers tag u apart })
     (record {
       phase_is = own tag Done (phase past tag);

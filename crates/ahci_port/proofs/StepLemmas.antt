@@ -96,7 +96,7 @@ pub answered_ok : (o : Option ServeFault) (bytes b : List ℕ) → Ok b ≡ answ
 answered_ok None bytes b e = (refl, cc)
 answered_ok (Some x) bytes b e = absurd (cc)
 
-accepted_is : (p : Phase) → is_accepted p ≡ true → p ≡ Accepted
+pub accepted_is : (p : Phase) → is_accepted p ≡ true → p ≡ Accepted
 accepted_is Accepted e = refl
 accepted_is Free e = absurd (false≢true e)
 accepted_is Issued e = absurd (false≢true e)
@@ -155,14 +155,4 @@ accept_may port tag e = by (halted port.past) (is_issued (phase port.past tag)) 
         → (phase port.past tag ≡ Issued) × (halted port.past ≡ false)
     by true b p q h = absurd (cc)
     by false true p q h = (issued_is (phase port.past tag) q, p)
-    by false false p q h = absurd (cc)
-
--- the same of a Serve
-pub serve_may : (port : PortView) (tag : ℕ) → step_refusal port (step.Serve tag) ≡ None → (phase port.past tag ≡ Accepted) × (halted port.past ≡ false)
-serve_may port tag e = by (halted port.past) (is_accepted (phase port.past tag)) refl refl e
-  where
-    by : (a b : Bool) → halted port.past ≡ a → is_accepted (phase port.past tag) ≡ b → cond a (Some fault.Halted) (cond b None (Some fault.NotAccepted)) ≡ None
-        → (phase port.past tag ≡ Accepted) × (halted port.past ≡ false)
-    by true b p q h = absurd (cc)
-    by false true p q h = (accepted_is (phase port.past tag) q, p)
     by false false p q h = absurd (cc)

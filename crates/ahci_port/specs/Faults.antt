@@ -1,11 +1,13 @@
 -- When each call of the port is refused: the first case that holds, in this order (profile). A tag at or above the depth
 -- counts as a free slot.
-use Rattle.std.specs.Prelude.{◌≡◌, ◌≢◌, ℕ, ◌<◌, ◌≤◌, Bool, true, false, not, ◌||◌, nat_eq, nat_le, if◌then◌else◌, Option, None, Some, Result, Err, IsOk, IsOkUnless}
+use Rattle.std.specs.Prelude.{◌≡◌, ◌≢◌, ℕ, ◌<◌, ◌≤◌, Bool, true, false, not, ◌||◌, nat_eq, nat_le, if◌then◌else◌, List, [], ◌∷◌, length, Option, None, Some, Result, Err, IsOk, IsOkUnless}
+use Rattle.std.specs.List.{list_all, list_any}
 use Rattle.ahci_table.specs.declared.fault.TableFault.TheVariants as table
 use Rattle.ahci_table.specs.Fit.{IsFit, Breaks}
 use Rattle.ahci_table.specs.Window.{WindowState}
 use Rattle.ncq_journal.specs.declared.phase.Phase.{Phase}
 use Rattle.ncq_journal.specs.declared.phase.Phase.TheVariants.{Free, Issued, Accepted, Held, Done}
+use Rattle.ncq_journal.specs.Entry.{Entry}
 use Rattle.ncq_journal.specs.Halted.{halted, busy}
 use Rattle.ncq_journal.specs.Image.{covers}
 use Rattle.ncq_journal.specs.Phase.{phase}
@@ -70,14 +72,27 @@ abbrev pub is_of_request : Option Request → ℕ → Bool
 is_of_request None lba = false
 is_of_request (Some r) lba = covers r.work lba
 
+-- each command of a list of tags is outstanding in the device
+abbrev pub are_accepted : List Entry → List ℕ → Bool
+are_accepted past tags = list_all (λ tag. is_accepted (phase past tag)) tags
+
+-- a list that names one tag twice
+abbrev pub names_twice : List ℕ → Bool
+names_twice [] = false
+names_twice (tag ∷ tags) = list_any (λ other. nat_eq other tag) tags || names_twice tags
+
+-- a list of tags that can't be served together
+abbrev pub is_bad_list : List ℕ → Bool
+is_bad_list tags = nat_eq (length tags) 0 || names_twice tags
+
 -- why the device does not take a step
 abbrev pub step_refusal : PortView → DeviceStep → Option StepFault
 step_refusal port (Accept tag) =
     if halted port.past then Some step_fault.Halted
     else (if is_issued (phase port.past tag) then None else Some step_fault.NotIssued)
-step_refusal port (Serve tag) =
+step_refusal port (Serve tags) =
     if halted port.past then Some step_fault.Halted
-    else (if is_accepted (phase port.past tag) then None else Some step_fault.NotAccepted)
+    else (if are_accepted port.past tags.items then (if is_bad_list tags.items then Some step_fault.BadTags else None) else Some step_fault.NotAccepted)
 step_refusal port (Fail tag error at) =
     if halted port.past then Some step_fault.Halted
     else (if is_accepted (phase port.past tag) then (if is_of_request (request port.past tag) at then None else Some step_fault.OutsideCommand) else Some step_fault.NotAccepted)

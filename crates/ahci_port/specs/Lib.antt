@@ -6,6 +6,7 @@ pub mod Memory
 pub mod Moves
 pub mod PortView
 pub mod Registers
+pub mod Serving
 pub mod Slots
 pub mod Standing
 pub mod Steps

@@ -1,6 +1,7 @@
 -- What each call of the port does to its registers: the words that software writes and the FISes that the device sends,
 -- one after the other (AHCI 1.3.1, sections 3.3 and 6.2.2).
-use Rattle.std.specs.Prelude.{ℕ, ◌^◌, true, false, Result, Ok, Err}
+use Rattle.std.specs.Prelude.{ℕ, ◌^◌, true, false, List, bit_or, Result, Ok, Err}
+use Rattle.std.specs.List.{fold}
 use Rattle.ahci_regs.specs.declared.fault.RegFault.{RegFault}
 use Rattle.ahci_regs.specs.PortState.{PortState, first_state}
 use Rattle.ahci_regs.specs.Writing.{write_of}
@@ -33,9 +34,13 @@ accepted s tag = after_register s 0x40 0 false tag
 abbrev pub refused : PortState → ℕ → PortState
 refused s tag = after_register s 0x41 0x10 true tag
 
--- a command is completed: a Set Device Bits FIS with its tag
-abbrev pub completed : PortState → ℕ → PortState
-completed s tag = after_bits s 0x40 0 true (2 ^ tag)
+-- the word with the bits of some tags
+abbrev pub word_of_tags : List ℕ → ℕ
+word_of_tags tags = fold (λ word tag. bit_or word (2 ^ tag)) 0 tags
+
+-- the commands of some tags are completed: one Set Device Bits FIS that names them all
+abbrev pub completed : PortState → List ℕ → PortState
+completed s tags = after_bits s 0x40 0 true (word_of_tags tags)
 
 -- a command fails: a Set Device Bits FIS with ERR and no tag
 abbrev pub failed : PortState → ℕ → PortState

@@ -1,6 +1,8 @@
--- What each call of the port does, where it is taken: one entry is appended to the journal, the registers move by the
--- writes and FISes of the call, and its FISes stand at their places in the received FIS area.
-use Rattle.std.specs.Prelude.{◌≡◌, ◌≢◌, ◌^◌, ℕ, max, Bool, true, false, nat_lt, ◌∷◌, length, None, Some, IsSomeAnd, slice_set}
+-- What each call of the port does, where it is taken: one entry is appended to the journal, or a Complete for each tag that
+-- is served; the registers move by the writes and FISes of the call, and its FISes stand at their places in the received
+-- FIS area.
+use Rattle.std.specs.Prelude.{◌≡◌, ◌≢◌, ℕ, ◌<◌, max, Bool, true, false, nat_lt, List, ◌∷◌, length, take, Option, None, Some, IsSomeAnd, slice_index, slice_set}
+use Rattle.std.specs.List.{fold}
 use Rattle.ahci_table.specs.Command.{op, queued_of}
 use Rattle.ahci_table.specs.Scatter.{IsScattered}
 use Rattle.ahci_table.specs.Window.{WindowState}
@@ -65,20 +67,46 @@ TakenBy false tag work old new answer = IsAccepted tag old new answer
 abbrev pub IsTaken : ℕ → Work → PortView → PortView → Stepped → Type 0
 IsTaken tag work old new answer = TakenBy (passes_end old work) tag work old new answer
 
--- the windows once a command's data have moved: a read's sectors are its window's text; no other byte of a window changes
-abbrev pub HasMoved : ℕ → Work → WindowState → PortView → PortView → Type 0
-HasMoved tag (Write lba bytes) w old new = new.windows ≡ old.windows
-HasMoved tag (Read lba sectors) w old new =
-    IsSomeAnd (window_at new tag) (IsScattered w 0 (sectors_at old.starting old.past lba sectors))
-    × ((u : ℕ) → u ≢ tag → window_at new u ≡ window_at old u)
+-- the journal once the commands of some tags are completed, one after the other
+abbrev pub completes : List Entry → List ℕ → List Entry
+completes past tags = fold (λ past tag. Complete tag ∷ past) past tags
 
--- the device moves a command's data and completes it: a DMA Setup FIS, the data, a Set Device Bits FIS
-pub record IsServed (tag : ℕ) (w : WindowState) (old new : PortView) (answer : Stepped) : Type 0 where
-  pub answer_is : answer ≡ Completed (length old.past)
-  pub appended : Appends old new (Complete tag)
-  pub registers_are : new.registers ≡ registers.completed old.registers tag
-  pub area_is : new.area ≡ put_at bits_place (completed_bytes (2 ^ tag)) (put_at setup_place (setup_bytes (queued_of w)) old.area)
-  pub moved : HasMoved tag (op w) w old new
+-- the journal has a Complete more for each tag of a list, in its order; disk, slots and slot 0 are as before
+pub record CompletesAll (tags : List ℕ) (old new : PortView) : Type 0 where
+  pub starting_same : new.starting ≡ old.starting
+  pub depth_same : new.depth ≡ old.depth
+  pub past_is : new.past ≡ completes old.past tags
+  pub sent_same : new.sent ≡ old.sent
+
+-- a window once its command's data have moved, after a journal: a read's sectors are its text, and no other byte changes
+abbrev pub MovesData : List ℕ → List Entry → Work → WindowState → WindowState → Type 0
+MovesData starting past (Write lba bytes) old new = new ≡ old
+MovesData starting past (Read lba sectors) old new = IsScattered old 0 (sectors_at starting past lba sectors) new
+
+-- the window of the k-th tag of a list, whose command is completed behind those of the tags before it
+abbrev pub HasMoved : List ℕ → PortView → PortView → ℕ → Type 0
+HasMoved tags old new k =
+    IsSomeAnd (window_at old (slice_index tags k)) (λ w.
+    IsSomeAnd (window_at new (slice_index tags k)) (MovesData old.starting (completes old.past (take k tags)) (op w) w))
+
+-- the tag is none of a list's
+abbrev pub IsNoneOf : List ℕ → ℕ → Type 0
+IsNoneOf tags tag = (k : ℕ) → k < length tags → slice_index tags k ≢ tag
+
+-- the received FIS area with the DMA Setup FIS of a window's command
+abbrev pub with_setup : Option WindowState → List ℕ → List ℕ
+with_setup None area = area
+with_setup (Some w) area = put_at setup_place (setup_bytes (queued_of w)) area
+
+-- the device moves the data of the commands of some tags and completes them, one after the other: a DMA Setup FIS and the
+-- data for each; then one Set Device Bits FIS for all
+pub record IsServed (tags : List ℕ) (old new : PortView) (answer : Stepped) : Type 0 where
+  pub answer_is : answer ≡ Completed (length old.past) (length tags)
+  pub appended : CompletesAll tags old new
+  pub registers_are : new.registers ≡ registers.completed old.registers tags
+  pub area_is : new.area ≡ put_at bits_place (completed_bytes (registers.word_of_tags tags)) (fold (λ area tag. with_setup (window_at old tag) area) old.area tags)
+  pub moved : (k : ℕ) → k < length tags → HasMoved tags old new k
+  pub others_same : (tag : ℕ) → IsNoneOf tags tag → window_at new tag ≡ window_at old tag
 
 -- the device fails a command: a Set Device Bits FIS with ERR
 pub record IsFailed (tag error lba : ℕ) (old new : PortView) (answer : Stepped) : Type 0 where
@@ -91,7 +119,7 @@ pub record IsFailed (tag error lba : ℕ) (old new : PortView) (answer : Stepped
 -- the device has taken a step
 abbrev pub IsStepped : DeviceStep → PortView → PortView → Stepped → Type 0
 IsStepped (step.Accept tag) old new answer = IsSomeAnd (request old.past tag) (λ r. IsTaken tag r.work old new answer)
-IsStepped (step.Serve tag) old new answer = IsSomeAnd (window_at old tag) (λ w. IsServed tag w old new answer)
+IsStepped (step.Serve tags) old new answer = IsServed tags.items old new answer
 IsStepped (step.Fail tag error lba) old new answer = IsFailed tag error lba old new answer
 
 -- a request is collected: its slot is free

@@ -26,10 +26,12 @@ pub enum StepFault {
     Halted,
     /// An Accept, and the tag's command does not wait for the device.
     NotIssued,
-    /// A Serve or a Fail, and the tag's command is not accepted.
+    /// A Serve or a Fail, and the command of the tag, or of some tag of the list, is not accepted.
     NotAccepted,
     /// A Fail at a sector that is not one of the command's.
     OutsideCommand,
+    /// A Serve of no tag, or of one tag twice.
+    BadTags,
 }
 
 /// Why a request was not collected. The cases are tested in this order.

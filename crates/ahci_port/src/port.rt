@@ -2,6 +2,7 @@ mod collecting;
 mod issuing;
 mod looking;
 mod recovering;
+mod serving;
 mod stepping;
 
 ghost use Rattle.std.specs.Prelude.{◌≡◌, ◌<◌, ◌≤◌, [], None, length, replicate, IfOk, IfErr, MatchOption, if◌then◌else◌, slice_index_or};

@@ -3,3 +3,4 @@ pub mod LineLemmas
 pub mod SessionLemmas
 pub mod ProgressLemmas
 pub mod EndingLemmas
+pub mod SteppingLemmas

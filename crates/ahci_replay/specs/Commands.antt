@@ -46,10 +46,15 @@ pub data AnswersWindow (window : WindowState) (old new : PortView) (said : Said)
 -- the answer of a device's step
 abbrev pub step_said : Stepped → Said
 step_said (stepped.Accepted entry) = says.Accepted entry
-step_said (stepped.Completed entry) = says.Completed entry
+step_said (stepped.Completed first count) = says.Completed first (first + count)
 step_said (stepped.Failed entry) = says.FailedStep entry
 
--- the device has taken a step, and the answer has its entry
+-- where the journal ends behind a step that has completed some commands
+abbrev pub EndsAt : Stepped → ℕ → Type 0
+EndsAt (stepped.Completed first count) end = end ≡ first + count
+EndsAt done end = Unit {0}
+
+-- the device has taken a step, and the answer has its entry, or its entries
 pub record HasStepped (step : DeviceStep) (old new : PortView) (said : Said) : Type 0 where
   pub done : Stepped
   pub stepped : IsStepped step old new done
@@ -84,7 +89,7 @@ abbrev pub Does : PortView → ScriptCommand → PortView → Said → Type 0
 Does old (command.Write tag lba sectors fill) new said = HasIssued tag (work.Write lba (replicate (sectors * 512) fill)) old new said
 Does old (command.Read tag lba sectors) new said = HasIssued tag (work.Read lba sectors) old new said
 Does old (command.Accept tag) new said = HasStepped (device.Accept tag) old new said
-Does old (command.Serve tag) new said = HasStepped (device.Serve tag) old new said
+Does old (command.Serve tags) new said = HasStepped (device.Serve tags) old new said
 Does old (command.Fail tag error lba) new said = HasStepped (device.Fail tag error lba) old new said
 Does old (command.Collect tag number) new said = HasCollected tag number old new said
 Does old command.Recover new said = HasRecovered old new said

@@ -37,6 +37,7 @@ use Rattle.ahci_script.specs.declared.refusal.Refusal.TheVariants.{
   NotIssued,
   NotAccepted,
   OutsideCommand,
+  BadTags,
   Stranger,
   NotYet,
   NotHalted,
@@ -65,6 +66,7 @@ of_step step.Halted = Halted
 of_step step.NotIssued = NotIssued
 of_step step.NotAccepted = NotAccepted
 of_step step.OutsideCommand = OutsideCommand
+of_step step.BadTags = BadTags
 
 abbrev pub of_collect : CollectFault → Refusal
 of_collect collect.Stranger = Stranger
@@ -121,7 +123,7 @@ abbrev pub refusal_on : PortView → ScriptCommand → Option Refusal
 refusal_on port (command.Write tag lba sectors fill) = issue_refusal port tag lba sectors
 refusal_on port (command.Read tag lba sectors) = issue_refusal port tag lba sectors
 refusal_on port (command.Accept tag) = option_map of_step (step_refusal port (device.Accept tag))
-refusal_on port (command.Serve tag) = option_map of_step (step_refusal port (device.Serve tag))
+refusal_on port (command.Serve tags) = option_map of_step (step_refusal port (device.Serve tags))
 refusal_on port (command.Fail tag error lba) = option_map of_step (step_refusal port (device.Fail tag error lba))
 refusal_on port (command.Collect tag number) = option_map of_collect (collect_refusal port tag number)
 refusal_on port command.Recover = joined (option_map of_recover (recover_refusal port))

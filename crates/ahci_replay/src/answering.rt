@@ -4,20 +4,21 @@ ghost use Rattle.std.specs.Prelude.{◌≡◌, IfOk};
 ghost use Rattle.ahci_port.specs.Slots.{bytes_in};
 ghost use Rattle.ahci_script.specs.Said.{said};
 ghost use Rattle.ahci_table.specs.Fit.{IsFit};
-ghost use Rattle.ahci_replay.specs.Commands.{outcome_said, step_said};
+ghost use Rattle.ahci_replay.specs.Commands.{EndsAt, outcome_said, step_said};
 
 use ahci_port::{Outcome, Reply, Stepped};
 use ahci_script::ScriptAnswer;
 use ahci_table::Window;
 use std::alloc::{AllocError, Allocator};
 
-/// The answer of a device's step.
-pub(crate) fn stepped<A: Allocator>(done: Stepped) -> ScriptAnswer<A>
+/// The answer of a device's step, behind which the journal has `end` entries.
+pub(crate) fn stepped<A: Allocator>(done: Stepped, end: u64) -> ScriptAnswer<A>
+    requires { EndsAt done end }
     ensures { said result ≡ step_said done }
 {
     match done {
         Stepped::Accepted(entry) => ScriptAnswer::Accepted(entry),
-        Stepped::Completed(entry) => ScriptAnswer::Completed(entry),
+        Stepped::Completed { first, .. } => ScriptAnswer::Completed { first, end },
         Stepped::Failed(entry) => ScriptAnswer::FailedStep(entry),
     }
 }

@@ -31,6 +31,7 @@ pub(crate) fn step_refusal(fault: StepFault) -> Refusal
         StepFault::NotIssued => Refusal::NotIssued,
         StepFault::NotAccepted => Refusal::NotAccepted,
         StepFault::OutsideCommand => Refusal::OutsideCommand,
+        StepFault::BadTags => Refusal::BadTags,
     }
 }
 

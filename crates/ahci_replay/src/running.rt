@@ -49,7 +49,7 @@ pub(crate) fn run_on<A: Allocator + Clone>(
             Ok(issue_raw(port, alloc, tag, header, &bytes)?)
         }
         ScriptCommand::Accept { tag } => Ok(step(port, DeviceStep::Accept(tag))),
-        ScriptCommand::Serve { tag } => Ok(step(port, DeviceStep::Serve(tag))),
+        ScriptCommand::Serve { tags } => Ok(step(port, DeviceStep::Serve(tags))),
         ScriptCommand::Fail { tag, error, lba } => {
             let at = lba;
             Ok(step(port, DeviceStep::Fail { tag, error, at }))
@@ -67,12 +67,13 @@ pub(crate) fn run_on<A: Allocator + Clone>(
 }
 
 /// Lets the device take a step.
+#[tactic(auto, using(crate::proofs::SteppingLemmas::ends_at))]
 fn step<A: Allocator + Clone>(port: &mut Port<A>, step: DeviceStep) -> ScriptAnswer<A>
     ensures { RefusedOr (option_map of_step (step_refusal port.old step)) port.old port.new (said result)
         (HasStepped step port.old port.new (said result)) }
 {
     match port.step(step) {
-        Ok(done) => stepped(done),
+        Ok(done) => stepped(done, port.journal().len()),
         Err(fault) => ScriptAnswer::Refused(step_refusal(fault)),
     }
 }

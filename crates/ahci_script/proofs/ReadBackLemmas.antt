@@ -1,10 +1,10 @@
 -- Every printed command is read back, command by command.
-use Rattle.std.proofs.Common.{◌≡◌, ℕ, ◌^◌, ◌<◌, true, List, length, refl, ap, ◌∙◌, Option, Some, codes, option_and_then, arith}
+use Rattle.std.proofs.Common.{◌≡◌, ℕ, ◌^◌, ◌<◌, true, List, [], ◌∷◌, ◌++◌, length, refl, ap, ◌∙◌, Option, Some, codes, option_and_then, arith}
 use Rattle.std.specs.Fmt.{decimal}
 use Rattle.std.specs.List.{All}
-use Rattle.ahci_script.specs.Answers.{hex_of}
+use Rattle.ahci_script.specs.Answers.{hex_of, numbers_text}
 use Rattle.ahci_script.specs.HexBytes.{header_of, hex_bytes_of}
-use Rattle.ahci_script.specs.Lines.{accept_of, ack_of, collect_of, command_of, disk_of, fail_of, identify_of, named, raw_of, read_of, reg_of, reissue_of, serve_of, show_of, write_of}
+use Rattle.ahci_script.specs.Lines.{AreTags, accept_of, ack_of, collect_of, command_of, disk_of, fail_of, identify_of, line_of, named, raw_of, read_of, reg_of, reissue_of, serve_of, show_of, tags_of, write_of}
 use Rattle.ahci_script.specs.Number.{byte_of, decimal_below, decimal_of, hexadecimal_of, sectors_limit}
 use Rattle.ahci_script.specs.Printing.{IsReadBack, before, hex_bytes}
 use Rattle.ahci_script.specs.Words.{cut_of}
@@ -12,6 +12,7 @@ use Rattle.ahci_script.specs.declared.line.ScriptCommand.{ScriptCommand}
 use Rattle.ahci_script.specs.declared.line.ScriptCommand.TheVariants.{Disk, Write, Read, Raw, Accept, Serve, Fail, Collect, Recover, Reissue, Reg, Ack, Identify, Flush, Show, Journal}
 use Rattle.ahci_script.specs.declared.line.Line.TheVariants as line
 use Rattle.ahci_script.proofs.PrintingLemmas.{byte-back, byte-word, bytes-word, cut-before, decimal-back, decimal-word, decimal_below-back, header-back, hex_bytes-back, hexadecimal-back, is_word}
+use Rattle.ahci_script.proofs.TagsLemmas.{tags-back}
 
 -- a value that is found goes on
 then : {A B : Type 0} (o : Option A) (x : A) (f : A → Option B) (y : Option B) → o ≡ Some x → f x ≡ y → option_and_then f o ≡ y
@@ -76,8 +77,12 @@ raw-back tag header bytes t size heads some all =
 accept-back : (tag : ℕ) → tag < 32 → accept_of (decimal tag) ≡ Some (Accept tag)
 accept-back tag h = tag-back tag _ _ h refl
 
-serve-back : (tag : ℕ) → tag < 32 → serve_of (decimal tag) ≡ Some (Serve tag)
-serve-back tag h = tag-back tag _ _ h refl
+serve-back : (t : ℕ) (ts : List ℕ) → AreTags (t ∷ ts) → serve_of (decimal t ++ numbers_text ts) ≡ Some (Serve (record { items = t ∷ ts }))
+serve-back t ts are = then (tags_of (decimal t ++ numbers_text ts)) (t ∷ ts) _ _ (tags-back t ts are) refl
+
+serve-line : (tags : List ℕ) → AreTags tags → line_of (codes "serve" ++ numbers_text tags) ≡ Some (line.Run (Serve (record { items = tags })))
+serve-line [] are = absurd (omega (arith, are.some))
+serve-line (t ∷ ts) are = by_name (codes "serve") (decimal t ++ numbers_text ts) (Serve (record { items = t ∷ ts })) refl refl (serve-back t ts are)
 
 reissue-back : (tag : ℕ) → tag < 32 → reissue_of (decimal tag) ≡ Some (Reissue tag)
 reissue-back tag h = tag-back tag _ _ h refl
@@ -104,7 +109,7 @@ read_back (Read tag lba sectors) h =
 read_back (Raw tag header bytes) h =
     by_name (codes "raw") (before (decimal tag) (before (hex_bytes header) (hex_bytes bytes))) (Raw tag header bytes) refl refl (raw-back tag header bytes h.0 h.1 h.2 h.3 h.4)
 read_back (Accept tag) h = by_name (codes "accept") (decimal tag) (Accept tag) refl refl (accept-back tag h)
-read_back (Serve tag) h = by_name (codes "serve") (decimal tag) (Serve tag) refl refl (serve-back tag h)
+read_back (Serve tags) h = serve-line tags.items h
 read_back (Fail tag error lba) h =
     by_name (codes "fail") (before (decimal tag) (before (hex_of 2 error) (decimal lba))) (Fail tag error lba) refl refl (fail-back tag error lba h.0 h.1 h.2)
 read_back (Collect tag number) h = by_name (codes "collect") (before (decimal tag) (decimal number)) (Collect tag number) refl refl (collect-back tag number h.0 h.1)

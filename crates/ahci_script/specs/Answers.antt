@@ -1,6 +1,7 @@
 -- The answers of a script, as they are written.
-use Rattle.std.specs.Prelude.{ℕ, zero, suc, ◌+◌, ◌*◌, ◌/◌, ◌%◌, List, [], ◌∷◌, ◌++◌, length, slice_index, codes, false}
+use Rattle.std.specs.Prelude.{ℕ, zero, suc, ◌+◌, ◌-◌, ◌*◌, ◌/◌, ◌%◌, List, [], ◌∷◌, ◌++◌, length, slice_index, codes, false}
 use Rattle.std.specs.Fmt.{decimal, digit_glyph}
+use Rattle.std.specs.List.{range_with_len}
 use Rattle.ahci_script.specs.Said.{Said, Disk, Issued, Accepted, Completed, FailedStep, Wrote, Read, Failed, Recovered, Reissued, Register, Acked, Word, Flushed, Sector, Journal, Refused}
 use Rattle.ahci_script.specs.declared.refusal.Refusal.{Refusal}
 use Rattle.ahci_script.specs.declared.refusal.Refusal.TheVariants.{
@@ -17,6 +18,7 @@ use Rattle.ahci_script.specs.declared.refusal.Refusal.TheVariants.{
   Halted,
   NotIssued,
   NotAccepted,
+  BadTags,
   OutsideCommand,
   NotHalted,
   NotHeld,
@@ -33,6 +35,15 @@ abbrev pub hex_of : ℕ → ℕ → List ℕ
 hex_of zero number = []
 hex_of (suc digits) number =
     hex_of digits (number / 16) ++ digit_glyph false (number % 16) ∷ []
+
+-- numbers, each in decimal and behind a space
+abbrev pub numbers_text : List ℕ → List ℕ
+numbers_text [] = []
+numbers_text (number ∷ numbers) = 32 ∷ (decimal number ++ numbers_text numbers)
+
+-- the entries of a journal from the first up to the end
+abbrev pub entries_between : ℕ → ℕ → List ℕ
+entries_between first end = range_with_len first (end - first)
 
 -- a sector among these bytes, by its first byte and behind a space
 abbrev pub sector_text : List ℕ → ℕ → List ℕ
@@ -58,6 +69,7 @@ name_of BadList = codes "BadList"
 name_of Halted = codes "Halted"
 name_of NotIssued = codes "NotIssued"
 name_of NotAccepted = codes "NotAccepted"
+name_of BadTags = codes "BadTags"
 name_of OutsideCommand = codes "OutsideCommand"
 name_of NotHalted = codes "NotHalted"
 name_of NotHeld = codes "NotHeld"
@@ -73,7 +85,7 @@ abbrev pub answer_text : Said → List ℕ
 answer_text (Disk sectors depth) = codes "disk " ++ (decimal sectors ++ (codes " " ++ decimal depth))
 answer_text (Issued entry) = codes "issued " ++ decimal entry
 answer_text (Accepted entry) = codes "accepted " ++ decimal entry
-answer_text (Completed entry) = codes "completed " ++ decimal entry
+answer_text (Completed first end) = codes "completed" ++ numbers_text (entries_between first end)
 answer_text (FailedStep entry) = codes "failed " ++ decimal entry
 answer_text (Wrote entry) = codes "wrote " ++ decimal entry
 answer_text (Read entry bytes) = codes "read " ++ (decimal entry ++ sectors_text bytes (length bytes / 512))
@@ -92,4 +104,5 @@ answer_text (Refused refusal) = codes "refused " ++ name_of refusal
 -- how many bytes its line has at most
 abbrev pub room_of : Said → ℕ
 room_of (Read entry bytes) = 64 + 3 * (length bytes / 512)
+room_of (Completed first end) = 64 + 21 * (end - first)
 room_of said = 64

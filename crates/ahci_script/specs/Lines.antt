@@ -1,6 +1,6 @@
 -- The lines of a script: what each of them spells.
-use Rattle.std.specs.Prelude.{ℕ, ◌<◌, ◌==◌, Bool, List, [], ◌∷◌, Option, Some, None, option_and_then, nat_lt, codes, if◌then◌else◌}
-use Rattle.std.specs.List.{list_all}
+use Rattle.std.specs.Prelude.{ℕ, ◌<◌, ◌≤◌, ◌==◌, Bool, List, [], ◌∷◌, ◌++◌, Option, Some, None, option_and_then, option_map, length, nat_le, nat_lt, codes, if◌then◌else◌}
+use Rattle.std.specs.List.{All, list_all}
 use Rattle.std.specs.Str.{bytes_eq}
 use Rattle.ahci_script.specs.declared.line.ScriptCommand.{ScriptCommand}
 use Rattle.ahci_script.specs.declared.line.ScriptCommand.TheVariants.{Disk, Write, Read, Raw, Accept, Serve, Fail, Collect, Recover, Reissue, Reg, Ack, Identify, Flush, Show, Journal}
@@ -8,7 +8,7 @@ use Rattle.ahci_script.specs.declared.line.Line.{Line}
 use Rattle.ahci_script.specs.declared.line.Line.TheVariants as the-line
 use Rattle.ahci_script.specs.HexBytes.{header_of, hex_bytes_of}
 use Rattle.ahci_script.specs.Number.{byte_of, decimal_below, decimal_of, hexadecimal_of, sectors_limit}
-use Rattle.ahci_script.specs.Words.{cut_of}
+use Rattle.ahci_script.specs.Words.{cut_of, words_of}
 
 infixl 10 ◌>>=◌
 abbrev pub ◌>>=◌ : {A B : Type 0} → Option A → (A → Option B) → Option B
@@ -17,6 +17,26 @@ o >>= f = option_and_then f o
 -- a tag: 0 to 31
 abbrev pub tag_of : List ℕ → Option ℕ
 tag_of = decimal_below 32
+
+-- what each word spells, in the order of the words; none where one of them spells nothing
+abbrev pub each_of : (List ℕ → Option ℕ) → List (List ℕ) → Option (List ℕ)
+each_of spells [] = Some []
+each_of spells (word ∷ words) = do
+  number ← spells word
+  numbers ← each_of spells words
+  Some (number ∷ numbers)
+
+-- numbers, of which there are 32 at most
+abbrev pub at_most_32 : List ℕ → Option (List ℕ)
+at_most_32 numbers = if nat_le (length numbers) 32 then Some numbers else None
+
+-- tags: each word spells one, and there are 32 at most
+abbrev pub tags_of : List ℕ → Option (List ℕ)
+tags_of arguments = (each_of tag_of (words_of arguments) >>= at_most_32)
+
+-- tags, and behind them the one that a word spells, where they were less than 32
+abbrev pub with_tag : List ℕ → List ℕ → Option (List ℕ)
+with_tag tags word = if nat_lt (length tags) 32 then option_map (λ tag. tags ++ tag ∷ []) (tag_of word) else None
 
 -- a number of sectors: 0 to 131,072
 abbrev pub sectors_of : List ℕ → Option ℕ
@@ -72,11 +92,11 @@ accept_of arguments = do
   tag ← tag_of arguments
   Some (Accept tag)
 
--- serve T
+-- serve T T ..
 abbrev pub serve_of : List ℕ → Option ScriptCommand
 serve_of arguments = do
-  tag ← tag_of arguments
-  Some (Serve tag)
+  tags ← tags_of arguments
+  Some (Serve (record { items = tags }))
 
 -- fail T EE LBA
 abbrev pub fail_of : List ℕ → Option ScriptCommand
@@ -152,13 +172,19 @@ command_of line =
     else if bytes_eq line (codes "journal") then Some Journal
     else (cut_of line >>= λ c. named c.0 c.1)
 
+-- a list of tags: 1 to 32, each one of 32
+pub record AreTags (tags : List ℕ) : Type 0 where
+  pub some : 0 < length tags
+  pub most : length tags ≤ 32
+  pub small : All (λ tag. tag < 32) tags
+
 -- a tag is one of 32
 abbrev pub HasSmallTag : ScriptCommand → Type 0
 HasSmallTag (Write tag lba sectors fill) = tag < 32
 HasSmallTag (Read tag lba sectors) = tag < 32
 HasSmallTag (Raw tag header bytes) = tag < 32
 HasSmallTag (Accept tag) = tag < 32
-HasSmallTag (Serve tag) = tag < 32
+HasSmallTag (Serve tags) = AreTags tags.items
 HasSmallTag (Fail tag error lba) = tag < 32
 HasSmallTag (Collect tag number) = tag < 32
 HasSmallTag (Reissue tag) = tag < 32

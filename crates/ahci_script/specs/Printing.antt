@@ -2,8 +2,8 @@
 use Rattle.std.specs.Prelude.{◌≡◌, ℕ, ◌^◌, ◌<◌, List, [], ◌∷◌, ◌++◌, Some, codes, length}
 use Rattle.std.specs.List.{All}
 use Rattle.std.specs.Fmt.{decimal}
-use Rattle.ahci_script.specs.Answers.{hex_of}
-use Rattle.ahci_script.specs.Lines.{line_of}
+use Rattle.ahci_script.specs.Answers.{hex_of, numbers_text}
+use Rattle.ahci_script.specs.Lines.{AreTags, line_of}
 use Rattle.ahci_script.specs.Number.{sectors_limit}
 use Rattle.ahci_script.specs.declared.line.ScriptCommand.{ScriptCommand}
 use Rattle.ahci_script.specs.declared.line.ScriptCommand.TheVariants.{Disk, Write, Read, Raw, Accept, Serve, Fail, Collect, Recover, Reissue, Reg, Ack, Identify, Flush, Show, Journal}
@@ -25,7 +25,7 @@ printed (Write tag lba sectors fill) = before (codes "write") (before (decimal t
 printed (Read tag lba sectors) = before (codes "read") (before (decimal tag) (before (decimal lba) (decimal sectors)))
 printed (Raw tag header bytes) = before (codes "raw") (before (decimal tag) (before (hex_bytes header) (hex_bytes bytes)))
 printed (Accept tag) = before (codes "accept") (decimal tag)
-printed (Serve tag) = before (codes "serve") (decimal tag)
+printed (Serve tags) = codes "serve" ++ numbers_text tags.items
 printed (Fail tag error lba) = before (codes "fail") (before (decimal tag) (before (hex_of 2 error) (decimal lba)))
 printed (Collect tag number) = before (codes "collect") (before (decimal tag) (decimal number))
 printed Recover = codes "recover"
@@ -37,16 +37,16 @@ printed Flush = codes "flush"
 printed (Show lba) = before (codes "show") (decimal lba)
 printed Journal = codes "journal"
 
--- the numbers are in their ranges: a tag is below 32, a number of sectors at most 65,536, a byte or a word of the identify
--- page below 256, an offset or a mask below 2^32, and every other number below 2^64; a header has 32 bytes, and a window one at
--- least
+-- the numbers are in their ranges: a tag is below 32, a number of sectors at most 131,072, a byte or a word of the identify
+-- page below 256, an offset or a mask below 2^32, and every other number below 2^64; a list of tags has 1 to 32, a header 32
+-- bytes, and a window one at least
 abbrev pub IsInRange : ScriptCommand → Type 0
 IsInRange (Disk sectors depth) = (sectors < 2 ^ 64) × (depth < 2 ^ 64)
 IsInRange (Write tag lba sectors fill) = (tag < 32) × (lba < 2 ^ 64) × (sectors < sectors_limit) × (fill < 256)
 IsInRange (Read tag lba sectors) = (tag < 32) × (lba < 2 ^ 64) × (sectors < sectors_limit)
 IsInRange (Raw tag header bytes) = (tag < 32) × (length header ≡ 32) × All (λ b. b < 256) header × (0 < length bytes) × All (λ b. b < 256) bytes
 IsInRange (Accept tag) = tag < 32
-IsInRange (Serve tag) = tag < 32
+IsInRange (Serve tags) = AreTags tags.items
 IsInRange (Fail tag error lba) = (tag < 32) × (error < 256) × (lba < 2 ^ 64)
 IsInRange (Collect tag number) = (tag < 32) × (number < 2 ^ 64)
 IsInRange (Reissue tag) = tag < 32

@@ -8,7 +8,7 @@ pub data Said : Type 0 where
   Disk : (sectors depth : ℕ) → Said
   Issued : (entry : ℕ) → Said
   Accepted : (entry : ℕ) → Said
-  Completed : (entry : ℕ) → Said
+  Completed : (first end : ℕ) → Said
   FailedStep : (entry : ℕ) → Said
   Wrote : (entry : ℕ) → Said
   Read : (entry : ℕ) (bytes : List ℕ) → Said
@@ -28,7 +28,7 @@ abbrev pub said : {A : _} → ScriptAnswer A → Said
 said (code.Disk sectors depth) = Disk sectors depth
 said (code.Issued entry) = Issued entry
 said (code.Accepted entry) = Accepted entry
-said (code.Completed entry) = Completed entry
+said (code.Completed first end) = Completed first end
 said (code.FailedStep entry) = FailedStep entry
 said (code.Wrote entry) = Wrote entry
 said (code.Read entry bytes) = Read entry bytes.items

@@ -11,8 +11,8 @@ pub enum ScriptAnswer<A: Allocator = Global> {
     Issued(u64),
     /// The entry of the step.
     Accepted(u64),
-    /// The entry of the step.
-    Completed(u64),
+    /// The entries of the step, which follow one another: from the first up to the end, which is the number behind the last.
+    Completed { first: u64, end: u64 },
     /// The entry of the step, which failed its command.
     FailedStep(u64),
     /// The entry that completed the write.

@@ -14,7 +14,7 @@ pub enum JobLine {
     Do(Job),
 }
 
-/// A job of a job list. Sectors are at most 65,536; the other numbers are any that fit their type.
+/// A job of a job list. Sectors are at most 131,072; the other numbers are any that fit their type.
 #[derive(Clone, Copy, Debug, PartialEq, Eq)]
 pub enum Job {
     /// `write LBA N BB`: writes sectors that are filled with one byte.

@@ -13,6 +13,7 @@ mod output;
 mod refusal;
 mod result_line;
 mod result_text;
+mod tags;
 mod text;
 mod words;
 

@@ -3,7 +3,9 @@ ghost use Rattle.ahci_script.specs.Lines.{HasSmallTag, HasSmallTags, accept_of, 
 
 use crate::hex_bytes::{HexBytes, header};
 use crate::number::{byte, decimal, hexadecimal, page_word, sectors, tag};
+use crate::tags::tags;
 use crate::words::cut;
+use arrayvec::ArrayVec;
 
 /// A line of a script, read and not yet run.
 #[derive(Debug, Drop)]
@@ -14,8 +16,8 @@ pub enum Line<'a> {
     Run(ScriptCommand<'a>),
 }
 
-/// A command of a script. A tag is below 32, and sectors are at most 65,536; the other numbers
-/// are any that fit their type. The bytes of a window stand in the line that was read.
+/// A command of a script. A tag is below 32, a list of tags has 1 to 32 of them, and sectors are at most 131,072; the other
+/// numbers are any that fit their type. The bytes of a window stand in the line that was read.
 #[derive(Debug, Drop)]
 pub enum ScriptCommand<'a> {
     /// `disk S D`: a new port over a disk of zeros.
@@ -46,9 +48,10 @@ pub enum ScriptCommand<'a> {
     Accept {
         tag: u8,
     },
-    /// `serve T`: the device moves the data of the tag's command, and completes it.
+    /// `serve T T ..`: the device moves the data of the tags' commands, one after another, and completes them by one Set
+    /// Device Bits FIS.
     Serve {
-        tag: u8,
+        tags: ArrayVec<u8, 32>,
     },
     /// `fail T EE LBA`: the device fails the tag's command at a sector, with an error.
     Fail {
@@ -232,8 +235,8 @@ fn serve(arguments: &[u8]) -> Option<ScriptCommand<'_>>
     ensures command { result ≡ serve_of arguments.now }
     ensures tag { IfSome result (λ command. HasSmallTag command) }
 {
-    let tag = tag(arguments)?;
-    Some(ScriptCommand::Serve { tag })
+    let tags = tags(arguments)?;
+    Some(ScriptCommand::Serve { tags })
 }
 
 fn fail(arguments: &[u8]) -> Option<ScriptCommand<'_>>

@@ -56,7 +56,8 @@ impl<A: Allocator> Output<A> {
         ensures ok { OnOk result (self.new ≡ self.old ++ (answer_text (said answer.now) ++ 10 ∷ [])) }
         ensures err { OnErr result (self.new ≡ self.old) }
     {
-        self.waiting.reserve(room_for(answer))?;
+        let room = room_for(answer).ok_or(AllocError)?;
+        self.waiting.reserve(room)?;
         push_line(&mut self.waiting, answer);
         Ok(())
     }

@@ -1,8 +1,8 @@
 //! The text of answers. It is made at the end of what waits, where there is room for it.
 
-ghost use Rattle.std.specs.Prelude.{◌≡◌, ◌+◌, ◌*◌, ◌/◌, ◌%◌, ◌<◌, ◌≤◌, [], ◌∷◌, ◌++◌, length, vec_capacity, vec_len, false};
+ghost use Rattle.std.specs.Prelude.{◌≡◌, ◌+◌, ◌-◌, ◌*◌, ◌/◌, ◌%◌, ◌^◌, ◌<◌, ◌≤◌, [], ◌∷◌, ◌++◌, IfSome, IsNone, length, vec_capacity, vec_len, false};
 ghost use Rattle.std.specs.Fmt.{decimal, digit_glyph};
-ghost use Rattle.ahci_script.specs.Answers.{answer_text, hex_of, room_of, sectors_text};
+ghost use Rattle.ahci_script.specs.Answers.{answer_text, entries_between, hex_of, numbers_text, room_of, sectors_text};
 ghost use Rattle.ahci_script.specs.Said.{said};
 
 use crate::answer::ScriptAnswer;
@@ -10,17 +10,31 @@ use crate::refusal::name;
 use itoa::Buffer;
 use std::alloc::Allocator;
 
-/// How many bytes a line has at most, but for the sectors of a read.
+/// How many bytes a line has at most, but for the sectors of a read and the entries of a step.
 pub(crate) const SHORT: usize = 64;
 
-/// How many bytes an answer's line has at most.
-pub(crate) fn room_for<A: Allocator>(answer: &ScriptAnswer<A>) -> usize
-    ensures { result ≡ room_of (said answer.now) }
+/// How many bytes an entry's number has at most, with the space before it.
+const NUMBER: usize = 21;
+
+/// How many bytes an answer's line has at most. `None` where no memory has as many.
+pub(crate) fn room_for<A: Allocator>(answer: &ScriptAnswer<A>) -> Option<usize>
+    ensures some { IfSome result (λ room. room ≡ room_of (said answer.now)) }
+    ensures none { IsNone result → 2 ^ 64 ≤ room_of (said answer.now) }
 {
     match answer {
-        ScriptAnswer::Read { bytes, .. } => SHORT + 3 * (bytes.len() / 512),
-        _ => SHORT,
+        ScriptAnswer::Read { bytes, .. } => Some(SHORT + 3 * (bytes.len() / 512)),
+        ScriptAnswer::Completed { first, end } => room_for_entries(end.saturating_sub(*first)),
+        _ => Some(SHORT),
     }
+}
+
+/// How many bytes a line with so many entries has at most.
+fn room_for_entries(entries: u64) -> Option<usize>
+    ensures some { IfSome result (λ room. room ≡ 64 + 21 * entries) }
+    ensures none { IsNone result → 2 ^ 64 ≤ 64 + 21 * entries }
+{
+    let numbers = NUMBER.checked_mul(entries as usize)?;
+    SHORT.checked_add(numbers)
 }
 
 /// Appends an answer and its line feed.
@@ -44,7 +58,10 @@ fn push_answer<T: Allocator, A: Allocator>(text: &mut Vec<u8, T>, answer: &Scrip
         }
         ScriptAnswer::Issued(entry) => push_number(text, b"issued ", *entry),
         ScriptAnswer::Accepted(entry) => push_number(text, b"accepted ", *entry),
-        ScriptAnswer::Completed(entry) => push_number(text, b"completed ", *entry),
+        ScriptAnswer::Completed { first, end } => {
+            push(text, b"completed");
+            push_entries(text, *first, *end);
+        }
         ScriptAnswer::FailedStep(entry) => push_number(text, b"failed ", *entry),
         ScriptAnswer::Wrote(entry) => push_number(text, b"wrote ", *entry),
         ScriptAnswer::Read { entry, bytes } => {
@@ -99,6 +116,18 @@ pub(crate) fn push_number<T: Allocator>(text: &mut Vec<u8, T>, word: &[u8], numb
 {
     push(text, word);
     push(text, Buffer::new().format(number).as_bytes());
+}
+
+/// Appends the entries from the first up to the end, each behind a space.
+fn push_entries<T: Allocator>(text: &mut Vec<u8, T>, first: u64, end: u64)
+    requires { vec_len text.old + 21 * (end - first) ≤ vec_capacity text.old }
+    ensures items { text.new.items ≡ text.old.items ++ numbers_text (entries_between first end) }
+    ensures len { vec_len text.new ≤ vec_len text.old + 21 * (end - first) }
+    ensures capacity { vec_capacity text.old ≤ vec_capacity text.new }
+{
+    for entry in first..end {
+        push_number(text, b" ", entry);
+    }
 }
 
 /// Appends sectors of 512 bytes, each by its first byte and behind a space.

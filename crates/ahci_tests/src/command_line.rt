@@ -29,6 +29,13 @@ const HIGH: Asked = Asked::Run {
     pick: Pick::High,
 };
 
+const ALL: Asked = Asked::Run {
+    workers: 2,
+    depth: 3,
+    sectors: 4,
+    pick: Pick::All,
+};
+
 const SMALLEST: Asked = Asked::Run {
     workers: 1,
     depth: 1,
@@ -44,7 +51,7 @@ const LARGEST: Asked = Asked::Run {
 };
 
 /// Lines that ask for something.
-static RIGHT: [(&str, Asked); 8] = [
+static RIGHT: [(&str, Asked); 9] = [
     ("ahci replay", Asked::Replay),
     ("ahci replay --", Asked::Replay),
     ("ahci run --workers 2 --depth 3 --sectors 4", LOW),
@@ -53,6 +60,7 @@ static RIGHT: [(&str, Asked); 8] = [
         HIGH,
     ),
     ("ahci run --depth 3 --workers 2 --pick=low --sectors 4", LOW),
+    ("ahci run --depth 3 --workers 2 --sectors 4 --pick all", ALL),
     ("ahci run --workers +2 --depth 0003 --sectors 4 --", LOW),
     ("ahci run --workers 1 --depth 1 --sectors 1", SMALLEST),
     ("ahci run --workers 32 --depth 32 --sectors 131072", LARGEST),
@@ -185,14 +193,14 @@ static WRONG_RUNS: [(&str, ErrorKind, &str); 24] = [
         "number too large",
     ),
     (
-        "--workers 2 --depth 3 --sectors 4 --pick all",
+        "--workers 2 --depth 3 --sectors 4 --pick each",
         ErrorKind::InvalidValue,
-        "[possible values: low, high]",
+        "[possible values: low, high, all]",
     ),
     (
         "--workers 2 --depth 3 --sectors 4 --pick LOW",
         ErrorKind::InvalidValue,
-        "[possible values: low, high]",
+        "[possible values: low, high, all]",
     ),
     (
         "--workers 2 --depth 3 --sectors",
@@ -259,7 +267,7 @@ static COMMANDS: [&str; 16] = [
     "read T LBA N",
     "raw T H B",
     "accept T",
-    "serve T",
+    "serve T T ..",
     "fail T EE LBA",
     "collect T K",
     "recover",
@@ -309,7 +317,7 @@ static RUN_HELP: [&str; 20] = [
     "the disk has: 1 to 131072\n",
     "\n      --pick <PICK>",
     "[default: low]",
-    "[possible values: low, high]\n",
+    "[possible values: low, high, all]\n",
     "\n  write LBA N BB ",
     "\n  read LBA N ",
     "\n  wrote ",

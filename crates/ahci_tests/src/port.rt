@@ -2,12 +2,16 @@
 mod comparing;
 mod errors;
 mod hostile;
+mod lists;
 mod scattered;
+mod steps;
 mod telling;
 
-use ahci_port::{DeviceStep, Outcome, PlainFault, Stepped};
+use ahci_port::Stepped::{Accepted, Completed};
+use ahci_port::{Outcome, PlainFault};
 use ahci_regs::RegFault;
 use std::test::Fail;
+use steps::TableStep::{Accept, Serve};
 use telling::Row::{
     Acknowledge, Collect, Entries, Flush, Identify, Issue, Received, Register, Sector, Step,
 };
@@ -17,10 +21,10 @@ static REGISTERS: [Row; 14] = [
     Issue(0, 1, Some(0xAA), Ok(0)),
     Register(0x134, Ok(1)),
     Register(0x138, Ok(1)),
-    Step(DeviceStep::Accept(0), Ok(Stepped::Accepted(1))),
+    Step(Accept(0), Ok(Accepted(1))),
     Register(0x134, Ok(1)),
     Register(0x138, Ok(0)),
-    Step(DeviceStep::Serve(0), Ok(Stepped::Completed(2))),
+    Step(Serve(&[0]), Ok(Completed { first: 2, count: 1 })),
     Register(0x134, Ok(0)),
     Register(0x110, Ok(8)),
     Acknowledge(8),
@@ -39,12 +43,12 @@ static READ_BETWEEN_WRITES: [Row; 11] = [
     Issue(0, 7, Some(0xAA), Ok(0)),
     Issue(1, 7, Some(0xBB), Ok(1)),
     Issue(2, 7, None, Ok(2)),
-    Step(DeviceStep::Accept(0), Ok(Stepped::Accepted(3))),
-    Step(DeviceStep::Accept(1), Ok(Stepped::Accepted(4))),
-    Step(DeviceStep::Accept(2), Ok(Stepped::Accepted(5))),
-    Step(DeviceStep::Serve(1), Ok(Stepped::Completed(6))),
-    Step(DeviceStep::Serve(2), Ok(Stepped::Completed(7))),
-    Step(DeviceStep::Serve(0), Ok(Stepped::Completed(8))),
+    Step(Accept(0), Ok(Accepted(3))),
+    Step(Accept(1), Ok(Accepted(4))),
+    Step(Accept(2), Ok(Accepted(5))),
+    Step(Serve(&[1]), Ok(Completed { first: 6, count: 1 })),
+    Step(Serve(&[2]), Ok(Completed { first: 7, count: 1 })),
+    Step(Serve(&[0]), Ok(Completed { first: 8, count: 1 })),
     Collect(2, 2, Ok((7, Outcome::Read, 0xBB))),
     Sector(7, 0xAA),
 ];
@@ -60,9 +64,9 @@ static UNQUEUED: [Row; 12] = [
     Identify(27, Ok([0x4F, 0x53])),
     Issue(0, 0, None, Ok(3)),
     Identify(0, Err(PlainFault::QueueBusy)),
-    Step(DeviceStep::Accept(0), Ok(Stepped::Accepted(4))),
+    Step(Accept(0), Ok(Accepted(4))),
     Flush(Err(PlainFault::QueueBusy)),
-    Step(DeviceStep::Serve(0), Ok(Stepped::Completed(5))),
+    Step(Serve(&[0]), Ok(Completed { first: 5, count: 1 })),
     Flush(Ok(())),
     Register(0x110, Ok(0xB)),
     Collect(0, 3, Ok((5, Outcome::Read, 0))),

@@ -1,8 +1,10 @@
 //! What the tests share: commands, ports and choosers.
 ghost use Rattle.std.specs.Prelude.{◌≡◌, ◌≤◌, vec_len, IfOk};
 
-use ahci_driver::{Chooser, High, Low, Receipt};
+use crate::steps::TableStep;
+use ahci_driver::{All, Chooser, High, Low, Receipt};
 use ahci_port::DeviceStep;
+use arrayvec::ArrayVec;
 use ncq_core::{Bytes, Op};
 use std::alloc::{AllocError, Global};
 use std::process::Abort;
@@ -50,8 +52,9 @@ pub fn crowd(alloc: Global, one: Way, workers: u32) -> Result<Vec<Way>, AllocErr
 pub enum Way {
     Lowest,
     Highest,
+    All,
     /// It knows one step.
-    Always(DeviceStep),
+    Always(TableStep),
     /// As the lowest, but that its second call fails tag 0 at sector 0; with the calls so far.
     FailsSecond(u8),
     /// Any step of any tag, by a generator with this state.
@@ -73,7 +76,8 @@ impl Chooser for Way {
         match self {
             Way::Lowest => Low.next(issued, accepted),
             Way::Highest => High.next(issued, accepted),
-            Way::Always(step) => *step,
+            Way::All => All.next(issued, accepted),
+            Way::Always(step) => step.of_device(),
             Way::FailsSecond(calls) => {
                 *calls = calls.saturating_add(1);
                 if *calls == 2 {
@@ -100,13 +104,24 @@ fn random_step(bits: u64) -> DeviceStep {
     let tag = (bits % 33) as u8;
     match bits / 64 % 5 {
         0 | 1 => DeviceStep::Accept(tag),
-        2 | 3 => DeviceStep::Serve(tag),
+        2 | 3 => DeviceStep::Serve(random_list(bits / 320)),
         _ => DeviceStep::Fail {
             tag,
             error: 0x40,
             at: bits / 512 % 9,
         },
     }
+}
+
+/// A list of up to 3 tags made of a number's digits.
+fn random_list(digits: u64) -> ArrayVec<u8, 32> {
+    let mut tags = ArrayVec::new();
+    let mut rest = digits / 4;
+    for _ in 0..digits % 4 {
+        let _ = tags.try_push((rest % 33) as u8);
+        rest /= 33;
+    }
+    tags
 }
 
 /// Whether so many bytes are all the same one.

@@ -5,6 +5,8 @@
 #[cfg(test)]
 mod beginnings;
 #[cfg(test)]
+mod choosers;
+#[cfg(test)]
 mod common;
 #[cfg(test)]
 mod gates;
@@ -14,3 +16,5 @@ mod jobs;
 mod one_seat;
 #[cfg(test)]
 mod runs;
+#[cfg(test)]
+mod steps;

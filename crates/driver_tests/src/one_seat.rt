@@ -1,9 +1,10 @@
-//! One thread with one seat: the worked story of a write and a read.
+//! One thread with one seat: the worked story of a write and a read, and two commands that are completed together.
 ghost use Rattle.std.specs.Prelude.{◌≡◌};
 
 use crate::common::{Job, Way, is_filled, op_of};
-use ahci_driver::{Driver, Low, Pumped, SubmitFault, TagBoard, TagSeat, Ticket};
-use ahci_port::{CollectFault, DeviceStep, Outcome, Port, Reply, Stepped};
+use crate::steps::TableStep::Accept;
+use ahci_driver::{All, Driver, Low, Pumped, SubmitFault, TagBoard, TagSeat, Ticket};
+use ahci_port::{CollectFault, Outcome, Port, Reply, Stepped};
 use std::alloc::{AllocError, Global};
 use std::process::Abort;
 use std::sync::Wait;
@@ -18,6 +19,8 @@ enum Call {
     Stubborn,
     /// With `Low`.
     Pump,
+    /// With `All`.
+    PumpAll,
     Collect,
     FreeNow,
 }
@@ -35,7 +38,7 @@ enum Said {
     Nothing,
 }
 
-/// A driver with one seat, and the ticket that waits.
+/// A driver with one seat, and the last ticket, if it waits.
 #[derive(Drop)]
 struct Story {
     driver: Driver,
@@ -59,7 +62,7 @@ impl Story {
                 }
             }
             Call::Stubborn => {
-                let mut chooser = Way::Always(DeviceStep::Accept(255));
+                let mut chooser = Way::Always(Accept(255));
                 self.driver
                     .pump(rt, &mut chooser)
                     .map_or(Said::Nothing, Said::Pumped)
@@ -67,6 +70,10 @@ impl Story {
             Call::Pump => self
                 .driver
                 .pump(rt, &mut Low)
+                .map_or(Said::Nothing, Said::Pumped),
+            Call::PumpAll => self
+                .driver
+                .pump(rt, &mut All)
                 .map_or(Said::Nothing, Said::Pumped),
             Call::Collect => self.collects(rt),
             Call::FreeNow => Said::Free(self.driver.board().free_now(&mut self.seat)),
@@ -104,7 +111,7 @@ static STORY: [(Call, Said); 13] = [
     ),
     (
         Call::Stubborn,
-        Said::Pumped(Pumped::Stepped(Stepped::Completed(2))),
+        Said::Pumped(Pumped::Stepped(Stepped::Completed { first: 2, count: 1 })),
     ),
     (Call::Stubborn, Said::Pumped(Pumped::Idle)),
     (
@@ -127,7 +134,7 @@ static STORY: [(Call, Said); 13] = [
     ),
     (
         Call::Pump,
-        Said::Pumped(Pumped::Stepped(Stepped::Completed(6))),
+        Said::Pumped(Pumped::Stepped(Stepped::Completed { first: 6, count: 1 })),
     ),
     (Call::Pump, Said::Pumped(Pumped::Idle)),
     (
@@ -183,5 +190,45 @@ fn a_write_is_read_back_by_one_seat(rt: HostRuntime) -> Result<(), Fail> {
     assert!(rt; is_filled(&sector, 512, 0x5a));
     port.copy(0, &mut sector);
     assert!(rt; is_filled(&sector, 512, 0x5a));
+    Ok(())
+}
+
+static TOGETHER: [(Call, Said); 8] = [
+    (Call::Submit(Job::Write(1, 0x77)), Said::Ticket(0, 0)),
+    (Call::Submit(Job::Read(1)), Said::Ticket(1, 1)),
+    (
+        Call::PumpAll,
+        Said::Pumped(Pumped::Stepped(Stepped::Accepted(2))),
+    ),
+    (
+        Call::PumpAll,
+        Said::Pumped(Pumped::Stepped(Stepped::Accepted(3))),
+    ),
+    (
+        Call::PumpAll,
+        Said::Pumped(Pumped::Stepped(Stepped::Completed { first: 4, count: 2 })),
+    ),
+    (Call::PumpAll, Said::Pumped(Pumped::Idle)),
+    (
+        Call::Collect,
+        Said::Collected(
+            Reply {
+                number: 1,
+                entry: 5,
+                outcome: Outcome::Read,
+            },
+            512,
+            Some(0x77),
+        ),
+    ),
+    (Call::FreeNow, Said::Free(2)),
+];
+
+#[test]
+fn all_completes_two_commands_by_one_pump(rt: HostRuntime) -> Result<(), Fail> {
+    let mut story = one_driver(rt.alloc())?;
+    for (call, wanted) in TOGETHER {
+        equal(&rt, call, story.goes(&rt, rt.alloc(), call)?, wanted);
+    }
     Ok(())
 }

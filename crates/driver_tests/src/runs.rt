@@ -3,8 +3,10 @@ ghost use Rattle.std.specs.Prelude.{◌≡◌, ◌≤◌, vec_len, IfOk};
 
 use crate::common::{Way, byte_of, crowd};
 use crate::jobs::{Jobs, commands};
+use crate::steps::TableStep::{Accept, Serve};
+use crate::steps::{RISING, TableStep};
 use ahci_driver::{Open, Receipt, RunEnd, SettleFault, run, settle, settle_plainly};
-use ahci_port::{DeviceStep, Outcome, Port, Reply};
+use ahci_port::{Outcome, Port, Reply};
 use ncq_core::{Bytes, Op};
 use std::alloc::{AllocError, Global};
 use std::process::Abort;
@@ -210,20 +212,21 @@ static CHANGED: [(Look, Said); 8] = [
 
 #[test]
 fn more_workers_than_tags_settle_their_run(rt: HostRuntime) -> Result<(), Fail> {
-    plays(
-        &rt,
-        rt.alloc(),
-        few(Jobs::Few, Way::Highest),
-        CHANGED.as_slice(),
-    )
+    for way in [Way::Highest, Way::All] {
+        plays(&rt, rt.alloc(), few(Jobs::Few, way), CHANGED.as_slice())?;
+    }
+    Ok(())
 }
 
 #[test]
 fn workers_settle_whatever_their_choosers_answer(rt: HostRuntime) -> Result<(), Fail> {
-    static STEPS: [DeviceStep; 3] = [
-        DeviceStep::Serve(31),
-        DeviceStep::Accept(255),
-        DeviceStep::Fail {
+    static STEPS: [TableStep; 6] = [
+        Serve(&[31]),
+        Serve(&[]),
+        Serve(&[0, 0]),
+        Serve(RISING),
+        Accept(255),
+        TableStep::Fail {
             tag: 0,
             error: 0,
             at: u64::MAX,

@@ -1,10 +1,12 @@
 //! Worked job lists: what is written, or the fault that ends them.
 use crate::common::{Crew, done};
-use ahci_driver::{High, Low};
+use ahci_driver::{All, Chooser, High, Low};
 use ahci_script::CliFault;
 use std::alloc::{AllocError, Global};
 use std::process::Abort;
+use std::sync::Wait;
 use std::test::Fail;
+use std::thread::Threads;
 
 /// A job list, its crew, what it writes, and how it ends.
 type List = (&'static str, Crew, &'static str, Result<(), CliFault>);
@@ -128,18 +130,28 @@ static CREWS: [Crew; 6] = [
     (32, 32, 200),
 ];
 
-#[test]
-fn any_number_of_workers_tells_the_same(rt: HostRuntime) -> Result<(), Fail> {
-    let list = disjoint(rt.alloc())?;
-    let expected = told(rt.alloc())?;
+/// Has the jobs on sectors of their own done by every crew.
+fn tells_the_same<H, C>(rt: &H, alloc: Global, chooser: C) -> Result<(), Fail>
+where
+    H: Threads + Wait + Sync + Abort,
+    C: Chooser + Copy + Send + Drop,
+{
+    let list = disjoint(alloc)?;
+    let expected = told(alloc)?;
     for crew in &CREWS {
-        let mut written = Vec::new(rt.alloc());
+        let mut written = Vec::new(alloc);
         let mut reader = list.as_slice();
-        let ended = done(&rt, rt.alloc(), *crew, High, &mut reader, &mut written);
+        let ended = done(rt, alloc, *crew, chooser, &mut reader, &mut written);
         assert!(rt;
             ended == Some(Ok(())) && written.as_slice() == expected.as_slice(),
             "workers, depth and sectors {crew:?}: {ended:?}"
         );
     }
     Ok(())
+}
+
+#[test]
+fn any_number_of_workers_tells_the_same(rt: HostRuntime) -> Result<(), Fail> {
+    tells_the_same(&rt, rt.alloc(), High)?;
+    tells_the_same(&rt, rt.alloc(), All)
 }

@@ -3,9 +3,10 @@
 
 ghost use Rattle.std.specs.Prelude.{◌≡◌, ◌<◌, Ok, IfOk};
 
-use ahci_port::{DeviceStep, Outcome, Port};
+use ahci_port::{DeviceStep, Outcome, Port, Stepped};
 use ahci_table::{Window, default_pieces};
 use anyhow::anyhow;
+use arrayvec::ArrayVec;
 use ncq_core::{Bytes, Op};
 use std::alloc::Global;
 use std::fmt::Debug;
@@ -68,14 +69,20 @@ fn recover(rt: &HostRuntime, port: &mut Port, failed: u64) -> anyhow::Result<()>
     collect(rt, port, tag, failed)
 }
 
-/// The commands that the error ended are issued again, and end well.
+/// The commands that the error ended are issued again, and end well: the device serves tag 2, then tag 0, and completes both
+/// by one Set Device Bits FIS.
 fn finish(rt: &HostRuntime, port: &mut Port, numbers: [u64; 3]) -> anyhow::Result<()> {
     taken(port.reissue(0))?;
     taken(port.reissue(2))?;
     println!(rt; "the others are issued again")?;
     accept(port)?;
-    taken(port.step(DeviceStep::Serve(2)))?;
-    taken(port.step(DeviceStep::Serve(0)))?;
+    let mut tags = ArrayVec::new();
+    tags.push(2);
+    tags.push(0);
+    if let Stepped::Completed { first, count } = taken(port.step(DeviceStep::Serve(tags)))? {
+        println!(rt; "one FIS completes {count} commands, from entry {first} on")?;
+    }
+    show(rt, port)?;
     collect(rt, port, 0, numbers[0])?;
     collect(rt, port, 2, numbers[2])
 }

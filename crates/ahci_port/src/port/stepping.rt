@@ -1,4 +1,4 @@
-//! What the device does with a tag's command: it accepts or refuses it, serves it, or fails it.
+//! What the device does with a tag's command: it accepts or refuses it, serves it with others, or fails it.
 
 ghost use Rattle.std.specs.Prelude.{◌≡◌, IfOk, IsSome, OnErr, Some};
 ghost use Rattle.ncq_journal.specs.Entry.{entry_of};
@@ -65,14 +65,15 @@ fn taken_step(entry: u64, answer: &D2h) -> Stepped
 }
 
 impl<A: Allocator> Port<A> {
-    /// Lets the device take a step with a tag's command, and answers the number of its entry. It takes no memory. A command
-    /// that passes the last sector is refused when it is accepted, with error 10h and the first of its sectors that the
-    /// disk lacks, which is answered as `Failed`.
+    /// Lets the device take a step with a tag's command, or serve those of a list of tags, and answers the number of its
+    /// entry. It takes no memory. A command that passes the last sector is refused when it is accepted, with error 10h and
+    /// the first of its sectors that the disk lacks, which is answered as `Failed`. The commands of a list are served in its
+    /// order, each behind the Completes of those before it, and one Set Device Bits FIS names all their tags.
     ///
     /// # Errors
     /// `Halted` where a command has failed and the port has not recovered; `NotIssued` where an Accept's command does not
-    /// wait for the device; `NotAccepted` where a Serve's or a Fail's command is not accepted; `OutsideCommand` where a
-    /// Fail's sector is not one of the command's.
+    /// wait for the device; `NotAccepted` where a Fail's command, or one of a Serve's, is not accepted; `OutsideCommand`
+    /// where a Fail's sector is not one of the command's; `BadTags` where a Serve names no tag, or one twice.
     pub fn step(&mut self, step: DeviceStep) -> Result<Stepped, StepFault>
         ensures ok { IfOk result (λ done. IsStepped step self.old self.new done) }
         ensures fault { Answers result (step_refusal self.old step) }
@@ -80,7 +81,7 @@ impl<A: Allocator> Port<A> {
     {
         match step {
             DeviceStep::Accept(tag) => self.accept(tag),
-            DeviceStep::Serve(tag) => self.serve(tag),
+            DeviceStep::Serve(tags) => self.serve(&tags),
             DeviceStep::Fail { tag, error, at } => self.fail(tag, error, at),
         }
     }
@@ -142,40 +143,5 @@ impl<A: Allocator> Port<A> {
             lba: at,
         });
         Ok(Stepped::Failed(entry))
-    }
-
-    /// The device moves the data of a tag's command between its image and the window's text, and completes the command.
-    fn serve(&mut self, tag: u8) -> Result<Stepped, StepFault>
-        ensures ok { IfOk result (λ done. IsStepped (DeviceStep.Serve tag) self.old self.new done) }
-        ensures fault { Answers result (step_refusal self.old (DeviceStep.Serve tag)) }
-        ensures err { OnErr result (self.new ≡ self.old) }
-    {
-        if let Some(fault) = self.serve_fault(tag) {
-            return Err(fault);
-        }
-        the_disks_answers_are_these_bytes();
-        let entry = self.journal.len();
-        let Some(slot) = &mut self.slots[tag as usize] else {
-            unreachable!();
-        };
-        let setup = slot.serve(&mut self.disk, tag, entry);
-        receive_setup(&mut self.area, &setup);
-        let bits = Disk::completed(place(tag));
-        receive_bits(&mut self.registers, &mut self.area, &bits);
-        self.journal.push_reserved(Event::Complete(tag));
-        Ok(Stepped::Completed(entry))
-    }
-
-    /// Why the device does not serve a tag's command.
-    fn serve_fault(&self, tag: u8) -> Option<StepFault>
-        ensures { result ≡ step_refusal self.now (DeviceStep.Serve tag) }
-    {
-        if self.halted() {
-            return Some(StepFault::Halted);
-        }
-        match self.phase(tag) {
-            Phase::Accepted => None,
-            _ => Some(StepFault::NotAccepted),
-        }
     }
 }

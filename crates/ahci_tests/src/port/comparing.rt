@@ -10,8 +10,8 @@ use ahci_port::{
 };
 use ahci_regs::RegFault;
 use ahci_table::{Window, default_pieces};
-use calls::{Call, Command, Fault, Picks, SECTORS};
-use entries::{appends, copy_of};
+use calls::{Call, Command, Fault, Picks, SECTORS, names_twice};
+use entries::{appends, copy_of, entries_of};
 use ncq_core::{
     Bytes, Event, Op, Phase, answer_of, ci_of, device_tags_of, is_busy, is_covered, is_halted,
     is_lawful, owed_by, phase_of, request_of, sact_of, sector_of,
@@ -74,15 +74,15 @@ impl Story {
     }
 
     /// Why the port is to refuse a call, by the entries so far, and by the first case that holds.
-    fn fault_of(&self, call: Call) -> Option<Fault> {
+    fn fault_of(&self, call: &Call) -> Option<Fault> {
         let past = self.events.as_slice();
         match call {
             Call::Issue(command) => self.issue_fault(command.tag).map(Fault::Issue),
             Call::Step(step) => self.step_fault(step).map(Fault::Step),
-            Call::Collect(tag, number) => self.collect_fault(tag, number).map(Fault::Collect),
+            Call::Collect(tag, number) => self.collect_fault(*tag, *number).map(Fault::Collect),
             Call::Recover if !is_halted(past) => Some(Fault::Recover(RecoverFault::NotHalted)),
             Call::Reissue(_) if is_halted(past) => Some(Fault::Reissue(ReissueFault::Halted)),
-            Call::Reissue(tag) if phase_of(past, tag) != Phase::Held => {
+            Call::Reissue(tag) if phase_of(past, *tag) != Phase::Held => {
                 Some(Fault::Reissue(ReissueFault::NotHeld))
             }
             Call::Identify | Call::Flush if is_halted(past) => {
@@ -109,18 +109,24 @@ impl Story {
     }
 
     /// Why the device is to refuse a step.
-    fn step_fault(&self, step: DeviceStep) -> Option<StepFault> {
+    fn step_fault(&self, step: &DeviceStep) -> Option<StepFault> {
         let past = self.events.as_slice();
         match step {
             _ if is_halted(past) => Some(StepFault::Halted),
-            DeviceStep::Accept(tag) if phase_of(past, tag) != Phase::Issued => {
+            DeviceStep::Accept(tag) if phase_of(past, *tag) != Phase::Issued => {
                 Some(StepFault::NotIssued)
             }
-            DeviceStep::Serve(tag) | DeviceStep::Fail { tag, .. } if !self.is_in_device(tag) => {
+            DeviceStep::Serve(tags) if !tags.iter().all(|tag| self.is_in_device(*tag)) => {
                 Some(StepFault::NotAccepted)
             }
-            DeviceStep::Fail { tag, at, .. } => match request_of(past, tag) {
-                Some(request) if is_covered(request.op(), at) => None,
+            DeviceStep::Serve(tags) if tags.is_empty() || names_twice(tags) => {
+                Some(StepFault::BadTags)
+            }
+            DeviceStep::Fail { tag, .. } if !self.is_in_device(*tag) => {
+                Some(StepFault::NotAccepted)
+            }
+            DeviceStep::Fail { tag, at, .. } => match request_of(past, *tag) {
+                Some(request) if is_covered(request.op(), *at) => None,
                 _ => Some(StepFault::OutsideCommand),
             },
             _ => None,
@@ -148,17 +154,17 @@ impl Story {
     }
 
     /// Makes a call, and answers why it was refused, if it was.
-    fn make(&mut self, rt: &impl Abort, call: Call) -> Result<Option<Fault>, Fail> {
+    fn make(&mut self, rt: &impl Abort, call: &Call) -> Result<Option<Fault>, Fail> {
         Ok(match call {
-            Call::Issue(command) => self.issue(rt, command)?.map(Fault::Issue),
-            Call::Step(step) => self.port.step(step).err().map(Fault::Step),
-            Call::Collect(tag, number) => self.collect(rt, tag, number)?.map(Fault::Collect),
+            Call::Issue(command) => self.issue(rt, *command)?.map(Fault::Issue),
+            Call::Step(step) => self.port.step(step.clone()?).err().map(Fault::Step),
+            Call::Collect(tag, number) => self.collect(rt, *tag, *number)?.map(Fault::Collect),
             Call::Recover => self.port.recover().err().map(Fault::Recover),
-            Call::Reissue(tag) => self.port.reissue(tag).err().map(Fault::Reissue),
+            Call::Reissue(tag) => self.port.reissue(*tag).err().map(Fault::Reissue),
             Call::Identify => self.port.identify().err().map(Fault::Plain),
             Call::Flush => self.port.flush().err().map(Fault::Plain),
             Call::Acknowledge(mask) => {
-                self.port.acknowledge(mask);
+                self.port.acknowledge(*mask);
                 None
             }
         })
@@ -222,16 +228,16 @@ impl Story {
     }
 
     /// Makes a call and compares what it leaves. The answer says whether it was taken.
-    fn go_on(&mut self, rt: &impl Abort, call: Call) -> Result<bool, Fail> {
+    fn go_on(&mut self, rt: &impl Abort, call: &Call) -> Result<bool, Fail> {
         let wanted = self.fault_of(call);
         let before = self.shown();
         let found = self.make(rt, call)?;
         let taken = found.is_none();
         let keeps = taken || self.shown() == before;
         let appended = self.catch_up(rt, call)?;
-        let appends = taken && call.kind() != 0x200;
+        let entries = if taken { entries_of(call) } else { 0 };
         let row = self.events.len();
-        equal(rt, row, &(found, keeps, appended), &(wanted, true, appends));
+        equal(rt, row, &(found, keeps, appended), &(wanted, true, entries));
         self.compare(rt);
         for lba in 0..u64::from(SECTORS) {
             self.compare_sector(rt, lba);
@@ -239,15 +245,17 @@ impl Story {
         Ok(taken)
     }
 
-    /// Copies the entry of a call, if it has one.
-    fn catch_up(&mut self, rt: &impl Abort, call: Call) -> Result<bool, Fail> {
-        let Some(event) = self.port.journal().get(self.events.len() as u64) else {
-            return Ok(false);
-        };
-        equal(rt, self.events.len(), &appends(call, event), &true);
-        let event = copy_of(self.alloc, event)?;
-        self.events.push(event)?;
-        Ok(true)
+    /// Copies the entries of a call, and answers how many it has: no call has more than 32.
+    fn catch_up(&mut self, rt: &impl Abort, call: &Call) -> Result<usize, Fail> {
+        for index in 0..32usize {
+            let Some(event) = self.port.journal().get(self.events.len() as u64) else {
+                return Ok(index);
+            };
+            equal(rt, self.events.len(), &appends(call, index, event), &true);
+            let event = copy_of(self.alloc, event)?;
+            self.events.push(event)?;
+        }
+        Ok(32)
     }
 
     /// Compares the entries' number, PxSACT, PxCI, `halted`, the room and the owners with the plain functions over the
@@ -305,7 +313,7 @@ fn run(
     let (mut taken, mut refused) = kinds;
     for _ in 0..calls {
         let call = picks.call(&story.port, story.events.as_slice());
-        if story.go_on(rt, call)? {
+        if story.go_on(rt, &call)? {
             taken |= call.kind();
         } else {
             refused |= call.kind();
@@ -315,15 +323,21 @@ fn run(
     Ok((taken, refused))
 }
 
-// A port of one slot has no held command to issue again.
+/// All kinds of calls but the Serve of no tag and that of one twice, which are never taken.
+const TAKEN: u32 = 0x7FF;
+
+/// All kinds of calls but the acknowledgment of interrupts, which is never refused.
+const REFUSED: u32 = 0x1DFF;
+
+// A port of one slot has no held command to issue again, and never two commands to serve.
 #[test]
 fn the_port_agrees_with_its_journal(rt: HostRuntime) -> Result<(), Fail> {
-    for (depth, taken) in [(1, 0x3BF), (4, 0x3FF), (32, 0x3FF)] {
+    for (depth, taken) in [(1, 0x3BF), (4, TAKEN), (32, TAKEN)] {
         let mut kinds = (0, 0);
         for seed in 1..=4 {
             kinds = run(&rt, rt.alloc(), seed, (depth, 200), kinds)?;
         }
-        equal(&rt, depth as usize, &kinds, &(taken, 0x1FF));
+        equal(&rt, depth as usize, &kinds, &(taken, REFUSED));
     }
     Ok(())
 }
@@ -336,6 +350,6 @@ fn the_port_agrees_with_its_journal_at_each_depth(rt: HostRuntime) -> Result<(),
         let seed = 100 + u64::from(depth);
         kinds = run(&rt, rt.alloc(), seed, (depth, 60), kinds)?;
     }
-    equal(&rt, 32, &kinds, &(0x3FF, 0x1FF));
+    equal(&rt, 32, &kinds, &(TAKEN, REFUSED));
     Ok(())
 }

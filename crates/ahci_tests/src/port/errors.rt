@@ -1,21 +1,23 @@
 //! Errors in a queue, and what comes after them.
+use super::steps::TableStep;
+use super::steps::TableStep::{Accept, Serve};
 use super::telling::Row::{Collect, Flush, Issue, Recover, Register, Reissue, Sector, Step};
 use super::telling::{Row, plays};
+use ahci_port::Stepped::{Accepted, Completed, Failed};
 use ahci_port::{
-    CollectFault, DeviceStep, IssueFault, Outcome, PlainFault, RecoverFault, ReissueFault,
-    StepFault, Stepped,
+    CollectFault, IssueFault, Outcome, PlainFault, RecoverFault, ReissueFault, StepFault,
 };
 use std::test::Fail;
 
 /// Tag 1 fails with error 40h at LBA 8, which its command hasn't.
-const FAIL_1_AT_8: DeviceStep = DeviceStep::Fail {
+const FAIL_1_AT_8: TableStep = TableStep::Fail {
     tag: 1,
     error: 0x40,
     at: 8,
 };
 
 /// Tag 1 fails with error 40h at LBA 7.
-const FAIL_1_AT_7: DeviceStep = DeviceStep::Fail {
+const FAIL_1_AT_7: TableStep = TableStep::Fail {
     tag: 1,
     error: 0x40,
     at: 7,
@@ -30,16 +32,16 @@ static ERROR_IN_A_QUEUE: [Row; 28] = [
     Issue(0, 0, None, Ok(0)),
     Issue(1, 7, None, Ok(1)),
     Issue(2, 9, Some(0x5A), Ok(2)),
-    Step(DeviceStep::Accept(0), Ok(Stepped::Accepted(3))),
-    Step(DeviceStep::Accept(1), Ok(Stepped::Accepted(4))),
-    Step(DeviceStep::Accept(2), Ok(Stepped::Accepted(5))),
+    Step(Accept(0), Ok(Accepted(3))),
+    Step(Accept(1), Ok(Accepted(4))),
+    Step(Accept(2), Ok(Accepted(5))),
     Step(FAIL_1_AT_8, Err(StepFault::OutsideCommand)),
-    Step(FAIL_1_AT_7, Ok(Stepped::Failed(6))),
+    Step(FAIL_1_AT_7, Ok(Failed(6))),
     Register(0x120, Ok(0x4041)),
     Register(0x134, Ok(7)),
     Register(0x138, Ok(0)),
     Register(0x110, Ok(0x4000_0008)),
-    Step(DeviceStep::Serve(0), Err(StepFault::Halted)),
+    Step(Serve(&[0]), Err(StepFault::Halted)),
     Recover(Ok(1)),
     Register(0x120, Ok(0x40)),
     Register(0x134, Ok(0)),
@@ -49,10 +51,22 @@ static ERROR_IN_A_QUEUE: [Row; 28] = [
     Reissue(1, Err(ReissueFault::NotHeld)),
     Reissue(0, Ok(())),
     Reissue(2, Ok(())),
-    Step(DeviceStep::Accept(0), Ok(Stepped::Accepted(11))),
-    Step(DeviceStep::Serve(0), Ok(Stepped::Completed(12))),
-    Step(DeviceStep::Accept(2), Ok(Stepped::Accepted(13))),
-    Step(DeviceStep::Serve(2), Ok(Stepped::Completed(14))),
+    Step(Accept(0), Ok(Accepted(11))),
+    Step(
+        Serve(&[0]),
+        Ok(Completed {
+            first: 12,
+            count: 1,
+        }),
+    ),
+    Step(Accept(2), Ok(Accepted(13))),
+    Step(
+        Serve(&[2]),
+        Ok(Completed {
+            first: 14,
+            count: 1,
+        }),
+    ),
     Collect(0, 0, Ok((12, Outcome::Read, 0))),
     Sector(9, 0x5A),
 ];
@@ -69,10 +83,10 @@ const PAST_THE_END: Outcome = Outcome::Failed {
 
 static LAST_SECTOR: [Row; 11] = [
     Issue(0, 7, None, Ok(0)),
-    Step(DeviceStep::Accept(0), Ok(Stepped::Accepted(1))),
-    Step(DeviceStep::Serve(0), Ok(Stepped::Completed(2))),
+    Step(Accept(0), Ok(Accepted(1))),
+    Step(Serve(&[0]), Ok(Completed { first: 2, count: 1 })),
     Issue(1, 8, Some(0xFF), Ok(3)),
-    Step(DeviceStep::Accept(1), Ok(Stepped::Failed(4))),
+    Step(Accept(1), Ok(Failed(4))),
     Register(0x120, Ok(0x1041)),
     Register(0x134, Ok(2)),
     Register(0x138, Ok(2)),
@@ -87,14 +101,14 @@ fn a_command_past_the_last_sector_is_refused(rt: HostRuntime) -> Result<(), Fail
 }
 
 /// Tag 0 fails with error 40h at LBA 0.
-const FAIL_0: DeviceStep = DeviceStep::Fail {
+const FAIL_0: TableStep = TableStep::Fail {
     tag: 0,
     error: 0x40,
     at: 0,
 };
 
 /// Tag 1 fails with error 40h at LBA 0.
-const FAIL_1: DeviceStep = DeviceStep::Fail {
+const FAIL_1: TableStep = TableStep::Fail {
     tag: 1,
     error: 0x40,
     at: 0,
@@ -103,9 +117,9 @@ const FAIL_1: DeviceStep = DeviceStep::Fail {
 static HELD: [Row; 16] = [
     Issue(0, 0, Some(0x11), Ok(0)),
     Issue(1, 0, Some(0x22), Ok(1)),
-    Step(DeviceStep::Accept(1), Ok(Stepped::Accepted(2))),
+    Step(Accept(1), Ok(Accepted(2))),
     Step(FAIL_0, Err(StepFault::NotAccepted)),
-    Step(FAIL_1, Ok(Stepped::Failed(3))),
+    Step(FAIL_1, Ok(Failed(3))),
     Register(0x134, Ok(3)),
     Register(0x138, Ok(1)),
     Flush(Err(PlainFault::Halted)),
@@ -114,8 +128,8 @@ static HELD: [Row; 16] = [
     Issue(1, 0, Some(0x33), Err(IssueFault::SlotOwned)),
     Flush(Ok(())),
     Reissue(0, Ok(())),
-    Step(DeviceStep::Accept(0), Ok(Stepped::Accepted(7))),
-    Step(DeviceStep::Serve(0), Ok(Stepped::Completed(8))),
+    Step(Accept(0), Ok(Accepted(7))),
+    Step(Serve(&[0]), Ok(Completed { first: 8, count: 1 })),
     Sector(0, 0x11),
 ];
 

@@ -84,10 +84,13 @@ fn served(
     let found = (
         issued,
         port.step(DeviceStep::Accept(tag)),
-        port.step(DeviceStep::Serve(tag)),
+        port.step(DeviceStep::serve_one(tag)),
     );
     let accepted = Ok(Stepped::Accepted(number.wrapping_add(1)));
-    let completed = Ok(Stepped::Completed(number.wrapping_add(2)));
+    let completed = Ok(Stepped::Completed {
+        first: number.wrapping_add(2),
+        count: 1,
+    });
     equal(rt, row, &found, &(number, accepted, completed));
     let (reply, window) = port.collect(tag, number)?;
     let outcome = match op {

@@ -1,10 +1,11 @@
 //! Calls of a port as the rows of a table.
 ghost use Rattle.std.specs.Prelude.{◌≤◌, ◌<◌};
 
+use super::steps::TableStep;
 use crate::table::equal;
 use ahci_port::{
-    CollectFault, DeviceStep, IssueFault, Outcome, PlainFault, Port, RecoverFault, ReissueFault,
-    Reply, StepFault, Stepped,
+    CollectFault, IssueFault, Outcome, PlainFault, Port, RecoverFault, ReissueFault, Reply,
+    StepFault, Stepped,
 };
 use ahci_regs::RegFault;
 use ahci_table::{Window, default_pieces};
@@ -18,8 +19,9 @@ use std::test::Fail;
 pub enum Row {
     /// A command of one sector: its tag and LBA, and a write's byte. The answer is its number.
     Issue(u8, u64, Option<u8>, Result<u64, IssueFault>),
-    Step(DeviceStep, Result<Stepped, StepFault>),
-    /// A request by its tag and number: its entry and outcome, and the first byte of its window's text.
+    /// One that is refused changes nothing that the port shows.
+    Step(TableStep, Result<Stepped, StepFault>),
+    /// A request by its tag and number: its entry and outcome, and the byte that its window's text is filled with.
     Collect(u8, u64, Result<(u64, Outcome, u8), CollectFault>),
     Recover(Result<u8, RecoverFault>),
     Reissue(u8, Result<(), ReissueFault>),
@@ -30,7 +32,7 @@ pub enum Row {
     Register(u32, Result<u32, RegFault>),
     /// Eight bytes of the received FIS area.
     Received(usize, [u8; 8]),
-    /// The first byte of a sector.
+    /// The byte that a sector is filled with.
     Sector(u64, u8),
     /// How many entries the journal has.
     Entries(u64),
@@ -78,10 +80,17 @@ fn issue(
     })
 }
 
-/// The reply of a request, and the first byte of its window's text.
+/// The byte that all of these are.
+fn byte_of(bytes: &[u8]) -> Option<u8> {
+    let first = *bytes.first()?;
+    bytes.iter().all(|byte| *byte == first).then_some(first)
+}
+
+/// The reply of a request, and the byte that its window's text is filled with.
 fn collect(port: &mut Port, tag: u8, number: u64) -> Result<(Reply, Option<u8>), CollectFault> {
     let (reply, window) = port.collect(tag, number)?;
-    Ok((reply, window.bytes().get(0x1000).copied()))
+    let text = window.bytes().get(0x1000..0x1200);
+    Ok((reply, text.and_then(byte_of)))
 }
 
 /// What a row of a request wants.
@@ -106,17 +115,49 @@ fn identify(port: &mut Port, word: usize) -> Result<[u8; 2], PlainFault> {
     Ok([low, high.copied().unwrap_or(0)])
 }
 
-/// The first byte of a sector, where there is such a sector.
-fn first_byte(port: &Port, lba: u64) -> Option<u8> {
+/// The byte that a sector is filled with, where there is such a sector.
+fn sector_byte(port: &Port, lba: u64) -> Option<u8> {
     let mut sector = [0; 512];
     if lba >= u64::from(port.sectors()) {
         return None;
     }
     port.copy(lba, &mut sector);
-    Some(sector[0])
+    byte_of(&sector)
 }
 
-fn goes(
+/// What a step moves: PxIS, PxTFD, PxSACT and PxCI, the received FIS area, how many entries the journal has, and the image.
+type Shown = ([Result<u32, RegFault>; 4], [u8; 256], u64, Vec<u8>);
+
+fn look_at(alloc: Global, port: &Port) -> Result<Shown, AllocError> {
+    let mut image = Vec::new(alloc);
+    let mut sector = [0; 512];
+    for lba in 0..u64::from(port.sectors()) {
+        port.copy(lba, &mut sector);
+        image.extend_from_slice(&sector)?;
+    }
+    let words = [
+        port.register(0x110),
+        port.register(0x120),
+        port.register(0x134),
+        port.register(0x138),
+    ];
+    Ok((words, *port.received(), port.journal().len(), image))
+}
+
+/// Lets the device take a step: what it answers, and whether the port shows the same as before.
+fn step(
+    alloc: Global,
+    port: &mut Port,
+    step: TableStep,
+) -> Result<(Result<Stepped, StepFault>, bool), AllocError> {
+    let before = look_at(alloc, port)?;
+    let answer = port.step(step.of_device());
+    let after = look_at(alloc, port)?;
+    Ok((answer, after == before))
+}
+
+/// Makes the call of a row, and compares what it answers.
+pub fn goes(
     rt: &impl Abort,
     alloc: Global,
     port: &mut Port,
@@ -128,7 +169,10 @@ fn goes(
             assert!(rt; tag < 32);
             equal(rt, row, &issue(alloc, port, tag, lba, byte)?, &answer);
         }
-        Row::Step(step, answer) => equal(rt, row, &port.step(step), &answer),
+        Row::Step(asked, answer) => {
+            let found = step(alloc, port, asked)?;
+            equal(rt, row, &found, &(answer, answer.is_err()));
+        }
         Row::Collect(tag, number, answer) => {
             let found = collect(port, tag, number);
             equal(rt, row, &found, &collected(number, answer));
@@ -143,13 +187,21 @@ fn goes(
             let found = port.received().get(at..at.saturating_add(8));
             equal(rt, row, &(found == Some(bytes.as_slice())), &true);
         }
-        Row::Sector(lba, byte) => equal(rt, row, &first_byte(port, lba), &Some(byte)),
+        Row::Sector(lba, byte) => equal(rt, row, &sector_byte(port, lba), &Some(byte)),
         Row::Entries(count) => equal(rt, row, &port.journal().len(), &count),
     }
     Ok(())
 }
 
-/// Makes the calls of a table on a port over so many sectors of zeros, and compares what they answer.
+/// Makes the calls of a table, and compares what they answer.
+pub fn goes_on(rt: &impl Abort, alloc: Global, port: &mut Port, rows: &[Row]) -> Result<(), Fail> {
+    for (number, row) in rows.iter().enumerate() {
+        goes(rt, alloc, port, number, *row)?;
+    }
+    Ok(())
+}
+
+/// Makes the calls of a table on a port over so many sectors of zeros.
 pub fn plays(
     rt: &impl Abort,
     alloc: Global,
@@ -159,8 +211,5 @@ pub fn plays(
 ) -> Result<(), Fail> {
     assert!(rt; sectors <= 131_072);
     let mut port = port_of(alloc, sectors, depth)?;
-    for (number, row) in rows.iter().enumerate() {
-        goes(rt, alloc, &mut port, number, *row)?;
-    }
-    Ok(())
+    goes_on(rt, alloc, &mut port, rows)
 }

@@ -37,7 +37,7 @@ static WRONG: [&[u8]; 56] = [
     b"serve",
     b"serve 256",
     b"accept",
-    b"serve 0 0",
+    b"serve 0  0",
     b"collect 0",
     b"collect 32 0",
     b"read 0 0 131073",

@@ -63,7 +63,7 @@ static STORY: [(Call, Said); 13] = [
     ),
     (
         Call::Pump,
-        Said::Pumped(Some(Pumped::Stepped(Stepped::Completed(2)))),
+        Said::Pumped(Some(Pumped::Stepped(Stepped::Completed { first: 2, count: 1 }))),
     ),
     (Call::Pump, Said::Pumped(Some(Pumped::Idle))),
     (
@@ -85,7 +85,7 @@ static STORY: [(Call, Said); 13] = [
     ),
     (
         Call::Pump,
-        Said::Pumped(Some(Pumped::Stepped(Stepped::Completed(6)))),
+        Said::Pumped(Some(Pumped::Stepped(Stepped::Completed { first: 6, count: 1 }))),
     ),
     (
         Call::Collect,
@@ -206,7 +206,7 @@ fn under_the_lock_only_an_issue_needs_memory(rt: HostRuntime) -> Result<(), Fail
     unasked(&rt, &heap, &"collect", &fault, &CollectFault::NotYet);
     for wanted in [
         Pumped::Stepped(Stepped::Accepted(1)),
-        Pumped::Stepped(Stepped::Completed(2)),
+        Pumped::Stepped(Stepped::Completed { first: 2, count: 1 }),
         Pumped::Idle,
     ] {
         let found = pump_locked(&mut port, &mut High).ok();

@@ -1,10 +1,12 @@
 //! Stories of a port, in which memory is there for commands that are issued and for recoveries alone.
+use super::steps::TableStep;
+use super::steps::TableStep::{Accept, Serve};
 use super::unasked;
 use crate::heap::{Heap, grant_all, refuse_from};
 use crate::shown::look_at;
 use ahci_port::{
-    CollectFault, DeviceStep, IssueFault, Outcome, PlainFault, Port, RecoverFault, ReissueFault,
-    Reply, StepFault, Stepped,
+    CollectFault, IssueFault, Outcome, PlainFault, Port, RecoverFault, ReissueFault, Reply,
+    StepFault, Stepped,
 };
 use ahci_regs::RegFault;
 use ahci_table::{Window, default_pieces};
@@ -23,7 +25,7 @@ enum Call {
     /// With memory.
     Recover,
     RecoverInVain,
-    Step(DeviceStep),
+    Step(TableStep),
     /// A request by its tag and number.
     Collect(u8, u64),
     Reissue(u8),
@@ -55,7 +57,6 @@ use Call::{
     Acknowledge, Collect, Entries, Flush, Issue, IssueInVain, Recover, RecoverInVain, Register,
     Reissue, Sector, Step,
 };
-use DeviceStep::{Accept, Serve};
 use Said::{Byte, Collected, NotIssued, Nothing, Number, Word};
 use Stepped::{Accepted, Completed, Failed};
 
@@ -66,7 +67,10 @@ static STRANGERS: [Row; 15] = [
     (Issue(0, 0, Some(0x11)), Number(0)),
     (Collect(0, 0), Collected(Err(CollectFault::NotYet))),
     (Step(Accept(0)), Said::Stepped(Ok(Accepted(1)))),
-    (Step(Serve(0)), Said::Stepped(Ok(Completed(2)))),
+    (
+        Step(Serve(&[0])),
+        Said::Stepped(Ok(Completed { first: 2, count: 1 })),
+    ),
     (
         Collect(0, 0),
         Collected(Ok((
@@ -89,10 +93,16 @@ static STRANGERS: [Row; 15] = [
         IssueInVain(0, 0, Some(0x22)),
         NotIssued(IssueFault::SlotOwned),
     ),
-    (Step(Serve(0)), Said::Stepped(Err(StepFault::NotAccepted))),
+    (
+        Step(Serve(&[0])),
+        Said::Stepped(Err(StepFault::NotAccepted)),
+    ),
     (Step(Accept(0)), Said::Stepped(Ok(Accepted(5)))),
     (Step(Accept(0)), Said::Stepped(Err(StepFault::NotIssued))),
-    (Step(Serve(0)), Said::Stepped(Ok(Completed(6)))),
+    (
+        Step(Serve(&[0])),
+        Said::Stepped(Ok(Completed { first: 6, count: 1 })),
+    ),
     (
         Collect(0, 4),
         Collected(Ok((
@@ -107,13 +117,13 @@ static STRANGERS: [Row; 15] = [
 ];
 
 /// Tag 1 fails with error 40h at a sector.
-const FAIL_1_AT_8: DeviceStep = DeviceStep::Fail {
+const FAIL_1_AT_8: TableStep = TableStep::Fail {
     tag: 1,
     error: 0x40,
     at: 8,
 };
 
-const FAIL_1_AT_7: DeviceStep = DeviceStep::Fail {
+const FAIL_1_AT_7: TableStep = TableStep::Fail {
     tag: 1,
     error: 0x40,
     at: 7,
@@ -135,7 +145,7 @@ static ERROR_IN_A_QUEUE: [Row; 33] = [
     (Register(0x134), Word(Ok(7))),
     (Register(0x138), Word(Ok(0))),
     (Register(0x110), Word(Ok(0x4000_0008))),
-    (Step(Serve(0)), Said::Stepped(Err(StepFault::Halted))),
+    (Step(Serve(&[0])), Said::Stepped(Err(StepFault::Halted))),
     (IssueInVain(3, 0, Some(1)), NotIssued(IssueFault::Halted)),
     (Flush, Said::Flushed(Err(PlainFault::Halted))),
     (Recover, Said::Recovered(Ok(1))),
@@ -163,9 +173,21 @@ static ERROR_IN_A_QUEUE: [Row; 33] = [
     (Reissue(0), Said::Reissued(Ok(()))),
     (Reissue(2), Said::Reissued(Ok(()))),
     (Step(Accept(0)), Said::Stepped(Ok(Accepted(11)))),
-    (Step(Serve(0)), Said::Stepped(Ok(Completed(12)))),
+    (
+        Step(Serve(&[0])),
+        Said::Stepped(Ok(Completed {
+            first: 12,
+            count: 1,
+        })),
+    ),
     (Step(Accept(2)), Said::Stepped(Ok(Accepted(13)))),
-    (Step(Serve(2)), Said::Stepped(Ok(Completed(14)))),
+    (
+        Step(Serve(&[2])),
+        Said::Stepped(Ok(Completed {
+            first: 14,
+            count: 1,
+        })),
+    ),
     (
         Collect(0, 0),
         Collected(Ok((
@@ -179,6 +201,40 @@ static ERROR_IN_A_QUEUE: [Row; 33] = [
     ),
     (Sector(9), Byte(0x5A)),
     (Entries, Number(16)),
+];
+
+static LISTS: [Row; 12] = [
+    (Issue(0, 3, Some(0x11)), Number(0)),
+    (Issue(1, 3, None), Number(1)),
+    (Issue(2, 3, Some(0x22)), Number(2)),
+    (Step(Accept(0)), Said::Stepped(Ok(Accepted(3)))),
+    (Step(Accept(1)), Said::Stepped(Ok(Accepted(4)))),
+    (Step(Accept(2)), Said::Stepped(Ok(Accepted(5)))),
+    (Step(Serve(&[])), Said::Stepped(Err(StepFault::BadTags))),
+    (
+        Step(Serve(&[0, 2, 0])),
+        Said::Stepped(Err(StepFault::BadTags)),
+    ),
+    (
+        Step(Serve(&[0, 3])),
+        Said::Stepped(Err(StepFault::NotAccepted)),
+    ),
+    (
+        Step(Serve(&[2, 1, 0])),
+        Said::Stepped(Ok(Completed { first: 6, count: 3 })),
+    ),
+    (
+        Collect(1, 1),
+        Collected(Ok((
+            Reply {
+                number: 1,
+                entry: 7,
+                outcome: Outcome::Read,
+            },
+            0x22,
+        ))),
+    ),
+    (Sector(3), Byte(0x11)),
 ];
 
 /// The window of a command of one sector over the default pieces.
@@ -237,7 +293,7 @@ fn goes<'a>(heap: &'a Heap, port: &mut Port<&'a Heap>, call: Call) -> Result<Sai
             issues(port, window)
         }
         Recover | RecoverInVain => Said::Recovered(port.recover()),
-        Step(step) => Said::Stepped(port.step(step)),
+        Step(step) => Said::Stepped(port.step(step.of_device())),
         Collect(tag, number) => collects(port, tag, number),
         Reissue(tag) => Said::Reissued(port.reissue(tag)),
         Flush => Said::Flushed(port.flush()),
@@ -287,6 +343,12 @@ fn plays(
 fn strangers_are_refused_with_no_memory(rt: HostRuntime) -> Result<(), Fail> {
     let heap = Refusing::new(rt.alloc());
     plays(&rt, &heap, 8, 1, STRANGERS.as_slice())
+}
+
+#[test]
+fn lists_are_served_with_no_memory(rt: HostRuntime) -> Result<(), Fail> {
+    let heap = Refusing::new(rt.alloc());
+    plays(&rt, &heap, 8, 4, LISTS.as_slice())
 }
 
 #[test]

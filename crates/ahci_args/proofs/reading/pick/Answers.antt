@@ -5,7 +5,7 @@ use Rattle.clap.specs.Words.{Row, Text, first_of, found_of, rows_of}
 use Rattle.clap.proofs.WalkLemmas.{first_value-rows}
 use Rattle.ahci_args.specs.Asking.{HasPick, word_of}
 use Rattle.ahci_args.specs.declared.pick.Pick.{Pick}
-use Rattle.ahci_args.specs.declared.pick.Pick.TheVariants.{Low, High}
+use Rattle.ahci_args.specs.declared.pick.Pick.TheVariants.{Low, High, All}
 use Rattle.ahci_args.proofs.reading.pick.Goals as goal
 use Rattle.ahci_args.proofs.reading.pick.Goals.{After-unwrap}
 
@@ -18,10 +18,12 @@ word_is : (c : After-unwrap) → first_of (codes "pick") (rows_of (found_of c.ar
 word_is c =
     sym (first_value-rows (found_of c.args.options.now) (codes "pick")) ∙ (sym c.get_str.ensures ∙ ap (option_map (λ (s : Bor Text). s.now)) c.unwrap.ensures)
 
--- and one of the two
-no_other : (options : List Row) (word : Text) (pick : Pick) → first_of (codes "pick") options ≡ Some word → HasPick options pick → (word ≡ codes "low" → ⊥) → (word ≡ codes "high" → ⊥) → ⊥
-no_other options word Low is has low high = low (cc)
-no_other options word High is has low high = high (cc)
+-- and one of the three
+no_other : (options : List Row) (word : Text) (pick : Pick) → first_of (codes "pick") options ≡ Some word → HasPick options pick → (word ≡ codes "low" → ⊥) → (word ≡ codes "high" → ⊥) → (word ≡ codes "all" → ⊥)
+    → ⊥
+no_other options word Low is has low high all = low (cc)
+no_other options word High is has low high all = high (cc)
+no_other options word All is has low high all = all (cc)
 
 pub unwrap-requires : goal.unwrap-requires
 unwrap-requires c =
@@ -30,10 +32,13 @@ unwrap-requires c =
 pub unreachable-requires : goal.unreachable-requires
 unreachable-requires c =
     no_other (rows_of (found_of c.args.options.now)) c.unwrap.result.now c.requires.0 (word_is (goal.at.unreachable-requires c).After-unwrap) c.requires.1
-    c.in_default.not-low c.in_default.not-high
+    c.in_default.not-low c.in_default.not-high c.in_default.not-all
 
 pub returns-in-low : goal.returns-in-low
 returns-in-low c = word_is (goal.at.returns-in-low c).After-unwrap ∙ ap Some c.in-low.is
 
 pub returns-in-high : goal.returns-in-high
 returns-in-high c = word_is (goal.at.returns-in-high c).After-unwrap ∙ ap Some c.in-high.is
+
+pub returns-in-all : goal.returns-in-all
+returns-in-all c = word_is (goal.at.returns-in-all c).After-unwrap ∙ ap Some c.in-all.is

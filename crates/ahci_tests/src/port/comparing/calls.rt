@@ -4,6 +4,7 @@ ghost use Rattle.std.specs.Prelude.{◌<◌, ◌≤◌};
 use ahci_port::{
     CollectFault, DeviceStep, IssueFault, PlainFault, Port, RecoverFault, ReissueFault, StepFault,
 };
+use arrayvec::ArrayVec;
 use ncq_core::{Event, Phase, phase_of, request_of};
 
 /// How many sectors the disk of a run has.
@@ -25,7 +26,7 @@ pub struct Command {
 }
 
 /// A call of a port.
-#[derive(Clone, Copy)]
+#[derive(Drop)]
 pub enum Call {
     Issue(Command),
     Step(DeviceStep),
@@ -50,11 +51,11 @@ pub enum Fault {
 
 impl Call {
     /// The bit that stands for this kind of call.
-    pub fn kind(self) -> u32 {
+    pub fn kind(&self) -> u32 {
         match self {
             Call::Issue(_) => 0x001,
             Call::Step(DeviceStep::Accept(_)) => 0x002,
-            Call::Step(DeviceStep::Serve(_)) => 0x004,
+            Call::Step(DeviceStep::Serve(tags)) => kind_of_list(tags),
             Call::Step(DeviceStep::Fail { .. }) => 0x008,
             Call::Collect(..) => 0x010,
             Call::Recover => 0x020,
@@ -64,6 +65,26 @@ impl Call {
             Call::Acknowledge(_) => 0x200,
         }
     }
+}
+
+/// The bit that stands for a Serve of one tag, of some, of none, or of one twice.
+fn kind_of_list(tags: &[u8]) -> u32 {
+    match tags.len() {
+        0 => 0x800,
+        1 => 0x004,
+        _ if names_twice(tags) => 0x1000,
+        _ => 0x400,
+    }
+}
+
+/// Whether a list names a tag twice.
+pub fn names_twice(tags: &[u8]) -> bool {
+    for index in 0..tags.len() {
+        if tags[..index].contains(&tags[index]) {
+            return true;
+        }
+    }
+    false
 }
 
 impl Picks {
@@ -120,6 +141,36 @@ impl Picks {
         DeviceStep::Fail { tag, error, at }
     }
 
+    /// A Serve of a list that begins with this tag and goes on with up to three more.
+    fn service(&mut self, depth: u32, events: &[Event], tag: u8) -> DeviceStep {
+        let mut tags = ArrayVec::new();
+        tags.push(tag);
+        for _ in 0..self.below(4) {
+            if let Some(other) = self.other(depth, events, &tags) {
+                let _ = tags.try_push(other);
+            }
+        }
+        DeviceStep::Serve(tags)
+    }
+
+    /// A tag to go on with: an accepted one that the list has not, if there is one; in one of eight picks the list's first tag
+    /// once more, and in two any tag.
+    fn other(&mut self, depth: u32, events: &[Event], tags: &[u8]) -> Option<u8> {
+        let first = self.tag(depth);
+        match self.below(8) {
+            0 => return tags.first().copied(),
+            1..=2 => return Some(first),
+            _ => {}
+        }
+        for step in 0..32u8 {
+            let tag = first.wrapping_add(step) % 32;
+            if phase_of(events, tag) == Phase::Accepted && !tags.contains(&tag) {
+                return Some(tag);
+            }
+        }
+        None
+    }
+
     /// A request of a tag, in most picks the one that owns it.
     fn request(&mut self, port: &Port, tag: u8) -> Call {
         let number = match port.owner(tag) {
@@ -151,7 +202,7 @@ impl Picks {
             Phase::Free => Call::Issue(self.command(tag)),
             Phase::Issued => Call::Step(DeviceStep::Accept(tag)),
             Phase::Accepted if self.below(8) == 0 => Call::Step(self.failure(events, tag)),
-            Phase::Accepted => Call::Step(DeviceStep::Serve(tag)),
+            Phase::Accepted => Call::Step(self.service(port.depth(), events, tag)),
             Phase::Held => Call::Reissue(tag),
             Phase::Rejected | Phase::Broken | Phase::Done => self.request(port, tag),
         }
@@ -162,12 +213,13 @@ impl Picks {
         match self.below(16) {
             0 => Call::Issue(self.command(tag)),
             1 => Call::Step(DeviceStep::Accept(tag)),
-            2 => Call::Step(DeviceStep::Serve(tag)),
+            2 => Call::Step(self.service(port.depth(), events, tag)),
             3 => Call::Step(self.failure(events, tag)),
             4..=5 => self.request(port, tag),
             6..=7 => Call::Recover,
             8..=9 => Call::Reissue(tag),
-            10..=12 => Call::Identify,
+            10..=11 => Call::Identify,
+            12 => Call::Step(DeviceStep::Serve(ArrayVec::new())),
             13..=14 => Call::Flush,
             _ => Call::Acknowledge(1 << self.below(32)),
         }

@@ -35,17 +35,27 @@ pub fn copy_of(alloc: Global, event: &Event) -> Result<Event, AllocError> {
     })
 }
 
-/// Whether a call that is taken appends this event.
-pub fn appends(call: Call, event: &Event) -> bool {
+/// How many entries a call has that is taken.
+pub fn entries_of(call: &Call) -> usize {
+    match call {
+        Call::Step(DeviceStep::Serve(tags)) => tags.len(),
+        Call::Acknowledge(_) => 0,
+        _ => 1,
+    }
+}
+
+/// Whether this event is an entry of a call that is taken: that of this index, or the only one.
+pub fn appends(call: &Call, index: usize, event: &Event) -> bool {
     match (call, event) {
+        (Call::Step(DeviceStep::Serve(tags)), Event::Complete(tag)) => tags.get(index) == Some(tag),
         (Call::Issue(command), Event::Issue(tag, op)) => {
             command.tag == *tag
                 && command.lba == op.lba()
                 && u64::from(command.sectors) == op.sectors()
         }
         (Call::Step(step), _) => steps(step, event),
-        (Call::Collect(tag, _), Event::Collect(t)) => tag == *t,
-        (Call::Reissue(tag), Event::Reissue(t)) => tag == *t,
+        (Call::Collect(tag, _), Event::Collect(t)) => *tag == *t,
+        (Call::Reissue(tag), Event::Reissue(t)) => *tag == *t,
         (Call::Recover, Event::Recover(_)) => true,
         (Call::Identify, Event::Plain(command)) => *command == Plain::Identify,
         (Call::Flush, Event::Plain(command)) => *command == Plain::Flush,
@@ -53,18 +63,20 @@ pub fn appends(call: Call, event: &Event) -> bool {
     }
 }
 
-/// Whether a step of the device appends this event.
-fn steps(step: DeviceStep, event: &Event) -> bool {
+/// Whether a step of one command appends this event.
+fn steps(step: &DeviceStep, event: &Event) -> bool {
     match (step, event) {
-        (DeviceStep::Accept(tag), Event::Accept(t)) => tag == *t,
-        (DeviceStep::Accept(tag), Event::Fail { tag: t, error, .. }) => tag == *t && *error == 0x10,
-        (DeviceStep::Serve(tag), Event::Complete(t)) => tag == *t,
+        (DeviceStep::Accept(tag), Event::Accept(t)) => *tag == *t,
+        (DeviceStep::Accept(tag), Event::Fail { tag: t, error, .. }) => {
+            *tag == *t && *error == 0x10
+        }
         (DeviceStep::Fail { .. }, Event::Fail { tag, error, lba }) => {
-            step == DeviceStep::Fail {
+            let failure = DeviceStep::Fail {
                 tag: *tag,
                 error: *error,
                 at: *lba,
-            }
+            };
+            *step == failure
         }
         _ => false,
     }

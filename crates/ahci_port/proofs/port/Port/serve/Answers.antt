@@ -1,133 +1,163 @@
-use Rattle.std.proofs.Common.{map, IsSomeAnd, ◌≡◌, ◌∙◌, ◌^◌, None, Some, ◌∷◌, length, set, ap, sym, refl, subst, rules}
-use Rattle.std.proofs.Math.ListN.{get_or-map}
-use Rattle.std.proofs.Math.Pow.{pow-lt}
+use Rattle.std.proofs.Common.{rules, ◌≡◌, ◌∙◌, ◌^◌, ℕ, ◌<◌, Some, length, get_or, ap, sym, refl, subst, arith}
+use Rattle.std.specs.Prelude.{slice_index}
+use Rattle.ahci_regs.specs.Receiving.{after_bits}
 use Rattle.ahci_table.specs.Command.{queued_of}
 use Rattle.ahci_table.specs.Fit.{IsFit}
-use Rattle.ahci_table.specs.Text.{text}
-use Rattle.ahci_regs.specs.Receiving.{after_bits}
-use Rattle.ncq_core.specs.DiskFis.{completed_bytes, setup_bytes}
-use Rattle.ncq_journal.specs.Entry.{Complete}
-use Rattle.ncq_core.specs.Serving.{HasMoved, served}
-use Rattle.sata_fis.specs.declared.fis.Fis.TheVariants.{SetBits}
+use Rattle.ncq_core.specs.DiskFis.{completed_bytes}
 use Rattle.sata_fis.specs.Layout.{set_bits_at}
-use Rattle.sata_fis.specs.Spelling.{Spells}
-use Rattle.ahci_port.specs.Keeping.{Keeps}
-use Rattle.ahci_port.specs.Memory.{IsKept}
-use Rattle.ahci_port.specs.Moves.{served_slot}
-use Rattle.ahci_port.specs.PortView.{window_at, put_at, setup_place, bits_place}
-use Rattle.ahci_port.specs.Registers.{completed}
-use Rattle.ahci_port.specs.Slots.{view_of, window_in}
-use Rattle.ahci_port.specs.Steps.{IsServed}
+use Rattle.ahci_port.specs.PortView.{put_at, bits_place}
+use Rattle.ahci_port.specs.Registers.{completed, word_of_tags}
+use Rattle.ahci_port.specs.Serving.{CompletesOne}
+use Rattle.ahci_port.specs.Slots.{view_of}
 use Rattle.ahci_port.specs.declared.step.Stepped.TheVariants.{Completed}
-use Rattle.ahci_port.proofs.MemoryLemmas.{fit_sized, moved_window}
+use Rattle.ahci_port.proofs.ListLemmas.{MayServe, serve_may}
 use Rattle.ahci_port.proofs.OwningLemmas.{owner_is}
-use Rattle.ahci_port.proofs.ServedLemmas.{Serving, serving, steps_moved}
-use Rattle.ahci_port.proofs.ServingLemmas.{keeps_serve}
+use Rattle.ahci_port.proofs.ServedLemmas.{Serving}
+use Rattle.ahci_port.proofs.UnderwayLemmas.{Start, Underway, area_all, keeps_all, moved_all, next_serving, others_all, past_all, tags_low, underway_first, underway_next}
 use Rattle.ahci_port.proofs.port.Port.serve.Goals as goal
+use Rattle.ahci_port.proofs.port.Port.serve.Goals.{After-len-index-end, After-deref, After-deref-2, After-len}
+
+-- what the tags are
+may : (g : _) (c : After-len-index-end g) → MayServe c.self.inside.journal.past c.args.tags.now.items
+may g c = subst (λ p. MayServe p c.args.tags.now.items) (sym (ap (λ v. v.past) c.self.view_is)) (serve_may c.args.self.now c.args.tags.now (sym c.serve_fault.ensures ∙ c.in_default.is))
+
+pub loop-index-init : goal.loop-index-init
+loop-index-init g c = record {
+  served = underway_first _ c.self.inside.disk c.self.inside.journal.room c.self.invariant refl (may g (goal.at.loop-index-init g c).After-len-index-end);
+  starting_same = refl;
+  registers_same = refl;
+  headers_same = refl;
+  unqueued_same = refl;
+  tags_same = refl;
+}
+
+-- the next tag, and what its command needs
+low : (g : _) (c : After-deref g) → c.loop-index.index < length c.args.tags.now.items
+low g c = let t = c.loop-index-test.true in let e = c.loop-index.auto.index-end in let v = c.len-index-end.ensures.value in omega arith
+
+tag_is : (g : _) (c : After-deref g) → slice_index c.deref.result.now c.loop-index.index ≡ slice_index c.args.tags.now.items c.loop-index.index
+tag_is g c = ap (λ l. slice_index l c.loop-index.index) c.deref.ensures.0
+
+next : (g : _) (c : After-deref g)
+    → Serving c.self.inside.starting.items c.loop-index.self-inside.disk c.loop-index.self-inside.journal.past c.loop-index.self-inside.slots.items c.loop-index.self-inside.journal.room
+    (slice_index c.deref.result.now c.loop-index.index)
+next g c =
+    let i = c.loop-index.self-inside in
+    subst (λ t. Serving c.self.inside.starting.items i.disk i.journal.past i.slots.items i.journal.room t) (sym (tag_is g c))
+    (next_serving _ c.loop-index.index i.disk i.slots.items i.area i.journal.past i.journal.room c.loop-index.invariant.served (low g c))
 
 pub index_mut-requires : goal.index_mut-requires
-index_mut-requires g c =
-    let t = serving _ _ _ _ _ _ _ c.args.tag c.args.self.now c.self.invariant (ap (λ p. p.past) c.self.view_is) (sym c.serve_fault.ensures ∙ c.in_default.is) in
-    let b = t.owner.below in search rules
+index_mut-requires g c = let b = (next g (goal.at.index_mut-requires g c).After-deref).owner.below in search rules
 
-pub serve-setup-requires-clause-fit : goal.serve-setup-requires-clause-fit
-serve-setup-requires-clause-fit g c =
-    let t = serving _ _ _ _ _ _ _ c.args.tag c.args.self.now c.self.invariant (ap (λ p. p.past) c.self.view_is) (sym c.serve_fault.ensures ∙ c.in_default.is) in
-    let same = owner_is t.owner _ _ c.index_mut.ensures.value c.in-Some-index_mut.is in
-    subst (λ s. IsFit s.window) same t.owner.holds.fit
+pub complete-requires-clause-fit : goal.complete-requires-clause-fit
+complete-requires-clause-fit g c =
+    let t = next g (goal.at.complete-requires-clause-fit g c).After-deref in
+    subst (λ s. IsFit s.window) (owner_is t.owner _ _ c.index_mut.ensures.value c.in-Some-index_mut.is) t.owner.holds.fit
 
-pub serve-setup-requires-clause-there : goal.serve-setup-requires-clause-there
-serve-setup-requires-clause-there g c =
-    let t = serving _ _ _ _ _ _ _ c.args.tag c.args.self.now c.self.invariant (ap (λ p. p.past) c.self.view_is) (sym c.serve_fault.ensures ∙ c.in_default.is) in
-    let same = owner_is t.owner _ _ c.index_mut.ensures.value c.in-Some-index_mut.is in
-    t.there ∙ ap (λ s. Some (queued_of s.window)) same
+pub complete-requires-clause-there : goal.complete-requires-clause-there
+complete-requires-clause-there g c =
+    let t = next g (goal.at.complete-requires-clause-there g c).After-deref in
+    t.there ∙ ap (λ s. Some (queued_of s.window)) (owner_is t.owner _ _ c.index_mut.ensures.value c.in-Some-index_mut.is)
 
-pub serve-setup-requires-clause-running : goal.serve-setup-requires-clause-running
-serve-setup-requires-clause-running g c =
-    let t = serving _ _ _ _ _ _ _ c.args.tag c.args.self.now c.self.invariant (ap (λ p. p.past) c.self.view_is) (sym c.serve_fault.ensures ∙ c.in_default.is) in
-    t.served_now
+pub complete-requires-clause-running : goal.complete-requires-clause-running
+complete-requires-clause-running g c = (next g (goal.at.complete-requires-clause-running g c).After-deref).served_now
 
-pub place-requires : goal.place-requires
-place-requires g c =
-    let t = serving _ _ _ _ _ _ _ c.args.tag c.args.self.now c.self.invariant (ap (λ p. p.past) c.self.view_is) (sym c.serve_fault.ensures ∙ c.in_default.is) in
-    t.owner.low
+pub complete-requires-clause-room : goal.complete-requires-clause-room
+complete-requires-clause-room g c = (next g (goal.at.complete-requires-clause-room g c).After-deref).room
 
-pub receive_bits-requires : goal.receive_bits-requires
-receive_bits-requires g c =
-    let t = serving _ _ _ _ _ _ _ c.args.tag c.args.self.now c.self.invariant (ap (λ p. p.past) c.self.view_is) (sym c.serve_fault.ensures ∙ c.in_default.is) in
-    let bits = c.completed-bits.ensures ∙ ap completed_bytes c.place.ensures.value in
-    record { spells = subst (λ b. Spells b (SetBits (set_bits_at b))) (sym bits) ((c.the_disks_answers_are_these_bytes.ensures.spell.completed (2 ^ c.args.tag) (pow-lt t.owner.low)).0, refl) }
+pub loop-index-preserved : goal.loop-index-preserved
+loop-index-preserved g c =
+    let i = c.loop-index.self-inside in
+    let before = (goal.at.loop-index-preserved g c).After-deref in
+    let same = tag_is g before in
+    let less = low g before in
+    let u = c.loop-index.invariant.served in
+    let t = next_serving _ c.loop-index.index i.disk i.slots.items i.area i.journal.past i.journal.room u less in
+    let found = owner_is t.owner _ _ (c.index_mut.ensures.value ∙ ap (λ n. get_or i.slots.items n c.index_mut.result.now) same) c.in-Some-index_mut.is in
+    let one = subst (λ n. CompletesOne n i.disk c.complete.new.disk c.in-Some-index_mut.slot c.complete.new.slot i.area c.complete.new.area i.journal c.complete.new.journal) same c.complete.ensures in
+    record {
+      served = rw same (underway_next _ c.loop-index.index i.disk c.complete.new.disk i.slots.items c.in-Some-index_mut.slot c.complete.new.slot i.area c.complete.new.area i.journal
+          c.complete.new.journal (may g (goal.at.loop-index-preserved g c).After-len-index-end) u less found one);
+      starting_same = c.loop-index.invariant.starting_same;
+      registers_same = c.loop-index.invariant.registers_same;
+      headers_same = c.loop-index.invariant.headers_same;
+      unqueued_same = c.loop-index.invariant.unqueued_same;
+      tags_same = c.loop-index.invariant.tags_same;
+    }
 
-pub push_reserved-requires : goal.push_reserved-requires
-push_reserved-requires g c =
-    let t = serving _ _ _ _ _ _ _ c.args.tag c.args.self.now c.self.invariant (ap (λ p. p.past) c.self.view_is) (sym c.serve_fault.ensures ∙ c.in_default.is) in
-    t.room
+-- ---- the whole list
 
--- what stands once the command is served: the slot's request, its window, its slot and the registers
-here : (g : _) (c : goal.After-push_reserved g)
-    → Serving c.self.inside.starting.items c.self.inside.disk c.self.inside.journal.past c.self.inside.slots.items c.self.inside.journal.room c.args.tag
-here g c = serving _ _ _ _ _ _ _ c.args.tag c.args.self.now c.self.invariant (ap (λ p. p.past) c.self.view_is) (sym c.serve_fault.ensures ∙ c.in_default.is)
+over : (g : _) (c : After-deref-2 g) → c.loop-index.index ≡ length c.args.tags.now.items
+over g c = let t = c.loop-index-test.false in let e = c.loop-index.auto.index-end in let v = c.len-index-end.ensures.value in omega arith
 
-same : (g : _) (c : goal.After-push_reserved g) → (here g c).owner.slot ≡ c.in-Some-index_mut.slot
-same g c = owner_is (here g c).owner _ _ c.index_mut.ensures.value c.in-Some-index_mut.is
+abbrev start : (g : _) → After-deref-2 g → Start
+start g c = record {
+  starting = c.self.inside.starting.items;
+  registers = c.self.inside.registers;
+  slots = c.self.inside.slots.items;
+  headers = c.self.inside.headers;
+  past = c.self.inside.journal.past;
+  area = c.self.inside.area;
+  depth = c.self.inside.disk.depth;
+  tags = c.args.tags.now.items;
+}
 
-kept : (g : _) (c : goal.After-push_reserved g) → IsKept (here g c).owner.slot.window c.serve-setup.new.self.window
-kept g c = subst (λ s. IsKept s.window c.serve-setup.new.self.window) (sym (same g c)) c.serve-setup.ensures.kept
+all : (g : _) (c : After-deref-2 g)
+    → Underway (start g c) (length c.args.tags.now.items) c.loop-index.self-inside.disk c.loop-index.self-inside.slots.items c.loop-index.self-inside.area
+    c.loop-index.self-inside.journal.past c.loop-index.self-inside.journal.room
+all g c =
+    let i = c.loop-index.self-inside in
+    subst (λ n. Underway (start g c) n i.disk i.slots.items i.area i.journal.past i.journal.room) (over g c) c.loop-index.invariant.served
 
-moved : (g : _) (c : goal.After-push_reserved g) → HasMoved (queued_of (here g c).owner.slot.window) c.self.inside.disk.image c.serve-setup.new.disk.image
-    (text (here g c).owner.slot.window) (text c.serve-setup.new.self.window)
-moved g c = subst (λ s. HasMoved (queued_of s.window) c.self.inside.disk.image c.serve-setup.new.disk.image (text s.window) (text c.serve-setup.new.self.window))
-    (sym (same g c)) c.serve-setup.ensures.data
+word : (g : _) (c : After-len g) → c.word_of_tags.result ≡ word_of_tags c.args.tags.now.items
+word g c = c.word_of_tags.ensures ∙ ap word_of_tags c.deref-2.ensures.0
 
-slot : (g : _) (c : goal.After-push_reserved g)
-    → c.serve-setup.new.self ≡ served_slot (here g c).owner.slot (length c.self.inside.journal.past) c.serve-setup.new.self.window
-slot g c = c.serve-setup.ensures.slot ∙ ap (λ s. served_slot s c.len-entry.result c.serve-setup.new.self.window) (sym (same g c))
-    ∙ ap (λ n. served_slot (here g c).owner.slot n c.serve-setup.new.self.window) c.len-entry.ensures
+bits : (g : _) (c : After-len g) → c.completed-bits.result ≡ completed_bytes (word_of_tags c.args.tags.now.items)
+bits g c = c.completed-bits.ensures ∙ ap completed_bytes (word g c)
 
-bits : (g : _) (c : goal.After-push_reserved g) → c.completed-bits.result ≡ completed_bytes (2 ^ c.args.tag)
-bits g c = c.completed-bits.ensures ∙ ap completed_bytes c.place.ensures.value
+regs : (g : _) (c : After-len g) → c.receive_bits.new.registers ≡ completed c.self.inside.registers c.args.tags.now.items
+regs g c =
+    let small : word_of_tags c.args.tags.now.items < 2 ^ 32 = subst (λ w. w < 2 ^ 32) (word g c) c.word_of_tags.type_inv in
+    c.receive_bits.ensures.registers
+    ∙ ap (λ r. after_bits r (set_bits_at c.completed-bits.result).status (set_bits_at c.completed-bits.result).error (set_bits_at c.completed-bits.result).i (set_bits_at c.completed-bits.result).sactive)
+    c.loop-index.invariant.registers_same
+    ∙ ap (λ f. after_bits c.self.inside.registers f.status f.error f.i f.sactive)
+    (ap set_bits_at (bits g c) ∙ sym (c.the_disks_answers_are_these_bytes.ensures.spell.completed (word_of_tags c.args.tags.now.items) small).1)
 
-regs : (g : _) (c : goal.After-push_reserved g) → c.receive_bits.new.registers ≡ completed c.self.inside.registers c.args.tag
-regs g c = c.receive_bits.ensures.registers ∙ ap (λ f. after_bits c.self.inside.registers f.status f.error f.i f.sactive)
-    (ap set_bits_at (bits g c) ∙ sym (c.the_disks_answers_are_these_bytes.ensures.spell.completed (2 ^ c.args.tag) (pow-lt (here g c).owner.low)).1)
+pub word_of_tags-requires : goal.word_of_tags-requires
+word_of_tags-requires g c = subst (λ l. (k : ℕ) → k < length l → slice_index l k < 32) (sym c.deref-2.ensures.0)
+    (tags_low (start g (goal.at.word_of_tags-requires g c).After-deref-2) c.self.inside.disk c.self.inside.journal.room c.self.invariant (may g (goal.at.word_of_tags-requires g c).After-len-index-end))
 
 pub invariant_of-self : goal.invariant_of-self
 invariant_of-self g c =
-    let i = c.self.inside in
-    let t = here g c in
-    let w = c.serve-setup.new.self.window in
-    let kept_all = keeps_serve i.starting.items i.disk i.registers i.slots.items i.headers i.journal.past i.journal.room
-    c.push_reserved.new.self.room c.args.tag t.owner.slot c.serve-setup.new.disk.image w
-    c.self.invariant t.accepted t.running t.owner.here (fit_sized t.owner.slot.window t.owner.holds.fit) (moved g c)
-    (moved_window (queued_of t.owner.slot.window) t.owner.slot.window w i.disk.image c.serve-setup.new.disk.image refl t.owner.holds.fit
-    c.serve-setup.ensures.fit (kept g c) (moved g c))
-    c.push_reserved.ensures.room in
-    rw (regs g c, c.push_reserved.ensures.past)
-    (subst (λ d. Keeps i.starting.items d (completed i.registers c.args.tag) (set i.slots.items c.args.tag (Some c.serve-setup.new.self)) i.headers
-    (Complete c.args.tag ∷ i.journal.past) c.push_reserved.new.self.room) (sym c.serve-setup.ensures.state)
-    (subst (λ s. Keeps i.starting.items (served i.disk c.args.tag c.serve-setup.new.disk.image) (completed i.registers c.args.tag)
-    (set i.slots.items c.args.tag (Some s)) i.headers (Complete c.args.tag ∷ i.journal.past) c.push_reserved.new.self.room)
-    (sym (slot g c)) kept_all))
+    let at = goal.at.invariant_of-self g c in
+    let i = c.loop-index.self-inside in
+    let inv = c.loop-index.invariant in
+    let served = all g at.After-deref-2 in
+    rw (regs g at.After-len, inv.starting_same, inv.headers_same) (keeps_all _ i.disk i.slots.items i.area i.journal.past i.journal.room served)
 
 pub returns-clause-ok : goal.returns-clause-ok
 returns-clause-ok g c =
-    let i = c.self.inside in
-    let t = here g c in
-    let w = c.serve-setup.new.self.window in
-    let old = view_of i.starting.items i.disk i.registers i.unqueued.sent i.area i.slots.items i.journal.past in
-    let new = view_of i.starting.items c.serve-setup.new.disk c.receive_bits.new.registers i.unqueued.sent c.receive_bits.new.area
-    (set i.slots.items c.args.tag (Some c.serve-setup.new.self)) c.push_reserved.new.self.past in
-    let own_window : window_at old c.args.tag ≡ Some t.owner.slot.window = get_or-map window_in i.slots.items c.args.tag None ∙ ap window_in t.owner.here in
+    let at = goal.at.returns-clause-ok g c in
+    let o = c.self.inside in
+    let i = c.loop-index.self-inside in
+    let inv = c.loop-index.invariant in
+    let tags = c.args.tags.now.items in
+    let old = view_of o.starting.items o.disk o.registers o.unqueued.sent o.area o.slots.items o.journal.past in
+    let new = view_of i.starting.items i.disk c.receive_bits.new.registers i.unqueued.sent c.receive_bits.new.area i.slots.items i.journal.past in
+    let served = all g at.After-deref-2 in
     rw (← c.self.view_is)
-    (subst (λ o. IsSomeAnd o (λ x. IsServed c.args.tag x old new (Completed c.len-entry.result))) (sym own_window)
     (record {
-      answer_is = ap (λ n. Completed n) c.len-entry.ensures;
-      appended = record { starting_same = refl; depth_same = ap (λ d. d.depth) c.serve-setup.ensures.state; past_is = c.push_reserved.ensures.past; sent_is = refl };
-      registers_are = regs g c;
-      area_is = c.receive_bits.ensures.area ∙ ap (λ b. put_at bits_place b c.receive_setup.new.area) (bits g c)
-          ∙ ap (put_at bits_place (completed_bytes (2 ^ c.args.tag)))
-          (c.receive_setup.ensures ∙ ap (λ b. put_at setup_place b i.area) (c.serve-setup.ensures.setup ∙ ap (λ s. setup_bytes (queued_of s.window)) (sym (same g c))));
-      moved = steps_moved i.starting.items i.journal.past i.disk.image c.serve-setup.new.disk.image i.slots.items c.args.tag (length i.journal.past) t.owner.slot w old new
-          t.owner.here t.owner.below c.self.invariant.sectors t.owner.holds.fit c.serve-setup.ensures.fit (kept g c) (moved g c) refl refl refl
-          (ap (λ s. map window_in (set i.slots.items c.args.tag (Some s))) (slot g c));
-    }))
+      answer_is = ap (λ n. Completed n c.len.result) c.len-first.ensures ∙ ap (Completed (length o.journal.past)) c.len.ensures.value;
+      appended = record {
+        starting_same = ap (λ v. v.items) inv.starting_same;
+        depth_same = served.depth_same;
+        past_is = past_all _ i.disk i.slots.items i.area i.journal.past i.journal.room served;
+        sent_same = ap (λ q. q.sent) inv.unqueued_same;
+      };
+      registers_are = regs g at.After-len;
+      area_is = c.receive_bits.ensures.area ∙ ap (λ b. put_at bits_place b i.area) (bits g at.After-len)
+          ∙ ap (put_at bits_place (completed_bytes (word_of_tags tags))) (area_all _ i.disk i.slots.items i.area i.journal.past i.journal.room old served refl);
+      moved = moved_all _ i.disk i.slots.items i.area i.journal.past i.journal.room (length tags) old new served refl refl refl refl;
+      others_same = others_all _ i.disk i.slots.items i.area i.journal.past i.journal.room old new served refl refl;
+    })

@@ -1,0 +1,37 @@
+//! What a chooser answers, as a table says it.
+use ahci_port::DeviceStep;
+use arrayvec::ArrayVec;
+
+/// A step of the device, whose list of tags stands in the table.
+#[derive(Clone, Copy, Debug)]
+pub enum TableStep {
+    Accept(u8),
+    /// At most 32 tags.
+    Serve(&'static [u8]),
+    Fail { tag: u8, error: u8, at: u64 },
+}
+
+impl TableStep {
+    pub fn of_device(self) -> DeviceStep {
+        match self {
+            TableStep::Accept(tag) => DeviceStep::Accept(tag),
+            TableStep::Serve(tags) => DeviceStep::Serve(list_of(tags)),
+            TableStep::Fail { tag, error, at } => DeviceStep::Fail { tag, error, at },
+        }
+    }
+}
+
+/// The first 32 of these tags.
+fn list_of(tags: &[u8]) -> ArrayVec<u8, 32> {
+    let mut list = ArrayVec::new();
+    for tag in tags {
+        let _ = list.try_push(*tag);
+    }
+    list
+}
+
+/// Every tag, rising.
+pub const RISING: &[u8] = &[
+    0, 1, 2, 3, 4, 5, 6, 7, 8, 9, 10, 11, 12, 13, 14, 15, 16, 17, 18, 19, 20, 21, 22, 23, 24, 25,
+    26, 27, 28, 29, 30, 31,
+];
