@@ -1,0 +1,170 @@
+#!/usr/bin/env python3
+"""Prints the script of one seed for `ahci replay`: some hundred lines, most of them lawful, no one a fault of the language.
+
+    bench/scripts_of.py SEED
+
+The same seed has the same script with every version of Python: nothing is drawn but by `random()`, whose numbers are
+fixed. Each script has its own disk of 1 to 64 sectors, its own depth of 1 to 32, and its own liking for each command. A
+line that the port has to refuse stands in it now and then. The last line is `journal`.
+"""
+import random
+import sys
+
+FREE, ISSUED, ACCEPTED, FAILED, DONE, HELD = "free", "issued", "accepted", "failed", "done", "held"
+REGISTERS = "0 4 c 10 100 104 108 10c 110 114 118 120 124 128 12c 130 134 138".split()
+
+
+class Slot:
+    def __init__(self, phase=FREE, number=0, lba=0, count=0):
+        self.phase, self.number, self.lba, self.count = phase, number, lba, count
+
+
+class Port:
+    """The phases of the slots and the number of journal entries: what lines that are to be taken need to know."""
+
+    def __init__(self, sectors, depth):
+        self.sectors, self.entries, self.halted = sectors, 0, False
+        self.slots = [Slot() for _ in range(depth)]
+
+    def tags(self, *phases):
+        return [tag for tag, slot in enumerate(self.slots) if slot.phase in phases]
+
+    def moves(self, tags, before, after):
+        """Moves slots on where each is in that phase, with an entry for each."""
+        if len(set(tags)) == len(tags) and all(tag in self.tags(before) for tag in tags):
+            self.entries += len(tags)
+            for tag in tags:
+                self.slots[tag].phase = after
+
+    def takes(self, word, *given):
+        """A command with its numbers, which changes nothing where the port refuses it."""
+        if word == "collect":
+            if given[1:] == tuple(self.slots[tag].number for tag in given[:1] if tag in self.tags(DONE)):
+                self.moves(given[:1], DONE, FREE)
+        elif word == "recover":
+            self.entries += self.halted
+            for tag in self.tags(FAILED, ISSUED, ACCEPTED) if self.halted else []:
+                self.slots[tag].phase = DONE if self.slots[tag].phase == FAILED else HELD
+            self.halted = False
+        elif self.halted:
+            return
+        elif word in ("write", "read"):
+            tag, lba, count = given
+            if 1 <= count <= 65_536 and lba < 2**48 and tag in self.tags(FREE):
+                self.slots[tag] = Slot(ISSUED, self.entries, lba, count)
+                self.entries += 1
+        elif word == "accept":
+            tags = [tag for tag in given if tag in self.tags(ISSUED)]
+            fits = all(self.slots[tag].lba + self.slots[tag].count <= self.sectors for tag in tags)
+            self.moves(given, ISSUED, ACCEPTED if fits else FAILED)
+            self.halted = not fits
+        elif word == "serve":
+            self.moves(given, ACCEPTED, DONE)
+        elif word == "fail":
+            tag, lba = given
+            if tag in self.tags(ACCEPTED) and 0 <= lba - self.slots[tag].lba < self.slots[tag].count:
+                self.moves([tag], ACCEPTED, FAILED)
+                self.halted = True
+        elif word == "reissue":
+            self.moves(given, HELD, ISSUED)
+        elif word in ("identify", "flush"):
+            self.entries += not self.tags(ISSUED, ACCEPTED)
+
+
+class Writer:
+    """Draws the lines of one script."""
+
+    # the phase in which a command's tag is to be, and how much it is liked at most
+    COMMANDS = {
+        "write": (FREE, 12), "read": (FREE, 12), "accept": (ISSUED, 24), "serve": (ACCEPTED, 16), "fail": (ACCEPTED, 3),
+        "recover": (None, 3), "reissue": (HELD, 24), "collect": (DONE, 24), "reg": (None, 4), "ack": (None, 2),
+        "identify": (None, 3), "flush": (None, 3), "show": (None, 4), "journal": (None, 1),
+    }
+
+    def __init__(self, seed):
+        self.random = random.Random(seed).random
+        self.port = Port(1 + self.below(64), 1 + self.below(32))
+        self.likings = {word: 1 + self.below(most) for word, (_, most) in self.COMMANDS.items()}
+
+    def below(self, end):
+        return int(self.random() * end)
+
+    def one_of(self, values):
+        return values[self.below(len(values))]
+
+    def seldom(self):
+        return self.below(16) == 0
+
+    def tag(self, phase):
+        """A tag in that phase, but seldom, or where there is none, any tag."""
+        tags = self.port.tags(phase)
+        return self.below(32) if not tags or self.seldom() else self.one_of(tags)
+
+    def word(self):
+        """A command by the likings: one that is of no use now is liked an eighth as much, and a halted port wants `recover`."""
+        weights = []
+        for word, (phase, _) in self.COMMANDS.items():
+            idle = phase and not self.port.tags(phase) or word == "recover" and not self.port.halted
+            idle = idle or word in ("identify", "flush") and self.port.tags(ISSUED, ACCEPTED)
+            idle = idle or self.port.halted and phase not in (None, DONE)
+            weight = self.likings[word] * (1 if idle else 8)
+            weights.append((word, weight * 12 if word == "recover" and self.port.halted else weight))
+        left = self.below(sum(weight for _, weight in weights))
+        for word, weight in weights:
+            left -= weight
+            if left < 0:
+                return word
+
+    def span(self):
+        """The first sector and the count of a command, which seldom passes the disk's end or is none at all."""
+        end = self.port.sectors
+        if self.seldom():
+            return self.one_of([self.below(end + 8), 2**48 - 1, 2**48, 2**64 - 1]), self.one_of([0, 1, 9, 65_537, 131_072])
+        count = 1 + self.below(min(end, 8))
+        return self.below(end - count + 1), count
+
+    def line(self):
+        """One line, and what it does to the port."""
+        word, port = self.word(), self.port
+        phase = self.COMMANDS[word][0]
+        tag = self.tag(phase) if phase else 0
+        slot = port.slots[tag] if tag < len(port.slots) else Slot()
+        byte, tail = f"{self.below(256):02x}", ""
+        given = ()
+        if word in ("write", "read"):
+            given, tail = (tag, *self.span()), f" {byte}" if word == "write" else ""
+        elif word in ("accept", "reissue"):
+            given = (tag,)
+        elif word == "serve":
+            more = {self.tag(phase): None for _ in range(self.below(4))}
+            given = (tag, *(it for it in more if it != tag or self.seldom()))
+        elif word == "fail":
+            lba = slot.lba + self.below(slot.count + self.seldom())
+            port.takes(word, tag, lba)
+            return f"fail {tag} {byte} {lba}"
+        elif word == "collect":
+            given = (tag, self.below(port.entries + 1) if self.seldom() else slot.number)
+        elif word in ("reg", "ack"):
+            wide = f"{self.below(2**32):x}"
+            return f"{word} {wide if word == 'ack' or self.seldom() else self.one_of(REGISTERS)}"
+        elif word == "identify":
+            tail = f" {self.below(256)}"
+        elif word == "show":
+            return f"show {self.below(port.sectors + self.seldom())}"
+        port.takes(word, *given)
+        return " ".join([word, *map(str, given)]) + tail
+
+
+def script_of(seed):
+    """The lines of a seed's script."""
+    writer = Writer(seed)
+    lines = [writer.one_of(["disk 0 1", "disk 131073 1", "disk 1 0", "disk 1 33"])] if writer.seldom() else []
+    lines.append(f"disk {writer.port.sectors} {len(writer.port.slots)}")
+    lines += [writer.line() for _ in range(200 + writer.below(300))]
+    return [*lines, "journal"]
+
+
+if __name__ == "__main__":
+    if len(sys.argv) != 2 or not sys.argv[1].isdecimal():
+        sys.exit(__doc__)
+    print("\n".join(script_of(int(sys.argv[1]))))
