@@ -16,14 +16,14 @@ DEPTH = 32
 TOP = os.path.dirname(os.path.dirname(os.path.abspath(__file__)))
 PROGRAM = os.path.join(TOP, "crates", "ahci", "out", "ahci")
 
-# how many commands, and how many sectors each of them has
-SCRIPTS = [(10_000, 1), (100_000, 1), (1_000_000, 1), (2_000, 256), (20, 65_536)]
+# how many commands, how many sectors each of them has, and after how many the journal is trimmed, if it is
+SCRIPTS = [(10_000, 1, 0), (100_000, 1, 0), (1_000_000, 1, 0), (1_000_000, 1, 1_024), (2_000, 256, 0), (20, 65_536, 0)]
 
 # the most sectors of a disk
 MOST = 131_072
 
 
-def write_script(out, commands, sectors):
+def write_script(out, commands, sectors, trimmed):
     """Writes the script, and answers how many lines it has."""
     places = min(128, MOST // sectors)
     out.write(f"disk {places * sectors} {DEPTH}\n")
@@ -42,6 +42,9 @@ def write_script(out, commands, sectors):
         out.writelines(f"collect {tag} {entry + tag}\n" for tag in tags)
         entry += 4 * len(tags)
         lines += 4 * len(tags)
+        if trimmed and (first + DEPTH) % trimmed == 0:
+            out.write("trim\n")
+            lines += 1
     return lines
 
 
@@ -61,16 +64,18 @@ def main():
     rounds = int(sys.argv[1]) if len(sys.argv) > 1 else 3
     if not os.path.exists(PROGRAM):
         sys.exit("bench: the program is not built yet: run ./ahci --version first")
-    print("| commands | sectors each | lines | seconds | microseconds a command | MB of data a second | MiB of memory |")
-    print("|---|---|---|---|---|---|---|")
-    for commands, sectors in SCRIPTS:
+    print("| commands | sectors each | trimmed after | lines | seconds | microseconds a command | MB of data a second | MiB of memory |")
+    print("|---|---|---|---|---|---|---|---|")
+    for commands, sectors, trimmed in SCRIPTS:
         with tempfile.TemporaryDirectory() as folder:
             path = os.path.join(folder, "script")
             with open(path, "w", encoding="ascii") as out:
-                lines = write_script(out, commands, sectors)
+                lines = write_script(out, commands, sectors, trimmed)
             best, memory = min(cost_of(path) for _ in range(rounds))
         rate = commands * sectors * 512 / best / 1e6
-        print(f"| {commands:,} | {sectors} | {lines:,} | {best:.3f} | {best / commands * 1e6:.2f} | {rate:,.0f} | {memory / 1024:,.0f} |", flush=True)
+        often = f"{trimmed:,}" if trimmed else ""
+        times = f"{best:.3f} | {best / commands * 1e6:.2f} | {rate:,.0f}"
+        print(f"| {commands:,} | {sectors} | {often} | {lines:,} | {times} | {memory / 1024:,.0f} |", flush=True)
 
 
 if __name__ == "__main__":

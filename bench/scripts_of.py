@@ -4,7 +4,8 @@
     bench/scripts_of.py SEED
 
 The same seed has the same script with every version of Python: nothing is drawn but by `random()`, whose numbers are
-fixed. Each script has its own disk of 1 to 64 sectors, its own depth of 1 to 32, and its own liking for each command. A
+fixed. Each script has its own disk of 1 to 64 sectors, its own depth of 1 to 32, now and then a first number, and its own liking for
+each command. A
 line that the port has to refuse stands in it now and then. The last line is `journal`.
 """
 import random
@@ -20,10 +21,10 @@ class Slot:
 
 
 class Port:
-    """The phases of the slots and the number of journal entries: what lines that are to be taken need to know."""
+    """The phases of the slots and the next entry's number: what lines that are to be taken need to know."""
 
-    def __init__(self, sectors, depth):
-        self.sectors, self.entries, self.halted = sectors, 0, False
+    def __init__(self, sectors, depth, first):
+        self.sectors, self.entries, self.halted = sectors, first, False
         self.slots = [Slot() for _ in range(depth)]
 
     def tags(self, *phases):
@@ -79,11 +80,13 @@ class Writer:
         "write": (FREE, 12), "read": (FREE, 12), "accept": (ISSUED, 24), "serve": (ACCEPTED, 16), "fail": (ACCEPTED, 3),
         "recover": (None, 3), "reissue": (HELD, 24), "collect": (DONE, 24), "reg": (None, 4), "ack": (None, 2),
         "identify": (None, 3), "flush": (None, 3), "show": (None, 4), "journal": (None, 1),
+        "trim": (None, 6),
     }
 
     def __init__(self, seed):
         self.random = random.Random(seed).random
-        self.port = Port(1 + self.below(64), 1 + self.below(32))
+        self.first = self.one_of(["", "", "", " 0", " 7", f" {2**63 - 40}", f" {2**63}"])
+        self.port = Port(1 + self.below(64), 1 + self.below(32), int(self.first or 0))
         self.likings = {word: 1 + self.below(most) for word, (_, most) in self.COMMANDS.items()}
 
     def below(self, end):
@@ -106,6 +109,7 @@ class Writer:
         for word, (phase, _) in self.COMMANDS.items():
             idle = phase and not self.port.tags(phase) or word == "recover" and not self.port.halted
             idle = idle or word in ("identify", "flush") and self.port.tags(ISSUED, ACCEPTED)
+            idle = idle or word == "trim" and len(self.port.tags(FREE)) < len(self.port.slots)
             idle = idle or self.port.halted and phase not in (None, DONE)
             weight = self.likings[word] * (1 if idle else 8)
             weights.append((word, weight * 12 if word == "recover" and self.port.halted else weight))
@@ -158,8 +162,8 @@ class Writer:
 def script_of(seed):
     """The lines of a seed's script."""
     writer = Writer(seed)
-    lines = [writer.one_of(["disk 0 1", "disk 131073 1", "disk 1 0", "disk 1 33"])] if writer.seldom() else []
-    lines.append(f"disk {writer.port.sectors} {len(writer.port.slots)}")
+    lines = [writer.one_of(["disk 0 1", "disk 131073 1", "disk 1 0", "disk 1 33", f"disk 1 1 {2**63 + 1}"])] if writer.seldom() else []
+    lines.append(f"disk {writer.port.sectors} {len(writer.port.slots)}{writer.first}")
     lines += [writer.line() for _ in range(200 + writer.below(300))]
     return [*lines, "journal"]
 

@@ -1,7 +1,8 @@
 -- How the program ends: its exit status.
 use Rattle.std.specs.Prelude.{◌≡◌, ℕ, List, Result, Ok, Err, ◌⊎◌}
 use Rattle.ahci_args.specs.Asking.{AsksFor}
-use Rattle.ahci_args.specs.CommandLine.{PickWords, usage_faults}
+use Rattle.ahci_args.specs.CommandLine.{PickWords}
+use Rattle.ahci_args.specs.Usage.{usage_faults}
 use Rattle.ahci_args.specs.declared.request.Asked.{Asked}
 use Rattle.ahci_script.specs.Fault.{status_of}
 use Rattle.ahci_script.specs.declared.fault.CliFault.{CliFault}
@@ -9,12 +10,12 @@ use Rattle.clap.specs.Words.{IsAmong}
 use Rattle.clap.specs.declared.error.kind.ErrorKind.{ErrorKind}
 use Rattle.clap.specs.declared.error.kind.ErrorKind.TheVariants.{DisplayHelp, DisplayVersion, OutOfMemory}
 
--- a script or a list of jobs: 0 where it went to its end, else its fault's
+-- a script, a list of jobs, or a page: 0 where it went to its end, else its fault's
 abbrev pub input_status : Result (Unit {0}) CliFault → ℕ
 input_status (Ok done) = 0
 input_status (Err fault) = status_of fault
 
--- the statuses of scripts and of lists of jobs: no fault, a fault, want of memory
+-- the statuses of scripts, of lists of jobs, and of pages: no fault, a fault, want of memory
 abbrev pub IsInputStatus : ℕ → Type 0
 IsInputStatus status = (status ≡ 0) ⊎ (status ≡ 1) ⊎ (status ≡ 3)
 

@@ -1,14 +1,17 @@
-//! `ahci`: a reference model of one AHCI port, run by scripts and by lists of jobs.
+//! `ahci`: a reference model of one AHCI port, run by scripts and by lists of jobs, and the pages of its disk.
 #![tactic(auto)]
 
-ghost use Rattle.std.specs.Prelude.{◌≡◌, ◌≤◌, ◌⊎◌, map};
+ghost use Rattle.std.specs.Prelude.{◌≡◌, ◌<◌, ◌≤◌, ◌^◌, ◌⊎◌, map};
 ghost use Rattle.std.specs.Process.{exit_status};
 ghost use Rattle.std.specs.String.{string_bytes};
 ghost use Rattle.ahci.specs.Ending.{EndsFor, Explains, IsInputStatus, input_status};
 ghost use Rattle.ahci_script.specs.Fault.{status_of};
 ghost use Rattle.clap.specs.Words.{kind_of};
 
-use ahci_cli::{Asked, CliFault, Pick, asked, not_text, replay, run_jobs};
+use ahci_cli::{
+    Asked, CliFault, Pick, asked, check, draw, not_text, replay, run_jobs, trace, write_identify,
+    write_log,
+};
 use clap::error::ErrorKind;
 use std::io;
 use std::process::ExitCode;
@@ -50,6 +53,9 @@ fn answer<H: Threads + Wait + Sync>(rt: &HostRuntime, threads: &H, words: &[Stri
 {
     match asked(rt.alloc(), words) {
         Ok(Asked::Replay) => script(rt),
+        Ok(Asked::Trace) => traced(rt),
+        Ok(Asked::Check) => checked(rt),
+        Ok(Asked::Draw) => drawn(rt),
         Ok(
             Asked::Run {
                 workers,
@@ -58,6 +64,21 @@ fn answer<H: Threads + Wait + Sync>(rt: &HostRuntime, threads: &H, words: &[Stri
                 pick,
             },
         ) => jobs(rt, threads, workers, depth, sectors, pick),
+        Ok(
+            Asked::Identify {
+                sectors,
+                depth,
+                raw,
+            },
+        ) => identify(rt, sectors, depth, raw),
+        Ok(
+            Asked::Log {
+                tag,
+                error,
+                lba,
+                raw,
+            },
+        ) => log(rt, tag, error, lba, raw),
         Err(error) => explain(rt, &error),
     }
 }
@@ -67,6 +88,31 @@ fn script(rt: &HostRuntime) -> ExitCode
     ensures { IsInputStatus (exit_status result) }
 {
     end(rt, replay(rt.alloc(), &mut rt.stdin(), &mut rt.stdout()))
+}
+
+/// Runs the script on standard input, and tells what each command did.
+fn traced(rt: &HostRuntime) -> ExitCode
+    ensures { IsInputStatus (exit_status result) }
+{
+    end(rt, trace(rt.alloc(), &mut rt.stdin(), &mut rt.stdout()))
+}
+
+/// Judges the lines of the script on standard input.
+fn checked(rt: &HostRuntime) -> ExitCode
+    ensures { IsInputStatus (exit_status result) }
+{
+    match check(rt.alloc(), &mut rt.stdin(), &mut rt.stdout()) {
+        Ok(false) => ExitCode::SUCCESS,
+        Ok(true) => ExitCode::FAILURE,
+        Err(fault) => end(rt, Err(fault)),
+    }
+}
+
+/// Runs the script on standard input, and draws what the port did.
+fn drawn(rt: &HostRuntime) -> ExitCode
+    ensures { IsInputStatus (exit_status result) }
+{
+    end(rt, draw(rt.alloc(), &mut rt.stdin(), &mut rt.stdout()))
 }
 
 /// Lets workers do the jobs on standard input.
@@ -96,7 +142,30 @@ fn jobs<H: Threads + Wait + Sync>(
     end(rt, outcome)
 }
 
-/// Ends what was read from standard input, a script or a list of jobs.
+/// Writes the page that IDENTIFY DEVICE reads of a disk.
+fn identify(rt: &HostRuntime, sectors: u32, depth: u32, raw: bool) -> ExitCode
+    requires { (1 ≤ depth) × (depth ≤ 32) }
+    ensures { IsInputStatus (exit_status result) }
+{
+    end(
+        rt,
+        write_identify(rt.alloc(), sectors, depth, raw, &mut rt.stdout()),
+    )
+}
+
+/// Writes page 0 of log 10h after an error.
+fn log(rt: &HostRuntime, tag: u8, error: u8, lba: u64, raw: bool) -> ExitCode
+    requires tag { tag < 32 }
+    requires lba { lba < 2 ^ 48 }
+    ensures { IsInputStatus (exit_status result) }
+{
+    end(
+        rt,
+        write_log(rt.alloc(), tag, error, lba, raw, &mut rt.stdout()),
+    )
+}
+
+/// Ends a script, a list of jobs, or a page.
 fn end(rt: &HostRuntime, outcome: Result<(), CliFault>) -> ExitCode
     ensures status { exit_status result ≡ input_status outcome }
     ensures input { IsInputStatus (exit_status result) }

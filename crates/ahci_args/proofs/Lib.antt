@@ -1,6 +1,7 @@
 pub mod FlagLemmas
+pub mod LeafLemmas
 pub mod MatchLemmas
 pub mod OptionLemmas
 pub mod RowLemmas
-pub mod RunLemmas
+pub mod SubcommandLemmas
 pub mod WordLemmas

@@ -46,6 +46,7 @@ use Rattle.clap.specs.Walk.{
   subcommand,
   subcommand_met,
   subcommand_or_other,
+  takes_values,
   to_positional,
   trailing,
   used,
@@ -81,7 +82,7 @@ use Rattle.clap.specs.Faults.{
 }
 use Rattle.clap.specs.declared.error.kind.ErrorKind.TheVariants.{TooManyValues}
 use Rattle.ahci_args.proofs.FlagLemmas.{first_none, second_none}
-use Rattle.ahci_args.proofs.RowLemmas.{AreRowsOf, HasOptionsOnly, IsRequest, TakesOne, defaults_fit, option_used, takes_one}
+use Rattle.ahci_args.proofs.RowLemmas.{AreRowsOf, Fits, HasOptionsOnly, defaults_fit}
 
 -- ---- the walk over the words
 
@@ -95,77 +96,65 @@ short_fault_by c a rest h behind takes =
     if takes then option_fault c false a (attached_value rest) h else or_else (react_fault c false a [] h) (behind (reacted c a [] h))
 
 module _ (c : List Rule) (only : HasOptionsOnly c) where
-  use_fits : (a : Rule) (values : List Text) (rows : List Row) → TakesOne c a ⊎ IsRequest a → use_fault false a values rows ≡ [] → AreRowsOf c rows → AreRowsOf c (used a values rows)
-  use_fits a values rows (inl o) e h = option_used c a values rows o e h
-  use_fits a values rows (inr asks) e h = absurd (asks.faulty values rows e)
-
   pub settled_fits : (h : Held) → settle_fault c false h ≡ [] → AreRowsOf c h.rows → AreRowsOf c (settled c h).rows
   settled_fits h e f = go h.pending e
     where
-      by_id : (values : List Text) (x : Option Rule) → ((a : Rule) → x ≡ Some a → TakesOne c a ⊎ IsRequest a)
+      by_id : (values : List Text) (x : Option Rule) → ((a : Rule) → x ≡ Some a → Fits c a)
           → option_map_or (λ a. use_fault false a values h.rows) x [] ≡ [] → AreRowsOf c (used_by_id x values h.rows)
       by_id values None kind e = f
-      by_id values (Some a) kind e = use_fits a values h.rows (kind a refl) e f
+      by_id values (Some a) kind e = (kind a refl).passes values h.rows e f
 
       go : (o : Option (Text × List Text)) → option_map_or (λ p. option_map_or (λ a. use_fault false a p.1 h.rows) (arg_by_id c p.0) []) o [] ≡ []
           → AreRowsOf c (settled_rows c o h.rows)
       go None e = f
       go (Some p) e = by_id p.1 (arg_by_id c p.0) (λ a is. only.each _ a is) e
 
-  option_fits : (a : Rule) (v : Option Text) (h : Held) → TakesOne c a → option_fault c false a v h ≡ [] → AreRowsOf c h.rows → AreRowsOf c (option_met c a v h).0.rows
-  option_fits a (Some v) h o e f =
-      option_used c a (v ∷ []) (settled c h).rows o (second_none _ _ e) (settled_fits h (first_none _ _ e) f)
-  option_fits a None h o e f = settled_fits h e f
+  reacted_fits : (a : Rule) (values : List Text) (h : Held) → Fits c a → react_fault c false a values h ≡ [] → AreRowsOf c h.rows → AreRowsOf c (reacted c a values h).rows
+  reacted_fits a values h fits e f = fits.passes values (settled c h).rows (second_none _ _ e) (settled_fits h (first_none _ _ e) f)
 
-  no_request : (a : Rule) (h : Held) → IsRequest a → react_fault c false a [] h ≡ [] → ⊥
-  no_request a h asks e = asks.faulty [] (settled c h).rows (second_none _ _ e)
+  value_fits : (a : Rule) (v : Option Text) (h : Held) → Fits c a → option_fault c false a v h ≡ [] → AreRowsOf c h.rows → AreRowsOf c (option_met c a v h).0.rows
+  value_fits a (Some v) h fits e f = reacted_fits a (v ∷ []) h fits e f
+  value_fits a None h fits e f = settled_fits h e f
 
-  long_fits : (found : Option Rule) (v : Option Text) (h : Held) → ((a : Rule) → found ≡ Some a → TakesOne c a ⊎ IsRequest a)
+  bare_fits : (a : Rule) (v : Option Text) (h : Held) → Fits c a → (if is_some v then TooManyValues ∷ [] else react_fault c false a [] h) ≡ []
+      → AreRowsOf c h.rows → AreRowsOf c (flag_met c a v h).0.rows
+  bare_fits a (Some v) h fits e f = cc
+  bare_fits a None h fits e f = reacted_fits a [] h fits e f
+
+  long_fits : (found : Option Rule) (v : Option Text) (h : Held) → ((a : Rule) → found ≡ Some a → Fits c a)
       → long_fault c false found v h ≡ [] → AreRowsOf c h.rows → AreRowsOf c (long_met c found v h).0.rows
   long_fits None v h kind e f = cc
-  long_fits (Some a) v h kind e f = go (kind a refl)
+  long_fits (Some a) v h kind e f = go (takes_values a) e
     where
-      asked : (v : Option Text) → IsRequest a → (if is_some v then TooManyValues ∷ [] else react_fault c false a [] h) ≡ [] → ⊥
-      asked None asks e = no_request a h asks e
-      asked (Some x) asks e = cc
+      go : (b : Bool) → long_fault_by c a v h b ≡ [] → AreRowsOf c (if b then option_met c a v h else flag_met c a v h).0.rows
+      go true e = value_fits a v h (kind a refl) e f
+      go false e = bare_fits a v h (kind a refl) e f
 
-      go : TakesOne c a ⊎ IsRequest a → AreRowsOf c (long_met c (Some a) v h).0.rows
-      go (inl o) =
-          let fault = subst (λ (b : Bool). long_fault_by c a v h b ≡ []) (takes_one c a o) e in
-          subst (λ (b : Bool). AreRowsOf c (if b then option_met c a v h else flag_met c a v h).0.rows) (sym (takes_one c a o)) (option_fits a v h o fault f)
-      go (inr asks) =
-          let fault = subst (λ (b : Bool). long_fault_by c a v h b ≡ []) asks.flag e in
-          absurd (asked v asks fault)
-
-  short_fits : (found : Option Rule) (rest : Text) (h : Held) (behind : Held → Kinds) (more : Held → Held × Outcome) → ((a : Rule) → found ≡ Some a → TakesOne c a ⊎ IsRequest a)
+  short_fits : (found : Option Rule) (rest : Text) (h : Held) (behind : Held → Kinds) (more : Held → Held × Outcome) → ((a : Rule) → found ≡ Some a → Fits c a)
+      → ((g : Held) → behind g ≡ [] → AreRowsOf c g.rows → AreRowsOf c (more g).0.rows)
       → short_fault c false found rest h behind ≡ [] → AreRowsOf c h.rows → AreRowsOf c (short_met c found rest h more).0.rows
-  short_fits None rest h behind more kind e f = cc
-  short_fits (Some a) rest h behind more kind e f = go (kind a refl)
+  short_fits None rest h behind more kind after e f = cc
+  short_fits (Some a) rest h behind more kind after e f = go (takes_values a) e
     where
-      go : TakesOne c a ⊎ IsRequest a → AreRowsOf c (short_met c (Some a) rest h more).0.rows
-      go (inl o) =
-          let fault = subst (λ (b : Bool). short_fault_by c a rest h behind b ≡ []) (takes_one c a o) e in
-          subst (λ (b : Bool). AreRowsOf c (if b then option_met c a (attached_value rest) h else more (reacted c a [] h)).0.rows) (sym (takes_one c a o))
-          (option_fits a (attached_value rest) h o fault f)
-      go (inr asks) =
-          let fault = subst (λ (b : Bool). short_fault_by c a rest h behind b ≡ []) asks.flag e in
-          absurd (no_request a h asks (first_none (react_fault c false a [] h) _ fault))
+      go : (b : Bool) → short_fault_by c a rest h behind b ≡ [] → AreRowsOf c (if b then option_met c a (attached_value rest) h else more (reacted c a [] h)).0.rows
+      go true e = value_fits a (attached_value rest) h (kind a refl) e f
+      go false e = after (reacted c a [] h) (second_none _ _ e) (reacted_fits a [] h (kind a refl) (first_none _ _ e) f)
 
   bundle_fits : (n : ℕ) (flags : Text) (skip : ℕ) (so_far : Outcome) (h : Held) → flags_fault c false n flags skip h ≡ [] → AreRowsOf c h.rows
       → AreRowsOf c (bundle_met c n flags skip so_far h).0.rows
   unfolding flags_fault bundle_met
   bundle_fits zero flags skip so_far h e f = f
-  bundle_fits (suc n) flags skip so_far h e f =
-      go (slice_get (chars flags) 0) skip e (λ rest less fault. bundle_fits n rest less so_far h fault f)
+  bundle_fits (suc n) flags skip so_far h e f = go (slice_get (chars flags) 0) skip e (bundle_fits n)
     where
       go : (x : Option ℕ) (skip : ℕ) → bundle_step_fault c false x flags skip h (flags_fault c false n) ≡ []
-          → ((rest : Text) (less : ℕ) → flags_fault c false n rest less h ≡ [] → AreRowsOf c (bundle_met c n rest less so_far h).0.rows)
+          → ((rest : Text) (less : ℕ) (o : Outcome) (g : Held) → flags_fault c false n rest less g ≡ [] → AreRowsOf c g.rows
+          → AreRowsOf c (bundle_met c n rest less o g).0.rows)
           → AreRowsOf c (bundle_step c x flags skip so_far h (bundle_met c n)).0.rows
       go None skip e rest = f
       go (Some x) zero e rest =
           let more = drop (length (encode_utf8 x)) flags in
-          short_fits (arg_by_short c x) more h (flags_fault c false n more 0) (bundle_met c n more 0 done) (λ a is. only.each _ a is) e f
-      go (Some x) (suc skip) e rest = rest (drop (length (encode_utf8 x)) flags) skip e
+          short_fits (arg_by_short c x) more h (flags_fault c false n more 0) (bundle_met c n more 0 done) (λ a is. only.each _ a is) (rest more 0 done) e f
+      go (Some x) (suc skip) e rest = rest (drop (length (encode_utf8 x)) flags) skip so_far h e f
 
   plain_rows : (waiting : Waiting) (word : Text) (h : Held) → (plain_word c waiting word h).0.rows ≡ h.rows
   plain_rows idle word h = refl

@@ -33,7 +33,7 @@ use Rattle.clap.specs.Kinds.{range_kinds}
 use Rattle.clap.specs.Faults.{action_fault, default_fault, defaults_fault, given_default_fault, repeat_fault, set_fault, use_fault, values_fault}
 use Rattle.clap.specs.Takes.{is_given}
 use Rattle.clap.specs.declared.builder.action.ArgAction.{ArgAction}
-use Rattle.clap.specs.declared.builder.action.ArgAction.TheVariants.{Set}
+use Rattle.clap.specs.declared.builder.action.ArgAction.TheVariants.{Set, SetTrue}
 use Rattle.clap.specs.declared.builder.range.ValueRange.{ValueRange}
 use Rattle.clap.specs.declared.error.kind.ErrorKind.TheVariants.{ArgumentConflict}
 use Rattle.clap.specs.declared.parser.matches.ValueSource.{ValueSource}
@@ -91,20 +91,13 @@ has_more id (r ∷ rs) more h = go (bytes_eq r.id id) h (has_more id rs more)
 
 -- ---- one use of an option
 
--- an option with one value, which a second use does not replace
-pub record TakesOne (c : List Rule) (a : Rule) : Type 0 where
-  pub among : Among a c
-  pub action : action_of a ≡ Set
-  pub range : unwrap_or_range a.range ≡ record { start_inclusive = 1; end_inclusive = 1 }
+-- a use of this rule without a fault leaves options that have passed
+pub record Fits (c : List Rule) (a : Rule) : Type 0 where
+  pub passes : (values : List Text) (rows : List Row) → use_fault false a values rows ≡ [] → AreRowsOf c rows → AreRowsOf c (used a values rows)
 
--- a flag that takes no value, and whose use is a fault
-pub record IsRequest (a : Rule) : Type 0 where
-  pub flag : takes_values a ≡ false
-  pub faulty : (values : List Text) (rows : List Row) → use_fault false a values rows ≡ [] → ⊥
-
--- options with one value and requests, and nothing positional
+-- each rule fits, and none is positional
 pub record HasOptionsOnly (c : List Rule) : Type 0 where
-  pub each : (p : Rule → Bool) (a : Rule) → find p c ≡ Some a → TakesOne c a ⊎ IsRequest a
+  pub each : (p : Rule → Bool) (a : Rule) → find p c ≡ Some a → Fits c a
   pub none : (i : ℕ) → arg_by_index c i ≡ None
 
 abbrev new_row : Rule → ValueSource → List Text → Row
@@ -152,15 +145,35 @@ set_fits c a v vs rows among e h =
     subst (λ (l : List Row). AreRowsOf c (with_values a.id (reading_by a) CommandLine (v ∷ vs) l)) (sym cleared)
     (values_fit c a CommandLine (v ∷ vs) rows among fresh (omega arith) (second_none _ _ e) h)
 
-pub option_used : (c : List Rule) (a : Rule) (values : List Text) (rows : List Row) → TakesOne c a → use_fault false a values rows ≡ []
-    → AreRowsOf c rows → AreRowsOf c (used a values rows)
-option_used c a [] rows o e h = absurd (no_value (unwrap_or_range a.range) o.range (first_none _ _ e))
-option_used c a (v ∷ vs) rows o e h =
-    let fault = subst (λ (x : ArgAction). action_fault x false a (v ∷ vs) rows ≡ []) o.action (second_none _ _ e) in
-    subst (λ (x : ArgAction). AreRowsOf c (used_as x a.id (reading_by a) (v ∷ vs) rows)) (sym o.action) (set_fits c a v vs rows o.among fault h)
+-- an option with one value, which a second use does not replace
+pub option_fits : (c : List Rule) (a : Rule) → Among a c → action_of a ≡ Set → unwrap_or_range a.range ≡ record { start_inclusive = 1; end_inclusive = 1 } → Fits c a
+option_fits c a among action range = record { passes = go }
+  where
+    go : (values : List Text) (rows : List Row) → use_fault false a values rows ≡ [] → AreRowsOf c rows → AreRowsOf c (used a values rows)
+    go [] rows e h = absurd (no_value (unwrap_or_range a.range) range (first_none _ _ e))
+    go (v ∷ vs) rows e h =
+        let fault = subst (λ (x : ArgAction). action_fault x false a (v ∷ vs) rows ≡ []) action (second_none _ _ e) in
+        subst (λ (x : ArgAction). AreRowsOf c (used_as x a.id (reading_by a) (v ∷ vs) rows)) (sym action) (set_fits c a v vs rows among fault h)
 
-pub takes_one : (c : List Rule) (a : Rule) → TakesOne c a → takes_values a ≡ true
-takes_one c a o = ap (λ (r : ValueRange). not (r.end_inclusive == 0)) o.range
+-- a flag, which stands for a value of its own
+pub flag_fits : (c : List Rule) (a : Rule) (m : Text) (ms : List Text) → Among a c → action_of a ≡ SetTrue → a.missing ≡ m ∷ ms → Fits c a
+flag_fits c a m ms among action missing = record { passes = go }
+  where
+    given : (v : Text) (vs : List Text) (rows : List Row) → action_fault (action_of a) false a (v ∷ vs) rows ≡ [] → AreRowsOf c rows
+        → AreRowsOf c (used_as (action_of a) a.id (reading_by a) (v ∷ vs) rows)
+    given v vs rows e h =
+        let fault = subst (λ (x : ArgAction). action_fault x false a (v ∷ vs) rows ≡ []) action e in
+        subst (λ (x : ArgAction). AreRowsOf c (used_as x a.id (reading_by a) (v ∷ vs) rows)) (sym action) (set_fits c a v vs rows among fault h)
+
+    go : (values : List Text) (rows : List Row) → use_fault false a values rows ≡ [] → AreRowsOf c rows → AreRowsOf c (used a values rows)
+    go [] rows e h =
+        let fault = subst (λ (l : List Text). action_fault (action_of a) false a l rows ≡ []) missing (second_none _ _ e) in
+        subst (λ (l : List Text). AreRowsOf c (used_as (action_of a) a.id (reading_by a) l rows)) (sym missing) (given m ms rows fault h)
+    go (v ∷ vs) rows e h = given v vs rows (second_none _ _ e) h
+
+-- a flag whose use is a fault
+pub request_fits : (c : List Rule) (a : Rule) → ((values : List Text) (rows : List Row) → use_fault false a values rows ≡ [] → ⊥) → Fits c a
+request_fits c a faulty = record { passes = λ values rows e h. absurd (faulty values rows e) }
 
 -- ---- defaults
 

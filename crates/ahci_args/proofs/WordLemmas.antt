@@ -6,16 +6,17 @@ use Rattle.std.specs.Str.{bytes_eq}
 use Rattle.std.proofs.lemmas.Slice.Eq.{bytes_eq-Decides}
 use Rattle.clap.specs.Walk.{Names, Row, Rule, Text, Walk, takes_values, nothing_held, rows_after, settled, walk, walk_from, walked}
 use Rattle.clap.specs.Simple.{App, Shape, built, entered, filled, help_rule, names_of, subcommand_of, version_rule}
-use Rattle.clap.specs.Kinds.{FailsBy, HasKind, IsAmong}
-use Rattle.clap.specs.Faults.{built_fault, entered_fault, level_fault, settle_fault, use_fault, walk_fault}
+use Rattle.clap.specs.Kinds.{FailsBy, HasKind, IsAmong, Kinds, or_else}
+use Rattle.clap.specs.Faults.{built_fault, entered_fault, fault_of, level_fault, settle_fault, use_fault, walk_fault}
 use Rattle.clap.specs.Values.{kind_of}
 use Rattle.clap.specs.declared.error.Error.{Error}
 use Rattle.clap.specs.declared.error.kind.ErrorKind.TheVariants.{OutOfMemory}
 use Rattle.clap.proofs.OnLiterals.{clap_on_literals}
-use Rattle.ahci_args.specs.CommandLine.{PickWords, ahci, replay, usage_faults}
-use Rattle.ahci_args.specs.Asking.{AsksReplay, TakesOptions}
+use Rattle.ahci_args.specs.CommandLine.{PickWords, ahci, replay}
+use Rattle.ahci_args.specs.Asking.{AsksReplay, TakesOptions, TakesPlace, TakesSize}
+use Rattle.ahci_args.specs.Usage.{usage_faults, value_fault}
 use Rattle.ahci_args.proofs.FlagLemmas.{Asks, AsksOnly, first_none, second_none, turn_stops, leaf_words}
-use Rattle.ahci_args.proofs.RunLemmas.{run_leaf, run_options}
+use Rattle.ahci_args.proofs.SubcommandLemmas.{HasNoFault, check_leaf, draw_leaf, identify_leaf, identify_options, log_leaf, log_options, run_leaf, run_options, trace_leaf}
 
 -- ---- each flag asks for help or the version
 
@@ -72,15 +73,43 @@ module _ (picks : PickWords) where
   -- ---- the words behind the program's name
 
   -- the walk stops at a subcommand
-  stops_at_replay : (words : List Text) → (walk whole.top.rules names nothing_held (codes "replay" ∷ words)).stopped ≡ Some (codes "replay", words)
+  abbrev StopsAt : Text → Type 0
+  StopsAt name = (words : List Text) → (walk whole.top.rules names nothing_held (name ∷ words)).stopped ≡ Some (name, words)
+
+  stops_at_replay : StopsAt (codes "replay")
   unfolding walked
   stops_at_replay words =
       stopped whole.top.rules names (walked whole.top.rules names (walk_from nothing_held) (codes "replay")) (codes "replay") [] words refl
 
-  stops_at_run : (words : List Text) → (walk whole.top.rules names nothing_held (codes "run" ∷ words)).stopped ≡ Some (codes "run", words)
+  stops_at_run : StopsAt (codes "run")
   unfolding walked
   stops_at_run words =
       stopped whole.top.rules names (walked whole.top.rules names (walk_from nothing_held) (codes "run")) (codes "run") [] words refl
+
+  stops_at_identify : StopsAt (codes "identify")
+  unfolding walked
+  stops_at_identify words =
+      stopped whole.top.rules names (walked whole.top.rules names (walk_from nothing_held) (codes "identify")) (codes "identify") [] words refl
+
+  stops_at_log : StopsAt (codes "log")
+  unfolding walked
+  stops_at_log words =
+      stopped whole.top.rules names (walked whole.top.rules names (walk_from nothing_held) (codes "log")) (codes "log") [] words refl
+
+  stops_at_trace : StopsAt (codes "trace")
+  unfolding walked
+  stops_at_trace words =
+      stopped whole.top.rules names (walked whole.top.rules names (walk_from nothing_held) (codes "trace")) (codes "trace") [] words refl
+
+  stops_at_check : StopsAt (codes "check")
+  unfolding walked
+  stops_at_check words =
+      stopped whole.top.rules names (walked whole.top.rules names (walk_from nothing_held) (codes "check")) (codes "check") [] words refl
+
+  stops_at_draw : StopsAt (codes "draw")
+  unfolding walked
+  stops_at_draw words =
+      stopped whole.top.rules names (walked whole.top.rules names (walk_from nothing_held) (codes "draw")) (codes "draw") [] words refl
 
   -- a subcommand has no fault where the whole has none
   below : (word : Text) (words : List Text) → built_fault whole nothing_held (word ∷ words) ≡ []
@@ -88,14 +117,30 @@ module _ (picks : PickWords) where
   below word words e =
       first_none _ _ (second_none (walk_fault whole.top names (walk_from nothing_held) (word ∷ words)) _ e)
 
+  entered_at_word : (name : Text) (words : List Text) → StopsAt name → built_fault whole nothing_held (name ∷ words) ≡ [] → entered_fault whole (Some (name, words)) ≡ []
+  entered_at_word name words stops e = subst (λ (o : Option (Text × List Text)). entered_fault whole o ≡ []) (stops words) (below name words e)
+
   behind_replay : (words : List Text) → built_fault whole nothing_held (codes "replay" ∷ words) ≡ [] → (words ≡ []) ⊎ (words ≡ codes "--" ∷ [])
   behind_replay words e =
-      let fault = subst (λ (o : Option (Text × List Text)). entered_fault whole o ≡ []) (stops_at_replay words) (below (codes "replay") words e) in
-      leaf_words leaf leaf_asks words (first_none _ _ fault)
+      leaf_words leaf leaf_asks words (first_none _ _ (entered_at_word (codes "replay") words stops_at_replay e))
 
-  behind_run : (words : List Text) → built_fault whole nothing_held (codes "run" ∷ words) ≡ [] → level_fault (run_leaf picks) [] nothing_held words false [] ≡ []
-  behind_run words e =
-      subst (λ (o : Option (Text × List Text)). entered_fault whole o ≡ []) (stops_at_run words) (below (codes "run") words e)
+  behind_run : (words : List Text) → built_fault whole nothing_held (codes "run" ∷ words) ≡ [] → HasNoFault (run_leaf picks) words
+  behind_run words e = entered_at_word (codes "run") words stops_at_run e
+
+  behind_identify : (words : List Text) → built_fault whole nothing_held (codes "identify" ∷ words) ≡ [] → HasNoFault (identify_leaf picks) words
+  behind_identify words e = entered_at_word (codes "identify") words stops_at_identify e
+
+  behind_log : (words : List Text) → built_fault whole nothing_held (codes "log" ∷ words) ≡ [] → HasNoFault (log_leaf picks) words
+  behind_log words e = entered_at_word (codes "log") words stops_at_log e
+
+  behind_trace : (words : List Text) → built_fault whole nothing_held (codes "trace" ∷ words) ≡ [] → HasNoFault (trace_leaf picks) words
+  behind_trace words e = entered_at_word (codes "trace") words stops_at_trace e
+
+  behind_check : (words : List Text) → built_fault whole nothing_held (codes "check" ∷ words) ≡ [] → HasNoFault (check_leaf picks) words
+  behind_check words e = entered_at_word (codes "check") words stops_at_check e
+
+  behind_draw : (words : List Text) → built_fault whole nothing_held (codes "draw" ∷ words) ≡ [] → HasNoFault (draw_leaf picks) words
+  behind_draw words e = entered_at_word (codes "draw") words stops_at_draw e
 
   behind_help : (words : List Text) → built_fault whole nothing_held (codes "help" ∷ words) ≡ [] → ⊥
   unfolding clap_on_literals
@@ -112,41 +157,68 @@ module _ (picks : PickWords) where
 abbrev IsReplay : List Text → Type 0
 IsReplay words = (words ≡ codes "replay" ∷ []) ⊎ (words ≡ codes "replay" ∷ codes "--" ∷ [])
 
--- or `run`, with words that are no fault of it
-pub record IsRunLine (picks : PickWords) (words : List Text) : Type 0 where
+-- or another subcommand, with words that are no fault of it
+pub record IsLine (name : Text) (shape : Shape) (words : List Text) : Type 0 where
   pub behind : List Text
-  pub are : words ≡ codes "run" ∷ behind
-  pub no_fault : level_fault (run_leaf picks) [] nothing_held behind false [] ≡ []
+  pub are : words ≡ name ∷ behind
+  pub no_fault : HasNoFault shape behind
+
+-- one of the seven
+abbrev IsTaken : PickWords → List Text → Type 0
+IsTaken picks words =
+    IsReplay words
+    ⊎ (IsLine (codes "run") (run_leaf picks) words
+    ⊎ (IsLine (codes "identify") (identify_leaf picks) words
+    ⊎ (IsLine (codes "log") (log_leaf picks) words
+    ⊎ (IsLine (codes "trace") (trace_leaf picks) words
+    ⊎ (IsLine (codes "check") (check_leaf picks) words
+    ⊎ IsLine (codes "draw") (draw_leaf picks) words)))))
 
 with_replay : (word : Text) (words : List Text) → codes "replay" ≡ word → (words ≡ []) ⊎ (words ≡ codes "--" ∷ []) → IsReplay (word ∷ words)
 with_replay word words is (inl end) = inl (rw (← is, end) refl)
 with_replay word words is (inr end) = inr (rw (← is, end) refl)
 
-taken : (picks : PickWords) (words : List Text) → built_fault (whole picks) nothing_held words ≡ [] → IsReplay words ⊎ IsRunLine picks words
+module _ (picks : PickWords) (word : Text) (words : List Text) (e : built_fault (whole picks) nothing_held (word ∷ words) ≡ []) where
+  -- the same of a word that is known
+  known : (name : Text) → bytes_eq name word ≡ true → built_fault (whole picks) nothing_held (name ∷ words) ≡ []
+  known name is =
+      subst (λ (w : Text). built_fault (whole picks) nothing_held (w ∷ words) ≡ []) (sym ((bytes_eq-Decides name word).0 is)) e
+
+  line : (name : Text) (shape : Shape) → bytes_eq name word ≡ true → HasNoFault shape words → IsLine name shape (word ∷ words)
+  line name shape is fine = record {
+    behind = words;
+    are = ap (λ (w : Text). w ∷ words) (sym ((bytes_eq-Decides name word).0 is));
+    no_fault = fine;
+  }
+
+  by_name : (a r i l t k w h d : Bool) → bytes_eq (codes "replay") word ≡ a → bytes_eq (codes "run") word ≡ r → bytes_eq (codes "identify") word ≡ i → bytes_eq (codes "log") word ≡ l → bytes_eq (codes "trace") word ≡ t → bytes_eq (codes "check") word ≡ k → bytes_eq (codes "draw") word ≡ w
+      → bytes_eq (codes "help") word ≡ h → bytes_eq word (codes "--") ≡ d → IsTaken picks (word ∷ words)
+  unfolding clap_on_literals
+  by_name true r i l t k w h d is _ _ _ _ _ _ _ _ =
+      inl (with_replay word words ((bytes_eq-Decides (codes "replay") word).0 is) (behind_replay picks words (known (codes "replay") is)))
+  by_name false true i l t k w h d _ is _ _ _ _ _ _ _ =
+      inr (inl (line (codes "run") (run_leaf picks) is (behind_run picks words (known (codes "run") is))))
+  by_name false false true l t k w h d _ _ is _ _ _ _ _ _ =
+      inr (inr (inl (line (codes "identify") (identify_leaf picks) is (behind_identify picks words (known (codes "identify") is)))))
+  by_name false false false true t k w h d _ _ _ is _ _ _ _ _ =
+      inr (inr (inr (inl (line (codes "log") (log_leaf picks) is (behind_log picks words (known (codes "log") is))))))
+  by_name false false false false true k w h d _ _ _ _ is _ _ _ _ =
+      inr (inr (inr (inr (inl (line (codes "trace") (trace_leaf picks) is (behind_trace picks words (known (codes "trace") is)))))))
+  by_name false false false false false true w h d _ _ _ _ _ is _ _ _ =
+      inr (inr (inr (inr (inr (inl (line (codes "check") (check_leaf picks) is (behind_check picks words (known (codes "check") is))))))))
+  by_name false false false false false false true h d _ _ _ _ _ _ is _ _ =
+      inr (inr (inr (inr (inr (inr (line (codes "draw") (draw_leaf picks) is (behind_draw picks words (known (codes "draw") is))))))))
+  by_name false false false false false false false true d _ _ _ _ _ _ _ is _ = absurd (behind_help picks words (known (codes "help") is))
+  by_name false false false false false false false false true _ _ _ _ _ _ _ _ is =
+      let dashes : word ≡ codes "--" = (bytes_eq-Decides word (codes "--")).0 is in
+      absurd (behind_dashes picks words (subst (λ (w : Text). built_fault (whole picks) nothing_held (w ∷ words) ≡ []) dashes e))
+  by_name false false false false false false false false false a r i l t k w h d =
+      absurd (turn_stops (whole picks).top (top_asks picks) (names picks) word (rw (a, r, i, l, t, k, w, h) refl) d (first_none _ _ (first_none _ _ e)))
+
+taken : (picks : PickWords) (words : List Text) → built_fault (whole picks) nothing_held words ≡ [] → IsTaken picks words
 unfolding clap_on_literals
 taken picks [] e = cc
-taken picks (word ∷ words) e = go (bytes_eq (codes "replay") word) refl (bytes_eq (codes "run") word) refl (bytes_eq (codes "help") word) refl (bytes_eq word (codes "--")) refl
-  where
-    go : (r : Bool) → bytes_eq (codes "replay") word ≡ r → (n : Bool) → bytes_eq (codes "run") word ≡ n → (h : Bool) → bytes_eq (codes "help") word ≡ h
-        → (d : Bool) → bytes_eq word (codes "--") ≡ d → IsReplay (word ∷ words) ⊎ IsRunLine picks (word ∷ words)
-    go true r n _ h _ d _ =
-        let is : codes "replay" ≡ word = (bytes_eq-Decides (codes "replay") word).0 r in
-        inl (with_replay word words is (behind_replay picks words (subst (λ (w : Text). built_fault (whole picks) nothing_held (w ∷ words) ≡ []) (sym is) e)))
-    go false r true n h _ d _ =
-        let is : codes "run" ≡ word = (bytes_eq-Decides (codes "run") word).0 n in
-        inr (record {
-          behind = words;
-          are = ap (λ (w : Text). w ∷ words) (sym is);
-          no_fault = behind_run picks words (subst (λ (w : Text). built_fault (whole picks) nothing_held (w ∷ words) ≡ []) (sym is) e);
-        })
-    go false r false n true h d _ =
-        let is : codes "help" ≡ word = (bytes_eq-Decides (codes "help") word).0 h in
-        absurd (behind_help picks words (subst (λ (w : Text). built_fault (whole picks) nothing_held (w ∷ words) ≡ []) (sym is) e))
-    go false r false n false h true d =
-        let is : word ≡ codes "--" = (bytes_eq-Decides word (codes "--")).0 d in
-        absurd (behind_dashes picks words (subst (λ (w : Text). built_fault (whole picks) nothing_held (w ∷ words) ≡ []) is e))
-    go false r false n false h false d =
-        absurd (turn_stops (whole picks).top (top_asks picks) (names picks) word (rw (r, n, h) refl) d (first_none _ _ (first_none _ _ e)))
+taken picks (word ∷ words) e = by_name picks word words e _ _ _ _ _ _ _ _ _ refl refl refl refl refl refl refl refl refl
 
 -- ---- what the parser found
 
@@ -162,38 +234,66 @@ replay_found picks words (inl is) =
 replay_found picks words (inr is) =
     (rows_after (leaf picks).rules [] (codes "--" ∷ []), entered_at picks words (codes "replay" ∷ codes "--" ∷ []) is ∙ ap (entered (whole picks)) (stops_at_replay picks (codes "--" ∷ [])))
 
-run_found : (picks : PickWords) (words : List Text) (run : IsRunLine picks (drop 1 words)) → subcommand_of (ahci picks) words ≡ Some (codes "run", rows_after (run_leaf picks).rules [] run.behind)
-run_found picks words run =
-    entered_at picks words (codes "run" ∷ run.behind) run.are ∙ ap (entered (whole picks)) (stops_at_run picks run.behind)
-
--- words without a fault ask for a run, or else for `replay`
-pub record FindsRun (picks : PickWords) (words : List Text) : Type 0 where
+-- words without a fault name a subcommand, whose options have their values
+pub record HasFound (name : Text) (Takes : List Row → Type 0) (picks : PickWords) (words : List Text) : Type 0 where
   pub options : List Row
-  pub first : slice_get words 1 ≡ Some (codes "run")
-  pub found : subcommand_of (ahci picks) words ≡ Some (codes "run", options)
-  pub takes : TakesOptions options
+  pub first : slice_get words 1 ≡ Some name
+  pub found : subcommand_of (ahci picks) words ≡ Some (name, options)
+  pub takes : Takes options
 
 pub record FindsReplay (picks : PickWords) (words : List Text) : Type 0 where
   pub asks : AsksReplay words
   pub options : List Row
   pub found : subcommand_of (ahci picks) words ≡ Some (codes "replay", options)
 
+-- a subcommand that takes no arguments has no options to speak of
+abbrev pub TakesNothing : List Row → Type 0
+TakesNothing rows = Unit {0}
+
+-- one of the seven
+abbrev pub Found : PickWords → List Text → Type 0
+Found picks words =
+    FindsReplay picks words
+    ⊎ (HasFound (codes "run") TakesOptions picks words
+    ⊎ (HasFound (codes "identify") TakesSize picks words
+    ⊎ (HasFound (codes "log") TakesPlace picks words
+    ⊎ (HasFound (codes "trace") TakesNothing picks words
+    ⊎ (HasFound (codes "check") TakesNothing picks words
+    ⊎ HasFound (codes "draw") TakesNothing picks words)))))
+
 second_word : (words more : List Text) (word : Text) → drop 1 words ≡ word ∷ more → slice_get words 1 ≡ Some word
 second_word [] more word is = cc
 second_word (x ∷ []) more word is = cc
 second_word (x ∷ y ∷ ys) more word is = let same : y ≡ word = cc in ap Some same
 
-pub finds : (picks : PickWords) (words : List Text) → usage_faults picks words ≡ [] → FindsReplay picks words ⊎ FindsRun picks words
+line_found : (name : Text) (shape : Shape) (Takes : List Row → Type 0) (picks : PickWords) (words : List Text) → StopsAt picks name
+    → ((behind : List Text) → entered (whole picks) (Some (name, behind)) ≡ Some (name, rows_after shape.rules [] behind))
+    → ((behind : List Text) → HasNoFault shape behind → Takes (rows_after shape.rules [] behind))
+    → IsLine name shape (drop 1 words) → HasFound name Takes picks words
+line_found name shape Takes picks words stops enters takes is = record {
+  options = rows_after shape.rules [] is.behind;
+  first = second_word words is.behind name is.are;
+  found = entered_at picks words (name ∷ is.behind) is.are ∙ ap (entered (whole picks)) (stops is.behind) ∙ enters is.behind;
+  takes = takes is.behind is.no_fault;
+}
+
+pub finds : (picks : PickWords) (words : List Text) → fault_of (ahci picks) words ≡ [] → Found picks words
 finds picks words e = go (taken picks (drop 1 words) e)
   where
-    go : IsReplay (drop 1 words) ⊎ IsRunLine picks (drop 1 words) → FindsReplay picks words ⊎ FindsRun picks words
+    go : IsTaken picks (drop 1 words) → Found picks words
     go (inl asks) = let got = replay_found picks words asks in inl (record { asks = asks; options = got.0; found = got.1 })
-    go (inr run) = inr (record {
-      options = rows_after (run_leaf picks).rules [] run.behind;
-      first = second_word words run.behind (codes "run") run.are;
-      found = run_found picks words run;
-      takes = run_options picks run.behind run.no_fault;
-    })
+    go (inr (inl is)) =
+        inr (inl (line_found (codes "run") (run_leaf picks) TakesOptions picks words (stops_at_run picks) (λ behind. refl) (run_options picks) is))
+    go (inr (inr (inl is))) =
+        inr (inr (inl (line_found (codes "identify") (identify_leaf picks) TakesSize picks words (stops_at_identify picks) (λ behind. refl) (identify_options picks) is)))
+    go (inr (inr (inr (inl is)))) =
+        inr (inr (inr (inl (line_found (codes "log") (log_leaf picks) TakesPlace picks words (stops_at_log picks) (λ behind. refl) (log_options picks) is))))
+    go (inr (inr (inr (inr (inl is))))) =
+        inr (inr (inr (inr (inl (line_found (codes "trace") (trace_leaf picks) TakesNothing picks words (stops_at_trace picks) (λ behind. refl) (λ behind fine. tt) is)))))
+    go (inr (inr (inr (inr (inr (inl is)))))) =
+        inr (inr (inr (inr (inr (inl (line_found (codes "check") (check_leaf picks) TakesNothing picks words (stops_at_check picks) (λ behind. refl) (λ behind fine. tt) is))))))
+    go (inr (inr (inr (inr (inr (inr is)))))) =
+        inr (inr (inr (inr (inr (inr (line_found (codes "draw") (draw_leaf picks) TakesNothing picks words (stops_at_draw picks) (λ behind. refl) (λ behind fine. tt) is))))))
 
 -- ---- `replay` has no fault
 
@@ -205,9 +305,14 @@ with_dashes : (picks : PickWords) → built_fault (whole picks) nothing_held (co
 unfolding clap_on_literals
 with_dashes picks = refl
 
+asks_parsed : (picks : PickWords) (words : List Text) → AsksReplay words → fault_of (ahci picks) words ≡ []
+asks_parsed picks words (inl is) = ap (built_fault (whole picks) nothing_held) is ∙ alone picks
+asks_parsed picks words (inr is) = ap (built_fault (whole picks) nothing_held) is ∙ with_dashes picks
+
 asks_taken : (picks : PickWords) (words : List Text) → AsksReplay words → usage_faults picks words ≡ []
-asks_taken picks words (inl is) = ap (built_fault (whole picks) nothing_held) is ∙ alone picks
-asks_taken picks words (inr is) = ap (built_fault (whole picks) nothing_held) is ∙ with_dashes picks
+asks_taken picks words asks =
+    ap (λ (k : Kinds). or_else k (value_fault (subcommand_of (ahci picks) words))) (asks_parsed picks words asks)
+    ∙ ap value_fault (replay_found picks words asks).1
 
 by_memory : (picks : PickWords) (e : Error) (words : List Text) → HasKind (usage_faults picks words) e → AsksReplay words → kind_of e ≡ OutOfMemory
 by_memory picks e words (inl memory) asks = memory

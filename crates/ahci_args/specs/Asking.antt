@@ -1,26 +1,29 @@
 -- What the words of a command line ask for.
-use Rattle.std.specs.Prelude.{◌≡◌, ◌⊎◌, ◌≤◌, ℕ, List, [], ◌∷◌, Some, Result, drop, slice_get, codes}
+use Rattle.std.specs.Prelude.{◌≡◌, ◌⊎◌, ◌≤◌, ℕ, Bool, List, [], ◌∷◌, Some, Result, drop, slice_get, codes, if◌then◌else◌}
 use Rattle.std.specs.Str.Parse.{IsNumeral, digits_value, without_leading_plus}
 use Rattle.clap.specs.Words.{FailsBy, Row, Text, first_of, one_of, subcommand_of}
 use Rattle.clap.specs.declared.error.Error.{Error}
-use Rattle.ahci_args.specs.CommandLine.{PickWords, ahci, most_depth, most_sectors, most_workers, usage_faults}
+use Rattle.ahci_args.specs.CommandLine.{PickWords, ahci, last_lba, last_tag, most_depth, most_sectors, most_workers}
+use Rattle.ahci_args.specs.Usage.{error_byte, usage_faults}
 use Rattle.ahci_args.specs.declared.pick.Pick.{Pick}
 use Rattle.ahci_args.specs.declared.pick.Pick.TheVariants.{Low, High, All}
 use Rattle.ahci_args.specs.declared.request.Asked.{Asked}
-use Rattle.ahci_args.specs.declared.request.Asked.TheVariants.{Replay, Run}
+use Rattle.ahci_args.specs.declared.request.Asked.TheVariants.{Replay, Run, Identify, Log, Trace, Check, Draw}
 
 -- behind the program's name stands `replay` alone, or with the `--` that ends the options
 abbrev pub AsksReplay : List Text → Type 0
 AsksReplay words = (drop 1 words ≡ codes "replay" ∷ []) ⊎ (drop 1 words ≡ codes "replay" ∷ codes "--" ∷ [])
 
--- of the options that the parser has found, `name` has a number from 1 to `last`, and this is it; a plus may stand
+-- ---- the options of the others
+
+-- of the options that the parser has found, `name` has a number from `first` to `last`, and this is it; a plus may stand
 -- before its digits
-pub record HasNumber (options : List Row) (name : Text) (last n : ℕ) : Type 0 where
+pub record HasNumber (options : List Row) (name : Text) (first last n : ℕ) : Type 0 where
   pub text : Text
   pub given : one_of name options ≡ Some text
   pub digits : IsNumeral 10 (without_leading_plus text)
   pub value : n ≡ digits_value 10 (without_leading_plus text)
-  pub least : 1 ≤ n
+  pub least : first ≤ n
   pub most : n ≤ last
 
 -- the word of `--pick`
@@ -33,12 +36,33 @@ word_of All = codes "all"
 abbrev pub HasPick : List Row → Pick → Type 0
 HasPick options pick = first_of (codes "pick") options ≡ Some (word_of pick)
 
+-- the flag `raw` was given, or not
+abbrev pub HasRaw : List Row → Bool → Type 0
+HasRaw options raw = one_of (codes "raw") options ≡ Some (if raw then codes "true" else codes "false")
+
 -- the options of a run have these values
 pub record HasOptions (options : List Row) (w d s : ℕ) (p : Pick) : Type 0 where
-  pub workers : HasNumber options (codes "workers") most_workers w
-  pub depth : HasNumber options (codes "depth") most_depth d
-  pub sectors : HasNumber options (codes "sectors") most_sectors s
+  pub workers : HasNumber options (codes "workers") 1 most_workers w
+  pub depth : HasNumber options (codes "depth") 1 most_depth d
+  pub sectors : HasNumber options (codes "sectors") 1 most_sectors s
   pub pick : HasPick options p
+
+-- those of `identify`
+pub record HasSize (options : List Row) (s d : ℕ) (r : Bool) : Type 0 where
+  pub sectors : HasNumber options (codes "sectors") 1 most_sectors s
+  pub depth : HasNumber options (codes "depth") 1 most_depth d
+  pub raw : HasRaw options r
+
+-- those of `log`, but for the error
+pub record HasPlace (options : List Row) (t l : ℕ) (r : Bool) : Type 0 where
+  pub tag : HasNumber options (codes "tag") 0 last_tag t
+  pub lba : HasNumber options (codes "lba") 0 last_lba l
+  pub raw : HasRaw options r
+
+-- and those with the error, two hexadecimal digits
+pub record HasError (options : List Row) (t e l : ℕ) (r : Bool) : Type 0 where
+  pub place : HasPlace options t l r
+  pub error : error_byte options ≡ Some e
 
 -- every option of a run has a value
 pub record TakesOptions (options : List Row) : Type 0 where
@@ -48,22 +72,71 @@ pub record TakesOptions (options : List Row) : Type 0 where
   pub pick : Pick
   pub has : HasOptions options workers depth sectors pick
 
-abbrev pub IsRunOf : List Row → Asked → Type 0
-IsRunOf options Replay = ⊥
-IsRunOf options (Run workers depth sectors pick) = HasOptions options workers depth sectors pick
+-- every option of `identify` has a value
+pub record TakesSize (options : List Row) : Type 0 where
+  pub sectors : ℕ
+  pub depth : ℕ
+  pub raw : Bool
+  pub has : HasSize options sectors depth raw
 
--- the words ask for a run with these values: behind the program's name stands `run`, and the parser has found these
--- options behind it
-pub record AsksRun (words : List Text) (workers depth sectors : ℕ) (pick : Pick) : Type 0 where
+-- every option of `log` has a value, but for the error, which may be any text
+pub record TakesPlace (options : List Row) : Type 0 where
+  pub tag : ℕ
+  pub lba : ℕ
+  pub raw : Bool
+  pub has : HasPlace options tag lba raw
+
+abbrev pub IsRunOf : List Row → Asked → Type 0
+IsRunOf options (Run workers depth sectors pick) = HasOptions options workers depth sectors pick
+IsRunOf options other = ⊥
+
+abbrev pub IsIdentifyOf : List Row → Asked → Type 0
+IsIdentifyOf options (Identify sectors depth raw) = HasSize options sectors depth raw
+IsIdentifyOf options other = ⊥
+
+abbrev pub IsLogOf : List Row → Asked → Type 0
+IsLogOf options (Log tag error lba raw) = HasError options tag error lba raw
+IsLogOf options other = ⊥
+
+-- ---- the whole line
+
+-- behind the program's name stands a subcommand, and the parser has found these options behind it
+pub record Finds (name : Text) (words : List Text) (options : List Row) : Type 0 where
   pub picks : PickWords
+  pub subcommand : slice_get words 1 ≡ Some name
+  pub found : subcommand_of (ahci picks) words ≡ Some (name, options)
+
+-- the words ask for a run with these values
+pub record AsksRun (words : List Text) (workers depth sectors : ℕ) (pick : Pick) : Type 0 where
   pub options : List Row
-  pub subcommand : slice_get words 1 ≡ Some (codes "run")
-  pub found : subcommand_of (ahci picks) words ≡ Some (codes "run", options)
+  pub finds : Finds (codes "run") words options
   pub has : HasOptions options workers depth sectors pick
+
+-- the words ask for the identify page of such a disk
+pub record AsksIdentify (words : List Text) (sectors depth : ℕ) (raw : Bool) : Type 0 where
+  pub options : List Row
+  pub finds : Finds (codes "identify") words options
+  pub has : HasSize options sectors depth raw
+
+-- the words ask for the log's page of such an error
+pub record AsksLog (words : List Text) (tag error lba : ℕ) (raw : Bool) : Type 0 where
+  pub options : List Row
+  pub finds : Finds (codes "log") words options
+  pub has : HasError options tag error lba raw
+
+-- the words ask for a subcommand that takes no arguments
+pub record AsksPlain (name : Text) (words : List Text) : Type 0 where
+  pub options : List Row
+  pub finds : Finds name words options
 
 abbrev pub AsksFor : List Text → Asked → Type 0
 AsksFor words Replay = AsksReplay words
+AsksFor words Trace = AsksPlain (codes "trace") words
+AsksFor words Check = AsksPlain (codes "check") words
+AsksFor words Draw = AsksPlain (codes "draw") words
 AsksFor words (Run workers depth sectors pick) = AsksRun words workers depth sectors pick
+AsksFor words (Identify sectors depth raw) = AsksIdentify words sectors depth raw
+AsksFor words (Log tag error lba raw) = AsksLog words tag error lba raw
 
 -- an Ok comes only where the words have no fault, and an Err has the kind of one of theirs, or is want of memory
 abbrev pub FailsByUsage : List Text → Result Asked Error → Type 0

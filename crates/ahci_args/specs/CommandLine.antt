@@ -1,12 +1,17 @@
 -- The command line of `ahci`, as its parser knows it.
 use Rattle.std.specs.Prelude.{◌≡◌, ℕ, true, pos, List, [], ◌∷◌, Some, map, codes}
 use Rattle.std.specs.Borrow.{Bor}
-use Rattle.clap.specs.Words.{App, Kinds, Rule, Shape, Text, fault_of, new_app, new_rule, with_rule, with_subcommand}
-use Rattle.clap.specs.declared.builder.value_parser.ValueParser.TheVariants.{Names, Signed}
+use Rattle.clap.specs.Words.{App, Rule, Shape, Text, new_app, new_rule, with_rule, with_subcommand}
+use Rattle.clap.specs.declared.builder.action.ArgAction.TheVariants.{SetTrue}
+use Rattle.clap.specs.declared.builder.value_parser.ValueParser.TheVariants.{Names, Signed, Unsigned}
 
 -- the subcommand `replay`, which takes no arguments
 abbrev pub replay : Shape
 replay = (new_app (codes "replay")).top
+
+-- a subcommand of this name, which takes no arguments either
+abbrev pub plain : Text → Shape
+plain name = (new_app name).top
 
 -- an option that has to be given, with a number from 1 to `most`
 abbrev pub number_option : Text → ℕ → Rule
@@ -15,6 +20,30 @@ number_option name most = record (new_rule name) {
   value_names = 1;
   required = true;
   parser = Some (Signed (pos 1) (pos most));
+}
+
+-- an option that has to be given, with a number from 0 to `last`
+abbrev pub index_option : Text → ℕ → Rule
+index_option name last = record (new_rule name) {
+  long = Some name;
+  value_names = 1;
+  required = true;
+  parser = Some (Unsigned 0 last);
+}
+
+-- the option `--error`, which has to be given, with any text
+abbrev pub error_option : Rule
+error_option = record (new_rule (codes "error")) {
+  long = Some (codes "error");
+  value_names = 1;
+  required = true;
+}
+
+-- the flag `--raw`
+abbrev pub raw_flag : Rule
+raw_flag = record (new_rule (codes "raw")) {
+  long = Some (codes "raw");
+  action = Some SetTrue;
 }
 
 -- the words that `--pick` takes; where they stand in memory says nothing
@@ -31,7 +60,7 @@ pick_option picks = record (new_rule (codes "pick")) {
   parser = Some (Names picks.words);
 }
 
--- the most workers of a run, slots of a port and sectors of a disk
+-- the most workers of a run, slots of a port and sectors of a disk; the last tag, and the last LBA of 48 bits
 abbrev pub most_workers : ℕ
 most_workers = 32
 
@@ -41,6 +70,12 @@ most_depth = 32
 abbrev pub most_sectors : ℕ
 most_sectors = 131072
 
+abbrev pub last_tag : ℕ
+last_tag = 31
+
+abbrev pub last_lba : ℕ
+last_lba = 281474976710655
+
 -- the subcommand `run` with its options
 abbrev pub run : PickWords → Shape
 run picks = (with_rule (with_rule (with_rule (with_rule (new_app (codes "run"))
@@ -49,16 +84,35 @@ run picks = (with_rule (with_rule (with_rule (with_rule (new_app (codes "run"))
     (number_option (codes "sectors") most_sectors))
     (pick_option picks)).top
 
+-- the subcommand `identify` with its options
+abbrev pub identify : Shape
+identify = (with_rule (with_rule (with_rule (new_app (codes "identify"))
+    (number_option (codes "sectors") most_sectors))
+    (number_option (codes "depth") most_depth))
+    raw_flag).top
+
+-- the subcommand `log` with its options
+abbrev pub log : Shape
+log = (with_rule (with_rule (with_rule (with_rule (new_app (codes "log"))
+    (index_option (codes "tag") last_tag))
+    error_option)
+    (index_option (codes "lba") last_lba))
+    raw_flag).top
+
 -- `ahci` without its subcommands: it has a version, and wants a subcommand
 abbrev pub top : Shape
 top = record (new_app (codes "ahci")).top { has_version = true; subcommand_required = true }
 
 abbrev pub ahci : PickWords → App
-ahci picks = with_subcommand (with_subcommand (record { top = top; subs = [] }) replay) (run picks)
-
--- the kinds of fault that the words may have, by the rules of the parser; none where they are taken
-abbrev pub usage_faults : PickWords → List Text → Kinds
-usage_faults picks words = fault_of (ahci picks) words
+ahci picks =
+    with_subcommand (with_subcommand (with_subcommand (with_subcommand (with_subcommand (with_subcommand (with_subcommand (record { top = top; subs = [] })
+    replay)
+    (run picks))
+    identify)
+    log)
+    (plain (codes "trace")))
+    (plain (codes "check")))
+    (plain (codes "draw"))
 
 -- what the parser has been told
 abbrev pub IsPickOption : Rule → Type 0

@@ -1,16 +1,19 @@
 //! The command line, as its parser is told of it.
-ghost use Rattle.std.specs.Prelude.{◌≡◌, IfErr, IfOk, false, pos};
+ghost use Rattle.std.specs.Prelude.{◌≡◌, [], IfErr, IfOk, codes, false, pos};
 ghost use Rattle.clap.specs.Words.{app_of, kind_of, rule_of, shape_of};
 ghost use Rattle.clap.specs.declared.builder.command.Command.TheViews.{out-Command as fields_of};
-ghost use Rattle.ahci_args.specs.CommandLine.{IsAhci, IsPickOption, IsRun, number_option};
+ghost use Rattle.ahci_args.specs.CommandLine.{IsAhci, IsPickOption, IsRun, error_option, identify, index_option, log, number_option, plain, raw_flag, replay, top};
 
 use crate::help::{
-    ABOUT, DEPTH_HELP, EXAMPLES, PICK_HELP, REPLAY_ABOUT, REPLAY_HELP, REPLAY_LONG_ABOUT,
-    RUN_ABOUT, RUN_HELP, RUN_LONG_ABOUT, SECTORS_HELP, VERSION, WORKERS_HELP,
+    ABOUT, CHECK_ABOUT, CHECK_HELP, CHECK_LONG_ABOUT, DEPTH_HELP, DRAW_ABOUT, DRAW_HELP,
+    DRAW_LONG_ABOUT, ERROR_HELP, EXAMPLES, IDENTIFY_ABOUT, IDENTIFY_DEPTH_HELP, IDENTIFY_HELP,
+    IDENTIFY_LONG_ABOUT, LBA_HELP, LOG_ABOUT, LOG_HELP, LOG_LONG_ABOUT, PICK_HELP, RAW_HELP,
+    REPLAY_ABOUT, REPLAY_HELP, REPLAY_LONG_ABOUT, RUN_ABOUT, RUN_HELP, RUN_LONG_ABOUT,
+    SECTORS_HELP, TAG_HELP, TRACE_ABOUT, TRACE_HELP, TRACE_LONG_ABOUT, VERSION, WORKERS_HELP,
 };
 use clap::builder::ValueParser;
 use clap::error::ErrorKind;
-use clap::{Arg, Command, Error, value_parser};
+use clap::{Arg, ArgAction, Command, Error, value_parser};
 use std::alloc::Global;
 
 /// The most workers of a run.
@@ -22,6 +25,12 @@ pub const MAX_DEPTH: u32 = 32;
 /// The most sectors of a disk.
 pub const MAX_SECTORS: u32 = 131_072;
 
+/// The last tag of a command.
+pub const LAST_TAG: u64 = 31;
+
+/// The last LBA of 48 bits.
+pub const LAST_LBA: u64 = 281_474_976_710_655;
+
 /// The words that `--pick` takes.
 static PICKS: [&str; 3] = ["low", "high", "all"];
 
@@ -30,19 +39,73 @@ pub(crate) fn ahci_command<'a>(alloc: Global) -> Result<Command<'a>, Error>
     ensures ok { IfOk result (λ c. IsAhci (app_of c)) }
     ensures err { IfErr result (λ e. kind_of e ≡ ErrorKind.OutOfMemory) }
 {
-    let replay = Command::new(alloc, "replay")
-        .about(REPLAY_ABOUT)
-        .long_about(REPLAY_LONG_ABOUT)
-        .after_help(REPLAY_HELP);
-    let ahci = Command::new(alloc, "ahci")
+    let ahci = top_command(alloc)?
+        .subcommand(replay_command(alloc))?
+        .subcommand(run_command(alloc)?)?
+        .subcommand(identify_command(alloc)?)?
+        .subcommand(log_command(alloc)?)?
+        .subcommand(trace_command(alloc))?
+        .subcommand(check_command(alloc))?
+        .subcommand(draw_command(alloc))?;
+    Ok(ahci)
+}
+
+/// `ahci` without its subcommands.
+fn top_command<'a>(alloc: Global) -> Result<Command<'a>, Error>
+    ensures ok { IfOk result (λ c. app_of c ≡ record { top = top; subs = [] }) }
+    ensures err { IfErr result (λ e. kind_of e ≡ ErrorKind.OutOfMemory) }
+{
+    let top = Command::new(alloc, "ahci")
         .bin_name("ahci")?
         .version(VERSION)
         .about(ABOUT)
         .after_help(EXAMPLES)
-        .subcommand_required(true)
-        .subcommand(replay)?
-        .subcommand(run_command(alloc)?)?;
-    Ok(ahci)
+        .subcommand_required(true);
+    Ok(top)
+}
+
+/// The subcommand `replay`, which takes no arguments.
+fn replay_command<'a>(alloc: Global) -> Command<'a>
+    ensures shape { shape_of result ≡ replay }
+    ensures local { (fields_of result).has_globals ≡ false }
+{
+    Command::new(alloc, "replay")
+        .about(REPLAY_ABOUT)
+        .long_about(REPLAY_LONG_ABOUT)
+        .after_help(REPLAY_HELP)
+}
+
+/// The subcommand `trace`, which takes no arguments.
+fn trace_command<'a>(alloc: Global) -> Command<'a>
+    ensures shape { shape_of result ≡ plain (codes "trace") }
+    ensures local { (fields_of result).has_globals ≡ false }
+{
+    Command::new(alloc, "trace")
+        .about(TRACE_ABOUT)
+        .long_about(TRACE_LONG_ABOUT)
+        .after_help(TRACE_HELP)
+}
+
+/// The subcommand `check`, which takes no arguments.
+fn check_command<'a>(alloc: Global) -> Command<'a>
+    ensures shape { shape_of result ≡ plain (codes "check") }
+    ensures local { (fields_of result).has_globals ≡ false }
+{
+    Command::new(alloc, "check")
+        .about(CHECK_ABOUT)
+        .long_about(CHECK_LONG_ABOUT)
+        .after_help(CHECK_HELP)
+}
+
+/// The subcommand `draw`, which takes no arguments.
+fn draw_command<'a>(alloc: Global) -> Command<'a>
+    ensures shape { shape_of result ≡ plain (codes "draw") }
+    ensures local { (fields_of result).has_globals ≡ false }
+{
+    Command::new(alloc, "draw")
+        .about(DRAW_ABOUT)
+        .long_about(DRAW_LONG_ABOUT)
+        .after_help(DRAW_HELP)
 }
 
 /// The subcommand `run` with its options.
@@ -59,6 +122,37 @@ fn run_command<'a>(alloc: Global) -> Result<Command<'a>, Error>
         .arg(number_option(alloc, "sectors", MAX_SECTORS).help(SECTORS_HELP))?
         .arg(pick_option(alloc))?;
     Ok(run)
+}
+
+/// The subcommand `identify` with its options.
+fn identify_command<'a>(alloc: Global) -> Result<Command<'a>, Error>
+    ensures ok { IfOk result (λ c. (shape_of c ≡ identify) × ((fields_of c).has_globals ≡ false)) }
+    ensures err { IfErr result (λ e. kind_of e ≡ ErrorKind.OutOfMemory) }
+{
+    let identify = Command::new(alloc, "identify")
+        .about(IDENTIFY_ABOUT)
+        .long_about(IDENTIFY_LONG_ABOUT)
+        .after_help(IDENTIFY_HELP)
+        .arg(number_option(alloc, "sectors", MAX_SECTORS).help(SECTORS_HELP))?
+        .arg(number_option(alloc, "depth", MAX_DEPTH).help(IDENTIFY_DEPTH_HELP))?
+        .arg(raw_flag(alloc))?;
+    Ok(identify)
+}
+
+/// The subcommand `log` with its options.
+pub(crate) fn log_command<'a>(alloc: Global) -> Result<Command<'a>, Error>
+    ensures ok { IfOk result (λ c. (shape_of c ≡ log) × ((fields_of c).has_globals ≡ false)) }
+    ensures err { IfErr result (λ e. kind_of e ≡ ErrorKind.OutOfMemory) }
+{
+    let log = Command::new(alloc, "log")
+        .about(LOG_ABOUT)
+        .long_about(LOG_LONG_ABOUT)
+        .after_help(LOG_HELP)
+        .arg(index_option(alloc, "tag", LAST_TAG).help(TAG_HELP))?
+        .arg(error_option(alloc))?
+        .arg(index_option(alloc, "lba", LAST_LBA).help(LBA_HELP))?
+        .arg(raw_flag(alloc))?;
+    Ok(log)
 }
 
 /// An option that has to be given, with a number from 1 to `most`.
@@ -78,6 +172,41 @@ fn up_to<'a>(most: u32) -> ValueParser<'a>
     ensures { result ≡ ValueParser.Signed (pos 1) (pos most) }
 {
     value_parser!(u32).range(1..=i64::from(most))
+}
+
+/// An option that has to be given, with a number from 0 to `last`.
+fn index_option<'a>(alloc: Global, name: &'a str, last: u64) -> Arg<'a>
+    ensures rule { rule_of result ≡ index_option name.entry.now last }
+    ensures local { result.global ≡ false }
+{
+    Arg::new(alloc, name)
+        .long(name)
+        .value_name("NUMBER")
+        .required(true)
+        .value_parser(ValueParser::unsigned(0, last))
+}
+
+/// The option `--error`, whose text is looked at once the words are parsed.
+fn error_option<'a>(alloc: Global) -> Arg<'a>
+    ensures rule { rule_of result ≡ error_option }
+    ensures local { result.global ≡ false }
+{
+    Arg::new(alloc, "error")
+        .long("error")
+        .value_name("EE")
+        .required(true)
+        .help(ERROR_HELP)
+}
+
+/// The flag `--raw`.
+fn raw_flag<'a>(alloc: Global) -> Arg<'a>
+    ensures rule { rule_of result ≡ raw_flag }
+    ensures local { result.global ≡ false }
+{
+    Arg::new(alloc, "raw")
+        .long("raw")
+        .action(ArgAction::SetTrue)
+        .help(RAW_HELP)
 }
 
 /// The option `--pick`, which is `low` unless it is given.

@@ -3,11 +3,14 @@
 pub(crate) const VERSION: &str = "0.1.0";
 
 pub(crate) const ABOUT: &str = "A reference model of one AHCI port with native command queueing.
-It answers a script of commands one by one, or lets many workers do a list of jobs.";
+It answers a script of commands one by one, lets many workers do a list of jobs, or shows what
+the disk's pages hold.";
 
 pub(crate) const EXAMPLES: &str = "Examples:
   printf 'disk 8 4\\nwrite 0 3 1 aa\\njournal\\n' | ahci replay
-  printf 'write 0 2 11\\nread 1 1\\n' | ahci run --workers 2 --depth 2 --sectors 8";
+  printf 'write 0 2 11\\nread 1 1\\n' | ahci run --workers 2 --depth 2 --sectors 8
+  ahci identify --sectors 1000 --depth 32
+  ahci log --tag 3 --error 40 --lba 7";
 
 pub(crate) const REPLAY_ABOUT: &str =
     "Read a script on standard input, and answer it on standard output";
@@ -18,6 +21,7 @@ Each line is one command, and each command has one line as its answer.";
 
 pub(crate) const REPLAY_HELP: &str = "Commands of a script:
   disk S D         a disk of S sectors of zeros, and D slots: the first command
+  disk S D F       the same, where the journal's first entry has the number F
   write T LBA N BB issue a write of N sectors of the byte BB with tag T
   read T LBA N     issue a read of N sectors with tag T
   raw T H B        issue the window of tag T with the header H and the bytes B
@@ -33,8 +37,9 @@ pub(crate) const REPLAY_HELP: &str = "Commands of a script:
   ack MASK         clear the bits of MASK in PxIS
   show LBA         a sector of the disk, by its first byte
   journal          how many entries the journal has
+  trim             hand the journal out while every slot is free: numbers go on
 
-S, D, T, LBA, N, K and W are decimal numbers. BB and EE are two hexadecimal digits,
+S, D, F, T, LBA, N, K and W are decimal numbers. BB and EE are two hexadecimal digits,
 OFF and MASK one to eight, H 64, and B two for each byte. An empty line, and a line that
 begins with #, is skipped.
 A command that the port refuses changes nothing: its answer is 'refused' and a name,
@@ -94,3 +99,118 @@ Exit status:
 Examples:
   printf 'write 0 2 11\\nread 1 1\\n' | ahci run --workers 2 --depth 2 --sectors 8
   ahci run --workers 8 --depth 32 --sectors 131072 --pick high < jobs.txt";
+
+pub(crate) const IDENTIFY_ABOUT: &str =
+    "Write the page that IDENTIFY DEVICE reads of a disk, as text or as it is";
+
+pub(crate) const IDENTIFY_LONG_ABOUT: &str =
+    "Write the page that IDENTIFY DEVICE reads of a disk, as text or as it is.
+It is the page that the disk of a script with so many sectors and slots has.";
+
+pub(crate) const IDENTIFY_DEPTH_HELP: &str =
+    "How many commands the disk queues, each with a tag: 1 to 32";
+
+pub(crate) const RAW_HELP: &str = "Write the 512 bytes of the page, and not its text";
+
+pub(crate) const IDENTIFY_HELP: &str =
+    "The options --sectors and --depth have no default. Each option is given once.
+
+The text:
+  serial number, firmware revision and model number, each in quotes
+  word WWW  VVVV  NAME   a word that is not 0: its number in decimal, its value in four
+                         hexadecimal digits, and what the standard (ACS-3) calls it
+  all other words are 0000
+
+With --raw the 512 bytes are written as they are: 256 words, each with its low byte first.
+
+Exit status:
+  0  the page is written
+  1  output failed
+  2  the command line was wrong
+  3  the system gave no memory
+
+Examples:
+  ahci identify --sectors 1000 --depth 32
+  ahci identify --sectors 1000 --depth 32 --raw | od -An -v -tx2 --endian=little";
+
+pub(crate) const LOG_ABOUT: &str = "Write page 0 of log 10h after an error, as text or as it is";
+
+pub(crate) const LOG_LONG_ABOUT: &str =
+    "Write page 0 of log 10h after an error, as text or as it is.
+It is the NCQ Command Error log that a recovery reads: which command failed, how and where.";
+
+pub(crate) const TAG_HELP: &str = "The tag of the command that failed: 0 to 31";
+
+pub(crate) const ERROR_HELP: &str =
+    "The error byte, two hexadecimal digits, as 40 (UNC) or 10 (IDNF)";
+
+pub(crate) const LBA_HELP: &str = "The LBA of the failing sector: 0 to 281474976710655";
+
+pub(crate) const LOG_HELP: &str =
+    "The options --tag, --error and --lba have no default. Each option is given once.
+
+The text:
+  NQ, UNL and NCQ TAG, the parts of byte 0, and the LBA, in decimal
+  byte NNN  VV  NAME     a byte of a field: its number in decimal, its value in two
+                         hexadecimal digits, and what the standard (ACS-3) calls it
+  all other bytes are 00
+
+With --raw the 512 bytes are written as they are.
+
+Exit status:
+  0  the page is written
+  1  output failed
+  2  the command line was wrong
+  3  the system gave no memory
+
+Examples:
+  ahci log --tag 3 --error 40 --lba 7
+  ahci log --tag 3 --error 40 --lba 7 --raw | od -Ax -tx1";
+
+pub(crate) const TRACE_ABOUT: &str =
+    "Read a script on standard input, and tell what each command did to the port";
+
+pub(crate) const TRACE_LONG_ABOUT: &str =
+    "Read a script on standard input, as replay does, and answer it on standard output.
+Behind each answer stands, in lines that are indented by two spaces, what the command did to the
+port: the journal's new entries, the bytes that were sent and received, registers that changed,
+and the slots that are owned.";
+
+pub(crate) const TRACE_HELP: &str =
+    "The commands of a script, its faults and the statuses are those of replay.
+
+Example:
+  printf 'disk 8 4\\nwrite 0 3 1 aa\\naccept 0\\nserve 0\\n' | ahci trace";
+
+pub(crate) const CHECK_ABOUT: &str =
+    "Read a script on standard input, and tell which of its lines can't be taken";
+
+pub(crate) const CHECK_LONG_ABOUT: &str =
+    "Read a script on standard input, and judge it line by line. Nothing is run.
+Each line that replay would not understand, or that stands where it may not, and each one that
+every port refuses, is told by its number, the column and the rule.";
+
+pub(crate) const CHECK_HELP: &str = "Exit status:
+  0  every line can be taken
+  1  some line was told, or input or output failed
+  2  the command line was wrong
+  3  the system gave no memory
+
+Example:
+  printf 'write 0 3 1 aa\\ndisk 8 40\\n' | ahci check";
+
+pub(crate) const DRAW_ABOUT: &str =
+    "Read a script on standard input, and draw what the port did, as SVG";
+
+pub(crate) const DRAW_LONG_ABOUT: &str =
+    "Read a script on standard input, run it as replay does, and draw the port's journal as SVG on
+standard output: entries from left to right, a lane for each tag with its phases in colour,
+failures and recoveries as dashed lines, and below them how many tags the device has. A pointer
+shows each entry with its answer.";
+
+pub(crate) const DRAW_HELP: &str =
+    "The commands of a script, its faults and the statuses are those of replay. At a fault the picture
+shows what was done before it.
+
+Example:
+  printf 'disk 8 4\\nwrite 0 3 1 aa\\naccept 0\\nserve 0\\n' | ahci draw > picture.svg";

@@ -1,10 +1,12 @@
-ghost use Rattle.std.specs.Prelude.{◌≡◌, ℕ, IfErr, IfOk, map};
+ghost use Rattle.std.specs.Prelude.{◌≡◌, ℕ, Bool, IfErr, IfOk, map};
 ghost use Rattle.std.specs.String.{string_bytes};
-ghost use Rattle.clap.specs.Words.{found_of, kind_of, rows_of};
-ghost use Rattle.ahci_args.specs.Asking.{AsksFor, AsksReplay, FailsByUsage, HasNumber, HasPick, IsRunOf, TakesOptions};
+ghost use Rattle.clap.specs.Words.{FailsBy, found_of, kind_of, rows_of};
+ghost use Rattle.ahci_args.specs.Asking.{AsksFor, AsksReplay, FailsByUsage, HasNumber, HasPick, HasRaw, IsIdentifyOf, IsLogOf, IsRunOf, TakesOptions, TakesPlace, TakesSize};
+ghost use Rattle.ahci_args.specs.Usage.{error_byte, error_fault};
 ghost use Rattle.ahci_args.specs.declared.pick.Pick.{Pick};
 
 use crate::command::ahci_command;
+use crate::error_byte::{hex_byte, not_a_byte};
 use crate::pick::Pick;
 use crate::request::Asked;
 use clap::error::ErrorKind;
@@ -19,9 +21,14 @@ pub fn asked<'a>(alloc: Global, words: &'a [String]) -> Result<Asked, Error>
     ensures faults { FailsByUsage (map string_bytes words.now) result }
 {
     let matches = ahci_command(alloc)?.try_get_matches_from(words)?;
-    match matches.subcommand_matches("run") {
-        Some(options) => Ok(run_asked(options)),
-        None => Ok(Asked::Replay),
+    match matches.subcommand() {
+        Some(("run", options)) => Ok(run_asked(options)),
+        Some(("identify", options)) => Ok(identify_asked(options)),
+        Some(("log", options)) => log_asked(alloc, options),
+        Some(("trace", _)) => Ok(Asked::Trace),
+        Some(("check", _)) => Ok(Asked::Check),
+        Some(("draw", _)) => Ok(Asked::Draw),
+        _ => Ok(Asked::Replay),
     }
 }
 
@@ -31,19 +38,48 @@ fn run_asked(options: &ArgMatches<'_>) -> Asked
     ensures { IsRunOf (rows_of (found_of options.now)) result }
 {
     Asked::Run {
-        workers: number(options, "workers"),
-        depth: number(options, "depth"),
-        sectors: number(options, "sectors"),
+        workers: number(options, "workers") as u32,
+        depth: number(options, "depth") as u32,
+        sectors: number(options, "sectors") as u32,
         pick: pick(options),
     }
 }
 
-/// The number of an option that the parser has taken.
-fn number(options: &ArgMatches<'_>, name: &str) -> u32
-    requires { (n : ℕ) × HasNumber (rows_of (found_of options.now)) name.now 4294967295 n }
-    ensures { (most n : ℕ) → HasNumber (rows_of (found_of options.now)) name.now most n → result ≡ n }
+/// The identify page that its options ask for.
+fn identify_asked(options: &ArgMatches<'_>) -> Asked
+    requires { TakesSize (rows_of (found_of options.now)) }
+    ensures { IsIdentifyOf (rows_of (found_of options.now)) result }
 {
-    options.get_one::<u32>(name).unwrap()
+    Asked::Identify {
+        sectors: number(options, "sectors") as u32,
+        depth: number(options, "depth") as u32,
+        raw: raw(options),
+    }
+}
+
+/// The log's page that its options ask for. What `--error` has to be is left to this call.
+fn log_asked(alloc: Global, options: &ArgMatches<'_>) -> Result<Asked, Error>
+    requires { TakesPlace (rows_of (found_of options.now)) }
+    ensures ok { IfOk result (λ asked. IsLogOf (rows_of (found_of options.now)) asked) }
+    ensures faults { FailsBy (error_fault (rows_of (found_of options.now))) result }
+{
+    let Some(error) = error(options) else {
+        return Err(not_a_byte(alloc)?);
+    };
+    Ok(Asked::Log {
+        tag: number(options, "tag") as u8,
+        error,
+        lba: number(options, "lba"),
+        raw: raw(options),
+    })
+}
+
+/// The number of an option that the parser has taken.
+fn number(options: &ArgMatches<'_>, name: &str) -> u64
+    requires { (n : ℕ) × HasNumber (rows_of (found_of options.now)) name.now 0 18446744073709551615 n }
+    ensures { (first last n : ℕ) → HasNumber (rows_of (found_of options.now)) name.now first last n → result ≡ n }
+{
+    options.get_one::<u64>(name).unwrap()
 }
 
 /// The value of `--pick`, which is one of its words or was left out.
@@ -57,6 +93,21 @@ fn pick(options: &ArgMatches<'_>) -> Pick
         "all" => Pick::All,
         _ => unreachable!(),
     }
+}
+
+/// The byte that `--error` spells, or none.
+fn error(options: &ArgMatches<'_>) -> Option<u8>
+    ensures { result ≡ error_byte (rows_of (found_of options.now)) }
+{
+    hex_byte(options.get_str("error")?)
+}
+
+/// Whether `--raw` was given.
+fn raw(options: &ArgMatches<'_>) -> bool
+    requires { (given : Bool) × HasRaw (rows_of (found_of options.now)) given }
+    ensures { HasRaw (rows_of (found_of options.now)) result }
+{
+    options.get_flag("raw")
 }
 
 /// The usage fault of a word that isn't text in UTF-8, which `asked` can't be given.

@@ -5,6 +5,12 @@ use crate::pick::Pick;
 pub enum Asked {
     /// `ahci replay`: run the script on standard input.
     Replay,
+    /// `ahci trace`: run it, and tell what each command did to the port.
+    Trace,
+    /// `ahci check`: judge its lines, with nothing run.
+    Check,
+    /// `ahci draw`: run it, and draw what the port did.
+    Draw,
     /// `ahci run`: let workers do the jobs on standard input.
     Run {
         /// Threads that do the jobs, 1 to `MAX_WORKERS`.
@@ -14,5 +20,25 @@ pub enum Asked {
         /// Sectors of the disk, 1 to `MAX_SECTORS`.
         sectors: u32,
         pick: Pick,
+    },
+    /// `ahci identify`: write the page that IDENTIFY DEVICE reads of a disk.
+    Identify {
+        /// Sectors of the disk, 1 to `MAX_SECTORS`.
+        sectors: u32,
+        /// Tags of the disk, 1 to `MAX_DEPTH`.
+        depth: u32,
+        /// The 512 bytes of the page, and not its text.
+        raw: bool,
+    },
+    /// `ahci log`: write page 0 of log 10h after an error.
+    Log {
+        /// The tag of the command that failed, 0 to `LAST_TAG`.
+        tag: u8,
+        /// The error byte.
+        error: u8,
+        /// The LBA of the failing sector, 0 to `LAST_LBA`.
+        lba: u64,
+        /// The 512 bytes of the page, and not its text.
+        raw: bool,
     },
 }

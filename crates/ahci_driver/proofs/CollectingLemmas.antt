@@ -1,6 +1,6 @@
 -- How long the text of a finished read is.
-use Rattle.std.proofs.Common.{◌≡◌, ℕ, ◌*◌, Bool, true, false, not, ◌||◌, ◌==◌, cond, List, [], ◌∷◌, length, ap, sym, refl, subst, ◌∙◌, Option, None, Some, IsSomeAnd}
-use Rattle.std.specs.Option.{option_or}
+use Rattle.std.proofs.Common.{◌≡◌, ℕ, ◌*◌, Bool, true, false, ◌==◌, cond, List, [], ◌∷◌, length, ap, sym, refl, subst, ◌∙◌, Option, None, Some, IsSomeAnd}
+use Rattle.std.specs.Option.{option_and_then, option_map, option_or}
 use Rattle.std.specs.Prelude.{Ok}
 use Rattle.std.proofs.lemmas.Bool.{eqb-true}
 use Rattle.std.proofs.lemmas.Option.{same_Some}
@@ -9,20 +9,23 @@ use Rattle.ncq_journal.specs.declared.outcome.Outcome.TheVariants as outcome
 use Rattle.ncq_journal.specs.Answer.{Answer, answer, given, completes}
 use Rattle.ncq_journal.specs.Entry.{Entry, Issue, Accept, Complete, Fail, Recover, Reissue, Collect, Unqueued}
 use Rattle.ncq_journal.specs.History.{entry_at}
+use Rattle.ncq_journal.specs.Numbering.{answer_numbered, number_of, place_of}
 use Rattle.ncq_journal.specs.Phase.{phase}
 use Rattle.ncq_journal.specs.Request.{Request, request}
 use Rattle.ncq_journal.specs.Work.{Work, Read, Write}
 use Rattle.ncq_journal.proofs.EntryLemmas.{entry_at-older, entry_at-within, request_is_its_issue}
+use Rattle.ncq_journal.proofs.NumberLemmas.{place_from}
 use Rattle.ahci_table.specs.Command.{op, queued_of}
 use Rattle.ahci_table.specs.Fit.{IsFit}
 use Rattle.ahci_table.specs.Text.{text}
 use Rattle.ahci_table.specs.Window.{WindowState}
 use Rattle.ahci_table.proofs.LawLemmas.{whole_text}
-use Rattle.ahci_port.specs.declared.fault.CollectFault.TheVariants.{Stranger, NotYet}
-use Rattle.ahci_port.specs.Faults.{Answers, collect_refusal, has_number, is_done}
+use Rattle.ahci_port.specs.Faults.{Answers, collect_refusal}
 use Rattle.ahci_port.specs.Headline.{Headline, HasWindow, IsOfRequest}
 use Rattle.ahci_port.specs.Looking.{read_by, read_of, read_length}
-use Rattle.ahci_port.specs.PortView.{PortView, is_free, window_at}
+use Rattle.ahci_port.specs.PortView.{PortView, is_free, owner_of, window_at}
+use Rattle.ahci_port.specs.Steps.{answer_to}
+use Rattle.ahci_port.proofs.CollectingLemmas.{none_left}
 use Rattle.ahci_driver.specs.Tickets.{has_length, suits}
 
 -- an entry that issues a read
@@ -97,28 +100,30 @@ read_sectors : (w : Bool) (lba sectors : ℕ) (bytes : List ℕ) (l s : ℕ) →
 read_sectors true lba sectors bytes l s e = absurd (cc)
 read_sectors false lba sectors bytes l s e = cc
 
--- what no refusal of a collect says
-numbered : (port : PortView) (tag number : ℕ) → collect_refusal port tag number ≡ None → (is_free (phase port.past tag) ≡ false) × (has_number (request port.past tag) number ≡ true)
-numbered port tag number e = by (is_free (phase port.past tag)) (has_number (request port.past tag) number) refl refl e
-  where
-    by : (a b : Bool) → is_free (phase port.past tag) ≡ a → has_number (request port.past tag) number ≡ b
-        → cond (a || not b) (Some Stranger) (cond (is_done (phase port.past tag)) None (Some NotYet)) ≡ None
-        → (is_free (phase port.past tag) ≡ false) × (has_number (request port.past tag) number ≡ true)
-    by true b p q h = absurd (cc)
-    by false true p q h = (p, q)
-    by false false p q h = absurd (cc)
+-- a tag's slot is owned by the request of this number
+owned_by : (b : Bool) (o : Option Request) (first number : ℕ) → cond b None (option_map (λ r. number_of first r.number) o) ≡ Some number
+    → (b ≡ false) × IsSomeAnd o (λ r. number_of first r.number ≡ number)
+owned_by true o first number e = absurd (cc)
+owned_by false None first number e = absurd (cc)
+owned_by false (Some r) first number e = (refl, same_Some _ _ e)
 
 -- a call that succeeded was not refused
 pub not_refused : {T E : Type 0} (x : T) (o : Option E) → Answers (Ok x) o → o ≡ None
 not_refused x None h = refl
 not_refused x (Some fault) h = absurd (cc)
 
--- the number and the command of a request that a read's answer is given to
-same_read : (past : List Entry) (tag number : ℕ) (r : Request) → request past tag ≡ Some r → has_number (Some r) number ≡ true
-    → (at : IsReadAt (entry_at past number)) → r.work ≡ Read at.lba at.sectors
-same_read past tag number r e h at =
-    let same : r.number ≡ number = eqb-true r.number number h in
-    issue_work tag at.tag r.work (Read at.lba at.sectors) (same_Some _ _ (sym (request_is_its_issue past tag r e) ∙ ap (entry_at past) same ∙ at.is))
+-- the command of a request that a read's answer is given to
+same_read : (past : List Entry) (tag : ℕ) (r : Request) → request past tag ≡ Some r → (at : IsReadAt (entry_at past r.number)) → r.work ≡ Read at.lba at.sectors
+same_read past tag r e at = issue_work tag at.tag r.work (Read at.lba at.sectors) (same_Some _ _ (sym (request_is_its_issue past tag r e) ∙ at.is))
+
+-- the answer to a request's number, where it is a read's
+numbered_read : (image : List ℕ) (past : List Entry) (first place : ℕ) (a : Answer) → option_map (answer_numbered first) (answer image past place) ≡ Some a
+    → a.outcome ≡ outcome.Read → IsReadAt (entry_at past place)
+numbered_read image past first place a e r = by (answer image past place) refl e
+  where
+    by : (o : Option Answer) → answer image past place ≡ o → option_map (answer_numbered first) o ≡ Some a → IsReadAt (entry_at past place)
+    by None q h = absurd (cc)
+    by (Some b) q h = read_answer image past place b q (ap (λ (x : Answer). x.outcome) (same_Some _ a h) ∙ r)
 
 -- the text of a window that reads so many sectors
 reads_text : (w : WindowState) (lba sectors n : ℕ) → IsFit w → op w ≡ Read lba sectors → 512 * sectors ≡ n → length (text w) ≡ n
@@ -127,26 +132,27 @@ reads_text w lba sectors n fit e len =
 
 -- the text of a finished read has the length of a buffer that suits it
 pub text_length : (port : PortView) (tag number n : ℕ) (w : WindowState) (a : Answer) → Headline port → collect_refusal port tag number ≡ None
-    → answer port.starting port.past number ≡ Some a → window_at port tag ≡ Some w → suits (read_length port.past tag) n ≡ true → has_length a.outcome w n
+    → answer_to port number ≡ Some a → window_at port tag ≡ Some w → suits (read_length port.past tag) n ≡ true → has_length a.outcome w n
 text_length port tag number n w a h none e here fits = by a.outcome refl
   where
-    num : (is_free (phase port.past tag) ≡ false) × (has_number (request port.past tag) number ≡ true)
-    num = numbered port tag number none
+    owner : (is_free (phase port.past tag) ≡ false) × IsSomeAnd (request port.past tag) (λ r. number_of port.first r.number ≡ number)
+    owner = owned_by (is_free (phase port.past tag)) (request port.past tag) port.first number (none_left (owner_of port tag) (phase port.past tag) number none).0
 
     owned : HasWindow port.starting port.past tag (Some w)
     owned = subst (HasWindow port.starting port.past tag) here (h.owned tag)
 
-    asked : (o : Option Request) → request port.past tag ≡ o → has_number o number ≡ true
+    asked : (o : Option Request) → request port.past tag ≡ o → IsSomeAnd o (λ r. number_of port.first r.number ≡ number)
         → IsSomeAnd o (IsOfRequest port.starting port.past tag w) → a.outcome ≡ outcome.Read → length (text w) ≡ n
     asked None q x y r = absurd y
     asked (Some req) q x y r =
-        let at = read_answer port.starting port.past number a e r in
-        let work : req.work ≡ Read at.lba at.sectors = same_read port.past tag number req q x at in
+        let given = sym (ap (λ p. option_map (answer_numbered port.first) (option_and_then (answer port.starting port.past) p)) (place_from port.first number req.number (sym x))) ∙ e in
+        let at = numbered_read port.starting port.past port.first req.number a given r in
+        let work : req.work ≡ Read at.lba at.sectors = same_read port.past tag req q at in
         let len : read_length port.past tag ≡ Some (512 * at.sectors) =
-        ap (λ b. cond b None (read_by (request port.past tag))) num.0 ∙ ap read_by q ∙ ap read_of work in
+        ap (λ b. cond b None (read_by (request port.past tag))) owner.0 ∙ ap read_by q ∙ ap read_of work in
         reads_text w at.lba at.sectors n owned.1 (y.work ∙ work) (eqb-true (512 * at.sectors) n (sym (ap (λ o. suits o n) len) ∙ fits))
 
     by : (o : Outcome) → a.outcome ≡ o → has_length o w n
-    by outcome.Read r = asked (request port.past tag) refl num.1 owned.3 r
+    by outcome.Read r = asked (request port.past tag) refl owner.1 owned.3 r
     by outcome.Wrote r = tt
     by (outcome.Failed error lba) r = tt

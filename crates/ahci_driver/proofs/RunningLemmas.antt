@@ -42,10 +42,11 @@ late_too port jobs (Err fault) may h = late port jobs fault may h
 
 -- what a run ends with that has begun
 pub has_run : {A : _} (old : PortView) (jobs : List Work) (workers : ℕ) (x : Result (RunEnd A) RunFault) → MayRun old jobs
-    → IfOk x (λ end. end.port.starting ≡ old.starting) → IfOk x (λ end. end.port.depth ≡ old.depth) → IfOk x (λ end. IsSettled end.port jobs (map received_of end.replies.items) workers)
+    → IfOk x (λ end. end.port.starting ≡ old.starting) → IfOk x (λ end. end.port.depth ≡ old.depth) → IfOk x (λ end. end.port.first ≡ old.first)
+    → IfOk x (λ end. IsSettled end.port jobs (map received_of end.replies.items) workers)
     → IfOk x (λ end. HasRun old end.port jobs (map received_of end.replies.items) workers)
-has_run old jobs workers (Ok end) may s d settled = record { fresh = may; starting_same = s; depth_same = d; settled = settled }
-has_run old jobs workers (Err fault) may s d settled = tt
+has_run old jobs workers (Ok end) may s d n settled = record { fresh = may; starting_same = s; depth_same = d; first_same = n; settled = settled }
+has_run old jobs workers (Err fault) may s d n settled = tt
 
 -- a journal without entries
 pub fresh : (past : List Entry) → nat_eq (length past) 0 ≡ true → past ≡ []

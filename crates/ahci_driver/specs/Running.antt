@@ -21,12 +21,13 @@ IsFirstBad jobs (Some i) = ProperBelow jobs i × IsSomeAnd (slice_get jobs i) (�
 abbrev pub MayRun : PortView → List Work → Type 0
 MayRun port jobs = (port.past ≡ []) × IsFirstBad jobs None
 
--- the run of these jobs by so many workers, from a port to a port: both have the same starting image and as many
--- slots, and the run is settled
+-- the run of these jobs by so many workers, from a port to a port: both have the same starting image, as many slots and the
+-- same first number, and the run is settled
 pub record HasRun (old new : PortView) (jobs : List Work) (receipts : List Received) (workers : ℕ) : Type 0 where
   pub fresh : MayRun old jobs
   pub starting_same : new.starting ≡ old.starting
   pub depth_same : new.depth ≡ old.depth
+  pub first_same : new.first ≡ old.first
   pub settled : IsSettled new jobs receipts workers
 
 -- a fault of a run that has begun

@@ -1,11 +1,12 @@
 -- When a run of workers is settled against the journal of its port: each job was issued once, answered as the journal
 -- says, and answered before its worker's next job was issued; and nothing else was issued.
 use Rattle.std.specs.Prelude.{◌≡◌, ◌≢◌, ℕ, ◌-◌, ◌<◌, ◌≤◌, Bool, true, false, List, length, take, Option, None, Some, IsSome, IsSomeAnd, slice_get, slice_index_or}
-use Rattle.ncq_journal.specs.Answer.{Answer, answer}
+use Rattle.ncq_journal.specs.Answer.{Answer}
 use Rattle.ncq_journal.specs.Entry.{Entry, Issue}
-use Rattle.ncq_journal.specs.History.{entry_at}
+use Rattle.ncq_journal.specs.Numbering.{entry_numbered, number_of}
 use Rattle.ncq_journal.specs.Work.{Work}
 use Rattle.ahci_port.specs.PortView.{PortView}
+use Rattle.ahci_port.specs.Steps.{answer_to}
 use Rattle.ahci_driver.specs.Received.{Received, is_named}
 use Rattle.ahci_driver.specs.declared.fault.SettleFault.{SettleFault}
 use Rattle.ahci_driver.specs.declared.fault.SettleFault.TheVariants.{Count, Wrong, Extra, OutOfMemory}
@@ -17,11 +18,11 @@ work_in entry = None
 
 -- the command that was issued under a number
 abbrev pub issued_as : PortView → ℕ → Option Work
-issued_as port n = work_in (entry_at port.past n)
+issued_as port n = work_in (entry_numbered port.first port.past n)
 
 -- the answer of the request with a number
 abbrev pub answered_as : PortView → ℕ → Option Answer
-answered_as port n = answer port.starting port.past n
+answered_as port n = answer_to port n
 
 -- the job before job i of the same worker was answered before a number
 abbrev pub AnsweredBefore : List Received → ℕ → ℕ → ℕ → Type 0
@@ -70,7 +71,7 @@ IsUnsettled port jobs receipts workers (Extra n) =
     (length receipts ≡ length jobs) × AllRight port jobs receipts workers (length jobs) × IsFirstUnnamed port receipts (Some n)
 IsUnsettled port jobs receipts workers OutOfMemory = length receipts ≡ length jobs
 
--- for each number below n, whether one of the first i receipts has it
-pub record AreSeen (receipts : List Received) (n i : ℕ) (seen : List Bool) : Type 0 where
+-- for each of n places, whether one of the first i receipts has its number
+pub record AreSeen (receipts : List Received) (first n i : ℕ) (seen : List Bool) : Type 0 where
   pub count : length seen ≡ n
-  pub each : (k : ℕ) → k < n → slice_index_or seen k false ≡ is_named (take i receipts) k
+  pub each : (k : ℕ) → k < n → slice_index_or seen k false ≡ is_named (take i receipts) (number_of first k)

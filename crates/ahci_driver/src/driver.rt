@@ -1,4 +1,5 @@
 ghost use Rattle.std.specs.Prelude.{◌≡◌, false, true, ℕ, IfOk, IfErr, OnOk, OnErr, None, ◌<◌};
+ghost use Rattle.ncq_journal.specs.Laws.{AllFree};
 ghost use Rattle.ncq_journal.specs.Work.{work_of};
 ghost use Rattle.word_bits.specs.Places.{has_place, with_place, without_place};
 ghost use Rattle.ahci_port.specs.Headline.{Headline};
@@ -11,8 +12,8 @@ use crate::pumped::Pumped;
 use crate::pumping::pump_locked;
 use crate::submitting::{prepared, submit_locked};
 use crate::ticket::Ticket;
-use ahci_port::{CollectFault, Port, Reply};
-use ncq_core::Op;
+use ahci_port::{CollectFault, Port, Reply, TrimFault};
+use ncq_core::{Journal, Op};
 use std::alloc::{Allocator, Global};
 use std::marker::Model;
 use std::sync::{Mutex, Wait};
@@ -94,6 +95,18 @@ impl<A: Allocator> Driver<A> {
         let collected = collect_locked(&mut self.port.lock(rt), ticket)?;
         self.board.give_back(seat, freed);
         Ok(collected)
+    }
+}
+
+impl<A: Allocator + Copy> Driver<A> {
+    /// Hands the port's journal out, where every slot is free, as `Port::trim` does. It takes no memory, and may wait.
+    ///
+    /// # Errors
+    /// `Busy` where some slot is not free, `Spent` where the next number is over 2^63.
+    pub fn trim(&self, rt: &impl Wait) -> Result<Journal<A>, TrimFault>
+        ensures free { IfOk result (λ journal. AllFree journal.past) }
+    {
+        self.port.lock(rt).trim()
     }
 }
 

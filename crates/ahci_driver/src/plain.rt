@@ -3,9 +3,7 @@
 
 ghost use Rattle.std.specs.Prelude.{◌≡◌, ◌↔◌, ◌<◌, ◌≤◌, ◌-◌, map, take, length, true, false, Some, IsTrue, IsSomeAnd, nat_eq, IfOk, OnOk, IfErr, MatchOption, slice_get};
 ghost use Rattle.std.specs.List.{list_any};
-ghost use Rattle.std.specs.Option.{option_copied, option_map};
-ghost use Rattle.ncq_journal.specs.Entry.{entry_of};
-ghost use Rattle.ncq_journal.specs.History.{entry_at};
+ghost use Rattle.ncq_journal.specs.Numbering.{answer_numbered};
 ghost use Rattle.ncq_journal.specs.Work.{work_of};
 ghost use Rattle.ahci_driver.specs.Received.{received_of, is_named};
 ghost use Rattle.ahci_driver.specs.Settled.{AllNamed, AnsweredBefore, IsFirstUnnamed, IsOfJob, IsRight, IsSettled, IsUnsettled, answered_as, issued_as};
@@ -13,15 +11,8 @@ ghost use Rattle.ahci_driver.specs.Settled.{AllNamed, AnsweredBefore, IsFirstUnn
 use crate::fault::SettleFault;
 use crate::receipt::Receipt;
 use ahci_port::Port;
-use ncq_core::{Answer, Event, Op, answer_of, entry_in};
+use ncq_core::{Answer, Event, Op, answer_of};
 use std::alloc::{AllocError, Allocator};
-
-/// The entry at a place of a port's journal, where there is one.
-pub(crate) fn entry_at<A: Allocator>(port: &Port<A>, place: u64) -> Option<&Event<A>>
-    ensures { option_map entry_of (option_copied result) ≡ entry_at port.now.past place }
-{
-    entry_in(port.journal().entries(), place)
-}
 
 /// Whether two commands are the same.
 fn is_same<A: Allocator, B: Allocator>(op: &Op<A>, other: &Op<B>) -> bool
@@ -44,7 +35,7 @@ pub(crate) fn is_issued<A: Allocator, B: Allocator>(
 ) -> bool
     ensures { IsTrue result ↔ (issued_as port.now number ≡ Some (work_of job.now)) }
 {
-    match entry_at(port, number) {
+    match port.journal().get(number) {
         Some(Event::Issue(_, op)) => is_same(op, job),
         _ => false,
     }
@@ -67,14 +58,15 @@ fn is_named<B: Allocator>(receipts: &[Receipt<B>], number: u64) -> bool
     has_number(receipts, number)
 }
 
-/// Whether the receipt has this answer.
+/// Whether the receipt has this answer, whose entry is a place, where entries are numbered from `first`.
 pub(crate) fn is_answer<B: Allocator, C: Allocator>(
     answer: &Answer<C>,
+    first: u64,
     receipt: &Receipt<B>,
 ) -> bool
-    ensures { IsTrue result ↔ (answer.now ≡ (received_of receipt.now).answer) }
+    ensures { IsTrue result ↔ (answer_numbered first answer.now ≡ (received_of receipt.now).answer) }
 {
-    if answer.entry() != receipt.reply.entry {
+    if receipt.reply.entry < first || receipt.reply.entry - first != answer.entry() {
         return false;
     }
     if answer.outcome() != receipt.reply.outcome {
@@ -92,9 +84,19 @@ fn is_answered<A: Allocator, B: Allocator, C: Allocator + Clone>(
 ) -> Result<bool, AllocError>
     ensures { IfOk result (λ b. IsTrue b ↔ (answered_as port.now (received_of receipt.now).number ≡ Some (received_of receipt.now).answer)) }
 {
-    let events = port.journal().entries();
-    match answer_of(alloc, port.starting_image(), events, receipt.reply.number)? {
-        Some(answer) => Ok(is_answer(&answer, receipt)),
+    let journal = port.journal();
+    let first = journal.first();
+    let number = receipt.reply.number;
+    if number < first {
+        return Ok(false);
+    }
+    match answer_of(
+        alloc,
+        port.starting_image(),
+        journal.entries(),
+        number - first,
+    )? {
+        Some(answer) => Ok(is_answer(&answer, first, receipt)),
         None => Ok(false),
     }
 }
@@ -167,8 +169,9 @@ fn is_right<A: Allocator, B: Allocator, C: Allocator + Clone>(
 fn unnamed<A: Allocator, B: Allocator>(port: &Port<A>, receipts: &[Receipt<B>]) -> Option<u64>
     ensures { IsFirstUnnamed port.now (map received_of receipts.now) result }
 {
-    for number in 0..port.journal().len() {
-        if let Some(Event::Issue(..)) = entry_at(port, number) {
+    let journal = port.journal();
+    for number in journal.first()..journal.end() {
+        if let Some(Event::Issue(..)) = journal.get(number) {
             if !is_named(receipts, number) {
                 return Some(number);
             }

@@ -174,6 +174,7 @@ fn ended<A: Allocator + Clone>(
     requires { 1 ≤ workers }
     ensures starting { IfOk result (λ end. end.port.starting ≡ handed.now.starting.items) }
     ensures depth { IfOk result (λ end. end.port.depth ≡ handed.now.depth) }
+    ensures first { IfOk result (λ end. end.port.first ≡ handed.now.first) }
     ensures settled { IfOk result (λ end. IsSettled end.port (map work_of jobs.now) (map received_of end.replies.items) workers) }
     ensures late { IfErr result IsLate }
 {
@@ -201,29 +202,43 @@ fn ended<A: Allocator + Clone>(
 struct Handed<A: Allocator> {
     starting: Vec<u8, A>,
     depth: u32,
+    first: u64,
 }
 
-/// Whether the port has the starting image and the depth of the one that was handed in.
+/// Whether the port has the starting image, the depth and the first number of the one that was handed in.
 fn is_still<A: Allocator>(port: &Port<A>, handed: &Handed<A>) -> bool
     ensures starting { IsTrue result → port.now.starting ≡ handed.now.starting.items }
     ensures depth { IsTrue result → port.now.depth ≡ handed.now.depth }
+    ensures first { IsTrue result → port.now.first ≡ handed.now.first }
 {
-    port.depth() == handed.depth && port.starting_image() == handed.starting.as_slice()
+    if port.depth() != handed.depth {
+        return false;
+    }
+    if port.journal().first() != handed.first {
+        return false;
+    }
+    port.starting_image() == handed.starting.as_slice()
 }
 
 /// A copy of what a run keeps.
 fn kept<A: Allocator + Clone>(alloc: &A, port: &Port<A>) -> Result<Handed<A>, AllocError>
     ensures starting { IfOk result (λ k. k.starting.items ≡ port.now.starting) }
     ensures depth { IfOk result (λ k. k.depth ≡ port.now.depth) }
+    ensures first { IfOk result (λ k. k.first ≡ port.now.first) }
 {
     let starting = Vec::from_slice(alloc.clone()?, port.starting_image())?;
     let depth = port.depth();
-    Ok(Handed { starting, depth })
+    let first = port.journal().first();
+    Ok(Handed {
+        starting,
+        depth,
+        first,
+    })
 }
 
-/// Does all jobs on a fresh port, job i by worker i mod `workers`, each worker in rising order with one request at a
+/// Does all jobs on a port whose journal is empty, a new one or one that was trimmed, job i by worker i mod `workers`, each worker in rising order with one request at a
 /// time, on threads of their own where they can be made. Where it answers Ok, the port is over the same starting image
-/// with as many slots, and the run is settled, whatever the threads and the choosers did.
+/// with as many slots, its journal begins with the same number, and the run is settled, whatever the threads and the choosers did.
 ///
 /// # Errors
 /// The first case of `RunFault` that holds; the port is given up.

@@ -1,28 +1,32 @@
 //! Whether a run is settled, in one pass over the journal and one over the receipts.
 
-ghost use Rattle.std.specs.Prelude.{◌≡◌, ◌↔◌, ◌<◌, ◌≤◌, map, length, false, true, Some, None, IsTrue, IfErr, IfOk, OnOk, slice_index_or, slice_set};
+ghost use Rattle.std.specs.Prelude.{◌≡◌, ◌↔◌, ◌<◌, ◌≤◌, ◌-◌, map, length, false, true, Some, None, IsTrue, IfErr, IfOk, OnOk, slice_index_or, slice_set};
+ghost use Rattle.std.specs.Option.{option_map};
 ghost use Rattle.ncq_journal.specs.History.{history_of};
+ghost use Rattle.ncq_journal.specs.Numbering.{answer_numbered};
 ghost use Rattle.ncq_journal.specs.Passing.{AreAnswers};
 ghost use Rattle.ncq_journal.specs.Work.{work_of};
 ghost use Rattle.ahci_driver.specs.Received.{received_of};
 ghost use Rattle.ahci_driver.specs.Settled.{AreSeen, IsFirstUnnamed, IsOfJob, IsRight, IsSettled, IsUnsettled};
 
 use crate::fault::SettleFault;
-use crate::plain::{entry_at, is_answer, is_in_turn, is_issued};
+use crate::plain::{is_answer, is_in_turn, is_issued};
 use crate::receipt::Receipt;
 use ahci_port::Port;
 use ncq_core::{Answer, Event, Op, answers_of};
 use std::alloc::{AllocError, Allocator};
 
-/// Whether the receipt has the answer of its number.
+/// Whether the receipt has the answer of its number, where the answers stand at their requests' places.
 fn has_answer<B: Allocator, C: Allocator>(
     answers: &[Option<Answer<C>>],
+    first: u64,
     receipt: &Receipt<B>,
 ) -> bool
-    ensures { IsTrue result ↔ (slice_index_or answers.now (received_of receipt.now).number None ≡ Some (received_of receipt.now).answer) }
+    requires { first ≤ receipt.now.reply.number }
+    ensures { IsTrue result ↔ (option_map (answer_numbered first) (slice_index_or answers.now (receipt.now.reply.number - first) None) ≡ Some (received_of receipt.now).answer) }
 {
-    match answers.get(receipt.reply.number as usize) {
-        Some(Some(answer)) => is_answer(answer, receipt),
+    match answers.get((receipt.reply.number - first) as usize) {
+        Some(Some(answer)) => is_answer(answer, first, receipt),
         _ => false,
     }
 }
@@ -40,20 +44,21 @@ fn is_of_job<A: Allocator, B: Allocator, C: Allocator>(
 ) -> bool
     requires index { index < length receipts.now }
     requires answers { AreAnswers port.now.starting port.now.past answers.now }
-    requires seen { AreSeen (map received_of receipts.now) (length port.now.past) index seen.now }
+    requires seen { AreSeen (map received_of receipts.now) port.now.first (length port.now.past) index seen.now }
     ensures { IsTrue result ↔ IsOfJob port.now (map received_of receipts.now) workers index (work_of job.now) (received_of receipt.now) }
 {
     let number = receipt.reply.number;
     if !is_issued(port, number, job) {
         return false;
     }
-    if seen[number as usize] {
+    let first = port.journal().first();
+    if seen[(number - first) as usize] {
         return false;
     }
     if !is_in_turn(receipts, workers, index, number) {
         return false;
     }
-    has_answer(answers, receipt)
+    has_answer(answers, first, receipt)
 }
 
 /// Whether the receipt at an index is that of its job.
@@ -69,7 +74,7 @@ fn is_right<A: Allocator, B: Allocator, C: Allocator>(
     requires job { index < length jobs.now }
     requires receipt { index < length receipts.now }
     requires answers { AreAnswers port.now.starting port.now.past answers.now }
-    requires seen { AreSeen (map received_of receipts.now) (length port.now.past) index seen.now }
+    requires seen { AreSeen (map received_of receipts.now) port.now.first (length port.now.past) index seen.now }
     ensures { IsTrue result ↔ IsRight port.now (map work_of jobs.now) (map received_of receipts.now) workers index }
 {
     let job = &jobs[index];
@@ -83,12 +88,14 @@ fn unseen<A: Allocator, B: Allocator>(
     receipts: &[Receipt<B>],
     seen: &[bool],
 ) -> Option<u64>
-    requires { AreSeen (map received_of receipts.now) (length port.now.past) (length receipts.now) seen.now }
+    requires { AreSeen (map received_of receipts.now) port.now.first (length port.now.past) (length receipts.now) seen.now }
     ensures { IsFirstUnnamed port.now (map received_of receipts.now) result }
 {
-    for number in 0..port.journal().len() {
-        if let Some(Event::Issue(..)) = entry_at(port, number) {
-            if !seen[number as usize] {
+    let journal = port.journal();
+    let first = journal.first();
+    for number in first..journal.end() {
+        if let Some(Event::Issue(..)) = journal.get(number) {
+            if !seen[(number - first) as usize] {
                 return Some(number);
             }
         }
@@ -139,11 +146,12 @@ pub fn settle<A: Allocator, B: Allocator, C: Allocator + Clone>(
     let Ok(mut seen) = Vec::from_elem(alloc, false, answers.len()) else {
         return Err(SettleFault::OutOfMemory);
     };
+    let first = port.journal().first();
     for index in 0..jobs.len() {
         if !is_right(port, &answers, &seen, jobs, receipts, workers, index) {
             return Err(SettleFault::Wrong(index));
         }
-        mark(&mut seen, receipts[index].reply.number);
+        mark(&mut seen, receipts[index].reply.number - first);
     }
     match unseen(port, receipts, &seen) {
         Some(number) => Err(SettleFault::Extra(number)),
@@ -151,10 +159,10 @@ pub fn settle<A: Allocator, B: Allocator, C: Allocator + Clone>(
     }
 }
 
-/// Marks a number.
-fn mark<C: Allocator>(seen: &mut Vec<bool, C>, number: u64)
-    requires { number < length seen.old.items }
-    ensures { seen.new.items ≡ slice_set seen.old.items number true }
+/// Marks a place.
+fn mark<C: Allocator>(seen: &mut Vec<bool, C>, place: u64)
+    requires { place < length seen.old.items }
+    ensures { seen.new.items ≡ slice_set seen.old.items place true }
 {
-    seen[number as usize] = true;
+    seen[place as usize] = true;
 }

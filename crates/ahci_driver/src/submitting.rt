@@ -1,9 +1,10 @@
-ghost use Rattle.std.specs.Prelude.{◌≡◌, ◌<◌, length, None, IfOk, IfErr, OnOk};
+ghost use Rattle.std.specs.Prelude.{◌≡◌, ◌<◌, None, IfOk, IfErr, OnOk};
 ghost use Rattle.ncq_journal.specs.Work.{work_of, sectors_of};
 ghost use Rattle.ahci_table.specs.Build.{Carries};
 ghost use Rattle.ahci_table.specs.Defaults.{default_list};
 ghost use Rattle.ahci_table.specs.Fit.{IsFit};
 ghost use Rattle.ahci_port.specs.Faults.{MayTake, RefusesIssue};
+ghost use Rattle.ahci_port.specs.PortView.{next_number};
 ghost use Rattle.ahci_port.specs.Steps.{IsIssued};
 ghost use Rattle.ahci_driver.specs.Submitting.{IsNotBuilt, buffer_for, default_refusal};
 
@@ -24,7 +25,7 @@ pub fn submit_locked<A: Allocator + Clone>(
     window: Window<A>,
     buffer: Vec<u8, A>,
 ) -> Result<Ticket<A>, (Window<A>, Vec<u8, A>, IssueFault)>
-    ensures ticket { IfOk result (λ t. t ≡ record { tag = window.tag; number = length port.old.past; buffer = buffer.items }) }
+    ensures ticket { IfOk result (λ t. t ≡ record { tag = window.tag; number = next_number port.old; buffer = buffer.items }) }
     ensures issued { OnOk result (IsIssued window port.old port.new) }
     ensures taken { OnOk result (MayTake port.old window.tag × IsFit window) }
     ensures fault { IfErr result (λ e. RefusesIssue port.old window e.2) }

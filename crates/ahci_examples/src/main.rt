@@ -1,33 +1,46 @@
-//! Runs each script and each job list of the examples, and compares what it writes with the text that stands beside it.
+//! Runs each script and each job list of the examples, traces and checks each script, and compares what is written with the
+//! text that stands beside it. So it does with a picture, and with two of the disk's pages.
 #![tactic(auto)]
 
 ghost use Rattle.std.specs.Prelude.{◌≤◌};
 
+use ahci_check::check;
+use ahci_draw::draw;
 use ahci_driver::Low;
 use ahci_jobs::run_jobs;
 use ahci_replay::replay;
 use ahci_script::CliFault;
+use ahci_trace::trace;
+use ata_pages::{PageFault, write_identify, write_log};
 use std::fs;
 use std::rt::Files;
 use std::sync::Wait;
 use std::thread::Threads;
 
-/// The scripts by name: `NAME.ahci` is the script, `NAME.out` its answers and `NAME.err`, where it is
-/// there, the fault that ends it.
-static SCRIPTS: [&str; 12] = [
+/// The scripts by name: `NAME.ahci` is the script, `NAME.out` its answers and, where they are there, `NAME.err` the fault
+/// that ends it, and `NAME.check` the complaints of a check.
+static SCRIPTS: [&str; 14] = [
     "any_window",
     "broken_write",
     "completed_together",
     "crowd",
     "error_in_a_queue",
     "last_sector",
+    "next_number",
     "read_between_writes",
     "refused_requests",
     "registers",
     "strangers",
+    "trimmed_journal",
     "two_writes",
     "unqueued_commands",
 ];
+
+/// The scripts whose whole trace is in `NAME.trace`.
+static TRACED: [&str; 2] = ["error_in_a_queue", "registers"];
+
+/// The scripts whose picture is in `NAME.svg`.
+static DRAWN: [&str; 1] = ["error_in_a_queue"];
 
 /// A job list by its name: `NAME.jobs` is the list and `NAME.out` what it writes. Workers and depth are 1 to 32, sectors 1
 /// to 131,072.
@@ -69,10 +82,20 @@ fn main(rt: HostRuntime) -> anyhow::Result<()> {
     for name in SCRIPTS {
         tell(&rt, name, is_script_as_expected(&rt, name)?)?;
     }
+    for name in TRACED {
+        let file = format!(in rt.alloc(); "{name}.trace")?;
+        tell(&rt, file.as_str(), is_trace_as_expected(&rt, name)?)?;
+    }
+    for name in DRAWN {
+        let file = format!(in rt.alloc(); "{name}.svg")?;
+        tell(&rt, file.as_str(), is_picture_as_expected(&rt, name)?)?;
+    }
     let lists = job_lists();
     for list in &lists[..] {
         tell(&rt, list.name, is_list_as_expected(&rt, &rt, list)?)?;
     }
+    tell(&rt, "identify_page", is_identify_page_as_expected(&rt)?)?;
+    tell(&rt, "error_log", is_error_log_as_expected(&rt)?)?;
     Ok(())
 }
 
@@ -86,14 +109,67 @@ fn tell(rt: &HostRuntime, name: &str, as_expected: bool) -> anyhow::Result<()> {
     Ok(())
 }
 
-/// Whether the script writes its answers, and ends as it should.
+/// Whether the script writes its answers and ends as it should, and a check has the complaints that it should.
 fn is_script_as_expected(rt: &HostRuntime, name: &str) -> anyhow::Result<bool> {
     let alloc = rt.alloc();
     let script = fs::read(rt, format!(in alloc; "{name}.ahci")?)?;
     let mut reader = script.as_slice();
     let mut written = Vec::new(alloc);
     let outcome = replay(alloc, &mut reader, &mut written);
-    is_told(rt, name, outcome, written.as_slice())
+    Ok(
+        is_told(rt, name, outcome, written.as_slice())?
+            && is_traced(rt, name, script.as_slice())?
+            && is_judged(rt, name, script.as_slice())?,
+    )
+}
+
+/// Whether a trace of the script has the same answers, in the lines that aren't indented, and the same ending.
+fn is_traced(rt: &HostRuntime, name: &str, script: &[u8]) -> anyhow::Result<bool> {
+    let alloc = rt.alloc();
+    let mut reader = script;
+    let mut written = Vec::new(alloc);
+    let outcome = trace(alloc, &mut reader, &mut written);
+    let mut answers = Vec::new(alloc);
+    for line in written.as_slice().split(|byte| *byte == b'\n') {
+        if !line.is_empty() && !line.starts_with(b"  ") {
+            answers.extend_from_slice(line)?;
+            answers.push(b'\n')?;
+        }
+    }
+    is_told(rt, name, outcome, answers.as_slice())
+}
+
+/// Whether the whole trace is that of `NAME.trace`.
+fn is_trace_as_expected(rt: &HostRuntime, name: &str) -> anyhow::Result<bool> {
+    let alloc = rt.alloc();
+    let script = fs::read(rt, format!(in alloc; "{name}.ahci")?)?;
+    let expected = fs::read(rt, format!(in alloc; "{name}.trace")?)?;
+    let mut reader = script.as_slice();
+    let mut written = Vec::new(alloc);
+    let outcome = trace(alloc, &mut reader, &mut written);
+    Ok(outcome == Ok(()) && written.as_slice() == expected.as_slice())
+}
+
+/// Whether the picture is that of `NAME.svg`.
+fn is_picture_as_expected(rt: &HostRuntime, name: &str) -> anyhow::Result<bool> {
+    let alloc = rt.alloc();
+    let script = fs::read(rt, format!(in alloc; "{name}.ahci")?)?;
+    let expected = fs::read(rt, format!(in alloc; "{name}.svg")?)?;
+    let mut reader = script.as_slice();
+    let mut written = Vec::new(alloc);
+    let outcome = draw(alloc, &mut reader, &mut written);
+    Ok(outcome == Ok(()) && written.as_slice() == expected.as_slice())
+}
+
+/// Whether a check of the script writes the text of `NAME.check`, or nothing where that isn't there.
+fn is_judged(rt: &HostRuntime, name: &str, script: &[u8]) -> anyhow::Result<bool> {
+    let alloc = rt.alloc();
+    let expected = fs::read_to_string(rt, format!(in alloc; "{name}.check")?);
+    let expected = expected.unwrap_or(String::new(alloc));
+    let mut reader = script;
+    let mut written = Vec::new(alloc);
+    let any = check(alloc, &mut reader, &mut written)?;
+    Ok(written.as_slice() == expected.as_bytes() && any != expected.is_empty())
 }
 
 /// Whether the job list writes its results, and ends as it should.
@@ -118,6 +194,31 @@ fn is_list_as_expected<T: Threads + Wait + Sync>(
         &mut written,
     );
     is_told(rt, name, outcome, written.as_slice())
+}
+
+/// Whether the identify page of 1,000 sectors and 32 tags is the text of `identify_page.out`.
+fn is_identify_page_as_expected(rt: &HostRuntime) -> anyhow::Result<bool> {
+    let mut written = Vec::new(rt.alloc());
+    let outcome = write_identify(rt.alloc(), 1000, 32, false, &mut written);
+    is_page_told(rt, "identify_page", outcome, written.as_slice())
+}
+
+/// Whether the log's page of tag 3, which failed with error 40h at sector 7, is the text of `error_log.out`.
+fn is_error_log_as_expected(rt: &HostRuntime) -> anyhow::Result<bool> {
+    let mut written = Vec::new(rt.alloc());
+    let outcome = write_log(rt.alloc(), 3, 0x40, 7, false, &mut written);
+    is_page_told(rt, "error_log", outcome, written.as_slice())
+}
+
+/// Whether a page was written, and is the text of `NAME.out`.
+fn is_page_told(
+    rt: &HostRuntime,
+    name: &str,
+    outcome: Result<(), PageFault>,
+    written: &[u8],
+) -> anyhow::Result<bool> {
+    let page = fs::read(rt, format!(in rt.alloc(); "{name}.out")?)?;
+    Ok(outcome == Ok(()) && written == page.as_slice())
 }
 
 /// Whether this is the text of `NAME.out`, and the outcome that of `NAME.err`, or none where that isn't there.

@@ -28,7 +28,7 @@ use Rattle.ahci_port.proofs.WorkLemmas.{IsSized, past_end}
 
 -- what holds of the request that a slot holds
 pub request_has : (starting : List ℕ) (past : List Entry) (tag : ℕ) (slot : SlotState) (P : Request → Type 0) → Holds starting past tag slot
-    → P (record { number = slot.number; work = op slot.window }) → IsSomeAnd (request past tag) P
+    → P (record { number = slot.place; work = op slot.window }) → IsSomeAnd (request past tag) P
 request_has starting past tag slot P h p = subst (λ o. IsSomeAnd o P) (sym h.request_is) p
 
 -- the disk has as many sectors as it had

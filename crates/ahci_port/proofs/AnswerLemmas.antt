@@ -1,15 +1,17 @@
 -- Which entries answer a tag's request.
-use Rattle.std.proofs.Common.{◌≡◌, ◌≢◌, ℕ, Bool, false, ◌==◌, List, [], ◌∷◌, length, ap, sym, refl, ◌∙◌, Option, None, Some, is_some}
+use Rattle.std.proofs.Common.{◌≡◌, ◌≢◌, ℕ, ◌<◌, Bool, true, false, ◌==◌, cond, suc, List, [], ◌∷◌, length, ap, sym, refl, ◌∙◌, Option, None, Some, is_some, arith}
 use Rattle.std.specs.Option.{option_or}
 use Rattle.std.proofs.lemmas.Bool.{cond-true, cond-false, eq-eqb, ne_eqb, true≢false}
+use Rattle.std.proofs.lemmas.Option.{same_Some}
 use Rattle.ncq_journal.specs.declared.outcome.Outcome.TheVariants as outcome
-use Rattle.ncq_journal.specs.Answer.{Answer, answer, given}
+use Rattle.ncq_journal.specs.Answer.{Answer, answer, completes, given}
 use Rattle.ncq_journal.specs.Entry.{Entry, Issue, Accept, Complete, Fail, Recover, Reissue, Collect, Unqueued}
 use Rattle.ncq_journal.specs.History.{entry_at}
 use Rattle.ncq_journal.specs.Lawful.{IsLawful}
 use Rattle.ncq_journal.specs.Laws.{is_answered}
 use Rattle.ncq_journal.specs.Phase.{phase}
 use Rattle.ncq_journal.specs.Request.{Request, request}
+use Rattle.ncq_journal.specs.Work.{Work, Read, Write}
 use Rattle.ncq_journal.proofs.AnsweredLemmas.{answered_by_phase}
 use Rattle.ncq_journal.proofs.EntryLemmas.{request_is_its_issue}
 
@@ -56,3 +58,27 @@ failed_now s d starting past t error lba r lawful asked waits =
 -- another tag's entry answers nobody of this one
 pub apart_answers : (t u : ℕ) → u ≢ t → (t == u) ≡ false
 apart_answers t u apart = ne_eqb t u (λ e. apart (sym e))
+
+completed_at : (image : List ℕ) (past : List Entry) (work : Work) → (completes image past work).entry ≡ length past
+completed_at image past (Read lba sectors) = refl
+completed_at image past (Write lba bytes) = refl
+
+chosen : (b : Bool) (x a : Answer) (n : ℕ) → x.entry ≡ n → cond b (Some x) None ≡ Some a → a.entry ≡ n
+chosen true x a n is e = sym (ap (λ (y : Answer). y.entry) (same_Some x a e)) ∙ is
+chosen false x a n is e = absurd (cc)
+
+-- an entry gives its own place
+given_at : (image : List ℕ) (past : List Entry) (entry : Entry) (issue : Option Entry) (a : Answer) → given image past entry issue ≡ Some a → a.entry ≡ length past
+given_at image past (Complete t) (Some (Issue tag work)) a e = chosen (t == tag) _ a (length past) (completed_at image past work) e
+given_at image past (Fail t error lba) (Some (Issue tag work)) a e = chosen (t == tag) _ a (length past) refl e
+given_at image past entry issue a e = absurd (cc)
+
+-- the entry of an answer is one of the journal's
+pub answer_within : (image : List ℕ) (past : List Entry) (n : ℕ) (a : Answer) → answer image past n ≡ Some a → a.entry < length past
+answer_within image [] n a e = absurd (cc)
+answer_within image (entry ∷ past) n a e = by (answer image past n) refl e (λ q. answer_within image past n a q)
+  where
+    by : (o : Option Answer) → answer image past n ≡ o → option_or o (given image past entry (entry_at past n)) ≡ Some a
+        → (answer image past n ≡ Some a → a.entry < length past) → a.entry < suc (length past)
+    by (Some b) q h older = let old = older (q ∙ h) in omega arith
+    by None q h older = let here = given_at image past entry (entry_at past n) a h in omega arith

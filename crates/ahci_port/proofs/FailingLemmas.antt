@@ -100,7 +100,7 @@ keeps_fail starting disk regs moved slots headers past free left tag error lba s
       fit = own_slot.fit;
       tag_is = own_slot.tag_is;
       answer_is = failed_now (length starting / 512) disk.depth starting past tag error lba
-          (record { number = slot.number; work = op slot.window }) k.lawful own_slot.request_is (busy_open (phase past tag) busy);
+          (record { number = slot.place; work = op slot.window }) k.lawful own_slot.request_is (busy_open (phase past tag) busy);
     })
     (record {
       depth_same = refl;

@@ -50,7 +50,7 @@ window_of_slot s d starting past tag (Some slot) lawful h = (
       (record {
         work = refl;
         done = λ e.
-            let some = answered_by_phase s d starting past tag (record { number = slot.number; work = op slot.window }) lawful h.request_is ∙ ap is_answered e in
+            let some = answered_by_phase s d starting past tag (record { number = slot.place; work = op slot.window }) lawful h.request_is ∙ ap is_answered e in
             subst (λ a. IsSomeAnd a (λ b. HoldsBytes b.outcome b.bytes slot.window)) (sym h.answer_is) (holds_answer slot slot.ended refl (ap is_some (sym h.answer_is) ∙ some));
       }),
 )
@@ -72,9 +72,9 @@ device_of starting disk regs slots headers past free k =
     get_or-map is_some disk.commands i None ∙ ap is_some (k.commands i) ∙ device_at starting past i (slot_at slots i) (k.each i)
     ∙ sym (has_place-places (λ t. in_device (phase past t) && not (halted past)) i (let l = length-map disk.commands is_some in let c = k.command_count in omega arith)))
 
-pub headline_of : (starting : List ℕ) (disk : DiskState) (regs : PortState) (sent : Sent) (area : List ℕ) (slots : List (Option SlotState)) (headers : List (List ℕ)) (past : List Entry) (free : ℕ)
-    → Keeps starting disk regs slots headers past free → Headline (view_of starting disk regs sent area slots past)
-headline_of starting disk regs sent area slots headers past free k = record {
+pub headline_of : (starting : List ℕ) (disk : DiskState) (regs : PortState) (sent : Sent) (area : List ℕ) (slots : List (Option SlotState)) (headers : List (List ℕ)) (first : ℕ) (past : List Entry)
+    (free : ℕ) → Keeps starting disk regs slots headers past free → Headline (view_of starting disk regs sent area slots first past)
+headline_of starting disk regs sent area slots headers first past free k = record {
   lawful = k.lawful;
   owned = λ tag. rw (get_or-map window_in slots tag None) (window_of_slot (length starting / 512) disk.depth starting past tag (slot_at slots tag) k.lawful (k.each tag));
   st = k.tracks.st;
@@ -87,9 +87,9 @@ headline_of starting disk regs sent area slots headers past free k = record {
 }
 
 pub shape_of : (starting : List ℕ) (disk : DiskState) (regs : PortState) (sent : Sent) (area : List ℕ) (slots : List (Option SlotState))
-    (headers : List (List ℕ)) (past : List Entry) (free : ℕ)
-    → Keeps starting disk regs slots headers past free → IsDisk disk → HasShape (view_of starting disk regs sent area slots past)
-shape_of starting disk regs sent area slots headers past free k d = record {
+    (headers : List (List ℕ)) (first : ℕ) (past : List Entry) (free : ℕ)
+    → Keeps starting disk regs slots headers past free → IsDisk disk → HasShape (view_of starting disk regs sent area slots first past)
+shape_of starting disk regs sent area slots headers first past free k d = record {
   some = k.some_slot;
   most = k.shallow;
   registers = k.tracks.depth_is;

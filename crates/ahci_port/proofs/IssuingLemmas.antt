@@ -57,7 +57,7 @@ headers_stay headers tag s count h = record { count_same = count; own_header = h
 -- a window is issued for a free tag
 pub keeps_issue : (starting : List ℕ) (disk : DiskState) (regs : PortState) (slots : List (Option SlotState)) (headers : List (List ℕ)) (past : List Entry) (free left tag : ℕ) (slot : SlotState)
     → Keeps starting disk regs slots headers past free → tag < disk.depth → phase past tag ≡ Free → halted past ≡ false → slot_at slots tag ≡ None
-    → IsFit slot.window → slot.window.tag ≡ tag → IsProper (op slot.window) → slot.number ≡ length past → IsOf slot (op slot.window) → slot.phase ≡ Issued → slot.ended ≡ None → 128 ≤ left
+    → IsFit slot.window → slot.window.tag ≡ tag → IsProper (op slot.window) → slot.place ≡ length past → IsOf slot (op slot.window) → slot.phase ≡ Issued → slot.ended ≡ None → 128 ≤ left
     → Keeps starting disk (registers.issued regs tag) (set slots tag (Some slot)) (set headers tag slot.window.header) (Issue tag (op slot.window) ∷ past) left
 keeps_issue starting disk regs slots headers past free left tag slot k below is_free running vacant fit tag_is proper number of issued unended room =
     let work = op slot.window in
@@ -72,7 +72,7 @@ keeps_issue starting disk regs slots headers past free left tag slot k below is_
       is_of = of;
       fit = fit;
       tag_is = tag_is;
-      answer_is = ap (λ o. option_or o (given starting past entry (entry_at past slot.number))) (no_answer_yet starting past slot.number (omega arith))
+      answer_is = ap (λ o. option_or o (given starting past entry (entry_at past slot.place))) (no_answer_yet starting past slot.place (omega arith))
           ∙ sym (ap (λ e. option_map (λ x. record { entry = x.entry; outcome = x.outcome; bytes = bytes_in x.outcome slot.window }) e) unended);
     })
     (disk_stays starting disk regs slots headers past free tag entry (Some slot) k k.sectors
@@ -96,7 +96,7 @@ slot_moves starting past entry tag slot p h moved taken same unanswered = record
   is_of = h.is_of;
   fit = h.fit;
   tag_is = h.tag_is;
-  answer_is = answer_stays starting past entry tag (record { number = slot.number; work = op slot.window }) h.request_is unanswered ∙ h.answer_is;
+  answer_is = answer_stays starting past entry tag (record { number = slot.place; work = op slot.window }) h.request_is unanswered ∙ h.answer_is;
 }
 
 -- the slot of a tag that is in a phase that isn't free

@@ -30,7 +30,7 @@ slot_stays starting past entry u (Some slot) p r a h = record {
   is_of = h.is_of;
   fit = h.fit;
   tag_is = h.tag_is;
-  answer_is = answer_stays starting past entry u (record { number = slot.number; work = op slot.window }) h.request_is a ∙ h.answer_is;
+  answer_is = answer_stays starting past entry u (record { number = slot.place; work = op slot.window }) h.request_is a ∙ h.answer_is;
 }
 
 -- what an entry of one tag leaves of the others

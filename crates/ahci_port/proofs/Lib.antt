@@ -25,3 +25,4 @@ pub mod TakenLemmas
 pub mod LogLemmas
 pub mod QuietLemmas
 pub mod LookingLemmas
+pub mod TrimmingLemmas

@@ -1,24 +1,33 @@
 -- What the port's fields say of its journal.
-use Rattle.std.proofs.Common.{◌≡◌, ◌≢◌, ℕ, ◌/◌, Bool, true, false, cond, List, [], ◌∷◌, length, map, replicate, ap, sym, refl, ◌∙◌, Option, None, Some, is_some, IsSomeAnd, arith, inl, inr, zero, suc}
-use Rattle.std.specs.Option.{option_map}
-use Rattle.std.proofs.lemmas.Bool.{cases_lt}
+use Rattle.std.proofs.Common.{◌≡◌, ◌≢◌, ℕ, ◌/◌, ◌<◌, ◌≤◌, Bool, true, false, cond, List, [], ◌∷◌, length, map, replicate, ap, sym, refl, subst, ◌∙◌, Option, None, Some, is_some, IsSomeAnd, arith, inl, inr, zero, suc}
+use Rattle.std.specs.Option.{option_map, option_or}
+use Rattle.std.specs.Prelude.{Ok, nat_lt}
+use Rattle.std.proofs.lemmas.Bool.{cases_lt, true≢false}
 use Rattle.std.proofs.Math.ListN.{get_or-map}
+use Rattle.std.proofs.lemmas.Option.{same_Some}
 use Rattle.std.proofs.lemmas.List.{get_or-replicate, get_or_past, length-replicate, length-map}
 use Rattle.ahci_regs.specs.PortState.{PortState}
+use Rattle.ahci_table.specs.Command.{op}
 use Rattle.ncq_journal.specs.declared.phase.Phase.{Phase}
 use Rattle.ncq_journal.specs.declared.phase.Phase.TheVariants.{Free, Issued, Accepted, Rejected, Broken, Held, Done}
-use Rattle.ncq_core.specs.DiskState.{DiskState, DiskError, IsDisk, is_stopped, new_disk, no_commands, outstanding}
-use Rattle.ncq_journal.specs.Entry.{Entry}
+use Rattle.ncq_core.specs.DiskState.{DiskState, DiskError, IsDisk, is_stopped, new_disk, new_fault, no_commands, outstanding}
+use Rattle.ncq_core.specs.declared.disk_fault.DiskFault.{DiskFault}
+use Rattle.ncq_core.specs.declared.disk_fault.DiskFault.TheVariants as disk_fault
+use Rattle.ncq_journal.specs.Entry.{Entry, Issue}
 use Rattle.ncq_journal.specs.Halted.{halted}
-use Rattle.ncq_journal.specs.Owed.{owed_in}
+use Rattle.ncq_journal.specs.Numbering.{number_of}
+use Rattle.ncq_journal.specs.Owed.{owed, owed_in}
 use Rattle.ncq_journal.specs.Phase.{phase}
 use Rattle.ncq_journal.specs.Request.{request}
+use Rattle.ncq_journal.proofs.EntryLemmas.{entry_at-within, request_is_its_issue}
 use Rattle.ncq_journal.proofs.HaltedLemmas.{not_halted}
 use Rattle.ncq_journal.proofs.TagLemmas.{sum_le}
 use Rattle.word_bits.specs.Places.{no_places}
 use Rattle.word_bits.proofs.PlacesLemmas.{length-no_places, has_place-no_places, same_sets}
+use Rattle.ahci_port.specs.Faults.{AnswersOr, most_first, resume_fault_of, resume_refusal}
+use Rattle.ahci_port.specs.declared.fault.ResumeFault.TheVariants as resume
 use Rattle.ahci_port.specs.Keeping.{Keeps, HasSlot, slot_at}
-use Rattle.ahci_port.specs.PortView.{is_free, owner_of, new_port}
+use Rattle.ahci_port.specs.PortView.{is_free, port_from}
 use Rattle.ahci_port.specs.Registers.{acknowledged, started}
 use Rattle.ahci_port.specs.Unqueued.{nothing_sent}
 use Rattle.ahci_port.specs.Slots.{SlotState, phase_in, outstanding_in, view_of, window_in}
@@ -42,12 +51,24 @@ taken_free Broken t = refl
 taken_free Held t = refl
 taken_free Done t = refl
 
--- the slot has the number of its owner
-pub owner_here : (starting : List ℕ) (past : List Entry) (tag : ℕ) (s : Option SlotState) → HasSlot starting past tag s → option_map (λ x. x.number) s ≡ owner_of past tag
-owner_here starting past tag None h = sym (ap (λ p. cond (is_free p) None (option_map (λ r. r.number) (request past tag))) h)
-owner_here starting past tag (Some slot) h =
-    sym (ap (λ b. cond b None (option_map (λ r. r.number) (request past tag))) (ap is_free h.phase_is ∙ taken_free slot.phase h.taken)
-    ∙ ap (λ o. option_map (λ r. r.number) o) h.request_is)
+-- the number of the request that owns a tag's slot, where entries are numbered from a first one
+abbrev pub owner : ℕ → List Entry → ℕ → Option ℕ
+owner first past tag = cond (is_free (phase past tag)) None (option_map (λ r. number_of first r.number) (request past tag))
+
+-- the slot has the place of its owner
+pub owner_here : (starting : List ℕ) (past : List Entry) (first tag : ℕ) (s : Option SlotState) → HasSlot starting past tag s
+    → option_map (number_of first) (option_map (λ x. x.place) s) ≡ owner first past tag
+owner_here starting past first tag None h = sym (ap (λ p. cond (is_free p) None (option_map (λ r. number_of first r.number) (request past tag))) h)
+owner_here starting past first tag (Some slot) h =
+    sym (ap (λ b. cond b None (option_map (λ r. number_of first r.number) (request past tag))) (ap is_free h.phase_is ∙ taken_free slot.phase h.taken)
+    ∙ ap (λ o. option_map (λ r. number_of first r.number) o) h.request_is)
+
+-- the place is one of the journal's
+pub owner_within : (starting : List ℕ) (past : List Entry) (tag place : ℕ) (s : Option SlotState) → HasSlot starting past tag s → option_map (λ x. x.place) s ≡ Some place → place < length past
+owner_within starting past tag place None h e = absurd (cc)
+owner_within starting past tag place (Some slot) h e =
+    subst (λ n. n < length past) (same_Some slot.place place e)
+    (entry_at-within past slot.place (Issue tag (op slot.window)) (request_is_its_issue past tag (record { number = slot.place; work = op slot.window }) h.request_is))
 
 some_error : (o : Option DiskError) (P : DiskError → Type 0) → IsSomeAnd o P → is_some o ≡ true
 some_error None P h = absurd h
@@ -96,6 +117,24 @@ vacant depth u = elim (cases_lt u depth) [
   | inr high ↦ get_or_past (replicate depth None) u None (let l : length (replicate {A = Option SlotState} depth None) ≡ depth = length-replicate depth None in omega arith)
 ]
 
+-- a port that has done nothing has not halted, and owes nothing
+pub calm_at_first : halted [] ≡ false
+calm_at_first = not_halted [] (λ t low. refl)
+
+pub nothing_owed : owed [] ≤ 0
+nothing_owed = sum_le (λ tag. owed_in (phase [] tag)) 0 (λ tag. omega arith)
+
+-- a port that goes on is made where a disk is
+pub resumed : {T : Type 0} (x : T) (image : List ℕ) (depth first : ℕ) → AnswersOr {T = T} (Ok x) (new_fault image depth) disk_fault.OutOfMemory → nat_lt most_first first ≡ false
+    → AnswersOr {T = T} (Ok x) (resume_refusal image depth first) resume.OutOfMemory
+resumed x image depth first made low = by (new_fault image depth) (nat_lt most_first first) made low
+  where
+    by : (o : Option DiskFault) (b : Bool) → AnswersOr (Ok x) o disk_fault.OutOfMemory → b ≡ false
+        → AnswersOr (Ok x) (option_or (option_map resume_fault_of o) (cond b (Some resume.BadFirst) None)) resume.OutOfMemory
+    by None false h e = tt
+    by None true h e = absurd (true≢false e)
+    by (Some f) b h e = absurd (cc)
+
 -- a new port
 pub keeps_new : (image : List ℕ) (depth : ℕ) (headers : List (List ℕ)) → IsDisk (new_disk image depth) → length headers ≡ 32
     → Keeps image (new_disk image depth) (started depth) (replicate depth None) headers [] 0
@@ -112,14 +151,11 @@ keeps_new image depth headers d count = record {
   tracks = tracks_new depth;
   sectors = λ s. refl;
   commands = λ u. no_command u ∙ sym (ap (outstanding_in (halted [])) (vacant depth u));
-  error_is = sym (ap (λ b. cond b (last_failure []) None) calm);
+  error_is = sym (ap (λ b. cond b (last_failure []) None) calm_at_first);
   each = λ u. rw (vacant depth u) refl;
   listed = λ u. rw (vacant depth u) tt;
-  room = sum_le (λ tag. owed_in (phase [] tag)) 0 (λ tag. omega arith);
+  room = nothing_owed;
 }
-  where
-    calm : halted [] ≡ false
-    calm = not_halted [] (λ t low. refl)
 
 -- nothing is outstanding in a new disk
 none_in_device : (image : List ℕ) (depth : ℕ) → outstanding (new_disk image depth) ≡ no_places
@@ -132,7 +168,8 @@ no_windows zero = refl
 no_windows (suc n) = ap (λ xs. None ∷ xs) (no_windows n)
 
 -- what callers see of it
-pub view_new : (image : List ℕ) (depth : ℕ) → view_of image (new_disk image depth) (started depth) nothing_sent (replicate 256 0) (replicate depth None) [] ≡ new_port image depth
-view_new image depth =
-    ap (λ d. record (new_port image depth) { device = d; windows = map window_in (replicate depth None) }) (none_in_device image depth)
-    ∙ ap (λ w. record (new_port image depth) { windows = w }) (no_windows depth)
+pub view_new : (first : ℕ) (image : List ℕ) (depth : ℕ)
+    → view_of image (new_disk image depth) (started depth) nothing_sent (replicate 256 0) (replicate depth None) first [] ≡ port_from first image depth
+view_new first image depth =
+    ap (λ d. record (port_from first image depth) { device = d; windows = map window_in (replicate depth None) }) (none_in_device image depth)
+    ∙ ap (λ w. record (port_from first image depth) { windows = w }) (no_windows depth)

@@ -66,7 +66,7 @@ slot_recovers starting past t u (Some slot) h = record {
   is_of = h.is_of;
   fit = h.fit;
   tag_is = h.tag_is;
-  answer_is = answer_stays starting past (Recover t) u (record { number = slot.number; work = op slot.window }) h.request_is refl ∙ h.answer_is;
+  answer_is = answer_stays starting past (Recover t) u (record { number = slot.place; work = op slot.window }) h.request_is refl ∙ h.answer_is;
 }
 
 header_recovers : (headers : List (List ℕ)) (u : ℕ) (s : Option SlotState) → HasHeader headers u s → HasHeader headers u (option_map recovered_slot s)

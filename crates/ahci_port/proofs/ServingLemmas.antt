@@ -120,18 +120,18 @@ keeps_serve starting disk regs slots headers past free left tag slot image w k a
     (record {
       phase_is = own tag Done (phase past tag);
       taken = λ e. absurd (cc);
-      request_is = own_slot.request_is ∙ ap (λ x. Some (record { number = slot.number; work = x })) (sym same);
+      request_is = own_slot.request_is ∙ ap (λ x. Some (record { number = slot.place; work = x })) (sym same);
       is_of = subst (IsOf slot) (sym same) own_slot.is_of;
       fit = window.fit;
       tag_is = window.tag_same ∙ own_slot.tag_is;
-      answer_is = completed_now (length starting / 512) disk.depth starting past tag (record { number = slot.number; work = op slot.window }) lawful own_slot.request_is
+      answer_is = completed_now (length starting / 512) disk.depth starting past tag (record { number = slot.place; work = op slot.window }) lawful own_slot.request_is
           ∙ answer_of_slot starting past disk.image image slot w k.sectors direction sized moved;
     })
     (record {
       depth_same = refl;
       size_same = size_stays (queued_of slot.window) disk.image image (text slot.window) (text w) moved;
       count_same = length-set disk.commands tag None ∙ k.command_count;
-      sectors = λ i. moved_sectors starting past disk.image image slot slot.number w k.sectors sized moved i ∙ ap (λ o. completed o i (sector starting past i)) (sym own_slot.request_is);
+      sectors = λ i. moved_sectors starting past disk.image image slot slot.place w k.sectors sized moved i ∙ ap (λ o. completed o i (sector starting past i)) (sym own_slot.request_is);
       error_is = k.error_is ∙ sym (ap (λ b. cond b (last_failure past) None) still);
       own_command = get_or-set_same disk.commands tag None None (let c = k.command_count in let d = k.shallow in omega arith);
       other_commands = λ u apart. get_or-set_other disk.commands tag u None None apart ∙ k.commands u ∙ ap (λ b. outstanding_in b (slot_at slots u)) (sym still);

@@ -32,7 +32,7 @@ use Rattle.ahci_port.specs.Standing.{last_failure}
 use Rattle.ahci_port.proofs.MemoryLemmas.{fit_sized}
 use Rattle.ahci_port.proofs.OwningLemmas.{Owned, owned}
 use Rattle.ahci_port.specs.Faults.{step_refusal}
-use Rattle.ahci_port.specs.PortView.{PortView, put_at, register_place}
+use Rattle.ahci_port.specs.PortView.{PortView, next_number, put_at, register_place}
 use Rattle.ahci_port.specs.Unqueued.{sent_by}
 use Rattle.ahci_port.specs.declared.sent.Sent.{Sent}
 use Rattle.ahci_port.specs.Steps.{Appends, IsTaken, passes_end}
@@ -130,7 +130,7 @@ taking starting disk regs slots headers past free tag k issued running spell =
     let vacant : command_of disk w.tag ≡ None =
     ap (command_of disk) own_tag ∙ k.commands tag ∙ ap (outstanding_in (halted past)) o.here
     ∙ ap (λ p. cond (in_device p && not (halted past)) (Some (queued_of w)) None) in_slot in
-    let proper = request_proper (length starting / 512) disk.depth past tag (record { number = o.slot.number; work = op w }) k.lawful o.holds.request_is in
+    let proper = request_proper (length starting / 512) disk.depth past tag (record { number = o.slot.place; work = op w }) k.lawful o.holds.request_is in
     let small : first_lacking disk (queued_of w) < 2 ^ 48 =
     lba_max (queued_of w).lba (disk_sectors disk) (let a = op_lba w in let p = proper.lba in omega arith) (let f = k.few in let z = disk_size k in omega arith) in
     let moves_room : 0 < free = (let r = k.room in let n = owed_at_least past tag (let s = k.shallow in let l = o.low in l) issued in omega arith) in
@@ -229,13 +229,13 @@ keeps_taken starting disk regs slots headers past free left tag k spell t room b
 -- the step is the one that the definition names
 pub taken_as : (old new : PortView) (tag : ℕ) (work : Work) (answer : Stepped) (lba : ℕ) (passes : Bool) (bytes : List ℕ)
     → passes_end old work ≡ passes → lba ≡ steps.first_lacking old work → AnswersSpell → lba < 2 ^ 48
-    → bytes ≡ cond passes (not_found_bytes lba) accepted_bytes → answer ≡ taken_step (length old.past) (d2h_at bytes) → Appends old new (taken_entry tag (d2h_at bytes))
+    → bytes ≡ cond passes (not_found_bytes lba) accepted_bytes → answer ≡ taken_step (next_number old) (d2h_at bytes) → Appends old new (taken_entry tag (d2h_at bytes))
     → new.registers ≡ after_register old.registers (d2h_at bytes).status (d2h_at bytes).error (d2h_at bytes).i tag → new.area ≡ put_at register_place bytes old.area → new.windows ≡ old.windows
     → IsTaken tag work old new answer
 taken_as old new tag work answer lba false bytes at is spell small same step appended moved area windows =
     rw at
     (record {
-      answer_is = step ∙ ap (λ b. taken_step (length old.past) (d2h_at b)) same ∙ ap (λ b. cond b (Failed (length old.past)) (Accepted (length old.past))) accepts;
+      answer_is = step ∙ ap (λ b. taken_step (next_number old) (d2h_at b)) same ∙ ap (λ b. cond b (Failed (next_number old)) (Accepted (next_number old))) accepts;
       appended = subst (Appends old new) (ap (λ b. taken_entry tag (d2h_at b)) same
           ∙ ap (λ b. cond b (Fail tag (d2h_at accepted_bytes).error (d2h_at accepted_bytes).lba) (Accept tag)) accepts) appended;
       registers_are = moved ∙ ap (λ b. after_register old.registers (d2h_at b).status (d2h_at b).error (d2h_at b).i tag) same;
@@ -245,7 +245,7 @@ taken_as old new tag work answer lba false bytes at is spell small same step app
 taken_as old new tag work answer lba true bytes at is spell small same step appended moved area windows =
     rw at
     (record {
-      answer_is = step ∙ ap (λ b. taken_step (length old.past) (d2h_at b)) same ∙ ap (λ b. cond b (Failed (length old.past)) (Accepted (length old.past))) (rejects lba);
+      answer_is = step ∙ ap (λ b. taken_step (next_number old) (d2h_at b)) same ∙ ap (λ b. cond b (Failed (next_number old)) (Accepted (next_number old))) (rejects lba);
       appended = subst (Appends old new)
           (ap (λ b. taken_entry tag (d2h_at b)) same ∙ ap (λ b. cond b (Fail tag (d2h_at (not_found_bytes lba)).error (d2h_at (not_found_bytes lba)).lba) (Accept tag)) (rejects lba)
           ∙ ap (Fail tag 0x10) (lba_there lba spell small ∙ is))

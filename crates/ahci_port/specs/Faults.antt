@@ -1,10 +1,14 @@
 -- When each call of the port is refused: the first case that holds, in this order (profile). A tag at or above the depth
 -- counts as a free slot.
-use Rattle.std.specs.Prelude.{◌≡◌, ◌≢◌, ℕ, ◌<◌, ◌≤◌, Bool, true, false, not, ◌||◌, nat_eq, nat_le, if◌then◌else◌, List, [], ◌∷◌, length, Option, None, Some, Result, Err, IsOk, IsOkUnless}
+use Rattle.std.specs.Prelude.{◌≡◌, ◌≢◌, ℕ, ◌<◌, ◌≤◌, Bool, true, false, not, ◌||◌, nat_eq, nat_le, nat_lt, ◌^◌, if◌then◌else◌, List, [], ◌∷◌, length, Option, None, Some, is_some, Result, Err, IsOk, IsOkUnless}
 use Rattle.std.specs.List.{list_all, list_any}
+use Rattle.std.specs.Option.{option_map, option_or}
 use Rattle.ahci_table.specs.declared.fault.TableFault.TheVariants as table
 use Rattle.ahci_table.specs.Fit.{IsFit, Breaks}
 use Rattle.ahci_table.specs.Window.{WindowState}
+use Rattle.ncq_core.specs.DiskState.{new_fault}
+use Rattle.ncq_core.specs.declared.disk_fault.DiskFault.{DiskFault}
+use Rattle.ncq_core.specs.declared.disk_fault.DiskFault.TheVariants as disk
 use Rattle.ncq_journal.specs.declared.phase.Phase.{Phase}
 use Rattle.ncq_journal.specs.declared.phase.Phase.TheVariants.{Free, Issued, Accepted, Held, Done}
 use Rattle.ncq_journal.specs.Entry.{Entry}
@@ -12,7 +16,7 @@ use Rattle.ncq_journal.specs.Halted.{halted, busy}
 use Rattle.ncq_journal.specs.Image.{covers}
 use Rattle.ncq_journal.specs.Phase.{phase}
 use Rattle.ncq_journal.specs.Request.{Request, request}
-use Rattle.ahci_port.specs.PortView.{PortView, is_free}
+use Rattle.ahci_port.specs.PortView.{PortView, is_free, next_number, owner_of}
 use Rattle.ahci_port.specs.declared.fault.IssueFault.{IssueFault}
 use Rattle.ahci_port.specs.declared.fault.IssueFault.TheVariants as issue
 use Rattle.ahci_port.specs.declared.fault.StepFault.{StepFault}
@@ -23,10 +27,18 @@ use Rattle.ahci_port.specs.declared.fault.RecoverFault.{RecoverFault}
 use Rattle.ahci_port.specs.declared.fault.RecoverFault.TheVariants.{NotHalted}
 use Rattle.ahci_port.specs.declared.fault.ReissueFault.{ReissueFault}
 use Rattle.ahci_port.specs.declared.fault.ReissueFault.TheVariants as reissue
+use Rattle.ahci_port.specs.declared.fault.TrimFault.{TrimFault}
+use Rattle.ahci_port.specs.declared.fault.TrimFault.TheVariants.{Busy, Spent}
+use Rattle.ahci_port.specs.declared.fault.ResumeFault.{ResumeFault}
+use Rattle.ahci_port.specs.declared.fault.ResumeFault.TheVariants as resume
 use Rattle.ahci_port.specs.declared.fault.PlainFault.{PlainFault}
 use Rattle.ahci_port.specs.declared.fault.PlainFault.TheVariants as plain
 use Rattle.ahci_port.specs.declared.step.DeviceStep.{DeviceStep}
 use Rattle.ahci_port.specs.declared.step.DeviceStep.TheVariants.{Accept, Serve, Fail}
+
+-- the highest number that a journal's first entry can have (profile)
+abbrev pub most_first : ℕ
+most_first = 2 ^ 63
 
 abbrev pub is_issued : Phase → Bool
 is_issued Issued = true
@@ -97,16 +109,33 @@ step_refusal port (Fail tag error at) =
     if halted port.past then Some step_fault.Halted
     else (if is_accepted (phase port.past tag) then (if is_of_request (request port.past tag) at then None else Some step_fault.OutsideCommand) else Some step_fault.NotAccepted)
 
--- the request has this number
-abbrev pub has_number : Option Request → ℕ → Bool
-has_number None number = false
-has_number (Some r) number = nat_eq r.number number
+-- the request of this number is the owner
+abbrev pub is_owner : Option ℕ → ℕ → Bool
+is_owner None number = false
+is_owner (Some owner) number = nat_eq owner number
 
 -- why a request is not collected
 abbrev pub collect_refusal : PortView → ℕ → ℕ → Option CollectFault
 collect_refusal port tag number =
-    if is_free (phase port.past tag) || not (has_number (request port.past tag) number) then Some Stranger
-    else (if is_done (phase port.past tag) then None else Some NotYet)
+    if is_owner (owner_of port tag) number then (if is_done (phase port.past tag) then None else Some NotYet) else Some Stranger
+
+-- why no port is made that goes on from an image and a number, want of memory aside
+abbrev pub resume_fault_of : DiskFault → ResumeFault
+resume_fault_of disk.BadSize = resume.BadSize
+resume_fault_of disk.BadDepth = resume.BadDepth
+resume_fault_of disk.OutOfMemory = resume.OutOfMemory
+
+abbrev pub resume_refusal : List ℕ → ℕ → ℕ → Option ResumeFault
+resume_refusal image depth first =
+    option_or (option_map resume_fault_of (new_fault image depth)) (if nat_lt most_first first then Some resume.BadFirst else None)
+
+-- no slot is owned
+abbrev pub is_vacant : PortView → Bool
+is_vacant port = not (list_any is_some port.windows)
+
+-- why the journal is not handed out
+abbrev pub trim_refusal : PortView → Option TrimFault
+trim_refusal port = if is_vacant port then (if nat_lt most_first (next_number port) then Some Spent else None) else Some Busy
 
 -- why the port does not recover, want of memory aside
 abbrev pub recover_refusal : PortView → Option RecoverFault

@@ -27,11 +27,11 @@ IsOf slot work = (slot.is_write ≡ is_write work) × (slot.lba ≡ lba_of work)
 pub record Holds (starting : List ℕ) (past : List Entry) (tag : ℕ) (slot : SlotState) : Type 0 where
   pub phase_is : phase past tag ≡ slot.phase
   pub taken : slot.phase ≢ Free
-  pub request_is : request past tag ≡ Some (record { number = slot.number; work = op slot.window })
+  pub request_is : request past tag ≡ Some (record { number = slot.place; work = op slot.window })
   pub is_of : IsOf slot (op slot.window)
   pub fit : IsFit slot.window
   pub tag_is : slot.window.tag ≡ tag
-  pub answer_is : answer starting past slot.number ≡ answer_in slot
+  pub answer_is : answer starting past slot.place ≡ answer_in slot
 
 -- what a slot says of its tag
 abbrev pub HasSlot : List ℕ → List Entry → ℕ → Option SlotState → Type 0

@@ -1,5 +1,5 @@
 -- What the port's calls do with one slot.
-use Rattle.std.specs.Prelude.{◌≡◌, ℕ, Bool, true, false, nat_eq, if◌then◌else◌, List, Option, None, Some}
+use Rattle.std.specs.Prelude.{◌≡◌, ℕ, Bool, true, false, if◌then◌else◌, List, Option, None, Some}
 use Rattle.ahci_table.specs.Command.{cfis, queued_of}
 use Rattle.ahci_table.specs.Fit.{IsFit}
 use Rattle.ahci_table.specs.Window.{WindowState}
@@ -22,9 +22,6 @@ use Rattle.ahci_port.specs.declared.step.Stepped.TheVariants.{Accepted, Failed}
 use Rattle.ncq_journal.specs.Phase.{failed, recovered}
 use Rattle.ahci_port.specs.declared.fault.StepFault.{StepFault}
 use Rattle.ahci_port.specs.declared.fault.StepFault.TheVariants.{Halted, NotAccepted, OutsideCommand}
-use Rattle.ahci_port.specs.Faults.{is_done}
-use Rattle.ahci_port.specs.declared.fault.CollectFault.{CollectFault}
-use Rattle.ahci_port.specs.declared.fault.CollectFault.TheVariants.{Stranger, NotYet}
 use Rattle.ahci_port.specs.Slots.{SlotState}
 
 -- the slot once its command is issued again, or accepted
@@ -59,11 +56,6 @@ pub record MovedWindow (old new : WindowState) : Type 0 where
   pub cfis_same : cfis new ≡ cfis old
   pub write_same : (queued_of old).write ≡ true → new ≡ old
 
--- why a request is not collected from a slot
-abbrev pub collect_refusal_in : Option SlotState → ℕ → Option CollectFault
-collect_refusal_in None number = Some Stranger
-collect_refusal_in (Some slot) number = if nat_eq slot.number number then (if is_done slot.phase then None else Some NotYet) else Some Stranger
-
 -- the port's fault where the disk has refused to end a command
 abbrev pub step_fault_of : ServeFault → StepFault
 step_fault_of serve_fault.Stopped = Halted
@@ -92,8 +84,8 @@ taken_slot slot entry answer = if refuses answer then failed_slot slot entry ans
 
 -- the slot of a command that is issued
 abbrev pub issued_slot : ℕ → QueuedFields → WindowState → SlotState
-issued_slot number q w = record {
-  number = number;
+issued_slot place q w = record {
+  place = place;
   is_write = q.write;
   lba = q.lba;
   sectors = q.sectors;

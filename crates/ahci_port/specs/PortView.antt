@@ -8,6 +8,7 @@ use Rattle.ncq_core.specs.DiskState.{DiskError}
 use Rattle.ncq_journal.specs.declared.phase.Phase.{Phase}
 use Rattle.ncq_journal.specs.declared.phase.Phase.TheVariants.{Free}
 use Rattle.ncq_journal.specs.Entry.{Entry}
+use Rattle.ncq_journal.specs.Numbering.{number_of}
 use Rattle.ncq_journal.specs.Phase.{phase}
 use Rattle.ncq_journal.specs.Request.{request}
 use Rattle.word_bits.specs.Places.{no_places}
@@ -16,13 +17,14 @@ use Rattle.ahci_port.specs.Unqueued.{nothing_sent}
 use Rattle.ahci_port.specs.declared.sent.Sent.{Sent}
 
 pub record PortView : Type 0 where
-  -- the bytes of the disk's sectors when the port was made, and as they are now
+  -- the bytes of the disk's sectors when the journal began, and as they are now
   pub starting : List ℕ
   pub image : List ℕ
   -- how many slots the port has
   pub depth : ℕ
-  -- what the port has done, the newest entry first
+  -- what the port has done since then, the newest entry first, and the number of the oldest one
   pub past : List Entry
+  pub first : ℕ
   pub registers : PortState
   -- what slot 0 sent last that was not queued
   pub sent : Sent
@@ -63,13 +65,18 @@ abbrev pub is_free : Phase → Bool
 is_free Free = true
 is_free p = false
 
--- a new port over an image
-abbrev pub new_port : List ℕ → ℕ → PortView
-new_port image depth = record {
+-- the number of the entry that comes next
+abbrev pub next_number : PortView → ℕ
+next_number port = number_of port.first (length port.past)
+
+-- a port over an image that has done nothing yet, and numbers its entries from this one
+abbrev pub port_from : ℕ → List ℕ → ℕ → PortView
+port_from first image depth = record {
   starting = image;
   image = image;
   depth = depth;
   past = [];
+  first = first;
   registers = started depth;
   sent = nothing_sent;
   area = replicate 256 0;
@@ -78,6 +85,11 @@ new_port image depth = record {
   error = None;
 }
 
+-- a new port over an image
+abbrev pub new_port : List ℕ → ℕ → PortView
+new_port image depth = port_from 0 image depth
+
 -- the number of the request that owns a tag's slot
-abbrev pub owner_of : List Entry → ℕ → Option ℕ
-owner_of past tag = if is_free (phase past tag) then None else option_map (λ r. r.number) (request past tag)
+abbrev pub owner_of : PortView → ℕ → Option ℕ
+owner_of port tag =
+    if is_free (phase port.past tag) then None else option_map (λ r. number_of port.first r.number) (request port.past tag)

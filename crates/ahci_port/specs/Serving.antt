@@ -22,4 +22,5 @@ pub record CompletesOne (tag : ℕ) (disk disk_new : DiskState) (slot slot_new :
   pub slot_is : slot_new ≡ served_slot slot (length journal.past) slot_new.window
   pub area_is : area_new ≡ put_at setup_place (setup_bytes (queued_of slot.window)) area
   pub past_is : journal_new.past ≡ Complete tag ∷ journal.past
+  pub first_same : journal_new.first ≡ journal.first
   pub room_is : journal_new.room + 1 ≡ journal.room

@@ -19,7 +19,8 @@ use Rattle.ahci_port.specs.declared.ended.Ended.{Ended}
 use Rattle.ahci_port.specs.declared.sent.Sent.{Sent}
 
 pub record SlotState : Type 0 where
-  pub number : ℕ
+  -- the place of its Issue entry, and below that of the entry that ended it
+  pub place : ℕ
   pub is_write : Bool
   pub lba : ℕ
   pub sectors : ℕ
@@ -56,12 +57,13 @@ abbrev pub window_in : Option SlotState → Option WindowState
 window_in slot = option_map (λ s. s.window) slot
 
 -- what callers see of these fields
-abbrev pub view_of : List ℕ → DiskState → PortState → Sent → List ℕ → List (Option SlotState) → List Entry → PortView
-view_of starting disk registers sent area slots past = record {
+abbrev pub view_of : List ℕ → DiskState → PortState → Sent → List ℕ → List (Option SlotState) → ℕ → List Entry → PortView
+view_of starting disk registers sent area slots first past = record {
   starting = starting;
   image = disk.image;
   depth = disk.depth;
   past = past;
+  first = first;
   registers = registers;
   sent = sent;
   area = area;

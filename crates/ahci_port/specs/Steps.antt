@@ -1,19 +1,22 @@
 -- What each call of the port does, where it is taken: one entry is appended to the journal, or a Complete for each tag that
 -- is served; the registers move by the writes and FISes of the call, and its FISes stand at their places in the received
 -- FIS area.
-use Rattle.std.specs.Prelude.{◌≡◌, ◌≢◌, ℕ, ◌<◌, max, Bool, true, false, nat_lt, List, ◌∷◌, length, take, Option, None, Some, IsSomeAnd, slice_index, slice_set}
+use Rattle.std.specs.Prelude.{◌≡◌, ◌≢◌, ℕ, ◌<◌, max, Bool, true, false, nat_lt, List, [], ◌∷◌, ◌++◌, length, take, Option, None, Some, IsSomeAnd, slice_index, slice_set}
 use Rattle.std.specs.List.{fold}
+use Rattle.std.specs.Option.{option_and_then, option_map}
 use Rattle.ahci_table.specs.Command.{op, queued_of}
 use Rattle.ahci_table.specs.Scatter.{IsScattered}
 use Rattle.ahci_table.specs.Window.{WindowState}
 use Rattle.ncq_journal.specs.declared.plain.Plain.TheVariants as plain
-use Rattle.ncq_journal.specs.Answer.{sectors_at}
+use Rattle.ncq_journal.specs.Answer.{Answer, answer, sectors_at}
 use Rattle.ncq_core.specs.DiskFis.{accepted_bytes, not_found_bytes, flushed_bytes, pio_bytes, setup_bytes, completed_bytes, failed_bytes}
 use Rattle.ncq_journal.specs.Entry.{Entry, Issue, Accept, Complete, Fail, Recover, Reissue, Collect, Unqueued}
-use Rattle.ncq_journal.specs.Lawful.{end_of}
+use Rattle.ncq_journal.specs.Lawful.{IsLawful, end_of}
+use Rattle.ncq_journal.specs.Numbering.{answer_numbered, place_of}
 use Rattle.ncq_journal.specs.Request.{request}
+use Rattle.ncq_journal.specs.Sector.{sector}
 use Rattle.ncq_journal.specs.Work.{Work, Read, Write, lba_of}
-use Rattle.ahci_port.specs.PortView.{PortView, sectors_in, window_at, put_at, setup_place, pio_place, register_place, bits_place}
+use Rattle.ahci_port.specs.PortView.{PortView, next_number, sectors_in, window_at, put_at, setup_place, pio_place, register_place, bits_place}
 use Rattle.ahci_port.specs.Registers as registers
 use Rattle.ahci_port.specs.Unqueued.{sent_by}
 use Rattle.ahci_port.specs.declared.step.DeviceStep.{DeviceStep}
@@ -21,12 +24,18 @@ use Rattle.ahci_port.specs.declared.step.DeviceStep.TheVariants as step
 use Rattle.ahci_port.specs.declared.step.Stepped.{Stepped}
 use Rattle.ahci_port.specs.declared.step.Stepped.TheVariants.{Accepted, Completed, Failed}
 
--- the journal has one entry more, slot 0 has sent what the entry says, and the disk and the slots are as many as before
+-- the journal has one entry more, with the next number, slot 0 has sent what the entry says, and the disk and the slots are
+-- as many as before
 pub record Appends (old new : PortView) (entry : Entry) : Type 0 where
   pub starting_same : new.starting ≡ old.starting
+  pub first_same : new.first ≡ old.first
   pub depth_same : new.depth ≡ old.depth
   pub past_is : new.past ≡ entry ∷ old.past
   pub sent_is : new.sent ≡ sent_by entry old.sent
+
+-- the answer to the request of a number, with the number of its entry
+abbrev pub answer_to : PortView → ℕ → Option Answer
+answer_to port number = option_map (answer_numbered port.first) (option_and_then (answer port.starting port.past) (place_of port.first number))
 
 -- a window is issued: it stands in its slot
 pub record IsIssued (w : WindowState) (old new : PortView) : Type 0 where
@@ -37,7 +46,7 @@ pub record IsIssued (w : WindowState) (old new : PortView) : Type 0 where
 
 -- the device takes a command: a D2H Register FIS
 pub record IsAccepted (tag : ℕ) (old new : PortView) (answer : Stepped) : Type 0 where
-  pub answer_is : answer ≡ Accepted (length old.past)
+  pub answer_is : answer ≡ Accepted (next_number old)
   pub appended : Appends old new (Accept tag)
   pub registers_are : new.registers ≡ registers.accepted old.registers tag
   pub area_is : new.area ≡ put_at register_place accepted_bytes old.area
@@ -49,7 +58,7 @@ first_lacking port work = max (lba_of work) (sectors_in port)
 
 -- the device refuses a command that passes the last sector: a D2H Register FIS with IDNF
 pub record IsRejected (tag : ℕ) (work : Work) (old new : PortView) (answer : Stepped) : Type 0 where
-  pub answer_is : answer ≡ Failed (length old.past)
+  pub answer_is : answer ≡ Failed (next_number old)
   pub appended : Appends old new (Fail tag 0x10 (first_lacking old work))
   pub registers_are : new.registers ≡ registers.refused old.registers tag
   pub area_is : new.area ≡ put_at register_place (not_found_bytes (first_lacking old work)) old.area
@@ -74,6 +83,7 @@ completes past tags = fold (λ past tag. Complete tag ∷ past) past tags
 -- the journal has a Complete more for each tag of a list, in its order; disk, slots and slot 0 are as before
 pub record CompletesAll (tags : List ℕ) (old new : PortView) : Type 0 where
   pub starting_same : new.starting ≡ old.starting
+  pub first_same : new.first ≡ old.first
   pub depth_same : new.depth ≡ old.depth
   pub past_is : new.past ≡ completes old.past tags
   pub sent_same : new.sent ≡ old.sent
@@ -101,7 +111,7 @@ with_setup (Some w) area = put_at setup_place (setup_bytes (queued_of w)) area
 -- the device moves the data of the commands of some tags and completes them, one after the other: a DMA Setup FIS and the
 -- data for each; then one Set Device Bits FIS for all
 pub record IsServed (tags : List ℕ) (old new : PortView) (answer : Stepped) : Type 0 where
-  pub answer_is : answer ≡ Completed (length old.past) (length tags)
+  pub answer_is : answer ≡ Completed (next_number old) (length tags)
   pub appended : CompletesAll tags old new
   pub registers_are : new.registers ≡ registers.completed old.registers tags
   pub area_is : new.area ≡ put_at bits_place (completed_bytes (registers.word_of_tags tags)) (fold (λ area tag. with_setup (window_at old tag) area) old.area tags)
@@ -110,7 +120,7 @@ pub record IsServed (tags : List ℕ) (old new : PortView) (answer : Stepped) : 
 
 -- the device fails a command: a Set Device Bits FIS with ERR
 pub record IsFailed (tag error lba : ℕ) (old new : PortView) (answer : Stepped) : Type 0 where
-  pub answer_is : answer ≡ Failed (length old.past)
+  pub answer_is : answer ≡ Failed (next_number old)
   pub appended : Appends old new (Fail tag error lba)
   pub registers_are : new.registers ≡ registers.failed old.registers error
   pub area_is : new.area ≡ put_at bits_place (failed_bytes error) old.area
@@ -128,6 +138,16 @@ pub record IsCollected (tag : ℕ) (old new : PortView) : Type 0 where
   pub registers_same : new.registers ≡ old.registers
   pub area_same : new.area ≡ old.area
   pub windows_are : new.windows ≡ slice_set old.windows tag None
+
+-- the journal is handed out: the image is the starting image from here on, and the next entry has the next number
+abbrev pub trimmed : PortView → PortView
+trimmed port = record port { starting = port.image; first = next_number port; past = [] }
+
+-- what comes after a trim speaks of the whole history: each sector is that of both parts of the journal over the image at
+-- the beginning of the first one
+abbrev pub GoesOn : PortView → PortView → Type 0
+GoesOn old new =
+    (later : List Entry) → IsLawful (sectors_in new) new.depth later → (s : ℕ) → sector new.starting later s ≡ sector old.starting (later ++ old.past) s
 
 -- the port recovers from the failure of a tag's command: READ LOG EXT by PIO
 pub record IsRecovered (tag : ℕ) (old new : PortView) : Type 0 where

@@ -1,6 +1,6 @@
 use ncq_core::Outcome;
 
-/// The entry that answered a request, and how it ended.
+/// The place of the entry that answered a request, and how it ended.
 #[derive(Clone, Copy, Debug, PartialEq, Eq)]
 pub(crate) struct Ended {
     pub(crate) entry: u64,

@@ -43,6 +43,28 @@ pub enum CollectFault {
     NotYet,
 }
 
+/// Why no port was made that goes on from an image and a number. The cases are tested in this order.
+#[derive(Clone, Copy, Debug, PartialEq, Eq)]
+pub enum ResumeFault {
+    /// The image is not 1 to 131,072 whole sectors of 512 bytes.
+    BadSize,
+    /// The depth is not 1 to 32.
+    BadDepth,
+    /// The number of the first entry is over 2^63.
+    BadFirst,
+    /// Room for the image or the journal was refused.
+    OutOfMemory,
+}
+
+/// Why the journal was not handed out. The cases are tested in this order.
+#[derive(Clone, Copy, Debug, PartialEq, Eq)]
+pub enum TrimFault {
+    /// Some slot is not free, so also where the port is halted.
+    Busy,
+    /// The number of the next entry is over 2^63.
+    Spent,
+}
+
 /// Why the port did not recover. The cases are tested in this order.
 #[derive(Clone, Copy, Debug, PartialEq, Eq)]
 pub enum RecoverFault {

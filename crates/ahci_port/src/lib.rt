@@ -15,9 +15,12 @@ mod step;
 mod tag_sets;
 mod unqueued;
 
-pub use fault::{CollectFault, IssueFault, PlainFault, RecoverFault, ReissueFault, StepFault};
+pub use fault::{
+    CollectFault, IssueFault, PlainFault, RecoverFault, ReissueFault, ResumeFault, StepFault,
+    TrimFault,
+};
 pub use ncq_core::{DiskFault, Outcome};
-pub use port::Port;
+pub use port::{MOST_FIRST, Port};
 pub use reply::Reply;
 pub use sent::Sent;
 pub use step::{DeviceStep, Stepped};

@@ -4,6 +4,7 @@ mod looking;
 mod recovering;
 mod serving;
 mod stepping;
+mod trimming;
 
 ghost use Rattle.std.specs.Prelude.{◌≡◌, ◌<◌, ◌≤◌, [], None, length, replicate, IfOk, IfErr, MatchOption, if◌then◌else◌, slice_index_or};
 ghost use Rattle.std.specs.Option.{option_map};
@@ -11,15 +12,17 @@ ghost use Rattle.ahci_regs.specs.Reading.{read_of};
 ghost use Rattle.ncq_core.specs.DiskState.{new_fault, new_disk, IsDisk};
 ghost use Rattle.ncq_journal.specs.Halted.{halted};
 ghost use Rattle.ncq_journal.specs.Image.{sector_at};
+ghost use Rattle.ncq_journal.specs.Numbering.{number_of};
 ghost use Rattle.ncq_journal.specs.Owed.{owed};
 ghost use Rattle.ncq_journal.specs.Phase.{phase};
 ghost use Rattle.ncq_journal.specs.Sector.{sector};
-ghost use Rattle.ahci_port.specs.Faults.{AnswersOr};
+ghost use Rattle.ahci_port.specs.Faults.{AnswersOr, most_first, resume_fault_of, resume_refusal};
 ghost use Rattle.ahci_port.specs.Headline.{Headline};
-ghost use Rattle.ahci_port.specs.PortView.{sectors_in, new_port, owner_of};
+ghost use Rattle.ahci_port.specs.PortView.{sectors_in, new_port, owner_of, port_from};
 ghost use Rattle.ahci_port.specs.Registers.{acknowledged};
 
-use crate::slot::{Slot, number_in, phase_in};
+use crate::fault::ResumeFault;
+use crate::slot::{Slot, phase_in, place_in};
 use crate::software::{started, write};
 use crate::unqueued::UnqueuedTable;
 use ahci_regs::{PortRegs, RegFault, Register};
@@ -29,6 +32,9 @@ use std::marker::Model;
 
 /// Room for a call's own entry, and for all that requests can need after it: four entries for each of 32 tags.
 const ROOM: u64 = 129;
+
+/// The highest number of a journal's first entry, 2^63: every later one fits a `u64`.
+pub const MOST_FIRST: u64 = 1 << 63;
 
 /// One AHCI port: its registers, command list, received FIS area and slots, the queueing disk behind it, and the journal of
 /// what it has done. Contracts see a `PortView`, of which `headline` holds.
@@ -52,9 +58,20 @@ impl<A: Allocator> Model for Port<A> {
 
     ghost Value = { PortView };
 
-    ghost view = { λ p. view_of p.starting.items p.disk p.registers p.unqueued.sent p.area p.slots.items p.journal.past };
+    ghost view = { λ p. view_of p.starting.items p.disk p.registers p.unqueued.sent p.area p.slots.items p.journal.first p.journal.past };
 
     ghost invariant = { λ p. Keeps p.starting.items p.disk p.registers p.slots.items p.headers p.journal.past p.journal.room };
+}
+
+/// The fault of a port that goes on, where no disk was made.
+fn resume_fault(fault: DiskFault) -> ResumeFault
+    ensures { result ≡ resume_fault_of fault }
+{
+    match fault {
+        DiskFault::BadSize => ResumeFault::BadSize,
+        DiskFault::BadDepth => ResumeFault::BadDepth,
+        DiskFault::OutOfMemory => ResumeFault::OutOfMemory,
+    }
 }
 
 /// As many free slots as the depth.
@@ -66,6 +83,14 @@ fn free_slots<A: Allocator>(alloc: A, depth: u32) -> Result<Vec<Option<Slot<A>>,
         slots.push(None)?;
     }
     Ok(slots)
+}
+
+/// The number of the entry at a place of a journal, counted back from its end, whose number fits.
+fn number_at<A: Allocator>(journal: &Journal<A>, place: u64) -> u64
+    requires { place < length journal.now.past }
+    ensures { result ≡ number_of journal.now.first place }
+{
+    journal.end() - (journal.len() - place)
 }
 
 /// A received FIS area into which nothing has come.
@@ -93,26 +118,63 @@ impl<A: Allocator + Clone> Port<A> {
         ensures ok { IfOk result (λ p. p ≡ new_port image.items depth) }
         ensures fault { AnswersOr result (new_fault image.items depth) DiskFault.OutOfMemory }
     {
+        Self::begin(alloc, image, depth, 0)
+    }
+
+    /// A port as `new` makes it, whose journal goes on from another one: its first entry has the number `first`.
+    ///
+    /// # Errors
+    /// `BadSize` and `BadDepth` as for `new`, then `BadFirst` where `first` is over 2^63; else `OutOfMemory` where a growth was
+    /// refused.
+    pub fn resume(alloc: A, image: Vec<u8, A>, depth: u32, first: u64) -> Result<Self, ResumeFault>
+        ensures ok { IfOk result (λ p. p ≡ port_from first image.items depth) }
+        ensures fault { AnswersOr result (resume_refusal image.items depth first) ResumeFault.OutOfMemory }
+    {
+        if first > MOST_FIRST {
+            return match Disk::new(image, depth) {
+                Ok(_) => Err(ResumeFault::BadFirst),
+                Err(fault) => Err(resume_fault(fault)),
+            };
+        }
+        match Self::begin(alloc, image, depth, first) {
+            Ok(port) => Ok(port),
+            Err(fault) => Err(resume_fault(fault)),
+        }
+    }
+
+    /// A port over this image, whose journal's first entry has this number.
+    fn begin(alloc: A, image: Vec<u8, A>, depth: u32, first: u64) -> Result<Self, DiskFault>
+        requires { first ≤ most_first }
+        ensures ok { IfOk result (λ p. p ≡ port_from first image.items depth) }
+        ensures fault { AnswersOr result (new_fault image.items depth) DiskFault.OutOfMemory }
+    {
         let starting = Self::copy_of(&alloc, image.as_slice());
         let disk = Disk::new(image, depth)?;
         let Ok(starting) = starting else {
             return Err(DiskFault::OutOfMemory);
         };
         let depth = disk.depth();
-        match Self::over(alloc, starting, disk, depth) {
+        match Self::over(alloc, starting, disk, depth, first) {
             Ok(port) => Ok(port),
             Err(_) => Err(DiskFault::OutOfMemory),
         }
     }
 
     /// The port of a new disk over this image.
-    fn over(alloc: A, starting: Vec<u8, A>, disk: Disk<A>, depth: u32) -> Result<Self, AllocError>
+    fn over(
+        alloc: A,
+        starting: Vec<u8, A>,
+        disk: Disk<A>,
+        depth: u32,
+        first: u64,
+    ) -> Result<Self, AllocError>
         requires new { disk ≡ new_disk starting.items depth }
         requires disk { IsDisk (new_disk starting.items depth) }
-        ensures { IfOk result (λ p. p ≡ new_port starting.items depth) }
+        requires first { first ≤ most_first }
+        ensures { IfOk result (λ p. p ≡ port_from first starting.items depth) }
     {
         let slots = free_slots(alloc.clone()?, depth)?;
-        let journal = Journal::new(alloc.clone()?);
+        let journal = Journal::starting_at(alloc.clone()?, first);
         Ok(Port {
             alloc,
             starting,
@@ -135,8 +197,8 @@ impl<A: Allocator + Clone> Port<A> {
 }
 
 impl<A: Allocator> Port<A> {
-    /// The phase of a tag.
-    fn phase(&self, tag: u8) -> Phase
+    /// The phase of a tag, by its slot.
+    pub fn phase(&self, tag: u8) -> Phase
         ensures { result ≡ phase self.now.past tag }
     {
         phase_in(&self.slots, tag)
@@ -144,9 +206,12 @@ impl<A: Allocator> Port<A> {
 
     /// The number of the request that owns a tag's slot.
     pub fn owner(&self, tag: u8) -> Option<u64>
-        ensures { result ≡ owner_of self.now.past tag }
+        ensures { result ≡ owner_of self.now tag }
     {
-        number_in(&self.slots, tag)
+        match place_in(&self.slots, tag) {
+            Some(place) => Some(number_at(&self.journal, place)),
+            None => None,
+        }
     }
 
     /// The word that a read of the register at an offset gives (AHCI 1.3.1, sections 3.1 and 3.3): `Unaligned` where the
@@ -193,8 +258,10 @@ impl<A: Allocator> Port<A> {
         self.disk.sectors()
     }
 
-    /// What the port has done. There is room in the journal for all that its requests can still need.
+    /// What the port has done since it was made or trimmed. There is room in the journal for all that its requests can still
+    /// need.
     pub fn journal(&self) -> &Journal<A>
+        ensures first { result.now.first ≡ self.now.first }
         ensures past { result.now.past ≡ self.now.past }
         ensures room { owed self.now.past ≤ result.now.room }
         ensures headline { Headline self.now }
@@ -211,7 +278,7 @@ impl<A: Allocator> Port<A> {
         self.disk.copy(lba, out);
     }
 
-    /// Copies the sector at `lba` as it was when the port was made.
+    /// Copies the sector at `lba` as it was when the port was made or last trimmed.
     pub fn starting(&self, lba: u64, out: &mut [u8])
         requires within { lba < sectors_in self.now }
         requires len { length out.old ≡ 512 }

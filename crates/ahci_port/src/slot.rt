@@ -1,5 +1,6 @@
-ghost use Rattle.std.specs.Prelude.{◌≡◌, map, IfSome, IsSome, None, Some};
-ghost use Rattle.std.specs.Option.{option_map};
+ghost use Rattle.std.specs.Prelude.{◌≡◌, map, IsSome, None, Some, is_some};
+ghost use Rattle.std.specs.List.{list_any};
+ghost use Rattle.std.specs.Option.{option_copied, option_map};
 ghost use Rattle.ahci_table.specs.Command.{cfis, queued_of};
 ghost use Rattle.ahci_table.specs.Fit.{IsFit};
 ghost use Rattle.ahci_table.specs.Prdt.{pieces};
@@ -9,14 +10,12 @@ ghost use Rattle.ncq_core.specs.DiskState.{command_of};
 ghost use Rattle.ncq_core.specs.Serving.{HasMoved, serve_fault, served};
 ghost use Rattle.ahci_port.specs.Memory.{IsKept};
 ghost use Rattle.ahci_port.specs.Keeping.{slot_at};
-ghost use Rattle.ahci_port.specs.Slots.{phase_in, read_in};
-ghost use Rattle.ahci_port.specs.Moves.{collect_refusal_in, issued_slot, outcome_of, served_slot, taken_slot, reissued_slot, accepted_slot, failed_slot, recovered_slot};
+ghost use Rattle.ahci_port.specs.Slots.{phase_in, read_in, window_in};
+ghost use Rattle.ahci_port.specs.Moves.{issued_slot, outcome_of, served_slot, taken_slot, reissued_slot, accepted_slot, failed_slot, recovered_slot};
 
 use crate::ended::Ended;
-use crate::fault::CollectFault;
 use crate::memory::Memory;
 use crate::receiving::is_refusal;
-use crate::reply::Reply;
 use ahci_table::{Command, Window};
 use ncq_core::{Disk, Outcome, Phase};
 use sata_fis::D2h;
@@ -26,7 +25,8 @@ use std::marker::Model;
 /// A tag's request.
 #[derive(Drop)]
 pub(crate) struct Slot<A: Allocator = Global> {
-    number: u64,
+    /// The place of its Issue entry in the journal.
+    place: u64,
     is_write: bool,
     lba: u64,
     sectors: u32,
@@ -41,7 +41,7 @@ impl<A: Allocator> Model for Slot<A> {
 
     ghost Value = { SlotState };
 
-    ghost view = { λ s. record { number = s.number; is_write = s.is_write; lba = s.lba; sectors = s.sectors; phase = s.phase; ended = s.ended; window = s.memory.window } };
+    ghost view = { λ s. record { place = s.place; is_write = s.is_write; lba = s.lba; sectors = s.sectors; phase = s.phase; ended = s.ended; window = s.memory.window } };
 }
 
 /// How a command ends that doesn't fail.
@@ -56,15 +56,15 @@ fn outcome_of(is_write: bool) -> Outcome
 }
 
 impl<A: Allocator> Slot<A> {
-    /// A command that is issued, as request `number`.
-    pub(crate) fn issued(number: u64, command: Command, window: Window<A>) -> Self
+    /// A command that is issued, whose entry stands at a place of the journal.
+    pub(crate) fn issued(place: u64, command: Command, window: Window<A>) -> Self
         requires fit { IsFit window }
         requires list { command.pieces.items ≡ pieces window }
         requires queued { command.queued ≡ queued_of window }
-        ensures { result ≡ issued_slot number command.queued window }
+        ensures { result ≡ issued_slot place command.queued window }
     {
         Slot {
-            number,
+            place,
             is_write: command.queued.write,
             lba: command.queued.lba,
             sectors: command.queued.sectors,
@@ -146,23 +146,13 @@ impl<A: Allocator> Slot<A> {
         &self.memory.window.bytes()[..20]
     }
 
-    /// The answer of a request that is done, and its window.
-    pub(crate) fn reply(self) -> (Reply, Window<A>)
+    /// How a request was answered that is done, and its window.
+    pub(crate) fn answer(self) -> (Ended, Window<A>)
         requires { IsSome self.ended }
-        ensures number { result.0.number ≡ self.number }
-        ensures ended { IfSome self.ended (λ e. (result.0.entry ≡ e.entry) × (result.0.outcome ≡ e.outcome)) }
+        ensures ended { self.ended ≡ Some result.0 }
         ensures window { result.1 ≡ self.window }
     {
-        let Ended { entry, outcome } = self.ended.unwrap();
-        let number = self.number;
-        (
-            Reply {
-                number,
-                entry,
-                outcome,
-            },
-            self.memory.window,
-        )
+        (self.ended.unwrap(), self.memory.window)
     }
 }
 
@@ -176,12 +166,12 @@ pub(crate) fn phase_in<A: Allocator>(slots: &[Option<Slot<A>>], tag: u8) -> Phas
     }
 }
 
-/// The number of the request that owns a tag's slot.
-pub(crate) fn number_in<A: Allocator>(slots: &[Option<Slot<A>>], tag: u8) -> Option<u64>
-    ensures { result ≡ option_map (λ s. s.number) (slot_at slots.now tag) }
+/// The place of the request that owns a tag's slot.
+pub(crate) fn place_in<A: Allocator>(slots: &[Option<Slot<A>>], tag: u8) -> Option<u64>
+    ensures { result ≡ option_map (λ s. s.place) (slot_at slots.now tag) }
 {
     match slots.get(tag as usize) {
-        Some(Some(slot)) => Some(slot.number),
+        Some(Some(slot)) => Some(slot.place),
         _ => None,
     }
 }
@@ -196,21 +186,21 @@ pub(crate) fn read_in<A: Allocator>(slots: &[Option<Slot<A>>], tag: u8) -> Optio
     }
 }
 
-/// Why request `number` of a tag is not collected.
-pub(crate) fn collect_fault<A: Allocator>(
-    slots: &[Option<Slot<A>>],
-    tag: u8,
-    number: u64,
-) -> Option<CollectFault>
-    ensures { result ≡ collect_refusal_in (slot_at slots.now tag) number }
+/// The window of a tag's slot, where it is owned.
+pub(crate) fn window_in<A: Allocator>(slots: &[Option<Slot<A>>], tag: u8) -> Option<&Window<A>>
+    ensures { option_copied result ≡ window_in (slot_at slots.now tag) }
 {
     match slots.get(tag as usize) {
-        Some(Some(slot)) if slot.number == number => match slot.phase {
-            Phase::Done => None,
-            _ => Some(CollectFault::NotYet),
-        },
-        _ => Some(CollectFault::Stranger),
+        Some(Some(slot)) => Some(&slot.memory.window),
+        _ => None,
     }
+}
+
+/// Whether some slot is owned.
+pub(crate) fn is_any_owned<A: Allocator>(slots: &[Option<Slot<A>>]) -> bool
+    ensures { result ≡ list_any is_some slots.now }
+{
+    slots.iter().any(|slot| slot.is_some())
 }
 
 /// All slots, once the port has recovered.

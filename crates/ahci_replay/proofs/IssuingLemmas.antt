@@ -9,7 +9,7 @@ use Rattle.ahci_port.specs.declared.fault.IssueFault.{IssueFault}
 use Rattle.ahci_port.specs.declared.fault.IssueFault.TheVariants as issue
 use Rattle.ahci_table.specs.Fit.{IsFit}
 use Rattle.ahci_table.specs.Window.{WindowState}
-use Rattle.ahci_port.specs.PortView.{PortView, is_free}
+use Rattle.ahci_port.specs.PortView.{PortView, is_free, next_number}
 use Rattle.ncq_journal.specs.Halted.{halted}
 use Rattle.ncq_journal.specs.Phase.{phase}
 use Rattle.ncq_journal.specs.declared.phase.Phase.{Phase}
@@ -139,12 +139,12 @@ early_names port w issue.OutOfMemory fit is memory = absurd (memory refl)
 
 -- what is answered of a window that is fit
 pub fit_answer : (old new : PortView) (w : WindowState) (said : Said) → IsFit w → AnswersWindow w old new said
-    → RefusedOr (port_says old w.tag) old new said (IsIssued w old new × (said ≡ says.Issued (length old.past)))
+    → RefusedOr (port_says old w.tag) old new said (IsIssued w old new × (said ≡ says.Issued (next_number old)))
 fit_answer old new w said fit (is_issued may _ issued told) =
-    subst (λ o. RefusedOr o old new said (IsIssued w old new × (said ≡ says.Issued (length old.past)))) (sym (ap (λ e. joined (option_map of_issue e)) (may_early old w.tag may))) (issued, told)
+    subst (λ o. RefusedOr o old new said (IsIssued w old new × (said ≡ says.Issued (next_number old)))) (sym (ap (λ e. joined (option_map of_issue e)) (may_early old w.tag may))) (issued, told)
 fit_answer old new w said fit (is_refused fault name refuses named same told) =
     let known : early_refusal old w.tag ≡ Some fault = early_names old w fault fit refuses (λ e. none_some (sym (ap of_issue e) ∙ named)) in
-    subst (λ o. RefusedOr o old new said (IsIssued w old new × (said ≡ says.Issued (length old.past)))) (sym (ap (λ e. joined (option_map of_issue e)) known ∙ named)) (same, told)
+    subst (λ o. RefusedOr o old new said (IsIssued w old new × (said ≡ says.Issued (next_number old)))) (sym (ap (λ e. joined (option_map of_issue e)) known ∙ named)) (same, told)
   where
     none_some : None ≡ Some name → ⊥
     none_some e = cc

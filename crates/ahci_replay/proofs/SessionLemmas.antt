@@ -1,16 +1,19 @@
 -- Lemmas about what a command does.
-use Rattle.std.proofs.Common.{◌≡◌, ℕ, List, Option, Some, None, Result, Ok, Err, IfOk, OnErr, refl, sym, ap, ◌∙◌, subst}
-use Rattle.std.specs.Option.{option_map}
-use Rattle.ahci_port.specs.Faults.{Answers, AnswersOr, collect_refusal}
+use Rattle.std.proofs.Common.{◌≡◌, ℕ, Bool, true, false, ◌||◌, cond, nat_eq, List, Option, Some, None, Result, Ok, Err, IfOk, OnErr, refl, sym, ap, ◌∙◌, subst}
+use Rattle.std.specs.Option.{option_map, unwrap_or}
+use Rattle.std.specs.Prelude.{nat_lt}
+use Rattle.std.proofs.lemmas.Bool.{true≢false}
+use Rattle.ahci_port.specs.Faults.{Answers, AnswersOr, collect_refusal, most_first}
 use Rattle.ahci_port.specs.PortView.{PortView}
-use Rattle.ahci_port.specs.Steps.{IsCollected}
+use Rattle.ahci_port.specs.Steps.{IsCollected, answer_to}
 use Rattle.ahci_script.specs.Said.{Said}
 use Rattle.ahci_script.specs.Said as says
 use Rattle.ahci_script.specs.declared.refusal.Refusal.{Refusal}
-use Rattle.ncq_journal.specs.Answer.{answer}
+use Rattle.ahci_script.specs.declared.refusal.Refusal.TheVariants as name
+use Rattle.ncq_core.specs.DiskState.{most_depth, most_disk_sectors}
 use Rattle.ncq_journal.specs.declared.outcome.Outcome.{Outcome}
 use Rattle.ahci_replay.specs.Commands.{HasCollected, RefusedOr, outcome_said}
-use Rattle.ahci_replay.specs.Refusals.{joined, of_collect}
+use Rattle.ahci_replay.specs.Refusals.{disk_refusal, joined, of_collect}
 
 -- what follows for the value of an Ok
 pub if_ok_from : {T E : Type 0} (r : Result T E) (P Q : T → Type 0) → IfOk r P → ((x : T) → P x → Q x) → IfOk r Q
@@ -48,7 +51,7 @@ refused_as (Some q) o' old new said Done Done' same more did =
 
 -- a request that the port handed out is collected
 pub collects : (T : Type 0) (x : T) (tag number : ℕ) (old new : PortView) (outcome : Outcome) (entry : ℕ) (bytes : List ℕ) (said : Said) → Answers {T = T} (Ok x) (collect_refusal old tag number)
-    → answer old.starting old.past number ≡ Some (record { entry = entry; outcome = outcome; bytes = bytes }) → IsCollected tag old new → said ≡ outcome_said outcome entry bytes
+    → answer_to old number ≡ Some (record { entry = entry; outcome = outcome; bytes = bytes }) → IsCollected tag old new → said ≡ outcome_said outcome entry bytes
     → RefusedOr (option_map of_collect (collect_refusal old tag number)) old new said (HasCollected tag number old new said)
 collects T x tag number old new outcome entry bytes said taken is collected told =
     carried_out T x (collect_refusal old tag number) of_collect old new said (HasCollected tag number old new said) taken
@@ -59,3 +62,17 @@ pub nothing_stands_against : {F : Type 0} (T : Type 0) (f lacking : F) (o : Opti
     → AnswersOr {T = T} {E = F} (Err f) o lacking → show f ≡ None → joined (option_map show o) ≡ None
 nothing_stands_against T f lacking None show is none = refl
 nothing_stands_against T f lacking (Some g) show is none = let same : g ≡ f = cc in ap show same ∙ none
+
+-- a disk against whose numbers nothing stands
+pub disk_made : (sectors depth : ℕ) (first : Option ℕ) → nat_eq sectors 0 ≡ false → nat_lt most_disk_sectors sectors ≡ false → nat_eq depth 0 ≡ false → nat_lt most_depth depth ≡ false
+    → nat_lt most_first (unwrap_or first 0) ≡ false → disk_refusal sectors depth first ≡ None
+disk_made sectors depth first = by (nat_eq sectors 0) (nat_lt most_disk_sectors sectors) (nat_eq depth 0) (nat_lt most_depth depth) (nat_lt most_first (unwrap_or first 0))
+  where
+    by : (a b d e f : Bool) → a ≡ false → b ≡ false → d ≡ false → e ≡ false → f ≡ false
+        → cond (a || b) (Some name.BadSize) (cond (d || e) (Some name.BadDepth) (cond f (Some name.BadFirst) None)) ≡ None
+    by false false false false false p q r s t = refl
+    by true b d e f p q r s t = absurd (true≢false p)
+    by false true d e f p q r s t = absurd (true≢false q)
+    by false false true e f p q r s t = absurd (true≢false r)
+    by false false false true f p q r s t = absurd (true≢false s)
+    by false false false false true p q r s t = absurd (true≢false t)

@@ -1,9 +1,10 @@
 -- What a script's commands do: the port that each of them leaves, and its answer. Want of memory is left aside.
 use Rattle.std.specs.Prelude.{ℕ, ◌+◌, ◌*◌, ◌^◌, ◌<◌, ◌≤◌, Bool, true, false, List, length, replicate, slice_index, Option, Some, None, IsOkAnd, ◌≡◌, ◌⊎◌}
+use Rattle.std.specs.Option.{unwrap_or}
 use Rattle.ahci_port.specs.Faults.{MayTake, RefusesIssue}
-use Rattle.ahci_port.specs.PortView.{PortView, new_port, sectors_in}
+use Rattle.ahci_port.specs.PortView.{PortView, next_number, port_from, sectors_in}
 use Rattle.ahci_port.specs.Registers.{acknowledged}
-use Rattle.ahci_port.specs.Steps.{IsIssued, IsStepped, IsCollected, IsRecovered, IsReissued, IsIdentified, IsFlushed}
+use Rattle.ahci_port.specs.Steps.{IsIssued, IsStepped, IsCollected, IsRecovered, IsReissued, IsIdentified, IsFlushed, answer_to, trimmed}
 use Rattle.ahci_port.specs.declared.fault.IssueFault.{IssueFault}
 use Rattle.ahci_port.specs.declared.step.DeviceStep.{DeviceStep}
 use Rattle.ahci_port.specs.declared.step.DeviceStep.TheVariants as device
@@ -20,7 +21,7 @@ use Rattle.ahci_table.specs.Defaults.{default_list}
 use Rattle.ahci_table.specs.Fit.{IsFit}
 use Rattle.ahci_table.specs.Window.{WindowState}
 use Rattle.ncq_core.specs.Identify.{identify_page}
-use Rattle.ncq_journal.specs.Answer.{Answer, answer}
+use Rattle.ncq_journal.specs.Answer.{Answer}
 use Rattle.ncq_journal.specs.Lawful.{most_sectors}
 use Rattle.ncq_journal.specs.Phase.{is_failed, phase}
 use Rattle.ncq_journal.specs.Sector.{sector}
@@ -35,12 +36,12 @@ pub record HasIssued (tag : ℕ) (work : Work) (old new : PortView) (said : Said
   pub window : WindowState
   pub built : IsBuilt tag work (default_list (sectors_of work)) window
   pub issued : IsIssued window old new
-  pub told : said ≡ says.Issued (length old.past)
+  pub told : said ≡ says.Issued (next_number old)
 
 -- a window that a script spells is handed to the port: it is fit and issued, and the answer has the entry of its Issue; or the
 -- port refuses it, nothing changes, and the answer has the name of the fault
 pub data AnswersWindow (window : WindowState) (old new : PortView) (said : Said) : Type 0 where
-  is_issued : MayTake old window.tag → IsFit window → IsIssued window old new → said ≡ says.Issued (length old.past) → AnswersWindow window old new said
+  is_issued : MayTake old window.tag → IsFit window → IsIssued window old new → said ≡ says.Issued (next_number old) → AnswersWindow window old new said
   is_refused : (fault : IssueFault) (name : Refusal) → RefusesIssue old window fault → of_issue fault ≡ Some name → new ≡ old → said ≡ says.Refused name → AnswersWindow window old new said
 
 -- the answer of a device's step
@@ -69,7 +70,7 @@ outcome_said (outcome.Failed error lba) entry bytes = says.Failed entry error lb
 -- a request is collected, and the answer is the request's
 pub record HasCollected (tag number : ℕ) (old new : PortView) (said : Said) : Type 0 where
   pub reply : Answer
-  pub is : answer old.starting old.past number ≡ Some reply
+  pub is : answer_to old number ≡ Some reply
   pub collected : IsCollected tag old new
   pub told : said ≡ outcome_said reply.outcome reply.entry reply.bytes
 
@@ -100,8 +101,9 @@ Does old (command.Reg off) new said = (new ≡ old) × IsOkAnd (read_of old.regi
 Does old (command.Ack mask) new said = (new ≡ record old { registers = acknowledged old.registers mask }) × (said ≡ says.Acked)
 Does old (command.Show lba) new said = (new ≡ old) × (said ≡ says.Sector lba (slice_index (sector old.starting old.past lba) 0))
 Does old command.Journal new said = (new ≡ old) × (said ≡ says.Journal (length old.past))
+Does old command.Trim new said = (new ≡ trimmed old) × (said ≡ says.Trimmed (length old.past))
 Does old (command.Raw tag header bytes) new said = ⊥
-Does old (command.Disk sectors depth) new said = ⊥
+Does old (command.Disk sectors depth first) new said = ⊥
 
 -- a refusal changes nothing, and its name is the answer; where there is none, this is done
 abbrev pub RefusedOr : Option Refusal → PortView → PortView → Said → Type 0 → Type 0
@@ -114,21 +116,21 @@ RunsOn old (command.Raw tag header bytes) new said = AnswersWindow (record { tag
 RunsOn old c new said = RefusedOr (refusal_on old c) old new said (Does old c new said)
 
 -- a disk of zeros with free slots, or a refusal
-abbrev pub MakesDisk : Option Refusal → ℕ → ℕ → Option PortView → Said → Type 0
-MakesDisk (Some refusal) sectors depth new said = (new ≡ None) × (said ≡ says.Refused refusal)
-MakesDisk None sectors depth new said =
-    (new ≡ Some (new_port (replicate (sectors * 512) 0) depth)) × (said ≡ says.Disk sectors depth)
+abbrev pub MakesDisk : Option Refusal → ℕ → ℕ → Option ℕ → Option PortView → Said → Type 0
+MakesDisk (Some refusal) sectors depth first new said = (new ≡ None) × (said ≡ says.Refused refusal)
+MakesDisk None sectors depth first new said =
+    (new ≡ Some (port_from (unwrap_or first 0) (replicate (sectors * 512) 0) depth)) × (said ≡ says.Disk sectors depth first)
 
 -- a command may stand here: a disk first, and then none
 abbrev pub is_in_place : Option PortView → ScriptCommand → Bool
-is_in_place None (command.Disk sectors depth) = true
+is_in_place None (command.Disk sectors depth first) = true
 is_in_place None c = false
-is_in_place (Some port) (command.Disk sectors depth) = false
+is_in_place (Some port) (command.Disk sectors depth first) = false
 is_in_place (Some port) c = true
 
 -- a command was run where it may stand: the port before it, the port that it leaves, and its answer
 abbrev pub Runs : Option PortView → ScriptCommand → Option PortView → Said → Type 0
-Runs None (command.Disk sectors depth) new said = MakesDisk (disk_refusal sectors depth) sectors depth new said
+Runs None (command.Disk sectors depth first) new said = MakesDisk (disk_refusal sectors depth first) sectors depth first new said
 Runs (Some old) c (Some new) said = RunsOn old c new said
 Runs old c new said = ⊥
 
@@ -152,6 +154,6 @@ MayLackOn port command.Flush = refusal_on port command.Flush ≡ None
 MayLackOn port c = ⊥
 
 abbrev pub MayLack : Option PortView → ScriptCommand → Type 0
-MayLack None (command.Disk sectors depth) = disk_refusal sectors depth ≡ None
+MayLack None (command.Disk sectors depth first) = disk_refusal sectors depth first ≡ None
 MayLack None c = ⊥
 MayLack (Some port) c = MayLackOn port c

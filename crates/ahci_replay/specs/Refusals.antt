@@ -1,7 +1,7 @@
 -- Why the port refuses a script's command, as the answer shows it. Want of memory is left aside: it is never shown.
 use Rattle.std.specs.Prelude.{ℕ, ◌^◌, ◌||◌, nat_eq, nat_le, nat_lt, if◌then◌else◌, Option, Some, None, Result, Ok, Err}
-use Rattle.std.specs.Option.{option_map}
-use Rattle.ahci_port.specs.Faults.{early_refusal, step_refusal, collect_refusal, recover_refusal, reissue_refusal, plain_refusal}
+use Rattle.std.specs.Option.{option_map, unwrap_or}
+use Rattle.ahci_port.specs.Faults.{early_refusal, step_refusal, collect_refusal, recover_refusal, reissue_refusal, plain_refusal, trim_refusal, most_first}
 use Rattle.ahci_port.specs.PortView.{PortView, sectors_in}
 use Rattle.ahci_port.specs.declared.fault.IssueFault.{IssueFault}
 use Rattle.ahci_port.specs.declared.fault.IssueFault.TheVariants as issue
@@ -13,6 +13,8 @@ use Rattle.ahci_port.specs.declared.fault.RecoverFault.{RecoverFault}
 use Rattle.ahci_port.specs.declared.fault.RecoverFault.TheVariants as recover
 use Rattle.ahci_port.specs.declared.fault.ReissueFault.{ReissueFault}
 use Rattle.ahci_port.specs.declared.fault.ReissueFault.TheVariants as reissue
+use Rattle.ahci_port.specs.declared.fault.TrimFault.{TrimFault}
+use Rattle.ahci_port.specs.declared.fault.TrimFault.TheVariants as trim
 use Rattle.ahci_port.specs.declared.fault.PlainFault.{PlainFault}
 use Rattle.ahci_port.specs.declared.fault.PlainFault.TheVariants as plain
 use Rattle.ahci_port.specs.declared.step.DeviceStep.TheVariants as device
@@ -46,6 +48,9 @@ use Rattle.ahci_script.specs.declared.refusal.Refusal.TheVariants.{
   Unaligned,
   NoSuchRegister,
   NoSuchSector,
+  Busy,
+  Spent,
+  BadFirst,
 }
 use Rattle.ncq_core.specs.DiskState.{most_depth, most_disk_sectors}
 use Rattle.ncq_journal.specs.Lawful.{most_sectors}
@@ -85,6 +90,10 @@ of_plain plain.Halted = Some Halted
 of_plain plain.QueueBusy = Some QueueBusy
 of_plain plain.OutOfMemory = None
 
+abbrev pub of_trim : TrimFault → Refusal
+of_trim trim.Busy = Busy
+of_trim trim.Spent = Spent
+
 -- a read of a register has no other fault
 abbrev pub of_register : RegFault → Refusal
 of_register reg.Unaligned = Unaligned
@@ -95,11 +104,12 @@ abbrev pub joined : Option (Option Refusal) → Option Refusal
 joined (Some r) = r
 joined None = None
 
--- why a disk is not made
-abbrev pub disk_refusal : ℕ → ℕ → Option Refusal
-disk_refusal sectors depth =
+-- why a disk is not made; where no first number is given, it is 0
+abbrev pub disk_refusal : ℕ → ℕ → Option ℕ → Option Refusal
+disk_refusal sectors depth first =
     if nat_eq sectors 0 || nat_lt most_disk_sectors sectors then Some BadSize
     else if nat_eq depth 0 || nat_lt most_depth depth then Some BadDepth
+    else if nat_lt most_first (unwrap_or first 0) then Some BadFirst
     else None
 
 -- why a command of so many sectors from an LBA on is not issued: its window is built first
@@ -129,6 +139,7 @@ refusal_on port (command.Collect tag number) = option_map of_collect (collect_re
 refusal_on port command.Recover = joined (option_map of_recover (recover_refusal port))
 refusal_on port (command.Reissue tag) = option_map of_reissue (reissue_refusal port tag)
 refusal_on port (command.Identify word) = joined (option_map of_plain (plain_refusal port))
+refusal_on port command.Trim = option_map of_trim (trim_refusal port)
 refusal_on port command.Flush = joined (option_map of_plain (plain_refusal port))
 refusal_on port (command.Reg off) = register_refusal (read_of port.registers off)
 refusal_on port (command.Show lba) = show_refusal port lba

@@ -37,7 +37,7 @@ pub(crate) fn filled<A: Allocator>(
 
 /// Issues a write. Count and address are compared before a byte of it is made, so that a bad one
 /// never ends in want of memory.
-pub(crate) fn write<A: Allocator + Clone>(
+pub(crate) fn write<A: Allocator + Copy>(
     port: &mut Port<A>,
     alloc: &A,
     tag: u8,
@@ -70,7 +70,7 @@ fn pieces_of<A: Allocator>(op: &Op<A>) -> ArrayVec<Piece, 32>
 
 /// Issues a command: its window is built first, so a bad count or address is told before anything
 /// that the port says.
-pub(crate) fn issue<A: Allocator + Clone>(
+pub(crate) fn issue<A: Allocator + Copy>(
     port: &mut Port<A>,
     alloc: &A,
     tag: u8,
@@ -98,7 +98,7 @@ pub(crate) fn issue<A: Allocator + Clone>(
 }
 
 /// Issues a window of any bytes, which are read into memory of its own.
-pub(crate) fn issue_raw<A: Allocator + Clone>(
+pub(crate) fn issue_raw<A: Allocator + Copy>(
     port: &mut Port<A>,
     alloc: &A,
     tag: u8,
@@ -115,7 +115,7 @@ pub(crate) fn issue_raw<A: Allocator + Clone>(
 }
 
 /// Issues a window.
-fn issue_window<A: Allocator + Clone>(
+fn issue_window<A: Allocator + Copy>(
     port: &mut Port<A>,
     window: Window<A>,
 ) -> Result<ScriptAnswer<A>, AllocError>

@@ -9,9 +9,11 @@ mod replaying;
 mod running;
 mod script;
 mod session;
+mod teller;
 mod unanswered;
 
 pub use ahci_script::CliFault;
-pub use replaying::replay;
+pub use replaying::{replay, replay_with};
 pub use session::Session;
+pub use teller::Teller;
 pub use unanswered::Unanswered;

@@ -6,18 +6,20 @@ ghost use Rattle.ahci_replay.specs.Commands.{is_in_place};
 ghost use Rattle.ahci_replay.specs.Transcript.{Grown, HasRun, IsCommandFault, IsLineFault, placed};
 
 use crate::session::Session;
+use crate::teller::Teller;
 use crate::unanswered::Unanswered;
 use ahci_script::{CliFault, Line, Output, ScriptCommand, parse};
 use std::alloc::Allocator;
 
 /// Answers a line of the given number.
-pub(crate) fn answer_line<A: Allocator + Clone>(
+pub(crate) fn answer_line<T: Teller<A>, A: Allocator + Copy>(
     session: &mut Session<A>,
     output: &mut Output<A>,
+    teller: &mut T,
     number: u64,
     line: &[u8],
 ) -> Result<(), CliFault>
-    ensures ok { OnOk result (Grown session.old line.now session.new output.old output.new) }
+    ensures ok { OnOk result (Grown T.notes session.old line.now session.new output.old output.new) }
     ensures err { OnErr result (output.new ≡ output.old) }
     ensures fault { IfErr result (IsLineFault session.old line.now number) }
     ensures wrong { placed session.old line.now ≡ None → result ≡ Err (CliFault.Line number) }
@@ -25,26 +27,31 @@ pub(crate) fn answer_line<A: Allocator + Clone>(
     match parse(line) {
         None => Err(CliFault::Line(number)),
         Some(Line::Skip) => Ok(()),
-        Some(Line::Run(command)) => answer_command(session, output, number, command),
+        Some(Line::Run(command)) => answer_command(session, output, teller, number, command),
     }
 }
 
-/// Runs the command of a line of the given number, and puts its answer into the output.
-fn answer_command<A: Allocator + Clone>(
+/// Runs the command of a line of the given number, and puts its answer into the output, and what is told behind it.
+fn answer_command<T: Teller<A>, A: Allocator + Copy>(
     session: &mut Session<A>,
     output: &mut Output<A>,
+    teller: &mut T,
     number: u64,
     command: ScriptCommand<'_>,
 ) -> Result<(), CliFault>
     requires { HasSmallTag command }
-    ensures ok { OnOk result ((text : List ℕ) × HasRun session.old command.entry session.new text
+    ensures ok { OnOk result ((text : List ℕ) × HasRun T.notes session.old command.entry session.new text
         × (output.new ≡ output.old ++ text)) }
     ensures err { OnErr result (output.new ≡ output.old) }
     ensures fault { IfErr result (IsCommandFault session.old command.entry number) }
     ensures wrong { is_in_place session.old command.entry ≡ false → result ≡ Err (CliFault.Line number) }
 {
+    teller.look(session.port());
     match session.run(command) {
-        Ok(answer) => Ok(output.put(&answer)?),
+        Ok(answer) => {
+            let notes = teller.tell(session.port())?;
+            Ok(output.put_noted(&answer, &notes)?)
+        }
         Err(Unanswered::OutOfPlace) => Err(CliFault::Line(number)),
         Err(Unanswered::OutOfMemory) => Err(CliFault::OutOfMemory),
     }

@@ -1,9 +1,11 @@
 //! The port's faults by the names that a script's answers show. Want of memory is never shown.
 
 ghost use Rattle.std.specs.Prelude.{◌≡◌};
-ghost use Rattle.ahci_replay.specs.Refusals.{of_collect, of_issue, of_plain, of_recover, of_register, of_reissue, of_step};
+ghost use Rattle.ahci_replay.specs.Refusals.{of_collect, of_issue, of_plain, of_recover, of_register, of_reissue, of_step, of_trim};
 
-use ahci_port::{CollectFault, IssueFault, PlainFault, RecoverFault, ReissueFault, StepFault};
+use ahci_port::{
+    CollectFault, IssueFault, PlainFault, RecoverFault, ReissueFault, StepFault, TrimFault,
+};
 use ahci_regs::RegFault;
 use ahci_script::Refusal;
 
@@ -59,6 +61,15 @@ pub(crate) fn reissue_refusal(fault: ReissueFault) -> Refusal
     match fault {
         ReissueFault::Halted => Refusal::Halted,
         ReissueFault::NotHeld => Refusal::NotHeld,
+    }
+}
+
+pub(crate) fn trim_refusal(fault: TrimFault) -> Refusal
+    ensures { result ≡ of_trim fault }
+{
+    match fault {
+        TrimFault::Busy => Refusal::Busy,
+        TrimFault::Spent => Refusal::Spent,
     }
 }
 

@@ -1,26 +1,43 @@
 ghost use Rattle.std.specs.Prelude.{IfErr, OnOk};
-ghost use Rattle.ahci_replay.specs.Transcript.{Replayed, ReplayedTo};
+ghost use Rattle.ahci_replay.specs.Transcript.{Replayed, ReplayedTo, no_notes};
 
 use crate::script::Script;
+use crate::teller::{AnswersAlone, Teller};
 use ahci_script::CliFault;
 use std::alloc::Allocator;
 use std::io::{Read, Write};
 
 /// Runs the script that the reader gives, and writes an answer for each command. The first fault
 /// in the order of the input ends it, after the answers to the lines before.
-pub fn replay<R: Read, W: Write, A: Allocator + Clone>(
+pub fn replay<R: Read, W: Write, A: Allocator + Copy>(
     alloc: A,
     reader: &mut R,
     writer: &mut W,
 ) -> Result<(), CliFault>
-    ensures ok { OnOk result (Replayed (R.remaining reader.old) (R.remaining reader.new)
+    ensures ok { OnOk result (Replayed no_notes (R.remaining reader.old) (R.remaining reader.new)
         (W.contents writer.old) (W.contents writer.new)) }
     ensures err { IfErr result
-        (ReplayedTo (R.remaining reader.old) (R.remaining reader.new)
+        (ReplayedTo no_notes (R.remaining reader.old) (R.remaining reader.new)
+        (W.contents writer.old) (W.contents writer.new)) }
+{
+    replay_with(alloc, &mut AnswersAlone { alloc }, reader, writer)
+}
+
+/// The same, and behind each answer stands what the teller tells of the command.
+pub fn replay_with<T: Teller<A>, R: Read, W: Write, A: Allocator + Copy>(
+    alloc: A,
+    teller: &mut T,
+    reader: &mut R,
+    writer: &mut W,
+) -> Result<(), CliFault>
+    ensures ok { OnOk result (Replayed T.notes (R.remaining reader.old) (R.remaining reader.new)
+        (W.contents writer.old) (W.contents writer.new)) }
+    ensures err { IfErr result
+        (ReplayedTo T.notes (R.remaining reader.old) (R.remaining reader.new)
         (W.contents writer.old) (W.contents writer.new)) }
 {
     let mut script = Script::new(alloc)?;
-    match script.run(reader, writer) {
+    match script.run(teller, reader, writer) {
         Ok(()) => {
             script.output.send(writer)?;
             Ok(())

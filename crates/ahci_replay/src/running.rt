@@ -12,7 +12,7 @@ use crate::answering::{collected, stepped};
 use crate::issuing::{issue, issue_raw, write};
 use crate::refusals::{
     collect_refusal, plain_refusal, recover_refusal, register_refusal, reissue_refusal,
-    step_refusal,
+    step_refusal, trim_refusal,
 };
 use crate::unanswered::Unanswered;
 use ahci_port::{DeviceStep, Port};
@@ -21,7 +21,7 @@ use ncq_core::Op;
 use std::alloc::{AllocError, Allocator};
 
 /// Runs a command on the port.
-pub(crate) fn run_on<A: Allocator + Clone>(
+pub(crate) fn run_on<A: Allocator + Copy>(
     port: &mut Port<A>,
     alloc: &A,
     command: ScriptCommand<'_>,
@@ -63,23 +63,24 @@ pub(crate) fn run_on<A: Allocator + Clone>(
         ScriptCommand::Ack { mask } => Ok(acknowledge(port, mask)),
         ScriptCommand::Show { lba } => Ok(show(port, lba)),
         ScriptCommand::Journal => Ok(ScriptAnswer::Journal(port.journal().len())),
+        ScriptCommand::Trim => Ok(trim(port)),
     }
 }
 
 /// Lets the device take a step.
 #[tactic(auto, using(crate::proofs::SteppingLemmas::ends_at))]
-fn step<A: Allocator + Clone>(port: &mut Port<A>, step: DeviceStep) -> ScriptAnswer<A>
+fn step<A: Allocator + Copy>(port: &mut Port<A>, step: DeviceStep) -> ScriptAnswer<A>
     ensures { RefusedOr (option_map of_step (step_refusal port.old step)) port.old port.new (said result)
         (HasStepped step port.old port.new (said result)) }
 {
     match port.step(step) {
-        Ok(done) => stepped(done, port.journal().len()),
+        Ok(done) => stepped(done, port.journal().end()),
         Err(fault) => ScriptAnswer::Refused(step_refusal(fault)),
     }
 }
 
 /// Collects a request. Where memory is refused for the bytes of a read, it is collected all the same.
-fn collect<A: Allocator + Clone>(
+fn collect<A: Allocator + Copy>(
     port: &mut Port<A>,
     alloc: &A,
     tag: u8,
@@ -97,7 +98,7 @@ fn collect<A: Allocator + Clone>(
 
 /// Recovers from a failure.
 #[tactic(auto, using(crate::proofs::SessionLemmas::nothing_stands_against))]
-fn recover<A: Allocator + Clone>(port: &mut Port<A>) -> Result<ScriptAnswer<A>, AllocError>
+fn recover<A: Allocator + Copy>(port: &mut Port<A>) -> Result<ScriptAnswer<A>, AllocError>
     ensures ok { IfOk result (λ answer. RunsOn port.old ScriptCommand.Recover port.new (said answer)) }
     ensures err { OnErr result (port.new ≡ port.old) }
     ensures lacking { OnErr result (refusal_on port.old ScriptCommand.Recover ≡ None) }
@@ -112,7 +113,7 @@ fn recover<A: Allocator + Clone>(port: &mut Port<A>) -> Result<ScriptAnswer<A>, 
 }
 
 /// Issues a held command again.
-fn reissue<A: Allocator + Clone>(port: &mut Port<A>, tag: u8) -> ScriptAnswer<A>
+fn reissue<A: Allocator + Copy>(port: &mut Port<A>, tag: u8) -> ScriptAnswer<A>
     ensures { RunsOn port.old (ScriptCommand.Reissue tag) port.new (said result) }
 {
     match port.reissue(tag) {
@@ -123,7 +124,7 @@ fn reissue<A: Allocator + Clone>(port: &mut Port<A>, tag: u8) -> ScriptAnswer<A>
 
 /// Shows a word of the page that IDENTIFY DEVICE reads.
 #[tactic(auto, using(crate::proofs::SessionLemmas::nothing_stands_against))]
-fn identify<A: Allocator + Clone>(
+fn identify<A: Allocator + Copy>(
     port: &mut Port<A>,
     word: u8,
 ) -> Result<ScriptAnswer<A>, AllocError>
@@ -153,7 +154,7 @@ fn word_in(page: &[u8; 512], word: u8) -> u16
 
 /// Sends FLUSH CACHE EXT.
 #[tactic(auto, using(crate::proofs::SessionLemmas::nothing_stands_against))]
-fn flush<A: Allocator + Clone>(port: &mut Port<A>) -> Result<ScriptAnswer<A>, AllocError>
+fn flush<A: Allocator + Copy>(port: &mut Port<A>) -> Result<ScriptAnswer<A>, AllocError>
     ensures ok { IfOk result (λ answer. RunsOn port.old ScriptCommand.Flush port.new (said answer)) }
     ensures err { OnErr result (port.new ≡ port.old) }
     ensures lacking { OnErr result (refusal_on port.old ScriptCommand.Flush ≡ None) }
@@ -167,8 +168,18 @@ fn flush<A: Allocator + Clone>(port: &mut Port<A>) -> Result<ScriptAnswer<A>, Al
     }
 }
 
+/// Hands the journal out, which ends here.
+fn trim<A: Allocator + Copy>(port: &mut Port<A>) -> ScriptAnswer<A>
+    ensures { RunsOn port.old ScriptCommand.Trim port.new (said result) }
+{
+    match port.trim() {
+        Ok(journal) => ScriptAnswer::Trimmed(journal.len()),
+        Err(fault) => ScriptAnswer::Refused(trim_refusal(fault)),
+    }
+}
+
 /// Shows a register's word.
-fn register<A: Allocator + Clone>(port: &Port<A>, off: u32) -> ScriptAnswer<A>
+fn register<A: Allocator + Copy>(port: &Port<A>, off: u32) -> ScriptAnswer<A>
     ensures { RunsOn port.now (ScriptCommand.Reg off) port.now (said result) }
 {
     match port.register(off) {
@@ -178,7 +189,7 @@ fn register<A: Allocator + Clone>(port: &Port<A>, off: u32) -> ScriptAnswer<A>
 }
 
 /// Acknowledges interrupts.
-fn acknowledge<A: Allocator + Clone>(port: &mut Port<A>, mask: u32) -> ScriptAnswer<A>
+fn acknowledge<A: Allocator + Copy>(port: &mut Port<A>, mask: u32) -> ScriptAnswer<A>
     ensures { RunsOn port.old (ScriptCommand.Ack mask) port.new (said result) }
 {
     port.acknowledge(mask);
@@ -186,7 +197,7 @@ fn acknowledge<A: Allocator + Clone>(port: &mut Port<A>, mask: u32) -> ScriptAns
 }
 
 /// Shows a sector of the disk as it is.
-fn show<A: Allocator + Clone>(port: &Port<A>, lba: u64) -> ScriptAnswer<A>
+fn show<A: Allocator + Copy>(port: &Port<A>, lba: u64) -> ScriptAnswer<A>
     ensures { RunsOn port.now (ScriptCommand.Show lba) port.now (said result) }
 {
     if lba >= u64::from(port.sectors()) {

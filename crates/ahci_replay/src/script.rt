@@ -3,6 +3,7 @@ ghost use Rattle.ahci_script.specs.declared.input.TheConstants.{INPUT_LIMIT};
 
 use crate::lines::answer_line;
 use crate::session::Session;
+use crate::teller::Teller;
 use ahci_script::{CliFault, Found, INPUT_LIMIT, Input, Output};
 use std::alloc::{AllocError, Allocator};
 use std::io::{Read, Write};
@@ -20,7 +21,7 @@ pub(crate) struct Script<A: Allocator> {
     ghost limited: { input.came ≤ INPUT_LIMIT },
 }
 
-impl<A: Allocator + Clone> Script<A> {
+impl<A: Allocator + Copy> Script<A> {
     ghost use Rattle.std.specs.Prelude.{◌≡◌, ◌≤◌, ◌+◌, ◌<◌, [], length, false, true, IfErr, IfOk, None, OnErr, OnOk};
     ghost use Rattle.std.specs.Io.KnownBytes.{IsAtEnd};
     ghost use Rattle.ahci_script.specs.Unread.{found_of, unfinished};
@@ -42,28 +43,34 @@ impl<A: Allocator + Clone> Script<A> {
     }
 
     /// Reads to the end of the input.
-    pub(crate) fn run<R: Read, W: Write>(
+    pub(crate) fn run<T: Teller<A>, R: Read, W: Write>(
         &mut self,
+        teller: &mut T,
         reader: &mut R,
         writer: &mut W,
     ) -> Result<(), CliFault>
-        ensures ok { OnOk result (Ends
+        ensures ok { OnOk result (Ends T.notes
             (place (R.remaining reader.old) (W.contents writer.old) self.old)
             (place (R.remaining reader.new) (W.contents writer.new) self.new)) }
-        ensures err { IfErr result (Stops
+        ensures err { IfErr result (Stops T.notes
             (place (R.remaining reader.old) (W.contents writer.old) self.old)
             (place (R.remaining reader.new) (W.contents writer.new) self.new)) }
     {
-        while self.turn(reader, writer)? {}
-        self.answer_rest()
+        while self.turn(teller, reader, writer)? {}
+        self.answer_rest(teller)
     }
 
     /// Answers the next line, or reads more where none is whole. `false` at the end of the input.
-    fn turn<R: Read, W: Write>(&mut self, reader: &mut R, writer: &mut W) -> Result<bool, CliFault>
-        ensures ok { OnOk result (Progress
+    fn turn<T: Teller<A>, R: Read, W: Write>(
+        &mut self,
+        teller: &mut T,
+        reader: &mut R,
+        writer: &mut W,
+    ) -> Result<bool, CliFault>
+        ensures ok { OnOk result (Progress T.notes
             (place (R.remaining reader.old) (W.contents writer.old) self.old)
             (place (R.remaining reader.new) (W.contents writer.new) self.new)) }
-        ensures err { IfErr result (Stops
+        ensures err { IfErr result (Stops T.notes
             (place (R.remaining reader.old) (W.contents writer.old) self.old)
             (place (R.remaining reader.new) (W.contents writer.new) self.new)) }
         ensures end { IfOk result (λ more. more ≡ false
@@ -72,9 +79,10 @@ impl<A: Allocator + Clone> Script<A> {
     {
         let length = match self.input.find_line() {
             Found::TooLong => return Err(CliFault::Line(self.line + 1)),
-            Found::Unfinished => return self.read_more(reader, writer),
+            Found::Unfinished => return self.read_more::<T, R, W>(reader, writer),
             Found::Line(line) => {
-                answer_line(&mut self.session, &mut self.output, self.line + 1, line)?;
+                let number = self.line + 1;
+                answer_line(&mut self.session, &mut self.output, teller, number, line)?;
                 line.len()
             }
         };
@@ -88,17 +96,17 @@ impl<A: Allocator + Clone> Script<A> {
 
     /// Reads more of the input. What is answered is written before, since the read may wait for
     /// whoever writes the script. `false` at the end of the input.
-    fn read_more<R: Read, W: Write>(
+    fn read_more<T: Teller<A>, R: Read, W: Write>(
         &mut self,
         reader: &mut R,
         writer: &mut W,
     ) -> Result<bool, CliFault>
         requires short { length self.old.input.bytes ≤ LINE_LIMIT }
         requires unfinished { found_of self.old.input.bytes ≡ unfinished }
-        ensures ok { OnOk result (Progress
+        ensures ok { OnOk result (Progress T.notes
             (place (R.remaining reader.old) (W.contents writer.old) self.old)
             (place (R.remaining reader.new) (W.contents writer.new) self.new)) }
-        ensures err { IfErr result (Stops
+        ensures err { IfErr result (Stops T.notes
             (place (R.remaining reader.old) (W.contents writer.old) self.old)
             (place (R.remaining reader.new) (W.contents writer.new) self.new)) }
         ensures sent { OnOk result (self.new.output ≡ []) }
@@ -111,8 +119,8 @@ impl<A: Allocator + Clone> Script<A> {
     }
 
     /// Answers the last line, where it lacks its line feed.
-    fn answer_rest(&mut self) -> Result<(), CliFault>
-        ensures ok { OnOk result (EndsWith self.old.session self.old.input.bytes
+    fn answer_rest<T: Teller<A>>(&mut self, teller: &mut T) -> Result<(), CliFault>
+        ensures ok { OnOk result (EndsWith T.notes self.old.session self.old.input.bytes
             self.new.session self.old.output self.new.output) }
         ensures err { OnErr result (self.new.output ≡ self.old.output) }
         ensures fault { IfErr result (IsLineFault self.old.session self.old.input.bytes (self.old.line + 1)) }
@@ -123,6 +131,7 @@ impl<A: Allocator + Clone> Script<A> {
         if rest.is_empty() {
             return Ok(());
         }
-        answer_line(&mut self.session, &mut self.output, self.line + 1, rest)
+        let number = self.line + 1;
+        answer_line(&mut self.session, &mut self.output, teller, number, rest)
     }
 }

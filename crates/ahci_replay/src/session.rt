@@ -1,6 +1,7 @@
 //! A script's port, once its disk was accepted.
 
 ghost use Rattle.std.specs.Prelude.{◌≡◌, IfErr, IfOk, OnErr, None, false};
+ghost use Rattle.std.specs.Option.{option_copied};
 ghost use Rattle.ahci_script.specs.Lines.{HasSmallTag};
 ghost use Rattle.ahci_script.specs.Said.{said};
 ghost use Rattle.ahci_replay.specs.Commands.{MakesDisk, MayLack, MayRun, Runs, is_in_place};
@@ -9,9 +10,9 @@ ghost use Rattle.ahci_replay.specs.Refusals.{disk_refusal};
 use crate::issuing::filled;
 use crate::running::run_on;
 use crate::unanswered::Unanswered;
-use ahci_port::Port;
+use ahci_port::{MOST_FIRST, Port, ResumeFault};
 use ahci_script::{Refusal, ScriptAnswer, ScriptCommand};
-use ncq_core::{DiskFault, MAX_DEPTH, MAX_SECTORS};
+use ncq_core::{MAX_DEPTH, MAX_SECTORS};
 use std::alloc::{AllocError, Allocator};
 use std::marker::Model;
 
@@ -31,7 +32,7 @@ impl<A: Allocator> Model for Session<A> {
     ghost view = { λ s. s.port };
 }
 
-impl<A: Allocator + Clone> Session<A> {
+impl<A: Allocator + Copy> Session<A> {
     /// No disk yet.
     pub fn new(alloc: A) -> Self
         ensures { result ≡ None }
@@ -57,19 +58,35 @@ impl<A: Allocator + Clone> Session<A> {
         match &mut self.port {
             Some(port) => run_on(port, &self.alloc, command),
             None => match command {
-                ScriptCommand::Disk { sectors, depth } => Ok(self.make_disk(sectors, depth)?),
+                ScriptCommand::Disk {
+                    sectors,
+                    depth,
+                    first,
+                } => Ok(self.make_disk(sectors, depth, first)?),
                 _ => Err(Unanswered::OutOfPlace),
             },
         }
     }
 
+    /// The port, once its disk was accepted.
+    pub fn port(&self) -> Option<&Port<A>>
+        ensures { option_copied result ≡ self.now }
+    {
+        self.port.as_ref()
+    }
+
     /// A disk of zeros. Its numbers are compared before an image is made.
-    fn make_disk(&mut self, sectors: u64, depth: u64) -> Result<ScriptAnswer<A>, AllocError>
+    fn make_disk(
+        &mut self,
+        sectors: u64,
+        depth: u64,
+        first: Option<u64>,
+    ) -> Result<ScriptAnswer<A>, AllocError>
         requires { self.old ≡ None }
         ensures ok { IfOk result (λ answer.
-            MakesDisk (disk_refusal sectors depth) sectors depth self.new (said answer)) }
+            MakesDisk (disk_refusal sectors depth first) sectors depth first self.new (said answer)) }
         ensures err { OnErr result (self.new ≡ self.old) }
-        ensures lacking { OnErr result (disk_refusal sectors depth ≡ None) }
+        ensures lacking { OnErr result (disk_refusal sectors depth first ≡ None) }
     {
         if sectors == 0 || sectors > u64::from(MAX_SECTORS) {
             return Ok(ScriptAnswer::Refused(Refusal::BadSize));
@@ -77,14 +94,22 @@ impl<A: Allocator + Clone> Session<A> {
         if depth == 0 || depth > u64::from(MAX_DEPTH) {
             return Ok(ScriptAnswer::Refused(Refusal::BadDepth));
         }
+        let number = first.unwrap_or(0);
+        if number > MOST_FIRST {
+            return Ok(ScriptAnswer::Refused(Refusal::BadFirst));
+        }
         let image = filled(self.alloc.clone()?, sectors as u32, 0)?;
-        match Port::new(self.alloc.clone()?, image, depth as u32) {
+        match Port::resume(self.alloc.clone()?, image, depth as u32, number) {
             Ok(port) => {
                 self.port = Some(port);
-                Ok(ScriptAnswer::Disk { sectors, depth })
+                Ok(ScriptAnswer::Disk {
+                    sectors,
+                    depth,
+                    first,
+                })
             }
             Err(fault) => match fault {
-                DiskFault::OutOfMemory => Err(AllocError),
+                ResumeFault::OutOfMemory => Err(AllocError),
                 // The numbers were compared above.
                 _ => unreachable!(),
             },

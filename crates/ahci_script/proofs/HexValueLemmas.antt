@@ -11,11 +11,13 @@ fold-none [] = refl
 fold-none (x ∷ xs) = fold-none xs
 
 -- the next digit of the rest goes behind the number
-fold-drop-hex : (number : Option ℕ) (i : ℕ) (xs : List ℕ) → i < length xs → fold with_hex_digit number (drop i xs) ≡ fold with_hex_digit (with_hex_digit number (get_or xs i 0)) (drop (i + 1) xs)
+fold-drop-hex : (number : Option ℕ) (i : ℕ) (xs : List ℕ) → i < length xs
+    → fold with_hex_digit number (drop i xs) ≡ fold with_hex_digit (with_hex_digit number (get_or xs i 0)) (drop (i + 1) xs)
 fold-drop-hex number i xs h = ap (fold with_hex_digit number) (drop_more xs i 0 h)
 
 -- a letter that is no digit: the word has no value
-pub no_digit : (v i : ℕ) (xs : List ℕ) → i < length xs → fold with_hex_digit (Some v) (drop i xs) ≡ hexadecimal_value xs → hex_digit_of (get_or xs i 0) ≡ None → hexadecimal_value xs ≡ None
+pub no_digit : (v i : ℕ) (xs : List ℕ) → i < length xs → fold with_hex_digit (Some v) (drop i xs) ≡ hexadecimal_value xs
+    → hex_digit_of (get_or xs i 0) ≡ None → hexadecimal_value xs ≡ None
 no_digit v i xs within so_far none =
     let gone : fold with_hex_digit (with_hex_digit (Some v) (get_or xs i 0)) (drop (i + 1) xs) ≡ None = rw none (fold-none (drop (i + 1) xs)) in
     sym so_far ∙ fold-drop-hex (Some v) i xs within ∙ gone

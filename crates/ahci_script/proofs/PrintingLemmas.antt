@@ -41,7 +41,7 @@ use Rattle.std.proofs.Common.{
 }
 use Rattle.std.proofs.Math.Nat.{pow-suc}
 use Rattle.std.proofs.Math.Seq.{take-append_seam}
-use Rattle.std.proofs.lemmas.Bool.{and_parts, and_from, cond-true, le-leb, lt-ltb}
+use Rattle.std.proofs.lemmas.Bool.{and_parts, and_from, cond-false, cond-true, le-leb, lt-leb, lt-ltb}
 use Rattle.std.proofs.lemmas.Bool.Decides.{nat_tests}
 use Rattle.std.proofs.lemmas.Fmt.{decimal_by_steps, decimal_nonempty, length-decimal-le}
 use Rattle.std.proofs.lemmas.List.Folds.{list_all-append}
@@ -76,12 +76,29 @@ pub cut-before : (word others : List ℕ) → is_word word ≡ true → cut_of (
 cut-before word others h =
     let at = space_behind word others h in
     let within : length word < length (before word others) = omega (arith, length-append word (32 ∷ others)) in
-    let found : cond (ltb (position_or_len (λ b. b == 32) (before word others)) (length (before word others))) (Some (position_or_len (λ b. b == 32) (before word others))) None ≡ Some (length word) =
+    let first = position_or_len (λ b. b == 32) (before word others) in
+    let found : cond (ltb first (length (before word others))) (Some first) None ≡ Some (length word) =
     ap (λ n. cond (ltb n (length (before word others))) (Some n) None) at ∙ cond-true _ (Some (length word)) None (lt-ltb (length word) (length (before word others)) within) in
     ap (λ o. option_map (λ i. (take i (before word others), drop (i + 1) (before word others))) o) found
     ∙ ap (λ l. Some (l, drop (length word + 1) (before word others))) (take-append_seam word (32 ∷ others))
     ∙ ap (λ n. Some (word, drop n (before word others))) (add-one (length word))
     ∙ ap (λ l. Some (word, l)) (drop_word word others)
+
+-- no space is in a word
+no_space : (word : List ℕ) → is_word word ≡ true → position_or_len (λ b. b == 32) word ≡ length word
+no_space [] h = refl
+no_space (b ∷ bs) h =
+    let parts = and_parts (not (b == 32)) (is_word bs) h in
+    cond-true (not (b == 32)) (1 + position_or_len (λ b. b == 32) bs) 0 parts.0 ∙ ap (λ n. 1 + n) (no_space bs parts.1) ∙ (omega arith)
+
+-- so it is not cut
+pub cut-word : (word : List ℕ) → is_word word ≡ true → cut_of word ≡ None
+cut-word word h =
+    let at = position_or_len (λ b. b == 32) word in
+    let found : cond (ltb at (length word)) (Some at) None ≡ None =
+    ap (λ n. cond (ltb n (length word)) (Some n) None) (no_space word h)
+    ∙ cond-false _ (Some (length word)) None (lt-leb (suc (length word)) (length word) (omega arith)) in
+    ap (λ o. option_map (λ i. (take i word, drop (i + 1) word)) o) found
 
 -- what holds of the digits of a number
 pub record Digits (n : ℕ) (ds : List ℕ) : Type 0 where
@@ -167,7 +184,8 @@ byte-back n h =
 
 pub byte-word : (n : ℕ) → is_word (hex_of 2 n) ≡ true
 byte-word n =
-    and_from (not (digit_glyph false (n / 16 % 16) == 32)) _ (glyph-word (n / 16 % 16) (omega arith)) (and_from (not (digit_glyph false (n % 16) == 32)) true (glyph-word (n % 16) (omega arith)) refl)
+    and_from (not (digit_glyph false (n / 16 % 16) == 32)) _ (glyph-word (n / 16 % 16) (omega arith))
+    (and_from (not (digit_glyph false (n % 16) == 32)) true (glyph-word (n % 16) (omega arith)) refl)
 
 -- bytes are read back: so many that there are two digits for each
 bytes-digits : (bytes : List ℕ) → list_all is_hex_digit (hex_bytes bytes) ≡ true

@@ -75,19 +75,23 @@ each_small [] tags h =
 each_small (word ∷ words) tags h = by (tag_of word) (each_of tag_of words) refl refl (each_small words) h
   where
     by : (o : Option ℕ) (p : Option (List ℕ)) → tag_of word ≡ o → each_of tag_of words ≡ p
-        → ((ts : List ℕ) → each_of tag_of words ≡ Some ts → (length ts ≡ length words) × All (λ t. t < 32) ts) → option_and_then (λ n. option_and_then (λ ns. Some (n ∷ ns)) p) o ≡ Some tags → (length tags ≡ length (word ∷ words)) × All (λ t. t < 32) tags
+        → ((ts : List ℕ) → each_of tag_of words ≡ Some ts → (length ts ≡ length words) × All (λ t. t < 32) ts)
+        → option_and_then (λ n. option_and_then (λ ns. Some (n ∷ ns)) p) o ≡ Some tags
+        → (length tags ≡ length (word ∷ words)) × All (λ t. t < 32) tags
     by None p is others small h = absurd (none_is_some tags h)
     by (Some t) None is others small h = absurd (none_is_some tags h)
     by (Some t) (Some ts) is others small h =
         let all : t ∷ ts ≡ tags = ap (λ o. unwrap_or o []) h in
         let rest = small ts others in
-        subst (λ xs. (length xs ≡ length (word ∷ words)) × All (λ t. t < 32) xs) all (ap suc rest.0, All-cons (λ t. t < 32) t ts (small_tag word t is) rest.1)
+        subst (λ xs. (length xs ≡ length (word ∷ words)) × All (λ t. t < 32) xs) all
+        (ap suc rest.0, All-cons (λ t. t < 32) t ts (small_tag word t is) rest.1)
 
 -- what a line spells as tags is a list of tags
 pub are_tags : (text tags : List ℕ) → tags_of text ≡ Some tags → AreTags tags
 are_tags text tags = by (each_of tag_of (words_of text)) refl
   where
-    within : (b : Bool) (found : List ℕ) → leb (length found) 32 ≡ b → cond b (Some found) None ≡ Some tags → (found ≡ tags) × (length found ≤ 32)
+    within : (b : Bool) (found : List ℕ) → leb (length found) 32 ≡ b → cond b (Some found) None ≡ Some tags
+        → (found ≡ tags) × (length found ≤ 32)
     within true found is h = (ap (λ o. unwrap_or o []) h, leb-true (length found) 32 is)
     within false found is h = absurd (none_is_some tags h)
 
@@ -103,7 +107,8 @@ are_tags text tags = by (each_of tag_of (words_of text)) refl
 abbrev pub behind : List ℕ → Option (List ℕ) → Option (List ℕ)
 behind tags more = option_map (λ ts. tags ++ ts) more
 
-behind-more : (tags : List ℕ) (t : ℕ) (more : Option (List ℕ)) → behind tags (option_and_then (λ ts. Some (t ∷ ts)) more) ≡ behind (tags ++ t ∷ []) more
+behind-more : (tags : List ℕ) (t : ℕ) (more : Option (List ℕ))
+    → behind tags (option_and_then (λ ts. Some (t ∷ ts)) more) ≡ behind (tags ++ t ∷ []) more
 behind-more tags t None = refl
 behind-more tags t (Some ts) = ap Some (sym (append_assoc tags (t ∷ []) ts))
 
@@ -117,12 +122,14 @@ record IsTaken (tags word taken : List ℕ) : Type 0 where
 with_tag-some : (tags word taken : List ℕ) → Some taken ≡ with_tag tags word → IsTaken tags word taken
 with_tag-some tags word taken h = by (ltb (length tags) 32) (tag_of word) refl refl (sym h)
   where
-    by : (b : Bool) (o : Option ℕ) → ltb (length tags) 32 ≡ b → tag_of word ≡ o → cond b (option_map (λ t. tags ++ t ∷ []) o) None ≡ Some taken → IsTaken tags word taken
+    by : (b : Bool) (o : Option ℕ) → ltb (length tags) 32 ≡ b → tag_of word ≡ o
+        → cond b (option_map (λ t. tags ++ t ∷ []) o) None ≡ Some taken → IsTaken tags word taken
     by false o is spelled h = absurd (none_is_some taken h)
     by true None is spelled h = absurd (none_is_some taken h)
     by true (Some t) is spelled h = record { tag = t; spelled = spelled; all = ap (λ o. unwrap_or o []) h; room = leb-true (suc (length tags)) 32 is }
 
-each-first : (tags : List ℕ) (t : ℕ) (word : List ℕ) (words : List (List ℕ)) → tag_of word ≡ Some t → behind tags (each_of tag_of (word ∷ words)) ≡ behind (tags ++ t ∷ []) (each_of tag_of words)
+each-first : (tags : List ℕ) (t : ℕ) (word : List ℕ) (words : List (List ℕ)) → tag_of word ≡ Some t
+    → behind tags (each_of tag_of (word ∷ words)) ≡ behind (tags ++ t ∷ []) (each_of tag_of words)
 each-first tags t word words spelled =
     ap (λ o. behind tags (option_and_then (λ n. option_and_then (λ ns. Some (n ∷ ns)) (each_of tag_of words)) o)) spelled
     ∙ behind-more tags t (each_of tag_of words)
@@ -150,25 +157,30 @@ ends tags taken text all cut more so_far =
     sym (cond-true (leb (length taken) 32) (Some taken) None (le-leb (length taken) 32 few)) ∙ ap (option_and_then at_most_32) read
 
 -- a word that spells no tag, or one tag too many: there is no list
-too_many : (tags : List ℕ) (t : ℕ) (more : Option (List ℕ)) → 32 ≤ length tags → option_and_then at_most_32 (behind tags (option_and_then (λ ts. Some (t ∷ ts)) more)) ≡ None
+too_many : (tags : List ℕ) (t : ℕ) (more : Option (List ℕ)) → 32 ≤ length tags
+    → option_and_then at_most_32 (behind tags (option_and_then (λ ts. Some (t ∷ ts)) more)) ≡ None
 too_many tags t None full = refl
 too_many tags t (Some ts) full =
     let len = length-append tags (t ∷ ts) in
     cond-false (leb (length (tags ++ t ∷ ts)) 32) (Some (tags ++ t ∷ ts)) None (lt-leb (length (tags ++ t ∷ ts)) 32 (omega (arith, len, full)))
 
-none_left : (tags word : List ℕ) (words : List (List ℕ)) → None ≡ with_tag tags word → option_and_then at_most_32 (behind tags (each_of tag_of (word ∷ words))) ≡ None
+none_left : (tags word : List ℕ) (words : List (List ℕ)) → None ≡ with_tag tags word
+    → option_and_then at_most_32 (behind tags (each_of tag_of (word ∷ words))) ≡ None
 none_left tags word words h = by (ltb (length tags) 32) (tag_of word) refl (sym h)
   where
     by : (b : Bool) (o : Option ℕ) → ltb (length tags) 32 ≡ b → cond b (option_map (λ t. tags ++ t ∷ []) o) None ≡ None
         → option_and_then at_most_32 (behind tags (option_and_then (λ n. option_and_then (λ ns. Some (n ∷ ns)) (each_of tag_of words)) o)) ≡ None
     by b None is h = refl
-    by false (Some t) is h = too_many tags t (each_of tag_of words) (let over : 32 < suc (length tags) = leb-false (suc (length tags)) 32 is in omega (arith, over))
+    by false (Some t) is h =
+        let over : 32 < suc (length tags) = leb-false (suc (length tags)) 32 is in
+        too_many tags t (each_of tag_of words) (omega (arith, over))
     by true (Some t) is h = absurd (none_is_some (tags ++ t ∷ []) (sym h))
 
 pub stops : (tags text word others : List ℕ) (all : Option (List ℕ)) → cut_of text ≡ Some (word, others) → None ≡ with_tag tags word
     → behind tags (each_of tag_of (words_of text)) ≡ all → None ≡ option_and_then at_most_32 all
 stops tags text word others all cut none so_far =
-    sym (none_left tags word (words_of others) none) ∙ ap (λ ws. option_and_then at_most_32 (behind tags (each_of tag_of ws))) (sym (words_of-cut text word others cut))
+    sym (none_left tags word (words_of others) none)
+    ∙ ap (λ ws. option_and_then at_most_32 (behind tags (each_of tag_of ws))) (sym (words_of-cut text word others cut))
     ∙ ap (option_and_then at_most_32) so_far
 
 pub stops_last : (tags text : List ℕ) (all : Option (List ℕ)) → cut_of text ≡ None → None ≡ with_tag tags text
@@ -192,7 +204,8 @@ printed_words t (u ∷ us) small all =
 each_back : (ts : List ℕ) → All (λ t. t < 32) ts → each_of tag_of (map decimal ts) ≡ Some ts
 each_back [] all = refl
 each_back (t ∷ ts) all =
-    ap (option_and_then (λ n. option_and_then (λ ns. Some (n ∷ ns)) (each_of tag_of (map decimal ts)))) (decimal_below-back 32 t (omega arith) (All-head (λ t. t < 32) t ts all))
+    ap (option_and_then (λ n. option_and_then (λ ns. Some (n ∷ ns)) (each_of tag_of (map decimal ts))))
+    (decimal_below-back 32 t (omega arith) (All-head (λ t. t < 32) t ts all))
     ∙ ap (option_and_then (λ ns. Some (t ∷ ns))) (each_back ts (All-tail (λ t. t < 32) t ts all))
 
 pub tags-back : (t : ℕ) (ts : List ℕ) → AreTags (t ∷ ts) → tags_of (decimal t ++ numbers_text ts) ≡ Some (t ∷ ts)

@@ -1,12 +1,13 @@
 -- The answers of a script, as they are written.
-use Rattle.std.specs.Prelude.{ℕ, zero, suc, ◌+◌, ◌-◌, ◌*◌, ◌/◌, ◌%◌, List, [], ◌∷◌, ◌++◌, length, slice_index, codes, false}
+use Rattle.std.specs.Prelude.{ℕ, zero, suc, ◌+◌, ◌-◌, ◌*◌, ◌/◌, ◌%◌, List, [], ◌∷◌, ◌++◌, Some, None, length, slice_index, codes, false}
 use Rattle.std.specs.Fmt.{decimal, digit_glyph}
 use Rattle.std.specs.List.{range_with_len}
-use Rattle.ahci_script.specs.Said.{Said, Disk, Issued, Accepted, Completed, FailedStep, Wrote, Read, Failed, Recovered, Reissued, Register, Acked, Word, Flushed, Sector, Journal, Refused}
+use Rattle.ahci_script.specs.Said.{Said, Disk, Issued, Accepted, Completed, FailedStep, Wrote, Read, Failed, Recovered, Reissued, Register, Acked, Word, Flushed, Sector, Journal, Trimmed, Refused}
 use Rattle.ahci_script.specs.declared.refusal.Refusal.{Refusal}
 use Rattle.ahci_script.specs.declared.refusal.Refusal.TheVariants.{
   BadSize,
   BadDepth,
+  BadFirst,
   BadCount,
   BadLba,
   NoSuchTag,
@@ -28,6 +29,8 @@ use Rattle.ahci_script.specs.declared.refusal.Refusal.TheVariants.{
   Unaligned,
   NoSuchRegister,
   NoSuchSector,
+  Busy,
+  Spent,
 }
 
 -- the last digits of a number as hexadecimal ones, in lower case
@@ -58,6 +61,7 @@ sectors_text bytes (suc n) = sectors_text bytes n ++ sector_text bytes n
 abbrev pub name_of : Refusal → List ℕ
 name_of BadSize = codes "BadSize"
 name_of BadDepth = codes "BadDepth"
+name_of BadFirst = codes "BadFirst"
 name_of BadCount = codes "BadCount"
 name_of BadLba = codes "BadLba"
 name_of NoSuchTag = codes "NoSuchTag"
@@ -79,10 +83,14 @@ name_of NotYet = codes "NotYet"
 name_of Unaligned = codes "Unaligned"
 name_of NoSuchRegister = codes "NoSuchRegister"
 name_of NoSuchSector = codes "NoSuchSector"
+name_of Busy = codes "Busy"
+name_of Spent = codes "Spent"
 
 -- an answer, without its line feed
 abbrev pub answer_text : Said → List ℕ
-answer_text (Disk sectors depth) = codes "disk " ++ (decimal sectors ++ (codes " " ++ decimal depth))
+answer_text (Disk sectors depth None) = codes "disk " ++ (decimal sectors ++ (codes " " ++ decimal depth))
+answer_text (Disk sectors depth (Some first)) =
+    codes "disk " ++ (decimal sectors ++ (codes " " ++ (decimal depth ++ (codes " " ++ decimal first))))
 answer_text (Issued entry) = codes "issued " ++ decimal entry
 answer_text (Accepted entry) = codes "accepted " ++ decimal entry
 answer_text (Completed first end) = codes "completed" ++ numbers_text (entries_between first end)
@@ -99,10 +107,12 @@ answer_text (Word word value) = codes "word " ++ (decimal word ++ (codes " " ++ 
 answer_text Flushed = codes "flushed"
 answer_text (Sector lba byte) = codes "sector " ++ (decimal lba ++ (codes " " ++ hex_of 2 byte))
 answer_text (Journal entries) = codes "journal " ++ decimal entries
+answer_text (Trimmed entries) = codes "trimmed " ++ decimal entries
 answer_text (Refused refusal) = codes "refused " ++ name_of refusal
 
 -- how many bytes its line has at most
 abbrev pub room_of : Said → ℕ
 room_of (Read entry bytes) = 64 + 3 * (length bytes / 512)
 room_of (Completed first end) = 64 + 21 * (end - first)
+room_of (Disk sectors depth (Some first)) = 64 + 21
 room_of said = 64

@@ -3,7 +3,7 @@ use Rattle.std.specs.Prelude.{ℕ, ◌<◌, ◌≤◌, ◌==◌, Bool, List, [],
 use Rattle.std.specs.List.{All, list_all}
 use Rattle.std.specs.Str.{bytes_eq}
 use Rattle.ahci_script.specs.declared.line.ScriptCommand.{ScriptCommand}
-use Rattle.ahci_script.specs.declared.line.ScriptCommand.TheVariants.{Disk, Write, Read, Raw, Accept, Serve, Fail, Collect, Recover, Reissue, Reg, Ack, Identify, Flush, Show, Journal}
+use Rattle.ahci_script.specs.declared.line.ScriptCommand.TheVariants.{Disk, Write, Read, Raw, Accept, Serve, Fail, Collect, Recover, Reissue, Reg, Ack, Identify, Flush, Show, Journal, Trim}
 use Rattle.ahci_script.specs.declared.line.Line.{Line}
 use Rattle.ahci_script.specs.declared.line.Line.TheVariants as the-line
 use Rattle.ahci_script.specs.HexBytes.{header_of, hex_bytes_of}
@@ -46,13 +46,27 @@ sectors_of = decimal_below sectors_limit
 abbrev pub page_word_of : List ℕ → Option ℕ
 page_word_of = decimal_below 256
 
--- disk S D
+-- D, or D F, where the cut of these words is known
+abbrev pub port_at : Option (List ℕ × List ℕ) → List ℕ → Option (ℕ × Option ℕ)
+port_at None words = do
+  depth ← decimal_of words
+  Some (depth, None)
+port_at (Some d) words = do
+  depth ← decimal_of d.0
+  first ← decimal_of d.1
+  Some (depth, Some first)
+
+-- D, or D F: the depth of a port, and the first number of its journal, where one is given
+abbrev pub port_of : List ℕ → Option (ℕ × Option ℕ)
+port_of words = port_at (cut_of words) words
+
+-- disk S D, or disk S D F
 abbrev pub disk_of : List ℕ → Option ScriptCommand
 disk_of arguments = do
   s ← cut_of arguments
   sectors ← decimal_of s.0
-  depth ← decimal_of s.1
-  Some (Disk sectors depth)
+  port ← port_of s.1
+  Some (Disk sectors port.0 port.1)
 
 -- write T LBA N BB
 abbrev pub write_of : List ℕ → Option ScriptCommand
@@ -164,12 +178,13 @@ named name arguments =
     else if bytes_eq name (codes "show") then show_of arguments
     else None
 
--- a command: `recover`, `flush` or `journal` alone, or a name, a space and the arguments
+-- a command: `recover`, `flush`, `journal` or `trim` alone, or a name, a space and the arguments
 abbrev pub command_of : List ℕ → Option ScriptCommand
 command_of line =
     if bytes_eq line (codes "recover") then Some Recover
     else if bytes_eq line (codes "flush") then Some Flush
     else if bytes_eq line (codes "journal") then Some Journal
+    else if bytes_eq line (codes "trim") then Some Trim
     else (cut_of line >>= λ c. named c.0 c.1)
 
 -- a list of tags: 1 to 32, each one of 32

@@ -1,12 +1,12 @@
 -- How a command is printed, and which of its numbers a script can have.
-use Rattle.std.specs.Prelude.{◌≡◌, ℕ, ◌^◌, ◌<◌, List, [], ◌∷◌, ◌++◌, Some, codes, length}
+use Rattle.std.specs.Prelude.{◌≡◌, ℕ, ◌^◌, ◌<◌, List, [], ◌∷◌, ◌++◌, Some, None, IfSome, codes, length}
 use Rattle.std.specs.List.{All}
 use Rattle.std.specs.Fmt.{decimal}
 use Rattle.ahci_script.specs.Answers.{hex_of, numbers_text}
 use Rattle.ahci_script.specs.Lines.{AreTags, line_of}
 use Rattle.ahci_script.specs.Number.{sectors_limit}
 use Rattle.ahci_script.specs.declared.line.ScriptCommand.{ScriptCommand}
-use Rattle.ahci_script.specs.declared.line.ScriptCommand.TheVariants.{Disk, Write, Read, Raw, Accept, Serve, Fail, Collect, Recover, Reissue, Reg, Ack, Identify, Flush, Show, Journal}
+use Rattle.ahci_script.specs.declared.line.ScriptCommand.TheVariants.{Disk, Write, Read, Raw, Accept, Serve, Fail, Collect, Recover, Reissue, Reg, Ack, Identify, Flush, Show, Journal, Trim}
 use Rattle.ahci_script.specs.declared.line.Line.TheVariants as line
 
 -- a word and the words behind it
@@ -20,7 +20,8 @@ hex_bytes (byte ∷ bytes) = hex_of 2 byte ++ hex_bytes bytes
 
 -- the words of a command, in the order of its fields
 abbrev pub printed : ScriptCommand → List ℕ
-printed (Disk sectors depth) = before (codes "disk") (before (decimal sectors) (decimal depth))
+printed (Disk sectors depth None) = before (codes "disk") (before (decimal sectors) (decimal depth))
+printed (Disk sectors depth (Some first)) = before (codes "disk") (before (decimal sectors) (before (decimal depth) (decimal first)))
 printed (Write tag lba sectors fill) = before (codes "write") (before (decimal tag) (before (decimal lba) (before (decimal sectors) (hex_of 2 fill))))
 printed (Read tag lba sectors) = before (codes "read") (before (decimal tag) (before (decimal lba) (decimal sectors)))
 printed (Raw tag header bytes) = before (codes "raw") (before (decimal tag) (before (hex_bytes header) (hex_bytes bytes)))
@@ -36,12 +37,13 @@ printed (Identify word) = before (codes "identify") (decimal word)
 printed Flush = codes "flush"
 printed (Show lba) = before (codes "show") (decimal lba)
 printed Journal = codes "journal"
+printed Trim = codes "trim"
 
 -- the numbers are in their ranges: a tag is below 32, a number of sectors at most 131,072, a byte or a word of the identify
 -- page below 256, an offset or a mask below 2^32, and every other number below 2^64; a list of tags has 1 to 32, a header 32
 -- bytes, and a window one at least
 abbrev pub IsInRange : ScriptCommand → Type 0
-IsInRange (Disk sectors depth) = (sectors < 2 ^ 64) × (depth < 2 ^ 64)
+IsInRange (Disk sectors depth first) = (sectors < 2 ^ 64) × (depth < 2 ^ 64) × IfSome first (λ n. n < 2 ^ 64)
 IsInRange (Write tag lba sectors fill) = (tag < 32) × (lba < 2 ^ 64) × (sectors < sectors_limit) × (fill < 256)
 IsInRange (Read tag lba sectors) = (tag < 32) × (lba < 2 ^ 64) × (sectors < sectors_limit)
 IsInRange (Raw tag header bytes) = (tag < 32) × (length header ≡ 32) × All (λ b. b < 256) header × (0 < length bytes) × All (λ b. b < 256) bytes

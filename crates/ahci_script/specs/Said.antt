@@ -1,11 +1,11 @@
 -- What an answer says, as plain values: a read's sectors are a list of bytes.
-use Rattle.std.specs.Prelude.{ℕ, List}
+use Rattle.std.specs.Prelude.{ℕ, List, Option}
 use Rattle.ahci_script.specs.declared.answer.ScriptAnswer.{ScriptAnswer}
 use Rattle.ahci_script.specs.declared.answer.ScriptAnswer.TheVariants as code
 use Rattle.ahci_script.specs.declared.refusal.Refusal.{Refusal}
 
 pub data Said : Type 0 where
-  Disk : (sectors depth : ℕ) → Said
+  Disk : (sectors depth : ℕ) (first : Option ℕ) → Said
   Issued : (entry : ℕ) → Said
   Accepted : (entry : ℕ) → Said
   Completed : (first end : ℕ) → Said
@@ -21,11 +21,12 @@ pub data Said : Type 0 where
   Flushed : Said
   Sector : (lba byte : ℕ) → Said
   Journal : (entries : ℕ) → Said
+  Trimmed : (entries : ℕ) → Said
   Refused : (refusal : Refusal) → Said
 
 -- what the code's answer says
 abbrev pub said : {A : _} → ScriptAnswer A → Said
-said (code.Disk sectors depth) = Disk sectors depth
+said (code.Disk sectors depth first) = Disk sectors depth first
 said (code.Issued entry) = Issued entry
 said (code.Accepted entry) = Accepted entry
 said (code.Completed first end) = Completed first end
@@ -41,4 +42,5 @@ said (code.Word word value) = Word word value
 said code.Flushed = Flushed
 said (code.Sector lba byte) = Sector lba byte
 said (code.Journal entries) = Journal entries
+said (code.Trimmed entries) = Trimmed entries
 said (code.Refused refusal) = Refused refusal

@@ -23,7 +23,7 @@ impl<'a> Model for HexBytes<'a> {
 
 impl<'a> HexBytes<'a> {
     /// The bytes that a word spells: an even number of hexadecimal digits, two at least, and nothing else.
-    pub(crate) fn new(word: &'a [u8]) -> Option<Self>
+    pub fn new(word: &'a [u8]) -> Option<Self>
         ensures { result ≡ hex_bytes_of word.now }
     {
         if word.is_empty() || word.len() % 2 != 0 || !is_hexadecimal(word) {
@@ -62,14 +62,14 @@ impl<'a> HexBytes<'a> {
 }
 
 /// Whether each letter of the word is a hexadecimal digit.
-fn is_hexadecimal(word: &[u8]) -> bool
+pub fn is_hexadecimal(word: &[u8]) -> bool
     ensures { result ≡ list_all is_hex_digit word.now }
 {
     word.iter().all(|b| hex_digit(*b).is_some())
 }
 
 /// The 32 bytes of a command header, by 64 hexadecimal digits.
-pub(crate) fn header(word: &[u8]) -> Option<[u8; 32]>
+pub fn header(word: &[u8]) -> Option<[u8; 32]>
     ensures { result ≡ header_of word.now }
 {
     let bytes = HexBytes::new(word)?;

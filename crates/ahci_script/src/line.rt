@@ -1,5 +1,5 @@
 ghost use Rattle.std.specs.Prelude.{◌≡◌, IfSome};
-ghost use Rattle.ahci_script.specs.Lines.{HasSmallTag, HasSmallTags, accept_of, ack_of, collect_of, command_of, disk_of, fail_of, identify_of, is_ascii, line_of, named, raw_of, read_of, reg_of, reissue_of, serve_of, show_of, write_of};
+ghost use Rattle.ahci_script.specs.Lines.{HasSmallTag, HasSmallTags, accept_of, ack_of, collect_of, command_of, disk_of, fail_of, identify_of, is_ascii, line_of, named, port_of, raw_of, read_of, reg_of, reissue_of, serve_of, show_of, write_of};
 
 use crate::hex_bytes::{HexBytes, header};
 use crate::number::{byte, decimal, hexadecimal, page_word, sectors, tag};
@@ -20,10 +20,11 @@ pub enum Line<'a> {
 /// numbers are any that fit their type. The bytes of a window stand in the line that was read.
 #[derive(Debug, Drop)]
 pub enum ScriptCommand<'a> {
-    /// `disk S D`: a new port over a disk of zeros.
+    /// `disk S D` or `disk S D F`: a new port over a disk of zeros, and F, the first number of its journal, where it is given.
     Disk {
         sectors: u64,
         depth: u64,
+        first: Option<u64>,
     },
     /// `write T LBA N BB`: issues a write of sectors that are filled with one byte.
     Write {
@@ -90,6 +91,8 @@ pub enum ScriptCommand<'a> {
     },
     /// `journal`: how many entries the journal has.
     Journal,
+    /// `trim`: hands out the journal's entries. The next entry's number goes on.
+    Trim,
 }
 
 /// Reads a line, without its line feed. `None` where it is not understood.
@@ -111,7 +114,7 @@ pub fn parse(line: &[u8]) -> Option<Line<'_>>
 }
 
 /// Whether each byte is below 128.
-pub(crate) fn is_all_ascii(text: &[u8]) -> bool
+pub fn is_all_ascii(text: &[u8]) -> bool
     ensures { result ≡ is_ascii text.now }
 {
     text.iter().all(|b| *b < 128)
@@ -130,6 +133,9 @@ fn spelled(line: &[u8]) -> Option<ScriptCommand<'_>>
     }
     if line == b"journal".as_slice() {
         return Some(ScriptCommand::Journal);
+    }
+    if line == b"trim".as_slice() {
+        return Some(ScriptCommand::Trim);
     }
     let (name, arguments) = cut(line)?;
     by_name(name, arguments)
@@ -174,10 +180,24 @@ fn disk(arguments: &[u8]) -> Option<ScriptCommand<'_>>
     ensures command { result ≡ disk_of arguments.now }
     ensures tag { IfSome result (λ command. HasSmallTag command) }
 {
-    let (sectors, depth) = cut(arguments)?;
+    let (sectors, others) = cut(arguments)?;
     let sectors = decimal(sectors)?;
-    let depth = decimal(depth)?;
-    Some(ScriptCommand::Disk { sectors, depth })
+    let (depth, first) = port(others)?;
+    Some(ScriptCommand::Disk {
+        sectors,
+        depth,
+        first,
+    })
+}
+
+/// The depth of a port, and behind it the first number of its journal where one is given.
+fn port(words: &[u8]) -> Option<(u64, Option<u64>)>
+    ensures { result ≡ port_of words.now }
+{
+    match cut(words) {
+        None => Some((decimal(words)?, None)),
+        Some((depth, first)) => Some((decimal(depth)?, Some(decimal(first)?))),
+    }
 }
 
 fn write(arguments: &[u8]) -> Option<ScriptCommand<'_>>

@@ -1,3 +1,5 @@
+//! Numbers as a script spells them.
+
 ghost use Rattle.std.specs.Prelude.{◌≡◌, ◌≤◌, ◌^◌, length, true, ◌<◌, IfSome};
 ghost use Rattle.std.specs.Char.{is_ascii_digit};
 ghost use Rattle.std.specs.List.{list_all};
@@ -5,7 +7,7 @@ ghost use Rattle.ahci_script.specs.HexBytes.{hex_digit_value};
 ghost use Rattle.ahci_script.specs.Number.{below, byte_of, decimal_below, decimal_of, decimal_value, hex_digit_of, hexadecimal_of, hexadecimal_value, sectors_limit, with_digit};
 
 /// A decimal number: 1 to 20 digits, whose value fits 64 bits.
-pub(crate) fn decimal(word: &[u8]) -> Option<u64>
+pub fn decimal(word: &[u8]) -> Option<u64>
     ensures { result ≡ decimal_of word.now }
 {
     if word.is_empty() || !is_digits(word) || word.len() > 20 {
@@ -15,7 +17,7 @@ pub(crate) fn decimal(word: &[u8]) -> Option<u64>
 }
 
 /// Whether each byte of the word is a digit.
-fn is_digits(word: &[u8]) -> bool
+pub fn is_digits(word: &[u8]) -> bool
     ensures { result ≡ list_all is_ascii_digit word.now }
 {
     word.iter().all(|b| b.is_ascii_digit())
@@ -43,7 +45,7 @@ fn push_digit(number: u64, digit: u8) -> Option<u64>
 }
 
 /// A tag: a decimal number from 0 to 31.
-pub(crate) fn tag(word: &[u8]) -> Option<u8>
+pub fn tag(word: &[u8]) -> Option<u8>
     ensures value { result ≡ decimal_below 32 word.now }
     ensures small { IfSome result (λ tag. tag < 32) }
 {
@@ -59,7 +61,7 @@ pub(crate) fn tag(word: &[u8]) -> Option<u8>
 const SECTORS_LIMIT: u64 = 131_073;
 
 /// A number of sectors: a decimal number from 0 to 131,072.
-pub(crate) fn sectors(word: &[u8]) -> Option<u32>
+pub fn sectors(word: &[u8]) -> Option<u32>
     ensures { result ≡ decimal_below sectors_limit word.now }
 {
     let number = decimal(word)?;
@@ -71,7 +73,7 @@ pub(crate) fn sectors(word: &[u8]) -> Option<u32>
 }
 
 /// A word of the identify page: a decimal number from 0 to 255.
-pub(crate) fn page_word(word: &[u8]) -> Option<u8>
+pub fn page_word(word: &[u8]) -> Option<u8>
     ensures { result ≡ decimal_below 256 word.now }
 {
     let number = decimal(word)?;
@@ -83,7 +85,7 @@ pub(crate) fn page_word(word: &[u8]) -> Option<u8>
 }
 
 /// The value of a hexadecimal digit, in either case.
-pub(crate) fn hex_digit(b: u8) -> Option<u8>
+pub fn hex_digit(b: u8) -> Option<u8>
     ensures { result ≡ hex_digit_of b }
 {
     match b {
@@ -103,7 +105,7 @@ pub(crate) fn hex_digit_value(b: u8) -> u8
 }
 
 /// A hexadecimal number: 1 to 8 digits, and nothing before them.
-pub(crate) fn hexadecimal(word: &[u8]) -> Option<u32>
+pub fn hexadecimal(word: &[u8]) -> Option<u32>
     ensures { result ≡ hexadecimal_of word.now }
 {
     if word.is_empty() || word.len() > 8 {
@@ -125,7 +127,7 @@ fn hex_value(digits: &[u8]) -> Option<u32>
 }
 
 /// A byte: exactly two hexadecimal digits.
-pub(crate) fn byte(word: &[u8]) -> Option<u8>
+pub fn byte(word: &[u8]) -> Option<u8>
     ensures { result ≡ byte_of word.now }
 {
     let [high, low] = word else {

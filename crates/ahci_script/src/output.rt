@@ -7,7 +7,7 @@ ghost use Rattle.ahci_script.specs.Said.{said};
 use crate::answer::ScriptAnswer;
 use crate::result_line::ResultLine;
 use crate::result_text;
-use crate::text::{push_line, room_for};
+use crate::text::{push, push_line, room_for};
 use std::alloc::{AllocError, Allocator, Global};
 use std::io::Write;
 use std::marker::Model;
@@ -62,6 +62,24 @@ impl<A: Allocator> Output<A> {
         Ok(())
     }
 
+    /// Appends an answer's text, its line feed, and notes that stand behind it. After a refused growth no byte of them waits.
+    pub fn put_noted<B: Allocator>(
+        &mut self,
+        answer: &ScriptAnswer<B>,
+        notes: &[u8],
+    ) -> Result<(), AllocError>
+        ensures ok { OnOk result (self.new ≡ self.old ++ (answer_text (said answer.now) ++ 10 ∷ notes.now)) }
+        ensures err { OnErr result (self.new ≡ self.old) }
+    {
+        let before = self.waiting.len();
+        self.put(answer)?;
+        if let Err(refused) = self.waiting.extend_from_slice(notes) {
+            self.waiting.truncate(before);
+            return Err(refused);
+        }
+        Ok(())
+    }
+
     /// Appends a result's text and its line feed. Room for both is asked for first, so after a refused growth no byte of
     /// them waits.
     pub fn put_result(&mut self, line: ResultLine<'_>) -> Result<(), AllocError>
@@ -70,6 +88,19 @@ impl<A: Allocator> Output<A> {
     {
         self.waiting.reserve(result_text::room_for(line))?;
         result_text::push_line(&mut self.waiting, line);
+        Ok(())
+    }
+
+    /// Appends a line of text and a line feed. Room for both is asked for first, so after a refused growth no byte of them
+    /// waits.
+    pub fn put_text(&mut self, text: &[u8]) -> Result<(), AllocError>
+        ensures ok { OnOk result (self.new ≡ self.old ++ (text.now ++ 10 ∷ [])) }
+        ensures err { OnErr result (self.new ≡ self.old) }
+    {
+        let room = text.len() + 1;
+        self.waiting.reserve(room)?;
+        push(&mut self.waiting, text);
+        push(&mut self.waiting, b"\n");
         Ok(())
     }
 

@@ -6,6 +6,8 @@ ghost use Rattle.ahci_script.specs.Answers.{name_of};
 pub enum Refusal {
     BadSize,
     BadDepth,
+    /// The first number is over 2^63.
+    BadFirst,
     BadCount,
     BadLba,
     NoSuchTag,
@@ -27,6 +29,10 @@ pub enum Refusal {
     Unaligned,
     NoSuchRegister,
     NoSuchSector,
+    /// Some slot is not free.
+    Busy,
+    /// The journal's next number is over 2^63.
+    Spent,
 }
 
 /// The refusal's name, as a script's answer shows it.
@@ -37,6 +43,7 @@ pub fn name(refusal: Refusal) -> &'static str
     match refusal {
         Refusal::BadSize => "BadSize",
         Refusal::BadDepth => "BadDepth",
+        Refusal::BadFirst => "BadFirst",
         Refusal::BadCount => "BadCount",
         Refusal::BadLba => "BadLba",
         Refusal::NoSuchTag => "NoSuchTag",
@@ -58,5 +65,7 @@ pub fn name(refusal: Refusal) -> &'static str
         Refusal::Unaligned => "Unaligned",
         Refusal::NoSuchRegister => "NoSuchRegister",
         Refusal::NoSuchSector => "NoSuchSector",
+        Refusal::Busy => "Busy",
+        Refusal::Spent => "Spent",
     }
 }

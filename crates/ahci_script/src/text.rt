@@ -3,17 +3,17 @@
 ghost use Rattle.std.specs.Prelude.{◌≡◌, ◌+◌, ◌-◌, ◌*◌, ◌/◌, ◌%◌, ◌^◌, ◌<◌, ◌≤◌, [], ◌∷◌, ◌++◌, IfSome, IsNone, length, vec_capacity, vec_len, false};
 ghost use Rattle.std.specs.Fmt.{decimal, digit_glyph};
 ghost use Rattle.ahci_script.specs.Answers.{answer_text, entries_between, hex_of, numbers_text, room_of, sectors_text};
-ghost use Rattle.ahci_script.specs.Said.{said};
+ghost use Rattle.ahci_script.specs.Said.{Disk, said};
 
 use crate::answer::ScriptAnswer;
 use crate::refusal::name;
 use itoa::Buffer;
 use std::alloc::Allocator;
 
-/// How many bytes a line has at most, but for the sectors of a read and the entries of a step.
+/// How many bytes a line has at most, but for a read's sectors, a step's entries and a journal's first number.
 pub(crate) const SHORT: usize = 64;
 
-/// How many bytes an entry's number has at most, with the space before it.
+/// How many bytes a number has at most, with the space before it.
 const NUMBER: usize = 21;
 
 /// How many bytes an answer's line has at most. `None` where no memory has as many.
@@ -24,6 +24,7 @@ pub(crate) fn room_for<A: Allocator>(answer: &ScriptAnswer<A>) -> Option<usize>
     match answer {
         ScriptAnswer::Read { bytes, .. } => Some(SHORT + 3 * (bytes.len() / 512)),
         ScriptAnswer::Completed { first, end } => room_for_entries(end.saturating_sub(*first)),
+        ScriptAnswer::Disk { first: Some(_), .. } => Some(SHORT + NUMBER),
         _ => Some(SHORT),
     }
 }
@@ -52,10 +53,11 @@ fn push_answer<T: Allocator, A: Allocator>(text: &mut Vec<u8, T>, answer: &Scrip
     ensures room { vec_len text.new < vec_capacity text.new }
 {
     match answer {
-        ScriptAnswer::Disk { sectors, depth } => {
-            push_number(text, b"disk ", *sectors);
-            push_number(text, b" ", *depth);
-        }
+        ScriptAnswer::Disk {
+            sectors,
+            depth,
+            first,
+        } => push_disk(text, *sectors, *depth, *first),
         ScriptAnswer::Issued(entry) => push_number(text, b"issued ", *entry),
         ScriptAnswer::Accepted(entry) => push_number(text, b"accepted ", *entry),
         ScriptAnswer::Completed { first, end } => {
@@ -88,10 +90,24 @@ fn push_answer<T: Allocator, A: Allocator>(text: &mut Vec<u8, T>, answer: &Scrip
             push(text, &spaced_byte(*byte));
         }
         ScriptAnswer::Journal(entries) => push_number(text, b"journal ", *entries),
+        ScriptAnswer::Trimmed(entries) => push_number(text, b"trimmed ", *entries),
         ScriptAnswer::Refused(refusal) => {
             push(text, b"refused ");
             push(text, name(*refusal).as_bytes());
         }
+    }
+}
+
+/// Appends the numbers of a new disk, and behind them the first number of the journal where the line gave one.
+fn push_disk<T: Allocator>(text: &mut Vec<u8, T>, sectors: u64, depth: u64, first: Option<u64>)
+    requires { vec_len text.old + room_of (Disk sectors depth first) ≤ vec_capacity text.old }
+    ensures items { text.new.items ≡ text.old.items ++ answer_text (Disk sectors depth first) }
+    ensures room { vec_len text.new < vec_capacity text.new }
+{
+    push_number(text, b"disk ", sectors);
+    push_number(text, b" ", depth);
+    if let Some(first) = first {
+        push_number(text, b" ", first);
     }
 }
 
@@ -143,7 +159,7 @@ pub(crate) fn push_sectors<T: Allocator>(text: &mut Vec<u8, T>, bytes: &[u8])
 }
 
 /// A space and the two hexadecimal digits of a byte.
-pub(crate) fn spaced_byte(byte: u8) -> [u8; 3]
+pub fn spaced_byte(byte: u8) -> [u8; 3]
     ensures { result ≡ 32 ∷ hex_of 2 byte }
 {
     let value = u32::from(byte);
@@ -164,7 +180,7 @@ fn four_digits(value: u32) -> [u8; 4]
 }
 
 /// The eight hexadecimal digits of a number.
-fn eight_digits(value: u32) -> [u8; 8]
+pub fn eight_digits(value: u32) -> [u8; 8]
     ensures { result ≡ hex_of 8 value }
 {
     let [a, b, c, d] = four_digits(value / 16 / 16 / 16 / 16);

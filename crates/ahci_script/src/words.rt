@@ -1,8 +1,10 @@
+//! How a line falls into words.
+
 ghost use Rattle.std.specs.Prelude.{◌≡◌, ◌==◌, option_map, position};
 ghost use Rattle.ahci_script.specs.Words.{cut_of};
 
 /// The text before its first space, and the text behind that space. `None` where there is none.
-pub(crate) fn cut(text: &[u8]) -> Option<(&[u8], &[u8])>
+pub fn cut(text: &[u8]) -> Option<(&[u8], &[u8])>
     ensures { option_map (λ r. (r.0.now, r.1.now)) result ≡ cut_of text.now }
 {
     let at = first_space(text)?;

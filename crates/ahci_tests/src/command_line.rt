@@ -6,7 +6,7 @@ use std::alloc::Global;
 use std::test::Fail;
 
 /// The words of a command line.
-fn words(alloc: Global, line: &str) -> Result<Vec<String>, Fail> {
+pub fn words(alloc: Global, line: &str) -> Result<Vec<String>, Fail> {
     let mut all = Vec::new(alloc);
     for word in line.split_whitespace() {
         all.push(String::from_str(alloc, word)?)?;
@@ -51,9 +51,13 @@ const LARGEST: Asked = Asked::Run {
 };
 
 /// Lines that ask for something.
-static RIGHT: [(&str, Asked); 9] = [
+static RIGHT: [(&str, Asked); 13] = [
     ("ahci replay", Asked::Replay),
     ("ahci replay --", Asked::Replay),
+    ("ahci trace", Asked::Trace),
+    ("ahci check", Asked::Check),
+    ("ahci draw", Asked::Draw),
+    ("ahci draw --", Asked::Draw),
     ("ahci run --workers 2 --depth 3 --sectors 4", LOW),
     (
         "ahci run --pick high --sectors=4 --depth=3 --workers=2",
@@ -84,7 +88,7 @@ static WRONG: [(&str, ErrorKind, &str); 10] = [
     (
         "ahci --help",
         ErrorKind::DisplayHelp,
-        "replay  Read a script",
+        "replay    Read a script",
     ),
     ("ahci -h", ErrorKind::DisplayHelp, "Usage: ahci <COMMAND>"),
     (
@@ -229,14 +233,14 @@ static WRONG_RUNS: [(&str, ErrorKind, &str); 24] = [
     ),
 ];
 
-const MISSING: ErrorKind = ErrorKind::MissingRequiredArgument;
+pub const MISSING: ErrorKind = ErrorKind::MissingRequiredArgument;
 
-const TWICE: ErrorKind = ErrorKind::ArgumentConflict;
+pub const TWICE: ErrorKind = ErrorKind::ArgumentConflict;
 
-const RANGE: ErrorKind = ErrorKind::ValueValidation;
+pub const RANGE: ErrorKind = ErrorKind::ValueValidation;
 
 /// What a line that asks for nothing is told: its kind and its text.
-fn told(alloc: Global, line: &str) -> Result<(ErrorKind, String), Fail> {
+pub fn told(alloc: Global, line: &str) -> Result<(ErrorKind, String), Fail> {
     let words = words(alloc, line)?;
     let error = asked(alloc, words.as_slice()).err().ok_or("asked")?;
     Ok((error.kind(), format!(in alloc; "{error}")?))
@@ -261,8 +265,9 @@ fn help_and_wrong_words_are_told_in_clap_s_words(rt: HostRuntime) -> Result<(), 
 }
 
 /// The commands of a script, as help shows them.
-static COMMANDS: [&str; 16] = [
+static COMMANDS: [&str; 18] = [
     "disk S D",
+    "disk S D F",
     "write T LBA N BB",
     "read T LBA N",
     "raw T H B",
@@ -278,6 +283,7 @@ static COMMANDS: [&str; 16] = [
     "ack MASK",
     "show LBA",
     "journal",
+    "trim",
 ];
 
 #[test]

@@ -5,6 +5,8 @@
 #[cfg(test)]
 mod command_line;
 #[cfg(test)]
+mod page_lines;
+#[cfg(test)]
 mod port;
 #[cfg(test)]
 mod program;

@@ -18,3 +18,5 @@ mod one_seat;
 mod runs;
 #[cfg(test)]
 mod steps;
+#[cfg(test)]
+mod trimming;

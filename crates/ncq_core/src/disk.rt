@@ -15,7 +15,8 @@ ghost use Rattle.ncq_core.specs.Verdict.{stopped_by};
 ghost use Rattle.ncq_core.specs.Identify.{identify_page};
 
 use crate::disk::error::DiskError;
-use crate::disk::identify::identify_page;
+pub use crate::disk::identify::identify_page;
+pub use crate::disk::log::log_page;
 use crate::disk::moving::DATA_FIS;
 use crate::disk_fault::DiskFault;
 use ncq_journal::read_sectors;
@@ -113,6 +114,13 @@ impl<A: Allocator> Disk<A> {
             }
         }
         word
+    }
+
+    /// The sectors as they are now, one behind the other.
+    pub fn image(&self) -> &[u8]
+        ensures { result.now ≡ self.now.image }
+    {
+        self.image.as_slice()
     }
 
     /// Copies a sector, whose LBA is below `sectors`, into 512 bytes.

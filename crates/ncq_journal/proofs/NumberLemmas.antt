@@ -9,7 +9,7 @@ use Rattle.ncq_journal.proofs.EntryLemmas.{entry_at-past}
 place_below : (first number : ℕ) → number < first → place_of first number ≡ None
 place_below first number h = grind arith
 
-place_from : (first number place : ℕ) → number ≡ first + place → place_of first number ≡ Some place
+pub place_from : (first number place : ℕ) → number ≡ first + place → place_of first number ≡ Some place
 place_from first number place h = grind arith
 
 pub number_of_place : NumberOfPlace

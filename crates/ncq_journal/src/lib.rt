@@ -28,7 +28,7 @@ pub use lawful::{LBA_LIMIT, MAX_COUNT, is_allowed, is_lawful, is_proper};
 pub use op::Op;
 pub use outcome::Outcome;
 pub use owed::owed_by;
-pub use phase::{Phase, phase_of};
+pub use phase::{Phase, phase_after, phase_of};
 pub use plain::Plain;
 pub use request::{Request, request_of};
 pub use sector::{is_covered, read_sectors, sector_in, sector_of, write_sectors};

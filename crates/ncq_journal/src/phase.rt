@@ -64,8 +64,8 @@ impl Phase {
     }
 }
 
-/// The phase of a tag after one more event.
-fn phase_after<A: Allocator>(tag: u8, before: Phase, event: &Event<A>) -> Phase
+/// The phase of a tag after one more event, where it had this one before.
+pub fn phase_after<A: Allocator>(tag: u8, before: Phase, event: &Event<A>) -> Phase
     ensures { result ≡ phase_after tag before (entry_of event.now) }
 {
     match event {

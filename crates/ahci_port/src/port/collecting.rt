@@ -1,17 +1,15 @@
 //! How requests end: their answers are collected, and held commands are issued again.
 
 ghost use Rattle.std.specs.Prelude.{◌≡◌, Some, IfOk, OnOk, OnErr};
-ghost use Rattle.ncq_journal.specs.Answer.{answer};
 ghost use Rattle.ahci_table.specs.Fit.{IsFit};
 ghost use Rattle.ahci_port.specs.Faults.{Answers, collect_refusal, reissue_refusal};
 ghost use Rattle.ahci_port.specs.PortView.{window_at};
 ghost use Rattle.ahci_port.specs.Slots.{bytes_in};
-ghost use Rattle.ahci_port.specs.Steps.{IsCollected, IsReissued};
+ghost use Rattle.ahci_port.specs.Steps.{IsCollected, IsReissued, answer_to};
 
 use crate::fault::{CollectFault, ReissueFault};
-use crate::port::Port;
+use crate::port::{Port, number_at};
 use crate::reply::Reply;
-use crate::slot::collect_fault;
 use crate::software::issue;
 use ahci_table::Window;
 use ncq_core::{Event, Phase};
@@ -26,7 +24,7 @@ impl<A: Allocator> Port<A> {
     pub fn collect(&mut self, tag: u8, number: u64) -> Result<(Reply, Window<A>), CollectFault>
         ensures ok { OnOk result (IsCollected tag self.old self.new) }
         ensures number { IfOk result (λ r. r.0.number ≡ number) }
-        ensures reply { IfOk result (λ r. answer self.old.starting self.old.past number ≡ Some (record { entry = r.0.entry; outcome = r.0.outcome; bytes = bytes_in r.0.outcome r.1 })) }
+        ensures reply { IfOk result (λ r. answer_to self.old number ≡ Some (record { entry = r.0.entry; outcome = r.0.outcome; bytes = bytes_in r.0.outcome r.1 })) }
         ensures window { IfOk result (λ r. window_at self.old tag ≡ Some r.1) }
         ensures fit { IfOk result (λ r. IsFit r.1) }
         ensures fault { Answers result (collect_refusal self.old tag number) }
@@ -36,15 +34,28 @@ impl<A: Allocator> Port<A> {
             return Err(fault);
         }
         let slot = self.slots[tag as usize].take().unwrap();
+        let (ended, window) = slot.answer();
+        let entry = number_at(&self.journal, ended.entry);
         self.journal.push_reserved(Event::Collect(tag));
-        Ok(slot.reply())
+        let reply = Reply {
+            number,
+            entry,
+            outcome: ended.outcome,
+        };
+        Ok((reply, window))
     }
 
     /// Why request `number` of a tag is not collected.
     fn collect_fault(&self, tag: u8, number: u64) -> Option<CollectFault>
         ensures { result ≡ collect_refusal self.now tag number }
     {
-        collect_fault(&self.slots, tag, number)
+        match self.owner(tag) {
+            Some(owner) if owner == number => match self.phase(tag) {
+                Phase::Done => None,
+                _ => Some(CollectFault::NotYet),
+            },
+            _ => Some(CollectFault::Stranger),
+        }
     }
 
     /// Issues a held command again (AHCI 1.3.1, section 6.2.2): its bits of PxSACT and PxCI are set. It takes no memory.

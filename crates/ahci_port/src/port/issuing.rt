@@ -1,6 +1,6 @@
 //! How software issues a command.
 
-ghost use Rattle.std.specs.Prelude.{◌≡◌, length, IfOk, IfErr, OnOk};
+ghost use Rattle.std.specs.Prelude.{◌≡◌, IfOk, IfErr, OnOk};
 ghost use Rattle.ahci_table.specs.Command.{op, queued_of};
 ghost use Rattle.ahci_table.specs.Fit.{IsFit};
 ghost use Rattle.ahci_table.specs.Prdt.{pieces};
@@ -8,6 +8,7 @@ ghost use Rattle.ncq_journal.specs.Lawful.{IsProper};
 ghost use Rattle.ncq_journal.specs.Work.{work_of};
 ghost use Rattle.ahci_port.specs.Faults.{RefusesIssue, MayTake, early_refusal};
 ghost use Rattle.ahci_port.specs.Moves.{issue_fault_of};
+ghost use Rattle.ahci_port.specs.PortView.{next_number};
 ghost use Rattle.ahci_port.specs.Steps.{IsIssued};
 
 use crate::fault::IssueFault;
@@ -76,14 +77,14 @@ impl<A: Allocator> Port<A> {
 
 impl<A: Allocator + Clone> Port<A> {
     /// Issues the command of a window (AHCI 1.3.1, "Building a Command"): its header goes into the command list, the window
-    /// into its slot, and the tag's bit is set in PxSACT, then in PxCI. The answer is the request's number, the index of
+    /// into its slot, and the tag's bit is set in PxSACT, then in PxCI. The answer is the request's number, that of
     /// its Issue entry. Room for every later entry that the request needs without an error is reserved here.
     ///
     /// # Errors
     /// `Halted`, `NoSuchTag` where the tag is not below the depth, `SlotOwned`, the first rule that the window breaks, and
     /// `OutOfMemory` where a growth was refused; the window comes back as it was.
     pub fn issue(&mut self, window: Window<A>) -> Result<u64, (Window<A>, IssueFault)>
-        ensures number { IfOk result (λ n. n ≡ length self.old.past) }
+        ensures number { IfOk result (λ n. n ≡ next_number self.old) }
         ensures issued { OnOk result (IsIssued window self.old self.new) }
         ensures taken { OnOk result (MayTake self.old window.tag × IsFit window) }
         ensures fault { IfErr result (λ e. RefusesIssue self.old window e.1) }
@@ -103,10 +104,11 @@ impl<A: Allocator + Clone> Port<A> {
         let Ok(()) = self.journal.reserve(ROOM) else {
             return Err((window, IssueFault::OutOfMemory));
         };
-        let number = self.journal.len();
+        let place = self.journal.len();
+        let number = self.journal.end();
         self.headers[tag as usize] = *window.header();
         issue(&mut self.registers, tag);
-        self.slots[tag as usize] = Some(Slot::issued(number, command, window));
+        self.slots[tag as usize] = Some(Slot::issued(place, command, window));
         self.journal.push_reserved(Event::Issue(tag, op));
         Ok(number)
     }

@@ -1,14 +1,17 @@
 //! What a driver asks a port of. None of these calls takes memory.
 
 ghost use Rattle.std.specs.Prelude.{◌≡◌};
+ghost use Rattle.std.specs.Option.{option_copied};
 ghost use Rattle.word_bits.specs.Places.{bits};
 ghost use Rattle.ahci_port.specs.Headline.{Headline};
 ghost use Rattle.ahci_port.specs.Looking.{issued_tags, accepted_tags, held_tags, read_length, HasShape};
+ghost use Rattle.ahci_port.specs.PortView.{window_at};
 
 use crate::port::Port;
 use crate::sent::Sent;
-use crate::slot::read_in;
+use crate::slot::{read_in, window_in};
 use crate::tag_sets::TagSets;
+use ahci_table::Window;
 use ncq_core::Phase;
 use std::alloc::Allocator;
 use word_bits::with_bit;
@@ -67,7 +70,15 @@ impl<A: Allocator> Port<A> {
         read_in(&self.slots, tag)
     }
 
-    /// The sectors as they were when the port was made, one behind the other.
+    /// The window of a tag's slot: its command header, and the command table with the data behind it. `None` where the slot
+    /// is free.
+    pub fn window(&self, tag: u8) -> Option<&Window<A>>
+        ensures { option_copied result ≡ window_at self.now tag }
+    {
+        window_in(&self.slots, tag)
+    }
+
+    /// The sectors as they were when the port was made or last trimmed, one behind the other.
     pub fn starting_image(&self) -> &[u8]
         ensures { result.now ≡ self.now.starting }
     {

@@ -68,8 +68,8 @@ fn complete<A: Allocator>(
     requires room { 0 < journal.old.room }
     ensures { CompletesOne tag disk.old disk.new slot.old slot.new area.old area.new journal.old journal.new }
 {
-    let entry = journal.len();
-    let setup = slot.serve(disk, tag, entry);
+    let place = journal.len();
+    let setup = slot.serve(disk, tag, place);
     receive_setup(area, &setup);
     journal.push_reserved(Event::Complete(tag));
 }
@@ -85,7 +85,7 @@ impl<A: Allocator> Port<A> {
             return Err(fault);
         }
         the_disks_answers_are_these_bytes();
-        let first = self.journal.len();
+        let first = self.journal.end();
         for index in 0..tags.len() {
             let tag = tags[index];
             let Some(slot) = &mut self.slots[tag as usize] else {

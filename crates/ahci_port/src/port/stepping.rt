@@ -54,13 +54,13 @@ fn taken_event<A: Allocator>(tag: u8, answer: &D2h) -> Event<A>
 }
 
 /// What the step answers then.
-fn taken_step(entry: u64, answer: &D2h) -> Stepped
-    ensures { result ≡ taken_step entry answer.now }
+fn taken_step(number: u64, answer: &D2h) -> Stepped
+    ensures { result ≡ taken_step number answer.now }
 {
     if is_refusal(answer) {
-        Stepped::Failed(entry)
+        Stepped::Failed(number)
     } else {
-        Stepped::Accepted(entry)
+        Stepped::Accepted(number)
     }
 }
 
@@ -97,15 +97,16 @@ impl<A: Allocator> Port<A> {
             return Err(fault);
         }
         the_disks_answers_are_these_bytes();
-        let entry = self.journal.len();
+        let place = self.journal.len();
+        let number = self.journal.end();
         let Some(slot) = &mut self.slots[tag as usize] else {
             unreachable!();
         };
         let fis = answer_in(self.disk.take(slot.cfis()));
         let answer = receive_register(&mut self.registers, &mut self.area, &fis, tag);
-        slot.take(entry, &answer);
+        slot.take(place, &answer);
         self.journal.push_reserved(taken_event(tag, &answer));
-        Ok(taken_step(entry, &answer))
+        Ok(taken_step(number, &answer))
     }
 
     /// Why the device does not take a tag's command.
@@ -131,10 +132,11 @@ impl<A: Allocator> Port<A> {
             Ok(bits) => bits,
             Err(fault) => return Err(step_fault(fault)),
         };
-        let entry = self.journal.len();
+        let place = self.journal.len();
+        let number = self.journal.end();
         receive_bits(&mut self.registers, &mut self.area, &bits);
         match &mut self.slots[tag as usize] {
-            Some(slot) => slot.fail(entry, error, at),
+            Some(slot) => slot.fail(place, error, at),
             None => unreachable!(),
         }
         self.journal.push_reserved(Event::Fail {
@@ -142,6 +144,6 @@ impl<A: Allocator> Port<A> {
             error,
             lba: at,
         });
-        Ok(Stepped::Failed(entry))
+        Ok(Stepped::Failed(number))
     }
 }

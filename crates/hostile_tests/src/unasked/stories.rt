@@ -6,7 +6,7 @@ use crate::heap::{Heap, grant_all, refuse_from};
 use crate::shown::look_at;
 use ahci_port::{
     CollectFault, IssueFault, Outcome, PlainFault, Port, RecoverFault, ReissueFault, Reply,
-    StepFault, Stepped,
+    StepFault, Stepped, TrimFault,
 };
 use ahci_regs::RegFault;
 use ahci_table::{Window, default_pieces};
@@ -35,6 +35,7 @@ enum Call {
     /// The first byte of a sector.
     Sector(u64),
     Entries,
+    Trim,
 }
 
 /// What it answers.
@@ -49,22 +50,25 @@ enum Said {
     Reissued(Result<(), ReissueFault>),
     Flushed(Result<(), PlainFault>),
     Word(Result<u32, RegFault>),
+    /// How many entries were handed out.
+    Trimmed(Result<u64, TrimFault>),
     Byte(u8),
     Nothing,
 }
 
 use Call::{
     Acknowledge, Collect, Entries, Flush, Issue, IssueInVain, Recover, RecoverInVain, Register,
-    Reissue, Sector, Step,
+    Reissue, Sector, Step, Trim,
 };
-use Said::{Byte, Collected, NotIssued, Nothing, Number, Word};
+use Said::{Byte, Collected, NotIssued, Nothing, Number, Trimmed, Word};
 use Stepped::{Accepted, Completed, Failed};
 
 /// A call with its answer.
 type Row = (Call, Said);
 
-static STRANGERS: [Row; 15] = [
+static STRANGERS: [Row; 18] = [
     (Issue(0, 0, Some(0x11)), Number(0)),
+    (Trim, Trimmed(Err(TrimFault::Busy))),
     (Collect(0, 0), Collected(Err(CollectFault::NotYet))),
     (Step(Accept(0)), Said::Stepped(Ok(Accepted(1)))),
     (
@@ -82,6 +86,8 @@ static STRANGERS: [Row; 15] = [
             0x11,
         ))),
     ),
+    (Trim, Trimmed(Ok(4))),
+    (Entries, Number(0)),
     (Collect(0, 0), Collected(Err(CollectFault::Stranger))),
     (Issue(0, 0, None), Number(4)),
     (Collect(0, 0), Collected(Err(CollectFault::Stranger))),
@@ -304,6 +310,7 @@ fn goes<'a>(heap: &'a Heap, port: &mut Port<&'a Heap>, call: Call) -> Result<Sai
         }
         Sector(lba) => first_byte(port, lba),
         Entries => Number(port.journal().len()),
+        Trim => Trimmed(port.trim().map(|journal| journal.len())),
     })
 }
 

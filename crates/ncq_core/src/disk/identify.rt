@@ -45,8 +45,9 @@ fn identify_word(sectors: u32, depth: u32, number: usize) -> u16
     }
 }
 
-/// The whole page: 256 words, each with its low byte first.
-pub(super) fn identify_page(sectors: u32, depth: u32) -> [u8; 512]
+/// The page that IDENTIFY DEVICE reads of a disk with so many sectors, and 1 to 32 tags (ACS-3, "IDENTIFY DEVICE"): 256 words,
+/// each with its low byte first.
+pub fn identify_page(sectors: u32, depth: u32) -> [u8; 512]
     requires deep { 1 ≤ depth }
     requires shallow { depth ≤ 32 }
     ensures { result ≡ identify_page sectors depth }

@@ -9,6 +9,7 @@ ghost use Rattle.ncq_core.specs.Serving.{HasMoved, answered, byte_count, fail_fa
 
 use crate::disk::Disk;
 use crate::disk::answers::{dma_setup, failed};
+use crate::disk::error::DiskError;
 use crate::disk::log::log_page;
 use crate::disk::moving::move_data;
 use crate::host::Host;
@@ -73,7 +74,8 @@ impl<A: Allocator> Disk<A> {
         ensures page { IsSomeAnd self.old.error (λ e. result ≡ log_page e) }
         ensures state { self.new ≡ record self.old { error = None } }
     {
-        log_page(&self.error.take().unwrap())
+        let DiskError { tag, error, lba } = self.error.take().unwrap();
+        log_page(tag, error, lba)
     }
 
     /// The command outstanding at a tag, while no error stands.

@@ -8,5 +8,5 @@ use Rattle.ahci_driver.proofs.settling.settle.Given as goal
 abbrev pub invariant-loop-index : goal.invariant-loop-index
 invariant-loop-index g l = record {
   right : AllRight l.port (map work_of l.jobs) (map received_of l.receipts) l.workers l.index;
-  seen : AreSeen (map received_of l.receipts) (length l.port.past) l.index l.seen.items;
+  seen : AreSeen (map received_of l.receipts) l.port.first (length l.port.past) l.index l.seen.items;
 }

@@ -1,4 +1,5 @@
-use Rattle.std.proofs.Common.{◌≡◌, ◌∙◌, MatchOption, None, Some, ap, length, subst, sym}
+use Rattle.std.proofs.Common.{◌≡◌, ◌∙◌, MatchOption, None, Some, ap, subst, sym}
+use Rattle.ahci_port.specs.PortView.{next_number}
 use Rattle.ahci_port.specs.Steps.{IsIssued}
 use Rattle.ahci_script.specs.Said.{Issued, said}
 use Rattle.ahci_table.specs.Defaults.{default_list}
@@ -25,7 +26,7 @@ returns-in-Ok-clause-ok g c =
     let built = c.in-Ok.ensures.bytes in
     if_ok_from c.issue_window.result (λ x. AnswersWindow window old new (said x))
     (λ x. RefusedOr against old new (said x) (HasIssued a.tag work old new (said x))) c.issue_window.ensures.ok
-    (λ x answer. refused_as (port_says old window.tag) against old new (said x) (IsIssued window old new × (said x ≡ Issued (length old.past))) (HasIssued a.tag work old new (said x))
+    (λ x answer. refused_as (port_says old window.tag) against old new (said x) (IsIssued window old new × (said x ≡ Issued (next_number old))) (HasIssued a.tag work old new (said x))
     (free_issue old a.tag work c.requires.whole free ∙ ap (port_says old) (sym built.tag_is))
     (λ done. record { window = window; built = rw (← pieces) built; issued = done.0; told = done.1 })
     (fit_answer old new window (said x) c.in-Ok.ensures.fit answer))

@@ -9,6 +9,7 @@ use Rattle.sata_fis.specs.Layout.{d2h_at}
 use Rattle.sata_fis.specs.Spelling.{Spells}
 use Rattle.ahci_port.specs.Keeping.{Keeps}
 use Rattle.ahci_port.specs.Moves.{fis_of, taken_entry, taken_slot, taken_step}
+use Rattle.ahci_port.specs.PortView.{next_number}
 use Rattle.ahci_port.specs.Slots.{view_of}
 use Rattle.ahci_port.specs.Steps.{IsTaken}
 use Rattle.ahci_port.proofs.AcceptingLemmas.{disk_size, request_has}
@@ -77,8 +78,8 @@ state g c = c.take.ensures.state ∙ ap (λ b. (verdict c.self.inside.disk b).st
 
 slot : (g : _) (c : goal.After-taken_step g)
     → c.take-2.new.self ≡ taken_slot (here g c).owner.slot (length c.self.inside.journal.past) (d2h_at c.answer_in-fis.result)
-slot g c = c.take-2.ensures ∙ ap (taken_slot c.in-Some-index_mut.slot c.len-entry.result) c.receive_register-answer.ensures.answer
-    ∙ ap (λ n. taken_slot c.in-Some-index_mut.slot n (d2h_at c.answer_in-fis.result)) c.len-entry.ensures
+slot g c = c.take-2.ensures ∙ ap (taken_slot c.in-Some-index_mut.slot c.len-place.result) c.receive_register-answer.ensures.answer
+    ∙ ap (λ n. taken_slot c.in-Some-index_mut.slot n (d2h_at c.answer_in-fis.result)) c.len-place.ensures
     ∙ ap (λ s. taken_slot s (length c.self.inside.journal.past) (d2h_at c.answer_in-fis.result)) (sym (same g c))
 
 pasts : (g : _) (c : goal.After-taken_step g)
@@ -105,15 +106,15 @@ pub returns-clause-ok : goal.returns-clause-ok
 returns-clause-ok g c =
     let i = c.self.inside in
     let t = here g c in
-    let old = view_of i.starting.items i.disk i.registers i.unqueued.sent i.area i.slots.items i.journal.past in
+    let old = view_of i.starting.items i.disk i.registers i.unqueued.sent i.area i.slots.items i.journal.first i.journal.past in
     let next = taken_slot t.owner.slot (length i.journal.past) (d2h_at c.answer_in-fis.result) in
     let new = view_of i.starting.items c.take.new.self c.receive_register-answer.new.registers i.unqueued.sent c.receive_register-answer.new.area
-    (set i.slots.items c.args.tag (Some next)) c.push_reserved.new.self.past in
+    (set i.slots.items c.args.tag (Some next)) c.push_reserved.new.self.first c.push_reserved.new.self.past in
     let w = t.owner.slot.window in
     let size = disk_size c.self.invariant in
-    let step : c.taken_step.result ≡ taken_step (length i.journal.past) (d2h_at c.answer_in-fis.result) =
-    c.taken_step.ensures ∙ ap (taken_step c.len-entry.result) c.receive_register-answer.ensures.answer
-    ∙ ap (λ n. taken_step n (d2h_at c.answer_in-fis.result)) c.len-entry.ensures in
+    let step : c.taken_step.result ≡ taken_step (next_number old) (d2h_at c.answer_in-fis.result) =
+    c.taken_step.ensures ∙ ap (taken_step c.end-number.result) c.receive_register-answer.ensures.answer
+    ∙ ap (λ n. taken_step n (d2h_at c.answer_in-fis.result)) c.end-number.ensures in
     rw (← c.self.view_is, slot g c)
     (request_has i.starting.items i.journal.past c.args.tag t.owner.slot (λ r. IsTaken c.args.tag r.work old new c.taken_step.result) t.owner.holds
     (taken_as old new c.args.tag (op w) c.taken_step.result (first_lacking i.disk (queued_of w)) (is_past_end i.disk (queued_of w)) c.answer_in-fis.result
@@ -122,6 +123,7 @@ returns-clause-ok g c =
     step
     (record {
       starting_same = refl;
+      first_same = c.push_reserved.ensures.first;
       depth_same = ap (λ d. d.depth) (state g c) ∙ state_depth i.disk (queued_of w);
       past_is = pasts g c;
       sent_is = sym (sends_nothing c.args.tag (d2h_at c.answer_in-fis.result) i.unqueued.sent);

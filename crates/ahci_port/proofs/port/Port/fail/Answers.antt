@@ -47,7 +47,7 @@ here g c = may_fail _ _ _ _ _ _ _ c.args.tag c.args.error c.args.at c.self.invar
 
 slot : (g : _) (c : goal.After-push_reserved g)
     → c.fail-in-Some.new.self ≡ failed_slot (here g c).owner.slot (length c.self.inside.journal.past) c.args.error c.args.at
-slot g c = c.fail-in-Some.ensures ∙ ap (λ n. failed_slot c.in-Some.slot n c.args.error c.args.at) c.len-entry.ensures
+slot g c = c.fail-in-Some.ensures ∙ ap (λ n. failed_slot c.in-Some.slot n c.args.error c.args.at) c.len-place.ensures
     ∙ ap (λ s. failed_slot s (length c.self.inside.journal.past) c.args.error c.args.at)
     (sym (owner_is (here g c).owner _ _ c.index_mut.ensures.value c.in-Some.is))
 
@@ -72,8 +72,8 @@ returns-clause-ok g c =
     let m = here g c in
     rw (← c.self.view_is, slot g c)
     (record {
-      answer_is = ap (λ n. Failed n) c.len-entry.ensures;
-      appended = record { starting_same = refl; depth_same = ap (λ d. d.depth) c.in-Ok.ensures.state; past_is = c.push_reserved.ensures.past; sent_is = refl };
+      answer_is = ap (λ n. Failed n) c.end-number.ensures;
+      appended = record { starting_same = refl; first_same = c.push_reserved.ensures.first; depth_same = ap (λ d. d.depth) c.in-Ok.ensures.state; past_is = c.push_reserved.ensures.past; sent_is = refl };
       registers_are = regs g c;
       area_is = c.receive_bits.ensures.area ∙ ap (λ b. put_at bits_place b i.area) (said g c).1;
       windows_same = windows_same i.slots.items c.args.tag m.owner.slot (failed_slot m.owner.slot (length i.journal.past) c.args.error c.args.at) m.owner.here refl;

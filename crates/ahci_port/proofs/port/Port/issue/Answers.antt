@@ -18,7 +18,7 @@ pub invariant_of-self-2 : goal.invariant_of-self-2
 invariant_of-self-2 g c =
     let i = c.self.inside in
     let w = c.args.window in
-    let m = early_may (view_of i.starting.items i.disk i.registers i.unqueued.sent i.area i.slots.items i.journal.past) c.tag-tag.result
+    let m = early_may (view_of i.starting.items i.disk i.registers i.unqueued.sent i.area i.slots.items i.journal.first i.journal.past) c.tag-tag.result
     (ap (λ p. early_refusal p c.tag-tag.result) c.self.view_is ∙ sym c.early_fault.ensures ∙ c.in_default.is) in
     let vacant : slot_at i.slots.items c.tag-tag.result ≡ None =
     vacant_slot i.starting.items i.journal.past c.tag-tag.result (slot_at i.slots.items c.tag-tag.result) (c.self.invariant.each c.tag-tag.result) m.free in
@@ -28,8 +28,8 @@ invariant_of-self-2 g c =
     let room = c.in-Ok-reserve.ensures.room in
     rw (c.issued.ensures, c.issue.ensures, c.header.ensures, c.push_reserved.ensures.past, past_same, work)
     (keeps_issue i.starting.items i.disk i.registers i.slots.items i.headers i.journal.past i.journal.room c.push_reserved.new.self.room c.tag-tag.result
-    (issued_slot c.len-number.result c.in-Ok.command.queued w)
-    c.self.invariant m.below m.free m.running vacant c.in-Ok.ensures.fit (sym c.tag-tag.ensures.value) c.in-Ok-op_of.ensures.proper (c.len-number.ensures ∙ ap length past_same)
+    (issued_slot c.len-place.result c.in-Ok.command.queued w)
+    c.self.invariant m.below m.free m.running vacant c.in-Ok.ensures.fit (sym c.tag-tag.ensures.value) c.in-Ok-op_of.ensures.proper (c.len-place.ensures ∙ ap length past_same)
     (ap (λ q. q.write) queued ∙ sym (op_direction w), ap (λ q. q.lba) queued ∙ sym (op_lba w), ap (λ q. q.sectors) queued ∙ sym (op_sectors w (fit_sized w c.in-Ok.ensures.fit))) refl refl
     (let r = c.push_reserved.ensures.room in omega arith))
 
@@ -40,6 +40,7 @@ returns-clause-issued g c =
     (record {
       appended = record {
         starting_same = refl;
+        first_same = c.push_reserved.ensures.first ∙ c.in-Ok-reserve.ensures.first;
         depth_same = refl;
         past_is = c.push_reserved.ensures.past ∙ ap (λ t. Issue t (work_of c.in-Ok-op_of.op) ∷ c.reserve.new.self.past) c.tag-tag.ensures.value
             ∙ ap (λ x. Issue c.args.window.tag x ∷ c.reserve.new.self.past) c.in-Ok-op_of.ensures.work ∙ ap (λ p. Issue c.args.window.tag (op c.args.window) ∷ p) c.in-Ok-reserve.ensures.past;
@@ -47,12 +48,12 @@ returns-clause-issued g c =
       };
       registers_are = c.issue.ensures ∙ ap (issued i.registers) c.tag-tag.ensures.value;
       area_same = refl;
-      windows_are = map-set window_in i.slots.items c.args.window.tag (Some (issued_slot c.len-number.result c.in-Ok.command.queued c.args.window));
+      windows_are = map-set window_in i.slots.items c.args.window.tag (Some (issued_slot c.len-place.result c.in-Ok.command.queued c.args.window));
     })
 
 pub returns-clause-taken : goal.returns-clause-taken
 returns-clause-taken g c =
     let i = c.self.inside in
-    let m = early_may (view_of i.starting.items i.disk i.registers i.unqueued.sent i.area i.slots.items i.journal.past) c.tag-tag.result
+    let m = early_may (view_of i.starting.items i.disk i.registers i.unqueued.sent i.area i.slots.items i.journal.first i.journal.past) c.tag-tag.result
     (ap (λ p. early_refusal p c.tag-tag.result) c.self.view_is ∙ sym c.early_fault.ensures ∙ c.in_default.is) in
-    rw (← c.self.view_is) (subst (λ t. MayTake (view_of i.starting.items i.disk i.registers i.unqueued.sent i.area i.slots.items i.journal.past) t) c.tag-tag.ensures.value m, c.in-Ok.ensures.fit)
+    rw (← c.self.view_is) (subst (λ t. MayTake (view_of i.starting.items i.disk i.registers i.unqueued.sent i.area i.slots.items i.journal.first i.journal.past) t) c.tag-tag.ensures.value m, c.in-Ok.ensures.fit)

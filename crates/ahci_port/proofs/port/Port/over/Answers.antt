@@ -2,8 +2,9 @@ use Rattle.ahci_port.proofs.ReadingLemmas.{keeps_new, view_new}
 use Rattle.ahci_port.proofs.port.Port.over.Goals as goal
 
 pub invariant_of-result : goal.invariant_of-result
-invariant_of-result g c = rw (c.requires.new, c.started.ensures, c.in_ok-slots.ensures, c.new-journal.ensures.past, c.new-journal.ensures.room)
+invariant_of-result g c = rw (c.requires.new, c.started.ensures, c.in_ok-slots.ensures, c.starting_at-journal.ensures.past, c.starting_at-journal.ensures.room)
     (keeps_new c.args.starting.items c.args.depth c.no_headers.result c.requires.disk c.no_headers.ensures)
 
 pub returns : goal.returns
-returns g c = rw (c.new.ensures, c.requires.new, c.started.ensures, c.in_ok-slots.ensures, c.new-journal.ensures.past, c.empty_area.ensures) (view_new c.args.starting.items c.args.depth)
+returns g c = rw (c.new.ensures, c.requires.new, c.started.ensures, c.in_ok-slots.ensures, c.starting_at-journal.ensures.past, c.starting_at-journal.ensures.first, c.empty_area.ensures)
+    (view_new c.args.first c.args.starting.items c.args.depth)

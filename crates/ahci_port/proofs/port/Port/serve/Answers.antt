@@ -5,7 +5,7 @@ use Rattle.ahci_table.specs.Command.{queued_of}
 use Rattle.ahci_table.specs.Fit.{IsFit}
 use Rattle.ncq_core.specs.DiskFis.{completed_bytes}
 use Rattle.sata_fis.specs.Layout.{set_bits_at}
-use Rattle.ahci_port.specs.PortView.{put_at, bits_place}
+use Rattle.ahci_port.specs.PortView.{bits_place, next_number, put_at}
 use Rattle.ahci_port.specs.Registers.{completed, word_of_tags}
 use Rattle.ahci_port.specs.Serving.{CompletesOne}
 use Rattle.ahci_port.specs.Slots.{view_of}
@@ -25,6 +25,7 @@ pub loop-index-init : goal.loop-index-init
 loop-index-init g c = record {
   served = underway_first _ c.self.inside.disk c.self.inside.journal.room c.self.invariant refl (may g (goal.at.loop-index-init g c).After-len-index-end);
   starting_same = refl;
+  first_same = refl;
   registers_same = refl;
   headers_same = refl;
   unqueued_same = refl;
@@ -79,6 +80,7 @@ loop-index-preserved g c =
       served = rw same (underway_next _ c.loop-index.index i.disk c.complete.new.disk i.slots.items c.in-Some-index_mut.slot c.complete.new.slot i.area c.complete.new.area i.journal
           c.complete.new.journal (may g (goal.at.loop-index-preserved g c).After-len-index-end) u less found one);
       starting_same = c.loop-index.invariant.starting_same;
+      first_same = c.complete.ensures.first_same ∙ c.loop-index.invariant.first_same;
       registers_same = c.loop-index.invariant.registers_same;
       headers_same = c.loop-index.invariant.headers_same;
       unqueued_same = c.loop-index.invariant.unqueued_same;
@@ -143,14 +145,15 @@ returns-clause-ok g c =
     let i = c.loop-index.self-inside in
     let inv = c.loop-index.invariant in
     let tags = c.args.tags.now.items in
-    let old = view_of o.starting.items o.disk o.registers o.unqueued.sent o.area o.slots.items o.journal.past in
-    let new = view_of i.starting.items i.disk c.receive_bits.new.registers i.unqueued.sent c.receive_bits.new.area i.slots.items i.journal.past in
+    let old = view_of o.starting.items o.disk o.registers o.unqueued.sent o.area o.slots.items o.journal.first o.journal.past in
+    let new = view_of i.starting.items i.disk c.receive_bits.new.registers i.unqueued.sent c.receive_bits.new.area i.slots.items i.journal.first i.journal.past in
     let served = all g at.After-deref-2 in
     rw (← c.self.view_is)
     (record {
-      answer_is = ap (λ n. Completed n c.len.result) c.len-first.ensures ∙ ap (Completed (length o.journal.past)) c.len.ensures.value;
+      answer_is = ap (λ n. Completed n c.len.result) c.end-first.ensures ∙ ap (Completed (next_number old)) c.len.ensures.value;
       appended = record {
         starting_same = ap (λ v. v.items) inv.starting_same;
+        first_same = inv.first_same;
         depth_same = served.depth_same;
         past_is = past_all _ i.disk i.slots.items i.area i.journal.past i.journal.room served;
         sent_same = ap (λ q. q.sent) inv.unqueued_same;

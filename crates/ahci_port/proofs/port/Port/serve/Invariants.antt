@@ -18,6 +18,7 @@ invariant-loop-index g l = record {
       })
       l.index l.self-inside.disk l.self-inside.slots.items l.self-inside.area l.self-inside.journal.past l.self-inside.journal.room;
   starting_same : l.self-inside.starting ≡ l.initial.self-inside.starting;
+  first_same : l.self-inside.journal.first ≡ l.initial.self-inside.journal.first;
   registers_same : l.self-inside.registers ≡ l.initial.self-inside.registers;
   headers_same : l.self-inside.headers ≡ l.initial.self-inside.headers;
   unqueued_same : l.self-inside.unqueued ≡ l.initial.self-inside.unqueued;

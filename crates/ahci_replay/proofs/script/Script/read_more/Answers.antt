@@ -9,7 +9,7 @@ use Rattle.ahci_replay.proofs.script.Script.read_more.Goals as goal
 
 pub returns-in_err-send-clause-err : goal.returns-in_err-send-clause-err
 returns-in_err-send-clause-err g c =
-    if_err_from _ Write (Stops _ _) c.from_residual.ensures.1 (stops_sending _ _ _ _ _ _ _ _ _ _ _ _ c.in_err-send.ensures.part)
+    if_err_from _ Write (Stops _ _ _) c.from_residual.ensures.1 (stops_sending _ _ _ _ _ _ _ _ _ _ _ _ c.in_err-send.ensures.part)
 
 pub returns-in_err-fill-clause-err : goal.returns-in_err-fill-clause-err
 returns-in_err-fill-clause-err g c =
@@ -19,8 +19,8 @@ returns-in_err-fill-clause-err g c =
     let w' = g.W.Write.contents c.send.new.writer in
     let from = parts r w s.input.bytes s.output s.session (counts s.line s.input.came) in
     let sent = Progress-sent_same r w w' s.input.bytes s.input.bytes s.output c.send.new.self s.session (counts s.line s.input.came) c.in_ok-send.ensures.written c.in_ok-send.ensures.ok refl in
-    if_err_from _ Read (Stops _ _) c.from_residual-in_err-fill.ensures.1
-    (subst (λ (i : Unread). Stops from (parts (g.R.Read.remaining c.fill.new.reader) w' i.bytes c.send.new.self s.session (counts s.line i.came)) Read) (sym c.in_err-fill.ensures.err)
+    if_err_from _ Read (Stops _ _ _) c.from_residual-in_err-fill.ensures.1
+    (subst (λ (i : Unread). Stops _ from (parts (g.R.Read.remaining c.fill.new.reader) w' i.bytes c.send.new.self s.session (counts s.line i.came)) Read) (sym c.in_err-fill.ensures.err)
     (r, sent, (c.requires.unfinished, c.in_err-fill.ensures.failed)))
 
 pub returns-clause-ok : goal.returns-clause-ok

@@ -1,0 +1,9 @@
+use Rattle.std.proofs.Common.{IfSome, subst, sym}
+use Rattle.ahci_check.specs.Complaints.{IsColumn}
+use Rattle.ahci_check.proofs.AgreementLemmas.{complaint_column}
+use Rattle.ahci_check.proofs.judging.complaint_of.Goals as goal
+
+pub returns-clause-column : goal.returns-clause-column
+returns-clause-column c =
+    subst (λ complaint. IfSome complaint (λ k. IfSome k.column (IsColumn c.args.line.now))) (sym c.judged.ensures)
+    (complaint_column c.args.place c.args.number c.args.line.now)

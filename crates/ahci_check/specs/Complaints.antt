@@ -1,0 +1,116 @@
+-- What there is to say of a line, and whether a disk stands behind it.
+use Rattle.std.specs.Prelude.{◌≡◌, ℕ, ◌+◌, ◌-◌, ◌^◌, ◌≤◌, ◌==◌, Bool, true, false, List, [], Option, Some, None, Result, Ok, Err, option_map, is_none, length, nat_le, nat_lt, if◌then◌else◌}
+use Rattle.std.specs.Option.{unwrap_or}
+use Rattle.ahci_script.specs.Lines.{line_of}
+use Rattle.ahci_script.specs.declared.line.Line.{Line}
+use Rattle.ahci_script.specs.declared.line.Line.TheVariants.{Skip, Run}
+use Rattle.ahci_script.specs.declared.line.ScriptCommand.{ScriptCommand}
+use Rattle.ahci_script.specs.declared.line.ScriptCommand.TheVariants as command
+use Rattle.ahci_check.specs.Breaches.{behind}
+use Rattle.ahci_check.specs.Commands.{Words, line_words}
+use Rattle.ahci_check.specs.declared.complaint.Complaint.{Complaint}
+use Rattle.ahci_check.specs.declared.excess.Excess.{Excess}
+use Rattle.ahci_check.specs.declared.fault.Fault.{Fault}
+use Rattle.ahci_check.specs.declared.fault.Fault.TheVariants as fault
+use Rattle.ahci_check.specs.declared.limit.Limit.{Limit}
+use Rattle.ahci_check.specs.declared.limit.Limit.TheVariants as limit
+use Rattle.ahci_check.specs.declared.place.Place.{Place}
+use Rattle.ahci_check.specs.declared.place.Place.TheVariants.{BeforeDisk, BehindDisk}
+use Rattle.ahci_check.specs.declared.rule.Rule.{Rule}
+use Rattle.ahci_check.specs.declared.rule.Rule.TheVariants.{Language, Port}
+
+-- before the disk stands the disk alone, and behind it every other command
+abbrev pub is_in_place : Place → ScriptCommand → Bool
+is_in_place BeforeDisk (command.Disk sectors depth first) = true
+is_in_place BeforeDisk c = false
+is_in_place BehindDisk (command.Disk sectors depth first) = false
+is_in_place BehindDisk c = true
+
+-- the rule that a command breaks which isn't in place
+abbrev pub misplaced : Place → Fault
+misplaced BeforeDisk = fault.BeforeDisk
+misplaced BehindDisk = fault.SecondDisk
+
+-- the line is one of the language, and a command of it is in place
+abbrev pub stands_at : Place → Option Line → Bool
+stands_at place None = false
+stands_at place (Some Skip) = true
+stands_at place (Some (Run c)) = is_in_place place c
+
+abbrev pub stands : Place → List ℕ → Bool
+stands place line = stands_at place (line_of line)
+
+-- a number passes a limit where this end of a line begins
+abbrev pub excess_at : List ℕ → Limit → Option Excess
+excess_at end limit = Some (record { left = length end; limit = limit })
+
+-- LBA N: 1 to 65,536 sectors, from an LBA below 2^48; the number of sectors comes first
+abbrev pub transfer_excess : List ℕ → ℕ → ℕ → Option Excess
+transfer_excess words lba sectors =
+    if sectors == 0 then excess_at (behind words) limit.NoSectors
+    else if nat_lt 65536 sectors then excess_at (behind words) (limit.ManySectors sectors)
+    else if nat_le (2 ^ 48) lba then excess_at words (limit.FarSector lba)
+    else None
+
+-- S D F: 1 to 131,072 sectors, 1 to 32 slots, and a first number of at most 2^63
+abbrev pub disk_excess : List ℕ → ℕ → ℕ → Option ℕ → Option Excess
+disk_excess words sectors depth first =
+    if sectors == 0 then excess_at words limit.EmptyDisk
+    else if nat_lt 131072 sectors then excess_at words (limit.LargeDisk sectors)
+    else if depth == 0 then excess_at (behind words) limit.NoSlots
+    else if nat_lt 32 depth then excess_at (behind words) (limit.ManySlots depth)
+    else if nat_lt (2 ^ 63) (unwrap_or first 0) then excess_at (behind (behind words)) (limit.LargeFirst (unwrap_or first 0))
+    else None
+
+-- the first limit that a line's numbers pass, in the order of the port's refusals
+abbrev pub excess_in : List ℕ → ScriptCommand → Option Excess
+excess_in line (command.Disk sectors depth first) = disk_excess (behind line) sectors depth first
+excess_in line (command.Write tag lba sectors fill) = transfer_excess (behind (behind line)) lba sectors
+excess_in line (command.Read tag lba sectors) = transfer_excess (behind (behind line)) lba sectors
+excess_in line c = None
+
+-- the column of an end of a line
+abbrev pub column_of : List ℕ → ℕ → ℕ
+column_of line left = length line - left + 1
+
+-- a complaint at an end of a line
+abbrev pub complaint_at : ℕ → List ℕ → ℕ → Rule → Complaint
+complaint_at number line left rule = record { line = number; column = Some (column_of line left); rule = rule }
+
+-- what there is to say of a line of the language
+abbrev pub of_line : Place → ℕ → List ℕ → Option Line → Option Complaint
+of_line place number line (Some (Run c)) =
+    if is_in_place place c then option_map (λ (e : Excess). complaint_at number line e.left (Port e.limit)) (excess_in line c)
+    else Some (record { line = number; column = None; rule = Language (misplaced place) })
+of_line place number line spelled = None
+
+abbrev pub of_words : Place → ℕ → List ℕ → Words → Option Complaint
+of_words place number line (Err breach) = Some (complaint_at number line breach.left (Language breach.fault))
+of_words place number line (Ok _) = of_line place number line (line_of line)
+
+-- what there is to say of a line of the given number: the rule of the language that it breaks first; else that it is out of
+-- place; else the limit that it passes
+abbrev pub complaint_in : Place → ℕ → List ℕ → Option Complaint
+complaint_in place number line = of_words place number line (line_words line)
+
+-- the complaint is of the language, or of the order of lines
+abbrev pub is_language : Rule → Bool
+is_language (Language fault) = true
+is_language (Port limit) = false
+
+abbrev pub ends_replay : Option Complaint → Bool
+ends_replay None = false
+ends_replay (Some c) = is_language c.rule
+
+-- a column is one of the line's bytes, or the one behind them
+abbrev pub IsColumn : List ℕ → ℕ → Type 0
+IsColumn line column = (1 ≤ column) × (column ≤ length line + 1)
+
+-- the place behind a line: a disk whose numbers pass no limit opens it
+abbrev pub place_by : Place → List ℕ → Option Line → Place
+place_by place line (Some (Run (command.Disk sectors depth first))) =
+    if is_none (disk_excess (behind line) sectors depth first) then BehindDisk else place
+place_by place line spelled = place
+
+abbrev pub place_after : Place → List ℕ → Place
+place_after place line = place_by place line (line_of line)

@@ -1,0 +1,103 @@
+-- The complaints about the lines of a script, from the first line on.
+use Rattle.std.specs.Prelude.{◌≡◌, ℕ, ◌+◌, Bool, true, false, ◌||◌, List, [], ◌∷◌, ◌++◌, Option, Some, None, fold, is_some, length, take, ◌⊎◌}
+use Rattle.std.specs.Io.KnownBytes.{Appends, Consumes, IsAtEnd}
+use Rattle.ahci_script.specs.Unread.{Begins, MayFail, found_of, line_limit, too_long, unfinished, whole, with_feeds}
+use Rattle.ahci_script.specs.declared.fault.CliFault.{CliFault}
+use Rattle.ahci_script.specs.declared.fault.CliFault.TheVariants as fault
+use Rattle.ahci_check.specs.Complaints.{complaint_in, place_after}
+use Rattle.ahci_check.specs.Texts.{complaint_text}
+use Rattle.ahci_check.specs.declared.complaint.Complaint.{Complaint}
+use Rattle.ahci_check.specs.declared.fault.Fault.TheVariants.{LongLine}
+use Rattle.ahci_check.specs.declared.place.Place.{Place}
+use Rattle.ahci_check.specs.declared.place.Place.TheVariants.{BeforeDisk}
+use Rattle.ahci_check.specs.declared.rule.Rule.TheVariants.{Language}
+
+-- where the next line stands, how many lines were judged, whether there was a complaint, and the text of all complaints
+pub record Sheet : Type 0 where
+  pub place : Place
+  pub lines : ℕ
+  pub found : Bool
+  pub text : List ℕ
+
+-- before the first line
+abbrev pub blank : Sheet
+blank = record { place = BeforeDisk; lines = 0; found = false; text = [] }
+
+-- what a complaint adds to the text: a line
+abbrev pub told : Option Complaint → List ℕ
+told None = []
+told (Some c) = complaint_text c ++ 10 ∷ []
+
+-- what there is to say of a line is put down
+abbrev pub with_complaint : Sheet → Option Complaint → Place → Sheet
+with_complaint sheet complaint place =
+    record { place = place; lines = sheet.lines; found = sheet.found || is_some complaint; text = sheet.text ++ told complaint }
+
+-- the line behind those that were counted is judged
+abbrev pub judged : Sheet → List ℕ → Sheet
+judged sheet line = with_complaint sheet (complaint_in sheet.place (sheet.lines + 1) line) (place_after sheet.place line)
+
+-- the complaint about a line of more than 4,096 bytes, at the first byte behind these
+abbrev pub long_line : ℕ → Complaint
+long_line number = record { line = number; column = Some (line_limit + 1); rule = Language LongLine }
+
+abbrev pub judged_long : Sheet → Sheet
+judged_long sheet = with_complaint sheet (Some (long_line (sheet.lines + 1))) sheet.place
+
+-- one line more
+abbrev pub counted : Sheet → Sheet
+counted sheet = record { place = sheet.place; lines = sheet.lines + 1; found = sheet.found; text = sheet.text }
+
+abbrev pub with_line : Sheet → List ℕ → Sheet
+with_line sheet line = counted (judged sheet line)
+
+-- the sheet of lines that end in line feeds
+abbrev pub sheet_of : List (List ℕ) → Sheet
+sheet_of lines = fold with_line blank lines
+
+-- lines of their own, none of which holds a line feed or is too long
+pub data AreLines : List (List ℕ) → Type 0 where
+  no_line : AreLines []
+  one_more : (first : List ℕ) (more : List (List ℕ)) → found_of (first ++ 10 ∷ []) ≡ whole first → AreLines more → AreLines (first ∷ more)
+
+-- what ends a check: the line that comes is too long, or the input has ended, and the last line may lack its line feed
+abbrev pub IsLast : Option (List ℕ) → List ℕ → Type 0
+IsLast remaining rest = (found_of rest ≡ too_long) ⊎ (IsAtEnd remaining × (found_of rest ≡ unfinished))
+
+abbrev pub with_begins : Sheet → List ℕ → Begins → Sheet
+with_begins sheet rest too_long = judged_long sheet
+with_begins sheet rest begins = judged sheet rest
+
+-- the sheet with the last line
+abbrev pub with_last : Sheet → List ℕ → Sheet
+with_last sheet rest = with_begins sheet rest (found_of rest)
+
+-- lines at the front of an input, and what holds of them, of what the reader has left then, and of the bytes behind them
+pub record Judged (remaining_old : Option (List ℕ)) (P : List (List ℕ) → Option (List ℕ) → List ℕ → Type 0) : Type 0 where
+  pub lines : List (List ℕ)
+  pub rest : List ℕ
+  pub remaining : Option (List ℕ)
+  pub own : AreLines lines
+  pub consumed : Consumes remaining_old remaining (with_feeds lines ++ rest)
+  pub holds : P lines remaining rest
+
+-- a whole script was judged: the text of all complaints is written, and the answer is whether there was one
+abbrev pub IsChecked : Option (List ℕ) → Option (List ℕ) → Option (List ℕ) → Option (List ℕ) → Bool → Type 0
+IsChecked r s c d found =
+    Judged r (λ lines remaining rest. (remaining ≡ s) × IsLast s rest × (found ≡ (with_last (sheet_of lines) rest).found)
+    × Appends c d (with_last (sheet_of lines) rest).text)
+
+-- some first part of a text is written
+abbrev pub IsPart : Option (List ℕ) → Option (List ℕ) → List ℕ → Type 0
+IsPart c d text = (n : ℕ) × Appends c d (take n text)
+
+-- why it isn't judged to its end: the text of the lines before is written, and a failed write leaves a first part of it
+abbrev pub EndsCheck : Option (List ℕ) → Option (List ℕ) → Option (List ℕ) → Option (List ℕ) → CliFault → Type 0
+EndsCheck r s c d fault.Read =
+    Judged r (λ lines remaining rest. (found_of rest ≡ unfinished) × MayFail (length (with_feeds lines ++ rest)) remaining s
+    × Appends c d (sheet_of lines).text)
+EndsCheck r s c d fault.OutOfMemory = Judged r (λ lines remaining rest. Appends c d (sheet_of lines).text)
+EndsCheck r s c d fault.Write =
+    Judged r (λ lines remaining rest. IsPart c d (sheet_of lines).text
+    ⊎ (IsLast remaining rest × IsPart c d (with_last (sheet_of lines) rest).text))
+EndsCheck r s c d _ = ⊥

@@ -1,0 +1,56 @@
+-- The texts of complaints, without a line feed.
+use Rattle.std.specs.Prelude.{ℕ, List, ◌++◌, Option, Some, None, codes}
+use Rattle.std.specs.Fmt.{decimal}
+use Rattle.ahci_check.specs.declared.complaint.Complaint.{Complaint}
+use Rattle.ahci_check.specs.declared.fault.Fault.{Fault}
+use Rattle.ahci_check.specs.declared.fault.Fault.TheVariants as fault
+use Rattle.ahci_check.specs.declared.limit.Limit.{Limit}
+use Rattle.ahci_check.specs.declared.limit.Limit.TheVariants as limit
+use Rattle.ahci_check.specs.declared.rule.Rule.{Rule}
+use Rattle.ahci_check.specs.declared.rule.Rule.TheVariants.{Language, Port}
+
+abbrev pub fault_text : Fault → List ℕ
+fault_text fault.UnknownCommand = codes "no such command"
+fault_text fault.MissingWord = codes "a word is missing"
+fault_text fault.SpareWord = codes "a word too many"
+fault_text fault.SpareSpace = codes "a space too many"
+fault_text fault.NotDecimal = codes "not a decimal number"
+fault_text fault.LongNumber = codes "more than 20 digits"
+fault_text fault.WideNumber = codes "a number of 2^64 or more"
+fault_text (fault.LargeTag tag) = codes "tag " ++ (decimal tag ++ codes ", at most 31")
+fault_text (fault.LargeCount count) = decimal count ++ codes " sectors, at most 131072"
+fault_text (fault.LargeWord word) = codes "word " ++ (decimal word ++ codes ", at most 255")
+fault_text fault.NotHexadecimal = codes "not hexadecimal digits"
+fault_text fault.NotTwoDigits = codes "not two hexadecimal digits"
+fault_text fault.NotSixtyFourDigits = codes "not 64 hexadecimal digits"
+fault_text fault.OddDigits = codes "an odd number of digits"
+fault_text fault.LongRegister = codes "more than 8 digits"
+fault_text fault.ManyTags = codes "more than 32 tags"
+fault_text fault.HighByte = codes "a byte over 127"
+fault_text fault.LongLine = codes "more than 4096 bytes"
+fault_text fault.BeforeDisk = codes "a command before the disk"
+fault_text fault.SecondDisk = codes "a second disk"
+
+abbrev pub limit_text : Limit → List ℕ
+limit_text limit.NoSectors = codes "0 sectors, at least 1"
+limit_text (limit.ManySectors count) = decimal count ++ codes " sectors, at most 65536"
+limit_text (limit.FarSector lba) = codes "LBA " ++ (decimal lba ++ codes ", at most 281474976710655")
+limit_text limit.EmptyDisk = codes "a disk of 0 sectors, at least 1"
+limit_text (limit.LargeDisk sectors) = codes "a disk of " ++ (decimal sectors ++ codes " sectors, at most 131072")
+limit_text limit.NoSlots = codes "0 slots, at least 1"
+limit_text (limit.ManySlots depth) = decimal depth ++ codes " slots, at most 32"
+limit_text (limit.LargeFirst first) =
+    codes "first number " ++ (decimal first ++ codes ", at most 9223372036854775808")
+
+abbrev pub rule_text : Rule → List ℕ
+rule_text (Language fault) = fault_text fault
+rule_text (Port limit) = limit_text limit
+
+-- the line, the column where there is one, and the rule
+abbrev pub place_text : ℕ → Option ℕ → List ℕ → List ℕ
+place_text line None rule = codes "line " ++ (decimal line ++ (codes ": " ++ rule))
+place_text line (Some column) rule =
+    codes "line " ++ (decimal line ++ (codes ", column " ++ (decimal column ++ (codes ": " ++ rule))))
+
+abbrev pub complaint_text : Complaint → List ℕ
+complaint_text complaint = place_text complaint.line complaint.column (rule_text complaint.rule)

@@ -1,0 +1,74 @@
+ghost use Rattle.std.specs.Prelude.{◌≡◌, IfSome, not};
+ghost use Rattle.ahci_check.specs.Complaints.{IsColumn, column_of, complaint_at, complaint_in, ends_replay, of_line, stands};
+ghost use Rattle.ahci_script.specs.Lines.{line_of};
+
+use crate::complaint::Complaint;
+use crate::excess::excess_of;
+use crate::place::Place;
+use crate::rule::Rule;
+use crate::sound::sound;
+use ahci_script::{Line, ScriptCommand, parse};
+
+/// What there is to say of a line of the given number, without its line feed: the rule of the language that it breaks first,
+/// from the left; else that its command may not stand here; else the first limit of the port that its numbers pass. `None`
+/// where `replay` takes the line, whatever the port then answers.
+#[tactic(auto, using(crate::proofs::AgreementLemmas::complaint_agrees))]
+pub fn complaint_of(place: Place, number: u64, line: &[u8]) -> Option<Complaint>
+    ensures complaint { result ≡ complaint_in place number line.now }
+    ensures language { ends_replay result ≡ not (stands place line.now) }
+    ensures column { IfSome result (λ c. IfSome c.column (IsColumn line.now)) }
+{
+    judged(place, number, line)
+}
+
+/// What there is to say of a line of the given number.
+fn judged(place: Place, number: u64, line: &[u8]) -> Option<Complaint>
+    ensures { result ≡ complaint_in place number line.now }
+{
+    match sound(line) {
+        Err(breach) => Some(complaint_at(number, line, breach.left, Rule::Language(breach.fault))),
+        Ok(()) => of_line(place, number, line),
+    }
+}
+
+/// A complaint where so many bytes of a line are left.
+fn complaint_at(number: u64, line: &[u8], left: usize, rule: Rule) -> Complaint
+    ensures { result ≡ complaint_at number line.now left rule }
+{
+    let column = line.len().saturating_sub(left) + 1;
+    Complaint {
+        line: number,
+        column: Some(column as u64),
+        rule,
+    }
+}
+
+/// What there is to say of a line that breaks no rule of its own.
+fn of_line(place: Place, number: u64, line: &[u8]) -> Option<Complaint>
+    ensures { result ≡ of_line place number line.now (line_of line.now) }
+{
+    match parse(line) {
+        Some(Line::Run(command)) => of_command(place, number, line, &command),
+        _ => None,
+    }
+}
+
+/// What there is to say of a command: it is out of place, or passes a limit.
+fn of_command(
+    place: Place,
+    number: u64,
+    line: &[u8],
+    command: &ScriptCommand<'_>,
+) -> Option<Complaint>
+    ensures { result ≡ of_line place number line.now (Some (Line.Run command.now)) }
+{
+    if !place.takes(command) {
+        return Some(Complaint {
+            line: number,
+            column: None,
+            rule: Rule::Language(place.rule()),
+        });
+    }
+    let excess = excess_of(line, command)?;
+    Some(complaint_at(number, line, excess.left, Rule::Port(excess.limit)))
+}

@@ -1,0 +1,2 @@
+-- Definitions of the picture.
+pub mod Timeline

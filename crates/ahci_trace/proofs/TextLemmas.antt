@@ -1,0 +1,16 @@
+-- A text that grows by a piece for each element of a list.
+use Rattle.std.proofs.Common.{◌≡◌, ℕ, ◌+◌, ◌<◌, List, [], ◌∷◌, ◌++◌, length, take, get_or, ap, sym, ◌∙◌, append_assoc, append-nil}
+use Rattle.std.specs.List.{flat_map}
+use Rattle.std.proofs.lemmas.List.{take_more}
+use Rattle.std.proofs.lemmas.Grind.{flat_map-append}
+
+pub more_text : {X : Type 0} (f : X → List ℕ) (old text new : List ℕ) (xs : List X) (i : ℕ) (d : X) → i < length xs → text ≡ old ++ flat_map f (take i xs)
+    → new ≡ text ++ f (get_or xs i d) → new ≡ old ++ flat_map f (take (i + 1) xs)
+more_text f old text new xs i d low so_far grown =
+    grown ∙ ap (λ t. t ++ f (get_or xs i d)) so_far ∙ append_assoc old (flat_map f (take i xs)) (f (get_or xs i d))
+    ∙ ap (λ t. old ++ t) (sym (ap (flat_map f) (take_more xs i d low) ∙ flat_map-append f (take i xs) (get_or xs i d ∷ []) ∙ ap (λ t. flat_map f (take i xs) ++ t) (append-nil (f (get_or xs i d)))))
+
+-- three parts, one behind the other
+pub three_parts : (old one two new a b c d : List ℕ) → one ≡ old ++ a → two ≡ one ++ b → new ≡ two ++ c → c ≡ d → new ≡ old ++ (a ++ (b ++ d))
+three_parts old one two new a b c d first second third same =
+    third ∙ ap (λ t. two ++ t) same ∙ ap (λ t. t ++ d) (second ∙ ap (λ t. t ++ b) first) ∙ append_assoc (old ++ a) b d ∙ append_assoc old a (b ++ d)

@@ -1,0 +1,10 @@
+pub mod Mark
+pub mod Entries
+pub mod Sent
+pub mod Received
+pub mod Changes
+pub mod Owned
+pub mod Trace
+pub mod Names
+pub mod Text
+pub mod Lines

@@ -1,0 +1,25 @@
+-- Which lines of a trace are notes; the others are what the script alone answers.
+use Rattle.std.specs.Prelude.{◌≡◌, ℕ, ◌==◌, Bool, true, not, List, [], ◌∷◌, ◌++◌, Option}
+use Rattle.std.specs.List.{list_all}
+use Rattle.ahci_port.specs.PortView.{PortView}
+use Rattle.ahci_replay.specs.Transcript.{Adds, no_notes}
+use Rattle.ahci_trace.specs.Text.{trace_notes}
+
+-- no line feed is among these bytes
+abbrev pub is_line : List ℕ → Bool
+is_line bytes = list_all (λ b. not (b == 10)) bytes
+
+-- lines, each of which begins with two spaces and ends in its only line feed
+pub data AreNotes : List ℕ → Type 0 where
+  no_note : AreNotes []
+  a_note : (line more : List ℕ) → is_line line ≡ true → AreNotes more → AreNotes (32 ∷ 32 ∷ (line ++ 10 ∷ more))
+
+-- a text of answers, with notes behind each, and the answers alone
+pub data Noted : List ℕ → List ℕ → Type 0 where
+  no_answer : Noted [] []
+  an_answer : (answer notes text answers : List ℕ) → AreNotes notes → Noted text answers → Noted (answer ++ 10 ∷ (notes ++ text)) (answer ++ 10 ∷ answers)
+
+-- what a script's lines add to a trace is what they add alone, with notes behind each answer
+abbrev pub KeepsAnswers : Type 0
+KeepsAnswers = (port last : Option PortView) (lines : List (List ℕ)) (text : List ℕ) → Adds trace_notes port lines text last
+    → (answers : List ℕ) × Adds no_notes port lines answers last × Noted text answers

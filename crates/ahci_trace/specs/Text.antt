@@ -1,0 +1,105 @@
+-- The text of a trace. Each line is indented by two spaces.
+use Rattle.std.specs.Prelude.{ℕ, Bool, true, false, List, [], ◌∷◌, ◌++◌, codes, Option, None, Some, flat_map}
+use Rattle.std.specs.Fmt.{decimal}
+use Rattle.ahci_port.specs.PortView.{PortView}
+use Rattle.ahci_script.specs.Answers.{hex_of}
+use Rattle.ncq_journal.specs.declared.phase.Phase.{Phase}
+use Rattle.ncq_journal.specs.declared.phase.Phase.TheVariants.{Free, Issued, Accepted, Rejected, Broken, Held, Done}
+use Rattle.ncq_journal.specs.declared.plain.Plain.{Plain}
+use Rattle.ncq_journal.specs.declared.plain.Plain.TheVariants.{Identify, Flush, ReadLog}
+use Rattle.ahci_trace.specs.Mark.{mark_of}
+use Rattle.ahci_trace.specs.Names.{bits_text, name_of}
+use Rattle.ahci_trace.specs.Sent.{SentBytes}
+use Rattle.ahci_trace.specs.Trace.{Told, told_of}
+use Rattle.ahci_trace.specs.declared.appended.Appended.{Appended}
+use Rattle.ahci_trace.specs.declared.appended.Happened.{Happened}
+use Rattle.ahci_trace.specs.declared.appended.Happened.TheVariants as what
+use Rattle.ahci_trace.specs.declared.change.Change.{Change}
+use Rattle.ahci_trace.specs.declared.owned.OwnedSlot.{OwnedSlot}
+use Rattle.ahci_trace.specs.declared.received.Received.{Received}
+
+-- bytes by their hexadecimal digits, each behind a space
+abbrev pub bytes_text : List ℕ → List ℕ
+bytes_text bytes = flat_map (λ byte. 32 ∷ hex_of 2 byte) bytes
+
+-- a line of a name and bytes
+unfoldable pub named_text : List ℕ → List ℕ → List ℕ
+named_text name bytes = name ++ (bytes_text bytes ++ 10 ∷ [])
+
+abbrev pub plain_name : Plain → List ℕ
+plain_name Identify = codes "identify"
+plain_name Flush = codes "flush"
+plain_name ReadLog = codes "read log"
+
+abbrev pub phase_name : Phase → List ℕ
+phase_name Free = codes "free"
+phase_name Issued = codes "issued"
+phase_name Accepted = codes "accepted"
+phase_name Rejected = codes "rejected"
+phase_name Broken = codes "broken"
+phase_name Held = codes "held"
+phase_name Done = codes "done"
+
+abbrev pub direction : Bool → List ℕ
+direction true = codes " write "
+direction false = codes " read "
+
+-- what an entry says
+abbrev pub what_text : Happened → List ℕ
+what_text (what.Issue tag write lba sectors) =
+    codes "issue " ++ (decimal tag ++ (direction write ++ (decimal lba ++ (codes " " ++ decimal sectors))))
+what_text (what.Accept tag) = codes "accept " ++ decimal tag
+what_text (what.Complete tag) = codes "complete " ++ decimal tag
+what_text (what.Fail tag error lba) = codes "fail " ++ (decimal tag ++ (32 ∷ (hex_of 2 error ++ (codes " " ++ decimal lba))))
+what_text (what.Recover tag) = codes "recover " ++ decimal tag
+what_text (what.Reissue tag) = codes "reissue " ++ decimal tag
+what_text (what.Collect tag) = codes "collect " ++ decimal tag
+what_text (what.Plain command) = plain_name command
+
+-- a new entry, by its number
+abbrev pub entry_text : Appended → List ℕ
+entry_text entry = codes "  entry " ++ (decimal entry.number ++ (codes ": " ++ (what_text entry.what ++ 10 ∷ [])))
+
+-- an entry of a PRDT
+abbrev pub prdt_text : List ℕ → List ℕ
+prdt_text entry = named_text (codes "  sent PRDT entry") entry
+
+-- a command that was sent
+abbrev pub command_text : SentBytes → List ℕ
+command_text sent =
+    named_text (codes "  sent command header") sent.header ++ (named_text (codes "  sent CFIS") sent.cfis ++ flat_map prdt_text sent.entries)
+
+-- what was sent, where something was
+abbrev pub sent_text : Option SentBytes → List ℕ
+sent_text None = []
+sent_text (Some sent) = command_text sent
+
+-- a FIS by its name, where one came
+abbrev pub fis_text : List ℕ → Option (List ℕ) → List ℕ
+fis_text name None = []
+fis_text name (Some bytes) = named_text name bytes
+
+-- the FISes that came, by the titles of Serial ATA
+abbrev pub received_text : Received → List ℕ
+received_text r =
+    fis_text (codes "  received DMA Setup FIS") r.setup ++ (fis_text (codes "  received PIO Setup FIS") r.pio
+    ++ (fis_text (codes "  received D2H Register FIS") r.register ++ fis_text (codes "  received Set Device Bits FIS") r.bits))
+
+-- a register's word, and the names of its bits
+abbrev pub change_text : Change → List ℕ
+change_text c =
+    codes "  " ++ (name_of c.register ++ (codes " " ++ (hex_of 8 c.word ++ (bits_text c.register c.word ++ 10 ∷ []))))
+
+-- an owned slot
+abbrev pub slot_text : OwnedSlot → List ℕ
+slot_text slot = codes "  slot " ++ (decimal slot.tag ++ (codes " " ++ (phase_name slot.phase ++ 10 ∷ [])))
+
+-- the lines of a trace
+abbrev pub told_text : Told → List ℕ
+told_text t =
+    flat_map entry_text t.entries ++ (sent_text t.sent ++ (received_text t.received ++ (flat_map change_text t.changes ++ flat_map slot_text t.slots)))
+
+-- what is told behind the answer of a command that has found the first port, and has left the second; nothing before the disk
+abbrev pub trace_notes : Option PortView → Option PortView → List ℕ
+trace_notes before None = []
+trace_notes before (Some port) = told_text (told_of (mark_of before) port)

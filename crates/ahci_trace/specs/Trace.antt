@@ -1,0 +1,42 @@
+-- What one command did to a port, as plain values.
+use Rattle.std.specs.Prelude.{List, Option}
+use Rattle.std.specs.Option.{option_map}
+use Rattle.ahci_port.specs.PortView.{PortView}
+use Rattle.ahci_trace.specs.Changes.{changes}
+use Rattle.ahci_trace.specs.Entries.{new_entries, newest}
+use Rattle.ahci_trace.specs.Owned.{owned_slots}
+use Rattle.ahci_trace.specs.Received.{received_by}
+use Rattle.ahci_trace.specs.Sent.{SentBytes, sent_by, shown}
+use Rattle.ahci_trace.specs.declared.appended.Appended.{Appended}
+use Rattle.ahci_trace.specs.declared.change.Change.{Change}
+use Rattle.ahci_trace.specs.declared.mark.Mark.{Mark}
+use Rattle.ahci_trace.specs.declared.owned.OwnedSlot.{OwnedSlot}
+use Rattle.ahci_trace.specs.declared.received.Received.{Received}
+use Rattle.ahci_trace.specs.declared.command_trace.CommandTrace.{CommandTrace}
+
+pub record Told : Type 0 where
+  pub entries : List Appended
+  pub sent : Option SentBytes
+  pub received : Received
+  pub changes : List Change
+  pub slots : List OwnedSlot
+
+-- what the code's trace tells
+abbrev pub told : {A : _} → CommandTrace A → Told
+told trace = record {
+  entries = trace.entries.items;
+  sent = option_map shown trace.sent;
+  received = trace.received;
+  changes = trace.changes.items;
+  slots = trace.slots.items;
+}
+
+-- what there is to tell of a port, since the mark
+abbrev pub told_of : Mark → PortView → Told
+told_of mark port = record {
+  entries = new_entries mark port.first port.past;
+  sent = sent_by (newest mark port.first port.past) port;
+  received = received_by (newest mark port.first port.past) port;
+  changes = changes mark.words port.registers;
+  slots = owned_slots port.past;
+}

@@ -1,0 +1,48 @@
+ghost use Rattle.std.specs.Prelude.{◌≡◌, IfOk};
+ghost use Rattle.ahci_trace.specs.Trace.{told, told_of};
+
+use crate::appended::{Appended, new_entries, newest};
+use crate::change::{Change, changes};
+use crate::mark::Mark;
+use crate::owned::{OwnedSlot, owned_slots};
+use crate::received::{Received, received_by};
+use crate::sent::{SentCommand, sent_by};
+use ahci_port::Port;
+use std::alloc::{AllocError, Allocator, Global};
+
+/// What one command did to a port.
+#[derive(Drop)]
+#[derive_where(Debug)]
+pub struct CommandTrace<A: Allocator = Global> {
+    /// The journal's new entries, the oldest first.
+    pub entries: Vec<Appended, A>,
+    /// The command that was sent to the device.
+    pub sent: Option<SentCommand<A>>,
+    /// The FISes that came.
+    pub received: Received,
+    /// The registers that changed, in the order of their offsets.
+    pub changes: Vec<Change, A>,
+    /// The slots that are owned now, rising.
+    pub slots: Vec<OwnedSlot, A>,
+}
+
+impl<A: Allocator + Copy> CommandTrace<A> {
+    /// What has been done to a port since the mark was made, by one command. The port's public calls alone are asked, and of
+    /// the journal the new entries alone are looked at.
+    ///
+    /// # Errors
+    /// Where a growth was refused.
+    pub fn of<B: Allocator>(alloc: A, mark: &Mark, port: &Port<B>) -> Result<Self, AllocError>
+        ensures { IfOk result (λ trace. told trace ≡ told_of mark.now port.now) }
+    {
+        let journal = port.journal();
+        let newest = newest(mark, journal);
+        Ok(CommandTrace {
+            entries: new_entries(alloc, mark, journal)?,
+            sent: sent_by(alloc, newest, port)?,
+            received: received_by(newest, port),
+            changes: changes(alloc, mark, port)?,
+            slots: owned_slots(alloc, port)?,
+        })
+    }
+}

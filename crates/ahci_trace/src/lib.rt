@@ -1,0 +1,26 @@
+//! What each command of a script did to the port, told behind its answer: the journal's new entries, the bytes that were sent
+//! and received, the registers that changed, and where the owned slots stand.
+#![tactic(auto)]
+
+mod appended;
+mod change;
+mod command_trace;
+pub mod laws;
+mod mark;
+mod names;
+mod owned;
+mod received;
+mod sent;
+mod shown;
+mod text;
+mod tracer;
+mod words;
+
+pub use appended::{Appended, Happened};
+pub use change::Change;
+pub use command_trace::CommandTrace;
+pub use mark::Mark;
+pub use owned::OwnedSlot;
+pub use received::Received;
+pub use sent::SentCommand;
+pub use tracer::{Tracer, trace};

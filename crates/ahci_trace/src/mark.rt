@@ -1,0 +1,68 @@
+ghost use Rattle.std.specs.Prelude.{◌≡◌, None, Some};
+ghost use Rattle.std.specs.Option.{option_copied};
+ghost use Rattle.ahci_trace.specs.Mark.{mark_of, words_of};
+
+use crate::words::word;
+use ahci_port::Port;
+use ahci_regs::Register;
+use std::alloc::Allocator;
+
+/// What is kept of the port that a command finds, to tell later what the command has changed.
+#[derive(Clone, Copy, Debug)]
+pub struct Mark {
+    /// The number of the journal's next entry; 0 before the disk.
+    pub end: u64,
+    /// The words of all registers, in the order of their offsets; `None` before the disk.
+    pub words: [Option<u32>; 18],
+}
+
+impl Mark {
+    /// The mark before the disk.
+    pub(crate) fn of_none() -> Mark
+        ensures { result ≡ mark_of None }
+    {
+        Mark {
+            end: 0,
+            words: [None; 18],
+        }
+    }
+
+    /// The mark of a port, or of none before the disk. It takes no memory, and the journal isn't read.
+    pub fn of<A: Allocator>(port: Option<&Port<A>>) -> Mark
+        ensures { result ≡ mark_of (option_copied port.entry) }
+    {
+        match port {
+            None => Mark::of_none(),
+            Some(port) => Mark {
+                end: port.journal().end(),
+                words: words(port),
+            },
+        }
+    }
+}
+
+/// The words of all registers.
+fn words<A: Allocator>(port: &Port<A>) -> [Option<u32>; 18]
+    ensures { result ≡ words_of (Some port.now) }
+{
+    [
+        Some(word(port, Register::Cap)),
+        Some(word(port, Register::Ghc)),
+        Some(word(port, Register::Pi)),
+        Some(word(port, Register::Vs)),
+        Some(word(port, Register::PxClb)),
+        Some(word(port, Register::PxClbu)),
+        Some(word(port, Register::PxFb)),
+        Some(word(port, Register::PxFbu)),
+        Some(word(port, Register::PxIs)),
+        Some(word(port, Register::PxIe)),
+        Some(word(port, Register::PxCmd)),
+        Some(word(port, Register::PxTfd)),
+        Some(word(port, Register::PxSig)),
+        Some(word(port, Register::PxSsts)),
+        Some(word(port, Register::PxSctl)),
+        Some(word(port, Register::PxSerr)),
+        Some(word(port, Register::PxSact)),
+        Some(word(port, Register::PxCi)),
+    ]
+}

@@ -1,0 +1,14 @@
+use Rattle.std.proofs.Common.{arith, codes, rules}
+use Rattle.std.proofs.Output.{has_written_of_eq}
+use Rattle.std.specs.Fmt.{HasWritten}
+use Rattle.ata_pages.proofs.LineLemmas.{word_line_is, written_line}
+use Rattle.ata_pages.proofs.word_lines.WordLineDisplay.fmt.Goals as goal
+
+pub returns-clause-writes : goal.returns-clause-writes
+returns-clause-writes g c = λ plain ok.
+    let number = c.args.self.now.number in
+    let value = c.args.self.now.value in
+    let name = c.word_name-name.result.now in
+    let wrote : HasWritten g.W.Write.write_str_gives c.args.f.now (written_line (codes "word ") number 4 value name) c.writeln.new.self =
+    search rules in
+    has_written_of_eq _ _ _ _ _ (word_line_is number value name c.args.self.now.inside (omega arith) c.if-value-eq0.false c.word_name-name.ensures) wrote

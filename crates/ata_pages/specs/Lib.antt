@@ -1,0 +1,5 @@
+pub mod Digits
+pub mod IdentifyText
+pub mod LogText
+pub mod Output
+pub mod Telling

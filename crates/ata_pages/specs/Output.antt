@@ -1,0 +1,20 @@
+-- What is written of a page.
+use Rattle.std.specs.Prelude.{ℕ, Bool, if◌then◌else◌, List}
+use Rattle.ncq_core.specs.DiskState.{DiskError}
+use Rattle.ncq_core.specs.Identify.{identify_page}
+use Rattle.ncq_core.specs.Log.{log_page}
+use Rattle.ata_pages.specs.IdentifyText.{identify_text}
+use Rattle.ata_pages.specs.LogText.{log_text}
+
+-- the identify page of a disk of s sectors with d tags: its bytes, or its text
+abbrev pub identify_output : ℕ → ℕ → Bool → List ℕ
+identify_output s d raw = if raw then identify_page s d else identify_text (identify_page s d)
+
+-- an error: the tag of the command that failed, the error byte and the LBA of the failing sector
+abbrev pub error_at : ℕ → ℕ → ℕ → DiskError
+error_at tag error lba = record { tag = tag; error = error; lba = lba }
+
+-- page 0 of log 10h after an error: its bytes, or its text
+abbrev pub log_output : ℕ → ℕ → ℕ → Bool → List ℕ
+log_output tag error lba raw =
+    if raw then log_page (error_at tag error lba) else log_text (log_page (error_at tag error lba))

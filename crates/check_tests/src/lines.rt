@@ -1,0 +1,142 @@
+//! Lines, each with what is said of it.
+use ahci_check::{Place, complaint_of};
+use std::process::Abort;
+use std::test::Fail;
+
+/// A line, and the text of its complaint; empty where there is none.
+type Row = (&'static str, &'static str);
+
+/// Lines behind a disk, each as the third of its script.
+static BEHIND: [Row; 46] = [
+    ("", ""),
+    ("# Any comment.", ""),
+    ("recover", ""),
+    ("write 31 281474976710655 65536 Ff", ""),
+    ("serve 0 1 0", ""),
+    ("reg 118", ""),
+    ("sleep", "line 3, column 1: no such command"),
+    ("sleep 3", "line 3, column 1: no such command"),
+    ("Write 0 0 1 11", "line 3, column 1: no such command"),
+    ("\twrite 0 0 1 11", "line 3, column 1: no such command"),
+    (" read 0 0 1", "line 3, column 1: a space too many"),
+    (" ", "line 3, column 1: a space too many"),
+    ("read 0  0 1", "line 3, column 8: a space too many"),
+    ("accept 3 ", "line 3, column 10: a space too many"),
+    ("recover ", "line 3, column 9: a space too many"),
+    ("recover 0", "line 3, column 9: a word too many"),
+    ("accept 3 4", "line 3, column 10: a word too many"),
+    ("write 0 0 1 11 22", "line 3, column 16: a word too many"),
+    ("write", "line 3, column 6: a word is missing"),
+    ("write ", "line 3, column 7: a word is missing"),
+    ("write 0 0 1", "line 3, column 12: a word is missing"),
+    ("disk 8", "line 3, column 7: a word is missing"),
+    ("read 0 0x10 1", "line 3, column 8: not a decimal number"),
+    ("accept 3\r", "line 3, column 8: not a decimal number"),
+    (
+        "show 000000000000000000001",
+        "line 3, column 6: more than 20 digits",
+    ),
+    (
+        "show 18446744073709551616",
+        "line 3, column 6: a number of 2^64 or more",
+    ),
+    ("accept 32", "line 3, column 8: tag 32, at most 31"),
+    ("serve 0 1 32 x", "line 3, column 11: tag 32, at most 31"),
+    (
+        "serve 0 1 2 3 4 5 6 7 0 1 2 3 4 5 6 7 0 1 2 3 4 5 6 7 0 1 2 3 4 5 6 7 0",
+        "line 3, column 71: more than 32 tags",
+    ),
+    (
+        "read 0 0 131073",
+        "line 3, column 10: 131073 sectors, at most 131072",
+    ),
+    ("identify 256", "line 3, column 10: word 256, at most 255"),
+    ("reg 12g", "line 3, column 5: not hexadecimal digits"),
+    ("ack 123456789", "line 3, column 5: more than 8 digits"),
+    (
+        "write 0 0 1 1",
+        "line 3, column 13: not two hexadecimal digits",
+    ),
+    (
+        "raw 0 0500 11",
+        "line 3, column 7: not 64 hexadecimal digits",
+    ),
+    (
+        "raw 0 0500010000000000000000100000000000000000000000000000000000000000 123",
+        "line 3, column 72: an odd number of digits",
+    ),
+    ("#\u{80}", "line 3, column 2: a byte over 127"),
+    ("write 0 0 1 11\u{a0}", "line 3, column 15: a byte over 127"),
+    ("disk 8 4", "line 3: a second disk"),
+    ("disk 0 0", "line 3: a second disk"),
+    ("read 0 0 0", "line 3, column 10: 0 sectors, at least 1"),
+    (
+        "write 0 0 70000 11",
+        "line 3, column 11: 70000 sectors, at most 65536",
+    ),
+    (
+        "read 0 281474976710656 1",
+        "line 3, column 8: LBA 281474976710656, at most 281474976710655",
+    ),
+    // The number of sectors is told before the LBA, as the port's refusal is.
+    (
+        "read 0 281474976710656 65537",
+        "line 3, column 24: 65537 sectors, at most 65536",
+    ),
+    // What is wrong with a word is told from the left, before any number that the port refuses.
+    (
+        "write 0 0 70000 1g",
+        "line 3, column 17: not hexadecimal digits",
+    ),
+    ("raw 0 x", "line 3, column 7: not hexadecimal digits"),
+];
+
+/// First lines.
+static BEFORE: [Row; 11] = [
+    ("recover", "line 3: a command before the disk"),
+    ("read 0 0 70000", "line 3: a command before the disk"),
+    ("sleep", "line 3, column 1: no such command"),
+    ("disk 131072 32 9223372036854775808", ""),
+    (
+        "disk 0 0",
+        "line 3, column 6: a disk of 0 sectors, at least 1",
+    ),
+    (
+        "disk 131073 0",
+        "line 3, column 6: a disk of 131073 sectors, at most 131072",
+    ),
+    ("disk 8 0", "line 3, column 8: 0 slots, at least 1"),
+    (
+        "disk 8 4294967300",
+        "line 3, column 8: 4294967300 slots, at most 32",
+    ),
+    (
+        "disk 8 4 9223372036854775809",
+        "line 3, column 10: first number 9223372036854775809, at most 9223372036854775808",
+    ),
+    ("disk 8 4 0 0", "line 3, column 12: a word too many"),
+    ("disk 8  4", "line 3, column 8: a space too many"),
+];
+
+/// Says of each line what stands beside it.
+fn says<H: Abort>(
+    rt: &H,
+    alloc: std::alloc::Global,
+    place: Place,
+    rows: &[Row],
+) -> Result<(), Fail> {
+    for (line, expected) in rows {
+        let said = match complaint_of(place, 3, line.as_bytes()) {
+            Some(complaint) => format!(in alloc; "{complaint}")?,
+            None => String::new(alloc),
+        };
+        assert!(rt; said.as_str() == *expected, "{line}: {said}");
+    }
+    Ok(())
+}
+
+#[test]
+fn each_line_breaks_the_rule_beside_it(rt: HostRuntime) -> Result<(), Fail> {
+    says(&rt, rt.alloc(), Place::BehindDisk, BEHIND.as_slice())?;
+    says(&rt, rt.alloc(), Place::BeforeDisk, BEFORE.as_slice())
+}

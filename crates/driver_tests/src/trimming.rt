@@ -1,0 +1,58 @@
+//! A run on a port that was trimmed.
+
+use crate::common::{Way, crowd};
+use crate::jobs::{Jobs, commands};
+use ahci_driver::{Driver, Open, RunEnd, SettleFault, TagBoard, run, settle, settle_plainly};
+use ahci_port::Port;
+use ncq_core::Journal;
+use std::alloc::Global;
+use std::process::Abort;
+use std::sync::Wait;
+use std::test::Fail;
+use std::thread::Threads;
+
+/// Four workers do twelve jobs on a port with two tags.
+fn goes<R: Threads + Wait + Sync>(rt: &R, alloc: Global, port: Port) -> Result<RunEnd, Fail> {
+    let jobs = commands(alloc, Jobs::Few)?;
+    let choosers = crowd(alloc, Way::Highest, 4)?;
+    Ok(run(rt, alloc, port, &jobs, 4, choosers, &Open)?)
+}
+
+/// Trims a port behind a driver.
+fn trimmed<R: Threads + Wait + Sync + Abort>(
+    rt: &R,
+    alloc: Global,
+    port: Port,
+) -> Result<(Port, Journal), Fail> {
+    port.shape();
+    let (board, seat) = TagBoard::new(alloc, port.depth())?;
+    let driver = Driver::new(port, board);
+    let journal = driver.trim(rt)?;
+    let (port, board) = driver.into_parts();
+    assert!(rt; board.close(seat) == 3);
+    Ok((port, journal))
+}
+
+#[test]
+fn a_run_goes_on_where_a_trimmed_one_has_ended(rt: HostRuntime) -> Result<(), Fail> {
+    let alloc = rt.alloc();
+    let port = Port::new(alloc, vec![in alloc; 0x5a; 3 * 512]?, 2)?;
+    let RunEnd { port, replies } = goes(&rt, alloc, port)?;
+    let entries = port.journal().len();
+    let (port, journal) = trimmed(&rt, alloc, port)?;
+    assert!(rt; entries > 0 && journal.len() == entries && port.journal().is_empty());
+    let end = goes(&rt, alloc, port)?;
+    for receipt in &end.replies {
+        assert!(rt;
+            receipt.reply.number >= journal.end(),
+            "{:?}",
+            receipt.reply
+        );
+    }
+    let jobs = commands(alloc, Jobs::Few)?;
+    let wrong = Err(SettleFault::Wrong(0));
+    assert!(rt; settle(alloc, &end.port, &jobs, &replies, 4) == wrong);
+    assert!(rt; settle_plainly(alloc, &end.port, &jobs, &replies, 4) == wrong);
+    assert!(rt; settle_plainly(alloc, &end.port, &jobs, &end.replies, 4).is_ok());
+    Ok(())
+}
