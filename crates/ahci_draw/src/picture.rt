@@ -12,15 +12,25 @@ const LEFT: usize = 72;
 
 const TOP: usize = 40;
 
-/// How high a lane is, and how high the row of the device's tags below them.
+/// How high a lane is, how high the bars of the device's tags below the lanes, and where these bars stand.
 const LANE: usize = 16;
 
-const DEVICE: usize = 36;
+const BAR: usize = 24;
+
+const DEVICE: usize = 40;
 
 /// The widest and the narrowest column.
 const WIDE: usize = 26;
 
 const NARROW: usize = 4;
+
+/// The narrowest column with room for a number.
+const ROOMY: usize = 14;
+
+/// The colours of a failure and of a recovery.
+const FAILURE: &str = "#d9463e";
+
+const RECOVERY: &str = "#6a3fb5";
 
 /// A tag's lane is coloured by the phase; a free one is not.
 fn colour(phase: Phase) -> Option<&'static str> {
@@ -28,23 +38,23 @@ fn colour(phase: Phase) -> Option<&'static str> {
         Phase::Free => None,
         Phase::Issued => Some("#f2c14e"),
         Phase::Accepted => Some("#4e8df2"),
-        Phase::Rejected | Phase::Broken => Some("#d9463e"),
+        Phase::Rejected | Phase::Broken => Some(FAILURE),
         Phase::Held => Some("#b59be0"),
         Phase::Done => Some("#5bb974"),
     }
 }
 
-fn name(phase: Phase) -> &'static str {
-    match phase {
-        Phase::Free => "free",
-        Phase::Issued => "issued",
-        Phase::Accepted => "accepted",
-        Phase::Rejected => "rejected",
-        Phase::Broken => "broken",
-        Phase::Held => "held",
-        Phase::Done => "done",
-    }
-}
+/// What the colours mean.
+static PHASES: [(Phase, &str); 5] = [
+    (Phase::Issued, "issued"),
+    (Phase::Accepted, "accepted"),
+    (Phase::Broken, "failed"),
+    (Phase::Held, "held"),
+    (Phase::Done, "done"),
+];
+
+/// What the dashed lines mean.
+static LINES: [(&str, &str); 2] = [(FAILURE, "failure"), (RECOVERY, "recovery")];
 
 /// The entry in words.
 fn tell<W: fmt::Write>(f: &mut fmt::Formatter<W>, mark: Mark) -> fmt::Result {
@@ -92,195 +102,258 @@ fn in_device(column: &Column) -> usize {
     count
 }
 
-impl<A: Allocator> Timeline<A> {
-    /// How wide a column is: the more there are, the narrower.
-    fn step(&self) -> usize {
-        (1600 / self.columns.len().max(1)).clamp(NARROW, WIDE)
+/// How the columns and lanes of a timeline are laid out.
+#[derive(Clone, Copy)]
+struct Layout {
+    /// How many columns there are, and how wide each is: the more there are, the narrower.
+    columns: usize,
+    step: usize,
+    /// How many lanes are drawn: one for each tag up to the last that an entry speaks of, and one at least.
+    lanes: usize,
+}
+
+impl Layout {
+    fn of<A: Allocator>(timeline: &Timeline<A>) -> Self {
+        let columns = timeline.columns.len();
+        let mut lanes: usize = 1;
+        for column in &timeline.columns {
+            if let Some(tag) = column.mark.tag() {
+                lanes = lanes.max(usize::from(tag).saturating_add(1));
+            }
+        }
+        Layout {
+            columns,
+            step: (1600 / columns.max(1)).clamp(NARROW, WIDE),
+            lanes,
+        }
     }
 
-    fn lanes(&self) -> usize {
-        self.depth.min(32) as usize
+    /// Where a column begins, and behind all columns where they end.
+    fn x(self, index: usize) -> usize {
+        index.saturating_mul(self.step).saturating_add(LEFT)
     }
 
-    /// Where a column begins.
-    fn x(&self, index: usize) -> usize {
-        index.saturating_mul(self.step()).saturating_add(LEFT)
-    }
-
-    /// Where a lane begins, and below all lanes the row of the device's tags.
-    fn y(&self, lane: usize) -> usize {
+    /// Where a lane begins, and below all lanes where they end.
+    fn y(self, lane: usize) -> usize {
         lane.saturating_mul(LANE).saturating_add(TOP)
     }
 
-    fn head<W: fmt::Write>(&self, f: &mut fmt::Formatter<W>) -> fmt::Result {
-        let width = self.x(self.columns.len()).saturating_add(24).max(420);
-        let height = self.y(self.lanes()).saturating_add(DEVICE + 60);
+    fn right(self) -> usize {
+        self.x(self.columns)
+    }
+
+    fn floor(self) -> usize {
+        self.y(self.lanes)
+    }
+
+    fn is_roomy(self) -> bool {
+        self.step >= ROOMY
+    }
+}
+
+/// The frame of the picture, and its heading.
+fn head<W: fmt::Write, A: Allocator>(
+    f: &mut fmt::Formatter<W>,
+    layout: Layout,
+    timeline: &Timeline<A>,
+) -> fmt::Result {
+    let width = layout.right().saturating_add(24).max(580);
+    let height = layout.floor().saturating_add(DEVICE + 60);
+    writeln!(
+        f,
+        "<svg xmlns=\"http://www.w3.org/2000/svg\" width=\"{width}\" height=\"{height}\" viewBox=\"0 0 {width} {height}\" font-family=\"sans-serif\" font-size=\"11\">"
+    )?;
+    writeln!(
+        f,
+        "<rect width=\"{width}\" height=\"{height}\" fill=\"#ffffff\"/>"
+    )?;
+    write!(
+        f,
+        "<text x=\"8\" y=\"18\" font-size=\"13\">{} entries, {} slots",
+        layout.columns, timeline.depth
+    )?;
+    let last = timeline.depth.saturating_sub(1);
+    if layout.lanes as u64 <= u64::from(last) {
+        write!(f, "; tags {} to {last} stay free", layout.lanes)?;
+    }
+    writeln!(f, "</text>")
+}
+
+/// The names of the lanes, and a line below each.
+fn lane_names<W: fmt::Write>(f: &mut fmt::Formatter<W>, layout: Layout) -> fmt::Result {
+    let end = layout.right();
+    for lane in 0..layout.lanes {
+        let y = layout.y(lane).saturating_add(LANE);
+        let base = y.saturating_sub(4);
+        writeln!(f, "<text x=\"8\" y=\"{base}\">tag {lane}</text>")?;
         writeln!(
             f,
-            "<svg xmlns=\"http://www.w3.org/2000/svg\" width=\"{width}\" height=\"{height}\" viewBox=\"0 0 {width} {height}\" font-family=\"sans-serif\" font-size=\"11\">"
+            "<line x1=\"{LEFT}\" y1=\"{y}\" x2=\"{end}\" y2=\"{y}\" stroke=\"#e4e4e4\"/>"
         )?;
+    }
+    let base = layout.floor().saturating_add(DEVICE);
+    writeln!(f, "<text x=\"8\" y=\"{base}\">in device</text>")
+}
+
+/// The bars of one lane: one for each row of columns in which the tag's phase is the same.
+fn lane<W: fmt::Write>(
+    f: &mut fmt::Formatter<W>,
+    layout: Layout,
+    columns: &[Column],
+    lane: usize,
+) -> fmt::Result {
+    let mut begun = 0;
+    for index in 0..columns.len() {
+        let phase = columns[index].phases[lane % 32];
+        let next = columns.get(index.saturating_add(1));
+        if next.is_some_and(|column| column.phases[lane % 32] == phase) {
+            continue;
+        }
+        if let Some(fill) = colour(phase) {
+            let (x, y) = (layout.x(begun), layout.y(lane).saturating_add(2));
+            let width = layout.x(index.saturating_add(1)).saturating_sub(x);
+            writeln!(
+                f,
+                "<rect x=\"{x}\" y=\"{y}\" width=\"{width}\" height=\"{}\" rx=\"2\" fill=\"{fill}\"/>",
+                LANE - 4
+            )?;
+        }
+        begun = index.saturating_add(1);
+    }
+    Ok(())
+}
+
+/// A dashed line where a failure or a recovery is.
+fn dashes<W: fmt::Write>(
+    f: &mut fmt::Formatter<W>,
+    layout: Layout,
+    mark: Mark,
+    middle: usize,
+) -> fmt::Result {
+    let stroke = match mark {
+        Mark::Fail { .. } => FAILURE,
+        Mark::Recover(_) => RECOVERY,
+        _ => return Ok(()),
+    };
+    let (y, floor) = (TOP - 4, layout.floor());
+    writeln!(
+        f,
+        "<line x1=\"{middle}\" y1=\"{y}\" x2=\"{middle}\" y2=\"{floor}\" stroke=\"{stroke}\" stroke-width=\"2\" stroke-dasharray=\"4 3\"/>"
+    )
+}
+
+/// How many tags the device has: a bar, as high as there are lanes where it has a tag of each, and where there is room the number.
+fn device<W: fmt::Write>(
+    f: &mut fmt::Formatter<W>,
+    layout: Layout,
+    x: usize,
+    count: usize,
+) -> fmt::Result {
+    if count == 0 {
+        return Ok(());
+    }
+    let height = (count.saturating_mul(BAR) / layout.lanes.max(1)).clamp(1, BAR);
+    let y = layout.floor().saturating_add(DEVICE).saturating_sub(height);
+    let step = layout.step;
+    writeln!(
+        f,
+        "<rect x=\"{x}\" y=\"{y}\" width=\"{step}\" height=\"{height}\" fill=\"#4e8df2\"/>"
+    )?;
+    if layout.is_roomy() {
+        let (middle, base) = (x.saturating_add(step / 2), y.saturating_sub(2));
         writeln!(
             f,
-            "<rect width=\"{width}\" height=\"{height}\" fill=\"#ffffff\"/>"
+            "<text x=\"{middle}\" y=\"{base}\" font-size=\"9\" text-anchor=\"middle\">{count}</text>"
         )?;
+    }
+    Ok(())
+}
+
+/// One entry: its number where there is room, what it did as a mark, the device's tags, and over all of it the text that a
+/// pointer shows.
+fn entry<W: fmt::Write, A: Allocator>(
+    f: &mut fmt::Formatter<W>,
+    layout: Layout,
+    timeline: &Timeline<A>,
+    index: usize,
+    column: &Column,
+) -> fmt::Result {
+    let step = layout.step;
+    let x = layout.x(index);
+    let middle = x.saturating_add(step / 2);
+    if layout.is_roomy() || index % 10 == 0 {
+        let y = TOP - 8;
         writeln!(
             f,
-            "<text x=\"8\" y=\"18\" font-size=\"13\">{} entries, {} slots</text>",
-            self.columns.len(),
-            self.depth
-        )
-    }
-
-    /// The names of the lanes, and a line below each.
-    fn lane_names<W: fmt::Write>(&self, f: &mut fmt::Formatter<W>) -> fmt::Result {
-        let end = self.x(self.columns.len());
-        for lane in 0..self.lanes() {
-            let y = self.y(lane).saturating_add(LANE);
-            let base = y.saturating_sub(4);
-            writeln!(f, "<text x=\"8\" y=\"{base}\">tag {lane}</text>")?;
-            writeln!(
-                f,
-                "<line x1=\"{LEFT}\" y1=\"{y}\" x2=\"{end}\" y2=\"{y}\" stroke=\"#e4e4e4\"/>"
-            )?;
-        }
-        let base = self.y(self.lanes()).saturating_add(DEVICE - 6);
-        writeln!(f, "<text x=\"8\" y=\"{base}\">in device</text>")
-    }
-
-    /// The bars of one lane: one for each row of columns in which the tag's phase is the same.
-    fn lane<W: fmt::Write>(&self, f: &mut fmt::Formatter<W>, lane: usize) -> fmt::Result {
-        let mut begun = 0;
-        for index in 0..self.columns.len() {
-            let phase = self.columns[index].phases[lane % 32];
-            let next = self.columns.get(index.saturating_add(1));
-            if next.is_some_and(|column| column.phases[lane % 32] == phase) {
-                continue;
-            }
-            if let Some(fill) = colour(phase) {
-                let (x, y) = (self.x(begun), self.y(lane).saturating_add(2));
-                let width = self.x(index.saturating_add(1)).saturating_sub(x);
-                let (first, last) = (
-                    self.columns[begun.min(index)].number,
-                    self.columns[index].number,
-                );
-                write!(
-                    f,
-                    "<rect x=\"{x}\" y=\"{y}\" width=\"{width}\" height=\"{}\" rx=\"2\" fill=\"{fill}\">",
-                    LANE - 4
-                )?;
-                writeln!(
-                    f,
-                    "<title>tag {lane}: {}, entries {first} to {last}</title></rect>",
-                    name(phase)
-                )?;
-            }
-            begun = index.saturating_add(1);
-        }
-        Ok(())
-    }
-
-    /// One entry: its number where there is room, what it did as a mark, the device's tags, and over all of it the text that
-    /// a pointer shows.
-    fn entry<W: fmt::Write>(
-        &self,
-        f: &mut fmt::Formatter<W>,
-        index: usize,
-        column: &Column,
-    ) -> fmt::Result {
-        let step = self.step();
-        let (x, floor) = (self.x(index), self.y(self.lanes()));
-        let middle = x.saturating_add(step / 2);
-        if step >= 14 || index % 10 == 0 {
-            let y = TOP - 8;
-            writeln!(
-                f,
-                "<text x=\"{middle}\" y=\"{y}\" font-size=\"9\" text-anchor=\"middle\">{}</text>",
-                column.number
-            )?;
-        }
-        let line = match column.mark {
-            Mark::Fail { .. } => Some("#d9463e"),
-            Mark::Recover(_) => Some("#6a3fb5"),
-            _ => None,
-        };
-        if let Some(stroke) = line {
-            let y = TOP - 4;
-            writeln!(
-                f,
-                "<line x1=\"{middle}\" y1=\"{y}\" x2=\"{middle}\" y2=\"{floor}\" stroke=\"{stroke}\" stroke-width=\"2\" stroke-dasharray=\"4 3\"/>"
-            )?;
-        }
-        if let Some(tag) = column.mark.tag() {
-            let y = self.y(usize::from(tag)).saturating_add(LANE / 2);
-            writeln!(
-                f,
-                "<circle cx=\"{middle}\" cy=\"{y}\" r=\"{}\" fill=\"#222222\"/>",
-                (step / 5).clamp(1, 4)
-            )?;
-        }
-        let count = in_device(column);
-        let height = count.min(32);
-        if height > 0 {
-            let y = floor.saturating_add(DEVICE).saturating_sub(height);
-            writeln!(
-                f,
-                "<rect x=\"{x}\" y=\"{y}\" width=\"{step}\" height=\"{height}\" fill=\"#4e8df2\"/>"
-            )?;
-        }
-        let tall = floor.saturating_add(DEVICE).saturating_sub(TOP);
-        write!(
-            f,
-            "<rect x=\"{x}\" y=\"{TOP}\" width=\"{step}\" height=\"{tall}\" fill=\"#000000\" fill-opacity=\"0\">"
+            "<text x=\"{middle}\" y=\"{y}\" font-size=\"9\" text-anchor=\"middle\">{}</text>",
+            column.number
         )?;
-        write!(f, "<title>entry {}: ", column.number)?;
-        tell(f, column.mark)?;
-        if let Some(answer) = self.answers.get(column.answer) {
-            write!(f, "; {}", answer.as_str())?;
-        }
-        writeln!(f, "; {count} in the device</title></rect>")
     }
+    dashes(f, layout, column.mark, middle)?;
+    if let Some(tag) = column.mark.tag() {
+        let y = layout.y(usize::from(tag)).saturating_add(LANE / 2);
+        writeln!(
+            f,
+            "<circle cx=\"{middle}\" cy=\"{y}\" r=\"{}\" fill=\"#222222\"/>",
+            (step / 5).clamp(1, 4)
+        )?;
+    }
+    let count = in_device(column);
+    device(f, layout, x, count)?;
+    let tall = layout.floor().saturating_add(DEVICE).saturating_sub(TOP);
+    write!(
+        f,
+        "<rect x=\"{x}\" y=\"{TOP}\" width=\"{step}\" height=\"{tall}\" fill=\"#000000\" fill-opacity=\"0\">"
+    )?;
+    write!(f, "<title>entry {}: ", column.number)?;
+    tell(f, column.mark)?;
+    if let Some(answer) = timeline.answers.get(column.answer) {
+        write!(f, "; {}", answer.as_str())?;
+    }
+    writeln!(f, "; {count} in the device</title></rect>")
+}
 
-    /// What the colours mean.
-    fn legend<W: fmt::Write>(&self, f: &mut fmt::Formatter<W>) -> fmt::Result {
-        let y = self.y(self.lanes()).saturating_add(DEVICE + 20);
-        let base = y.saturating_add(10);
-        let mut x: usize = 8;
-        for phase in [
-            Phase::Issued,
-            Phase::Accepted,
-            Phase::Broken,
-            Phase::Held,
-            Phase::Done,
-        ] {
-            if let Some(fill) = colour(phase) {
-                writeln!(
-                    f,
-                    "<rect x=\"{x}\" y=\"{y}\" width=\"12\" height=\"12\" fill=\"{fill}\"/>"
-                )?;
-            }
-            let text = x.saturating_add(16);
-            let word = match phase {
-                Phase::Broken => "failed",
-                other => name(other),
-            };
-            writeln!(f, "<text x=\"{text}\" y=\"{base}\">{word}</text>")?;
-            x = x.saturating_add(80);
+/// What the colours and the dashed lines mean.
+fn legend<W: fmt::Write>(f: &mut fmt::Formatter<W>, layout: Layout) -> fmt::Result {
+    let y = layout.floor().saturating_add(DEVICE + 20);
+    let base = y.saturating_add(10);
+    let mut x: usize = 8;
+    for (phase, word) in PHASES {
+        if let Some(fill) = colour(phase) {
+            writeln!(
+                f,
+                "<rect x=\"{x}\" y=\"{y}\" width=\"12\" height=\"12\" fill=\"{fill}\"/>"
+            )?;
         }
-        Ok(())
+        let text = x.saturating_add(16);
+        writeln!(f, "<text x=\"{text}\" y=\"{base}\">{word}</text>")?;
+        x = x.saturating_add(80);
     }
+    for (stroke, word) in LINES {
+        let (middle, end) = (x.saturating_add(6), y.saturating_add(12));
+        writeln!(
+            f,
+            "<line x1=\"{middle}\" y1=\"{y}\" x2=\"{middle}\" y2=\"{end}\" stroke=\"{stroke}\" stroke-width=\"2\" stroke-dasharray=\"4 3\"/>"
+        )?;
+        let text = x.saturating_add(16);
+        writeln!(f, "<text x=\"{text}\" y=\"{base}\">{word}</text>")?;
+        x = x.saturating_add(80);
+    }
+    Ok(())
 }
 
 impl<A: Allocator> fmt::Display for Timeline<A> {
     fn fmt<W: fmt::Write>(&self, f: &mut fmt::Formatter<W>) -> fmt::Result {
-        self.head(f)?;
-        self.lane_names(f)?;
-        for lane in 0..self.lanes() {
-            self.lane(f, lane)?;
+        let layout = Layout::of(self);
+        head(f, layout, self)?;
+        lane_names(f, layout)?;
+        for index in 0..layout.lanes {
+            lane(f, layout, &self.columns, index)?;
         }
         for (index, column) in self.columns.iter().enumerate() {
-            self.entry(f, index, column)?;
+            entry(f, layout, self, index, column)?;
         }
-        self.legend(f)?;
+        legend(f, layout)?;
         writeln!(f, "</svg>")
     }
 }

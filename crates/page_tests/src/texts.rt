@@ -1,61 +1,10 @@
 //! The texts of worked pages. Their words and bytes are those of the tables of ACS-3 ("IDENTIFY DEVICE", "NCQ Command Error
-//! log") as a disk of this model fills them, worked out by hand.
+//! log") as a disk of this model fills them, worked out by hand. The whole identify page of 1,000 sectors and 32 tags stands in
+//! the stored run of `ahci_examples`.
 use ata_pages::{IdentifyText, LogText};
 use ncq_core::{identify_page, log_page};
 use std::process::Abort;
 use std::test::Fail;
-
-/// The identify page of 1,000 sectors and 32 tags.
-pub static THOUSAND_SECTORS: &str = "\
-serial number \"00000001            \"
-firmware revision \"1.0     \"
-model number \"SOFTWARE NCQ DISK                       \"
-word 010  3030  Serial number
-word 011  3030  Serial number
-word 012  3030  Serial number
-word 013  3031  Serial number
-word 014  2020  Serial number
-word 015  2020  Serial number
-word 016  2020  Serial number
-word 017  2020  Serial number
-word 018  2020  Serial number
-word 019  2020  Serial number
-word 023  312e  Firmware revision
-word 024  3020  Firmware revision
-word 025  2020  Firmware revision
-word 026  2020  Firmware revision
-word 027  534f  Model number
-word 028  4654  Model number
-word 029  5741  Model number
-word 030  5245  Model number
-word 031  204e  Model number
-word 032  4351  Model number
-word 033  2044  Model number
-word 034  4953  Model number
-word 035  4b20  Model number
-word 036  2020  Model number
-word 037  2020  Model number
-word 038  2020  Model number
-word 039  2020  Model number
-word 040  2020  Model number
-word 041  2020  Model number
-word 042  2020  Model number
-word 043  2020  Model number
-word 044  2020  Model number
-word 045  2020  Model number
-word 046  2020  Model number
-word 049  0300  Capabilities
-word 060  03e8  Total number of user addressable logical sectors for 28-bit commands
-word 075  001f  Queue depth
-word 076  0106  Serial ATA Capabilities
-word 080  0400  Major version number
-word 083  6400  Commands and feature sets supported
-word 084  4020  Commands and feature sets supported
-word 086  2400  Commands and feature sets supported or enabled
-word 087  4020  Commands and feature sets supported or enabled
-word 100  03e8  Number of User Addressable Logical Sectors
-all other words are 0000
-";
 
 /// Page 0 of log 10h: tag 3 failed with error 40h at sector 7.
 pub static TAG_3: &str = "\
@@ -106,13 +55,6 @@ static LARGEST: [&str; 3] = [
 
 fn same(rt: &impl Abort, found: &str, wanted: &str) {
     assert_eq!(rt; found, wanted);
-}
-
-#[test]
-fn an_identify_page_is_told_by_its_texts_and_its_words(rt: HostRuntime) -> Result<(), Fail> {
-    let text = IdentifyText(identify_page(1000, 32)).to_string(rt.alloc())?;
-    same(&rt, text.as_str(), THOUSAND_SECTORS);
-    Ok(())
 }
 
 #[test]

@@ -1,6 +1,6 @@
 //! Pages that are written: in which form, to writers that take little, and without memory.
-use crate::texts::{TAG_3, THOUSAND_SECTORS};
-use ata_pages::{PageFault, write_identify, write_log};
+use crate::texts::TAG_3;
+use ata_pages::{IdentifyText, PageFault, write_identify, write_log};
 use ncq_core::{identify_page, log_page};
 use refusing_allocator::{Refusals, Refusing};
 use std::io;
@@ -37,7 +37,8 @@ fn a_page_is_written_as_text_or_as_its_bytes(rt: HostRuntime) -> Result<(), Fail
     let alloc = rt.alloc();
     let mut told = Vec::new(alloc);
     assert_eq!(rt; write_identify(alloc, 1000, 32, false, &mut told), Ok(()));
-    assert!(rt; told.as_slice() == THOUSAND_SECTORS.as_bytes());
+    let text = IdentifyText(identify_page(1000, 32)).to_string(alloc)?;
+    assert!(rt; told.as_slice() == text.as_bytes());
     let mut raw = Vec::new(alloc);
     assert_eq!(rt; write_identify(alloc, 1000, 32, true, &mut raw), Ok(()));
     assert!(rt; raw.as_slice() == identify_page(1000, 32).as_slice());

@@ -3,6 +3,7 @@ ghost use Rattle.std.specs.Prelude.{◌<◌, ◌≤◌};
 
 use ahci_port::{
     CollectFault, DeviceStep, IssueFault, PlainFault, Port, RecoverFault, ReissueFault, StepFault,
+    TrimFault,
 };
 use arrayvec::ArrayVec;
 use ncq_core::{Event, Phase, phase_of, request_of};
@@ -36,6 +37,7 @@ pub enum Call {
     Identify,
     Flush,
     Acknowledge(u32),
+    Trim,
 }
 
 /// Why a call is refused.
@@ -47,6 +49,7 @@ pub enum Fault {
     Recover(RecoverFault),
     Reissue(ReissueFault),
     Plain(PlainFault),
+    Trim(TrimFault),
 }
 
 impl Call {
@@ -63,6 +66,7 @@ impl Call {
             Call::Identify => 0x080,
             Call::Flush => 0x100,
             Call::Acknowledge(_) => 0x200,
+            Call::Trim => 0x2000,
         }
     }
 }
@@ -85,6 +89,11 @@ pub fn names_twice(tags: &[u8]) -> bool {
         }
     }
     false
+}
+
+/// Whether every slot is free.
+pub fn is_vacant(events: &[Event]) -> bool {
+    (0..32u8).all(|tag| phase_of(events, tag) == Phase::Free)
 }
 
 impl Picks {
@@ -189,13 +198,14 @@ impl Picks {
         }
     }
 
-    /// The call that comes next for a tag; now and then a recovery where the port is halted, and a command that is not queued
-    /// where no tag is outstanding.
+    /// The call that comes next for a tag; now and then a recovery where the port is halted, a command that is not queued where
+    /// no tag is outstanding, and a trim where every slot is free.
     fn next_call(&mut self, port: &Port, events: &[Event], tag: u8) -> Call {
         match self.below(8) {
             0..=1 if port.halted() => return Call::Recover,
             2 if port.register(0x134) == Ok(0) => return Call::Identify,
             3 if port.register(0x134) == Ok(0) => return Call::Flush,
+            4 if is_vacant(events) => return Call::Trim,
             _ => {}
         }
         match phase_of(events, tag) {
@@ -210,7 +220,7 @@ impl Picks {
 
     /// Any call, whether it fits or not.
     fn any_call(&mut self, port: &Port, events: &[Event], tag: u8) -> Call {
-        match self.below(16) {
+        match self.below(17) {
             0 => Call::Issue(self.command(tag)),
             1 => Call::Step(DeviceStep::Accept(tag)),
             2 => Call::Step(self.service(port.depth(), events, tag)),
@@ -221,6 +231,7 @@ impl Picks {
             10..=11 => Call::Identify,
             12 => Call::Step(DeviceStep::Serve(ArrayVec::new())),
             13..=14 => Call::Flush,
+            15 => Call::Trim,
             _ => Call::Acknowledge(1 << self.below(32)),
         }
     }

@@ -39,7 +39,7 @@ pub fn copy_of(alloc: Global, event: &Event) -> Result<Event, AllocError> {
 pub fn entries_of(call: &Call) -> usize {
     match call {
         Call::Step(DeviceStep::Serve(tags)) => tags.len(),
-        Call::Acknowledge(_) => 0,
+        Call::Acknowledge(_) | Call::Trim => 0,
         _ => 1,
     }
 }
