@@ -11,7 +11,7 @@ use Rattle.clap.specs.Facts.{parser_of_value}
 use Rattle.clap.specs.Lexer.{without_minus}
 use Rattle.clap.specs.Values.{IsSignedIn, read_as}
 use Rattle.clap.specs.ValueTests.{accepts}
-use Rattle.clap.specs.Walk.{Row, Rule, Text, arg_by_index, first_of, has_row, nothing_held, one_of, reading_by, rows_after, settled, walk, walk_from}
+use Rattle.clap.specs.Walk.{Row, Rule, Text, arg_by_index, first_of, nothing_held, one_of, reading_by, rows_after, settled, walk, walk_from}
 use Rattle.clap.specs.Simple.{Shape, filled, help_rule}
 use Rattle.clap.specs.Kinds.{Kinds, check_kinds, or_else, range_kinds}
 use Rattle.clap.specs.Faults.{check_fault, defaults_fault, level_fault, settle_fault, walk_fault}
@@ -20,8 +20,8 @@ use Rattle.clap.specs.declared.error.kind.ErrorKind.TheVariants.{DisplayHelp}
 use Rattle.clap.specs.declared.builder.value_parser.ValueParser.TheVariants.{Signed, Unsigned}
 use Rattle.clap.proofs.ValueTestLemmas.{accepts-Accepts}
 use Rattle.clap.proofs.WalkLemmas.{list_any-map}
-use Rattle.ahci_args.specs.CommandLine.{PickWords, index_option, number_option, pick_option, raw_flag}
-use Rattle.ahci_args.specs.Asking.{HasNumber, HasPick, HasRaw}
+use Rattle.ahci_args.specs.CommandLine.{PickWords, flag, index_option, number_option, pick_option}
+use Rattle.ahci_args.specs.Asking.{HasFlag, HasNumber, HasPick}
 use Rattle.ahci_args.specs.declared.pick.Pick.{Pick}
 use Rattle.ahci_args.specs.declared.pick.Pick.TheVariants.{Low, High, All}
 use Rattle.ahci_args.proofs.FlagLemmas.{second_none}
@@ -195,7 +195,7 @@ index_of id rows last t =
       },
     )
 
--- ---- the pick and the flag
+-- ---- the pick and a flag
 
 pub pick_of : (picks : PickWords) (rows : List Row) → TextOf (filled (pick_option picks)) rows → (p : Pick) × HasPick rows p
 pick_of picks rows t =
@@ -210,10 +210,10 @@ pick_of picks rows t =
     go false false true is_low is_high is_all e = (All, t.first ∙ ap Some (sym ((bytes_eq-Decides (codes "all") t.text).0 is_all)))
     go false false false is_low is_high is_all e = cc
 
-pub raw_of : (rows : List Row) → TextOf (filled raw_flag) rows → (r : Bool) × HasRaw rows r
-raw_of rows t = go (bytes_eq t.text (codes "true")) (bytes_eq t.text (codes "false")) refl refl t.passed
+pub flag_of : (id : Text) (rows : List Row) → TextOf (filled (flag id)) rows → (given : Bool) × HasFlag rows id given
+flag_of id rows t = go (bytes_eq t.text (codes "true")) (bytes_eq t.text (codes "false")) refl refl t.passed
   where
-    go : (on off : Bool) → bytes_eq t.text (codes "true") ≡ on → bytes_eq t.text (codes "false") ≡ off → (on || off) ≡ true → (r : Bool) × HasRaw rows r
+    go : (on off : Bool) → bytes_eq t.text (codes "true") ≡ on → bytes_eq t.text (codes "false") ≡ off → (on || off) ≡ true → (given : Bool) × HasFlag rows id given
     go true off is_yes is_no e = (true, t.one ∙ ap Some ((bytes_eq-Decides t.text (codes "true")).0 is_yes))
     go false true is_yes is_no e = (false, t.one ∙ ap Some ((bytes_eq-Decides t.text (codes "false")).0 is_no))
     go false false is_yes is_no e = cc

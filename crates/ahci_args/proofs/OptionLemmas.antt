@@ -1,64 +1,10 @@
 -- The options that a walk over words has found, where no word is a fault: each has a value, which has passed.
-use Rattle.std.proofs.Common.{◌≡◌, ◌⊎◌, ℕ, Bool, true, false, zero, suc, refl, inl, inr, List, [], ◌∷◌, Option, Some, None, is_some, length, subst, sym, ap}
+use Rattle.std.proofs.Common.{◌≡◌, ℕ, Bool, true, false, zero, suc, refl, List, [], ◌∷◌, Option, Some, None, is_some, length, subst, sym, ap}
 use Rattle.std.specs.Prelude.{if◌then◌else◌, slice_get, fold, drop, encode_utf8}
 use Rattle.std.specs.Option.{option_map_or}
 use Rattle.std.specs.Str.{bytes_eq, chars}
 use Rattle.clap.specs.Lexer.{long_of, short_of}
-use Rattle.clap.specs.Walk.{
-  Held,
-  Names,
-  Outcome,
-  Row,
-  Rule,
-  Step,
-  Text,
-  Waiting,
-  Walk,
-  after_flag,
-  after_step,
-  arg_by_id,
-  arg_by_long,
-  arg_by_short,
-  attached_value,
-  bundle,
-  bundle_met,
-  bundle_step,
-  done,
-  flag_met,
-  idle,
-  long_met,
-  long_or_other,
-  next,
-  nothing_held,
-  option,
-  option_met,
-  option_word,
-  plain,
-  plain_word,
-  positional,
-  reacted,
-  refused,
-  rows_after,
-  settled,
-  settled_rows,
-  short_met,
-  short_or_plain,
-  subcommand,
-  subcommand_met,
-  subcommand_or_other,
-  takes_values,
-  to_positional,
-  trailing,
-  used,
-  used_by_id,
-  value,
-  waits,
-  walk,
-  walk_from,
-  walked,
-  walked_from,
-  word_met,
-}
+use Rattle.clap.specs.Walk.{Held, Names, Outcome, Rule, Step, Text, Waiting, Walk, after_flag, after_step, arg_by_id, arg_by_long, arg_by_short, attached_value, bundle, bundle_met, bundle_step, done, flag_met, idle, long_met, long_or_other, next, nothing_held, option, option_met, option_word, plain, plain_word, positional, reacted, refused, rows_after, settled, settled_rows, short_met, short_or_plain, subcommand, subcommand_met, subcommand_or_other, takes_values, to_positional, trailing, used_by_id, value, waits, walk, walk_from, walked, walked_from, word_met}
 use Rattle.clap.specs.Simple.{Shape}
 use Rattle.clap.specs.Kinds.{Kinds, or_else}
 use Rattle.clap.specs.Faults.{
