@@ -20,7 +20,7 @@ use Rattle.ahci_args.specs.Usage.{error_fault, usage_faults, value_fault}
 use Rattle.ahci_args.specs.Asking.{AsksFor, AsksReplay, Finds, IsIdentifyOf, IsLogOf, IsRunOf, IsTraceOf}
 use Rattle.ahci_args.specs.declared.request.Asked.{Asked}
 use Rattle.ahci_args.specs.declared.request.Asked.TheVariants.{Run, Identify, Log, Trace}
-use Rattle.ahci_args.proofs.SubcommandLemmas.{Subcommand, Logs, Takes, known_as, known_by_name, name_of}
+use Rattle.ahci_args.proofs.SubcommandLemmas.{Subcommand, Runs, Identifies, Logs, Traces, Takes, known_as, known_by_name, name_of}
 use Rattle.ahci_args.proofs.WordLemmas.{Found, HasFound, finds}
 
 -- the words of `--pick` at some place
@@ -41,9 +41,9 @@ parse_fails : (e : Error) (a b : Kinds) → HasKind a e → HasKind (or_else a b
 parse_fails e a b (inl memory) = inl memory
 parse_fails e a b (inr among) = inr (among_first (kind_of e) a b among)
 
-pub known_faults : {T : Type 0} (app : App) (picks : PickWords) (words : List Text) (r : Result T Error) (e : Error) → app ≡ ahci picks → r ≡ Err e
+pub known_faults : {T : Type 0} {app : App} (picks : PickWords) (words : List Text) {r : Result T Error} {e : Error} → app ≡ ahci picks → r ≡ Err e
     → (is_simple_and_free app ≡ true → FailsBy (fault_of app words) r) → FailsBy (usage_faults picks words) r
-known_faults {T} app picks words r e is failed kinds =
+known_faults {T} {app} picks words {r} {e} is failed kinds =
     let fails : FailsBy (fault_of (ahci picks) words) r = subst (λ (a : App). is_simple_and_free a ≡ true → FailsBy (fault_of a words) r) is kinds refl in
     subst (FailsBy {T = T} (usage_faults picks words)) (sym failed)
     (parse_fails e (fault_of (ahci picks) words) (value_fault (subcommand_of (ahci picks) words)) (subst (FailsBy {T = T} (fault_of (ahci picks) words)) failed fails))
@@ -110,16 +110,16 @@ found_met s picks words options none at = go (finds picks words none)
     go (inr (t, r)) = of_found s picks words options none (subst (HasFound picks words) (same_subcommand t s (known_in (sym r.found ∙ at))) r) at
 
 -- the matches of such words name this subcommand
-pub met : (s : Subcommand) (app : App) (picks : PickWords) (words : List Text) (m : ArgMatches) (options : List Row) → app ≡ ahci picks
+pub met : {s : Subcommand} {app : App} {picks : PickWords} {words : List Text} (m : ArgMatches) {options : List Row} → app ≡ ahci picks
     → (is_simple_and_free app ≡ true → fault_of app words ≡ []) → HasMatchesOf app words m
     → subcommand_name_of m ≡ Some (name_of s) → option_map (λ p. p.1) (subcommand_rows_of m) ≡ Some options → IsMet s picks words options
-met s app picks words m options is kinds has named rows =
+met {s} {app} {picks} {words} m {options} is kinds has named rows =
     found_met s picks words options (no_fault app picks words is kinds) (known_subcommand app picks words m (name_of s) options is has named rows)
 
 -- they name none of these
-pub met_other : (app : App) (picks : PickWords) (words : List Text) (m : ArgMatches) → app ≡ ahci picks → (is_simple_and_free app ≡ true → fault_of app words ≡ [])
+pub met_other : {app : App} (picks : PickWords) (words : List Text) (m : ArgMatches) → app ≡ ahci picks → (is_simple_and_free app ≡ true → fault_of app words ≡ [])
     → HasMatchesOf app words m → ((s : Subcommand) → subcommand_name_of m ≡ Some (name_of s) → ⊥) → AsksReplay words × (usage_faults picks words ≡ [])
-met_other app picks words m is kinds has other = go (finds picks words none)
+met_other {app} picks words m is kinds has other = go (finds picks words none)
   where
     none : fault_of (ahci picks) words ≡ []
     none = no_fault app picks words is kinds
@@ -130,46 +130,45 @@ met_other app picks words m is kinds has other = go (finds picks words none)
 
 -- ---- what is answered
 
-value_faults : (s : Subcommand) (picks : PickWords) (words : List Text) (options : List Row) → IsMet s picks words options
+value_faults : {s : Subcommand} {picks : PickWords} {words : List Text} {options : List Row} → IsMet s picks words options
     → usage_faults picks words ≡ value_fault (Some (name_of s, options))
-value_faults s picks words options is =
+value_faults {s} {picks} {words} is =
     ap (λ k. or_else k (value_fault (subcommand_of (ahci picks) words))) is.no_fault ∙ ap value_fault is.found
 
 -- a subcommand without an error byte has no further fault
-pub no_value_fault : (s : Subcommand) (picks : PickWords) (words : List Text) (options : List Row) → IsMet s picks words options
+pub no_value_fault : {s : Subcommand} {picks : PickWords} {words : List Text} {options : List Row} → IsMet s picks words options
     → bytes_eq (name_of s) (codes "log") ≡ false → usage_faults picks words ≡ []
-no_value_fault s picks words options is other =
-    value_faults s picks words options is ∙ ap (λ b. cond b (error_fault options) []) other
+no_value_fault {options = options} is other = value_faults is ∙ ap (λ b. cond b (error_fault options) []) other
 
 -- `log` fails by its error byte
-pub log_fails : {T : Type 0} (picks : PickWords) (words : List Text) (options : List Row) (r : Result T Error) → IsMet Logs picks words options
+pub log_fails : {T : Type 0} {picks : PickWords} {words : List Text} {options : List Row} (r : Result T Error) → IsMet Logs picks words options
     → FailsBy (error_fault options) r → FailsBy (usage_faults picks words) r
-log_fails picks words options r is fails =
-    subst (λ (k : Kinds). FailsBy k r) (sym (value_faults Logs picks words options is)) fails
+log_fails r is fails = subst (λ (k : Kinds). FailsBy k r) (sym (value_faults is)) fails
 
-pub asks_run : (words : List Text) (options : List Row) (asked : Asked) → Finds (codes "run") words options → IsRunOf options asked → AsksFor words asked
-asks_run words options (Run w d s p) found is = record { options = options; finds = found; has = is }
-asks_run words options other found is = absurd is
+pub asks_run : {picks : PickWords} {words : List Text} {options : List Row} (asked : Asked) → IsMet Runs picks words options → IsRunOf options asked → AsksFor words asked
+asks_run {options = options} (Run w d s p) is_met is = record { options = options; finds = is_met.finds; has = is }
+asks_run other is_met is = absurd is
 
-pub asks_identify : (words : List Text) (options : List Row) (asked : Asked) → Finds (codes "identify") words options → IsIdentifyOf options asked → AsksFor words asked
-asks_identify words options (Identify s d r) found is = record { options = options; finds = found; has = is }
-asks_identify words options other found is = absurd is
+pub asks_identify : {picks : PickWords} {words : List Text} {options : List Row} (asked : Asked) → IsMet Identifies picks words options → IsIdentifyOf options asked → AsksFor words asked
+asks_identify {options = options} (Identify s d r) is_met is = record { options = options; finds = is_met.finds; has = is }
+asks_identify other is_met is = absurd is
 
-pub asks_trace : (words : List Text) (options : List Row) (asked : Asked) → Finds (codes "trace") words options → IsTraceOf options asked → AsksFor words asked
-asks_trace words options (Trace j) found is = record { options = options; finds = found; has = is }
-asks_trace words options other found is = absurd is
+pub asks_trace : {picks : PickWords} {words : List Text} {options : List Row} (asked : Asked) → IsMet Traces picks words options → IsTraceOf options asked → AsksFor words asked
+asks_trace {options = options} (Trace j) is_met is = record { options = options; finds = is_met.finds; has = is }
+asks_trace other is_met is = absurd is
 
-asks_log : (words : List Text) (options : List Row) (asked : Asked) → Finds (codes "log") words options → IsLogOf options asked → AsksFor words asked
-asks_log words options (Log t x l r) found is = record { options = options; finds = found; has = is }
-asks_log words options other found is = absurd is
+asks_log : {picks : PickWords} {words : List Text} {options : List Row} (asked : Asked) → IsMet Logs picks words options → IsLogOf options asked → AsksFor words asked
+asks_log {options = options} (Log t x l r) is_met is = record { options = options; finds = is_met.finds; has = is }
+asks_log other is_met is = absurd is
 
-pub log_answers : (words : List Text) (options : List Row) (r : Result Asked Error) → Finds (codes "log") words options → IfOk r (λ asked. IsLogOf options asked) → IfOk r (λ asked. AsksFor words asked)
-log_answers words options (Ok asked) found is = asks_log words options asked found is
-log_answers words options (Err e) found is = tt
+pub log_answers : {picks : PickWords} {words : List Text} {options : List Row} (r : Result Asked Error) → IsMet Logs picks words options
+    → IfOk r (λ asked. IsLogOf options asked) → IfOk r (λ asked. AsksFor words asked)
+log_answers (Ok asked) is_met is = asks_log asked is_met is
+log_answers (Err e) is_met is = tt
 
 -- a flag is read as it was given
-pub flag_read : (o : Option Text) (given read : Bool) → o ≡ Some (cond given (codes "true") (codes "false")) → (o ≡ Some (codes "true") → read ≡ true) → (o ≡ Some (codes "false") → read ≡ false)
-    → o ≡ Some (cond read (codes "true") (codes "false"))
+pub flag_read : (o : Option Text) (given read : Bool) → o ≡ Some (cond given (codes "true") (codes "false"))
+    → (o ≡ Some (codes "true") → read ≡ true) → (o ≡ Some (codes "false") → read ≡ false) → o ≡ Some (cond read (codes "true") (codes "false"))
 flag_read o true read is on off = is ∙ ap (λ b. Some (cond b (codes "true") (codes "false"))) (sym (on is))
 flag_read o false read is on off = is ∙ ap (λ b. Some (cond b (codes "true") (codes "false"))) (sym (off is))
 

@@ -8,7 +8,26 @@ use Rattle.std.proofs.lemmas.Slice.Eq.{bytes_eq-Decides}
 use Rattle.clap.specs.Facts.{explicit_source, parser_of_value, unwrap_or_range}
 use Rattle.clap.specs.Values.{read_as, refused_kind}
 use Rattle.clap.specs.ValueTests.{accepts}
-use Rattle.clap.specs.Walk.{Row, Rule, Text, action_of, arg_by_index, at_row, default_rows, first_of, has_row, is_empty, more_values, one_of, reading_by, used, used_as, with_default, with_values, without}
+use Rattle.clap.specs.Walk.{
+  Row,
+  Rule,
+  Text,
+  action_of,
+  arg_by_index,
+  at_row,
+  default_rows,
+  first_of,
+  has_row,
+  is_empty,
+  more_values,
+  one_of,
+  reading_by,
+  used,
+  used_as,
+  with_default,
+  with_values,
+  without,
+}
 use Rattle.clap.specs.Kinds.{range_kinds}
 use Rattle.clap.specs.Faults.{action_fault, default_fault, defaults_fault, given_default_fault, repeat_fault, set_fault, use_fault, values_fault}
 use Rattle.clap.specs.Takes.{is_given}

@@ -125,14 +125,10 @@ run_options picks words e =
     let leaf = leaf_of picks Runs in
     let rows = rows_after leaf.rules [] words in
     let only = run_only picks in
-    let w = number_of (codes "workers") rows most_workers
-    (required_text leaf only refl words e workers (inl refl) (λ _. refl, (λ e. cc, (λ e. cc, (λ e. cc, (λ e. cc, tt))))) refl) in
-    let d = number_of (codes "depth") rows most_depth
-    (required_text leaf only refl words e depth (inr (inl refl)) (λ e. cc, (λ _. refl, (λ e. cc, (λ e. cc, (λ e. cc, tt))))) refl) in
-    let s = number_of (codes "sectors") rows most_sectors
-    (required_text leaf only refl words e sectors (inr (inr (inl refl))) (λ e. cc, (λ e. cc, (λ _. refl, (λ e. cc, (λ e. cc, tt))))) refl) in
-    let p = pick_of picks rows
-    (default_text leaf only refl words e (filled (pick_option picks)) (codes "low") [] (inr (inr (inr (inl refl)))) (λ e. cc, (λ e. cc, (λ e. cc, (λ _. refl, (λ e. cc, tt))))) refl) in
+    let w = number_of (codes "workers") rows most_workers (required_text leaf only refl refl words e workers (inl refl) refl) in
+    let d = number_of (codes "depth") rows most_depth (required_text leaf only refl refl words e depth (inr (inl refl)) refl) in
+    let s = number_of (codes "sectors") rows most_sectors (required_text leaf only refl refl words e sectors (inr (inr (inl refl))) refl) in
+    let p = pick_of picks rows (default_text leaf only refl refl words e (filled (pick_option picks)) (codes "low") [] (inr (inr (inr (inl refl)))) refl) in
     record {
       workers = w.0;
       depth = d.0;
@@ -143,6 +139,9 @@ run_options picks words e =
 
 -- ---- `identify`
 
+abbrev raw : Rule
+raw = filled (flag (codes "raw"))
+
 identify_only : (picks : PickWords) → HasOptionsOnly (leaf_of picks Identifies).rules
 identify_only picks =
     let c = (leaf_of picks Identifies).rules in
@@ -151,7 +150,7 @@ identify_only picks =
       (
         option_fits c depth (inr (inl refl)) refl refl,
         (
-          flag_fits c (filled (flag (codes "raw"))) (codes "true") [] (inr (inr (inl refl))) refl refl,
+          flag_fits c raw (codes "true") [] (inr (inr (inl refl))) refl refl,
           (help_fits c, tt),
         ),
       ),
@@ -162,12 +161,9 @@ identify_options picks words e =
     let leaf = leaf_of picks Identifies in
     let rows = rows_after leaf.rules [] words in
     let only = identify_only picks in
-    let s = number_of (codes "sectors") rows most_sectors
-    (required_text leaf only refl words e sectors (inl refl) (λ _. refl, (λ e. cc, (λ e. cc, (λ e. cc, tt)))) refl) in
-    let d = number_of (codes "depth") rows most_depth
-    (required_text leaf only refl words e depth (inr (inl refl)) (λ e. cc, (λ _. refl, (λ e. cc, (λ e. cc, tt)))) refl) in
-    let r = flag_of (codes "raw") rows
-    (default_text leaf only refl words e (filled (flag (codes "raw"))) (codes "false") [] (inr (inr (inl refl))) (λ e. cc, (λ e. cc, (λ _. refl, (λ e. cc, tt)))) refl) in
+    let s = number_of (codes "sectors") rows most_sectors (required_text leaf only refl refl words e sectors (inl refl) refl) in
+    let d = number_of (codes "depth") rows most_depth (required_text leaf only refl refl words e depth (inr (inl refl)) refl) in
+    let r = flag_of (codes "raw") rows (default_text leaf only refl refl words e raw (codes "false") [] (inr (inr (inl refl))) refl) in
     record {
       sectors = s.0;
       depth = d.0;
@@ -196,7 +192,7 @@ log_only picks =
         (
           option_fits c lba (inr (inr (inl refl))) refl refl,
           (
-            flag_fits c (filled (flag (codes "raw"))) (codes "true") [] (inr (inr (inr (inl refl)))) refl refl,
+            flag_fits c raw (codes "true") [] (inr (inr (inr (inl refl)))) refl refl,
             (help_fits c, tt),
           ),
         ),
@@ -208,12 +204,9 @@ log_options picks words e =
     let leaf = leaf_of picks Logs in
     let rows = rows_after leaf.rules [] words in
     let only = log_only picks in
-    let t = index_of (codes "tag") rows last_tag
-    (required_text leaf only refl words e tag (inl refl) (λ _. refl, (λ e. cc, (λ e. cc, (λ e. cc, (λ e. cc, tt))))) refl) in
-    let l = index_of (codes "lba") rows last_lba
-    (required_text leaf only refl words e lba (inr (inr (inl refl))) (λ e. cc, (λ e. cc, (λ _. refl, (λ e. cc, (λ e. cc, tt))))) refl) in
-    let r = flag_of (codes "raw") rows
-    (default_text leaf only refl words e (filled (flag (codes "raw"))) (codes "false") [] (inr (inr (inr (inl refl)))) (λ e. cc, (λ e. cc, (λ e. cc, (λ _. refl, (λ e. cc, tt))))) refl) in
+    let t = index_of (codes "tag") rows last_tag (required_text leaf only refl refl words e tag (inl refl) refl) in
+    let l = index_of (codes "lba") rows last_lba (required_text leaf only refl refl words e lba (inr (inr (inl refl))) refl) in
+    let r = flag_of (codes "raw") rows (default_text leaf only refl refl words e raw (codes "false") [] (inr (inr (inr (inl refl)))) refl) in
     record {
       tag = t.0;
       lba = l.0;
@@ -234,8 +227,7 @@ trace_only picks =
 trace_options : (picks : PickWords) (words : List Text) → HasNoFault (leaf_of picks Traces) words → TakesForm (rows_after (leaf_of picks Traces).rules [] words)
 trace_options picks words e =
     let leaf = leaf_of picks Traces in
-    let j = flag_of (codes "json") (rows_after leaf.rules [] words)
-    (default_text leaf (trace_only picks) refl words e json (codes "false") [] (inl refl) (λ _. refl, (λ e. cc, tt)) refl) in
+    let j = flag_of (codes "json") (rows_after leaf.rules [] words) (default_text leaf (trace_only picks) refl refl words e json (codes "false") [] (inl refl) refl) in
     record { json = j.0; has = j.1 }
 
 -- ---- each of them

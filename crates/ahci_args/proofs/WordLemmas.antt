@@ -161,7 +161,9 @@ module _ (picks : PickWords) (word : Text) (words : List Text) (e : built_fault 
         },
       )
 
-  by_name : (a r i l t k w h d : Bool) → bytes_eq (codes "replay") word ≡ a → bytes_eq (codes "run") word ≡ r → bytes_eq (codes "identify") word ≡ i → bytes_eq (codes "log") word ≡ l → bytes_eq (codes "trace") word ≡ t → bytes_eq (codes "check") word ≡ k → bytes_eq (codes "draw") word ≡ w
+  by_name : (a r i l t k w h d : Bool) → bytes_eq (codes "replay") word ≡ a
+      → bytes_eq (codes "run") word ≡ r → bytes_eq (codes "identify") word ≡ i → bytes_eq (codes "log") word ≡ l
+      → bytes_eq (codes "trace") word ≡ t → bytes_eq (codes "check") word ≡ k → bytes_eq (codes "draw") word ≡ w
       → bytes_eq (codes "help") word ≡ h → bytes_eq word (codes "--") ≡ d → IsTaken picks (word ∷ words)
   unfolding clap_on_literals
   by_name true r i l t k w h d is _ _ _ _ _ _ _ _ =
