@@ -53,7 +53,7 @@ fn answer<H: Threads + Wait + Sync>(rt: &HostRuntime, threads: &H, words: &[Stri
 {
     match asked(rt.alloc(), words) {
         Ok(Asked::Replay) => script(rt),
-        Ok(Asked::Trace) => traced(rt),
+        Ok(Asked::Trace { .. }) => traced(rt),
         Ok(Asked::Check) => checked(rt),
         Ok(Asked::Draw) => drawn(rt),
         Ok(

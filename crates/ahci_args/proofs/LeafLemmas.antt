@@ -5,13 +5,14 @@ use Rattle.std.specs.Prelude.{find, pos}
 use Rattle.std.specs.List.{list_any}
 use Rattle.std.specs.Str.{bytes_eq}
 use Rattle.std.specs.Str.Parse.{IsNumeral, digits_value, without_leading_plus}
+use Rattle.std.proofs.Math.Bool.{or-true}
 use Rattle.std.proofs.lemmas.Int.{ints}
 use Rattle.std.proofs.lemmas.Slice.Eq.{bytes_eq-Decides}
 use Rattle.clap.specs.Facts.{parser_of_value}
 use Rattle.clap.specs.Lexer.{without_minus}
 use Rattle.clap.specs.Values.{IsSignedIn, read_as}
 use Rattle.clap.specs.ValueTests.{accepts}
-use Rattle.clap.specs.Walk.{Row, Rule, Text, arg_by_index, first_of, has_row, nothing_held, one_of, reading_by, rows_after, settled, walk, walk_from}
+use Rattle.clap.specs.Walk.{Row, Rule, Text, arg_by_index, first_of, nothing_held, one_of, reading_by, rows_after, settled, walk, walk_from}
 use Rattle.clap.specs.Simple.{Shape, filled, help_rule}
 use Rattle.clap.specs.Kinds.{Kinds, check_kinds, or_else, range_kinds}
 use Rattle.clap.specs.Faults.{check_fault, defaults_fault, level_fault, settle_fault, walk_fault}
@@ -20,8 +21,8 @@ use Rattle.clap.specs.declared.error.kind.ErrorKind.TheVariants.{DisplayHelp}
 use Rattle.clap.specs.declared.builder.value_parser.ValueParser.TheVariants.{Signed, Unsigned}
 use Rattle.clap.proofs.ValueTestLemmas.{accepts-Accepts}
 use Rattle.clap.proofs.WalkLemmas.{list_any-map}
-use Rattle.ahci_args.specs.CommandLine.{PickWords, index_option, number_option, pick_option, raw_flag}
-use Rattle.ahci_args.specs.Asking.{HasNumber, HasPick, HasRaw}
+use Rattle.ahci_args.specs.CommandLine.{PickWords, flag, index_option, number_option, pick_option}
+use Rattle.ahci_args.specs.Asking.{HasFlag, HasNumber, HasPick}
 use Rattle.ahci_args.specs.declared.pick.Pick.{Pick}
 use Rattle.ahci_args.specs.declared.pick.Pick.TheVariants.{Low, High, All}
 use Rattle.ahci_args.proofs.FlagLemmas.{second_none}
@@ -57,15 +58,41 @@ asks_for_help kinds e =
 pub help_fits : (c : List Rule) → Fits c (filled help_rule)
 help_fits c = request_fits c (filled help_rule) (λ values rows e. asks_for_help (range_kinds 0 0 (length values)) e)
 
--- no other of the rules has this id
-abbrev pub IsOnly : Rule → List Rule → Type 0
-IsOnly a [] = Unit {0}
-IsOnly a (x ∷ xs) = (bytes_eq x.id a.id ≡ true → x ≡ a) × IsOnly a xs
+-- no two of the rules have one id
+abbrev pub are_apart : List Rule → Bool
+are_apart [] = true
+are_apart (x ∷ xs) = not (list_any (λ (y : Rule). bytes_eq y.id x.id) xs) && are_apart xs
 
-only_rule : (a x : Rule) (c : List Rule) → IsOnly a c → Among x c → bytes_eq x.id a.id ≡ true → x ≡ a
-only_rule a x [] only among e = absurd among
-only_rule a x (y ∷ ys) only (inl is) e = sym is ∙ only.0 (subst (λ (r : Rule). bytes_eq r.id a.id ≡ true) (sym is) e)
-only_rule a x (y ∷ ys) only (inr among) e = only_rule a x ys only.1 among e
+has_id : (id : Text) (a : Rule) (c : List Rule) → Among a c → bytes_eq a.id id ≡ true → list_any (λ (y : Rule). bytes_eq y.id id) c ≡ true
+has_id id a [] among e = absurd among
+has_id id a (x ∷ xs) (inl is) e = rw (is, e) refl
+has_id id a (x ∷ xs) (inr among) e = rw (has_id id a xs among e) (or-true (bytes_eq x.id id))
+
+parted : (b rest : Bool) → (not b && rest) ≡ true → (b ≡ false) × (rest ≡ true)
+parted true rest e = cc
+parted false rest e = (refl, e)
+
+-- so an id is that of one rule
+only_rule : (a x : Rule) (c : List Rule) → are_apart c ≡ true → Among a c → Among x c → bytes_eq x.id a.id ≡ true → x ≡ a
+only_rule a x [] apart has among e = absurd has
+only_rule a x (y ∷ ys) apart has among e = go has among (λ inside also. only_rule a x ys parts.1 inside also e)
+  where
+    parts : (list_any (λ (z : Rule). bytes_eq z.id y.id) ys ≡ false) × (are_apart ys ≡ true)
+    parts = parted _ _ apart
+
+    clash : (z : Rule) → Among z ys → z.id ≡ y.id → ⊥
+    clash z inside same =
+        let bad : true ≡ false = sym (has_id y.id z ys inside ((bytes_eq-Decides z.id y.id).1 same)) ∙ parts.0 in
+        cc
+
+    same : x.id ≡ a.id
+    same = (bytes_eq-Decides x.id a.id).0 e
+
+    go : (y ≡ a) ⊎ Among a ys → (y ≡ x) ⊎ Among x ys → (Among a ys → Among x ys → x ≡ a) → x ≡ a
+    go (inl first) (inl also) rest = sym also ∙ first
+    go (inl first) (inr inside) rest = absurd (clash x inside (same ∙ ap (λ (r : Rule). r.id) (sym first)))
+    go (inr inside) (inl also) rest = absurd (clash a inside (sym same ∙ ap (λ (r : Rule). r.id) (sym also)))
+    go (inr inside) (inr also) rest = rest inside also
 
 -- ---- the text of a rule
 
@@ -76,9 +103,9 @@ pub record TextOf (a : Rule) (rows : List Row) : Type 0 where
   pub one : one_of a.id rows ≡ Some (read_as (reading_by a) text)
   pub passed : accepts a.ignore_case (parser_of_value a.parser) text ≡ true
 
-text_of : (c : List Rule) (a : Rule) (rows : List Row) → IsOnly a c → OptionText c a.id rows → TextOf a rows
-text_of c a rows only t =
-    let is = only_rule a t.rule c only t.among t.same_id in
+text_of : (c : List Rule) (a : Rule) (rows : List Row) → are_apart c ≡ true → Among a c → OptionText c a.id rows → TextOf a rows
+text_of c a rows apart among t =
+    let is = only_rule a t.rule c apart among t.among t.same_id in
     record {
       text = t.text;
       first = t.first;
@@ -117,7 +144,7 @@ was_given rows (x ∷ xs) a among wanted e = go among (λ inside rest. was_given
 
 -- ---- the options of a subcommand
 
-module _ (leaf : Shape) (only : HasOptionsOnly leaf.rules) (once : leaf.args_override_self ≡ false) (words : List Text)
+module _ (leaf : Shape) (only : HasOptionsOnly leaf.rules) (once : leaf.args_override_self ≡ false) (apart : are_apart leaf.rules ≡ true) (words : List Text)
     (no_fault : level_fault leaf [] nothing_held words false [] ≡ []) where
   abbrev end_rows : List Row
   end_rows = rows_after leaf.rules [] words
@@ -134,16 +161,16 @@ module _ (leaf : Shape) (only : HasOptionsOnly leaf.rules) (once : leaf.args_ove
       second_none (defaults_fault (settled leaf.rules end).rows leaf.rules) _ defaults
 
   -- of an option that has to be given
-  pub required_text : (a : Rule) → Among a leaf.rules → IsOnly a leaf.rules → a.required ≡ true → TextOf a end_rows
-  required_text a among alone required =
+  pub required_text : (a : Rule) → Among a leaf.rules → a.required ≡ true → TextOf a end_rows
+  required_text a among required =
       let wanted = not_wanted _ _ (list_any (λ (x : Rule). x.required && not (is_given x.id end_rows)) leaf.rules) leaf.subcommand_negates_reqs last_check in
-      text_of leaf.rules a end_rows alone (option_text leaf.rules a.id end_rows fit (given_row a.id end_rows (was_given end_rows leaf.rules a among required wanted)))
+      text_of leaf.rules a end_rows apart among (option_text leaf.rules a.id end_rows fit (given_row a.id end_rows (was_given end_rows leaf.rules a among required wanted)))
 
   -- of an option with a default
-  pub default_text : (a : Rule) (v : Text) (vs : List Text) → Among a leaf.rules → IsOnly a leaf.rules → a.defaults ≡ v ∷ vs → TextOf a end_rows
-  default_text a v vs among alone has =
+  pub default_text : (a : Rule) (v : Text) (vs : List Text) → Among a leaf.rules → a.defaults ≡ v ∷ vs → TextOf a end_rows
+  default_text a v vs among has =
       let there = defaults_row leaf.rules (settled leaf.rules (walk leaf.rules [] nothing_held words).held).rows a v vs among has in
-      text_of leaf.rules a end_rows alone (option_text leaf.rules a.id end_rows fit there)
+      text_of leaf.rules a end_rows apart among (option_text leaf.rules a.id end_rows fit there)
 
 -- ---- a number
 
@@ -195,7 +222,7 @@ index_of id rows last t =
       },
     )
 
--- ---- the pick and the flag
+-- ---- the pick and a flag
 
 pub pick_of : (picks : PickWords) (rows : List Row) → TextOf (filled (pick_option picks)) rows → (p : Pick) × HasPick rows p
 pick_of picks rows t =
@@ -210,10 +237,10 @@ pick_of picks rows t =
     go false false true is_low is_high is_all e = (All, t.first ∙ ap Some (sym ((bytes_eq-Decides (codes "all") t.text).0 is_all)))
     go false false false is_low is_high is_all e = cc
 
-pub raw_of : (rows : List Row) → TextOf (filled raw_flag) rows → (r : Bool) × HasRaw rows r
-raw_of rows t = go (bytes_eq t.text (codes "true")) (bytes_eq t.text (codes "false")) refl refl t.passed
+pub flag_of : (id : Text) (rows : List Row) → TextOf (filled (flag id)) rows → (given : Bool) × HasFlag rows id given
+flag_of id rows t = go (bytes_eq t.text (codes "true")) (bytes_eq t.text (codes "false")) refl refl t.passed
   where
-    go : (on off : Bool) → bytes_eq t.text (codes "true") ≡ on → bytes_eq t.text (codes "false") ≡ off → (on || off) ≡ true → (r : Bool) × HasRaw rows r
+    go : (on off : Bool) → bytes_eq t.text (codes "true") ≡ on → bytes_eq t.text (codes "false") ≡ off → (on || off) ≡ true → (given : Bool) × HasFlag rows id given
     go true off is_yes is_no e = (true, t.one ∙ ap Some ((bytes_eq-Decides t.text (codes "true")).0 is_yes))
     go false true is_yes is_no e = (false, t.one ∙ ap Some ((bytes_eq-Decides t.text (codes "false")).0 is_no))
     go false false is_yes is_no e = cc

@@ -1,5 +1,5 @@
 -- The options that a walk over words has found, where no word is a fault: each has a value, which has passed.
-use Rattle.std.proofs.Common.{◌≡◌, ◌⊎◌, ℕ, Bool, true, false, zero, suc, refl, inl, inr, List, [], ◌∷◌, Option, Some, None, is_some, length, subst, sym, ap}
+use Rattle.std.proofs.Common.{◌≡◌, ℕ, Bool, true, false, zero, suc, refl, List, [], ◌∷◌, Option, Some, None, is_some, length, subst, sym, ap}
 use Rattle.std.specs.Prelude.{if◌then◌else◌, slice_get, fold, drop, encode_utf8}
 use Rattle.std.specs.Option.{option_map_or}
 use Rattle.std.specs.Str.{bytes_eq, chars}
@@ -8,7 +8,6 @@ use Rattle.clap.specs.Walk.{
   Held,
   Names,
   Outcome,
-  Row,
   Rule,
   Step,
   Text,
@@ -49,7 +48,6 @@ use Rattle.clap.specs.Walk.{
   takes_values,
   to_positional,
   trailing,
-  used,
   used_by_id,
   value,
   waits,

@@ -1,5 +1,5 @@
 -- Rows of options: what one use of an option, or its default, adds to them, and the text of an option.
-use Rattle.std.proofs.Common.{◌≡◌, ◌⊎◌, ◌++◌, ◌<◌, ◌&&◌, ◌||◌, ◌∙◌, ◌==◌, ℕ, Bool, true, false, not, cond, refl, inl, inr, List, [], ◌∷◌, Some, None, length, subst, sym, ap, append-nil, arith}
+use Rattle.std.proofs.Common.{◌≡◌, ◌⊎◌, ◌++◌, ◌<◌, ◌&&◌, ◌||◌, ◌∙◌, ℕ, Bool, true, false, cond, refl, inl, inr, List, [], ◌∷◌, Some, None, length, subst, sym, ap, append-nil, arith}
 use Rattle.std.specs.Prelude.{if◌then◌else◌, find, fold}
 use Rattle.std.specs.Option.{option_map_or}
 use Rattle.std.specs.Str.{bytes_eq}
@@ -22,7 +22,6 @@ use Rattle.clap.specs.Walk.{
   more_values,
   one_of,
   reading_by,
-  takes_values,
   used,
   used_as,
   with_default,

@@ -1,13 +1,16 @@
--- The options of `run`, `identify` and `log`, where their words are no fault: each has a value in its range.
-use Rattle.std.proofs.Common.{◌≡◌, false, refl, inl, inr, List, [], ◌∷◌, codes}
+-- The subcommands but `replay`, and their options where the words are no fault: each has a value in its range.
+use Rattle.std.proofs.Common.{◌≡◌, false, refl, inl, inr, List, [], ◌∷◌, Option, Some, codes}
+use Rattle.std.specs.Prelude.{find}
 use Rattle.std.specs.List.{slice_index_or}
-use Rattle.clap.specs.Walk.{Rule, Text, nothing_held, rows_after}
+use Rattle.std.specs.Str.{bytes_eq}
+use Rattle.clap.specs.Walk.{Row, Rule, Text, nothing_held, rows_after}
 use Rattle.clap.specs.Simple.{Shape, built, filled}
 use Rattle.clap.specs.Faults.{level_fault}
 use Rattle.ahci_args.specs.CommandLine.{
   PickWords,
   ahci,
   error_option,
+  flag,
   identify,
   index_option,
   last_lba,
@@ -19,31 +22,71 @@ use Rattle.ahci_args.specs.CommandLine.{
   number_option,
   pick_option,
   plain,
-  raw_flag,
   run,
+  trace,
 }
-use Rattle.ahci_args.specs.Asking.{TakesOptions, TakesPlace, TakesSize}
-use Rattle.ahci_args.proofs.LeafLemmas.{default_text, fits_only, help_fits, index_of, number_of, pick_of, raw_of, required_text}
+use Rattle.ahci_args.specs.Asking.{TakesForm, TakesOptions, TakesPlace, TakesSize}
+use Rattle.ahci_args.proofs.LeafLemmas.{default_text, fits_only, flag_of, help_fits, index_of, number_of, pick_of, required_text}
 use Rattle.ahci_args.proofs.RowLemmas.{HasOptionsOnly, flag_fits, option_fits}
 
--- the subcommands, as they are built
-abbrev pub run_leaf : PickWords → Shape
-run_leaf picks = slice_index_or (built (ahci picks)).subs 1 (run picks)
+-- ---- the subcommands but `replay`
 
-abbrev pub identify_leaf : PickWords → Shape
-identify_leaf picks = slice_index_or (built (ahci picks)).subs 2 identify
+pub data Subcommand : Type 0 where
+  Runs : Subcommand
+  Identifies : Subcommand
+  Logs : Subcommand
+  Traces : Subcommand
+  Checks : Subcommand
+  Draws : Subcommand
 
-abbrev pub log_leaf : PickWords → Shape
-log_leaf picks = slice_index_or (built (ahci picks)).subs 3 log
+abbrev pub name_of : Subcommand → Text
+name_of Runs = codes "run"
+name_of Identifies = codes "identify"
+name_of Logs = codes "log"
+name_of Traces = codes "trace"
+name_of Checks = codes "check"
+name_of Draws = codes "draw"
 
-abbrev pub trace_leaf : PickWords → Shape
-trace_leaf picks = slice_index_or (built (ahci picks)).subs 4 (plain (codes "trace"))
+-- each is known by its name, and `replay` is none of them
+abbrev pub known_as : Text → Option Subcommand
+known_as word = find (λ s. bytes_eq (name_of s) word) (Runs ∷ Identifies ∷ Logs ∷ Traces ∷ Checks ∷ Draws ∷ [])
 
-abbrev pub check_leaf : PickWords → Shape
-check_leaf picks = slice_index_or (built (ahci picks)).subs 5 (plain (codes "check"))
+pub known_by_name : (s : Subcommand) → known_as (name_of s) ≡ Some s
+known_by_name Runs = refl
+known_by_name Identifies = refl
+known_by_name Logs = refl
+known_by_name Traces = refl
+known_by_name Checks = refl
+known_by_name Draws = refl
 
-abbrev pub draw_leaf : PickWords → Shape
-draw_leaf picks = slice_index_or (built (ahci picks)).subs 6 (plain (codes "draw"))
+-- a name that is none of theirs
+pub no_name : (name : Text) → (name ≡ codes "run" → ⊥) → (name ≡ codes "identify" → ⊥) → (name ≡ codes "log" → ⊥)
+    → (name ≡ codes "trace" → ⊥) → (name ≡ codes "check" → ⊥) → (name ≡ codes "draw" → ⊥)
+    → (s : Subcommand) → name ≡ name_of s → ⊥
+no_name name r i l t k w Runs = r
+no_name name r i l t k w Identifies = i
+no_name name r i l t k w Logs = l
+no_name name r i l t k w Traces = t
+no_name name r i l t k w Checks = k
+no_name name r i l t k w Draws = w
+
+-- as they are built
+abbrev pub leaf_of : PickWords → Subcommand → Shape
+leaf_of picks Runs = slice_index_or (built (ahci picks)).subs 1 (run picks)
+leaf_of picks Identifies = slice_index_or (built (ahci picks)).subs 2 identify
+leaf_of picks Logs = slice_index_or (built (ahci picks)).subs 3 log
+leaf_of picks Traces = slice_index_or (built (ahci picks)).subs 4 trace
+leaf_of picks Checks = slice_index_or (built (ahci picks)).subs 5 (plain (codes "check"))
+leaf_of picks Draws = slice_index_or (built (ahci picks)).subs 6 (plain (codes "draw"))
+
+-- the options have their values
+abbrev pub Takes : Subcommand → List Row → Type 0
+Takes Runs options = TakesOptions options
+Takes Identifies options = TakesSize options
+Takes Logs options = TakesPlace options
+Takes Traces options = TakesForm options
+Takes Checks options = Unit {0}
+Takes Draws options = Unit {0}
 
 -- the words are no fault of a subcommand
 abbrev pub HasNoFault : Shape → List Text → Type 0
@@ -60,9 +103,9 @@ depth = filled (number_option (codes "depth") most_depth)
 abbrev sectors : Rule
 sectors = filled (number_option (codes "sectors") most_sectors)
 
-run_only : (picks : PickWords) → HasOptionsOnly (run_leaf picks).rules
+run_only : (picks : PickWords) → HasOptionsOnly (leaf_of picks Runs).rules
 run_only picks =
-    let c = (run_leaf picks).rules in
+    let c = (leaf_of picks Runs).rules in
     fits_only c (
       option_fits c workers (inl refl) refl refl,
       (
@@ -77,19 +120,15 @@ run_only picks =
       ),
     ) (λ i. refl)
 
-pub run_options : (picks : PickWords) (words : List Text) → HasNoFault (run_leaf picks) words → TakesOptions (rows_after (run_leaf picks).rules [] words)
+run_options : (picks : PickWords) (words : List Text) → HasNoFault (leaf_of picks Runs) words → TakesOptions (rows_after (leaf_of picks Runs).rules [] words)
 run_options picks words e =
-    let leaf = run_leaf picks in
+    let leaf = leaf_of picks Runs in
     let rows = rows_after leaf.rules [] words in
     let only = run_only picks in
-    let w = number_of (codes "workers") rows most_workers
-    (required_text leaf only refl words e workers (inl refl) (λ _. refl, (λ e. cc, (λ e. cc, (λ e. cc, (λ e. cc, tt))))) refl) in
-    let d = number_of (codes "depth") rows most_depth
-    (required_text leaf only refl words e depth (inr (inl refl)) (λ e. cc, (λ _. refl, (λ e. cc, (λ e. cc, (λ e. cc, tt))))) refl) in
-    let s = number_of (codes "sectors") rows most_sectors
-    (required_text leaf only refl words e sectors (inr (inr (inl refl))) (λ e. cc, (λ e. cc, (λ _. refl, (λ e. cc, (λ e. cc, tt))))) refl) in
-    let p = pick_of picks rows
-    (default_text leaf only refl words e (filled (pick_option picks)) (codes "low") [] (inr (inr (inr (inl refl)))) (λ e. cc, (λ e. cc, (λ e. cc, (λ _. refl, (λ e. cc, tt))))) refl) in
+    let w = number_of (codes "workers") rows most_workers (required_text leaf only refl refl words e workers (inl refl) refl) in
+    let d = number_of (codes "depth") rows most_depth (required_text leaf only refl refl words e depth (inr (inl refl)) refl) in
+    let s = number_of (codes "sectors") rows most_sectors (required_text leaf only refl refl words e sectors (inr (inr (inl refl))) refl) in
+    let p = pick_of picks rows (default_text leaf only refl refl words e (filled (pick_option picks)) (codes "low") [] (inr (inr (inr (inl refl)))) refl) in
     record {
       workers = w.0;
       depth = d.0;
@@ -100,31 +139,31 @@ run_options picks words e =
 
 -- ---- `identify`
 
-identify_only : (picks : PickWords) → HasOptionsOnly (identify_leaf picks).rules
+abbrev raw : Rule
+raw = filled (flag (codes "raw"))
+
+identify_only : (picks : PickWords) → HasOptionsOnly (leaf_of picks Identifies).rules
 identify_only picks =
-    let c = (identify_leaf picks).rules in
+    let c = (leaf_of picks Identifies).rules in
     fits_only c (
       option_fits c sectors (inl refl) refl refl,
       (
         option_fits c depth (inr (inl refl)) refl refl,
         (
-          flag_fits c (filled raw_flag) (codes "true") [] (inr (inr (inl refl))) refl refl,
+          flag_fits c raw (codes "true") [] (inr (inr (inl refl))) refl refl,
           (help_fits c, tt),
         ),
       ),
     ) (λ i. refl)
 
-pub identify_options : (picks : PickWords) (words : List Text) → HasNoFault (identify_leaf picks) words → TakesSize (rows_after (identify_leaf picks).rules [] words)
+identify_options : (picks : PickWords) (words : List Text) → HasNoFault (leaf_of picks Identifies) words → TakesSize (rows_after (leaf_of picks Identifies).rules [] words)
 identify_options picks words e =
-    let leaf = identify_leaf picks in
+    let leaf = leaf_of picks Identifies in
     let rows = rows_after leaf.rules [] words in
     let only = identify_only picks in
-    let s = number_of (codes "sectors") rows most_sectors
-    (required_text leaf only refl words e sectors (inl refl) (λ _. refl, (λ e. cc, (λ e. cc, (λ e. cc, tt)))) refl) in
-    let d = number_of (codes "depth") rows most_depth
-    (required_text leaf only refl words e depth (inr (inl refl)) (λ e. cc, (λ _. refl, (λ e. cc, (λ e. cc, tt)))) refl) in
-    let r = raw_of rows
-    (default_text leaf only refl words e (filled raw_flag) (codes "false") [] (inr (inr (inl refl))) (λ e. cc, (λ e. cc, (λ _. refl, (λ e. cc, tt)))) refl) in
+    let s = number_of (codes "sectors") rows most_sectors (required_text leaf only refl refl words e sectors (inl refl) refl) in
+    let d = number_of (codes "depth") rows most_depth (required_text leaf only refl refl words e depth (inr (inl refl)) refl) in
+    let r = flag_of (codes "raw") rows (default_text leaf only refl refl words e raw (codes "false") [] (inr (inr (inl refl))) refl) in
     record {
       sectors = s.0;
       depth = d.0;
@@ -143,9 +182,9 @@ error = filled error_option
 abbrev lba : Rule
 lba = filled (index_option (codes "lba") last_lba)
 
-log_only : (picks : PickWords) → HasOptionsOnly (log_leaf picks).rules
+log_only : (picks : PickWords) → HasOptionsOnly (leaf_of picks Logs).rules
 log_only picks =
-    let c = (log_leaf picks).rules in
+    let c = (leaf_of picks Logs).rules in
     fits_only c (
       option_fits c tag (inl refl) refl refl,
       (
@@ -153,27 +192,50 @@ log_only picks =
         (
           option_fits c lba (inr (inr (inl refl))) refl refl,
           (
-            flag_fits c (filled raw_flag) (codes "true") [] (inr (inr (inr (inl refl)))) refl refl,
+            flag_fits c raw (codes "true") [] (inr (inr (inr (inl refl)))) refl refl,
             (help_fits c, tt),
           ),
         ),
       ),
     ) (λ i. refl)
 
-pub log_options : (picks : PickWords) (words : List Text) → HasNoFault (log_leaf picks) words → TakesPlace (rows_after (log_leaf picks).rules [] words)
+log_options : (picks : PickWords) (words : List Text) → HasNoFault (leaf_of picks Logs) words → TakesPlace (rows_after (leaf_of picks Logs).rules [] words)
 log_options picks words e =
-    let leaf = log_leaf picks in
+    let leaf = leaf_of picks Logs in
     let rows = rows_after leaf.rules [] words in
     let only = log_only picks in
-    let t = index_of (codes "tag") rows last_tag
-    (required_text leaf only refl words e tag (inl refl) (λ _. refl, (λ e. cc, (λ e. cc, (λ e. cc, (λ e. cc, tt))))) refl) in
-    let l = index_of (codes "lba") rows last_lba
-    (required_text leaf only refl words e lba (inr (inr (inl refl))) (λ e. cc, (λ e. cc, (λ _. refl, (λ e. cc, (λ e. cc, tt))))) refl) in
-    let r = raw_of rows
-    (default_text leaf only refl words e (filled raw_flag) (codes "false") [] (inr (inr (inr (inl refl)))) (λ e. cc, (λ e. cc, (λ e. cc, (λ _. refl, (λ e. cc, tt))))) refl) in
+    let t = index_of (codes "tag") rows last_tag (required_text leaf only refl refl words e tag (inl refl) refl) in
+    let l = index_of (codes "lba") rows last_lba (required_text leaf only refl refl words e lba (inr (inr (inl refl))) refl) in
+    let r = flag_of (codes "raw") rows (default_text leaf only refl refl words e raw (codes "false") [] (inr (inr (inr (inl refl)))) refl) in
     record {
       tag = t.0;
       lba = l.0;
       raw = r.0;
       has = record { tag = t.1; lba = l.1; raw = r.1 };
     }
+
+-- ---- `trace`
+
+abbrev json : Rule
+json = filled (flag (codes "json"))
+
+trace_only : (picks : PickWords) → HasOptionsOnly (leaf_of picks Traces).rules
+trace_only picks =
+    let c = (leaf_of picks Traces).rules in
+    fits_only c (flag_fits c json (codes "true") [] (inl refl) refl refl, (help_fits c, tt)) (λ i. refl)
+
+trace_options : (picks : PickWords) (words : List Text) → HasNoFault (leaf_of picks Traces) words → TakesForm (rows_after (leaf_of picks Traces).rules [] words)
+trace_options picks words e =
+    let leaf = leaf_of picks Traces in
+    let j = flag_of (codes "json") (rows_after leaf.rules [] words) (default_text leaf (trace_only picks) refl refl words e json (codes "false") [] (inl refl) refl) in
+    record { json = j.0; has = j.1 }
+
+-- ---- each of them
+
+pub takes_options : (picks : PickWords) (s : Subcommand) (words : List Text) → HasNoFault (leaf_of picks s) words → Takes s (rows_after (leaf_of picks s).rules [] words)
+takes_options picks Runs words e = run_options picks words e
+takes_options picks Identifies words e = identify_options picks words e
+takes_options picks Logs words e = log_options picks words e
+takes_options picks Traces words e = trace_options picks words e
+takes_options picks Checks words e = tt
+takes_options picks Draws words e = tt

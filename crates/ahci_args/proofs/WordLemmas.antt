@@ -1,4 +1,4 @@
--- Which words are taken: `replay`, and behind it at most `--`; or `run` with options that have passed.
+-- Which words are taken: `replay`, and behind it at most `--`; or another subcommand with options that have passed.
 use Rattle.std.proofs.Common.{◌≡◌, ◌⊎◌, ◌++◌, Bool, true, false, cond, refl, inl, inr, List, [], ◌∷◌, Option, Some, None, codes, ap, ◌∙◌, subst, sym, append_assoc, append-nil}
 use Rattle.std.specs.Prelude.{fold, drop, slice_get, Result, Ok, Err, IfErr}
 use Rattle.std.specs.List.{slice_index_or}
@@ -7,16 +7,16 @@ use Rattle.std.proofs.lemmas.Slice.Eq.{bytes_eq-Decides}
 use Rattle.clap.specs.Walk.{Names, Row, Rule, Text, Walk, takes_values, nothing_held, rows_after, settled, walk, walk_from, walked}
 use Rattle.clap.specs.Simple.{App, Shape, built, entered, filled, help_rule, names_of, subcommand_of, version_rule}
 use Rattle.clap.specs.Kinds.{FailsBy, HasKind, IsAmong, Kinds, or_else}
-use Rattle.clap.specs.Faults.{built_fault, entered_fault, fault_of, level_fault, settle_fault, use_fault, walk_fault}
+use Rattle.clap.specs.Faults.{built_fault, entered_fault, fault_of, settle_fault, use_fault, walk_fault}
 use Rattle.clap.specs.Values.{kind_of}
 use Rattle.clap.specs.declared.error.Error.{Error}
 use Rattle.clap.specs.declared.error.kind.ErrorKind.TheVariants.{OutOfMemory}
 use Rattle.clap.proofs.OnLiterals.{clap_on_literals}
 use Rattle.ahci_args.specs.CommandLine.{PickWords, ahci, replay}
-use Rattle.ahci_args.specs.Asking.{AsksReplay, TakesOptions, TakesPlace, TakesSize}
+use Rattle.ahci_args.specs.Asking.{AsksReplay}
 use Rattle.ahci_args.specs.Usage.{usage_faults, value_fault}
 use Rattle.ahci_args.proofs.FlagLemmas.{Asks, AsksOnly, first_none, second_none, turn_stops, leaf_words}
-use Rattle.ahci_args.proofs.SubcommandLemmas.{HasNoFault, check_leaf, draw_leaf, identify_leaf, identify_options, log_leaf, log_options, run_leaf, run_options, trace_leaf}
+use Rattle.ahci_args.proofs.SubcommandLemmas.{HasNoFault, Subcommand, Runs, Identifies, Logs, Traces, Checks, Draws, Takes, leaf_of, name_of, takes_options}
 
 -- ---- each flag asks for help or the version
 
@@ -76,40 +76,21 @@ module _ (picks : PickWords) where
   abbrev StopsAt : Text → Type 0
   StopsAt name = (words : List Text) → (walk whole.top.rules names nothing_held (name ∷ words)).stopped ≡ Some (name, words)
 
+  stops_at : (name : Text) → (walked whole.top.rules names (walk_from nothing_held) name).stopped ≡ Some (name, []) → StopsAt name
+  stops_at name is words = stopped whole.top.rules names (walked whole.top.rules names (walk_from nothing_held) name) name [] words is
+
   stops_at_replay : StopsAt (codes "replay")
   unfolding walked
-  stops_at_replay words =
-      stopped whole.top.rules names (walked whole.top.rules names (walk_from nothing_held) (codes "replay")) (codes "replay") [] words refl
+  stops_at_replay = stops_at (codes "replay") refl
 
-  stops_at_run : StopsAt (codes "run")
+  stops : (s : Subcommand) → StopsAt (name_of s)
   unfolding walked
-  stops_at_run words =
-      stopped whole.top.rules names (walked whole.top.rules names (walk_from nothing_held) (codes "run")) (codes "run") [] words refl
-
-  stops_at_identify : StopsAt (codes "identify")
-  unfolding walked
-  stops_at_identify words =
-      stopped whole.top.rules names (walked whole.top.rules names (walk_from nothing_held) (codes "identify")) (codes "identify") [] words refl
-
-  stops_at_log : StopsAt (codes "log")
-  unfolding walked
-  stops_at_log words =
-      stopped whole.top.rules names (walked whole.top.rules names (walk_from nothing_held) (codes "log")) (codes "log") [] words refl
-
-  stops_at_trace : StopsAt (codes "trace")
-  unfolding walked
-  stops_at_trace words =
-      stopped whole.top.rules names (walked whole.top.rules names (walk_from nothing_held) (codes "trace")) (codes "trace") [] words refl
-
-  stops_at_check : StopsAt (codes "check")
-  unfolding walked
-  stops_at_check words =
-      stopped whole.top.rules names (walked whole.top.rules names (walk_from nothing_held) (codes "check")) (codes "check") [] words refl
-
-  stops_at_draw : StopsAt (codes "draw")
-  unfolding walked
-  stops_at_draw words =
-      stopped whole.top.rules names (walked whole.top.rules names (walk_from nothing_held) (codes "draw")) (codes "draw") [] words refl
+  stops Runs = stops_at (codes "run") refl
+  stops Identifies = stops_at (codes "identify") refl
+  stops Logs = stops_at (codes "log") refl
+  stops Traces = stops_at (codes "trace") refl
+  stops Checks = stops_at (codes "check") refl
+  stops Draws = stops_at (codes "draw") refl
 
   -- a subcommand has no fault where the whole has none
   below : (word : Text) (words : List Text) → built_fault whole nothing_held (word ∷ words) ≡ []
@@ -124,23 +105,16 @@ module _ (picks : PickWords) where
   behind_replay words e =
       leaf_words leaf leaf_asks words (first_none _ _ (entered_at_word (codes "replay") words stops_at_replay e))
 
-  behind_run : (words : List Text) → built_fault whole nothing_held (codes "run" ∷ words) ≡ [] → HasNoFault (run_leaf picks) words
-  behind_run words e = entered_at_word (codes "run") words stops_at_run e
+  entered_no_fault : (s : Subcommand) (words : List Text) → entered_fault whole (Some (name_of s, words)) ≡ [] → HasNoFault (leaf_of picks s) words
+  entered_no_fault Runs words e = e
+  entered_no_fault Identifies words e = e
+  entered_no_fault Logs words e = e
+  entered_no_fault Traces words e = e
+  entered_no_fault Checks words e = e
+  entered_no_fault Draws words e = e
 
-  behind_identify : (words : List Text) → built_fault whole nothing_held (codes "identify" ∷ words) ≡ [] → HasNoFault (identify_leaf picks) words
-  behind_identify words e = entered_at_word (codes "identify") words stops_at_identify e
-
-  behind_log : (words : List Text) → built_fault whole nothing_held (codes "log" ∷ words) ≡ [] → HasNoFault (log_leaf picks) words
-  behind_log words e = entered_at_word (codes "log") words stops_at_log e
-
-  behind_trace : (words : List Text) → built_fault whole nothing_held (codes "trace" ∷ words) ≡ [] → HasNoFault (trace_leaf picks) words
-  behind_trace words e = entered_at_word (codes "trace") words stops_at_trace e
-
-  behind_check : (words : List Text) → built_fault whole nothing_held (codes "check" ∷ words) ≡ [] → HasNoFault (check_leaf picks) words
-  behind_check words e = entered_at_word (codes "check") words stops_at_check e
-
-  behind_draw : (words : List Text) → built_fault whole nothing_held (codes "draw" ∷ words) ≡ [] → HasNoFault (draw_leaf picks) words
-  behind_draw words e = entered_at_word (codes "draw") words stops_at_draw e
+  behind : (s : Subcommand) (words : List Text) → built_fault whole nothing_held (name_of s ∷ words) ≡ [] → HasNoFault (leaf_of picks s) words
+  behind s words e = entered_no_fault s words (entered_at_word (name_of s) words (stops s) e)
 
   behind_help : (words : List Text) → built_fault whole nothing_held (codes "help" ∷ words) ≡ [] → ⊥
   unfolding clap_on_literals
@@ -158,21 +132,13 @@ abbrev IsReplay : List Text → Type 0
 IsReplay words = (words ≡ codes "replay" ∷ []) ⊎ (words ≡ codes "replay" ∷ codes "--" ∷ [])
 
 -- or another subcommand, with words that are no fault of it
-pub record IsLine (name : Text) (shape : Shape) (words : List Text) : Type 0 where
-  pub behind : List Text
-  pub are : words ≡ name ∷ behind
-  pub no_fault : HasNoFault shape behind
+pub record IsLine (picks : PickWords) (s : Subcommand) (words : List Text) : Type 0 where
+  pub rest : List Text
+  pub are : words ≡ name_of s ∷ rest
+  pub no_fault : HasNoFault (leaf_of picks s) rest
 
--- one of the seven
 abbrev IsTaken : PickWords → List Text → Type 0
-IsTaken picks words =
-    IsReplay words
-    ⊎ (IsLine (codes "run") (run_leaf picks) words
-    ⊎ (IsLine (codes "identify") (identify_leaf picks) words
-    ⊎ (IsLine (codes "log") (log_leaf picks) words
-    ⊎ (IsLine (codes "trace") (trace_leaf picks) words
-    ⊎ (IsLine (codes "check") (check_leaf picks) words
-    ⊎ IsLine (codes "draw") (draw_leaf picks) words)))))
+IsTaken picks words = IsReplay words ⊎ ((s : Subcommand) × IsLine picks s words)
 
 with_replay : (word : Text) (words : List Text) → codes "replay" ≡ word → (words ≡ []) ⊎ (words ≡ codes "--" ∷ []) → IsReplay (word ∷ words)
 with_replay word words is (inl end) = inl (rw (← is, end) refl)
@@ -184,30 +150,30 @@ module _ (picks : PickWords) (word : Text) (words : List Text) (e : built_fault 
   known name is =
       subst (λ (w : Text). built_fault (whole picks) nothing_held (w ∷ words) ≡ []) (sym ((bytes_eq-Decides name word).0 is)) e
 
-  line : (name : Text) (shape : Shape) → bytes_eq name word ≡ true → HasNoFault shape words → IsLine name shape (word ∷ words)
-  line name shape is fine = record {
-    behind = words;
-    are = ap (λ (w : Text). w ∷ words) (sym ((bytes_eq-Decides name word).0 is));
-    no_fault = fine;
-  }
+  line : (s : Subcommand) → bytes_eq (name_of s) word ≡ true → IsTaken picks (word ∷ words)
+  line s is =
+      inr (
+        s,
+        record {
+          rest = words;
+          are = ap (λ (w : Text). w ∷ words) (sym ((bytes_eq-Decides (name_of s) word).0 is));
+          no_fault = behind picks s words (known (name_of s) is);
+        },
+      )
 
-  by_name : (a r i l t k w h d : Bool) → bytes_eq (codes "replay") word ≡ a → bytes_eq (codes "run") word ≡ r → bytes_eq (codes "identify") word ≡ i → bytes_eq (codes "log") word ≡ l → bytes_eq (codes "trace") word ≡ t → bytes_eq (codes "check") word ≡ k → bytes_eq (codes "draw") word ≡ w
+  by_name : (a r i l t k w h d : Bool) → bytes_eq (codes "replay") word ≡ a
+      → bytes_eq (codes "run") word ≡ r → bytes_eq (codes "identify") word ≡ i → bytes_eq (codes "log") word ≡ l
+      → bytes_eq (codes "trace") word ≡ t → bytes_eq (codes "check") word ≡ k → bytes_eq (codes "draw") word ≡ w
       → bytes_eq (codes "help") word ≡ h → bytes_eq word (codes "--") ≡ d → IsTaken picks (word ∷ words)
   unfolding clap_on_literals
   by_name true r i l t k w h d is _ _ _ _ _ _ _ _ =
       inl (with_replay word words ((bytes_eq-Decides (codes "replay") word).0 is) (behind_replay picks words (known (codes "replay") is)))
-  by_name false true i l t k w h d _ is _ _ _ _ _ _ _ =
-      inr (inl (line (codes "run") (run_leaf picks) is (behind_run picks words (known (codes "run") is))))
-  by_name false false true l t k w h d _ _ is _ _ _ _ _ _ =
-      inr (inr (inl (line (codes "identify") (identify_leaf picks) is (behind_identify picks words (known (codes "identify") is)))))
-  by_name false false false true t k w h d _ _ _ is _ _ _ _ _ =
-      inr (inr (inr (inl (line (codes "log") (log_leaf picks) is (behind_log picks words (known (codes "log") is))))))
-  by_name false false false false true k w h d _ _ _ _ is _ _ _ _ =
-      inr (inr (inr (inr (inl (line (codes "trace") (trace_leaf picks) is (behind_trace picks words (known (codes "trace") is)))))))
-  by_name false false false false false true w h d _ _ _ _ _ is _ _ _ =
-      inr (inr (inr (inr (inr (inl (line (codes "check") (check_leaf picks) is (behind_check picks words (known (codes "check") is))))))))
-  by_name false false false false false false true h d _ _ _ _ _ _ is _ _ =
-      inr (inr (inr (inr (inr (inr (line (codes "draw") (draw_leaf picks) is (behind_draw picks words (known (codes "draw") is))))))))
+  by_name false true i l t k w h d _ is _ _ _ _ _ _ _ = line Runs is
+  by_name false false true l t k w h d _ _ is _ _ _ _ _ _ = line Identifies is
+  by_name false false false true t k w h d _ _ _ is _ _ _ _ _ = line Logs is
+  by_name false false false false true k w h d _ _ _ _ is _ _ _ _ = line Traces is
+  by_name false false false false false true w h d _ _ _ _ _ is _ _ _ = line Checks is
+  by_name false false false false false false true h d _ _ _ _ _ _ is _ _ = line Draws is
   by_name false false false false false false false true d _ _ _ _ _ _ _ is _ = absurd (behind_help picks words (known (codes "help") is))
   by_name false false false false false false false false true _ _ _ _ _ _ _ _ is =
       let dashes : word ≡ codes "--" = (bytes_eq-Decides word (codes "--")).0 is in
@@ -235,46 +201,39 @@ replay_found picks words (inr is) =
     (rows_after (leaf picks).rules [] (codes "--" ∷ []), entered_at picks words (codes "replay" ∷ codes "--" ∷ []) is ∙ ap (entered (whole picks)) (stops_at_replay picks (codes "--" ∷ [])))
 
 -- words without a fault name a subcommand, whose options have their values
-pub record HasFound (name : Text) (Takes : List Row → Type 0) (picks : PickWords) (words : List Text) : Type 0 where
+pub record HasFound (picks : PickWords) (words : List Text) (s : Subcommand) : Type 0 where
   pub options : List Row
-  pub first : slice_get words 1 ≡ Some name
-  pub found : subcommand_of (ahci picks) words ≡ Some (name, options)
-  pub takes : Takes options
+  pub first : slice_get words 1 ≡ Some (name_of s)
+  pub found : subcommand_of (ahci picks) words ≡ Some (name_of s, options)
+  pub takes : Takes s options
 
 pub record FindsReplay (picks : PickWords) (words : List Text) : Type 0 where
   pub asks : AsksReplay words
   pub options : List Row
   pub found : subcommand_of (ahci picks) words ≡ Some (codes "replay", options)
 
--- a subcommand that takes no arguments has no options to speak of
-abbrev pub TakesNothing : List Row → Type 0
-TakesNothing rows = Unit {0}
-
--- one of the seven
 abbrev pub Found : PickWords → List Text → Type 0
-Found picks words =
-    FindsReplay picks words
-    ⊎ (HasFound (codes "run") TakesOptions picks words
-    ⊎ (HasFound (codes "identify") TakesSize picks words
-    ⊎ (HasFound (codes "log") TakesPlace picks words
-    ⊎ (HasFound (codes "trace") TakesNothing picks words
-    ⊎ (HasFound (codes "check") TakesNothing picks words
-    ⊎ HasFound (codes "draw") TakesNothing picks words)))))
+Found picks words = FindsReplay picks words ⊎ ((s : Subcommand) × HasFound picks words s)
 
 second_word : (words more : List Text) (word : Text) → drop 1 words ≡ word ∷ more → slice_get words 1 ≡ Some word
 second_word [] more word is = cc
 second_word (x ∷ []) more word is = cc
 second_word (x ∷ y ∷ ys) more word is = let same : y ≡ word = cc in ap Some same
 
-line_found : (name : Text) (shape : Shape) (Takes : List Row → Type 0) (picks : PickWords) (words : List Text) → StopsAt picks name
-    → ((behind : List Text) → entered (whole picks) (Some (name, behind)) ≡ Some (name, rows_after shape.rules [] behind))
-    → ((behind : List Text) → HasNoFault shape behind → Takes (rows_after shape.rules [] behind))
-    → IsLine name shape (drop 1 words) → HasFound name Takes picks words
-line_found name shape Takes picks words stops enters takes is = record {
-  options = rows_after shape.rules [] is.behind;
-  first = second_word words is.behind name is.are;
-  found = entered_at picks words (name ∷ is.behind) is.are ∙ ap (entered (whole picks)) (stops is.behind) ∙ enters is.behind;
-  takes = takes is.behind is.no_fault;
+enters : (picks : PickWords) (s : Subcommand) (words : List Text) → entered (whole picks) (Some (name_of s, words)) ≡ Some (name_of s, rows_after (leaf_of picks s).rules [] words)
+enters picks Runs words = refl
+enters picks Identifies words = refl
+enters picks Logs words = refl
+enters picks Traces words = refl
+enters picks Checks words = refl
+enters picks Draws words = refl
+
+line_found : (picks : PickWords) (words : List Text) (s : Subcommand) → IsLine picks s (drop 1 words) → HasFound picks words s
+line_found picks words s is = record {
+  options = rows_after (leaf_of picks s).rules [] is.rest;
+  first = second_word words is.rest (name_of s) is.are;
+  found = entered_at picks words (name_of s ∷ is.rest) is.are ∙ ap (entered (whole picks)) (stops picks s is.rest) ∙ enters picks s is.rest;
+  takes = takes_options picks s is.rest is.no_fault;
 }
 
 pub finds : (picks : PickWords) (words : List Text) → fault_of (ahci picks) words ≡ [] → Found picks words
@@ -282,18 +241,7 @@ finds picks words e = go (taken picks (drop 1 words) e)
   where
     go : IsTaken picks (drop 1 words) → Found picks words
     go (inl asks) = let got = replay_found picks words asks in inl (record { asks = asks; options = got.0; found = got.1 })
-    go (inr (inl is)) =
-        inr (inl (line_found (codes "run") (run_leaf picks) TakesOptions picks words (stops_at_run picks) (λ behind. refl) (run_options picks) is))
-    go (inr (inr (inl is))) =
-        inr (inr (inl (line_found (codes "identify") (identify_leaf picks) TakesSize picks words (stops_at_identify picks) (λ behind. refl) (identify_options picks) is)))
-    go (inr (inr (inr (inl is)))) =
-        inr (inr (inr (inl (line_found (codes "log") (log_leaf picks) TakesPlace picks words (stops_at_log picks) (λ behind. refl) (log_options picks) is))))
-    go (inr (inr (inr (inr (inl is))))) =
-        inr (inr (inr (inr (inl (line_found (codes "trace") (trace_leaf picks) TakesNothing picks words (stops_at_trace picks) (λ behind. refl) (λ behind fine. tt) is)))))
-    go (inr (inr (inr (inr (inr (inl is)))))) =
-        inr (inr (inr (inr (inr (inl (line_found (codes "check") (check_leaf picks) TakesNothing picks words (stops_at_check picks) (λ behind. refl) (λ behind fine. tt) is))))))
-    go (inr (inr (inr (inr (inr (inr is)))))) =
-        inr (inr (inr (inr (inr (inr (line_found (codes "draw") (draw_leaf picks) TakesNothing picks words (stops_at_draw picks) (λ behind. refl) (λ behind fine. tt) is))))))
+    go (inr (s, is)) = inr (s, line_found picks words s is)
 
 -- ---- `replay` has no fault
 

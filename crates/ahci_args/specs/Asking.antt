@@ -36,9 +36,9 @@ word_of All = codes "all"
 abbrev pub HasPick : List Row → Pick → Type 0
 HasPick options pick = first_of (codes "pick") options ≡ Some (word_of pick)
 
--- the flag `raw` was given, or not
-abbrev pub HasRaw : List Row → Bool → Type 0
-HasRaw options raw = one_of (codes "raw") options ≡ Some (if raw then codes "true" else codes "false")
+-- the flag `name` was given, or not
+abbrev pub HasFlag : List Row → Text → Bool → Type 0
+HasFlag options name given = one_of name options ≡ Some (if given then codes "true" else codes "false")
 
 -- the options of a run have these values
 pub record HasOptions (options : List Row) (w d s : ℕ) (p : Pick) : Type 0 where
@@ -51,13 +51,13 @@ pub record HasOptions (options : List Row) (w d s : ℕ) (p : Pick) : Type 0 whe
 pub record HasSize (options : List Row) (s d : ℕ) (r : Bool) : Type 0 where
   pub sectors : HasNumber options (codes "sectors") 1 most_sectors s
   pub depth : HasNumber options (codes "depth") 1 most_depth d
-  pub raw : HasRaw options r
+  pub raw : HasFlag options (codes "raw") r
 
 -- those of `log`, but for the error
 pub record HasPlace (options : List Row) (t l : ℕ) (r : Bool) : Type 0 where
   pub tag : HasNumber options (codes "tag") 0 last_tag t
   pub lba : HasNumber options (codes "lba") 0 last_lba l
-  pub raw : HasRaw options r
+  pub raw : HasFlag options (codes "raw") r
 
 -- and those with the error, two hexadecimal digits
 pub record HasError (options : List Row) (t e l : ℕ) (r : Bool) : Type 0 where
@@ -86,6 +86,11 @@ pub record TakesPlace (options : List Row) : Type 0 where
   pub raw : Bool
   pub has : HasPlace options tag lba raw
 
+-- the flag of `trace` has a value
+pub record TakesForm (options : List Row) : Type 0 where
+  pub json : Bool
+  pub has : HasFlag options (codes "json") json
+
 abbrev pub IsRunOf : List Row → Asked → Type 0
 IsRunOf options (Run workers depth sectors pick) = HasOptions options workers depth sectors pick
 IsRunOf options other = ⊥
@@ -97,6 +102,10 @@ IsIdentifyOf options other = ⊥
 abbrev pub IsLogOf : List Row → Asked → Type 0
 IsLogOf options (Log tag error lba raw) = HasError options tag error lba raw
 IsLogOf options other = ⊥
+
+abbrev pub IsTraceOf : List Row → Asked → Type 0
+IsTraceOf options (Trace json) = HasFlag options (codes "json") json
+IsTraceOf options other = ⊥
 
 -- ---- the whole line
 
@@ -124,6 +133,12 @@ pub record AsksLog (words : List Text) (tag error lba : ℕ) (raw : Bool) : Type
   pub finds : Finds (codes "log") words options
   pub has : HasError options tag error lba raw
 
+-- the words ask for a trace, as JSON or as text
+pub record AsksTrace (words : List Text) (json : Bool) : Type 0 where
+  pub options : List Row
+  pub finds : Finds (codes "trace") words options
+  pub has : HasFlag options (codes "json") json
+
 -- the words ask for a subcommand that takes no arguments
 pub record AsksPlain (name : Text) (words : List Text) : Type 0 where
   pub options : List Row
@@ -131,12 +146,12 @@ pub record AsksPlain (name : Text) (words : List Text) : Type 0 where
 
 abbrev pub AsksFor : List Text → Asked → Type 0
 AsksFor words Replay = AsksReplay words
-AsksFor words Trace = AsksPlain (codes "trace") words
 AsksFor words Check = AsksPlain (codes "check") words
 AsksFor words Draw = AsksPlain (codes "draw") words
 AsksFor words (Run workers depth sectors pick) = AsksRun words workers depth sectors pick
 AsksFor words (Identify sectors depth raw) = AsksIdentify words sectors depth raw
 AsksFor words (Log tag error lba raw) = AsksLog words tag error lba raw
+AsksFor words (Trace json) = AsksTrace words json
 
 -- an Ok comes only where the words have no fault, and an Err has the kind of one of theirs, or is want of memory
 abbrev pub FailsByUsage : List Text → Result Asked Error → Type 0

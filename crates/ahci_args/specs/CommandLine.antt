@@ -39,10 +39,10 @@ error_option = record (new_rule (codes "error")) {
   required = true;
 }
 
--- the flag `--raw`
-abbrev pub raw_flag : Rule
-raw_flag = record (new_rule (codes "raw")) {
-  long = Some (codes "raw");
+-- a flag, which takes no value
+abbrev pub flag : Text → Rule
+flag name = record (new_rule name) {
+  long = Some name;
   action = Some SetTrue;
 }
 
@@ -89,7 +89,7 @@ abbrev pub identify : Shape
 identify = (with_rule (with_rule (with_rule (new_app (codes "identify"))
     (number_option (codes "sectors") most_sectors))
     (number_option (codes "depth") most_depth))
-    raw_flag).top
+    (flag (codes "raw"))).top
 
 -- the subcommand `log` with its options
 abbrev pub log : Shape
@@ -97,7 +97,11 @@ log = (with_rule (with_rule (with_rule (with_rule (new_app (codes "log"))
     (index_option (codes "tag") last_tag))
     error_option)
     (index_option (codes "lba") last_lba))
-    raw_flag).top
+    (flag (codes "raw"))).top
+
+-- the subcommand `trace` with its flag
+abbrev pub trace : Shape
+trace = (with_rule (new_app (codes "trace")) (flag (codes "json"))).top
 
 -- `ahci` without its subcommands: it has a version, and wants a subcommand
 abbrev pub top : Shape
@@ -110,7 +114,7 @@ ahci picks =
     (run picks))
     identify)
     log)
-    (plain (codes "trace")))
+    trace)
     (plain (codes "check")))
     (plain (codes "draw"))
 

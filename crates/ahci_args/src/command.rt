@@ -2,13 +2,13 @@
 ghost use Rattle.std.specs.Prelude.{◌≡◌, [], IfErr, IfOk, codes, false, pos};
 ghost use Rattle.clap.specs.Words.{app_of, kind_of, rule_of, shape_of};
 ghost use Rattle.clap.specs.declared.builder.command.Command.TheViews.{out-Command as fields_of};
-ghost use Rattle.ahci_args.specs.CommandLine.{IsAhci, IsPickOption, IsRun, error_option, identify, index_option, log, number_option, plain, raw_flag, replay, top};
+ghost use Rattle.ahci_args.specs.CommandLine.{IsAhci, IsPickOption, IsRun, error_option, flag, identify, index_option, log, number_option, plain, replay, top, trace};
 
 use crate::help::{
     ABOUT, CHECK_ABOUT, CHECK_HELP, CHECK_LONG_ABOUT, DEPTH_HELP, DRAW_ABOUT, DRAW_HELP,
     DRAW_LONG_ABOUT, ERROR_HELP, EXAMPLES, IDENTIFY_ABOUT, IDENTIFY_DEPTH_HELP, IDENTIFY_HELP,
-    IDENTIFY_LONG_ABOUT, LBA_HELP, LOG_ABOUT, LOG_HELP, LOG_LONG_ABOUT, PICK_HELP, RAW_HELP,
-    REPLAY_ABOUT, REPLAY_HELP, REPLAY_LONG_ABOUT, RUN_ABOUT, RUN_HELP, RUN_LONG_ABOUT,
+    IDENTIFY_LONG_ABOUT, JSON_HELP, LBA_HELP, LOG_ABOUT, LOG_HELP, LOG_LONG_ABOUT, PICK_HELP,
+    RAW_HELP, REPLAY_ABOUT, REPLAY_HELP, REPLAY_LONG_ABOUT, RUN_ABOUT, RUN_HELP, RUN_LONG_ABOUT,
     SECTORS_HELP, TAG_HELP, TRACE_ABOUT, TRACE_HELP, TRACE_LONG_ABOUT, VERSION, WORKERS_HELP,
 };
 use clap::builder::ValueParser;
@@ -44,7 +44,7 @@ pub(crate) fn ahci_command<'a>(alloc: Global) -> Result<Command<'a>, Error>
         .subcommand(run_command(alloc)?)?
         .subcommand(identify_command(alloc)?)?
         .subcommand(log_command(alloc)?)?
-        .subcommand(trace_command(alloc))?
+        .subcommand(trace_command(alloc)?)?
         .subcommand(check_command(alloc))?
         .subcommand(draw_command(alloc))?;
     Ok(ahci)
@@ -73,17 +73,6 @@ fn replay_command<'a>(alloc: Global) -> Command<'a>
         .about(REPLAY_ABOUT)
         .long_about(REPLAY_LONG_ABOUT)
         .after_help(REPLAY_HELP)
-}
-
-/// The subcommand `trace`, which takes no arguments.
-fn trace_command<'a>(alloc: Global) -> Command<'a>
-    ensures shape { shape_of result ≡ plain (codes "trace") }
-    ensures local { (fields_of result).has_globals ≡ false }
-{
-    Command::new(alloc, "trace")
-        .about(TRACE_ABOUT)
-        .long_about(TRACE_LONG_ABOUT)
-        .after_help(TRACE_HELP)
 }
 
 /// The subcommand `check`, which takes no arguments.
@@ -135,7 +124,7 @@ fn identify_command<'a>(alloc: Global) -> Result<Command<'a>, Error>
         .after_help(IDENTIFY_HELP)
         .arg(number_option(alloc, "sectors", MAX_SECTORS).help(SECTORS_HELP))?
         .arg(number_option(alloc, "depth", MAX_DEPTH).help(IDENTIFY_DEPTH_HELP))?
-        .arg(raw_flag(alloc))?;
+        .arg(flag(alloc, "raw", RAW_HELP))?;
     Ok(identify)
 }
 
@@ -151,8 +140,21 @@ pub(crate) fn log_command<'a>(alloc: Global) -> Result<Command<'a>, Error>
         .arg(index_option(alloc, "tag", LAST_TAG).help(TAG_HELP))?
         .arg(error_option(alloc))?
         .arg(index_option(alloc, "lba", LAST_LBA).help(LBA_HELP))?
-        .arg(raw_flag(alloc))?;
+        .arg(flag(alloc, "raw", RAW_HELP))?;
     Ok(log)
+}
+
+/// The subcommand `trace` with its flag.
+fn trace_command<'a>(alloc: Global) -> Result<Command<'a>, Error>
+    ensures ok { IfOk result (λ c. (shape_of c ≡ trace) × ((fields_of c).has_globals ≡ false)) }
+    ensures err { IfErr result (λ e. kind_of e ≡ ErrorKind.OutOfMemory) }
+{
+    let trace = Command::new(alloc, "trace")
+        .about(TRACE_ABOUT)
+        .long_about(TRACE_LONG_ABOUT)
+        .after_help(TRACE_HELP)
+        .arg(flag(alloc, "json", JSON_HELP))?;
+    Ok(trace)
 }
 
 /// An option that has to be given, with a number from 1 to `most`.
@@ -198,15 +200,15 @@ fn error_option<'a>(alloc: Global) -> Arg<'a>
         .help(ERROR_HELP)
 }
 
-/// The flag `--raw`.
-fn raw_flag<'a>(alloc: Global) -> Arg<'a>
-    ensures rule { rule_of result ≡ raw_flag }
+/// A flag, which takes no value.
+fn flag<'a>(alloc: Global, name: &'a str, help: &'a str) -> Arg<'a>
+    ensures rule { rule_of result ≡ flag name.entry.now }
     ensures local { result.global ≡ false }
 {
-    Arg::new(alloc, "raw")
-        .long("raw")
+    Arg::new(alloc, name)
+        .long(name)
         .action(ArgAction::SetTrue)
-        .help(RAW_HELP)
+        .help(help)
 }
 
 /// The option `--pick`, which is `low` unless it is given.

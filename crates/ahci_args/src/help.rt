@@ -176,11 +176,14 @@ Behind each answer stands, in lines that are indented by two spaces, what the co
 port: the journal's new entries, the bytes that were sent and received, registers that changed,
 and the slots that are owned.";
 
+pub(crate) const JSON_HELP: &str = "Write one JSON object a line, for tools, in place of the text";
+
 pub(crate) const TRACE_HELP: &str =
     "The commands of a script, its faults and the statuses are those of replay.
 
-Example:
-  printf 'disk 8 4\\nwrite 0 3 1 aa\\naccept 0\\nserve 0\\n' | ahci trace";
+Examples:
+  printf 'disk 8 4\\nwrite 0 3 1 aa\\naccept 0\\nserve 0\\n' | ahci trace
+  printf 'disk 8 4\\nwrite 0 3 1 aa\\naccept 0\\nserve 0\\n' | ahci trace --json";
 
 pub(crate) const CHECK_ABOUT: &str =
     "Read a script on standard input, and tell which of its lines can't be taken";

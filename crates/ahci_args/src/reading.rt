@@ -1,7 +1,7 @@
 ghost use Rattle.std.specs.Prelude.{◌≡◌, ℕ, Bool, IfErr, IfOk, map};
 ghost use Rattle.std.specs.String.{string_bytes};
 ghost use Rattle.clap.specs.Words.{FailsBy, found_of, kind_of, rows_of};
-ghost use Rattle.ahci_args.specs.Asking.{AsksFor, AsksReplay, FailsByUsage, HasNumber, HasPick, HasRaw, IsIdentifyOf, IsLogOf, IsRunOf, TakesOptions, TakesPlace, TakesSize};
+ghost use Rattle.ahci_args.specs.Asking.{AsksFor, AsksReplay, FailsByUsage, HasFlag, HasNumber, HasPick, IsIdentifyOf, IsLogOf, IsRunOf, IsTraceOf, TakesForm, TakesOptions, TakesPlace, TakesSize};
 ghost use Rattle.ahci_args.specs.Usage.{error_byte, error_fault};
 ghost use Rattle.ahci_args.specs.declared.pick.Pick.{Pick};
 
@@ -25,7 +25,7 @@ pub fn asked<'a>(alloc: Global, words: &'a [String]) -> Result<Asked, Error>
         Some(("run", options)) => Ok(run_asked(options)),
         Some(("identify", options)) => Ok(identify_asked(options)),
         Some(("log", options)) => log_asked(alloc, options),
-        Some(("trace", _)) => Ok(Asked::Trace),
+        Some(("trace", options)) => Ok(trace_asked(options)),
         Some(("check", _)) => Ok(Asked::Check),
         Some(("draw", _)) => Ok(Asked::Draw),
         _ => Ok(Asked::Replay),
@@ -53,7 +53,7 @@ fn identify_asked(options: &ArgMatches<'_>) -> Asked
     Asked::Identify {
         sectors: number(options, "sectors") as u32,
         depth: number(options, "depth") as u32,
-        raw: raw(options),
+        raw: flag(options, "raw"),
     }
 }
 
@@ -70,8 +70,18 @@ fn log_asked(alloc: Global, options: &ArgMatches<'_>) -> Result<Asked, Error>
         tag: number(options, "tag") as u8,
         error,
         lba: number(options, "lba"),
-        raw: raw(options),
+        raw: flag(options, "raw"),
     })
+}
+
+/// The trace that its flag asks for.
+fn trace_asked(options: &ArgMatches<'_>) -> Asked
+    requires { TakesForm (rows_of (found_of options.now)) }
+    ensures { IsTraceOf (rows_of (found_of options.now)) result }
+{
+    Asked::Trace {
+        json: flag(options, "json"),
+    }
 }
 
 /// The number of an option that the parser has taken.
@@ -102,12 +112,12 @@ fn error(options: &ArgMatches<'_>) -> Option<u8>
     hex_byte(options.get_str("error")?)
 }
 
-/// Whether `--raw` was given.
-fn raw(options: &ArgMatches<'_>) -> bool
-    requires { (given : Bool) × HasRaw (rows_of (found_of options.now)) given }
-    ensures { HasRaw (rows_of (found_of options.now)) result }
+/// Whether a flag was given.
+fn flag(options: &ArgMatches<'_>, name: &str) -> bool
+    requires { (given : Bool) × HasFlag (rows_of (found_of options.now)) name.now given }
+    ensures { HasFlag (rows_of (found_of options.now)) name.now result }
 {
-    options.get_flag("raw")
+    options.get_flag(name)
 }
 
 /// The usage fault of a word that isn't text in UTF-8, which `asked` can't be given.

@@ -6,7 +6,10 @@ pub enum Asked {
     /// `ahci replay`: run the script on standard input.
     Replay,
     /// `ahci trace`: run it, and tell what each command did to the port.
-    Trace,
+    Trace {
+        /// One JSON object a line, and not the text.
+        json: bool,
+    },
     /// `ahci check`: judge its lines, with nothing run.
     Check,
     /// `ahci draw`: run it, and draw what the port did.

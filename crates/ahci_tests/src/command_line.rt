@@ -50,11 +50,17 @@ const LARGEST: Asked = Asked::Run {
     pick: Pick::Low,
 };
 
+const TEXT: Asked = Asked::Trace { json: false };
+
+const JSON: Asked = Asked::Trace { json: true };
+
 /// Lines that ask for something.
-static RIGHT: [(&str, Asked); 13] = [
+static RIGHT: [(&str, Asked); 15] = [
     ("ahci replay", Asked::Replay),
     ("ahci replay --", Asked::Replay),
-    ("ahci trace", Asked::Trace),
+    ("ahci trace", TEXT),
+    ("ahci trace --json", JSON),
+    ("ahci trace --json --", JSON),
     ("ahci check", Asked::Check),
     ("ahci draw", Asked::Draw),
     ("ahci draw --", Asked::Draw),
@@ -84,7 +90,7 @@ fn a_line_asks_for_a_script_or_for_a_run_with_its_options(rt: HostRuntime) -> Re
     Ok(())
 }
 
-static WRONG: [(&str, ErrorKind, &str); 10] = [
+static WRONG: [(&str, ErrorKind, &str); 16] = [
     (
         "ahci --help",
         ErrorKind::DisplayHelp,
@@ -122,6 +128,28 @@ static WRONG: [(&str, ErrorKind, &str); 10] = [
         "ahci replay --version",
         ErrorKind::UnknownArgument,
         "Usage: ahci replay",
+    ),
+    ("ahci trace --json --json", TWICE, "--json"),
+    ("ahci trace --json=1", ErrorKind::TooManyValues, "--json"),
+    (
+        "ahci trace --json 1",
+        ErrorKind::UnknownArgument,
+        "unexpected argument '1'",
+    ),
+    (
+        "ahci trace --raw",
+        ErrorKind::UnknownArgument,
+        "unexpected argument '--raw'",
+    ),
+    (
+        "ahci replay --json",
+        ErrorKind::UnknownArgument,
+        "unexpected argument '--json'",
+    ),
+    (
+        "ahci trace -h",
+        ErrorKind::DisplayHelp,
+        "Usage: ahci trace [OPTIONS]",
     ),
 ];
 
@@ -343,6 +371,26 @@ fn help_of_a_run_has_its_options_its_jobs_and_its_statuses(rt: HostRuntime) -> R
         let (kind, text) = told(rt.alloc(), line)?;
         equal(&rt, 0, &kind, &ErrorKind::DisplayHelp);
         for part in RUN_HELP {
+            assert!(rt; text.as_str().contains(part), "{line}: {part}");
+        }
+    }
+    Ok(())
+}
+
+/// What the help of `trace` says of its flag, and its examples.
+static TRACE_HELP: [&str; 4] = [
+    "\n      --json",
+    "Write one JSON object a line, for tools, in place of the text\n",
+    "| ahci trace\n",
+    "| ahci trace --json\n",
+];
+
+#[test]
+fn help_of_a_trace_has_its_flag_and_its_examples(rt: HostRuntime) -> Result<(), Fail> {
+    for line in ["ahci trace --help", "ahci trace -h"] {
+        let (kind, text) = told(rt.alloc(), line)?;
+        equal(&rt, 0, &kind, &ErrorKind::DisplayHelp);
+        for part in TRACE_HELP {
             assert!(rt; text.as_str().contains(part), "{line}: {part}");
         }
     }

@@ -10,5 +10,5 @@ returns-clause-ok c =
     let depth : rule_of c.help-2.result ≡ number_option (codes "depth") most_depth = search rules in
     let one = c.in_ok-arg.ensures.shape (search rules) ∙ ap₂ with_rule empty sectors in
     let two = c.in_ok-arg-2.ensures.shape (search rules) ∙ ap₂ with_rule one depth in
-    let three = c.in_ok-identify.ensures.shape (search rules) ∙ ap₂ with_rule two c.raw_flag.ensures.rule in
+    let three = c.in_ok-identify.ensures.shape (search rules) ∙ ap₂ with_rule two c.flag.ensures.rule in
     (ap (λ (a : App). a.top) three, search rules)

@@ -11,5 +11,5 @@ returns-clause-ok c =
     let one = c.in_ok-arg.ensures.shape (search rules) ∙ ap₂ with_rule empty tag in
     let two = c.in_ok-arg-2.ensures.shape (search rules) ∙ ap₂ with_rule one c.error_option.ensures.rule in
     let three = c.in_ok-arg-3.ensures.shape (search rules) ∙ ap₂ with_rule two lba in
-    let four = c.in_ok-log.ensures.shape (search rules) ∙ ap₂ with_rule three c.raw_flag.ensures.rule in
+    let four = c.in_ok-log.ensures.shape (search rules) ∙ ap₂ with_rule three c.flag.ensures.rule in
     (ap (λ (a : App). a.top) four, search rules)

@@ -3,7 +3,7 @@ use Rattle.std.specs.Borrow.{Bor}
 use Rattle.std.specs.Prelude.{option_and_then}
 use Rattle.clap.specs.Words.{Text, first_of, found_of, rows_of}
 use Rattle.clap.proofs.WalkLemmas.{first_value-rows}
-use Rattle.ahci_args.specs.Usage.{error_byte, hex_byte}
+use Rattle.ahci_args.specs.Usage.{hex_byte}
 use Rattle.ahci_args.proofs.reading.error.Goals as goal
 
 pub returns-in_err-get_str : goal.returns-in_err-get_str

@@ -19,8 +19,8 @@ word_is c =
     sym (first_value-rows (found_of c.args.options.now) (codes "pick")) ∙ (sym c.get_str.ensures ∙ ap (option_map (λ (s : Bor Text). s.now)) c.unwrap.ensures)
 
 -- and one of the three
-no_other : (options : List Row) (word : Text) (pick : Pick) → first_of (codes "pick") options ≡ Some word → HasPick options pick → (word ≡ codes "low" → ⊥) → (word ≡ codes "high" → ⊥) → (word ≡ codes "all" → ⊥)
-    → ⊥
+no_other : (options : List Row) (word : Text) (pick : Pick) → first_of (codes "pick") options ≡ Some word → HasPick options pick
+    → (word ≡ codes "low" → ⊥) → (word ≡ codes "high" → ⊥) → (word ≡ codes "all" → ⊥) → ⊥
 no_other options word Low is has low high all = low (cc)
 no_other options word High is has low high all = high (cc)
 no_other options word All is has low high all = all (cc)
