@@ -9,7 +9,7 @@ use Rattle.std.proofs.lemmas.List.Concat.{flat_map-cons}
 use Rattle.ahci_port.specs.PortView.{PortView}
 use Rattle.ahci_regs.specs.declared.register.Register.{Register}
 use Rattle.ahci_regs.specs.declared.register.Register.TheVariants.{Cap, Ghc, Pi, Vs, PxClb, PxClbu, PxFb, PxFbu, PxIs, PxIe, PxCmd, PxTfd, PxSig, PxSsts, PxSctl, PxSerr, PxSact, PxCi}
-use Rattle.ahci_replay.specs.Transcript.{Adds, HasRun, no_line, no_notes, one_more}
+use Rattle.ahci_replay.specs.Transcript.{Adds, HasRun, no_line, one_more}
 use Rattle.ahci_script.specs.Answers.{answer_text, hex_of}
 use Rattle.ahci_script.specs.declared.line.Line.TheVariants as line
 use Rattle.ncq_journal.specs.declared.phase.Phase.{Phase}

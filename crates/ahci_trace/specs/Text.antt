@@ -2,7 +2,8 @@
 use Rattle.std.specs.Prelude.{ℕ, Bool, true, false, List, [], ◌∷◌, ◌++◌, codes, Option, None, Some, flat_map}
 use Rattle.std.specs.Fmt.{decimal}
 use Rattle.ahci_port.specs.PortView.{PortView}
-use Rattle.ahci_script.specs.Answers.{hex_of}
+use Rattle.ahci_replay.specs.Transcript.{Telling}
+use Rattle.ahci_script.specs.Answers.{answer_text, hex_of}
 use Rattle.ncq_journal.specs.declared.phase.Phase.{Phase}
 use Rattle.ncq_journal.specs.declared.phase.Phase.TheVariants.{Free, Issued, Accepted, Rejected, Broken, Held, Done}
 use Rattle.ncq_journal.specs.declared.plain.Plain.{Plain}
@@ -99,7 +100,11 @@ abbrev pub told_text : Told → List ℕ
 told_text t =
     flat_map entry_text t.entries ++ (sent_text t.sent ++ (received_text t.received ++ (flat_map change_text t.changes ++ flat_map slot_text t.slots)))
 
--- what is told behind the answer of a command that has found the first port, and has left the second; nothing before the disk
+-- the notes behind the answer of a command that has found the first port, and has left the second; there are none before the disk
 abbrev pub trace_notes : Option PortView → Option PortView → List ℕ
 trace_notes before None = []
 trace_notes before (Some port) = told_text (told_of (mark_of before) port)
+
+-- the text for an answer: its line, and the notes behind it
+abbrev pub trace_text : Telling
+trace_text said before after = answer_text said ++ 10 ∷ trace_notes before after
