@@ -45,17 +45,32 @@ abbrev pub direction : Bool → List ℕ
 direction true = codes " write "
 direction false = codes " read "
 
+-- the kind of an entry
+abbrev pub kind_name : Happened → List ℕ
+kind_name (what.Issue tag write lba sectors) = codes "issue"
+kind_name (what.Accept tag) = codes "accept"
+kind_name (what.Complete tag) = codes "complete"
+kind_name (what.Fail tag error lba) = codes "fail"
+kind_name (what.Recover tag) = codes "recover"
+kind_name (what.Reissue tag) = codes "reissue"
+kind_name (what.Collect tag) = codes "collect"
+kind_name (what.Plain command) = plain_name command
+
+-- what an entry says of its command
+abbrev pub details_text : Happened → List ℕ
+details_text (what.Issue tag write lba sectors) =
+    codes " " ++ (decimal tag ++ (direction write ++ (decimal lba ++ (codes " " ++ decimal sectors))))
+details_text (what.Accept tag) = codes " " ++ decimal tag
+details_text (what.Complete tag) = codes " " ++ decimal tag
+details_text (what.Fail tag error lba) = codes " " ++ (decimal tag ++ (32 ∷ (hex_of 2 error ++ (codes " " ++ decimal lba))))
+details_text (what.Recover tag) = codes " " ++ decimal tag
+details_text (what.Reissue tag) = codes " " ++ decimal tag
+details_text (what.Collect tag) = codes " " ++ decimal tag
+details_text (what.Plain command) = []
+
 -- what an entry says
 abbrev pub what_text : Happened → List ℕ
-what_text (what.Issue tag write lba sectors) =
-    codes "issue " ++ (decimal tag ++ (direction write ++ (decimal lba ++ (codes " " ++ decimal sectors))))
-what_text (what.Accept tag) = codes "accept " ++ decimal tag
-what_text (what.Complete tag) = codes "complete " ++ decimal tag
-what_text (what.Fail tag error lba) = codes "fail " ++ (decimal tag ++ (32 ∷ (hex_of 2 error ++ (codes " " ++ decimal lba))))
-what_text (what.Recover tag) = codes "recover " ++ decimal tag
-what_text (what.Reissue tag) = codes "reissue " ++ decimal tag
-what_text (what.Collect tag) = codes "collect " ++ decimal tag
-what_text (what.Plain command) = plain_name command
+what_text happened = kind_name happened ++ details_text happened
 
 -- a new entry, by its number
 abbrev pub entry_text : Appended → List ℕ
