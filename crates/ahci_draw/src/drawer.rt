@@ -1,10 +1,11 @@
 use crate::timeline::Timeline;
 use ahci_port::Port;
 use ahci_replay::Teller;
+use ahci_script::{Output, ScriptAnswer};
 use std::alloc::{AllocError, Allocator};
 use std::string::String;
 
-/// Draws what each command of a script did, and tells nothing.
+/// Draws what each command of a script did, and tells the answers alone.
 #[derive(Drop)]
 pub(crate) struct Drawer<A: Allocator> {
     alloc: A,
@@ -64,19 +65,24 @@ impl<A: Allocator + Copy> Drawer<A> {
 }
 
 impl<A: Allocator + Copy> Teller<A> for Drawer<A> {
-    ghost use Rattle.ahci_replay.specs.Transcript.{no_notes};
+    ghost use Rattle.ahci_replay.specs.Transcript.{answers_alone};
 
-    ghost notes = { no_notes };
+    ghost telling = { answers_alone };
 
     ghost HasSeen = { λ drawer port. Unit {0} };
 
     fn look(&mut self, _port: Option<&Port<A>>) {}
 
-    fn tell(&mut self, port: Option<&Port<A>>) -> Result<Vec<u8, A>, AllocError> {
+    fn tell(
+        &mut self,
+        answer: &ScriptAnswer<A>,
+        port: Option<&Port<A>>,
+        output: &mut Output<A>,
+    ) -> Result<(), AllocError> {
         if let Some(port) = port {
             self.catch_up(port)?;
         }
         self.answers = self.answers.saturating_add(1);
-        Ok(Vec::new(self.alloc))
+        output.put(answer)
     }
 }

@@ -1,5 +1,5 @@
 ghost use Rattle.std.specs.Prelude.{◌≡◌, [], List, ℕ, Option, Some, OnOk};
-ghost use Rattle.ahci_replay.specs.Transcript.{Replayed, no_notes};
+ghost use Rattle.ahci_replay.specs.Transcript.{Replayed, answers_alone};
 
 use crate::drawer::Drawer;
 use ahci_replay::{CliFault, replay_with};
@@ -16,7 +16,7 @@ pub fn draw<R: Read, W: Write, A: Allocator + Copy>(
     reader: &mut R,
     writer: &mut W,
 ) -> Result<(), CliFault>
-    ensures replayed { OnOk result ((text : List ℕ) × Replayed no_notes (R.remaining reader.old) (R.remaining reader.new) (Some []) (Some text)) }
+    ensures replayed { OnOk result ((text : List ℕ) × Replayed answers_alone (R.remaining reader.old) (R.remaining reader.new) (Some []) (Some text)) }
 {
     let mut drawer = Drawer::new(alloc)?;
     let mut answers = Vec::new(alloc);

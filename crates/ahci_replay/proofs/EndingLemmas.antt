@@ -64,7 +64,7 @@ use Rattle.ahci_replay.specs.Transcript.{
   IsFaultyAs,
   IsLineFault,
   MayEnd,
-  Notes,
+  Telling,
   Progress,
   Replayed,
   ReplayedFirst,
@@ -78,7 +78,7 @@ use Rattle.ahci_replay.specs.Transcript.{
 use Rattle.ahci_replay.proofs.ProgressLemmas.{Adds-append, Counts, Known, Port, Progress-line, Progress-refl, Progress-trans, counts, next, parts}
 
 -- a last line that was answered, behind text that was written before
-grown_after : {notes : Notes} (p q : Port) (rest before after text sent : Bytes) → text ≡ sent ++ before → Grown notes p rest q before after → Grown notes p rest q text (sent ++ after)
+grown_after : {telling : Telling} (p q : Port) (rest before after text sent : Bytes) → text ≡ sent ++ before → Grown telling p rest q before after → Grown telling p rest q text (sent ++ after)
 grown_after p q rest before after text sent said last = record {
   spelled = last.spelled;
   is = last.is;
@@ -87,14 +87,15 @@ grown_after p q rest before after text sent said last = record {
   grown = ap (λ l. sent ++ l) last.grown ∙ sym (append_assoc sent before last.added) ∙ ap (λ l. l ++ last.added) (sym said);
 }
 
-may_end_after : {notes : Notes} (r : Known) (p q : Port) (rest before after text sent : Bytes) → text ≡ sent ++ before → MayEnd notes r p rest q before after → MayEnd notes r p rest q text (sent ++ after)
+may_end_after : {telling : Telling} (r : Known) (p q : Port) (rest before after text sent : Bytes) → text ≡ sent ++ before → MayEnd telling r p rest q before after
+    → MayEnd telling r p rest q text (sent ++ after)
 may_end_after r p q rest before after text sent said (inl same) =
     inl (ap (λ l. sent ++ l) same ∙ sym said)
 may_end_after r p q rest before after text sent said (inr last) =
     inr (last.0, last.1, grown_after p q rest before after text sent said last.2)
 
 -- a first part is written, behind a part that went well
-part_after : {notes : Notes} (a b c : Place) → Progress notes a b → WritesPart notes b c → WritesPart notes a c
+part_after : {telling : Telling} (a b c : Place) → Progress telling a b → WritesPart telling b c → WritesPart telling a c
 part_after a b c p q = record {
   lines = p.lines ++ q.lines;
   rest = q.rest;
@@ -115,7 +116,8 @@ part_after a b c p q = record {
 }
 
 -- some first part of what waited is written
-pub stops_sending : {notes : Notes} (r r' c c' : Known) (u u' w w' : Bytes) (p p' : Port) (n n' : Counts) → (k : ℕ) × Appends c c' (take k w) → WritesPart notes (parts r c u w p n) (parts r' c' u' w' p' n')
+pub stops_sending : {telling : Telling} (r r' c c' : Known) (u u' w w' : Bytes) (p p' : Port) (n n' : Counts) → (k : ℕ) × Appends c c' (take k w)
+    → WritesPart telling (parts r c u w p n) (parts r' c' u' w' p' n')
 stops_sending r r' c c' u u' w w' p p' n n' part = record {
   lines = [];
   rest = u;
@@ -134,15 +136,17 @@ stops_sending r r' c c' u u' w w' p p' n n' part = record {
 }
 
 -- the same behind a line that was answered
-pub stops_sending_line : {notes : Notes} (r r' c c' : Known) (u u' w w1 w' : Bytes) (p p1 p' : Port) (n n' : Counts) (e : ℕ) → line_end u ≡ Some e → found_of (take e u ++ 10 ∷ []) ≡ whole (take e u)
-    → Grown notes p (take e u) p1 w w1 → (k : ℕ) × Appends c c' (take k w1) → WritesPart notes (parts r c u w p n) (parts r' c' u' w' p' n')
+pub stops_sending_line : {telling : Telling} (r r' c c' : Known) (u u' w w1 w' : Bytes) (p p1 p' : Port) (n n' : Counts) (e : ℕ) → line_end u ≡ Some e
+    → found_of (take e u ++ 10 ∷ []) ≡ whole (take e u)
+    → Grown telling p (take e u) p1 w w1 → (k : ℕ) × Appends c c' (take k w1) → WritesPart telling (parts r c u w p n) (parts r' c' u' w' p' n')
 stops_sending_line r r' c c' u u' w w1 w' p p1 p' n n' e found fed grown part =
     part_after (parts r c u w p n) (parts r c (drop (e + 1) u) w1 p1 (next n)) (parts r' c' u' w' p' n') (Progress-line r c u w w1 p p1 n e found fed grown)
     (stops_sending r r' c c' (drop (e + 1) u) u' w1 w' p1 p' (next n) n' part)
 
 -- a line stops the script where it stands
-pub stops_at_line : {notes : Notes} (f : CliFault) (a : Place) (r c : Known) (u w w' l : Bytes) (p q : Port) (n : Counts) → Progress notes a (parts r c u w p n) → IsLineFault p l (n.lines + 1) f →
-    (placed p l ≡ None → IsFaulty r p u) → w' ≡ w → Stops notes a (parts r c u w' q n) f
+pub stops_at_line : {telling : Telling} (f : CliFault) (a : Place) (r c : Known) (u w w' l : Bytes) (p q : Port) (n : Counts) → Progress telling a (parts r c u w p n)
+    → IsLineFault p l (n.lines + 1) f →
+    (placed p l ≡ None → IsFaulty r p u) → w' ≡ w → Stops telling a (parts r c u w' q n) f
 stops_at_line (Line k) a r c u w w' l p q n so_far is faulty same =
     (p, rw same so_far, is.0, faulty is.1)
 stops_at_line (Job k) a r c u w w' l p q n so_far is faulty same = is
@@ -165,7 +169,7 @@ pub faulty_rest : (r : Known) (p : Port) (u : Bytes) → IsAtEnd r → found_of 
 faulty_rest r p u ended is h = subst (IsFaultyAs r p u) (sym is) (ended, h)
 
 -- a fault behind a part that went well
-pub stops_after : {notes : Notes} (f : CliFault) (a b c : Place) → Progress notes a b → Stops notes b c f → Stops notes a c f
+pub stops_after : {telling : Telling} (f : CliFault) (a b c : Place) → Progress telling a b → Stops telling b c f → Stops telling a c f
 stops_after (Line n) a b c p s =
     (s.0, Progress-trans a b (record c { port = s.0 }) p s.1, s.2, s.3)
 stops_after Read a b c p s =
@@ -178,8 +182,8 @@ stops_after Unsettled a b c p s = s
 stops_after (Lost n) a b c p s = s
 
 -- the answers to the lines that were read are written
-pub first_written : {notes : Notes} (P : Known → Port → Bytes → ℕ → Type 0) (r c d : Known) (to : Place) → Progress notes (beginning r c) to → P to.remaining to.port to.unread to.came
-    → Appends to.contents d to.waiting → ReplayedFirst notes r c d to.line P
+pub first_written : {telling : Telling} (P : Known → Port → Bytes → ℕ → Type 0) (r c d : Known) (to : Place) → Progress telling (beginning r c) to → P to.remaining to.port to.unread to.came
+    → Appends to.contents d to.waiting → ReplayedFirst telling r c d to.line P
 first_written P r c d to p holds sent = record {
   lines = p.lines;
   rest = to.unread;
@@ -194,18 +198,19 @@ first_written P r c d to p holds sent = record {
 }
 
 -- a first part of the answers to the lines that were read is written
-pub part_written : {notes : Notes} (r c d : Known) (to : Place) → Progress notes (beginning r c) to → (k : ℕ) × Appends to.contents d (take k to.waiting) → ReplayedTo notes r r c d Write
+pub part_written : {telling : Telling} (r c d : Known) (to : Place) → Progress telling (beginning r c) to → (k : ℕ) × Appends to.contents d (take k to.waiting) → ReplayedTo telling r r c d Write
 part_written r c d to p part =
     part_after (beginning r c) to (beginning r d) p (stops_sending to.remaining r to.contents d to.unread [] to.waiting [] to.port None (counts to.line to.came) (counts 0 0) part)
 
-end_text : {notes : Notes} (p q : Port) (rest before waiting text sent : Bytes) → text ≡ sent ++ before → EndsWith notes p rest q before waiting → EndsWith notes p rest q text (sent ++ waiting)
+end_text : {telling : Telling} (p q : Port) (rest before waiting text sent : Bytes) → text ≡ sent ++ before → EndsWith telling p rest q before waiting
+    → EndsWith telling p rest q text (sent ++ waiting)
 end_text p q rest before waiting text sent said (inl same) =
     inl (same.0, same.1, ap (λ l. sent ++ l) same.2 ∙ sym said)
 end_text p q rest before waiting text sent said (inr last) =
     inr (grown_after p q rest before waiting text sent said last)
 
 -- a whole input was read, and its answers are written
-pub all_written : {notes : Notes} (r c d : Known) (to : Place) → Ends notes (beginning r c) to → Appends to.contents d to.waiting → Replayed notes r to.remaining c d
+pub all_written : {telling : Telling} (r c d : Known) (to : Place) → Ends telling (beginning r c) to → Appends to.contents d to.waiting → Replayed telling r to.remaining c d
 all_written r c d to e sent =
     let p = e.progress in
     record {
@@ -224,9 +229,10 @@ all_written r c d to e sent =
     }
 
 -- a first part of what waited is written, where the last line was answered
-part_with_rest : {notes : Notes} (r r' c d : Known) (u w w' : Bytes) (p q : Port) (n : Counts) → IsAtEnd r → found_of u ≡ unfinished → Grown notes p u q w w' → (k : ℕ) × Appends c d (take k w') → WritesPart notes
+part_with_rest : {telling : Telling} (r r' c d : Known) (u w w' : Bytes) (p q : Port) (n : Counts) → IsAtEnd r → found_of u ≡ unfinished → Grown telling p u q w w'
+    → (k : ℕ) × Appends c d (take k w') → WritesPart telling
     (parts r c u w p n) (beginning r' d)
-part_with_rest {notes} r r' c d u w w' p q n ended unended last part = record {
+part_with_rest {telling} r r' c d u w w' p q n ended unended last part = record {
   lines = [];
   rest = u;
   text = [];
@@ -239,19 +245,20 @@ part_with_rest {notes} r r' c d u w w' p q n ended unended last part = record {
   answered = no_line p;
   consumed = Consumes-nil r;
   read = append-nil u;
-  last = inr (ended, unended, subst (λ t. Grown notes p u q t w') (sym (append-nil w)) last);
+  last = inr (ended, unended, subst (λ t. Grown telling p u q t w') (sym (append-nil w)) last);
   written = part.1;
 }
 
-end_part : {notes : Notes} (to : Place) (d r' : Known) (before : Bytes) (p : Port) → IsAtEnd to.remaining → found_of to.unread ≡ unfinished → EndsWith notes p to.unread to.port before to.waiting →
-    (k : ℕ) × Appends to.contents d (take k to.waiting) → WritesPart notes (parts to.remaining to.contents to.unread before p (counts to.line to.came)) (beginning r' d)
+end_part : {telling : Telling} (to : Place) (d r' : Known) (before : Bytes) (p : Port) → IsAtEnd to.remaining → found_of to.unread ≡ unfinished
+    → EndsWith telling p to.unread to.port before to.waiting →
+    (k : ℕ) × Appends to.contents d (take k to.waiting) → WritesPart telling (parts to.remaining to.contents to.unread before p (counts to.line to.came)) (beginning r' d)
 end_part to d r' before p ended unended (inl same) part =
     stops_sending to.remaining r' to.contents d to.unread [] before [] p None (counts to.line to.came) (counts 0 0) (part.0, subst (λ w. Appends to.contents d (take part.0 w)) same.2 part.1)
 end_part to d r' before p ended unended (inr last) part =
     part_with_rest to.remaining r' to.contents d to.unread before to.waiting p to.port (counts to.line to.came) ended unended last part
 
 -- a whole input was read, and a first part of its answers is written
-pub all_part_written : {notes : Notes} (r c d : Known) (to : Place) → Ends notes (beginning r c) to → (k : ℕ) × Appends to.contents d (take k to.waiting) → ReplayedTo notes r r c d Write
+pub all_part_written : {telling : Telling} (r c d : Known) (to : Place) → Ends telling (beginning r c) to → (k : ℕ) × Appends to.contents d (take k to.waiting) → ReplayedTo telling r r c d Write
 all_part_written r c d to e part =
     part_after (beginning r c) (record to { waiting = e.before; port = e.port }) (beginning r d) e.progress (end_part to d r e.before e.port e.end e.unended e.last part)
 
@@ -259,21 +266,23 @@ true_false : true ≡ false → ⊥
 true_false e = cc
 
 -- a fault but of the output, and the answers before it are written
-pub fault_written : (notes : Notes) (f : CliFault) (r c d : Known) (to : Place) → is_of_output f ≡ false → Stops notes (beginning r c) to f → Appends to.contents d to.waiting → ReplayedTo notes r to.remaining c d f
-fault_written notes (Line n) r c d to other s sent =
+pub fault_written : (telling : Telling) (f : CliFault) (r c d : Known) (to : Place) → is_of_output f ≡ false → Stops telling (beginning r c) to f → Appends to.contents d to.waiting
+    → ReplayedTo telling r to.remaining c d f
+fault_written telling (Line n) r c d to other s sent =
     (to.line, s.2, first_written (λ remaining port rest _. IsFaulty remaining port rest) r c d (record to { port = s.0 }) s.1 s.3 sent)
-fault_written notes Read r c d to other s sent =
+fault_written telling Read r c d to other s sent =
     (to.line, first_written (λ remaining _ rest came. IsCutOff remaining rest came to.remaining) r c d (record to { remaining = s.0 }) s.1 s.2 sent)
-fault_written notes OutOfMemory r c d to other s sent =
+fault_written telling OutOfMemory r c d to other s sent =
     (to.line, first_written (λ _ _ _ _. Unit {0}) r c d (record to { port = s.0 }) s.1 tt sent)
-fault_written notes Write r c d to other s sent = absurd (true_false other)
-fault_written notes (Job n) r c d to other s sent = s
-fault_written notes Unsettled r c d to other s sent = s
-fault_written notes (Lost n) r c d to other s sent = s
+fault_written telling Write r c d to other s sent = absurd (true_false other)
+fault_written telling (Job n) r c d to other s sent = s
+fault_written telling Unsettled r c d to other s sent = s
+fault_written telling (Lost n) r c d to other s sent = s
 
 -- a fault but of the output, and a first part of the answers before it is written
-pub fault_part_written : {notes : Notes} (f : CliFault) (r c d : Known) (to : Place) → is_of_output f ≡ false → Stops notes (beginning r c) to f → (k : ℕ) × Appends to.contents d (take k to.waiting)
-    → ReplayedTo notes r to.remaining c d Write
+pub fault_part_written : {telling : Telling} (f : CliFault) (r c d : Known) (to : Place) → is_of_output f ≡ false → Stops telling (beginning r c) to f
+    → (k : ℕ) × Appends to.contents d (take k to.waiting)
+    → ReplayedTo telling r to.remaining c d Write
 fault_part_written (Line n) r c d to other s part =
     part_written r c d (record to { port = s.0 }) s.1 part
 fault_part_written Read r c d to other s part =
@@ -286,8 +295,8 @@ fault_part_written Unsettled r c d to other s part = absurd s
 fault_part_written (Lost n) r c d to other s part = absurd s
 
 -- a fault of the output, after which a first part of the answers is written
-pub output_failed : (notes : Notes) (f : CliFault) (r c : Known) (to : Place) → is_of_output f ≡ true → Stops notes (beginning r c) to f → ReplayedTo notes r to.remaining c to.contents f
-output_failed notes Write r c to is s = record {
+pub output_failed : (telling : Telling) (f : CliFault) (r c : Known) (to : Place) → is_of_output f ≡ true → Stops telling (beginning r c) to f → ReplayedTo telling r to.remaining c to.contents f
+output_failed telling Write r c to is s = record {
   lines = s.lines;
   rest = s.rest;
   text = s.text;
@@ -303,28 +312,30 @@ output_failed notes Write r c to is s = record {
   last = s.last;
   written = s.written;
 }
-output_failed notes (Line n) r c to is s = absurd (cc)
-output_failed notes Read r c to is s = absurd (cc)
-output_failed notes OutOfMemory r c to is s = absurd (cc)
-output_failed notes (Job n) r c to is s = absurd s
-output_failed notes Unsettled r c to is s = absurd s
-output_failed notes (Lost n) r c to is s = absurd s
+output_failed telling (Line n) r c to is s = absurd (cc)
+output_failed telling Read r c to is s = absurd (cc)
+output_failed telling OutOfMemory r c to is s = absurd (cc)
+output_failed telling (Job n) r c to is s = absurd s
+output_failed telling Unsettled r c to is s = absurd s
+output_failed telling (Lost n) r c to is s = absurd s
 
 -- no memory at the start: nothing was read or written
-pub nothing_replayed : {notes : Notes} (r c : Known) → ReplayedTo notes r r c c OutOfMemory
+pub nothing_replayed : {telling : Telling} (r c : Known) → ReplayedTo telling r r c c OutOfMemory
 nothing_replayed r c =
     (0, first_written (λ _ _ _ _. Unit {0}) r c c (beginning r c) (Progress-refl r c [] [] None (counts 0 0)) tt (Appends-nil c))
 
 -- the last line was answered
-pub ends_rest : {notes : Notes} (a : Place) (r c : Known) (u u' w w' : Bytes) (p q : Port) (n n' : Counts) → Progress notes a (parts r c u w p n) → IsAtEnd r → found_of u ≡ unfinished → u' ≡ u → n' ≡ n
-    → EndsWith notes p u q w w' → Ends notes a (parts r c u' w' q n')
-ends_rest {notes} a r c u u' w w' p q n n' so_far ended unended same count last =
-    let at_end : Ends notes a (parts r c u w' q n) = record { before = w; port = p; progress = so_far; unended = unended; last = last; end = ended } in
+pub ends_rest : {telling : Telling} (a : Place) (r c : Known) (u u' w w' : Bytes) (p q : Port) (n n' : Counts) → Progress telling a (parts r c u w p n) → IsAtEnd r → found_of u ≡ unfinished
+    → u' ≡ u → n' ≡ n
+    → EndsWith telling p u q w w' → Ends telling a (parts r c u' w' q n')
+ends_rest {telling} a r c u u' w w' p q n n' so_far ended unended same count last =
+    let at_end : Ends telling a (parts r c u w' q n) = record { before = w; port = p; progress = so_far; unended = unended; last = last; end = ended } in
     rw (same, count) at_end
 
 -- the last line stops the script
-pub stops_rest : {notes : Notes} {T : Type 0} (result : Result T CliFault) (a : Place) (r c : Known) (u u' w w' : Bytes) (p q : Port) (n n' : Counts) → Progress notes a (parts r c u w p n) → IsAtEnd r
-    → found_of u ≡ unfinished → IfErr result (IsLineFault p u (n.lines + 1)) → OnErr result (w' ≡ w) → u' ≡ u → n' ≡ n → IfErr result (Stops notes a (parts r c u' w' q n'))
+pub stops_rest : {telling : Telling} {T : Type 0} (result : Result T CliFault) (a : Place) (r c : Known) (u u' w w' : Bytes) (p q : Port) (n n' : Counts) → Progress telling a (parts r c u w p n)
+    → IsAtEnd r
+    → found_of u ≡ unfinished → IfErr result (IsLineFault p u (n.lines + 1)) → OnErr result (w' ≡ w) → u' ≡ u → n' ≡ n → IfErr result (Stops telling a (parts r c u' w' q n'))
 stops_rest (Ok x) a r c u u' w w' p q n n' so_far ended rest fault waits same count = fault
 stops_rest (Err f) a r c u u' w w' p q n n' so_far ended rest fault waits same count =
     rw (same, count) (stops_at_line f a r c u w w' u p q n so_far fault (faulty_rest r p u ended rest) waits)

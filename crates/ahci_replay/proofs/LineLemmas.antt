@@ -6,12 +6,12 @@ use Rattle.ahci_script.specs.Lines.{line_of}
 use Rattle.ahci_script.specs.declared.line.ScriptCommand.{ScriptCommand}
 use Rattle.ahci_script.specs.declared.line.Line.TheVariants as line
 use Rattle.ahci_replay.specs.Commands.{is_in_place}
-use Rattle.ahci_replay.specs.Transcript.{Grown, HasRun, IsCommandFault, IsLineFault, Notes, placed, placed_by}
+use Rattle.ahci_replay.specs.Transcript.{Grown, HasRun, IsCommandFault, IsLineFault, Telling, placed, placed_by}
 use Rattle.ahci_script.specs.declared.fault.CliFault.{CliFault}
 use Rattle.ahci_script.specs.declared.fault.CliFault.TheVariants.{Line, Job, Read, Write, Unsettled, Lost, OutOfMemory}
 
 -- a skipped line adds nothing
-pub skip_grown : {notes : Notes} (port : Option PortView) (text old : List ℕ) → line_of text ≡ Some line.Skip → Grown notes port text port old old
+pub skip_grown : {telling : Telling} (port : Option PortView) (text old : List ℕ) → line_of text ≡ Some line.Skip → Grown telling port text port old old
 skip_grown port text old is = record {
   spelled = line.Skip;
   is = ap (option_and_then (placed_by port)) is;
@@ -26,8 +26,8 @@ command_placed : (port : Option PortView) (text : List ℕ) (command : ScriptCom
 command_placed port text command is = ap (option_and_then (placed_by port)) is
 
 -- a command adds its answer
-run_grown : {notes : Notes} (port port' : Option PortView) (text old new : List ℕ) (command : ScriptCommand) → line_of text ≡ Some (line.Run command)
-    → is_in_place port command ≡ true → (added : List ℕ) × HasRun notes port command port' added × (new ≡ old ++ added) → Grown notes port text port' old new
+run_grown : {telling : Telling} (port port' : Option PortView) (text old new : List ℕ) (command : ScriptCommand) → line_of text ≡ Some (line.Run command)
+    → is_in_place port command ≡ true → (added : List ℕ) × HasRun telling port command port' added × (new ≡ old ++ added) → Grown telling port text port' old new
 run_grown port port' text old new command is may ran = record {
   spelled = line.Run command;
   is = command_placed port text command is ∙ ap (λ b. cond b (Some (line.Run command)) None) may;
@@ -45,11 +45,11 @@ in_place true x fault out = refl
 in_place false x fault out = let told : well x ≡ Err fault = out refl in cc
 
 -- the same of a result: where the command was out of place there is none
-pub ran_grown : (notes : Notes) (result : Result (Unit {0}) CliFault) (fault : CliFault) (port port' : Option PortView) (text old new : List ℕ) (command : ScriptCommand)
+pub ran_grown : (telling : Telling) (result : Result (Unit {0}) CliFault) (fault : CliFault) (port port' : Option PortView) (text old new : List ℕ) (command : ScriptCommand)
     → line_of text ≡ Some (line.Run command) → (is_in_place port command ≡ false → result ≡ Err fault)
-    → OnOk result ((added : List ℕ) × HasRun notes port command port' added × (new ≡ old ++ added)) → OnOk result (Grown notes port text port' old new)
-ran_grown notes (Err e) fault port port' text old new command is told ran = ran
-ran_grown notes (Ok x) fault port port' text old new command is told ran =
+    → OnOk result ((added : List ℕ) × HasRun telling port command port' added × (new ≡ old ++ added)) → OnOk result (Grown telling port text port' old new)
+ran_grown telling (Err e) fault port port' text old new command is told ran = ran
+ran_grown telling (Ok x) fault port port' text old new command is told ran =
     run_grown port port' text old new command is (in_place (is_in_place port command) x fault told) ran
 
 -- a fault of the command is one of the line

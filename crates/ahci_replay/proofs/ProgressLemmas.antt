@@ -39,7 +39,7 @@ use Rattle.std.specs.Io.KnownBytes.{Appends, Consumes, IsAtEnd}
 use Rattle.ahci_script.specs.Unread.{Grows, Unread, found_of, line_end, whole, with_feeds}
 use Rattle.ahci_script.proofs.FoundLemmas.{Bytes, cut_at_feed, with_feeds-append}
 use Rattle.ahci_replay.specs.Place.{Place}
-use Rattle.ahci_replay.specs.Transcript.{Adds, Grown, Notes, Progress, RunsLine, no_line, one_more, placed}
+use Rattle.ahci_replay.specs.Transcript.{Adds, Grown, Telling, Progress, RunsLine, no_line, one_more, placed}
 use Rattle.ahci_port.specs.PortView.{PortView}
 use Rattle.ahci_script.specs.declared.line.Line as script
 
@@ -69,14 +69,14 @@ abbrev pub parts : Known → Known → Bytes → Bytes → Port → Counts → P
 parts r c u w p n = record { remaining = r; contents = c; unread = u; waiting = w; port = p; line = n.lines; came = n.came }
 
 -- lines, and those that come after them
-pub Adds-append : {notes : Notes} (p q r : Port) (ls ms : List Bytes) (s t : Bytes) → Adds notes p ls s q → Adds notes q ms t r → Adds notes p (ls ++ ms) (s ++ t) r
-Adds-append {notes} _ _ r _ ms _ t (no_line p) rest = rest
-Adds-append {notes} _ q r _ ms _ t (one_more p first l next added more text last fed is ran others) rest =
-    subst (λ x. Adds notes p (first ∷ (more ++ ms)) x r) (sym (append_assoc added text t))
+pub Adds-append : {telling : Telling} (p q r : Port) (ls ms : List Bytes) (s t : Bytes) → Adds telling p ls s q → Adds telling q ms t r → Adds telling p (ls ++ ms) (s ++ t) r
+Adds-append {telling} _ _ r _ ms _ t (no_line p) rest = rest
+Adds-append {telling} _ q r _ ms _ t (one_more p first l next added more text last fed is ran others) rest =
+    subst (λ x. Adds telling p (first ∷ (more ++ ms)) x r) (sym (append_assoc added text t))
     (one_more p first l next added (more ++ ms) (text ++ t) r fed is ran (Adds-append next last r more ms text t others rest))
 
 -- two parts of a script, one after the other
-pub Progress-trans : {notes : Notes} (a b c : Place) → Progress notes a b → Progress notes b c → Progress notes a c
+pub Progress-trans : {telling : Telling} (a b c : Place) → Progress telling a b → Progress telling b c → Progress telling a c
 Progress-trans a b c p q = record {
   lines = p.lines ++ q.lines;
   text = p.text ++ q.text;
@@ -93,13 +93,15 @@ Progress-trans a b c p q = record {
 }
 
 -- one line alone
-one_line : {notes : Notes} (p q : Port) (l : Bytes) (spelled : script.Line) (added : Bytes) → found_of (l ++ 10 ∷ []) ≡ whole l → placed p l ≡ Some spelled → RunsLine notes p spelled q added → Adds notes p (l ∷ [])
+one_line : {telling : Telling} (p q : Port) (l : Bytes) (spelled : script.Line) (added : Bytes) → found_of (l ++ 10 ∷ []) ≡ whole l → placed p l ≡ Some spelled
+    → RunsLine telling p spelled q added → Adds telling p (l ∷ [])
     (added ++ []) q
 one_line p q l spelled added fed is ran = one_more p l spelled q added [] [] q fed is ran (no_line q)
 
 -- a line was answered
-pub Progress-line : {notes : Notes} (r c : Known) (u w w' : Bytes) (p p' : Port) (n : Counts) (e : ℕ) → line_end u ≡ Some e → found_of (take e u ++ 10 ∷ []) ≡ whole (take e u) → Grown notes p (take e u) p' w w'
-    → Progress notes (parts r c u w p n) (parts r c (drop (e + 1) u) w' p' (next n))
+pub Progress-line : {telling : Telling} (r c : Known) (u w w' : Bytes) (p p' : Port) (n : Counts) (e : ℕ) → line_end u ≡ Some e → found_of (take e u ++ 10 ∷ []) ≡ whole (take e u)
+    → Grown telling p (take e u) p' w w'
+    → Progress telling (parts r c u w p n) (parts r c (drop (e + 1) u) w' p' (next n))
 Progress-line r c u w w' p p' n e found fed grown = record {
   lines = take e u ∷ [];
   text = grown.added ++ [];
@@ -115,7 +117,7 @@ Progress-line r c u w w' p p' n e found fed grown = record {
 }
 
 -- what waited was written
-pub Progress-sent : {notes : Notes} (r c c' : Known) (u w : Bytes) (p : Port) (n : Counts) → Appends c c' w → Progress notes (parts r c u w p n) (parts r c' u [] p n)
+pub Progress-sent : {telling : Telling} (r c c' : Known) (u w : Bytes) (p : Port) (n : Counts) → Appends c c' w → Progress telling (parts r c u w p n) (parts r c' u [] p n)
 Progress-sent r c c' u w p n sent = record {
   lines = [];
   text = [];
@@ -131,7 +133,8 @@ Progress-sent r c c' u w p n sent = record {
 }
 
 -- bytes came
-pub Progress-came : {notes : Notes} (r r' c : Known) (u w came : Bytes) (p : Port) (n : Counts) → Consumes r r' came → Progress notes (parts r c u w p n) (parts r' c (u ++ came) w p (counts n.lines (n.came + length came)))
+pub Progress-came : {telling : Telling} (r r' c : Known) (u w came : Bytes) (p : Port) (n : Counts) → Consumes r r' came
+    → Progress telling (parts r c u w p n) (parts r' c (u ++ came) w p (counts n.lines (n.came + length came)))
 Progress-came r r' c u w came p n consumed = record {
   lines = [];
   text = [];
@@ -147,7 +150,7 @@ Progress-came r r' c u w came p n consumed = record {
 }
 
 -- no byte came from a reader
-Progress-none : {notes : Notes} (r r' c : Known) (u w : Bytes) (p : Port) (n : Counts) → Consumes r r' [] → Progress notes (parts r c u w p n) (parts r' c u w p n)
+Progress-none : {telling : Telling} (r r' c : Known) (u w : Bytes) (p : Port) (n : Counts) → Consumes r r' [] → Progress telling (parts r c u w p n) (parts r' c u w p n)
 Progress-none r r' c u w p n consumed = record {
   lines = [];
   text = [];
@@ -163,23 +166,26 @@ Progress-none r r' c u w p n consumed = record {
 }
 
 -- nothing happened
-pub Progress-refl : {notes : Notes} (r c : Known) (u w : Bytes) (p : Port) (n : Counts) → Progress notes (parts r c u w p n) (parts r c u w p n)
+pub Progress-refl : {telling : Telling} (r c : Known) (u w : Bytes) (p : Port) (n : Counts) → Progress telling (parts r c u w p n) (parts r c u w p n)
 Progress-refl r c u w p n = Progress-none r r c u w p n (Consumes-nil r)
 
 -- what waited was written, and nothing came
-pub Progress-sent_same : {notes : Notes} (r c c' : Known) (u u' w w' : Bytes) (p : Port) (n : Counts) → Appends c c' w → w' ≡ [] → u' ≡ u → Progress notes (parts r c u w p n) (parts r c' u' w' p n)
+pub Progress-sent_same : {telling : Telling} (r c c' : Known) (u u' w w' : Bytes) (p : Port) (n : Counts) → Appends c c' w → w' ≡ [] → u' ≡ u
+    → Progress telling (parts r c u w p n) (parts r c' u' w' p n)
 Progress-sent_same r c c' u u' w w' p n sent empty same = rw (empty, same) (Progress-sent r c c' u w p n sent)
 
 -- bytes came, or the reader is at its end
-pub Progress-filled : {notes : Notes} (more : Bool) (old new : Unread) (r r' c : Known) (w : Bytes) (p : Port) (line : ℕ) → MatchBool more (Grows old new r r') ((new ≡ old) × IsAtEnd r' × Consumes r r' [])
-    → Progress notes (parts r c old.bytes w p (counts line old.came)) (parts r' c new.bytes w p (counts line new.came))
+pub Progress-filled : {telling : Telling} (more : Bool) (old new : Unread) (r r' c : Known) (w : Bytes) (p : Port) (line : ℕ)
+    → MatchBool more (Grows old new r r') ((new ≡ old) × IsAtEnd r' × Consumes r r' [])
+    → Progress telling (parts r c old.bytes w p (counts line old.came)) (parts r' c new.bytes w p (counts line new.came))
 Progress-filled true old new r r' c w p line grows =
     rw (grows.bytes, grows.count) (Progress-came r r' c old.bytes w grows.came p (counts line old.came) grows.consumed)
 Progress-filled false old new r r' c w p line ended = rw ended.0 (Progress-none r r' c old.bytes w p (counts line old.came) ended.2)
 
 -- a line was answered, and what waited then was written
-pub Progress-line_sent : {notes : Notes} (r c c' : Known) (u u' w w1 w' : Bytes) (p p' : Port) (n : Counts) (e : ℕ) → line_end u ≡ Some e → found_of (take e u ++ 10 ∷ []) ≡ whole (take e u) → Grown notes p
-    (take e u) p' w w1 → u' ≡ drop (e + 1) u → Appends c c' w1 → w' ≡ [] → Progress notes (parts r c u w p n) (parts r c' u' w' p' (next n))
+pub Progress-line_sent : {telling : Telling} (r c c' : Known) (u u' w w1 w' : Bytes) (p p' : Port) (n : Counts) (e : ℕ) → line_end u ≡ Some e → found_of (take e u ++ 10 ∷ []) ≡ whole (take e u)
+    → Grown telling p
+    (take e u) p' w w1 → u' ≡ drop (e + 1) u → Appends c c' w1 → w' ≡ [] → Progress telling (parts r c u w p n) (parts r c' u' w' p' (next n))
 Progress-line_sent r c c' u u' w w1 w' p p' n e found fed grown same sent empty =
     Progress-trans (parts r c u w p n) (parts r c (drop (e + 1) u) w1 p' (next n)) (parts r c' u' w' p' (next n)) (Progress-line r c u w w1 p p' n e found fed grown)
     (Progress-sent_same r c c' (drop (e + 1) u) u' w1 w' p' (next n) sent empty same)

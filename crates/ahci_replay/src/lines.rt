@@ -19,7 +19,7 @@ pub(crate) fn answer_line<T: Teller<A>, A: Allocator + Copy>(
     number: u64,
     line: &[u8],
 ) -> Result<(), CliFault>
-    ensures ok { OnOk result (Grown T.notes session.old line.now session.new output.old output.new) }
+    ensures ok { OnOk result (Grown T.telling session.old line.now session.new output.old output.new) }
     ensures err { OnErr result (output.new ≡ output.old) }
     ensures fault { IfErr result (IsLineFault session.old line.now number) }
     ensures wrong { placed session.old line.now ≡ None → result ≡ Err (CliFault.Line number) }
@@ -31,7 +31,7 @@ pub(crate) fn answer_line<T: Teller<A>, A: Allocator + Copy>(
     }
 }
 
-/// Runs the command of a line of the given number, and puts its answer into the output, and what is told behind it.
+/// Runs the command of a line of the given number, and has its answer told into the output.
 fn answer_command<T: Teller<A>, A: Allocator + Copy>(
     session: &mut Session<A>,
     output: &mut Output<A>,
@@ -40,7 +40,7 @@ fn answer_command<T: Teller<A>, A: Allocator + Copy>(
     command: ScriptCommand<'_>,
 ) -> Result<(), CliFault>
     requires { HasSmallTag command }
-    ensures ok { OnOk result ((text : List ℕ) × HasRun T.notes session.old command.entry session.new text
+    ensures ok { OnOk result ((text : List ℕ) × HasRun T.telling session.old command.entry session.new text
         × (output.new ≡ output.old ++ text)) }
     ensures err { OnErr result (output.new ≡ output.old) }
     ensures fault { IfErr result (IsCommandFault session.old command.entry number) }
@@ -48,10 +48,7 @@ fn answer_command<T: Teller<A>, A: Allocator + Copy>(
 {
     teller.look(session.port());
     match session.run(command) {
-        Ok(answer) => {
-            let notes = teller.tell(session.port())?;
-            Ok(output.put_noted(&answer, &notes)?)
-        }
+        Ok(answer) => Ok(teller.tell(&answer, session.port(), output)?),
         Err(Unanswered::OutOfPlace) => Err(CliFault::Line(number)),
         Err(Unanswered::OutOfMemory) => Err(CliFault::OutOfMemory),
     }

@@ -1,5 +1,5 @@
 ghost use Rattle.std.specs.Prelude.{IfErr, OnOk};
-ghost use Rattle.ahci_replay.specs.Transcript.{Replayed, ReplayedTo, no_notes};
+ghost use Rattle.ahci_replay.specs.Transcript.{Replayed, ReplayedTo, answers_alone};
 
 use crate::script::Script;
 use crate::teller::{AnswersAlone, Teller};
@@ -14,26 +14,26 @@ pub fn replay<R: Read, W: Write, A: Allocator + Copy>(
     reader: &mut R,
     writer: &mut W,
 ) -> Result<(), CliFault>
-    ensures ok { OnOk result (Replayed no_notes (R.remaining reader.old) (R.remaining reader.new)
+    ensures ok { OnOk result (Replayed answers_alone (R.remaining reader.old) (R.remaining reader.new)
         (W.contents writer.old) (W.contents writer.new)) }
     ensures err { IfErr result
-        (ReplayedTo no_notes (R.remaining reader.old) (R.remaining reader.new)
+        (ReplayedTo answers_alone (R.remaining reader.old) (R.remaining reader.new)
         (W.contents writer.old) (W.contents writer.new)) }
 {
-    replay_with(alloc, &mut AnswersAlone { alloc }, reader, writer)
+    replay_with(alloc, &mut AnswersAlone, reader, writer)
 }
 
-/// The same, and behind each answer stands what the teller tells of the command.
+/// The same, and for each answer stands what the teller tells of the command.
 pub fn replay_with<T: Teller<A>, R: Read, W: Write, A: Allocator + Copy>(
     alloc: A,
     teller: &mut T,
     reader: &mut R,
     writer: &mut W,
 ) -> Result<(), CliFault>
-    ensures ok { OnOk result (Replayed T.notes (R.remaining reader.old) (R.remaining reader.new)
+    ensures ok { OnOk result (Replayed T.telling (R.remaining reader.old) (R.remaining reader.new)
         (W.contents writer.old) (W.contents writer.new)) }
     ensures err { IfErr result
-        (ReplayedTo T.notes (R.remaining reader.old) (R.remaining reader.new)
+        (ReplayedTo T.telling (R.remaining reader.old) (R.remaining reader.new)
         (W.contents writer.old) (W.contents writer.new)) }
 {
     let mut script = Script::new(alloc)?;

@@ -49,10 +49,10 @@ impl<A: Allocator + Copy> Script<A> {
         reader: &mut R,
         writer: &mut W,
     ) -> Result<(), CliFault>
-        ensures ok { OnOk result (Ends T.notes
+        ensures ok { OnOk result (Ends T.telling
             (place (R.remaining reader.old) (W.contents writer.old) self.old)
             (place (R.remaining reader.new) (W.contents writer.new) self.new)) }
-        ensures err { IfErr result (Stops T.notes
+        ensures err { IfErr result (Stops T.telling
             (place (R.remaining reader.old) (W.contents writer.old) self.old)
             (place (R.remaining reader.new) (W.contents writer.new) self.new)) }
     {
@@ -67,10 +67,10 @@ impl<A: Allocator + Copy> Script<A> {
         reader: &mut R,
         writer: &mut W,
     ) -> Result<bool, CliFault>
-        ensures ok { OnOk result (Progress T.notes
+        ensures ok { OnOk result (Progress T.telling
             (place (R.remaining reader.old) (W.contents writer.old) self.old)
             (place (R.remaining reader.new) (W.contents writer.new) self.new)) }
-        ensures err { IfErr result (Stops T.notes
+        ensures err { IfErr result (Stops T.telling
             (place (R.remaining reader.old) (W.contents writer.old) self.old)
             (place (R.remaining reader.new) (W.contents writer.new) self.new)) }
         ensures end { IfOk result (λ more. more ≡ false
@@ -103,10 +103,10 @@ impl<A: Allocator + Copy> Script<A> {
     ) -> Result<bool, CliFault>
         requires short { length self.old.input.bytes ≤ LINE_LIMIT }
         requires unfinished { found_of self.old.input.bytes ≡ unfinished }
-        ensures ok { OnOk result (Progress T.notes
+        ensures ok { OnOk result (Progress T.telling
             (place (R.remaining reader.old) (W.contents writer.old) self.old)
             (place (R.remaining reader.new) (W.contents writer.new) self.new)) }
-        ensures err { IfErr result (Stops T.notes
+        ensures err { IfErr result (Stops T.telling
             (place (R.remaining reader.old) (W.contents writer.old) self.old)
             (place (R.remaining reader.new) (W.contents writer.new) self.new)) }
         ensures sent { OnOk result (self.new.output ≡ []) }
@@ -120,7 +120,7 @@ impl<A: Allocator + Copy> Script<A> {
 
     /// Answers the last line, where it lacks its line feed.
     fn answer_rest<T: Teller<A>>(&mut self, teller: &mut T) -> Result<(), CliFault>
-        ensures ok { OnOk result (EndsWith T.notes self.old.session self.old.input.bytes
+        ensures ok { OnOk result (EndsWith T.telling self.old.session self.old.input.bytes
             self.new.session self.old.output self.new.output) }
         ensures err { OnErr result (self.new.output ≡ self.old.output) }
         ensures fault { IfErr result (IsLineFault self.old.session self.old.input.bytes (self.old.line + 1)) }

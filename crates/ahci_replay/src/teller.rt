@@ -1,16 +1,18 @@
 use ahci_port::Port;
+use ahci_script::{Output, ScriptAnswer};
 use std::alloc::{AllocError, Allocator};
 
-/// Who tells what stands behind each answer of a script. Contracts see the text as a function of the port that a command has
-/// found and of the one that it has left.
+/// Who tells the answers of a script. Contracts see the text as a function of what an answer says, of the port that its
+/// command has found and of the one that it has left.
 pub trait Teller<A: Allocator> {
-    ghost use Rattle.std.specs.Prelude.{◌≡◌, IfOk, Option};
+    ghost use Rattle.std.specs.Prelude.{◌≡◌, ◌++◌, OnErr, OnOk, Option};
     ghost use Rattle.std.specs.Option.{option_copied};
     ghost use Rattle.ahci_port.specs.PortView.{PortView};
-    ghost use Rattle.ahci_replay.specs.Transcript.{Notes};
+    ghost use Rattle.ahci_script.specs.Said.{said};
+    ghost use Rattle.ahci_replay.specs.Transcript.{Telling};
 
     // The text.
-    ghost notes: { Notes };
+    ghost telling: { Telling };
 
     // It has looked at this port, or at none.
     ghost HasSeen: { Self → Option PortView → Type 0 };
@@ -19,31 +21,40 @@ pub trait Teller<A: Allocator> {
     fn look(&mut self, port: Option<&Port<A>>)
         ensures { HasSeen self.new (option_copied port.entry) };
 
-    /// The text behind the answer of a command that has left this port, whole lines or none.
+    /// Puts the text for the answer of a command that has left this port into the output: whole lines.
     ///
     /// # Errors
-    /// Where a growth was refused.
-    fn tell(&mut self, port: Option<&Port<A>>) -> Result<Vec<u8, A>, AllocError>
-        ensures { IfOk result (λ text. (before : Option PortView) → HasSeen self.old before
-            → text.items ≡ notes before (option_copied port.entry)) };
+    /// Where a growth was refused. The output is then as it was.
+    fn tell(
+        &mut self,
+        answer: &ScriptAnswer<A>,
+        port: Option<&Port<A>>,
+        output: &mut Output<A>,
+    ) -> Result<(), AllocError>
+        ensures ok { OnOk result ((before : Option PortView) → HasSeen self.old before
+            → output.new ≡ output.old ++ telling (said answer.now) before (option_copied port.entry)) }
+        ensures err { OnErr result (output.new ≡ output.old) };
 }
 
-/// Nothing stands behind an answer. The allocator is asked for nothing.
+/// Each answer is a line.
 #[derive(Drop)]
-pub(crate) struct AnswersAlone<A: Allocator> {
-    pub(crate) alloc: A,
-}
+pub(crate) struct AnswersAlone;
 
-impl<A: Allocator + Copy> Teller<A> for AnswersAlone<A> {
-    ghost use Rattle.ahci_replay.specs.Transcript.{no_notes};
+impl<A: Allocator> Teller<A> for AnswersAlone {
+    ghost use Rattle.ahci_replay.specs.Transcript.{answers_alone};
 
-    ghost notes = { no_notes };
+    ghost telling = { answers_alone };
 
     ghost HasSeen = { λ teller port. Unit {0} };
 
     fn look(&mut self, _port: Option<&Port<A>>) {}
 
-    fn tell(&mut self, _port: Option<&Port<A>>) -> Result<Vec<u8, A>, AllocError> {
-        Ok(Vec::new(self.alloc))
+    fn tell(
+        &mut self,
+        answer: &ScriptAnswer<A>,
+        _port: Option<&Port<A>>,
+        output: &mut Output<A>,
+    ) -> Result<(), AllocError> {
+        output.put(answer)
     }
 }

@@ -9,7 +9,7 @@ use Rattle.std.proofs.lemmas.List.Concat.{flat_map-cons}
 use Rattle.ahci_port.specs.PortView.{PortView}
 use Rattle.ahci_regs.specs.declared.register.Register.{Register}
 use Rattle.ahci_regs.specs.declared.register.Register.TheVariants.{Cap, Ghc, Pi, Vs, PxClb, PxClbu, PxFb, PxFbu, PxIs, PxIe, PxCmd, PxTfd, PxSig, PxSsts, PxSctl, PxSerr, PxSact, PxCi}
-use Rattle.ahci_replay.specs.Transcript.{Adds, HasRun, no_line, no_notes, one_more}
+use Rattle.ahci_replay.specs.Transcript.{Adds, HasRun, no_line, one_more}
 use Rattle.ahci_script.specs.Answers.{answer_text, hex_of}
 use Rattle.ahci_script.specs.declared.line.Line.TheVariants as line
 use Rattle.ncq_journal.specs.declared.phase.Phase.{Phase}
@@ -21,7 +21,26 @@ use Rattle.ahci_trace.specs.Lines.{AreNotes, KeepsAnswers, Noted, a_note, an_ans
 use Rattle.ahci_trace.specs.Mark.{mark_of}
 use Rattle.ahci_trace.specs.Names.{Named, bits_of, bits_text, name_of, name_text, names_text, separator}
 use Rattle.ahci_trace.specs.Sent.{SentBytes}
-use Rattle.ahci_trace.specs.Text.{bytes_text, change_text, command_text, direction, entry_text, fis_text, named_text, phase_name, plain_name, prdt_text, received_text, sent_text, slot_text, told_text, trace_notes, what_text}
+use Rattle.ahci_trace.specs.Text.{
+  bytes_text,
+  change_text,
+  command_text,
+  details_text,
+  direction,
+  entry_text,
+  fis_text,
+  kind_name,
+  named_text,
+  phase_name,
+  plain_name,
+  prdt_text,
+  received_text,
+  sent_text,
+  slot_text,
+  told_text,
+  trace_notes,
+  what_text,
+}
 use Rattle.ahci_trace.specs.Trace.{Told, told_of}
 use Rattle.ahci_trace.specs.declared.appended.Appended.{Appended}
 use Rattle.ahci_trace.specs.declared.appended.Happened.{Happened}
@@ -145,20 +164,33 @@ names-line any set (n ∷ more) h =
 bits-line : (r : Register) (word : ℕ) → is_line (bits_text r word) ≡ true
 bits-line r word = names-line false (bits word) (bits_of r) (named-bits r)
 
-what-line : (w : Happened) → is_line (what_text w) ≡ true
-what-line (what.Issue tag write lba sectors) =
+kind-line : (w : Happened) → is_line (kind_name w) ≡ true
+kind-line (what.Issue tag write lba sectors) = refl
+kind-line (what.Accept tag) = refl
+kind-line (what.Complete tag) = refl
+kind-line (what.Fail tag error lba) = refl
+kind-line (what.Recover tag) = refl
+kind-line (what.Reissue tag) = refl
+kind-line (what.Collect tag) = refl
+kind-line (what.Plain command) = plain-line command
+
+details-line : (w : Happened) → is_line (details_text w) ≡ true
+details-line (what.Issue tag write lba sectors) =
     line-append (decimal tag) (direction write ++ (decimal lba ++ (codes " " ++ decimal sectors))) (decimal-line tag)
     (line-append (direction write) (decimal lba ++ (codes " " ++ decimal sectors)) (direction-line write)
     (line-append (decimal lba) (codes " " ++ decimal sectors) (decimal-line lba) (decimal-line sectors)))
-what-line (what.Accept tag) = decimal-line tag
-what-line (what.Complete tag) = decimal-line tag
-what-line (what.Fail tag error lba) =
+details-line (what.Accept tag) = decimal-line tag
+details-line (what.Complete tag) = decimal-line tag
+details-line (what.Fail tag error lba) =
     line-append (decimal tag) (32 ∷ (hex_of 2 error ++ (codes " " ++ decimal lba))) (decimal-line tag)
     (line-append (hex_of 2 error) (codes " " ++ decimal lba) (hex-line 2 error) (decimal-line lba))
-what-line (what.Recover tag) = decimal-line tag
-what-line (what.Reissue tag) = decimal-line tag
-what-line (what.Collect tag) = decimal-line tag
-what-line (what.Plain command) = plain-line command
+details-line (what.Recover tag) = decimal-line tag
+details-line (what.Reissue tag) = decimal-line tag
+details-line (what.Collect tag) = decimal-line tag
+details-line (what.Plain command) = refl
+
+what-line : (w : Happened) → is_line (what_text w) ≡ true
+what-line w = line-append (kind_name w) (details_text w) (kind-line w) (details-line w)
 
 -- ---- a text that ends in its only line feed
 

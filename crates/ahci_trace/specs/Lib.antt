@@ -7,4 +7,5 @@ pub mod Owned
 pub mod Trace
 pub mod Names
 pub mod Text
+pub mod Json
 pub mod Lines

@@ -2,8 +2,8 @@
 use Rattle.std.specs.Prelude.{◌≡◌, ℕ, ◌==◌, Bool, true, not, List, [], ◌∷◌, ◌++◌, Option}
 use Rattle.std.specs.List.{list_all}
 use Rattle.ahci_port.specs.PortView.{PortView}
-use Rattle.ahci_replay.specs.Transcript.{Adds, no_notes}
-use Rattle.ahci_trace.specs.Text.{trace_notes}
+use Rattle.ahci_replay.specs.Transcript.{Adds, answers_alone}
+use Rattle.ahci_trace.specs.Text.{trace_text}
 
 -- no line feed is among these bytes
 abbrev pub is_line : List ℕ → Bool
@@ -21,5 +21,5 @@ pub data Noted : List ℕ → List ℕ → Type 0 where
 
 -- what a script's lines add to a trace is what they add alone, with notes behind each answer
 abbrev pub KeepsAnswers : Type 0
-KeepsAnswers = (port last : Option PortView) (lines : List (List ℕ)) (text : List ℕ) → Adds trace_notes port lines text last
-    → (answers : List ℕ) × Adds no_notes port lines answers last × Noted text answers
+KeepsAnswers = (port last : Option PortView) (lines : List (List ℕ)) (text : List ℕ) → Adds trace_text port lines text last
+    → (answers : List ℕ) × Adds answers_alone port lines answers last × Noted text answers

@@ -3,6 +3,7 @@ use Rattle.std.specs.Prelude.{ℕ, Bool, true, false, ◌||◌, if◌then◌else
 use Rattle.ahci_regs.specs.declared.register.Register.{Register}
 use Rattle.ahci_regs.specs.declared.register.Register.TheVariants.{Cap, Ghc, Pi, Vs, PxClb, PxClbu, PxFb, PxFbu, PxIs, PxIe, PxCmd, PxTfd, PxSig, PxSsts, PxSctl, PxSerr, PxSact, PxCi}
 use Rattle.word_bits.specs.Places.{bits, has_place}
+use Rattle.ahci_trace.specs.declared.named_bit.NamedBit.{NamedBit}
 
 abbrev pub name_of : Register → List ℕ
 name_of Cap = codes "CAP"
@@ -31,6 +32,10 @@ pub record Named : Type 0 where
 
 abbrev pub bit : ℕ → List ℕ → Named
 bit place name = record { place = place; name = name }
+
+-- what the code's value says
+abbrev pub named : NamedBit → Named
+named b = bit b.0 b.1.now
 
 -- PxIS and PxIE
 abbrev pub interrupt_bits : List Named

@@ -2,7 +2,8 @@
 use Rattle.std.specs.Prelude.{ℕ, Bool, true, false, List, [], ◌∷◌, ◌++◌, codes, Option, None, Some, flat_map}
 use Rattle.std.specs.Fmt.{decimal}
 use Rattle.ahci_port.specs.PortView.{PortView}
-use Rattle.ahci_script.specs.Answers.{hex_of}
+use Rattle.ahci_replay.specs.Transcript.{Telling}
+use Rattle.ahci_script.specs.Answers.{answer_text, hex_of}
 use Rattle.ncq_journal.specs.declared.phase.Phase.{Phase}
 use Rattle.ncq_journal.specs.declared.phase.Phase.TheVariants.{Free, Issued, Accepted, Rejected, Broken, Held, Done}
 use Rattle.ncq_journal.specs.declared.plain.Plain.{Plain}
@@ -44,17 +45,32 @@ abbrev pub direction : Bool → List ℕ
 direction true = codes " write "
 direction false = codes " read "
 
+-- the kind of an entry
+abbrev pub kind_name : Happened → List ℕ
+kind_name (what.Issue tag write lba sectors) = codes "issue"
+kind_name (what.Accept tag) = codes "accept"
+kind_name (what.Complete tag) = codes "complete"
+kind_name (what.Fail tag error lba) = codes "fail"
+kind_name (what.Recover tag) = codes "recover"
+kind_name (what.Reissue tag) = codes "reissue"
+kind_name (what.Collect tag) = codes "collect"
+kind_name (what.Plain command) = plain_name command
+
+-- what an entry says of its command
+abbrev pub details_text : Happened → List ℕ
+details_text (what.Issue tag write lba sectors) =
+    codes " " ++ (decimal tag ++ (direction write ++ (decimal lba ++ (codes " " ++ decimal sectors))))
+details_text (what.Accept tag) = codes " " ++ decimal tag
+details_text (what.Complete tag) = codes " " ++ decimal tag
+details_text (what.Fail tag error lba) = codes " " ++ (decimal tag ++ (32 ∷ (hex_of 2 error ++ (codes " " ++ decimal lba))))
+details_text (what.Recover tag) = codes " " ++ decimal tag
+details_text (what.Reissue tag) = codes " " ++ decimal tag
+details_text (what.Collect tag) = codes " " ++ decimal tag
+details_text (what.Plain command) = []
+
 -- what an entry says
 abbrev pub what_text : Happened → List ℕ
-what_text (what.Issue tag write lba sectors) =
-    codes "issue " ++ (decimal tag ++ (direction write ++ (decimal lba ++ (codes " " ++ decimal sectors))))
-what_text (what.Accept tag) = codes "accept " ++ decimal tag
-what_text (what.Complete tag) = codes "complete " ++ decimal tag
-what_text (what.Fail tag error lba) = codes "fail " ++ (decimal tag ++ (32 ∷ (hex_of 2 error ++ (codes " " ++ decimal lba))))
-what_text (what.Recover tag) = codes "recover " ++ decimal tag
-what_text (what.Reissue tag) = codes "reissue " ++ decimal tag
-what_text (what.Collect tag) = codes "collect " ++ decimal tag
-what_text (what.Plain command) = plain_name command
+what_text happened = kind_name happened ++ details_text happened
 
 -- a new entry, by its number
 abbrev pub entry_text : Appended → List ℕ
@@ -99,7 +115,11 @@ abbrev pub told_text : Told → List ℕ
 told_text t =
     flat_map entry_text t.entries ++ (sent_text t.sent ++ (received_text t.received ++ (flat_map change_text t.changes ++ flat_map slot_text t.slots)))
 
--- what is told behind the answer of a command that has found the first port, and has left the second; nothing before the disk
+-- the notes behind the answer of a command that has found the first port, and has left the second; there are none before the disk
 abbrev pub trace_notes : Option PortView → Option PortView → List ℕ
 trace_notes before None = []
 trace_notes before (Some port) = told_text (told_of (mark_of before) port)
+
+-- the text for an answer: its line, and the notes behind it
+abbrev pub trace_text : Telling
+trace_text said before after = answer_text said ++ 10 ∷ trace_notes before after

@@ -1,11 +1,11 @@
 -- What one command did to a port, as plain values.
-use Rattle.std.specs.Prelude.{List, Option}
+use Rattle.std.specs.Prelude.{List, [], None, Option}
 use Rattle.std.specs.Option.{option_map}
 use Rattle.ahci_port.specs.PortView.{PortView}
 use Rattle.ahci_trace.specs.Changes.{changes}
 use Rattle.ahci_trace.specs.Entries.{new_entries, newest}
 use Rattle.ahci_trace.specs.Owned.{owned_slots}
-use Rattle.ahci_trace.specs.Received.{received_by}
+use Rattle.ahci_trace.specs.Received.{nothing_received, received_by}
 use Rattle.ahci_trace.specs.Sent.{SentBytes, sent_by, shown}
 use Rattle.ahci_trace.specs.declared.appended.Appended.{Appended}
 use Rattle.ahci_trace.specs.declared.change.Change.{Change}
@@ -40,3 +40,7 @@ told_of mark port = record {
   changes = changes mark.words port.registers;
   slots = owned_slots port.past;
 }
+
+-- nothing, before the disk
+abbrev pub nothing_told : Told
+nothing_told = record { entries = []; sent = None; received = nothing_received; changes = []; slots = [] }

@@ -1,11 +1,11 @@
 ghost use Rattle.std.specs.Prelude.{◌≡◌, IfOk};
-ghost use Rattle.ahci_trace.specs.Trace.{told, told_of};
+ghost use Rattle.ahci_trace.specs.Trace.{nothing_told, told, told_of};
 
 use crate::appended::{Appended, new_entries, newest};
 use crate::change::{Change, changes};
 use crate::mark::Mark;
 use crate::owned::{OwnedSlot, owned_slots};
-use crate::received::{Received, received_by};
+use crate::received::{Received, nothing_received, received_by};
 use crate::sent::{SentCommand, sent_by};
 use ahci_port::Port;
 use std::alloc::{AllocError, Allocator, Global};
@@ -27,6 +27,19 @@ pub struct CommandTrace<A: Allocator = Global> {
 }
 
 impl<A: Allocator + Copy> CommandTrace<A> {
+    /// What there is to tell before the disk: nothing.
+    pub(crate) fn nothing(alloc: A) -> Self
+        ensures { told result ≡ nothing_told }
+    {
+        CommandTrace {
+            entries: Vec::new(alloc),
+            sent: None,
+            received: nothing_received(),
+            changes: Vec::new(alloc),
+            slots: Vec::new(alloc),
+        }
+    }
+
     /// What has been done to a port since the mark was made, by one command. The port's public calls alone are asked, and of
     /// the journal the new entries alone are looked at.
     ///

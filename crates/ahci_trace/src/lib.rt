@@ -1,12 +1,16 @@
 //! What each command of a script did to the port, told behind its answer: the journal's new entries, the bytes that were sent
-//! and received, the registers that changed, and where the owned slots stand.
+//! and received, the registers that changed, and where the owned slots stand. The same as one JSON object for each command.
 #![tactic(auto)]
 
 mod appended;
+mod as_json;
 mod change;
 mod command_trace;
+mod json_tracer;
+mod kinds;
 pub mod laws;
 mod mark;
+mod named_bit;
 mod names;
 mod owned;
 mod received;
@@ -19,6 +23,7 @@ mod words;
 pub use appended::{Appended, Happened};
 pub use change::Change;
 pub use command_trace::CommandTrace;
+pub use json_tracer::trace_json;
 pub use mark::Mark;
 pub use owned::OwnedSlot;
 pub use received::Received;

@@ -1,37 +1,86 @@
 //! A register's bits by the standard's names (AHCI 1.3.1, sections 3.1 and 3.3; ACS-3 for the bits of status and error).
 
-ghost use Rattle.std.specs.Prelude.{◌≡◌, ◌++◌, ◌||◌, false, true, IfOk, OnOk};
+ghost use Rattle.std.specs.Prelude.{◌≡◌, ◌++◌, ◌||◌, false, map, IfOk, OnOk};
 ghost use Rattle.word_bits.specs.Places.{bits, has_place};
-ghost use Rattle.ahci_trace.specs.Names.{command_bits, interrupt_bits, name_of, name_text, names_text, task_file_bits, bits_text};
+ghost use Rattle.ahci_trace.specs.Names.{bits_of, bits_text, name_of, name_text, named, names_text};
 
+use crate::named_bit::NamedBit;
 use crate::text::push;
 use ahci_regs::Register;
 use std::alloc::{AllocError, Allocator};
 use word_bits::is_set;
 
 /// A register's name.
-pub(crate) fn name_of(register: Register) -> &'static [u8]
+pub(crate) fn name_of(register: Register) -> &'static str
     ensures { result.now ≡ name_of register }
 {
     match register {
-        Register::Cap => b"CAP",
-        Register::Ghc => b"GHC",
-        Register::Pi => b"PI",
-        Register::Vs => b"VS",
-        Register::PxClb => b"PxCLB",
-        Register::PxClbu => b"PxCLBU",
-        Register::PxFb => b"PxFB",
-        Register::PxFbu => b"PxFBU",
-        Register::PxIs => b"PxIS",
-        Register::PxIe => b"PxIE",
-        Register::PxCmd => b"PxCMD",
-        Register::PxTfd => b"PxTFD",
-        Register::PxSig => b"PxSIG",
-        Register::PxSsts => b"PxSSTS",
-        Register::PxSctl => b"PxSCTL",
-        Register::PxSerr => b"PxSERR",
-        Register::PxSact => b"PxSACT",
-        Register::PxCi => b"PxCI",
+        Register::Cap => "CAP",
+        Register::Ghc => "GHC",
+        Register::Pi => "PI",
+        Register::Vs => "VS",
+        Register::PxClb => "PxCLB",
+        Register::PxClbu => "PxCLBU",
+        Register::PxFb => "PxFB",
+        Register::PxFbu => "PxFBU",
+        Register::PxIs => "PxIS",
+        Register::PxIe => "PxIE",
+        Register::PxCmd => "PxCMD",
+        Register::PxTfd => "PxTFD",
+        Register::PxSig => "PxSIG",
+        Register::PxSsts => "PxSSTS",
+        Register::PxSctl => "PxSCTL",
+        Register::PxSerr => "PxSERR",
+        Register::PxSact => "PxSACT",
+        Register::PxCi => "PxCI",
+    }
+}
+
+/// The bit of CAP.
+static CAP: [NamedBit; 1] = [NamedBit(30, "SNCQ")];
+
+/// The bit of GHC.
+static GHC: [NamedBit; 1] = [NamedBit(31, "AE")];
+
+/// The interrupts of PxIS and PxIE.
+static INTERRUPTS: [NamedBit; 5] = [
+    NamedBit(0, "DHRS"),
+    NamedBit(1, "PSS"),
+    NamedBit(2, "DSS"),
+    NamedBit(3, "SDBS"),
+    NamedBit(30, "TFES"),
+];
+
+/// The bits of PxCMD.
+static COMMAND: [NamedBit; 4] = [
+    NamedBit(0, "ST"),
+    NamedBit(4, "FRE"),
+    NamedBit(14, "FR"),
+    NamedBit(15, "CR"),
+];
+
+/// The bits of PxTFD: the status, and the error behind it.
+static TASK_FILE: [NamedBit; 7] = [
+    NamedBit(0, "ERR"),
+    NamedBit(3, "DRQ"),
+    NamedBit(6, "DRDY"),
+    NamedBit(7, "BSY"),
+    NamedBit(10, "error ABRT"),
+    NamedBit(12, "error IDNF"),
+    NamedBit(14, "error UNC"),
+];
+
+/// The bits of a register that have names, rising.
+pub(crate) fn bits_of(register: Register) -> &'static [NamedBit]
+    ensures { map named result.now ≡ bits_of register }
+{
+    match register {
+        Register::Cap => &CAP,
+        Register::Ghc => &GHC,
+        Register::PxIs | Register::PxIe => &INTERRUPTS,
+        Register::PxCmd => &COMMAND,
+        Register::PxTfd => &TASK_FILE,
+        _ => &[],
     }
 }
 
@@ -41,12 +90,12 @@ fn push_name<A: Allocator>(
     text: &mut Vec<u8, A>,
     any: bool,
     word: u32,
-    place: u8,
-    name: &[u8],
+    bit: NamedBit,
 ) -> Result<bool, AllocError>
-    ensures items { OnOk result (text.new.items ≡ text.old.items ++ name_text any (bits word) place name.now) }
-    ensures more { IfOk result (λ more. more ≡ (any || has_place (bits word) place)) }
+    ensures items { OnOk result (text.new.items ≡ text.old.items ++ name_text any (bits word) bit.0 bit.1.now) }
+    ensures more { IfOk result (λ more. more ≡ (any || has_place (bits word) bit.0)) }
 {
+    let NamedBit(place, name) = bit;
     if !is_set(word, place) {
         return Ok(any);
     }
@@ -55,44 +104,22 @@ fn push_name<A: Allocator>(
     } else {
         push(text, b"  ")?;
     }
-    push(text, name)?;
+    push(text, name.as_bytes())?;
     Ok(true)
 }
 
-/// The interrupts of PxIS and PxIE.
-fn push_interrupts<A: Allocator>(text: &mut Vec<u8, A>, word: u32) -> Result<(), AllocError>
-    ensures { OnOk result (text.new.items ≡ text.old.items ++ names_text false (bits word) interrupt_bits) }
+/// Appends the names of those of some bits that are set.
+fn push_names<A: Allocator>(
+    text: &mut Vec<u8, A>,
+    word: u32,
+    some: &[NamedBit],
+) -> Result<(), AllocError>
+    ensures { OnOk result (text.new.items ≡ text.old.items ++ names_text false (bits word) (map named some.now)) }
 {
-    let any = push_name(text, false, word, 0, b"DHRS")?;
-    let any = push_name(text, any, word, 1, b"PSS")?;
-    let any = push_name(text, any, word, 2, b"DSS")?;
-    let any = push_name(text, any, word, 3, b"SDBS")?;
-    push_name(text, any, word, 30, b"TFES")?;
-    Ok(())
-}
-
-/// The bits of PxCMD.
-fn push_command<A: Allocator>(text: &mut Vec<u8, A>, word: u32) -> Result<(), AllocError>
-    ensures { OnOk result (text.new.items ≡ text.old.items ++ names_text false (bits word) command_bits) }
-{
-    let any = push_name(text, false, word, 0, b"ST")?;
-    let any = push_name(text, any, word, 4, b"FRE")?;
-    let any = push_name(text, any, word, 14, b"FR")?;
-    push_name(text, any, word, 15, b"CR")?;
-    Ok(())
-}
-
-/// The bits of PxTFD: the status, and the error behind it.
-fn push_task_file<A: Allocator>(text: &mut Vec<u8, A>, word: u32) -> Result<(), AllocError>
-    ensures { OnOk result (text.new.items ≡ text.old.items ++ names_text false (bits word) task_file_bits) }
-{
-    let any = push_name(text, false, word, 0, b"ERR")?;
-    let any = push_name(text, any, word, 3, b"DRQ")?;
-    let any = push_name(text, any, word, 6, b"DRDY")?;
-    let any = push_name(text, any, word, 7, b"BSY")?;
-    let any = push_name(text, any, word, 10, b"error ABRT")?;
-    let any = push_name(text, any, word, 12, b"error IDNF")?;
-    push_name(text, any, word, 14, b"error UNC")?;
+    let mut any = false;
+    for bit in some {
+        any = push_name(text, any, word, *bit)?;
+    }
     Ok(())
 }
 
@@ -104,18 +131,5 @@ pub(crate) fn push_bits<A: Allocator>(
 ) -> Result<(), AllocError>
     ensures { OnOk result (text.new.items ≡ text.old.items ++ bits_text register word) }
 {
-    match register {
-        Register::Cap => {
-            push_name(text, false, word, 30, b"SNCQ")?;
-            Ok(())
-        }
-        Register::Ghc => {
-            push_name(text, false, word, 31, b"AE")?;
-            Ok(())
-        }
-        Register::PxIs | Register::PxIe => push_interrupts(text, word),
-        Register::PxCmd => push_command(text, word),
-        Register::PxTfd => push_task_file(text, word),
-        _ => Ok(()),
-    }
+    push_names(text, word, bits_of(register))
 }

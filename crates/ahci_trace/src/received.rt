@@ -22,7 +22,7 @@ pub struct Received {
 }
 
 /// No FIS.
-fn nothing_received() -> Received
+pub(crate) fn nothing_received() -> Received
     ensures { result ≡ nothing_received }
 {
     Received {

@@ -4,18 +4,18 @@ ghost use Rattle.std.specs.Prelude.{◌≡◌, ◌++◌, OnOk, IfOk};
 ghost use Rattle.std.specs.List.{flat_map};
 ghost use Rattle.std.specs.Option.{option_map};
 ghost use Rattle.ahci_trace.specs.Sent.{shown};
-ghost use Rattle.ahci_trace.specs.Text.{change_text, command_text, direction, entry_text, fis_text, phase_name, plain_name, prdt_text, received_text, sent_text, slot_text, told_text, what_text};
+ghost use Rattle.ahci_trace.specs.Text.{change_text, command_text, details_text, direction, entry_text, fis_text, prdt_text, received_text, sent_text, slot_text, told_text, what_text};
 ghost use Rattle.ahci_trace.specs.Trace.{told};
 
 use crate::appended::{Appended, Happened};
 use crate::change::Change;
 use crate::command_trace::CommandTrace;
+use crate::kinds::{kind_name, phase_name};
 use crate::names::{name_of, push_bits};
 use crate::owned::OwnedSlot;
 use crate::received::Received;
 use crate::sent::SentCommand;
 use crate::text::{push, push_byte, push_named, push_number, push_word};
-use ncq_core::{Phase, Plain};
 use std::alloc::{AllocError, Allocator};
 
 /// The text of a trace.
@@ -34,31 +34,6 @@ pub(crate) fn text_of<A: Allocator + Copy>(
     Ok(text)
 }
 
-/// The name of a command that is not queued.
-fn plain_name(plain: Plain) -> &'static [u8]
-    ensures { result.now ≡ plain_name plain }
-{
-    match plain {
-        Plain::Identify => b"identify",
-        Plain::Flush => b"flush",
-        Plain::ReadLog => b"read log",
-    }
-}
-
-fn phase_name(phase: Phase) -> &'static [u8]
-    ensures { result.now ≡ phase_name phase }
-{
-    match phase {
-        Phase::Free => b"free",
-        Phase::Issued => b"issued",
-        Phase::Accepted => b"accepted",
-        Phase::Rejected => b"rejected",
-        Phase::Broken => b"broken",
-        Phase::Held => b"held",
-        Phase::Done => b"done",
-    }
-}
-
 /// The direction of a queued command.
 fn direction(write: bool) -> &'static [u8]
     ensures { result.now ≡ direction write }
@@ -66,8 +41,8 @@ fn direction(write: bool) -> &'static [u8]
     if write { b" write " } else { b" read " }
 }
 
-fn push_what<A: Allocator>(text: &mut Vec<u8, A>, what: Happened) -> Result<(), AllocError>
-    ensures { OnOk result (text.new.items ≡ text.old.items ++ what_text what) }
+fn push_details<A: Allocator>(text: &mut Vec<u8, A>, what: Happened) -> Result<(), AllocError>
+    ensures { OnOk result (text.new.items ≡ text.old.items ++ details_text what) }
 {
     match what {
         Happened::Issue {
@@ -76,22 +51,29 @@ fn push_what<A: Allocator>(text: &mut Vec<u8, A>, what: Happened) -> Result<(), 
             lba,
             sectors,
         } => {
-            push_number(text, b"issue ", u64::from(tag))?;
+            push_number(text, b" ", u64::from(tag))?;
             push_number(text, direction(write), lba)?;
             push_number(text, b" ", sectors)
         }
-        Happened::Accept(tag) => push_number(text, b"accept ", u64::from(tag)),
-        Happened::Complete(tag) => push_number(text, b"complete ", u64::from(tag)),
+        Happened::Accept(tag)
+        | Happened::Complete(tag)
+        | Happened::Recover(tag)
+        | Happened::Reissue(tag)
+        | Happened::Collect(tag) => push_number(text, b" ", u64::from(tag)),
         Happened::Fail { tag, error, lba } => {
-            push_number(text, b"fail ", u64::from(tag))?;
+            push_number(text, b" ", u64::from(tag))?;
             push_byte(text, error)?;
             push_number(text, b" ", lba)
         }
-        Happened::Recover(tag) => push_number(text, b"recover ", u64::from(tag)),
-        Happened::Reissue(tag) => push_number(text, b"reissue ", u64::from(tag)),
-        Happened::Collect(tag) => push_number(text, b"collect ", u64::from(tag)),
-        Happened::Plain(plain) => push(text, plain_name(plain)),
+        Happened::Plain(_) => Ok(()),
     }
+}
+
+fn push_what<A: Allocator>(text: &mut Vec<u8, A>, what: Happened) -> Result<(), AllocError>
+    ensures { OnOk result (text.new.items ≡ text.old.items ++ what_text what) }
+{
+    push(text, kind_name(what).as_bytes())?;
+    push_details(text, what)
 }
 
 fn push_entry<A: Allocator>(text: &mut Vec<u8, A>, entry: Appended) -> Result<(), AllocError>
@@ -171,7 +153,7 @@ fn push_change<A: Allocator>(text: &mut Vec<u8, A>, change: Change) -> Result<()
     ensures { OnOk result (text.new.items ≡ text.old.items ++ change_text change) }
 {
     push(text, b"  ")?;
-    push(text, name_of(change.register))?;
+    push(text, name_of(change.register).as_bytes())?;
     push(text, b" ")?;
     push_word(text, change.word)?;
     push_bits(text, change.register, change.word)?;
@@ -192,7 +174,7 @@ fn push_slot<A: Allocator>(text: &mut Vec<u8, A>, slot: OwnedSlot) -> Result<(),
 {
     push_number(text, b"  slot ", u64::from(slot.tag))?;
     push(text, b" ")?;
-    push(text, phase_name(slot.phase))?;
+    push(text, phase_name(slot.phase).as_bytes())?;
     push(text, b"\n")
 }
 

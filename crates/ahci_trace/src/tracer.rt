@@ -1,12 +1,13 @@
 ghost use Rattle.std.specs.Prelude.{IfErr, OnOk};
 ghost use Rattle.ahci_replay.specs.Transcript.{Replayed, ReplayedTo};
-ghost use Rattle.ahci_trace.specs.Text.{trace_notes};
+ghost use Rattle.ahci_trace.specs.Text.{trace_text};
 
 use crate::command_trace::CommandTrace;
 use crate::mark::Mark;
 use crate::shown::text_of;
 use ahci_port::Port;
 use ahci_replay::{CliFault, Teller, replay_with};
+use ahci_script::{Output, ScriptAnswer};
 use std::alloc::{AllocError, Allocator};
 use std::io::{Read, Write};
 use std::marker::Model;
@@ -18,10 +19,10 @@ pub fn trace<R: Read, W: Write, A: Allocator + Copy>(
     reader: &mut R,
     writer: &mut W,
 ) -> Result<(), CliFault>
-    ensures ok { OnOk result (Replayed trace_notes (R.remaining reader.old) (R.remaining reader.new)
+    ensures ok { OnOk result (Replayed trace_text (R.remaining reader.old) (R.remaining reader.new)
         (W.contents writer.old) (W.contents writer.new)) }
     ensures err { IfErr result
-        (ReplayedTo trace_notes (R.remaining reader.old) (R.remaining reader.new)
+        (ReplayedTo trace_text (R.remaining reader.old) (R.remaining reader.new)
         (W.contents writer.old) (W.contents writer.new)) }
 {
     replay_with(alloc, &mut Tracer::new(alloc), reader, writer)
@@ -74,9 +75,9 @@ impl<A: Allocator + Copy> Tracer<A> {
 impl<A: Allocator + Copy> Teller<A> for Tracer<A> {
     ghost use Rattle.std.specs.Prelude.{◌≡◌};
     ghost use Rattle.ahci_trace.specs.Mark.{mark_of};
-    ghost use Rattle.ahci_trace.specs.Text.{trace_notes};
+    ghost use Rattle.ahci_trace.specs.Text.{trace_text};
 
-    ghost notes = { trace_notes };
+    ghost telling = { trace_text };
 
     ghost HasSeen = { λ tracer port. tracer ≡ mark_of port };
 
@@ -84,7 +85,13 @@ impl<A: Allocator + Copy> Teller<A> for Tracer<A> {
         self.mark = Mark::of(port);
     }
 
-    fn tell(&mut self, port: Option<&Port<A>>) -> Result<Vec<u8, A>, AllocError> {
-        self.notes(port)
+    fn tell(
+        &mut self,
+        answer: &ScriptAnswer<A>,
+        port: Option<&Port<A>>,
+        output: &mut Output<A>,
+    ) -> Result<(), AllocError> {
+        let notes = self.notes(port)?;
+        output.put_noted(answer, &notes)
     }
 }

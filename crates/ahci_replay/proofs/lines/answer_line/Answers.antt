@@ -8,7 +8,8 @@ returns-in-Some-Skip-clause-ok g c = skip_grown c.args.session.now c.args.line.n
 
 pub returns-in-Some-Run-clause-ok : goal.returns-in-Some-Run-clause-ok
 returns-in-Some-Run-clause-ok g c =
-    ran_grown g.T.Teller.notes c.answer_command.result (Line c.args.number) c.args.session.now c.answer_command.new.session c.args.line.now c.args.output.now c.answer_command.new.output c.in-Some-Run.command
+    ran_grown g.T.Teller.telling c.answer_command.result (Line c.args.number) c.args.session.now c.answer_command.new.session c.args.line.now c.args.output.now c.answer_command.new.output
+    c.in-Some-Run.command
     (search rules) c.answer_command.ensures.wrong c.answer_command.ensures.ok
 
 pub returns-in-Some-Run-clause-fault : goal.returns-in-Some-Run-clause-fault

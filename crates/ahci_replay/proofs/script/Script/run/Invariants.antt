@@ -5,7 +5,7 @@ use Rattle.ahci_replay.proofs.script.Script.run.Given as goal
 -- what was read so far is answered
 abbrev pub invariant-loop : goal.invariant-loop
 invariant-loop g l =
-    Progress g.T.Teller.notes (place (g.R.Read.remaining l.initial.reader) (g.W.Write.contents l.initial.writer) l.initial.self)
+    Progress g.T.Teller.telling (place (g.R.Read.remaining l.initial.reader) (g.W.Write.contents l.initial.writer) l.initial.self)
     (place (g.R.Read.remaining l.reader) (g.W.Write.contents l.writer) l.self)
 
 abbrev pub decreases-loop : goal.decreases-loop

@@ -50,7 +50,8 @@ returns-else-is_full-clause-ok g c =
     c.answer_line.new.session (counts s.line s.input.came) e found fed grown in
     let left = sym (c.skip.ensures.bytes ∙ ap (λ k. drop (k + 1) s.input.bytes) len) in
     let from = parts (g.R.Read.remaining c.args.reader.now) (g.W.Write.contents c.args.writer.now) s.input.bytes s.output s.session (counts s.line s.input.came) in
-    let to = λ (u : List ℕ) (k : ℕ). parts (g.R.Read.remaining c.args.reader.now) (g.W.Write.contents c.args.writer.now) u c.answer_line.new.output c.answer_line.new.session (counts (s.line + 1) k) in
+    let to = λ (u : List ℕ) (k : ℕ). parts (g.R.Read.remaining c.args.reader.now) (g.W.Write.contents c.args.writer.now) u c.answer_line.new.output c.answer_line.new.session
+    (counts (s.line + 1) k) in
     subst (λ k. Progress _ from (to c.skip.new.self.bytes k)) (sym c.skip.ensures.came) (subst (λ u. Progress _ from (to u s.input.came)) left line)
 
 pub skip-requires : goal.skip-requires

@@ -1,0 +1,121 @@
+-- What a command did as one JSON object (RFC 8259): its tokens, from the parts that the text of a trace has too.
+use Rattle.std.specs.Prelude.{ℕ, Bool, if◌then◌else◌, List, [], ◌∷◌, ◌++◌, codes, flat_map, Option, None, Some}
+use Rattle.std.specs.Fmt.{decimal}
+use Rattle.ahci_script.specs.Answers.{answer_text, hex_of}
+use Rattle.ahci_script.specs.Said.{Said}
+use Rattle.ahci_port.specs.PortView.{PortView}
+use Rattle.ahci_replay.specs.Transcript.{Telling}
+use Rattle.json.specs.Print.{print}
+use Rattle.json.specs.Token.{Token, begin_object, end_object, begin_array, end_array, key, string, number, boolean, null}
+use Rattle.ncq_journal.specs.declared.plain.Plain.TheVariants.{ReadLog}
+use Rattle.word_bits.specs.Places.{bits, has_place}
+use Rattle.ahci_trace.specs.Mark.{mark_of}
+use Rattle.ahci_trace.specs.Names.{Named, bits_of, name_of}
+use Rattle.ahci_trace.specs.Text.{kind_name, phase_name}
+use Rattle.ahci_trace.specs.Sent.{SentBytes}
+use Rattle.ahci_trace.specs.Trace.{Told, nothing_told, told_of}
+use Rattle.ahci_trace.specs.declared.appended.Appended.{Appended}
+use Rattle.ahci_trace.specs.declared.appended.Happened.{Happened}
+use Rattle.ahci_trace.specs.declared.appended.Happened.TheVariants as what
+use Rattle.ahci_trace.specs.declared.change.Change.{Change}
+use Rattle.ahci_trace.specs.declared.owned.OwnedSlot.{OwnedSlot}
+use Rattle.ahci_trace.specs.declared.received.Received.{Received}
+
+-- bytes by their hexadecimal digits, two for each
+abbrev pub hex_text : List ℕ → List ℕ
+hex_text bytes = flat_map (λ byte. hex_of 2 byte) bytes
+
+-- a member of an object: its name, and a text, a number or a truth value
+abbrev pub text_member : List ℕ → List ℕ → List Token
+text_member name text = key name ∷ string text ∷ []
+
+abbrev pub number_member : List ℕ → ℕ → List Token
+number_member name n = key name ∷ number (decimal n) ∷ []
+
+abbrev pub boolean_member : List ℕ → Bool → List Token
+boolean_member name b = key name ∷ boolean b ∷ []
+
+-- a member with an array of values
+abbrev pub list_member : List ℕ → List Token → List Token
+list_member name values = key name ∷ begin_array ∷ (values ++ end_array ∷ [])
+
+-- an object of members
+abbrev pub object : List Token → List Token
+object members = begin_object ∷ (members ++ end_object ∷ [])
+
+-- the kind of an entry, in one word
+abbrev pub kind_word : Happened → List ℕ
+kind_word (what.Plain ReadLog) = codes "read_log"
+kind_word kind = kind_name kind
+
+-- what an entry says
+unfoldable pub what_members : Happened → List Token
+what_members (what.Issue tag write lba sectors) =
+    number_member (codes "tag") tag ++ (boolean_member (codes "write") write ++ (number_member (codes "lba") lba ++ number_member (codes "sectors") sectors))
+what_members (what.Accept tag) = number_member (codes "tag") tag
+what_members (what.Complete tag) = number_member (codes "tag") tag
+what_members (what.Fail tag error lba) =
+    number_member (codes "tag") tag ++ (text_member (codes "error") (hex_of 2 error) ++ number_member (codes "lba") lba)
+what_members (what.Recover tag) = number_member (codes "tag") tag
+what_members (what.Reissue tag) = number_member (codes "tag") tag
+what_members (what.Collect tag) = number_member (codes "tag") tag
+what_members (what.Plain command) = []
+
+-- a new entry
+unfoldable pub entry_object : Appended → List Token
+entry_object e = object (number_member (codes "number") e.number ++ (text_member (codes "entry") (kind_word e.what) ++ what_members e.what))
+
+-- an entry of a PRDT
+abbrev pub prdt_value : List ℕ → List Token
+prdt_value entry = string (hex_text entry) ∷ []
+
+-- what was sent; null where nothing was
+unfoldable pub sent_value : Option SentBytes → List Token
+sent_value None = null ∷ []
+sent_value (Some sent) =
+    object (text_member (codes "header") (hex_text sent.header) ++ (text_member (codes "cfis") (hex_text sent.cfis) ++ list_member (codes "prdt") (flat_map prdt_value sent.entries)))
+
+-- a FIS by its name, where one came
+abbrev pub fis_member : List ℕ → Option (List ℕ) → List Token
+fis_member name None = []
+fis_member name (Some bytes) = text_member name (hex_text bytes)
+
+-- the FISes that came
+unfoldable pub received_object : Received → List Token
+received_object r =
+    object (fis_member (codes "dma_setup") r.setup ++ (fis_member (codes "pio_setup") r.pio
+    ++ (fis_member (codes "d2h_register") r.register ++ fis_member (codes "set_device_bits") r.bits)))
+
+-- a bit's name, where it is set
+abbrev pub bit_value : List Bool → Named → List Token
+bit_value set n = if has_place set n.place then string n.name ∷ [] else []
+
+-- a register's word, and the names of its bits
+unfoldable pub change_object : Change → List Token
+change_object c =
+    object (text_member (codes "name") (name_of c.register) ++ (text_member (codes "word") (hex_of 8 c.word)
+    ++ list_member (codes "bits") (flat_map (bit_value (bits c.word)) (bits_of c.register))))
+
+-- an owned slot
+unfoldable pub slot_object : OwnedSlot → List Token
+slot_object slot = object (number_member (codes "tag") slot.tag ++ text_member (codes "phase") (phase_name slot.phase))
+
+-- what a command did
+unfoldable pub told_members : Told → List Token
+told_members t =
+    list_member (codes "entries") (flat_map entry_object t.entries) ++ (key (codes "sent") ∷ sent_value t.sent
+    ++ (key (codes "received") ∷ received_object t.received ++ (list_member (codes "registers") (flat_map change_object t.changes)
+    ++ list_member (codes "slots") (flat_map slot_object t.slots))))
+
+-- a command's answer, and what it did
+unfoldable pub command_object : Said → Told → List Token
+command_object said t = object (text_member (codes "answer") (answer_text said) ++ told_members t)
+
+-- what a command did that has found the first port, and has left the second; nothing before the disk
+abbrev pub told_between : Option PortView → Option PortView → Told
+told_between before None = nothing_told
+told_between before (Some port) = told_of (mark_of before) port
+
+-- the text for an answer: one object, on a line
+abbrev pub json_line : Telling
+json_line said before after = print (command_object said (told_between before after)) ++ 10 ∷ []

@@ -1,0 +1,76 @@
+//! A trace as one JSON object.
+
+ghost use Rattle.std.specs.Prelude.{◌≡◌, ◌++◌, IfOk, OnOk};
+ghost use Rattle.ahci_script.specs.Said.{said};
+ghost use Rattle.json.specs.Print.{print};
+ghost use Rattle.ahci_trace.specs.Json.{command_object, told_members};
+ghost use Rattle.ahci_trace.specs.Trace.{told};
+
+mod answer;
+mod entry;
+mod hex;
+mod member;
+mod received;
+mod register;
+mod sent;
+mod slot;
+
+use crate::command_trace::CommandTrace;
+use ahci_script::ScriptAnswer;
+use answer::put_answer;
+use entry::put_entries;
+use json::Writer;
+use received::put_received;
+use register::put_registers;
+use sent::put_sent;
+use slot::put_slots;
+use std::alloc::{AllocError, Allocator};
+
+/// The text of an object for an answer and what its command did.
+pub(crate) fn json_text<A: Allocator + Copy, B: Allocator>(
+    alloc: A,
+    answer: &ScriptAnswer<B>,
+    trace: &CommandTrace<A>,
+) -> Result<Vec<u8, A>, AllocError>
+    ensures { IfOk result (λ text. text.items ≡ print (command_object (said answer.now) (told trace.now))) }
+{
+    let mut writer = Writer::new(Vec::new(alloc));
+    put_command(&mut writer, alloc, answer, trace)?;
+    Ok(writer.into_inner())
+}
+
+/// Adds an object for an answer and what its command did.
+#[tactic(auto, unfolding(crate::specs::Json::command_object))]
+fn put_command<A: Allocator + Copy, B: Allocator>(
+    writer: &mut Writer<A>,
+    alloc: A,
+    answer: &ScriptAnswer<B>,
+    trace: &CommandTrace<A>,
+) -> Result<(), AllocError>
+    ensures tokens { OnOk result (writer.new.tokens ≡ writer.old.tokens ++ command_object (said answer.now) (told trace.now)) }
+    ensures before { OnOk result (writer.new.before ≡ writer.old.before) }
+{
+    writer.begin_object()?;
+    put_answer(writer, alloc, answer)?;
+    put_told(writer, alloc, trace)?;
+    writer.end_object()
+}
+
+/// Adds what a command did.
+#[tactic(auto, unfolding(crate::specs::Json::told_members))]
+fn put_told<A: Allocator + Copy>(
+    writer: &mut Writer<A>,
+    alloc: A,
+    trace: &CommandTrace<A>,
+) -> Result<(), AllocError>
+    ensures tokens { OnOk result (writer.new.tokens ≡ writer.old.tokens ++ told_members (told trace.now)) }
+    ensures before { OnOk result (writer.new.before ≡ writer.old.before) }
+{
+    put_entries(writer, &trace.entries)?;
+    writer.key("sent")?;
+    put_sent(writer, alloc, &trace.sent)?;
+    writer.key("received")?;
+    put_received(writer, alloc, &trace.received)?;
+    put_registers(writer, &trace.changes)?;
+    put_slots(writer, &trace.slots)
+}

@@ -1,0 +1,91 @@
+ghost use Rattle.std.specs.Prelude.{◌≡◌, ◌++◌, codes, flat_map, OnOk};
+ghost use Rattle.word_bits.specs.Places.{bits};
+ghost use Rattle.ahci_trace.specs.Json.{bit_value, change_object, list_member};
+ghost use Rattle.ahci_trace.specs.Names.{bits_of, named};
+
+use super::hex::put_word;
+use super::member::put_text;
+use crate::change::Change;
+use crate::named_bit::NamedBit;
+use crate::names::{bits_of, name_of};
+use json::Writer;
+use std::alloc::{AllocError, Allocator};
+use word_bits::is_set;
+
+/// Adds a bit's name, where it is set.
+fn put_bit<A: Allocator>(writer: &mut Writer<A>, word: u32, bit: NamedBit) -> Result<(), AllocError>
+    ensures tokens { OnOk result (writer.new.tokens ≡ writer.old.tokens ++ bit_value (bits word) (named bit)) }
+    ensures before { OnOk result (writer.new.before ≡ writer.old.before) }
+{
+    let NamedBit(place, name) = bit;
+    if is_set(word, place) {
+        writer.string(name)?;
+    }
+    Ok(())
+}
+
+/// Adds the names of those of some bits that are set.
+fn put_each_bit<A: Allocator>(
+    writer: &mut Writer<A>,
+    word: u32,
+    some: &[NamedBit],
+) -> Result<(), AllocError>
+    ensures tokens { OnOk result (writer.new.tokens ≡ writer.old.tokens ++ flat_map (λ b. bit_value (bits word) (named b)) some.now) }
+    ensures before { OnOk result (writer.new.before ≡ writer.old.before) }
+{
+    for bit in some {
+        put_bit(writer, word, *bit)?;
+    }
+    Ok(())
+}
+
+/// Adds a member with the names of the bits that are set.
+#[tactic(auto, using(crate::proofs::NameLemmas::each_bit))]
+fn put_bits<A: Allocator>(writer: &mut Writer<A>, change: Change) -> Result<(), AllocError>
+    ensures tokens { OnOk result (writer.new.tokens ≡ writer.old.tokens
+        ++ list_member (codes "bits") (flat_map (bit_value (bits change.word)) (bits_of change.register))) }
+    ensures before { OnOk result (writer.new.before ≡ writer.old.before) }
+{
+    writer.key("bits")?;
+    writer.begin_array()?;
+    put_each_bit(writer, change.word, bits_of(change.register))?;
+    writer.end_array()
+}
+
+/// Adds a register's word, and the names of its bits.
+#[tactic(auto, unfolding(crate::specs::Json::change_object))]
+fn put_change<A: Allocator>(writer: &mut Writer<A>, change: Change) -> Result<(), AllocError>
+    ensures tokens { OnOk result (writer.new.tokens ≡ writer.old.tokens ++ change_object change) }
+    ensures before { OnOk result (writer.new.before ≡ writer.old.before) }
+{
+    writer.begin_object()?;
+    put_text(writer, "name", name_of(change.register))?;
+    put_word(writer, "word", change.word)?;
+    put_bits(writer, change)?;
+    writer.end_object()
+}
+
+/// Adds registers, one behind the other.
+fn put_each<A: Allocator>(writer: &mut Writer<A>, changes: &[Change]) -> Result<(), AllocError>
+    ensures tokens { OnOk result (writer.new.tokens ≡ writer.old.tokens ++ flat_map change_object changes.now) }
+    ensures before { OnOk result (writer.new.before ≡ writer.old.before) }
+{
+    for change in changes {
+        put_change(writer, *change)?;
+    }
+    Ok(())
+}
+
+/// Adds a member with the registers that changed.
+pub(crate) fn put_registers<A: Allocator>(
+    writer: &mut Writer<A>,
+    changes: &[Change],
+) -> Result<(), AllocError>
+    ensures tokens { OnOk result (writer.new.tokens ≡ writer.old.tokens ++ list_member (codes "registers") (flat_map change_object changes.now)) }
+    ensures before { OnOk result (writer.new.before ≡ writer.old.before) }
+{
+    writer.key("registers")?;
+    writer.begin_array()?;
+    put_each(writer, changes)?;
+    writer.end_array()
+}

@@ -1,0 +1,97 @@
+ghost use Rattle.std.specs.Prelude.{IfErr, OnOk};
+ghost use Rattle.ahci_replay.specs.Transcript.{Replayed, ReplayedTo};
+ghost use Rattle.ahci_trace.specs.Json.{json_line};
+
+use crate::as_json::json_text;
+use crate::command_trace::CommandTrace;
+use crate::mark::Mark;
+use ahci_port::Port;
+use ahci_replay::{CliFault, Teller, replay_with};
+use ahci_script::{Output, ScriptAnswer};
+use std::alloc::{AllocError, Allocator};
+use std::io::{Read, Write};
+
+/// Runs the script that the reader gives as `replay` does, and for each command writes one JSON object on a line: its answer,
+/// and what it did to the port. Faults are those of `replay`.
+///
+/// # Errors
+/// Those of `replay`.
+pub fn trace_json<R: Read, W: Write, A: Allocator + Copy>(
+    alloc: A,
+    reader: &mut R,
+    writer: &mut W,
+) -> Result<(), CliFault>
+    ensures ok { OnOk result (Replayed json_line (R.remaining reader.old) (R.remaining reader.new)
+        (W.contents writer.old) (W.contents writer.new)) }
+    ensures err { IfErr result
+        (ReplayedTo json_line (R.remaining reader.old) (R.remaining reader.new)
+        (W.contents writer.old) (W.contents writer.new)) }
+{
+    let mark = Mark::of_none();
+    replay_with(alloc, &mut JsonTracer { alloc, mark }, reader, writer)
+}
+
+/// Tells each answer, and what its command did, as one JSON object.
+#[derive(Drop)]
+struct JsonTracer<A: Allocator> {
+    alloc: A,
+    mark: Mark,
+}
+
+impl<A: Allocator + Copy> JsonTracer<A> {
+    ghost use Rattle.std.specs.Prelude.{◌≡◌, IfOk, Option};
+    ghost use Rattle.std.specs.Option.{option_copied};
+    ghost use Rattle.json.specs.Print.{print};
+    ghost use Rattle.ahci_port.specs.PortView.{PortView};
+    ghost use Rattle.ahci_script.specs.Said.{said};
+    ghost use Rattle.ahci_trace.specs.Json.{command_object, told_between};
+    ghost use Rattle.ahci_trace.specs.Mark.{mark_of};
+    ghost use Rattle.ahci_trace.specs.Trace.{told};
+
+    /// What a command did that has left this port.
+    fn trace(&self, port: Option<&Port<A>>) -> Result<CommandTrace<A>, AllocError>
+        ensures { IfOk result (λ trace. (before : Option PortView) → self.now.mark ≡ mark_of before
+            → told trace ≡ told_between before (option_copied port.entry)) }
+    {
+        match port {
+            None => Ok(CommandTrace::nothing(self.alloc)),
+            Some(port) => CommandTrace::of(self.alloc, &self.mark, port),
+        }
+    }
+
+    /// The object for an answer and what its command did, which has left this port.
+    fn object(
+        &self,
+        answer: &ScriptAnswer<A>,
+        port: Option<&Port<A>>,
+    ) -> Result<Vec<u8, A>, AllocError>
+        ensures { IfOk result (λ text. (before : Option PortView) → self.now.mark ≡ mark_of before
+            → text.items ≡ print (command_object (said answer.now) (told_between before (option_copied port.entry)))) }
+    {
+        json_text(self.alloc, answer, &self.trace(port)?)
+    }
+}
+
+impl<A: Allocator + Copy> Teller<A> for JsonTracer<A> {
+    ghost use Rattle.std.specs.Prelude.{◌≡◌};
+    ghost use Rattle.ahci_trace.specs.Json.{json_line};
+    ghost use Rattle.ahci_trace.specs.Mark.{mark_of};
+
+    ghost telling = { json_line };
+
+    ghost HasSeen = { λ tracer port. tracer.mark ≡ mark_of port };
+
+    fn look(&mut self, port: Option<&Port<A>>) {
+        self.mark = Mark::of(port);
+    }
+
+    fn tell(
+        &mut self,
+        answer: &ScriptAnswer<A>,
+        port: Option<&Port<A>>,
+        output: &mut Output<A>,
+    ) -> Result<(), AllocError> {
+        let text = self.object(answer, port)?;
+        output.put_text(&text)
+    }
+}

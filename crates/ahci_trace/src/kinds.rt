@@ -1,0 +1,49 @@
+//! The names of an entry's kind and of a phase.
+
+ghost use Rattle.std.specs.Prelude.{◌≡◌};
+ghost use Rattle.ahci_trace.specs.Text.{kind_name, phase_name, plain_name};
+
+use crate::appended::Happened;
+use ncq_core::{Phase, Plain};
+
+/// The name of an entry's kind.
+pub(crate) fn kind_name(what: Happened) -> &'static str
+    ensures { result.now ≡ kind_name what }
+{
+    match what {
+        Happened::Issue { .. } => "issue",
+        Happened::Accept(_) => "accept",
+        Happened::Complete(_) => "complete",
+        Happened::Fail { .. } => "fail",
+        Happened::Recover(_) => "recover",
+        Happened::Reissue(_) => "reissue",
+        Happened::Collect(_) => "collect",
+        Happened::Plain(plain) => plain_name(plain),
+    }
+}
+
+/// The name of a command that is not queued.
+pub(crate) fn plain_name(plain: Plain) -> &'static str
+    ensures { result.now ≡ plain_name plain }
+{
+    match plain {
+        Plain::Identify => "identify",
+        Plain::Flush => "flush",
+        Plain::ReadLog => "read log",
+    }
+}
+
+/// The name of a phase.
+pub(crate) fn phase_name(phase: Phase) -> &'static str
+    ensures { result.now ≡ phase_name phase }
+{
+    match phase {
+        Phase::Free => "free",
+        Phase::Issued => "issued",
+        Phase::Accepted => "accepted",
+        Phase::Rejected => "rejected",
+        Phase::Broken => "broken",
+        Phase::Held => "held",
+        Phase::Done => "done",
+    }
+}
