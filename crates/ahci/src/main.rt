@@ -9,8 +9,8 @@ ghost use Rattle.ahci_script.specs.Fault.{status_of};
 ghost use Rattle.clap.specs.Words.{kind_of};
 
 use ahci_cli::{
-    Asked, CliFault, Pick, asked, check, draw, not_text, replay, run_jobs, trace, write_identify,
-    write_log,
+    Asked, CliFault, Pick, asked, check, draw, not_text, replay, run_jobs, trace, trace_json,
+    write_identify, write_log,
 };
 use clap::error::ErrorKind;
 use std::io;
@@ -53,7 +53,7 @@ fn answer<H: Threads + Wait + Sync>(rt: &HostRuntime, threads: &H, words: &[Stri
 {
     match asked(rt.alloc(), words) {
         Ok(Asked::Replay) => script(rt),
-        Ok(Asked::Trace { .. }) => traced(rt),
+        Ok(Asked::Trace { json }) => traced(rt, json),
         Ok(Asked::Check) => checked(rt),
         Ok(Asked::Draw) => drawn(rt),
         Ok(
@@ -91,10 +91,15 @@ fn script(rt: &HostRuntime) -> ExitCode
 }
 
 /// Runs the script on standard input, and tells what each command did.
-fn traced(rt: &HostRuntime) -> ExitCode
+fn traced(rt: &HostRuntime, json: bool) -> ExitCode
     ensures { IsInputStatus (exit_status result) }
 {
-    end(rt, trace(rt.alloc(), &mut rt.stdin(), &mut rt.stdout()))
+    let outcome = if json {
+        trace_json(rt.alloc(), &mut rt.stdin(), &mut rt.stdout())
+    } else {
+        trace(rt.alloc(), &mut rt.stdin(), &mut rt.stdout())
+    };
+    end(rt, outcome)
 }
 
 /// Judges the lines of the script on standard input.

@@ -8,6 +8,6 @@ pub use ahci_args::{Asked, Pick, asked, not_text};
 pub use ahci_check::check;
 pub use ahci_draw::draw;
 pub use ahci_replay::{CliFault, replay};
-pub use ahci_trace::trace;
+pub use ahci_trace::{trace, trace_json};
 pub use jobs::run_jobs;
 pub use pages::{write_identify, write_log};

@@ -10,7 +10,7 @@ use ahci_driver::Low;
 use ahci_jobs::run_jobs;
 use ahci_replay::replay;
 use ahci_script::CliFault;
-use ahci_trace::trace;
+use ahci_trace::{trace, trace_json};
 use ata_pages::{PageFault, write_identify, write_log};
 use std::fs;
 use std::rt::Files;
@@ -38,6 +38,9 @@ static SCRIPTS: [&str; 14] = [
 
 /// The scripts whose whole trace is in `NAME.trace`.
 static TRACED: [&str; 2] = ["error_in_a_queue", "registers"];
+
+/// The scripts whose trace as JSON is in `NAME.json`.
+static LISTED: [&str; 1] = ["error_in_a_queue"];
 
 /// The scripts whose picture is in `NAME.svg`.
 static DRAWN: [&str; 1] = ["error_in_a_queue"];
@@ -85,6 +88,10 @@ fn main(rt: HostRuntime) -> anyhow::Result<()> {
     for name in TRACED {
         let file = format!(in rt.alloc(); "{name}.trace")?;
         tell(&rt, file.as_str(), is_trace_as_expected(&rt, name)?)?;
+    }
+    for name in LISTED {
+        let file = format!(in rt.alloc(); "{name}.json")?;
+        tell(&rt, file.as_str(), is_json_as_expected(&rt, name)?)?;
     }
     for name in DRAWN {
         let file = format!(in rt.alloc(); "{name}.svg")?;
@@ -147,6 +154,17 @@ fn is_trace_as_expected(rt: &HostRuntime, name: &str) -> anyhow::Result<bool> {
     let mut reader = script.as_slice();
     let mut written = Vec::new(alloc);
     let outcome = trace(alloc, &mut reader, &mut written);
+    Ok(outcome == Ok(()) && written.as_slice() == expected.as_slice())
+}
+
+/// Whether the trace as JSON is that of `NAME.json`.
+fn is_json_as_expected(rt: &HostRuntime, name: &str) -> anyhow::Result<bool> {
+    let alloc = rt.alloc();
+    let script = fs::read(rt, format!(in alloc; "{name}.ahci")?)?;
+    let expected = fs::read(rt, format!(in alloc; "{name}.json")?)?;
+    let mut reader = script.as_slice();
+    let mut written = Vec::new(alloc);
+    let outcome = trace_json(alloc, &mut reader, &mut written);
     Ok(outcome == Ok(()) && written.as_slice() == expected.as_slice())
 }
 

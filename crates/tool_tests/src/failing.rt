@@ -1,8 +1,9 @@
-//! A trace, a picture and a check of one script where memory, the input or the output fails.
+//! A trace, as text and as JSON, a picture and a check of one script where memory, the input or the output fails.
 use ahci_check::check;
 use ahci_draw::draw;
 use ahci_script::CliFault;
-use ahci_trace::trace;
+use ahci_trace::{trace, trace_json};
+use json::{Scratch, is_valid};
 use refusing_allocator::{Refusals, Refusing};
 use std::alloc::Allocator;
 use std::io;
@@ -13,11 +14,12 @@ use std::test::Fail;
 #[derive(Clone, Copy, Debug, PartialEq, Eq)]
 enum Tool {
     Trace,
+    Json,
     Draw,
     Check,
 }
 
-static TOOLS: [Tool; 3] = [Tool::Trace, Tool::Draw, Tool::Check];
+static TOOLS: [Tool; 4] = [Tool::Trace, Tool::Json, Tool::Draw, Tool::Check];
 
 /// The port refuses its last command, of which a check tells.
 static SCRIPT: &[u8] =
@@ -32,10 +34,26 @@ impl Tool {
     ) -> Result<(), CliFault> {
         match self {
             Tool::Trace => trace(alloc, reader, writer),
+            Tool::Json => trace_json(alloc, reader, writer),
             Tool::Draw => draw(alloc, reader, writer),
             Tool::Check => check(alloc, reader, writer).map(|_| ()),
         }
     }
+}
+
+#[test]
+fn each_line_of_a_trace_as_json_is_one_value(rt: HostRuntime) -> Result<(), Fail> {
+    let mut written = Vec::new(rt.alloc());
+    let mut reader = SCRIPT;
+    assert!(rt; trace_json(rt.alloc(), &mut reader, &mut written) == Ok(()));
+    let text = std::str::from_utf8(written.as_slice())?;
+    let mut lines = 0;
+    for line in text.lines() {
+        assert!(rt; is_valid(line, &mut Scratch::new(rt.alloc()))?, "{line}");
+        lines += 1;
+    }
+    assert_eq!(rt; lines, 6);
+    Ok(())
 }
 
 #[test]
