@@ -47,10 +47,10 @@ fn each_line_of_a_trace_as_json_is_one_value(rt: HostRuntime) -> Result<(), Fail
     let mut reader = SCRIPT;
     assert!(rt; trace_json(rt.alloc(), &mut reader, &mut written) == Ok(()));
     let text = std::str::from_utf8(written.as_slice())?;
-    let mut lines = 0;
+    let mut lines: usize = 0;
     for line in text.lines() {
         assert!(rt; is_valid(line, &mut Scratch::new(rt.alloc()))?, "{line}");
-        lines += 1;
+        lines = lines.saturating_add(1);
     }
     assert_eq!(rt; lines, 6);
     Ok(())

@@ -367,8 +367,8 @@ const REFUSED: u32 = 0x3DFF;
 fn the_port_agrees_with_its_journal(rt: HostRuntime) -> Result<(), Fail> {
     for (depth, taken) in [(1, 0x23BF), (4, TAKEN), (32, TAKEN)] {
         let mut kinds = (0, 0);
-        for seed in 1..=4 {
-            kinds = run(&rt, rt.alloc(), seed, (depth, 200), kinds)?;
+        for seed in 1..=8 {
+            kinds = run(&rt, rt.alloc(), seed, (depth, 150), kinds)?;
         }
         equal(&rt, depth as usize, &kinds, &(taken, REFUSED));
     }
