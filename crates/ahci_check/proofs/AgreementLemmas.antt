@@ -1,43 +1,5 @@
 -- The words of a line are sound exactly where it is a line of the language.
-use Rattle.std.proofs.Common.{
-  ◌≡◌,
-  ℕ,
-  zero,
-  suc,
-  ◌+◌,
-  ◌-◌,
-  ◌≤◌,
-  ◌==◌,
-  ◌&&◌,
-  ◌||◌,
-  Bool,
-  true,
-  false,
-  cond,
-  not,
-  nat_le,
-  List,
-  [],
-  ◌∷◌,
-  Option,
-  Some,
-  None,
-  Result,
-  Ok,
-  Err,
-  IfSome,
-  is_ok,
-  is_some,
-  codes,
-  length,
-  option_and_then,
-  option_map,
-  refl,
-  sym,
-  ap,
-  ◌∙◌,
-  arith,
-}
+use Rattle.std.proofs.Common.{◌≡◌, ℕ, zero, suc, ◌+◌, ◌-◌, ◌==◌, ◌&&◌, ◌||◌, Bool, true, false, cond, not, nat_le, List, [], ◌∷◌, Option, Some, None, Result, Ok, Err, IfSome, is_ok, is_some, codes, length, option_and_then, option_map, refl, sym, ap, ◌∙◌, arith}
 use Rattle.std.proofs.lemmas.Bool.{le-leb, leb-false, leb-true, lt-leb}
 use Rattle.std.specs.Str.{bytes_eq}
 use Rattle.ahci_script.specs.HexBytes.{header_of, hex_bytes_of}
@@ -75,7 +37,7 @@ use Rattle.ahci_script.specs.declared.line.Line.TheVariants.{Skip, Run}
 use Rattle.ahci_script.specs.declared.line.ScriptCommand.{ScriptCommand}
 use Rattle.ahci_script.specs.declared.line.ScriptCommand.TheVariants.{Disk, Write, Read, Raw, Accept, Serve, Fail, Collect, Recover, Reissue, Reg, Ack, Identify, Flush, Show, Journal, Trim}
 use Rattle.ahci_script.proofs.WordsLemmas.{words_of-cut, words_of-whole}
-use Rattle.ahci_check.specs.Breaches.{◌>>=◌, behind, behind_cut, last_of, sound, tags_at, tags_of, word_at, word_of}
+use Rattle.ahci_check.specs.Breaches.{◌>>=◌, behind_cut, last_of, sound, tags_at, tags_of, word_at, word_of}
 use Rattle.ahci_check.specs.Commands.{
   Words,
   collect_words,

@@ -1,5 +1,5 @@
 -- Lemmas about lists of tags, word by word.
-use Rattle.std.proofs.Common.{◌≡◌, ℕ, zero, suc, ◌-◌, ◌<◌, Bool, true, false, cond, List, Option, Some, None, Result, Ok, Err, refl, sym, ap, ◌∙◌, arith}
+use Rattle.std.proofs.Common.{◌≡◌, ℕ, zero, suc, ◌<◌, Bool, true, false, cond, List, Option, Some, None, Result, Ok, Err, refl, ap, ◌∙◌, arith}
 use Rattle.ahci_script.specs.Words.{cut_of}
 use Rattle.ahci_check.specs.Breaches.{behind_cut, breach_at, last_of, tags_at, tags_of, word_at, word_of}
 use Rattle.ahci_check.specs.Kinds.{broken, spells}

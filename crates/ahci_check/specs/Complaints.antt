@@ -1,5 +1,5 @@
 -- What there is to say of a line, and whether a disk stands behind it.
-use Rattle.std.specs.Prelude.{◌≡◌, ℕ, ◌+◌, ◌-◌, ◌^◌, ◌≤◌, ◌==◌, Bool, true, false, List, [], Option, Some, None, Result, Ok, Err, option_map, is_none, length, nat_le, nat_lt, if◌then◌else◌}
+use Rattle.std.specs.Prelude.{ℕ, ◌+◌, ◌-◌, ◌^◌, ◌≤◌, ◌==◌, Bool, true, false, List, Option, Some, None, Ok, Err, option_map, is_none, length, nat_le, nat_lt, if◌then◌else◌}
 use Rattle.std.specs.Option.{unwrap_or}
 use Rattle.ahci_script.specs.Lines.{line_of}
 use Rattle.ahci_script.specs.declared.line.Line.{Line}

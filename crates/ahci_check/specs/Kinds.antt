@@ -1,5 +1,5 @@
 -- What the words of commands have to spell, and the rule that a word breaks which doesn't.
-use Rattle.std.specs.Prelude.{ℕ, Bool, List, [], ◌∷◌, Option, Some, None, is_some, length, nat_le, if◌then◌else◌}
+use Rattle.std.specs.Prelude.{ℕ, Bool, List, [], ◌∷◌, Option, Some, is_some, length, nat_le, if◌then◌else◌}
 use Rattle.std.specs.Char.{is_ascii_digit}
 use Rattle.std.specs.List.{list_all}
 use Rattle.ahci_script.specs.HexBytes.{header_of, hex_bytes_of, is_hex_digit}

@@ -1,5 +1,5 @@
 -- The complaints about the lines of a script, from the first line on.
-use Rattle.std.specs.Prelude.{◌≡◌, ℕ, ◌+◌, Bool, true, false, ◌||◌, List, [], ◌∷◌, ◌++◌, Option, Some, None, fold, is_some, length, take, ◌⊎◌}
+use Rattle.std.specs.Prelude.{◌≡◌, ℕ, ◌+◌, Bool, false, ◌||◌, List, [], ◌∷◌, ◌++◌, Option, Some, None, fold, is_some, length, take, ◌⊎◌}
 use Rattle.std.specs.Io.KnownBytes.{Appends, Consumes, IsAtEnd}
 use Rattle.ahci_script.specs.Unread.{Begins, MayFail, found_of, line_limit, too_long, unfinished, whole, with_feeds}
 use Rattle.ahci_script.specs.declared.fault.CliFault.{CliFault}

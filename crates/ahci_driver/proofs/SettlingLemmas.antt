@@ -17,7 +17,7 @@ use Rattle.ncq_journal.proofs.AnsweredLemmas.{no_answer_yet}
 use Rattle.std.proofs.lemmas.Option.{slice_get-map, slice_get_read, slice_get_within, get_or_from_slice_get}
 use Rattle.ncq_journal.specs.declared.op.Op.{Op}
 use Rattle.ncq_journal.specs.Work.{Work, work_of}
-use Rattle.ncq_journal.specs.Numbering.{answer_numbered, number_of, place_of}
+use Rattle.ncq_journal.specs.Numbering.{answer_numbered, number_of}
 use Rattle.ncq_journal.proofs.NumberLemmas.{none_below_first, none_from_end, place_from}
 use Rattle.ahci_port.specs.PortView.{PortView}
 use Rattle.ahci_driver.specs.declared.receipt.Receipt.{Receipt}

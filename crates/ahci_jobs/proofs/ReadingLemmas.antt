@@ -1,67 +1,14 @@
 -- Lemmas about how a job list is read.
-use Rattle.std.proofs.Common.{
-  ◌≡◌,
-  ℕ,
-  ◌+◌,
-  ◌<◌,
-  Bool,
-  true,
-  false,
-  List,
-  [],
-  ◌∷◌,
-  ◌++◌,
-  Option,
-  Some,
-  None,
-  MatchBool,
-  Result,
-  Ok,
-  Err,
-  IfErr,
-  OnErr,
-  OnOk,
-  length,
-  take,
-  drop,
-  refl,
-  sym,
-  ap,
-  ◌∙◌,
-  subst,
-  inl,
-  inr,
-  append_assoc,
-  append-nil,
-  length-append,
-  arith,
-}
+use Rattle.std.proofs.Common.{◌≡◌, ℕ, ◌+◌, Bool, true, false, List, [], ◌∷◌, ◌++◌, Option, Some, MatchBool, Result, Ok, Err, IfErr, OnErr, OnOk, length, take, drop, refl, sym, ap, ◌∙◌, subst, inr, append_assoc, append-nil, length-append, arith}
 use Rattle.std.proofs.KnownBytes.{Consumes-nil, Consumes-trans}
 use Rattle.std.specs.Io.KnownBytes.{Consumes, IsAtEnd}
 use Rattle.ahci_script.proofs.FoundLemmas.{Bytes, cut_at_feed, with_feeds-append}
 use Rattle.ahci_script.specs.Jobs.{job_line_of}
-use Rattle.ahci_script.specs.Unread.{Grows, MayFail, Unread, found_of, line_end, too_long, unfinished, whole, with_feeds}
+use Rattle.ahci_script.specs.Unread.{Grows, MayFail, Unread, found_of, line_end, unfinished, whole, with_feeds}
 use Rattle.ahci_script.specs.declared.fault.CliFault.{CliFault}
 use Rattle.ahci_script.specs.declared.fault.CliFault.TheVariants.{Line, Job, Read, Write, Unsettled, Lost, OutOfMemory}
-use Rattle.ahci_script.specs.declared.job.JobLine.{JobLine}
-use Rattle.ahci_script.specs.declared.job.JobLine.TheVariants.{Skip, Do}
 use Rattle.ncq_journal.specs.Work.{Work}
-use Rattle.ahci_jobs.specs.JobList.{
-  AreGood,
-  IsBad,
-  IsBadNext,
-  IsFaulty,
-  IsGood,
-  IsLineFault,
-  IsListFault,
-  IsListed,
-  IsNext,
-  ListedFirst,
-  asked_in,
-  commands_of,
-  no_line,
-  one_more,
-}
+use Rattle.ahci_jobs.specs.JobList.{AreGood, IsBadNext, IsFaulty, IsGood, IsLineFault, IsListFault, IsListed, IsNext, ListedFirst, asked_in, commands_of, no_line, one_more}
 use Rattle.ahci_jobs.specs.Reading.{Ends, Reads, Stand, Stops}
 
 abbrev pub Known : Type 0

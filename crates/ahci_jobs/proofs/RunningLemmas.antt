@@ -1,34 +1,5 @@
 -- Lemmas about the run of a job list.
-use Rattle.std.proofs.Common.{
-  ◌≡◌,
-  ◌≢◌,
-  ℕ,
-  zero,
-  suc,
-  ◌<◌,
-  List,
-  [],
-  ◌∷◌,
-  ◌++◌,
-  Option,
-  None,
-  Some,
-  IsSomeAnd,
-  Result,
-  Ok,
-  Err,
-  IfErr,
-  OnErr,
-  length,
-  sym,
-  subst,
-  ap,
-  ◌∙◌,
-  inl,
-  inr,
-  refl,
-  arith,
-}
+use Rattle.std.proofs.Common.{◌≡◌, ℕ, zero, suc, ◌<◌, List, [], ◌∷◌, ◌++◌, Option, None, Some, IsSomeAnd, Result, Ok, Err, IfErr, OnErr, length, sym, subst, ap, inl, inr, refl, arith}
 use Rattle.std.specs.List.{slice_get}
 use Rattle.ahci_driver.specs.Received.{Received}
 use Rattle.ahci_driver.specs.Running.{HasRun, IsFirstBad, IsGivenUp, IsLate, ProperBelow}
@@ -46,7 +17,7 @@ use Rattle.ahci_script.proofs.FoundLemmas.{Bytes}
 use Rattle.ahci_jobs.proofs.ReadingLemmas.{Known}
 use Rattle.ahci_jobs.specs.JobList.{AreGood, IsGood, IsListFault, IsListed, asked_in, command_for, commands_of, no_line, one_more}
 use Rattle.ahci_jobs.specs.Results.{IsTold, SaysPart, run_text}
-use Rattle.ahci_jobs.specs.RunJobs.{EndsRun, HasDone, IsUndone, blank_port}
+use Rattle.ahci_jobs.specs.RunJobs.{EndsRun, IsUndone, blank_port}
 
 -- all of these commands can be issued
 abbrev pub AllProper : List Work → Type 0

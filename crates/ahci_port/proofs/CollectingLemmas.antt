@@ -1,5 +1,5 @@
 -- What a request that can be collected has.
-use Rattle.std.proofs.Common.{◌≡◌, ℕ, ◌/◌, ◌<◌, Bool, true, false, cond, List, length, nat_eq, ap, sym, refl, subst, ◌∙◌, Option, None, Some, is_some, arith, inl, inr}
+use Rattle.std.proofs.Common.{◌≡◌, ℕ, ◌/◌, ◌<◌, Bool, true, false, cond, List, length, nat_eq, ap, sym, refl, ◌∙◌, Option, None, Some, is_some, arith, inl, inr}
 use Rattle.std.specs.Option.{option_and_then, option_map, IsSome}
 use Rattle.std.proofs.lemmas.Bool.{eqb-true, false≢true, cases_lt}
 use Rattle.std.proofs.lemmas.List.{get_or_past}
@@ -16,7 +16,6 @@ use Rattle.ncq_journal.specs.Entry.{Entry, Collect}
 use Rattle.ncq_journal.specs.Laws.{is_answered}
 use Rattle.ncq_journal.specs.Numbering.{answer_numbered, number_of, place_of}
 use Rattle.ncq_journal.specs.Phase.{phase}
-use Rattle.ncq_journal.specs.Request.{request}
 use Rattle.ncq_journal.proofs.AnsweredLemmas.{answered_by_phase}
 use Rattle.ncq_journal.proofs.NumberLemmas.{place_from}
 use Rattle.ncq_journal.proofs.OwedLemmas.{owed_moves}
@@ -25,7 +24,6 @@ use Rattle.ahci_port.specs.Keeping.{Keeps, HasSlot, slot_at}
 use Rattle.ahci_port.specs.PortView.{PortView, owner_of}
 use Rattle.ahci_port.specs.Slots.{SlotState, answer_in, bytes_in}
 use Rattle.ahci_port.specs.declared.ended.Ended.{Ended}
-use Rattle.ahci_port.specs.declared.fault.CollectFault.{CollectFault}
 use Rattle.ahci_port.specs.declared.fault.CollectFault.TheVariants.{Stranger, NotYet}
 use Rattle.ahci_port.proofs.AnswerLemmas.{answer_within}
 use Rattle.ahci_port.proofs.ReadingLemmas.{owner, owner_here}

@@ -1,11 +1,9 @@
 -- What the slots say of what requests read.
-use Rattle.std.proofs.Common.{◌≡◌, ◌≢◌, ℕ, ◌*◌, Bool, true, false, cond, List, ap, sym, refl, ◌∙◌, Option, None, Some}
-use Rattle.ahci_table.specs.Command.{op, queued_of}
+use Rattle.std.proofs.Common.{◌≡◌, ℕ, ◌*◌, cond, List, ap, sym, ◌∙◌, Option, None, Some}
+use Rattle.ahci_table.specs.Command.{op}
 use Rattle.ncq_journal.specs.Entry.{Entry}
-use Rattle.ncq_journal.specs.Image.{is_write}
-use Rattle.ncq_journal.specs.Phase.{phase}
 use Rattle.ncq_journal.specs.Request.{request}
-use Rattle.ncq_journal.specs.Work.{Work, Read, Write, sectors_of}
+use Rattle.ncq_journal.specs.Work.{Work, Read, Write}
 use Rattle.ahci_port.specs.Keeping.{HasSlot, IsOf}
 use Rattle.ahci_port.specs.Looking.{read_of, read_by, read_length}
 use Rattle.ahci_port.specs.PortView.{is_free}

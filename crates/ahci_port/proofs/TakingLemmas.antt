@@ -1,6 +1,5 @@
 -- What a port keeps when the disk takes a command, or refuses it.
 use Rattle.std.proofs.Common.{◌≡◌, ℕ, ◌+◌, ◌/◌, ◌^◌, ◌<◌, ◌≤◌, max, Bool, true, false, not, ◌&&◌, cond, ◌==◌, List, ◌∷◌, length, set, ap, sym, refl, subst, ◌∙◌, Option, None, Some, arith}
-use Rattle.std.specs.Prelude.{IfSome}
 use Rattle.std.proofs.lemmas.Bool.{ltb-true}
 use Rattle.ahci_regs.specs.PortState.{PortState}
 use Rattle.ahci_regs.specs.Receiving.{has_error, after_register}
@@ -41,7 +40,7 @@ use Rattle.ahci_port.specs.declared.step.DeviceStep.TheVariants as step
 use Rattle.ahci_port.specs.declared.step.Stepped.{Stepped}
 use Rattle.ahci_port.specs.declared.step.Stepped.TheVariants.{Accepted, Failed}
 use Rattle.word_bits.specs.Places.{bits, places}
-use Rattle.ahci_port.specs.Keeping.{Keeps, slot_at}
+use Rattle.ahci_port.specs.Keeping.{Keeps}
 use Rattle.ahci_port.specs.Moves.{fis_of, refuses, taken_entry, taken_slot, taken_step, failed_slot, accepted_slot}
 use Rattle.ahci_port.specs.Slots.{SlotState, outstanding_in}
 use Rattle.ahci_port.specs.Registers as registers

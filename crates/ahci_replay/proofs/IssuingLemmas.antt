@@ -1,5 +1,5 @@
 -- What stands against a script's command: its count, its address, and then what the port says.
-use Rattle.std.proofs.Common.{◌≡◌, ◌≢◌, ℕ, ◌*◌, ◌^◌, Bool, true, false, cond, ◌||◌, Option, Some, None, Ok, IfErr, IsErrAnd, MatchOption, length, nat_eq, nat_le, nat_lt, refl, sym, ap, ◌∙◌, subst}
+use Rattle.std.proofs.Common.{◌≡◌, ◌≢◌, ℕ, ◌*◌, ◌^◌, Bool, true, false, cond, ◌||◌, Option, Some, None, Ok, IfErr, IsErrAnd, MatchOption, nat_eq, nat_le, nat_lt, refl, sym, ap, ◌∙◌, subst}
 use Rattle.std.specs.Option.{option_map}
 use Rattle.std.proofs.lemmas.Bool.{true≢false, le-leb, lt-leb}
 use Rattle.ahci_replay.specs.Refusals.{issue_refusal, joined, of_issue}

@@ -1,55 +1,9 @@
 -- What is written into a new window.
-use Rattle.std.proofs.Common.{
-  ◌≡◌,
-  ℕ,
-  ◌+◌,
-  ◌-◌,
-  ◌*◌,
-  ◌<◌,
-  ◌≤◌,
-  zero,
-  suc,
-  max,
-  ◌%◌,
-  true,
-  false,
-  nat_eq,
-  List,
-  [],
-  ◌∷◌,
-  ◌++◌,
-  length,
-  take,
-  drop,
-  replicate,
-  get_or,
-  ap,
-  sym,
-  refl,
-  subst,
-  ◌∙◌,
-  arith,
-  inl,
-  inr,
-}
+use Rattle.std.proofs.Common.{◌≡◌, ℕ, ◌+◌, ◌-◌, ◌*◌, ◌<◌, ◌≤◌, zero, suc, max, ◌%◌, true, false, nat_eq, List, [], ◌∷◌, ◌++◌, length, take, drop, replicate, get_or, ap, sym, refl, subst, ◌∙◌, arith}
 use Rattle.std.specs.List.{All, flat_map}
 use Rattle.std.proofs.lemmas.Bool.{eqb-true}
 use Rattle.std.proofs.lemmas.Grind.{flat_map-append}
-use Rattle.std.proofs.lemmas.List.{
-  append_assoc,
-  take_more,
-  append-nil,
-  length-append,
-  length-replicate,
-  drop_all,
-  take_at,
-  drop-replicate,
-  take-replicate,
-  replicate-append-replicate,
-  get_or-replicate,
-  get_or_past,
-  get_or-append_right,
-}
+use Rattle.std.proofs.lemmas.List.{append_assoc, take_more, append-nil, length-append, length-replicate, drop_all, take_at, drop-replicate, take-replicate, replicate-append-replicate, get_or_past}
 use Rattle.sata_fis.specs.Command.{h2d_for}
 use Rattle.sata_fis.specs.Encoding.{h2d_bytes}
 use Rattle.ncq_journal.specs.Work.{Work, Write, sectors_of}

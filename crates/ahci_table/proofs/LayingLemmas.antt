@@ -1,51 +1,7 @@
 -- A window whose data are laid piece by piece is one whose pieces held zeros before the data were copied in.
-use Rattle.std.proofs.Common.{
-  ◌≡◌,
-  ℕ,
-  ◌+◌,
-  ◌-◌,
-  ◌<◌,
-  ◌≤◌,
-  max,
-  true,
-  false,
-  leb,
-  ltb,
-  List,
-  [],
-  ◌∷◌,
-  ◌++◌,
-  length,
-  take,
-  drop,
-  replicate,
-  get_or,
-  ap,
-  sym,
-  refl,
-  subst,
-  ◌∙◌,
-  arith,
-  inl,
-  inr,
-}
+use Rattle.std.proofs.Common.{◌≡◌, ℕ, ◌+◌, ◌-◌, ◌≤◌, max, true, false, leb, ltb, List, [], ◌∷◌, ◌++◌, length, take, drop, replicate, get_or, ap, sym, refl, subst, ◌∙◌, arith, inl, inr}
 use Rattle.std.proofs.lemmas.Bool.{cases_lt, and_parts, and_from, or_parts, le-leb, lt-ltb, leb-true, false≢true}
-use Rattle.std.proofs.lemmas.List.{
-  append_assoc,
-  append-nil,
-  length-append,
-  length-replicate,
-  length-take-le,
-  length-drop,
-  take-append-drop,
-  take_at,
-  nil_from_length,
-  drop_at,
-  get_or-replicate,
-  get_or_past,
-  get_or_append_left,
-  get_or-append_right,
-}
+use Rattle.std.proofs.lemmas.List.{append_assoc, length-append, length-replicate, length-take-le, length-drop, take-append-drop, take_at, nil_from_length, drop_at, get_or-replicate, get_or_past, get_or_append_left, get_or-append_right}
 use Rattle.ahci_table.specs.declared.piece.Piece.{Piece}
 use Rattle.ahci_table.specs.Laying.{laid, rises}
 use Rattle.ahci_table.specs.Piece.{covers, end_of, furthest, total}

@@ -2,7 +2,6 @@ use Rattle.std.proofs.Common.{map, subst, sym}
 use Rattle.ncq_journal.specs.Work.{work_of}
 use Rattle.ahci_driver.specs.Received.{received_of}
 use Rattle.ahci_script.proofs.FoundLemmas.{on_ok_from}
-use Rattle.ahci_script.specs.declared.fault.CliFault.TheVariants.{OutOfMemory}
 use Rattle.ahci_jobs.specs.JobList.{IsListed}
 use Rattle.ahci_jobs.proofs.RunningLemmas.{AllProper, ends_telling, listed_proper}
 use Rattle.ahci_jobs.proofs.running.run_jobs.Goals as goal

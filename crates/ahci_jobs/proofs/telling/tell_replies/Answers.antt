@@ -1,6 +1,6 @@
 use Rattle.std.proofs.Common.{◌+◌, ◌++◌, map, take, ap, ◌∙◌, subst}
 use Rattle.ahci_driver.specs.Received.{received_of}
-use Rattle.ahci_jobs.specs.Results.{Says, SaysPart, fed, line_for, replies_text}
+use Rattle.ahci_jobs.specs.Results.{Says, SaysPart, fed, replies_text}
 use Rattle.ahci_jobs.proofs.TellingLemmas.{Says-trans, on_err_from, part_after, replies_more, replies_part}
 use Rattle.ahci_jobs.proofs.telling.tell_replies.Goals as goal
 

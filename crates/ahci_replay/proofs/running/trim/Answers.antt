@@ -1,5 +1,4 @@
 use Rattle.ahci_port.specs.Faults.{trim_refusal}
-use Rattle.ahci_port.specs.Steps.{trimmed}
 use Rattle.ahci_script.specs.Said as says
 use Rattle.ahci_replay.specs.Refusals.{of_trim}
 use Rattle.std.proofs.Common.{ap, ◌∙◌, length}

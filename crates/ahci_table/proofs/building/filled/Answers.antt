@@ -1,5 +1,5 @@
 -- The bytes behind the table are zeros until a write's data are copied in.
-use Rattle.std.proofs.Common.{◌≡◌, ◌≤◌, ◌-◌, ◌++◌, length, replicate, ap, ◌∙◌}
+use Rattle.std.proofs.Common.{◌≡◌, ◌≤◌, ◌-◌, length, ap, ◌∙◌}
 use Rattle.std.proofs.lemmas.List.{with_items_is}
 use Rattle.ncq_journal.specs.Work.{work_of}
 use Rattle.ahci_table.specs.Piece.{furthest}

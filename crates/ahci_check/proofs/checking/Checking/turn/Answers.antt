@@ -1,4 +1,4 @@
-use Rattle.std.proofs.Common.{ℕ, ◌+◌, List, drop, refl, sym, ap, ◌∙◌, subst, inl}
+use Rattle.std.proofs.Common.{ℕ, ◌+◌, List, drop, sym, ap, ◌∙◌, subst, inl}
 use Rattle.ahci_script.proofs.FoundLemmas.{found_line, if_err_from}
 use Rattle.ahci_script.specs.Unread.{Unread}
 use Rattle.ahci_script.specs.declared.fault.CliFault.TheVariants.{OutOfMemory, Read}

@@ -1,4 +1,4 @@
-use Rattle.std.proofs.Common.{ℕ, ◌+◌, length, map, ap, sym, subst, IfErr}
+use Rattle.std.proofs.Common.{ℕ, ◌+◌, map, ap, sym, subst, IfErr}
 use Rattle.std.proofs.lemmas.List.{length-map}
 use Rattle.ahci_script.proofs.FoundLemmas.{if_err_from}
 use Rattle.ahci_script.specs.Jobs.{job_line_of}

@@ -1,4 +1,4 @@
-use Rattle.std.proofs.Common.{◌≡◌, ◌∙◌, ap, sym, None, Some}
+use Rattle.std.proofs.Common.{◌∙◌, ap, sym, Some}
 use Rattle.std.specs.Option.{option_map}
 use Rattle.ncq_journal.specs.Numbering.{number_of}
 use Rattle.ahci_port.specs.Keeping.{slot_at}

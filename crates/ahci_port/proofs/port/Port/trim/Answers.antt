@@ -1,6 +1,5 @@
-use Rattle.std.proofs.Common.{◌≡◌, ◌∙◌, ◌++◌, ℕ, None, Option, length, take, drop, ap, sym, is_some}
+use Rattle.std.proofs.Common.{◌≡◌, ◌∙◌, ◌++◌, ℕ, None, length, take, drop, ap, sym, is_some}
 use Rattle.std.specs.List.{list_any}
-use Rattle.ahci_port.specs.Faults.{trim_refusal}
 use Rattle.ahci_port.specs.Keeping.{slot_at}
 use Rattle.ahci_port.proofs.LogLemmas.{whole_write}
 use Rattle.ahci_port.proofs.TrimmingLemmas.{all_free, goes_on, keeps_trim, trim_may, vacant_all}

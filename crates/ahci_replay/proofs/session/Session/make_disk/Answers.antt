@@ -1,10 +1,9 @@
-use Rattle.std.proofs.Common.{rules, ◌≡◌, ◌*◌, ap, refl, replicate, false, nat_eq, None, Some, unwrap_or, arith}
+use Rattle.std.proofs.Common.{rules, ◌≡◌, ◌*◌, ap, refl, replicate, false, nat_eq, Some, unwrap_or}
 use Rattle.std.specs.Prelude.{nat_lt}
 use Rattle.std.proofs.lemmas.Bool.{le-ltb, ne_eqb}
 use Rattle.ahci_port.specs.Faults.{most_first}
 use Rattle.ahci_port.specs.PortView.{port_from}
 use Rattle.ncq_core.specs.DiskState.{most_depth, most_disk_sectors}
-use Rattle.ahci_replay.specs.Refusals.{disk_refusal}
 use Rattle.ahci_replay.proofs.SessionLemmas.{disk_made}
 use Rattle.ahci_replay.proofs.session.Session.make_disk.Goals as goal
 
