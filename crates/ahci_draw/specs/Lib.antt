@@ -1,2 +1,10 @@
 -- Definitions of the picture.
-pub mod Timeline
+pub mod Text
+pub mod Words
+pub mod Phases
+pub mod Lanes
+pub mod Column
+pub mod Mark
+pub mod Sheet
+pub mod Picture
+pub mod Drawn

@@ -1,77 +1,90 @@
-use crate::timeline::Timeline;
+use crate::columns::push_columns;
+use crate::lanes::push_new_lanes;
+use crate::mark::Mark;
 use ahci_port::Port;
 use ahci_replay::Teller;
 use ahci_script::{Output, ScriptAnswer};
+use ahci_trace::answer_bytes;
+use ahci_trace::text::push;
 use std::alloc::{AllocError, Allocator};
-use std::string::String;
 
-/// Draws what each command of a script did, and tells the answers alone.
+/// Tells of each answer what its command has drawn, on the sheet from which the picture is made.
 #[derive(Drop)]
 pub(crate) struct Drawer<A: Allocator> {
     alloc: A,
-    pub(crate) timeline: Timeline<A>,
-    /// The number of the next entry, once there is a port.
-    next: Option<u64>,
-    /// How many answers there were.
-    answers: usize,
-}
-
-/// An answer as text: it is ASCII.
-fn text_of<A: Allocator + Copy>(alloc: A, line: &[u8]) -> Result<String<A>, AllocError> {
-    let bytes = Vec::from_slice(alloc, line)?;
-    match String::from_utf8(bytes) {
-        Ok(text) => Ok(text),
-        Err(_) => Ok(String::new(alloc)),
-    }
+    mark: Mark,
 }
 
 impl<A: Allocator + Copy> Drawer<A> {
-    pub(crate) fn new(alloc: A) -> Result<Self, AllocError> {
-        Ok(Drawer {
+    ghost use Rattle.std.specs.Prelude.{◌≡◌, ◌++◌, IfOk, List, None, OnOk, Option, ℕ};
+    ghost use Rattle.std.specs.Option.{option_copied};
+    ghost use Rattle.ahci_port.specs.PortView.{PortView};
+    ghost use Rattle.ahci_script.specs.Answers.{answer_text};
+    ghost use Rattle.ahci_script.specs.Said.{said};
+    ghost use Rattle.ahci_draw.specs.Mark.{mark_of};
+    ghost use Rattle.ahci_draw.specs.Sheet.{drawn_between, drawn_on, lines_of};
+
+    /// It has looked at no port yet.
+    pub(crate) fn new(alloc: A) -> Self
+        ensures { result.mark ≡ mark_of None }
+    {
+        Drawer {
             alloc,
-            timeline: Timeline::new(alloc, 0)?,
-            next: None,
-            answers: 0,
-        })
+            mark: Mark::of_none(),
+        }
     }
 
-    /// Takes what is new in the journal.
-    fn catch_up(&mut self, port: &Port<A>) -> Result<(), AllocError> {
+    /// Appends what a command has drawn that has left this port.
+    fn push_drawn_on<B: Allocator>(
+        &self,
+        text: &mut Vec<u8, A>,
+        answer: &[u8],
+        port: &Port<B>,
+    ) -> Result<(), AllocError>
+        ensures { OnOk result (text.new.items ≡ text.old.items ++ drawn_on answer.now self.now.mark port.now) }
+    {
         let journal = port.journal();
-        if self.next.is_none() {
-            self.timeline.depth = port.depth();
-        }
-        for number in self.next.unwrap_or(journal.first())..journal.end() {
-            if let Some(event) = journal.get(number) {
-                self.timeline.push(number, event, self.answers)?;
-            }
-        }
-        self.next = Some(journal.end());
-        Ok(())
+        push_new_lanes(text, self.mark.has_port, port.depth())?;
+        let start = self.mark.end.max(journal.first());
+        push_columns(
+            self.alloc,
+            text,
+            answer,
+            port.depth(),
+            journal,
+            &self.mark.phases,
+            start,
+        )
     }
 
-    /// Takes the answers of the script, a line each.
-    pub(crate) fn hear(&mut self, answers: &[u8]) -> Result<(), AllocError> {
-        let mut begun = 0;
-        for index in 0..answers.len() {
-            if answers[index] == b'\n' {
-                let text = text_of(self.alloc, answers.get(begun..index).unwrap_or_default())?;
-                self.timeline.answers.push(text)?;
-                begun = index.saturating_add(1);
-            }
+    /// The lines for an answer, whose command has left this port, without the last line feed.
+    #[tactic(auto, unfolding(crate::specs::Sheet::lines_of))]
+    fn lines(&self, answer: &[u8], port: Option<&Port<A>>) -> Result<Vec<u8, A>, AllocError>
+        ensures { IfOk result (λ text. (before : Option PortView) → self.now.mark ≡ mark_of before
+            → text.items ≡ lines_of answer.now (drawn_between answer.now before (option_copied port.entry))) }
+    {
+        let mut text = Vec::from_slice(self.alloc, b"<!-- ")?;
+        push(&mut text, answer)?;
+        push(&mut text, b" -->")?;
+        if let Some(port) = port {
+            self.push_drawn_on(&mut text, answer, port)?;
         }
-        Ok(())
+        Ok(text)
     }
 }
 
 impl<A: Allocator + Copy> Teller<A> for Drawer<A> {
-    ghost use Rattle.ahci_replay.specs.Transcript.{answers_alone};
+    ghost use Rattle.std.specs.Prelude.{◌≡◌};
+    ghost use Rattle.ahci_draw.specs.Mark.{mark_of};
+    ghost use Rattle.ahci_draw.specs.Sheet.{sheet_text};
 
-    ghost telling = { answers_alone };
+    ghost telling = { sheet_text };
 
-    ghost HasSeen = { λ drawer port. Unit {0} };
+    ghost HasSeen = { λ drawer port. drawer.mark ≡ mark_of port };
 
-    fn look(&mut self, _port: Option<&Port<A>>) {}
+    fn look(&mut self, port: Option<&Port<A>>) {
+        self.mark = Mark::of(port);
+    }
 
     fn tell(
         &mut self,
@@ -79,10 +92,7 @@ impl<A: Allocator + Copy> Teller<A> for Drawer<A> {
         port: Option<&Port<A>>,
         output: &mut Output<A>,
     ) -> Result<(), AllocError> {
-        if let Some(port) = port {
-            self.catch_up(port)?;
-        }
-        self.answers = self.answers.saturating_add(1);
-        output.put(answer)
+        let lines = self.lines(&answer_bytes(self.alloc, answer)?, port)?;
+        output.put_text(&lines)
     }
 }

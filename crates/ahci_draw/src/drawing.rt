@@ -1,8 +1,11 @@
-ghost use Rattle.std.specs.Prelude.{◌≡◌, [], List, ℕ, Option, Some, OnOk};
-ghost use Rattle.ahci_replay.specs.Transcript.{Replayed, answers_alone};
+ghost use Rattle.std.specs.Prelude.{IfErr, OnOk};
+ghost use Rattle.std.specs.Io.KnownBytes.{Appends};
+ghost use Rattle.ahci_draw.specs.Drawn.{Drawn, DrawnTo, IsSentAt, IsSentTo, picture_lines};
 
 use crate::drawer::Drawer;
+use crate::picture::picture_of;
 use ahci_replay::{CliFault, replay_with};
+use ahci_script::Output;
 use std::alloc::Allocator;
 use std::io::{Read, Write};
 
@@ -10,21 +13,50 @@ use std::io::{Read, Write};
 /// script the picture shows what was done before it.
 ///
 /// # Errors
-/// Those of `replay`.
+/// Those of `replay`. Where memory was refused nothing is written.
 pub fn draw<R: Read, W: Write, A: Allocator + Copy>(
     alloc: A,
     reader: &mut R,
     writer: &mut W,
 ) -> Result<(), CliFault>
-    ensures replayed { OnOk result ((text : List ℕ) × Replayed answers_alone (R.remaining reader.old) (R.remaining reader.new) (Some []) (Some text)) }
+    ensures ok { OnOk result (Drawn (R.remaining reader.old) (R.remaining reader.new) (W.contents writer.old) (W.contents writer.new)) }
+    ensures err { IfErr result (DrawnTo (R.remaining reader.old) (R.remaining reader.new) (W.contents writer.old) (W.contents writer.new)) }
 {
-    let mut drawer = Drawer::new(alloc)?;
-    let mut answers = Vec::new(alloc);
-    let outcome = replay_with(alloc, &mut drawer, reader, &mut answers);
-    drawer.hear(answers.as_slice())?;
-    let picture = format!(in alloc; "{}", drawer.timeline)?;
-    if writer.write_all(picture.as_bytes()).is_err() {
-        return outcome.and(Err(CliFault::Write));
+    let mut sheet = Vec::new(alloc);
+    match replay_with(alloc, &mut Drawer::new(alloc), reader, &mut sheet) {
+        Ok(()) => send(alloc, &sheet, writer),
+        Err(CliFault::Line(line)) => Err(send_at(CliFault::Line(line), alloc, &sheet, writer)),
+        Err(CliFault::Read) => Err(send_at(CliFault::Read, alloc, &sheet, writer)),
+        Err(_) => Err(CliFault::OutOfMemory), // a sheet takes all that it has room for
     }
-    outcome
+}
+
+/// Writes the picture of what was done before a fault, and answers the fault, or how the writing failed.
+fn send_at<W: Write, A: Allocator + Copy>(
+    fault: CliFault,
+    alloc: A,
+    sheet: &[u8],
+    writer: &mut W,
+) -> CliFault
+    ensures { IsSentAt fault sheet.now (W.contents writer.old) (W.contents writer.new) result }
+{
+    match send(alloc, sheet, writer) {
+        Ok(()) => fault,
+        Err(failed) => failed,
+    }
+}
+
+/// Writes the picture that a sheet gives.
+fn send<W: Write, A: Allocator + Copy>(
+    alloc: A,
+    sheet: &[u8],
+    writer: &mut W,
+) -> Result<(), CliFault>
+    ensures ok { OnOk result (Appends (W.contents writer.old) (W.contents writer.new) (picture_lines sheet.now)) }
+    ensures err { IfErr result (IsSentTo sheet.now (W.contents writer.old) (W.contents writer.new)) }
+{
+    let mut output = Output::new(alloc);
+    output.put_text(&picture_of(alloc, sheet)?)?;
+    output.send(writer)?;
+    Ok(())
 }

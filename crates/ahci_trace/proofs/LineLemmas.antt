@@ -1,5 +1,5 @@
 -- The lines of a trace: each note is indented, and has no line feed but its last byte.
-use Rattle.std.proofs.Common.{◌≡◌, ℕ, zero, suc, ◌+◌, ◌/◌, ◌%◌, ◌==◌, Bool, true, false, not, ◌&&◌, ◌||◌, cond, List, [], ◌∷◌, ◌++◌, Option, None, Some, codes, ap, sym, refl, ◌∙◌, subst, append_assoc, append-nil, arith}
+use Rattle.std.proofs.Common.{◌≡◌, ℕ, zero, suc, ◌/◌, ◌%◌, ◌==◌, Bool, true, false, not, ◌||◌, cond, List, [], ◌∷◌, ◌++◌, Option, None, Some, codes, ap, sym, refl, ◌∙◌, subst, append_assoc, arith}
 use Rattle.std.specs.List.{flat_map, list_all}
 use Rattle.std.specs.Fmt.{decimal, digit_glyph, digits, digits_onto}
 use Rattle.std.proofs.lemmas.Bool.{and_from, and_parts}
@@ -9,7 +9,7 @@ use Rattle.std.proofs.lemmas.List.Concat.{flat_map-cons}
 use Rattle.ahci_port.specs.PortView.{PortView}
 use Rattle.ahci_regs.specs.declared.register.Register.{Register}
 use Rattle.ahci_regs.specs.declared.register.Register.TheVariants.{Cap, Ghc, Pi, Vs, PxClb, PxClbu, PxFb, PxFbu, PxIs, PxIe, PxCmd, PxTfd, PxSig, PxSsts, PxSctl, PxSerr, PxSact, PxCi}
-use Rattle.ahci_replay.specs.Transcript.{Adds, HasRun, no_line, one_more}
+use Rattle.ahci_replay.specs.Transcript.{no_line, one_more}
 use Rattle.ahci_script.specs.Answers.{answer_text, hex_of}
 use Rattle.ahci_script.specs.declared.line.Line.TheVariants as line
 use Rattle.ncq_journal.specs.declared.phase.Phase.{Phase}
@@ -21,26 +21,7 @@ use Rattle.ahci_trace.specs.Lines.{AreNotes, KeepsAnswers, Noted, a_note, an_ans
 use Rattle.ahci_trace.specs.Mark.{mark_of}
 use Rattle.ahci_trace.specs.Names.{Named, bits_of, bits_text, name_of, name_text, names_text, separator}
 use Rattle.ahci_trace.specs.Sent.{SentBytes}
-use Rattle.ahci_trace.specs.Text.{
-  bytes_text,
-  change_text,
-  command_text,
-  details_text,
-  direction,
-  entry_text,
-  fis_text,
-  kind_name,
-  named_text,
-  phase_name,
-  plain_name,
-  prdt_text,
-  received_text,
-  sent_text,
-  slot_text,
-  told_text,
-  trace_notes,
-  what_text,
-}
+use Rattle.ahci_trace.specs.Text.{bytes_text, change_text, details_text, direction, entry_text, fis_text, kind_name, named_text, phase_name, plain_name, prdt_text, received_text, sent_text, slot_text, told_text, trace_notes, what_text}
 use Rattle.ahci_trace.specs.Trace.{Told, told_of}
 use Rattle.ahci_trace.specs.declared.appended.Appended.{Appended}
 use Rattle.ahci_trace.specs.declared.appended.Happened.{Happened}

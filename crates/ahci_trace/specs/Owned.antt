@@ -1,5 +1,5 @@
 -- The slots that requests own, and where their commands stand.
-use Rattle.std.specs.Prelude.{ℕ, Bool, not, List, map, filter}
+use Rattle.std.specs.Prelude.{Bool, not, List, map, filter}
 use Rattle.std.specs.List.{range_with_len}
 use Rattle.ahci_port.specs.PortView.{is_free}
 use Rattle.ncq_journal.specs.Entry.{Entry}

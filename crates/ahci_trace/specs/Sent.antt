@@ -1,5 +1,5 @@
 -- What a command sends: its header in the command list, CFIS and the entries of the PRDT (AHCI 1.3.1, sections 4.2.2 and 4.2.3).
-use Rattle.std.specs.Prelude.{ℕ, zero, suc, ◌++◌, ◌+◌, ◌*◌, ◌-◌, Bool, ◌&&◌, nat_eq, nat_le, if◌then◌else◌, List, [], ◌∷◌, length, take, drop, replicate, slice_index, Option, None, Some}
+use Rattle.std.specs.Prelude.{ℕ, zero, suc, ◌++◌, ◌+◌, ◌*◌, ◌-◌, ◌&&◌, nat_eq, nat_le, if◌then◌else◌, List, [], ◌∷◌, length, take, drop, replicate, slice_index, Option, None, Some}
 use Rattle.std.specs.Option.{option_map}
 use Rattle.ahci_port.specs.PortView.{PortView, window_at}
 use Rattle.ahci_port.specs.declared.sent.Sent as port

@@ -10,7 +10,7 @@ use itoa::Buffer;
 use std::alloc::{AllocError, Allocator};
 
 /// Appends bytes.
-pub(crate) fn push<A: Allocator>(text: &mut Vec<u8, A>, more: &[u8]) -> Result<(), AllocError>
+pub fn push<A: Allocator>(text: &mut Vec<u8, A>, more: &[u8]) -> Result<(), AllocError>
     ensures { OnOk result (text.new.items ≡ text.old.items ++ more.now) }
 {
     text.extend_from_slice(more)

@@ -1,0 +1,13 @@
+-- What is kept of the port that a command finds.
+use Rattle.std.specs.Prelude.{ℕ, Option, None, Some, is_some}
+use Rattle.ahci_port.specs.PortView.{PortView, next_number}
+use Rattle.ahci_draw.specs.Phases.{phases_of}
+use Rattle.ahci_draw.specs.declared.mark.Mark.{Mark}
+
+-- the number of the entry that comes next; 0 before the disk
+abbrev pub end_of : Option PortView → ℕ
+end_of None = 0
+end_of (Some port) = next_number port
+
+abbrev pub mark_of : Option PortView → Mark
+mark_of port = record { has_port = is_some port; end = end_of port; phases = phases_of port }

@@ -1,0 +1,19 @@
+ghost use Rattle.std.specs.Prelude.{◌≡◌, ◌++◌, OnOk};
+ghost use Rattle.ahci_draw.specs.Text.{numbered};
+
+use ahci_trace::text::push;
+use itoa::Buffer;
+use std::alloc::{AllocError, Allocator};
+
+/// Appends a word, and a decimal number behind it: 128 bits hold each place of a picture.
+#[tactic(auto, unfolding(crate::specs::Text::numbered))]
+pub(crate) fn push_number<A: Allocator>(
+    text: &mut Vec<u8, A>,
+    word: &[u8],
+    number: u128,
+) -> Result<(), AllocError>
+    ensures { OnOk result (text.new.items ≡ text.old.items ++ numbered word.now number) }
+{
+    push(text, word)?;
+    push(text, Buffer::new().format(number).as_bytes())
+}

@@ -1,0 +1,84 @@
+//! An entry of the journal in words.
+
+ghost use Rattle.std.specs.Prelude.{◌≡◌, ◌++◌, OnOk};
+ghost use Rattle.ncq_journal.specs.Entry.{entry_of};
+ghost use Rattle.ncq_journal.specs.Work.{work_of};
+ghost use Rattle.ahci_draw.specs.Words.{direction, entry_words, issue_words, failure_words, plain_words};
+
+use crate::text::push_number;
+use ahci_script::spaced_byte;
+use ahci_trace::text::push;
+use ncq_core::{Event, Op, Plain};
+use std::alloc::{AllocError, Allocator};
+
+/// A queued command's direction.
+fn direction<A: Allocator>(op: &Op<A>) -> &'static [u8]
+    ensures { result.now ≡ direction (work_of op.now) }
+{
+    match op {
+        Op::Read { .. } => b"a read is issued with tag ",
+        Op::Write { .. } => b"a write is issued with tag ",
+    }
+}
+
+/// The title of a command that is not queued (ACS-3).
+fn plain_words(command: Plain) -> &'static [u8]
+    ensures { result.now ≡ plain_words command }
+{
+    match command {
+        Plain::Identify => b"IDENTIFY DEVICE",
+        Plain::Flush => b"FLUSH CACHE EXT",
+        Plain::ReadLog => b"READ LOG EXT",
+    }
+}
+
+#[tactic(auto, unfolding(crate::specs::Words::issue_words))]
+fn push_issue<A: Allocator, B: Allocator>(
+    text: &mut Vec<u8, A>,
+    tag: u8,
+    op: &Op<B>,
+) -> Result<(), AllocError>
+    ensures { OnOk result (text.new.items ≡ text.old.items ++ issue_words tag (work_of op.now)) }
+{
+    push_number(text, direction(op), u128::from(tag))?;
+    push_number(text, b", from LBA ", u128::from(op.lba()))?;
+    push_number(text, b", sectors: ", u128::from(op.sectors()))
+}
+
+#[tactic(auto, unfolding(crate::specs::Words::failure_words))]
+fn push_failure<A: Allocator>(
+    text: &mut Vec<u8, A>,
+    tag: u8,
+    error: u8,
+    lba: u64,
+) -> Result<(), AllocError>
+    ensures { OnOk result (text.new.items ≡ text.old.items ++ failure_words tag error lba) }
+{
+    push_number(text, b"an error fails tag ", u128::from(tag))?;
+    push(text, b", error")?;
+    push(text, &spaced_byte(error))?;
+    push_number(text, b"h at LBA ", u128::from(lba))
+}
+
+/// Appends an entry in words.
+pub(crate) fn push_words<A: Allocator, B: Allocator>(
+    text: &mut Vec<u8, A>,
+    event: &Event<B>,
+) -> Result<(), AllocError>
+    ensures { OnOk result (text.new.items ≡ text.old.items ++ entry_words (entry_of event.now)) }
+{
+    match event {
+        Event::Issue(tag, op) => push_issue(text, *tag, op),
+        Event::Accept(tag) => push_number(text, b"the device accepts tag ", u128::from(*tag)),
+        Event::Complete(tag) => push_number(text, b"the device completes tag ", u128::from(*tag)),
+        Event::Fail { tag, error, lba } => push_failure(text, *tag, *error, *lba),
+        Event::Recover(tag) => push_number(
+            text,
+            b"the port recovers from the failure of tag ",
+            u128::from(*tag),
+        ),
+        Event::Reissue(tag) => push_number(text, b"issued again is tag ", u128::from(*tag)),
+        Event::Collect(tag) => push_number(text, b"collected is tag ", u128::from(*tag)),
+        Event::Plain(command) => push(text, plain_words(*command)),
+    }
+}

@@ -1,0 +1,179 @@
+-- A line that replay takes stands for the check too, and both have a disk behind it or neither.
+use Rattle.std.proofs.Common.{◌≡◌, ℕ, ◌==◌, ◌^◌, ◌||◌, Bool, true, false, cond, not, nat_lt, List, Option, Some, None, fold, is_none, is_some, option_and_then, refl, sym, ap, ◌∙◌}
+use Rattle.std.specs.Option.{unwrap_or}
+use Rattle.ahci_check.proofs.AgreementLemmas.{complaint_agrees}
+use Rattle.ahci_check.specs.Breaches.{behind}
+use Rattle.ahci_check.specs.Complaints.{complaint_in, disk_excess, ends_replay, is_in_place, place_after, place_by, stands_at}
+use Rattle.ahci_check.specs.Sheets.{Sheet, with_line}
+use Rattle.ahci_check.specs.declared.place.Place.TheVariants.{BeforeDisk, BehindDisk}
+use Rattle.ahci_port.specs.PortView.{PortView}
+use Rattle.ahci_replay.specs.Commands.{MakesDisk, Runs}
+use Rattle.ahci_replay.specs.Commands as replay
+use Rattle.ahci_replay.specs.Refusals.{disk_refusal}
+use Rattle.ahci_replay.specs.Transcript.{Adds, RunsLine, Telling, no_line, one_more, placed, placed_by}
+use Rattle.ahci_script.specs.Lines.{line_of}
+use Rattle.ahci_script.specs.Said.{Said}
+use Rattle.ahci_script.specs.declared.line.Line.{Line}
+use Rattle.ahci_script.specs.declared.line.Line.TheVariants.{Skip, Run}
+use Rattle.ahci_script.specs.declared.line.ScriptCommand.{ScriptCommand}
+use Rattle.ahci_script.specs.declared.line.ScriptCommand.TheVariants as command
+use Rattle.ahci_script.specs.declared.refusal.Refusal.{Refusal}
+use Rattle.script_laws.specs.Agreement.{CheckAgrees, place_of}
+
+-- ---- where a line may stand
+
+before : (c : ScriptCommand) → is_in_place BeforeDisk c ≡ replay.is_in_place None c
+before (command.Disk sectors depth first) = refl
+before (command.Write tag lba sectors fill) = refl
+before (command.Read tag lba sectors) = refl
+before (command.Raw tag header bytes) = refl
+before (command.Accept tag) = refl
+before (command.Serve tags) = refl
+before (command.Fail tag error lba) = refl
+before (command.Collect tag number) = refl
+before command.Recover = refl
+before (command.Reissue tag) = refl
+before (command.Reg off) = refl
+before (command.Ack mask) = refl
+before (command.Identify word) = refl
+before command.Flush = refl
+before (command.Show lba) = refl
+before command.Journal = refl
+before command.Trim = refl
+
+later : (port : PortView) (c : ScriptCommand) → is_in_place BehindDisk c ≡ replay.is_in_place (Some port) c
+later port (command.Disk sectors depth first) = refl
+later port (command.Write tag lba sectors fill) = refl
+later port (command.Read tag lba sectors) = refl
+later port (command.Raw tag header bytes) = refl
+later port (command.Accept tag) = refl
+later port (command.Serve tags) = refl
+later port (command.Fail tag error lba) = refl
+later port (command.Collect tag number) = refl
+later port command.Recover = refl
+later port (command.Reissue tag) = refl
+later port (command.Reg off) = refl
+later port (command.Ack mask) = refl
+later port (command.Identify word) = refl
+later port command.Flush = refl
+later port (command.Show lba) = refl
+later port command.Journal = refl
+later port command.Trim = refl
+
+same_place : (port : Option PortView) (c : ScriptCommand) → is_in_place (place_of port) c ≡ replay.is_in_place port c
+same_place None c = before c
+same_place (Some port) c = later port c
+
+taken : (b : Bool) (l : Line) → b ≡ is_some (cond b (Some l) None)
+taken true l = refl
+taken false l = refl
+
+stands_alike : (port : Option PortView) (spelled : Option Line) → stands_at (place_of port) spelled ≡ is_some (option_and_then (placed_by port) spelled)
+stands_alike port None = refl
+stands_alike port (Some Skip) = refl
+stands_alike port (Some (Run c)) = same_place port c ∙ taken (replay.is_in_place port c) (Run c)
+
+not_some : {X : Type 0} (o : Option X) → not (is_some o) ≡ is_none o
+not_some None = refl
+not_some (Some x) = refl
+
+stop_alike : (port : Option PortView) (number : ℕ) (line : List ℕ) → ends_replay (complaint_in (place_of port) number line) ≡ is_none (placed port line)
+stop_alike port number line =
+    complaint_agrees (place_of port) number line ∙ ap not (stands_alike port (line_of line)) ∙ not_some (placed port line)
+
+-- ---- the place behind a line
+
+-- the limits of a disk stand in the order of its refusals
+none_alike : {X : Type 0} (a b c d e : Bool) (v w x y z : Option X) (p q r : Refusal) → is_none v ≡ false → is_none w ≡ false → is_none x ≡ false → is_none y ≡ false → is_none z ≡ false
+    → is_none (cond a v (cond b w (cond c x (cond d y (cond e z None))))) ≡ is_none (cond (a || b) (Some p) (cond (c || d) (Some q) (cond e (Some r) None)))
+none_alike true b c d e v w x y z p q r hv hw hx hy hz = hv
+none_alike false true c d e v w x y z p q r hv hw hx hy hz = hw
+none_alike false false true d e v w x y z p q r hv hw hx hy hz = hx
+none_alike false false false true e v w x y z p q r hv hw hx hy hz = hy
+none_alike false false false false true v w x y z p q r hv hw hx hy hz = hz
+none_alike false false false false false v w x y z p q r hv hw hx hy hz = refl
+
+disk_alike : (words : List ℕ) (sectors depth : ℕ) (first : Option ℕ) → is_none (disk_excess words sectors depth first) ≡ is_none (disk_refusal sectors depth first)
+disk_alike words sectors depth first =
+    none_alike (sectors == 0) (nat_lt 131072 sectors) (depth == 0) (nat_lt 32 depth) (nat_lt (2 ^ 63) (unwrap_or first 0)) _ _ _ _ _ _ _ _ refl refl refl refl refl
+
+made : (refusal : Option Refusal) (b : Bool) (sectors depth : ℕ) (first : Option ℕ) (next : Option PortView) (said : Said) → b ≡ is_none refusal
+    → MakesDisk refusal sectors depth first next said → cond b BehindDisk BeforeDisk ≡ place_of next
+made (Some refusal) b sectors depth first next said is does = ap (λ t. cond t BehindDisk BeforeDisk) is ∙ sym (ap place_of does.0)
+made None b sectors depth first next said is does = ap (λ t. cond t BehindDisk BeforeDisk) is ∙ sym (ap place_of does.0)
+
+first_run : (line : List ℕ) (c : ScriptCommand) (next : Option PortView) (said : Said) → Runs None c next said → place_by BeforeDisk line (Some (Run c)) ≡ place_of next
+first_run line (command.Disk sectors depth first) next said ran =
+    made (disk_refusal sectors depth first) _ sectors depth first next said (disk_alike (behind line) sectors depth first) ran
+first_run line (command.Write tag lba sectors fill) next said ran = absurd ran
+first_run line (command.Read tag lba sectors) next said ran = absurd ran
+first_run line (command.Raw tag header bytes) next said ran = absurd ran
+first_run line (command.Accept tag) next said ran = absurd ran
+first_run line (command.Serve tags) next said ran = absurd ran
+first_run line (command.Fail tag error lba) next said ran = absurd ran
+first_run line (command.Collect tag number) next said ran = absurd ran
+first_run line command.Recover next said ran = absurd ran
+first_run line (command.Reissue tag) next said ran = absurd ran
+first_run line (command.Reg off) next said ran = absurd ran
+first_run line (command.Ack mask) next said ran = absurd ran
+first_run line (command.Identify word) next said ran = absurd ran
+first_run line command.Flush next said ran = absurd ran
+first_run line (command.Show lba) next said ran = absurd ran
+first_run line command.Journal next said ran = absurd ran
+first_run line command.Trim next said ran = absurd ran
+
+same : (b : Bool) → cond b BehindDisk BehindDisk ≡ BehindDisk
+same true = refl
+same false = refl
+
+stays_behind : (line : List ℕ) (c : ScriptCommand) → place_by BehindDisk line (Some (Run c)) ≡ BehindDisk
+stays_behind line (command.Disk sectors depth first) = same (is_none (disk_excess (behind line) sectors depth first))
+stays_behind line (command.Write tag lba sectors fill) = refl
+stays_behind line (command.Read tag lba sectors) = refl
+stays_behind line (command.Raw tag header bytes) = refl
+stays_behind line (command.Accept tag) = refl
+stays_behind line (command.Serve tags) = refl
+stays_behind line (command.Fail tag error lba) = refl
+stays_behind line (command.Collect tag number) = refl
+stays_behind line command.Recover = refl
+stays_behind line (command.Reissue tag) = refl
+stays_behind line (command.Reg off) = refl
+stays_behind line (command.Ack mask) = refl
+stays_behind line (command.Identify word) = refl
+stays_behind line command.Flush = refl
+stays_behind line (command.Show lba) = refl
+stays_behind line command.Journal = refl
+stays_behind line command.Trim = refl
+
+run_alike : (line : List ℕ) (port : Option PortView) (c : ScriptCommand) (next : Option PortView) (said : Said) → Runs port c next said
+    → place_by (place_of port) line (Some (Run c)) ≡ place_of next
+run_alike line None c next said ran = first_run line c next said ran
+run_alike line (Some port) c (Some next) said ran = stays_behind line c
+run_alike line (Some port) c None said ran = absurd ran
+
+line_alike : (telling : Telling) (line : List ℕ) (port : Option PortView) (l : Line) (next : Option PortView) (added : List ℕ) → RunsLine telling port l next added
+    → place_by (place_of port) line (Some l) ≡ place_of next
+line_alike telling line port Skip next added ran = sym (ap place_of ran.0)
+line_alike telling line port (Run c) next added ran = run_alike line port c next ran.said ran.ran
+
+-- what was taken is the line itself
+is_taken : (b : Bool) (x l : Line) → cond b (Some x) None ≡ Some l → Some x ≡ Some l
+is_taken true x l is = is
+is_taken false x l is = cc
+
+spelled_alike : (telling : Telling) (line : List ℕ) (port : Option PortView) (spelled : Option Line) (l : Line) (next : Option PortView) (added : List ℕ)
+    → option_and_then (placed_by port) spelled ≡ Some l → RunsLine telling port l next added → place_by (place_of port) line spelled ≡ place_of next
+spelled_alike telling line port None l next added is ran = cc
+spelled_alike telling line port (Some Skip) l next added is ran = ap (place_by (place_of port) line) is ∙ line_alike telling line port l next added ran
+spelled_alike telling line port (Some (Run c)) l next added is ran =
+    ap (place_by (place_of port) line) (is_taken (replay.is_in_place port c) (Run c) l is) ∙ line_alike telling line port l next added ran
+
+stand_alike : (telling : Telling) (port last : Option PortView) (lines : List (List ℕ)) (text : List ℕ) (sheet : Sheet) → Adds telling port lines text last
+    → sheet.place ≡ place_of port → (fold with_line sheet lines).place ≡ place_of last
+stand_alike telling port last lines text sheet (no_line same) is = is
+stand_alike telling port last lines text sheet (one_more same first l next added more rest end own spelled ran others) is =
+    stand_alike telling next last more rest (with_line sheet first) others
+    (ap (λ p. place_after p first) is ∙ spelled_alike telling first port (line_of first) l next added spelled ran)
+
+pub check_agrees : CheckAgrees
+check_agrees = record { stop = stop_alike; stand = stand_alike }
