@@ -1,5 +1,5 @@
 -- How the program ends: its exit status.
-use Rattle.std.specs.Prelude.{◌≡◌, ℕ, List, Result, Ok, Err, ◌⊎◌}
+use Rattle.std.specs.Prelude.{◌≡◌, ℕ, Bool, true, false, List, Result, Ok, Err, ◌⊎◌}
 use Rattle.ahci_args.specs.Asking.{AsksFor}
 use Rattle.ahci_args.specs.CommandLine.{PickWords}
 use Rattle.ahci_args.specs.Usage.{usage_faults}
@@ -14,6 +14,12 @@ use Rattle.clap.specs.declared.error.kind.ErrorKind.TheVariants.{DisplayHelp, Di
 abbrev pub input_status : Result (Unit {0}) CliFault → ℕ
 input_status (Ok done) = 0
 input_status (Err fault) = status_of fault
+
+-- a check: 0 where no line is faulty, 1 where one is, else its fault's
+abbrev pub check_status : Result Bool CliFault → ℕ
+check_status (Ok false) = 0
+check_status (Ok true) = 1
+check_status (Err fault) = status_of fault
 
 -- the statuses of scripts, of lists of jobs, and of pages: no fault, a fault, want of memory
 abbrev pub IsInputStatus : ℕ → Type 0

@@ -4,7 +4,7 @@
 ghost use Rattle.std.specs.Prelude.{◌≡◌, ◌<◌, ◌≤◌, ◌^◌, ◌⊎◌, map};
 ghost use Rattle.std.specs.Process.{exit_status};
 ghost use Rattle.std.specs.String.{string_bytes};
-ghost use Rattle.ahci.specs.Ending.{EndsFor, Explains, IsInputStatus, input_status};
+ghost use Rattle.ahci.specs.Ending.{EndsFor, Explains, IsInputStatus, check_status, input_status};
 ghost use Rattle.ahci_script.specs.Fault.{status_of};
 ghost use Rattle.clap.specs.Words.{kind_of};
 
@@ -106,11 +106,7 @@ fn traced(rt: &HostRuntime, json: bool) -> ExitCode
 fn checked(rt: &HostRuntime) -> ExitCode
     ensures { IsInputStatus (exit_status result) }
 {
-    match check(rt.alloc(), &mut rt.stdin(), &mut rt.stdout()) {
-        Ok(false) => ExitCode::SUCCESS,
-        Ok(true) => ExitCode::FAILURE,
-        Err(fault) => end(rt, Err(fault)),
-    }
+    end_check(rt, check(rt.alloc(), &mut rt.stdin(), &mut rt.stdout()))
 }
 
 /// Runs the script on standard input, and draws what the port did.
@@ -177,6 +173,18 @@ fn end(rt: &HostRuntime, outcome: Result<(), CliFault>) -> ExitCode
 {
     match outcome {
         Ok(()) => ExitCode::SUCCESS,
+        Err(fault) => fail(rt, fault),
+    }
+}
+
+/// Ends a check: whether a line is faulty is its status.
+fn end_check(rt: &HostRuntime, outcome: Result<bool, CliFault>) -> ExitCode
+    ensures status { exit_status result ≡ check_status outcome }
+    ensures input { IsInputStatus (exit_status result) }
+{
+    match outcome {
+        Ok(false) => ExitCode::SUCCESS,
+        Ok(true) => ExitCode::FAILURE,
         Err(fault) => fail(rt, fault),
     }
 }

@@ -64,212 +64,9 @@ use Rattle.ahci_check.specs.declared.kind.Kind.{Kind}
 use Rattle.ahci_check.specs.declared.kind.Kind.TheVariants.{Number, Tag, Sectors, PageWord, Byte, Register, Header, Bytes}
 use Rattle.ahci_check.specs.declared.place.Place.{Place}
 use Rattle.ahci_check.specs.declared.rule.Rule.TheVariants.{Language, Port}
-
-abbrev Text : Type 0
-Text = List ℕ
-
-and-false : (b : Bool) → (b && false) ≡ false
-and-false true = refl
-and-false false = refl
-
--- values that are all there
-one : {A B : Type 0} (a : Option A) (f : A → B) → is_some a ≡ is_some (option_and_then (λ x. Some (f x)) a)
-one None f = refl
-one (Some x) f = refl
-
-two : {A B C : Type 0} (a : Option A) (b : Option B) (f : A → B → C)
-    → (is_some a && is_some b) ≡ is_some (option_and_then (λ x. option_and_then (λ y. Some (f x y)) b) a)
-two None b f = refl
-two (Some x) b f = one b (f x)
-
-three : {A B C D : Type 0} (a : Option A) (b : Option B) (c : Option C) (f : A → B → C → D)
-    → (is_some a && (is_some b && is_some c)) ≡ is_some (option_and_then (λ x. option_and_then (λ y. option_and_then (λ z. Some (f x y z)) c) b) a)
-three None b c f = refl
-three (Some x) b c f = two b c (f x)
-
-four : {A B C D E : Type 0} (a : Option A) (b : Option B) (c : Option C) (d : Option D) (f : A → B → C → D → E)
-    → (is_some a && (is_some b && (is_some c && is_some d))) ≡ is_some (option_and_then (λ x. option_and_then (λ y. option_and_then (λ z. option_and_then (λ w. Some (f x y z w)) d) c) b) a)
-four None b c d f = refl
-four (Some x) b c d f = three b c d (f x)
-
--- the last word
-last_agrees : (kind : Kind) (words : Text) → is_ok (last_of kind words) ≡ spells kind words
-last_agrees kind words = by (spells kind words) _
-  where
-    by : (b : Bool) (x : Breach) → is_ok (cond b sound (Err x)) ≡ b
-    by true x = refl
-    by false x = refl
-
--- a word that isn't the last, and those behind it
-abbrev after : Option (Text × Text) → Kind → (Text → Bool) → Bool
-after None kind holds = false
-after (Some c) kind holds = spells kind c.0 && holds c.1
-
-word_agrees : {T : Type 0} (kind : Kind) (words : Text) (f : Text → Result T Breach) → is_ok (word_of kind words >>= f) ≡ after (cut_of words) kind (λ others. is_ok (f others))
-word_agrees kind words f = at (cut_of words)
-  where
-    missing : (b : Bool) (x y : Breach) → is_ok (cond b (Err x) (Err y) >>= f) ≡ false
-    missing true x y = refl
-    missing false x y = refl
-
-    there : (b : Bool) (x : Breach) (others : Text) → is_ok (cond b (Ok others) (Err x) >>= f) ≡ (b && is_ok (f others))
-    there true x others = refl
-    there false x others = refl
-
-    at : (o : Option (Text × Text)) → is_ok (word_at kind o words >>= f) ≡ after o kind (λ others. is_ok (f others))
-    at None = missing (spells kind words) _ _
-    at (Some c) = there (spells kind c.0) _ c.1
-
--- S D, and S D F
-port_agrees : (words : Text) → is_ok (port_words (cut_of words) words) ≡ is_some (port_of words)
-port_agrees words = by (cut_of words) refl
-  where
-    by : (o : Option (Text × Text)) → cut_of words ≡ o → is_ok (port_words o words) ≡ is_some (port_at o words)
-    by None is = last_agrees Number words ∙ one (decimal_of words) (λ depth. (depth, None))
-    by (Some d) is =
-        word_agrees Number words (last_of Number) ∙ ap (λ o. after o Number (λ others. is_ok (last_of Number others))) is
-        ∙ ap (λ b. spells Number d.0 && b) (last_agrees Number d.1)
-        ∙ two (decimal_of d.0) (decimal_of d.1) (λ depth first. (depth, Some first))
-
-disk_agrees : (words : Text) → is_ok (disk_words words) ≡ is_some (disk_of words)
-disk_agrees words = word_agrees Number words (λ port. port_words (cut_of port) port) ∙ by (cut_of words)
-  where
-    then_port : (a : Option ℕ) (b : Option (ℕ × Option ℕ)) → (is_some a && is_some b) ≡ is_some (option_and_then (λ s. option_and_then (λ p. Some (Disk s p.0 p.1)) b) a)
-    then_port a b = two a b (λ s p. Disk s p.0 p.1)
-
-    by : (o : Option (Text × Text)) → after o Number (λ port. is_ok (port_words (cut_of port) port)) ≡ is_some (option_and_then (λ s. option_and_then (λ sectors. option_and_then (λ port. Some (Disk sectors port.0 port.1)) (port_of s.1)) (decimal_of s.0)) o)
-    by None = refl
-    by (Some s) = ap (λ b. spells Number s.0 && b) (port_agrees s.1) ∙ then_port (decimal_of s.0) (port_of s.1)
-
-collect_agrees : (words : Text) → is_ok (collect_words words) ≡ is_some (collect_of words)
-collect_agrees words = word_agrees Tag words (last_of Number) ∙ by (cut_of words)
-  where
-    by : (o : Option (Text × Text)) → after o Tag (λ others. is_ok (last_of Number others)) ≡ is_some (option_and_then (λ t. option_and_then (λ tag. option_and_then (λ n. Some (Collect tag n)) (decimal_of t.1)) (tag_of t.0)) o)
-    by None = refl
-    by (Some t) = ap (λ b. spells Tag t.0 && b) (last_agrees Number t.1) ∙ two (tag_of t.0) (decimal_of t.1) Collect
-
--- three words, of the first of which is a tag
-triple_agrees : {B C : Type 0} (middle end : Kind) (words : Text) (second : Text → Option B) (third : Text → Option C) (f : ℕ → B → C → ScriptCommand)
-    → ((word : Text) → spells middle word ≡ is_some (second word)) → ((word : Text) → spells end word ≡ is_some (third word))
-    → is_ok (word_of Tag words >>= (λ l. word_of middle l >>= (λ n. last_of end n)))
-    ≡ is_some (option_and_then (λ t. option_and_then (λ l. option_and_then (λ tag. option_and_then (λ b. option_and_then (λ c. Some (f tag b c)) (third l.1)) (second l.0)) (tag_of t.0)) (cut_of t.1)) (cut_of words))
-triple_agrees middle end words second third f is_second is_third =
-    word_agrees Tag words (λ l. word_of middle l >>= (λ n. last_of end n)) ∙ by (cut_of words)
-  where
-    inner : (t : Text × Text) (o : Option (Text × Text)) → (spells Tag t.0 && after o middle (λ n. is_ok (last_of end n)))
-        ≡ is_some (option_and_then (λ l. option_and_then (λ tag. option_and_then (λ b. option_and_then (λ c. Some (f tag b c)) (third l.1)) (second l.0)) (tag_of t.0)) o)
-    inner t None = and-false (spells Tag t.0)
-    inner t (Some l) =
-        ap (λ b. spells Tag t.0 && (spells middle l.0 && b)) (last_agrees end l.1 ∙ is_third l.1)
-        ∙ ap (λ b. spells Tag t.0 && (b && is_some (third l.1))) (is_second l.0)
-        ∙ three (tag_of t.0) (second l.0) (third l.1) f
-
-    by : (o : Option (Text × Text)) → after o Tag (λ l. is_ok (word_of middle l >>= (λ n. last_of end n)))
-        ≡ is_some (option_and_then (λ t. option_and_then (λ l. option_and_then (λ tag. option_and_then (λ b. option_and_then (λ c. Some (f tag b c)) (third l.1)) (second l.0)) (tag_of t.0)) (cut_of t.1)) o)
-    by None = refl
-    by (Some t) = ap (λ b. spells Tag t.0 && b) (word_agrees middle t.1 (λ n. last_of end n)) ∙ inner t (cut_of t.1)
-
-read_agrees : (words : Text) → is_ok (read_words words) ≡ is_some (read_of words)
-read_agrees words = triple_agrees Number Sectors words decimal_of sectors_of Read (λ w. refl) (λ w. refl)
-
-raw_agrees : (words : Text) → is_ok (raw_words words) ≡ is_some (raw_of words)
-raw_agrees words = triple_agrees Header Bytes words header_of hex_bytes_of Raw (λ w. refl) (λ w. refl)
-
-fail_agrees : (words : Text) → is_ok (fail_words words) ≡ is_some (fail_of words)
-fail_agrees words = triple_agrees Byte Number words byte_of decimal_of Fail (λ w. refl) (λ w. refl)
-
-write_agrees : (words : Text) → is_ok (write_words words) ≡ is_some (write_of words)
-write_agrees words = word_agrees Tag words from_lba ∙ by (cut_of words)
-  where
-    from_count : Text → Words
-    from_count n = word_of Sectors n >>= (λ fill. last_of Byte fill)
-
-    from_lba : Text → Words
-    from_lba l = word_of Number l >>= (λ n. word_of Sectors n >>= (λ fill. last_of Byte fill))
-
-    numbers : Text × Text → Text × Text → Text × Text → Option ScriptCommand
-    numbers t l n = option_and_then (λ tag. option_and_then (λ lba. option_and_then (λ sectors. option_and_then (λ fill. Some (Write tag lba sectors fill)) (byte_of n.1)) (sectors_of n.0)) (decimal_of l.0)) (tag_of t.0)
-
-    third : (t l : Text × Text) (o : Option (Text × Text)) → (spells Tag t.0 && (spells Number l.0 && after o Sectors (λ fill. is_ok (last_of Byte fill))))
-        ≡ is_some (option_and_then (λ n. numbers t l n) o)
-    third t l None = ap (λ b. spells Tag t.0 && b) (and-false (spells Number l.0)) ∙ and-false (spells Tag t.0)
-    third t l (Some n) =
-        ap (λ b. spells Tag t.0 && (spells Number l.0 && (spells Sectors n.0 && b))) (last_agrees Byte n.1)
-        ∙ four (tag_of t.0) (decimal_of l.0) (sectors_of n.0) (byte_of n.1) Write
-
-    second : (t : Text × Text) (o : Option (Text × Text)) → (spells Tag t.0 && after o Number (λ n. is_ok (from_count n)))
-        ≡ is_some (option_and_then (λ l. option_and_then (λ n. numbers t l n) (cut_of l.1)) o)
-    second t None = and-false (spells Tag t.0)
-    second t (Some l) =
-        ap (λ b. spells Tag t.0 && (spells Number l.0 && b)) (word_agrees Sectors l.1 (λ fill. last_of Byte fill)) ∙ third t l (cut_of l.1)
-
-    by : (o : Option (Text × Text)) → after o Tag (λ l. is_ok (from_lba l))
-        ≡ is_some (option_and_then (λ t. option_and_then (λ l. option_and_then (λ n. numbers t l n) (cut_of l.1)) (cut_of t.1)) o)
-    by None = refl
-    by (Some t) = ap (λ b. spells Tag t.0 && b) (word_agrees Number t.1 from_count) ∙ second t (cut_of t.1)
-
--- numbers, of which there are so many at most
-abbrev at_most : ℕ → List ℕ → Option (List ℕ)
-at_most room numbers = cond (nat_le (length numbers) room) (Some numbers) None
-
-le-suc : (a b : ℕ) → nat_le (suc a) (suc b) ≡ nat_le a b
-le-suc a b = by (nat_le a b) refl
-  where
-    by : (x : Bool) → nat_le a b ≡ x → nat_le (suc a) (suc b) ≡ x
-    by true is = le-leb (suc a) (suc b) (omega (arith, leb-true a b is))
-    by false is = lt-leb (suc a) (suc b) (omega (arith, leb-false a b is))
-
--- one tag more
-one_tag : (room : ℕ) (word : Text) (words : List Text) (others : Words) → is_ok others ≡ is_some (option_and_then (at_most room) (each_of tag_of words))
-    → (spells Tag word && is_ok others) ≡ is_some (option_and_then (at_most (suc room)) (each_of tag_of (word ∷ words)))
-one_tag room word words others h = ap (λ b. spells Tag word && b) h ∙ by (tag_of word) (each_of tag_of words)
-  where
-    both : (b : Bool) (ts us : List ℕ) → is_some (cond b (Some ts) None) ≡ is_some (cond b (Some us) None)
-    both true ts us = refl
-    both false ts us = refl
-
-    within : (t : ℕ) (ts : List ℕ) → is_some (at_most room ts) ≡ is_some (at_most (suc room) (t ∷ ts))
-    within t ts =
-        both (nat_le (length ts) room) ts (t ∷ ts) ∙ ap (λ b. is_some (cond b (Some (t ∷ ts)) None)) (sym (le-suc (length ts) room))
-
-    by : (a : Option ℕ) (more : Option (List ℕ)) → (is_some a && is_some (option_and_then (at_most room) more))
-        ≡ is_some (option_and_then (at_most (suc room)) (option_and_then (λ t. option_and_then (λ ts. Some (t ∷ ts)) more) a))
-    by None more = refl
-    by (Some t) None = refl
-    by (Some t) (Some ts) = within t ts
-
-no_room : (word : Text) (words : List Text) → is_some (option_and_then (at_most 0) (each_of tag_of (word ∷ words))) ≡ false
-no_room word words = by (tag_of word) (each_of tag_of words)
-  where
-    by : (a : Option ℕ) (more : Option (List ℕ)) → is_some (option_and_then (at_most 0) (option_and_then (λ t. option_and_then (λ ts. Some (t ∷ ts)) more) a)) ≡ false
-    by None more = refl
-    by (Some t) None = refl
-    by (Some t) (Some ts) = ap (λ b. is_some (cond b (Some (t ∷ ts)) None)) (lt-leb (suc (length ts)) 0 (omega arith))
-
-tags_agree : (room : ℕ) (words : Text) → is_ok (tags_of room words) ≡ is_some (option_and_then (at_most room) (each_of tag_of (words_of words)))
-unfolding tags_of
-tags_agree zero words = by (cut_of words) refl
-  where
-    by : (o : Option (Text × Text)) → cut_of words ≡ o → false ≡ is_some (option_and_then (at_most 0) (each_of tag_of (words_of words)))
-    by None is = sym (ap (λ ws. is_some (option_and_then (at_most 0) (each_of tag_of ws))) (words_of-whole words is) ∙ no_room words [])
-    by (Some c) is = sym (ap (λ ws. is_some (option_and_then (at_most 0) (each_of tag_of ws))) (words_of-cut words c.0 c.1 is) ∙ no_room c.0 (words_of c.1))
-tags_agree (suc room) words = by (tags_agree room) (cut_of words) refl
-  where
-    first : (b : Bool) (x : Words) (y : Breach) → is_ok (cond b x (Err y)) ≡ (b && is_ok x)
-    first true x y = refl
-    first false x y = refl
-
-    alone : (b : Bool) → b ≡ (b && true)
-    alone true = refl
-    alone false = refl
-
-    by : ((others : Text) → is_ok (tags_of room others) ≡ is_some (option_and_then (at_most room) (each_of tag_of (words_of others)))) → (o : Option (Text × Text)) → cut_of words ≡ o → is_ok (tags_at o words (tags_of room (behind_cut o))) ≡ is_some (option_and_then (at_most (suc room)) (each_of tag_of (words_of words)))
-    by more None is =
-        last_agrees Tag words ∙ alone (spells Tag words) ∙ one_tag room words [] sound (sym (ap (λ b. is_some (cond {A = Option (List ℕ)} b (Some []) None)) (le-leb 0 room (omega arith))))
-        ∙ sym (ap (λ ws. is_some (option_and_then (at_most (suc room)) (each_of tag_of ws))) (words_of-whole words is))
-    by more (Some c) is =
-        first (spells Tag c.0) (tags_of room c.1) _ ∙ one_tag room c.0 (words_of c.1) (tags_of room c.1) (more c.1)
-        ∙ sym (ap (λ ws. is_some (option_and_then (at_most (suc room)) (each_of tag_of ws))) (words_of-cut words c.0 c.1 is))
+use Rattle.ahci_check.proofs.CommandLemmas.{collect_agrees, disk_agrees, fail_agrees, raw_agrees, read_agrees, write_agrees}
+use Rattle.ahci_check.proofs.ServeLemmas.{tags_agree}
+use Rattle.ahci_check.proofs.WordLemmas.{Text, last_agrees, one}
 
 -- commands of one word behind the name
 single_agrees : {B : Type 0} (kind : Kind) (words : Text) (value : Option B) (f : B → ScriptCommand) → spells kind words ≡ is_some value
@@ -364,6 +161,12 @@ lines_agree (b ∷ bs) = by (b == 35) _
     by true breach = comment (is_ascii bs) breach
     by false breach = same (command_words (b ∷ bs)) ∙ command_agrees (b ∷ bs) ∙ one (command_of (b ∷ bs)) Run
 
+-- what there is to say of a command that is in its place, or isn't
+abbrev of_command : Place → ℕ → Text → ScriptCommand → Bool → Option Complaint
+of_command place number line c b =
+    cond b (option_map (λ (e : Excess). complaint_at number line e.left (Port e.limit)) (excess_in line c))
+        (Some (record { line = number; column = None; rule = Language (misplaced place) }))
+
 -- a complaint of the language stands exactly where the line may not stand
 pub complaint_agrees : (place : Place) (number : ℕ) (line : Text) → ends_replay (complaint_in place number line) ≡ not (stands place line)
 complaint_agrees place number line = by (line_words line) (lines_agree line)
@@ -372,7 +175,7 @@ complaint_agrees place number line = by (line_words line) (lines_agree line)
     limits None f is = refl
     limits (Some e) f is = is e
 
-    placed : (c : ScriptCommand) (b : Bool) → ends_replay (cond b (option_map (λ (e : Excess). complaint_at number line e.left (Port e.limit)) (excess_in line c)) (Some (record { line = number; column = None; rule = Language (misplaced place) }))) ≡ not b
+    placed : (c : ScriptCommand) (b : Bool) → ends_replay (of_command place number line c b) ≡ not b
     placed c true = limits (excess_in line c) _ (λ e. refl)
     placed c false = refl
 
@@ -400,7 +203,7 @@ complaint_column place number line = by (line_words line)
     limits None f is = tt
     limits (Some e) f is = is e
 
-    placed : (c : ScriptCommand) (b : Bool) → IfSome (cond b (option_map (λ (e : Excess). complaint_at number line e.left (Port e.limit)) (excess_in line c)) (Some (record { line = number; column = None; rule = Language (misplaced place) }))) (λ c. IfSome c.column (IsColumn line))
+    placed : (c : ScriptCommand) (b : Bool) → IfSome (of_command place number line c b) (λ c. IfSome c.column (IsColumn line))
     placed c true = limits (excess_in line c) _ (λ e. column e.left)
     placed c false = tt
 

@@ -11,6 +11,7 @@ use Rattle.ahci_port.specs.PortView.{PortView}
 use Rattle.ahci_driver.specs.Running.{HasRun, IsGivenUp, IsLate, MayRun, ProperBelow}
 use Rattle.ahci_driver.specs.Received.{received_of}
 use Rattle.ahci_driver.specs.Settled.{IsSettled}
+use Rattle.ahci_driver.specs.declared.fault.SettleFault.TheVariants as settle
 use Rattle.ahci_driver.specs.declared.run_fault.RunFault.{RunFault}
 use Rattle.ahci_driver.specs.declared.running.RunEnd.{RunEnd}
 use Rattle.ahci_driver.specs.declared.run_fault.RunFault.TheVariants.{NotFresh, BadJob, OutOfMemory, Lost, Foreign, Unsettled}
@@ -34,7 +35,10 @@ late port jobs (BadJob i) may h = absurd h
 late port jobs OutOfMemory may h = may
 late port jobs (Lost i) may h = may
 late port jobs Foreign may h = may
-late port jobs (Unsettled fault) may h = may
+late port jobs (Unsettled settle.OutOfMemory) may h = absurd h
+late port jobs (Unsettled settle.Count) may h = may
+late port jobs (Unsettled (settle.Wrong i)) may h = may
+late port jobs (Unsettled (settle.Extra n)) may h = may
 
 pub late_too : {T : Type 0} (port : PortView) (jobs : List Work) (x : Result T RunFault) → MayRun port jobs → IfErr x IsLate → IfErr x (IsGivenUp port jobs)
 late_too port jobs (Ok t) may h = tt

@@ -1,8 +1,15 @@
--- The default pieces of any count, and a tag that is given back.
+-- The default pieces of any count, a window that is fit, and a tag that is given back.
 use Rattle.std.proofs.Common.{◌≡◌, ℕ, ◌-◌, ◌^◌, ◌<◌, Bool, false, cond, min, List, [], map, ap, sym, ◌∙◌, arith, inl, inr}
 use Rattle.std.specs.Int.{div_ceil}
 use Rattle.std.specs.List.{range_with_len}
 use Rattle.std.proofs.lemmas.Bool.{cases_lt, cases_eq, lt-leb}
+use Rattle.ahci_port.specs.Faults.{RefusesIssue}
+use Rattle.ahci_port.specs.PortView.{PortView}
+use Rattle.ahci_port.specs.declared.fault.IssueFault.{IssueFault}
+use Rattle.ahci_port.specs.declared.fault.IssueFault.TheVariants as issue
+use Rattle.ahci_table.specs.Fit.{IsFit}
+use Rattle.ahci_table.specs.Window.{WindowState}
+use Rattle.ahci_driver.specs.Submitting.{MayRefuseFit}
 use Rattle.ahci_table.specs.Defaults.{default_list, default_piece, sectors_apiece}
 use Rattle.ncq_journal.specs.Lawful.{most_sectors}
 use Rattle.word_bits.specs.Places.{has_place, with_place, without_place}
@@ -18,6 +25,17 @@ capped n =
       | inl low ↦ ap default_list (let e : min n (2 ^ 32 - 1) ≡ n = omega arith in e)
       | inr high ↦ no_pieces (min n (2 ^ 32 - 1)) (omega arith) ∙ sym (no_pieces n (omega arith))
     ]
+
+-- a port refuses a fit window for what the window can't mend
+pub fit_refused : (port : PortView) (w : WindowState) (fault : IssueFault) → IsFit w → RefusesIssue port w fault → MayRefuseFit fault
+fit_refused port w issue.Halted fit h = tt
+fit_refused port w issue.NoSuchTag fit h = tt
+fit_refused port w issue.SlotOwned fit h = tt
+fit_refused port w issue.OutOfMemory fit h = tt
+fit_refused port w issue.BadHeader fit h = absurd (h.1 fit.header)
+fit_refused port w issue.BadCommand fit h = absurd (h.1.1 fit.command)
+fit_refused port w issue.WrongTag fit h = absurd (h.1.2 fit.tag)
+fit_refused port w issue.BadList fit h = absurd (h.1.3 fit.listed)
 
 -- a tag that was not the seat's, and is given back
 pub given_back : (s : List Bool) (t : ℕ) → has_place s t ≡ false → without_place (with_place s t) t ≡ s

@@ -1,12 +1,18 @@
 -- What a run of workers promises.
-use Rattle.std.specs.Prelude.{◌≡◌, ◌≢◌, ℕ, ◌<◌, List, [], length, Option, None, Some, IsSomeAnd, slice_get}
+use Rattle.std.specs.Prelude.{◌≡◌, ◌≢◌, ℕ, ◌<◌, min, Bool, true, false, if◌then◌else◌, List, [], length, Option, None, Some, IsSomeAnd, Result, Err, slice_get}
+use Rattle.std.specs.List.{filter_map, list_any, reduce}
+use Rattle.std.specs.Option.{option_map}
 use Rattle.ncq_journal.specs.Lawful.{IsProper}
 use Rattle.ncq_journal.specs.Work.{Work}
 use Rattle.ahci_port.specs.PortView.{PortView}
 use Rattle.ahci_driver.specs.Received.{Received}
 use Rattle.ahci_driver.specs.Settled.{IsSettled}
 use Rattle.ahci_driver.specs.declared.run_fault.RunFault.{RunFault}
-use Rattle.ahci_driver.specs.declared.run_fault.RunFault.TheVariants.{NotFresh, BadJob}
+use Rattle.ahci_driver.specs.declared.fault.SettleFault.{SettleFault}
+use Rattle.ahci_driver.specs.declared.fault.SettleFault.TheVariants as settle
+use Rattle.ahci_driver.specs.declared.run_fault.RunFault.TheVariants.{NotFresh, BadJob, OutOfMemory, Lost, Unsettled}
+use Rattle.ahci_driver.specs.declared.worker.Stop.{Stop}
+use Rattle.ahci_driver.specs.declared.worker.Stop.TheVariants as stop
 
 -- the commands of all jobs below n can be issued
 abbrev pub ProperBelow : List Work → ℕ → Type 0
@@ -30,14 +36,41 @@ pub record HasRun (old new : PortView) (jobs : List Work) (receipts : List Recei
   pub first_same : new.first ≡ old.first
   pub settled : IsSettled new jobs receipts workers
 
--- a fault of a run that has begun
+-- a fault of a run that has begun; want of memory is told as itself
 abbrev pub IsLate : RunFault → Type 0
 IsLate NotFresh = ⊥
 IsLate (BadJob i) = ⊥
+IsLate (Unsettled settle.OutOfMemory) = ⊥
 IsLate fault = Unit {0}
+
+-- a worker has stopped for want of memory
+abbrev pub is_lacking : {T : Type 0} → Result T Stop → Bool
+is_lacking (Err stop.OutOfMemory) = true
+is_lacking end = false
+
+-- the job that a worker has lost
+abbrev pub lost_by : {T : Type 0} → Result T Stop → Option ℕ
+lost_by (Err (stop.Lost job)) = Some job
+lost_by end = None
+
+-- the least job that workers have lost
+abbrev pub least_lost : {T : Type 0} → List (Result T Stop) → Option ℕ
+least_lost ends = reduce min (filter_map lost_by ends)
+
+-- why a run is given up in which workers have stopped: want of memory before a lost job, and of these the least
+abbrev pub why_stopped : {T : Type 0} → List (Result T Stop) → Option RunFault
+why_stopped ends =
+    if list_any is_lacking ends then Some OutOfMemory
+    else option_map Lost (least_lost ends)
+
+-- why a run is given up that isn't settled
+abbrev pub unsettled : SettleFault → RunFault
+unsettled settle.OutOfMemory = OutOfMemory
+unsettled fault = Unsettled fault
 
 -- why it was given up
 abbrev pub IsGivenUp : PortView → List Work → RunFault → Type 0
 IsGivenUp port jobs NotFresh = port.past ≢ []
 IsGivenUp port jobs (BadJob i) = (port.past ≡ []) × IsFirstBad jobs (Some i)
+IsGivenUp port jobs (Unsettled settle.OutOfMemory) = ⊥
 IsGivenUp port jobs fault = MayRun port jobs

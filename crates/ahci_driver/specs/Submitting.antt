@@ -1,11 +1,14 @@
--- Why a command is not submitted.
-use Rattle.std.specs.Prelude.{◌≡◌, ℕ, ◌*◌, List, [], replicate, Option, None, Some}
+-- Why a command is not submitted, and what a seat finds in it.
+use Rattle.std.specs.Prelude.{◌≡◌, ℕ, ◌*◌, ◌<◌, true, List, [], ◌∷◌, replicate, Option, None, Some}
+use Rattle.ahci_port.specs.declared.fault.IssueFault.{IssueFault}
+use Rattle.ahci_port.specs.declared.fault.IssueFault.TheVariants as issue
 use Rattle.ncq_journal.specs.Work.{Work, Read, Write, sectors_of}
 use Rattle.ahci_table.specs.declared.fault.BuildFault.{BuildFault}
 use Rattle.ahci_table.specs.declared.fault.BuildFault.TheVariants as build
 use Rattle.ahci_table.specs.Defaults.{default_list}
 use Rattle.ahci_table.specs.Refusal.{refusal}
 use Rattle.tag_board.specs.declared.finding.Finding.{Finding}
+use Rattle.tag_board.specs.declared.finding.Finding.TheVariants.{Gave, Tried}
 use Rattle.tag_board.specs.View.{missed}
 use Rattle.ahci_driver.specs.declared.fault.SubmitFault.{SubmitFault}
 use Rattle.ahci_driver.specs.declared.fault.SubmitFault.TheVariants as submit
@@ -24,13 +27,29 @@ abbrev pub IsNotBuilt : Work → BuildFault → Type 0
 IsNotBuilt work build.OutOfMemory = default_refusal work ≡ None
 IsNotBuilt work fault = default_refusal work ≡ Some fault
 
+-- a port may refuse a window like this that is fit
+abbrev pub MayRefuseFit : IssueFault → Type 0
+MayRefuseFit issue.Halted = Unit {0}
+MayRefuseFit issue.NoSuchTag = Unit {0}
+MayRefuseFit issue.SlotOwned = Unit {0}
+MayRefuseFit issue.OutOfMemory = Unit {0}
+MayRefuseFit fault = ⊥
+
 -- of the value behind the lock nothing is said
 abbrev pub IsNotSubmitted : Work → SubmitFault → Type 0
 IsNotSubmitted work submit.NoTag = Unit {0}
 IsNotSubmitted work (submit.Build fault) = IsNotBuilt work fault
-IsNotSubmitted work (submit.Issue fault) = default_refusal work ≡ None
+IsNotSubmitted work (submit.Issue fault) = (default_refusal work ≡ None) × MayRefuseFit fault
 
--- where there was no tag, each was tried in order and found taken
-abbrev pub AllTried : ℕ → List Finding → List Finding → SubmitFault → Type 0
-AllTried depth before after submit.NoTag = after ≡ missed depth before
-AllTried depth before after fault = Unit {0}
+-- a log after a tag was claimed: those below it were tried in order and found taken, and it was free
+abbrev pub claimed : ℕ → List Finding → List Finding
+claimed tag log = Tried tag true ∷ missed tag log
+
+-- a log after a tag was given back
+abbrev pub returned : ℕ → List Finding → List Finding
+returned tag log = Gave tag ∷ log
+
+-- where there was no tag, each was tried in order and found taken; at any other fault one was claimed, and was given back
+abbrev pub HasTried : ℕ → List Finding → List Finding → SubmitFault → Type 0
+HasTried depth before after submit.NoTag = after ≡ missed depth before
+HasTried depth before after fault = (tag : ℕ) × (tag < depth) × (after ≡ returned tag (claimed tag before))

@@ -3,7 +3,7 @@ ghost use Rattle.ncq_journal.specs.Laws.{AllFree};
 ghost use Rattle.ncq_journal.specs.Work.{work_of};
 ghost use Rattle.word_bits.specs.Places.{has_place, with_place, without_place};
 ghost use Rattle.ahci_port.specs.Headline.{Headline};
-ghost use Rattle.ahci_driver.specs.Submitting.{IsNotSubmitted, AllTried, buffer_for, default_refusal};
+ghost use Rattle.ahci_driver.specs.Submitting.{HasTried, IsNotSubmitted, buffer_for, claimed, default_refusal, returned};
 
 use crate::chooser::Chooser;
 use crate::collecting::collect_locked;
@@ -89,6 +89,7 @@ impl<A: Allocator> Driver<A> {
         ensures board { seat.new.board ≡ seat.old.board }
         ensures number { IfOk result (λ r. r.0.number ≡ ticket.number) }
         ensures tags { IfOk result (λ _. seat.new.tags ≡ without_place seat.old.tags ticket.tag) }
+        ensures log { IfOk result (λ _. seat.new.log ≡ returned ticket.tag seat.old.log) }
         ensures err { IfErr result (λ e. (e.0 ≡ ticket) × (seat.new ≡ seat.old)) }
     {
         let freed = ticket.tag();
@@ -117,7 +118,7 @@ impl<A: Allocator + Clone> Driver<A> {
     /// # Errors
     /// `NoTag` where each tag was found taken when it was tried; `Build` where no window is built for the command, or
     /// memory for it or for the buffer was refused; `Issue` where the port didn't issue it.
-    #[tactic(auto, using(crate::proofs::SubmittingLemmas::given_back))]
+    #[tactic(auto, using(crate::proofs::SubmittingLemmas::given_back, crate::proofs::SubmittingLemmas::fit_refused))]
     pub fn submit(
         &self,
         rt: &impl Wait,
@@ -133,9 +134,10 @@ impl<A: Allocator + Clone> Driver<A> {
         ensures gained { IfOk result (λ t. seat.new.tags ≡ with_place seat.old.tags t.tag) }
         ensures has { IfOk result (λ t. has_place seat.new.tags t.tag ≡ true) }
         ensures below { IfOk result (λ t. t.tag < self.now.depth) }
+        ensures log { IfOk result (λ t. seat.new.log ≡ claimed t.tag seat.old.log) }
         ensures kept { OnErr result (seat.new.tags ≡ seat.old.tags) }
         ensures fault { IfErr result (IsNotSubmitted (work_of op.now)) }
-        ensures tried { IfErr result (AllTried self.now.depth seat.old.log seat.new.log) }
+        ensures tried { IfErr result (HasTried self.now.depth seat.old.log seat.new.log) }
     {
         let Ok(tag) = self.board.claim(seat) else {
             return Err(SubmitFault::NoTag);

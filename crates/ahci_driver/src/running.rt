@@ -1,10 +1,11 @@
-ghost use Rattle.std.specs.Prelude.{◌≡◌, ◌≤◌, map, length, vec_len, IfOk, IfErr, IfSome, IsTrue, MatchOption};
+ghost use Rattle.std.specs.Prelude.{◌≡◌, ◌≤◌, map, length, vec_len, Err, IfOk, IfErr, IfSome, IsTrue, MatchOption, Some};
 ghost use denote.Param.Send.{IsSync, IsSend, Frees};
 ghost use Rattle.ncq_journal.specs.Work.{work_of};
 ghost use Rattle.tag_board.specs.Board.{Board};
 ghost use Rattle.ahci_driver.specs.Received.{received_of};
+ghost use Rattle.std.specs.List.{list_any};
 ghost use Rattle.ahci_driver.specs.Settled.{IsSettled};
-ghost use Rattle.ahci_driver.specs.Running.{HasRun, IsFirstBad, IsGivenUp, IsLate, MayRun};
+ghost use Rattle.ahci_driver.specs.Running.{HasRun, IsFirstBad, IsGivenUp, IsLate, MayRun, is_lacking, least_lost, lost_by, unsettled, why_stopped};
 
 use crate::chooser::Chooser;
 use crate::driver::Driver;
@@ -89,22 +90,55 @@ fn crew<'a, A: Allocator + Clone, C: Chooser + Drop, G: Gate>(
     Ok(crew)
 }
 
+/// The end of a worker.
+type End<A> = Result<Vec<Receipt<A>, A>, Stop>;
+
 /// The ends of the workers, in their order.
-type Ends<A> = Vec<Result<Vec<Receipt<A>, A>, Stop>, A>;
+type Ends<A> = Vec<End<A>, A>;
+
+/// Whether a worker has stopped for want of memory.
+fn is_lacking<A: Allocator>(end: &End<A>) -> bool
+    ensures { result ≡ is_lacking end.now }
+{
+    matches!(end, Err(Stop::OutOfMemory))
+}
+
+/// The job that a worker has lost.
+fn lost_by<A: Allocator>(end: &End<A>) -> Option<usize>
+    ensures { result ≡ lost_by end.now }
+{
+    match end {
+        Err(Stop::Lost(job)) => Some(*job),
+        _ => None,
+    }
+}
+
+/// Whether some worker has.
+fn is_any_lacking<A: Allocator>(ends: &[End<A>]) -> bool
+    ensures { result ≡ list_any is_lacking ends.now }
+{
+    ends.iter().any(|end| is_lacking(end))
+}
+
+/// The least job that a worker has lost.
+fn least_lost<A: Allocator>(ends: &[End<A>]) -> Option<usize>
+    ensures { result ≡ least_lost ends.now }
+{
+    ends.iter().filter_map(|end| lost_by(end)).min()
+}
 
 /// Why the run is given up, where some worker has stopped: want of memory before a lost job, and the least of these.
-fn stopped<A: Allocator>(ends: &[Result<Vec<Receipt<A>, A>, Stop>]) -> Option<RunFault>
-    ensures { IfSome result IsLate }
+fn why_stopped<A: Allocator>(ends: &[End<A>]) -> Option<RunFault>
+    ensures why { result ≡ why_stopped ends.now }
+    ensures late { IfSome result IsLate }
 {
-    let mut lost = None;
-    for end in ends {
-        match end {
-            Err(Stop::OutOfMemory) => return Some(RunFault::OutOfMemory),
-            Err(Stop::Lost(job)) => lost = Some(lost.map_or(*job, |least: usize| least.min(*job))),
-            Err(Stop::Told) | Ok(_) => {}
-        }
+    if is_any_lacking(ends) {
+        return Some(RunFault::OutOfMemory);
     }
-    lost.map(RunFault::Lost)
+    match least_lost(ends) {
+        Some(job) => Some(RunFault::Lost(job)),
+        None => None,
+    }
 }
 
 /// The receipts of all jobs in the order of the jobs, of which job i is that of worker i mod `workers`.
@@ -162,6 +196,19 @@ where
     Ok((port, ends))
 }
 
+/// Why a run is given up that isn't settled: want of memory is told as itself.
+fn unsettled(fault: SettleFault) -> RunFault
+    ensures why { result ≡ unsettled fault }
+    ensures late { IsLate result }
+{
+    match fault {
+        SettleFault::OutOfMemory => RunFault::OutOfMemory,
+        SettleFault::Count | SettleFault::Wrong(_) | SettleFault::Extra(_) => RunFault::Unsettled(
+            fault,
+        ),
+    }
+}
+
 /// What a run ends with: the first reason to give it up, or the receipts, once they are settled.
 fn ended<A: Allocator + Clone>(
     alloc: A,
@@ -177,8 +224,9 @@ fn ended<A: Allocator + Clone>(
     ensures first { IfOk result (λ end. end.port.first ≡ handed.now.first) }
     ensures settled { IfOk result (λ end. IsSettled end.port (map work_of jobs.now) (map received_of end.replies.items) workers) }
     ensures late { IfErr result IsLate }
+    ensures stopped { (fault : RunFault) → why_stopped ends.items ≡ Some fault → result ≡ Err fault }
 {
-    if let Some(fault) = stopped(&ends) {
+    if let Some(fault) = why_stopped(&ends) {
         return Err(fault);
     }
     let Ok(own) = alloc.clone() else {
@@ -192,8 +240,7 @@ fn ended<A: Allocator + Clone>(
     }
     match settle(alloc, &port, jobs, &replies, workers) {
         Ok(()) => Ok(RunEnd { port, replies }),
-        Err(SettleFault::OutOfMemory) => Err(RunFault::OutOfMemory),
-        Err(fault) => Err(RunFault::Unsettled(fault)),
+        Err(fault) => Err(unsettled(fault)),
     }
 }
 
@@ -236,9 +283,10 @@ fn kept<A: Allocator + Clone>(alloc: &A, port: &Port<A>) -> Result<Handed<A>, Al
     })
 }
 
-/// Does all jobs on a port whose journal is empty, a new one or one that was trimmed, job i by worker i mod `workers`, each worker in rising order with one request at a
-/// time, on threads of their own where they can be made. Where it answers Ok, the port is over the same starting image
-/// with as many slots, its journal begins with the same number, and the run is settled, whatever the threads and the choosers did.
+/// Does all jobs on a port whose journal is empty, a new one or one that was trimmed: job i by worker i mod `workers`, each
+/// worker in rising order with one request at a time, on threads of their own where they can be made. Where it answers Ok,
+/// the port is over the same starting image with as many slots, its journal begins with the same number, and the run is
+/// settled, whatever the threads and the choosers did.
 ///
 /// # Errors
 /// The first case of `RunFault` that holds; the port is given up.

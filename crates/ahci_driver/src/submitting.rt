@@ -58,6 +58,7 @@ pub(crate) fn prepared<A: Allocator + Clone>(
 ) -> Result<(Window<A>, Vec<u8, A>), BuildFault>
     requires { tag < 32 }
     ensures carries { IfOk result (λ made. Carries tag (work_of op.now) (default_list (sectors_of (work_of op.now))) made.0) }
+    ensures fit { IfOk result (λ made. IsFit made.0) }
     ensures buffer { IfOk result (λ made. made.1.items ≡ buffer_for (work_of op.now)) }
     ensures built { OnOk result (default_refusal (work_of op.now) ≡ None) }
     ensures fault { IfErr result (IsNotBuilt (work_of op.now)) }

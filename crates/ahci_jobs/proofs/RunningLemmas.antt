@@ -4,6 +4,7 @@ use Rattle.std.specs.List.{slice_get}
 use Rattle.ahci_driver.specs.Received.{Received}
 use Rattle.ahci_driver.specs.Running.{HasRun, IsFirstBad, IsGivenUp, IsLate, ProperBelow}
 use Rattle.ahci_driver.specs.declared.run_fault.RunFault.{RunFault}
+use Rattle.ahci_driver.specs.declared.fault.SettleFault.TheVariants as settle
 use Rattle.ahci_driver.specs.declared.run_fault.RunFault.TheVariants as of_run
 use Rattle.ahci_port.specs.PortView.{PortView}
 use Rattle.ahci_script.specs.Jobs.{job_line_of}
@@ -65,7 +66,10 @@ is_late port jobs sectors depth (of_run.BadJob i) is all h =
 is_late port jobs sectors depth of_run.OutOfMemory is all h = tt
 is_late port jobs sectors depth (of_run.Lost i) is all h = tt
 is_late port jobs sectors depth of_run.Foreign is all h = tt
-is_late port jobs sectors depth (of_run.Unsettled fault) is all h = tt
+is_late port jobs sectors depth (of_run.Unsettled settle.OutOfMemory) is all h = absurd h
+is_late port jobs sectors depth (of_run.Unsettled settle.Count) is all h = tt
+is_late port jobs sectors depth (of_run.Unsettled (settle.Wrong i)) is all h = tt
+is_late port jobs sectors depth (of_run.Unsettled (settle.Extra n)) is all h = tt
 
 -- the list ended early
 pub ends_listing : (f : CliFault) (workers depth sectors : ℕ) (r s c : Known) → IsListFault r s f → EndsRun workers depth sectors r s c c f

@@ -3,6 +3,8 @@ use Rattle.std.specs.Prelude.{◌≡◌, ℕ, ◌*◌, List, [], Option, replica
 use Rattle.std.specs.Io.KnownBytes.{Appends}
 use Rattle.ahci_driver.specs.Received.{Received}
 use Rattle.ahci_driver.specs.Running.{HasRun}
+use Rattle.ahci_driver.specs.declared.run_fault.RunFault.{RunFault}
+use Rattle.ahci_driver.specs.declared.run_fault.RunFault.TheVariants as run
 use Rattle.ahci_port.specs.PortView.{PortView, new_port}
 use Rattle.ahci_script.specs.declared.fault.CliFault.{CliFault}
 use Rattle.ahci_script.specs.declared.fault.CliFault.TheVariants as fault
@@ -26,6 +28,12 @@ pub record HasDone (workers depth sectors : ℕ) (remaining_old remaining_new : 
 -- the whole text is written
 abbrev pub RunsJobs : ℕ → ℕ → ℕ → Option (List ℕ) → Option (List ℕ) → Option (List ℕ) → Option (List ℕ) → Type 0
 RunsJobs workers depth sectors r s c d = HasDone workers depth sectors r s (Appends c d)
+
+-- the program's fault, where a run that has begun was given up
+abbrev pub fault_of : RunFault → CliFault
+fault_of run.OutOfMemory = fault.OutOfMemory
+fault_of (run.Lost job) = fault.Lost job
+fault_of given_up = fault.Unsettled
 
 -- the faults of a run that was given up
 abbrev pub IsUndone : CliFault → Type 0

@@ -2,7 +2,7 @@ ghost use Rattle.std.specs.Prelude.{◌≡◌, ◌≤◌, None, map, vec_len, If
 ghost use Rattle.ncq_journal.specs.Work.{work_of};
 ghost use Rattle.ahci_driver.specs.Received.{received_of};
 ghost use Rattle.ahci_driver.specs.Running.{HasRun, IsFirstBad, IsLate};
-ghost use Rattle.ahci_jobs.specs.RunJobs.{EndsRun, IsUndone, RunsJobs, blank_port};
+ghost use Rattle.ahci_jobs.specs.RunJobs.{EndsRun, IsUndone, RunsJobs, blank_port, fault_of};
 
 use crate::job_list::listed;
 use crate::telling::tell_run;
@@ -21,7 +21,8 @@ const SECTOR: usize = 512;
 /// The program's fault, where a run that has begun was given up.
 fn cli_fault(fault: RunFault) -> CliFault
     requires { IsLate fault }
-    ensures { IsUndone result }
+    ensures told { result ≡ fault_of fault }
+    ensures undone { IsUndone result }
 {
     match fault {
         RunFault::OutOfMemory => CliFault::OutOfMemory,

@@ -268,6 +268,13 @@ state_depth disk q = by (is_past_end disk q)
     by true = refl
     by false = refl
 
+pub state_image : (disk : DiskState) (q : QueuedFields) → (state_after disk q).image ≡ disk.image
+state_image disk q = by (is_past_end disk q)
+  where
+    by : (b : Bool) → (cond b (verdict.not_found disk q).state (verdict.accepted disk q).state).image ≡ disk.image
+    by true = refl
+    by false = refl
+
 -- the first sector that the disk lacks, by the port
 pub lacking_there : (disk : DiskState) (s : ℕ) (w : WindowState) → disk_sectors disk ≡ s → first_lacking disk (queued_of w) ≡ max (lba_of (op w)) s
 lacking_there disk s w size = ap (λ n. max n (disk_sectors disk)) (sym (op_lba w)) ∙ ap (max (lba_of (op w))) size

@@ -24,10 +24,11 @@ use Rattle.ahci_port.specs.declared.step.DeviceStep.TheVariants as step
 use Rattle.ahci_port.specs.declared.step.Stepped.{Stepped}
 use Rattle.ahci_port.specs.declared.step.Stepped.TheVariants.{Accepted, Completed, Failed}
 
--- the journal has one entry more, with the next number, slot 0 has sent what the entry says, and the disk and the slots are
--- as many as before
+-- the journal has one entry more, with the next number, slot 0 has sent what the entry says, no sector has changed, and the
+-- slots are as many as before
 pub record Appends (old new : PortView) (entry : Entry) : Type 0 where
   pub starting_same : new.starting ≡ old.starting
+  pub image_same : new.image ≡ old.image
   pub first_same : new.first ≡ old.first
   pub depth_same : new.depth ≡ old.depth
   pub past_is : new.past ≡ entry ∷ old.past

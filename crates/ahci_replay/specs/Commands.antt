@@ -134,12 +134,14 @@ Runs None (command.Disk sectors depth first) new said = MakesDisk (disk_refusal 
 Runs (Some old) c (Some new) said = RunsOn old c new said
 Runs old c new said = ⊥
 
--- a command that has no answer: nothing has changed, or the port is the one that the command leaves
+-- a command that has no answer has changed nothing; but a read whose bytes find no memory may be collected all the same
 abbrev pub MayRunOn : PortView → ScriptCommand → PortView → Type 0
-MayRunOn old c new = (new ≡ old) ⊎ ((said : Said) × RunsOn old c new said)
+MayRunOn old (command.Collect tag number) new = (new ≡ old) ⊎ ((said : Said) × RunsOn old (command.Collect tag number) new said)
+MayRunOn old c new = new ≡ old
 
 abbrev pub MayRun : Option PortView → ScriptCommand → Option PortView → Type 0
-MayRun old c new = (new ≡ old) ⊎ ((said : Said) × Runs old c new said)
+MayRun (Some old) c (Some new) = MayRunOn old c new
+MayRun old c new = new ≡ old
 
 -- a command may lack memory: one that takes some, and that nothing stands against which is looked at before. The others never
 -- lack any

@@ -15,7 +15,7 @@ use Rattle.ahci_port.specs.Steps.{IsTaken}
 use Rattle.ahci_port.proofs.AcceptingLemmas.{disk_size, request_has}
 use Rattle.ahci_port.proofs.MemoryLemmas.{fit_sized}
 use Rattle.ahci_port.proofs.OwningLemmas.{owner_is, windows_same}
-use Rattle.ahci_port.proofs.TakingLemmas.{Taking, taking_now, answer_bytes, state_after, state_depth, keeps_taken, taken_as, taken_window, lacking_there, sends_nothing}
+use Rattle.ahci_port.proofs.TakingLemmas.{Taking, taking_now, answer_bytes, state_after, state_depth, state_image, keeps_taken, taken_as, taken_window, lacking_there, sends_nothing}
 use Rattle.ahci_port.proofs.WorkLemmas.{past_end}
 use Rattle.ahci_port.proofs.port.Port.accept.Goals as goal
 
@@ -123,6 +123,7 @@ returns-clause-ok g c =
     step
     (record {
       starting_same = refl;
+      image_same = ap (λ d. d.image) (state g c) ∙ state_image i.disk (queued_of w);
       first_same = c.push_reserved.ensures.first;
       depth_same = ap (λ d. d.depth) (state g c) ∙ state_depth i.disk (queued_of w);
       past_is = pasts g c;

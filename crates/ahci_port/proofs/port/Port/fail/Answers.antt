@@ -73,7 +73,14 @@ returns-clause-ok g c =
     rw (← c.self.view_is, slot g c)
     (record {
       answer_is = ap (λ n. Failed n) c.end-number.ensures;
-      appended = record { starting_same = refl; first_same = c.push_reserved.ensures.first; depth_same = ap (λ d. d.depth) c.in-Ok.ensures.state; past_is = c.push_reserved.ensures.past; sent_is = refl };
+      appended = record {
+        starting_same = refl;
+        image_same = ap (λ d. d.image) c.in-Ok.ensures.state;
+        first_same = c.push_reserved.ensures.first;
+        depth_same = ap (λ d. d.depth) c.in-Ok.ensures.state;
+        past_is = c.push_reserved.ensures.past;
+        sent_is = refl;
+      };
       registers_are = regs g c;
       area_is = c.receive_bits.ensures.area ∙ ap (λ b. put_at bits_place b i.area) (said g c).1;
       windows_same = windows_same i.slots.items c.args.tag m.owner.slot (failed_slot m.owner.slot (length i.journal.past) c.args.error c.args.at) m.owner.here refl;

@@ -40,6 +40,7 @@ returns-clause-issued g c =
     (record {
       appended = record {
         starting_same = refl;
+        image_same = refl;
         first_same = c.push_reserved.ensures.first ∙ c.in-Ok-reserve.ensures.first;
         depth_same = refl;
         past_is = c.push_reserved.ensures.past ∙ ap (λ t. Issue t (work_of c.in-Ok-op_of.op) ∷ c.reserve.new.self.past) c.tag-tag.ensures.value
@@ -56,4 +57,6 @@ returns-clause-taken g c =
     let i = c.self.inside in
     let m = early_may (view_of i.starting.items i.disk i.registers i.unqueued.sent i.area i.slots.items i.journal.first i.journal.past) c.tag-tag.result
     (ap (λ p. early_refusal p c.tag-tag.result) c.self.view_is ∙ sym c.early_fault.ensures ∙ c.in_default.is) in
-    rw (← c.self.view_is) (subst (λ t. MayTake (view_of i.starting.items i.disk i.registers i.unqueued.sent i.area i.slots.items i.journal.first i.journal.past) t) c.tag-tag.ensures.value m, c.in-Ok.ensures.fit)
+    rw (← c.self.view_is)
+    (subst (λ t. MayTake (view_of i.starting.items i.disk i.registers i.unqueued.sent i.area i.slots.items i.journal.first i.journal.past) t)
+        c.tag-tag.ensures.value m, c.in-Ok.ensures.fit)

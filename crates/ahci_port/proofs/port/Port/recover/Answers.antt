@@ -85,6 +85,7 @@ returns-clause-recovered g c =
     (record {
       appended = record {
         starting_same = refl;
+        image_same = ap (λ d. d.image) (disk g c);
         first_same = c.push_reserved.ensures.first ∙ c.in-Ok.ensures.first;
         depth_same = ap (λ d. d.depth) (disk g c);
         past_is = c.push_reserved.ensures.past ∙ ap (λ p. Recover (get_or c.page.result 0 0 % 32) ∷ p) c.in-Ok.ensures.past;

@@ -1,0 +1,121 @@
+-- Words behind one another are sound exactly where each of them spells what it has to.
+use Rattle.std.proofs.Common.{◌≡◌, ℕ, zero, suc, ◌+◌, ◌-◌, ◌==◌, ◌&&◌, ◌||◌, Bool, true, false, cond, not, nat_le, List, [], ◌∷◌, Option, Some, None, Result, Ok, Err, IfSome, is_ok, is_some, codes, length, option_and_then, option_map, refl, sym, ap, ◌∙◌, arith}
+use Rattle.std.proofs.lemmas.Bool.{le-leb, leb-false, leb-true, lt-leb}
+use Rattle.std.specs.Str.{bytes_eq}
+use Rattle.ahci_script.specs.HexBytes.{header_of, hex_bytes_of}
+use Rattle.ahci_script.specs.Lines.{
+  accept_of,
+  ack_of,
+  at_most_32,
+  collect_of,
+  command_of,
+  disk_of,
+  each_of,
+  fail_of,
+  identify_of,
+  is_ascii,
+  line_of,
+  named,
+  page_word_of,
+  port_at,
+  port_of,
+  raw_of,
+  read_of,
+  reg_of,
+  reissue_of,
+  sectors_of,
+  serve_of,
+  show_of,
+  tag_of,
+  write_of,
+}
+use Rattle.ahci_script.specs.Lines as grammar
+use Rattle.ahci_script.specs.Number.{byte_of, decimal_of, hexadecimal_of}
+use Rattle.ahci_script.specs.Words.{cut_of, words_of}
+use Rattle.ahci_script.specs.declared.line.Line.{Line}
+use Rattle.ahci_script.specs.declared.line.Line.TheVariants.{Skip, Run}
+use Rattle.ahci_script.specs.declared.line.ScriptCommand.{ScriptCommand}
+use Rattle.ahci_script.specs.declared.line.ScriptCommand.TheVariants.{Disk, Write, Read, Raw, Accept, Serve, Fail, Collect, Recover, Reissue, Reg, Ack, Identify, Flush, Show, Journal, Trim}
+use Rattle.ahci_script.proofs.WordsLemmas.{words_of-cut, words_of-whole}
+use Rattle.ahci_check.specs.Breaches.{◌>>=◌, behind_cut, last_of, sound, tags_at, tags_of, word_at, word_of}
+use Rattle.ahci_check.specs.Commands.{
+  Words,
+  collect_words,
+  command_words,
+  disk_words,
+  fail_words,
+  first_of_cut,
+  line_words,
+  named_words,
+  nameless,
+  port_words,
+  raw_words,
+  read_words,
+  seen_in,
+  stands_alone,
+  write_words,
+}
+use Rattle.ahci_check.specs.Complaints.{IsColumn, complaint_at, complaint_in, ends_replay, excess_in, is_in_place, is_language, misplaced, of_line, of_words, stands, stands_at}
+use Rattle.ahci_check.specs.Kinds.{spells}
+use Rattle.ahci_check.specs.declared.breach.Breach.{Breach}
+use Rattle.ahci_check.specs.declared.complaint.Complaint.{Complaint}
+use Rattle.ahci_check.specs.declared.excess.Excess.{Excess}
+use Rattle.ahci_check.specs.declared.kind.Kind.{Kind}
+use Rattle.ahci_check.specs.declared.kind.Kind.TheVariants.{Number, Tag, Sectors, PageWord, Byte, Register, Header, Bytes}
+use Rattle.ahci_check.specs.declared.place.Place.{Place}
+use Rattle.ahci_check.specs.declared.rule.Rule.TheVariants.{Language, Port}
+
+pub abbrev Text : Type 0
+Text = List ℕ
+
+pub and-false : (b : Bool) → (b && false) ≡ false
+and-false true = refl
+and-false false = refl
+
+-- values that are all there
+pub one : {A B : Type 0} (a : Option A) (f : A → B) → is_some a ≡ is_some (option_and_then (λ x. Some (f x)) a)
+one None f = refl
+one (Some x) f = refl
+
+pub two : {A B C : Type 0} (a : Option A) (b : Option B) (f : A → B → C)
+    → (is_some a && is_some b) ≡ is_some (option_and_then (λ x. option_and_then (λ y. Some (f x y)) b) a)
+two None b f = refl
+two (Some x) b f = one b (f x)
+
+pub three : {A B C D : Type 0} (a : Option A) (b : Option B) (c : Option C) (f : A → B → C → D)
+    → (is_some a && (is_some b && is_some c)) ≡ is_some (option_and_then (λ x. option_and_then (λ y. option_and_then (λ z. Some (f x y z)) c) b) a)
+three None b c f = refl
+three (Some x) b c f = two b c (f x)
+
+pub four : {A B C D E : Type 0} (a : Option A) (b : Option B) (c : Option C) (d : Option D) (f : A → B → C → D → E)
+    → (is_some a && (is_some b && (is_some c && is_some d))) ≡ is_some (option_and_then (λ x. option_and_then (λ y. option_and_then (λ z. option_and_then (λ w. Some (f x y z w)) d) c) b) a)
+four None b c d f = refl
+four (Some x) b c d f = three b c d (f x)
+
+-- the last word
+pub last_agrees : (kind : Kind) (words : Text) → is_ok (last_of kind words) ≡ spells kind words
+last_agrees kind words = by (spells kind words) _
+  where
+    by : (b : Bool) (x : Breach) → is_ok (cond b sound (Err x)) ≡ b
+    by true x = refl
+    by false x = refl
+
+-- a word that isn't the last, and those behind it
+pub abbrev after : Option (Text × Text) → Kind → (Text → Bool) → Bool
+after None kind holds = false
+after (Some c) kind holds = spells kind c.0 && holds c.1
+
+pub word_agrees : {T : Type 0} (kind : Kind) (words : Text) (f : Text → Result T Breach) → is_ok (word_of kind words >>= f) ≡ after (cut_of words) kind (λ others. is_ok (f others))
+word_agrees kind words f = at (cut_of words)
+  where
+    missing : (b : Bool) (x y : Breach) → is_ok (cond b (Err x) (Err y) >>= f) ≡ false
+    missing true x y = refl
+    missing false x y = refl
+
+    there : (b : Bool) (x : Breach) (others : Text) → is_ok (cond b (Ok others) (Err x) >>= f) ≡ (b && is_ok (f others))
+    there true x others = refl
+    there false x others = refl
+
+    at : (o : Option (Text × Text)) → is_ok (word_at kind o words >>= f) ≡ after o kind (λ others. is_ok (f others))
+    at None = missing (spells kind words) _ _
+    at (Some c) = there (spells kind c.0) _ c.1
