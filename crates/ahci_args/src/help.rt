@@ -3,8 +3,8 @@
 pub(crate) const VERSION: &str = "0.1.0";
 
 pub(crate) const ABOUT: &str = "A reference model of one AHCI port with native command queueing.
-It answers a script of commands one by one, lets many workers do a list of jobs, or shows what
-the disk's pages hold.";
+It answers a script of commands one by one, tells or draws what each did, judges a script's lines,
+lets many workers do a list of jobs, or shows what the disk's pages hold.";
 
 pub(crate) const EXAMPLES: &str = "Examples:
   printf 'disk 8 4\\nwrite 0 3 1 aa\\njournal\\n' | ahci replay
@@ -186,7 +186,7 @@ Examples:
   printf 'disk 8 4\\nwrite 0 3 1 aa\\naccept 0\\nserve 0\\n' | ahci trace --json";
 
 pub(crate) const CHECK_ABOUT: &str =
-    "Read a script on standard input, and tell which of its lines can't be taken";
+    "Read a script on standard input, and tell which of its lines are faulty";
 
 pub(crate) const CHECK_LONG_ABOUT: &str =
     "Read a script on standard input, and judge it line by line. Nothing is run.
@@ -194,7 +194,7 @@ Each line that replay would not understand, or that stands where it may not, and
 every port refuses, is told by its number, the column and the rule.";
 
 pub(crate) const CHECK_HELP: &str = "Exit status:
-  0  every line can be taken
+  0  no line is faulty
   1  some line was told, or input or output failed
   2  the command line was wrong
   3  the system gave no memory

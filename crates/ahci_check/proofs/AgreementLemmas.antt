@@ -1,8 +1,6 @@
 -- The words of a line are sound exactly where it is a line of the language.
-use Rattle.std.proofs.Common.{◌≡◌, ℕ, zero, suc, ◌+◌, ◌-◌, ◌==◌, ◌&&◌, ◌||◌, Bool, true, false, cond, not, nat_le, List, [], ◌∷◌, Option, Some, None, Result, Ok, Err, IfSome, is_ok, is_some, codes, length, option_and_then, option_map, refl, sym, ap, ◌∙◌, arith}
-use Rattle.std.proofs.lemmas.Bool.{le-leb, leb-false, leb-true, lt-leb}
+use Rattle.std.proofs.Common.{◌≡◌, ℕ, ◌+◌, ◌-◌, ◌==◌, ◌||◌, Bool, true, false, cond, not, [], ◌∷◌, Option, Some, None, Ok, Err, IfSome, is_ok, is_some, codes, length, option_and_then, option_map, refl, ◌∙◌, arith}
 use Rattle.std.specs.Str.{bytes_eq}
-use Rattle.ahci_script.specs.HexBytes.{header_of, hex_bytes_of}
 use Rattle.ahci_script.specs.Lines.{
   accept_of,
   ack_of,
@@ -30,38 +28,21 @@ use Rattle.ahci_script.specs.Lines.{
   write_of,
 }
 use Rattle.ahci_script.specs.Lines as grammar
-use Rattle.ahci_script.specs.Number.{byte_of, decimal_of, hexadecimal_of}
-use Rattle.ahci_script.specs.Words.{cut_of, words_of}
+use Rattle.ahci_script.specs.Number.{decimal_of, hexadecimal_of}
+use Rattle.ahci_script.specs.Words.{cut_of}
 use Rattle.ahci_script.specs.declared.line.Line.{Line}
 use Rattle.ahci_script.specs.declared.line.Line.TheVariants.{Skip, Run}
 use Rattle.ahci_script.specs.declared.line.ScriptCommand.{ScriptCommand}
-use Rattle.ahci_script.specs.declared.line.ScriptCommand.TheVariants.{Disk, Write, Read, Raw, Accept, Serve, Fail, Collect, Recover, Reissue, Reg, Ack, Identify, Flush, Show, Journal, Trim}
-use Rattle.ahci_script.proofs.WordsLemmas.{words_of-cut, words_of-whole}
-use Rattle.ahci_check.specs.Breaches.{◌>>=◌, behind_cut, last_of, sound, tags_at, tags_of, word_at, word_of}
-use Rattle.ahci_check.specs.Commands.{
-  Words,
-  collect_words,
-  command_words,
-  disk_words,
-  fail_words,
-  first_of_cut,
-  line_words,
-  named_words,
-  nameless,
-  port_words,
-  raw_words,
-  read_words,
-  seen_in,
-  stands_alone,
-  write_words,
-}
+use Rattle.ahci_script.specs.declared.line.ScriptCommand.TheVariants.{Accept, Serve, Recover, Reissue, Reg, Ack, Identify, Flush, Show, Journal, Trim}
+use Rattle.ahci_check.specs.Breaches.{behind_cut, last_of, sound}
+use Rattle.ahci_check.specs.Commands.{Words, command_words, first_of_cut, line_words, named_words, nameless, seen_in, stands_alone}
 use Rattle.ahci_check.specs.Complaints.{IsColumn, complaint_at, complaint_in, ends_replay, excess_in, is_in_place, is_language, misplaced, of_line, of_words, stands, stands_at}
 use Rattle.ahci_check.specs.Kinds.{spells}
 use Rattle.ahci_check.specs.declared.breach.Breach.{Breach}
 use Rattle.ahci_check.specs.declared.complaint.Complaint.{Complaint}
 use Rattle.ahci_check.specs.declared.excess.Excess.{Excess}
 use Rattle.ahci_check.specs.declared.kind.Kind.{Kind}
-use Rattle.ahci_check.specs.declared.kind.Kind.TheVariants.{Number, Tag, Sectors, PageWord, Byte, Register, Header, Bytes}
+use Rattle.ahci_check.specs.declared.kind.Kind.TheVariants.{Number, Tag, PageWord, Register}
 use Rattle.ahci_check.specs.declared.place.Place.{Place}
 use Rattle.ahci_check.specs.declared.rule.Rule.TheVariants.{Language, Port}
 use Rattle.ahci_check.proofs.CommandLemmas.{collect_agrees, disk_agrees, fail_agrees, raw_agrees, read_agrees, write_agrees}
@@ -165,7 +146,7 @@ lines_agree (b ∷ bs) = by (b == 35) _
 abbrev of_command : Place → ℕ → Text → ScriptCommand → Bool → Option Complaint
 of_command place number line c b =
     cond b (option_map (λ (e : Excess). complaint_at number line e.left (Port e.limit)) (excess_in line c))
-        (Some (record { line = number; column = None; rule = Language (misplaced place) }))
+    (Some (record { line = number; column = None; rule = Language (misplaced place) }))
 
 -- a complaint of the language stands exactly where the line may not stand
 pub complaint_agrees : (place : Place) (number : ℕ) (line : Text) → ends_replay (complaint_in place number line) ≡ not (stands place line)

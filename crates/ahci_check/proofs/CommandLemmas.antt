@@ -1,69 +1,16 @@
 -- The words of a command are sound exactly where the command has them.
-use Rattle.std.proofs.Common.{◌≡◌, ℕ, zero, suc, ◌+◌, ◌-◌, ◌==◌, ◌&&◌, ◌||◌, Bool, true, false, cond, not, nat_le, List, [], ◌∷◌, Option, Some, None, Result, Ok, Err, IfSome, is_ok, is_some, codes, length, option_and_then, option_map, refl, sym, ap, ◌∙◌, arith}
-use Rattle.std.proofs.lemmas.Bool.{le-leb, leb-false, leb-true, lt-leb}
-use Rattle.std.specs.Str.{bytes_eq}
+use Rattle.std.proofs.Common.{◌≡◌, ℕ, ◌&&◌, Option, Some, None, is_ok, is_some, option_and_then, refl, ap, ◌∙◌}
 use Rattle.ahci_script.specs.HexBytes.{header_of, hex_bytes_of}
-use Rattle.ahci_script.specs.Lines.{
-  accept_of,
-  ack_of,
-  at_most_32,
-  collect_of,
-  command_of,
-  disk_of,
-  each_of,
-  fail_of,
-  identify_of,
-  is_ascii,
-  line_of,
-  named,
-  page_word_of,
-  port_at,
-  port_of,
-  raw_of,
-  read_of,
-  reg_of,
-  reissue_of,
-  sectors_of,
-  serve_of,
-  show_of,
-  tag_of,
-  write_of,
-}
-use Rattle.ahci_script.specs.Lines as grammar
-use Rattle.ahci_script.specs.Number.{byte_of, decimal_of, hexadecimal_of}
-use Rattle.ahci_script.specs.Words.{cut_of, words_of}
-use Rattle.ahci_script.specs.declared.line.Line.{Line}
-use Rattle.ahci_script.specs.declared.line.Line.TheVariants.{Skip, Run}
+use Rattle.ahci_script.specs.Lines.{collect_of, disk_of, fail_of, port_at, port_of, raw_of, read_of, sectors_of, tag_of, write_of}
+use Rattle.ahci_script.specs.Number.{byte_of, decimal_of}
+use Rattle.ahci_script.specs.Words.{cut_of}
 use Rattle.ahci_script.specs.declared.line.ScriptCommand.{ScriptCommand}
-use Rattle.ahci_script.specs.declared.line.ScriptCommand.TheVariants.{Disk, Write, Read, Raw, Accept, Serve, Fail, Collect, Recover, Reissue, Reg, Ack, Identify, Flush, Show, Journal, Trim}
-use Rattle.ahci_script.proofs.WordsLemmas.{words_of-cut, words_of-whole}
-use Rattle.ahci_check.specs.Breaches.{◌>>=◌, behind_cut, last_of, sound, tags_at, tags_of, word_at, word_of}
-use Rattle.ahci_check.specs.Commands.{
-  Words,
-  collect_words,
-  command_words,
-  disk_words,
-  fail_words,
-  first_of_cut,
-  line_words,
-  named_words,
-  nameless,
-  port_words,
-  raw_words,
-  read_words,
-  seen_in,
-  stands_alone,
-  write_words,
-}
-use Rattle.ahci_check.specs.Complaints.{IsColumn, complaint_at, complaint_in, ends_replay, excess_in, is_in_place, is_language, misplaced, of_line, of_words, stands, stands_at}
+use Rattle.ahci_script.specs.declared.line.ScriptCommand.TheVariants.{Disk, Write, Read, Raw, Fail, Collect}
+use Rattle.ahci_check.specs.Breaches.{◌>>=◌, last_of, word_of}
+use Rattle.ahci_check.specs.Commands.{Words, collect_words, disk_words, fail_words, port_words, raw_words, read_words, write_words}
 use Rattle.ahci_check.specs.Kinds.{spells}
-use Rattle.ahci_check.specs.declared.breach.Breach.{Breach}
-use Rattle.ahci_check.specs.declared.complaint.Complaint.{Complaint}
-use Rattle.ahci_check.specs.declared.excess.Excess.{Excess}
 use Rattle.ahci_check.specs.declared.kind.Kind.{Kind}
-use Rattle.ahci_check.specs.declared.kind.Kind.TheVariants.{Number, Tag, Sectors, PageWord, Byte, Register, Header, Bytes}
-use Rattle.ahci_check.specs.declared.place.Place.{Place}
-use Rattle.ahci_check.specs.declared.rule.Rule.TheVariants.{Language, Port}
+use Rattle.ahci_check.specs.declared.kind.Kind.TheVariants.{Number, Tag, Sectors, Byte, Header, Bytes}
 use Rattle.ahci_check.proofs.WordLemmas.{Text, after, and-false, four, last_agrees, one, three, two, word_agrees}
 
 -- S D, and S D F
@@ -101,7 +48,7 @@ triple_agrees : {B C : Type 0} (middle end : Kind) (words : Text) (second : Text
     → ((word : Text) → spells middle word ≡ is_some (second word)) → ((word : Text) → spells end word ≡ is_some (third word))
     → is_ok (word_of Tag words >>= (λ l. word_of middle l >>= (λ n. last_of end n)))
     ≡ is_some (option_and_then (λ t. option_and_then (λ l.
-        option_and_then (λ tag. option_and_then (λ b. option_and_then (λ c. Some (f tag b c)) (third l.1)) (second l.0)) (tag_of t.0)) (cut_of t.1)) (cut_of words))
+    option_and_then (λ tag. option_and_then (λ b. option_and_then (λ c. Some (f tag b c)) (third l.1)) (second l.0)) (tag_of t.0)) (cut_of t.1)) (cut_of words))
 triple_agrees middle end words second third f is_second is_third =
     word_agrees Tag words (λ l. word_of middle l >>= (λ n. last_of end n)) ∙ by (cut_of words)
   where
@@ -115,7 +62,7 @@ triple_agrees middle end words second third f is_second is_third =
 
     by : (o : Option (Text × Text)) → after o Tag (λ l. is_ok (word_of middle l >>= (λ n. last_of end n)))
         ≡ is_some (option_and_then (λ t. option_and_then (λ l.
-            option_and_then (λ tag. option_and_then (λ b. option_and_then (λ c. Some (f tag b c)) (third l.1)) (second l.0)) (tag_of t.0)) (cut_of t.1)) o)
+        option_and_then (λ tag. option_and_then (λ b. option_and_then (λ c. Some (f tag b c)) (third l.1)) (second l.0)) (tag_of t.0)) (cut_of t.1)) o)
     by None = refl
     by (Some t) = ap (λ b. spells Tag t.0 && b) (word_agrees middle t.1 (λ n. last_of end n)) ∙ inner t (cut_of t.1)
 
@@ -140,7 +87,7 @@ write_agrees words = word_agrees Tag words from_lba ∙ by (cut_of words)
     numbers : Text × Text → Text × Text → Text × Text → Option ScriptCommand
     numbers t l n =
         option_and_then (λ tag. option_and_then (λ lba. option_and_then (λ sectors.
-            option_and_then (λ fill. Some (Write tag lba sectors fill)) (byte_of n.1)) (sectors_of n.0)) (decimal_of l.0)) (tag_of t.0)
+        option_and_then (λ fill. Some (Write tag lba sectors fill)) (byte_of n.1)) (sectors_of n.0)) (decimal_of l.0)) (tag_of t.0)
 
     third : (t l : Text × Text) (o : Option (Text × Text)) → (spells Tag t.0 && (spells Number l.0 && after o Sectors (λ fill. is_ok (last_of Byte fill))))
         ≡ is_some (option_and_then (λ n. numbers t l n) o)

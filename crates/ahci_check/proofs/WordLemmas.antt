@@ -1,71 +1,12 @@
 -- Words behind one another are sound exactly where each of them spells what it has to.
-use Rattle.std.proofs.Common.{◌≡◌, ℕ, zero, suc, ◌+◌, ◌-◌, ◌==◌, ◌&&◌, ◌||◌, Bool, true, false, cond, not, nat_le, List, [], ◌∷◌, Option, Some, None, Result, Ok, Err, IfSome, is_ok, is_some, codes, length, option_and_then, option_map, refl, sym, ap, ◌∙◌, arith}
-use Rattle.std.proofs.lemmas.Bool.{le-leb, leb-false, leb-true, lt-leb}
-use Rattle.std.specs.Str.{bytes_eq}
-use Rattle.ahci_script.specs.HexBytes.{header_of, hex_bytes_of}
-use Rattle.ahci_script.specs.Lines.{
-  accept_of,
-  ack_of,
-  at_most_32,
-  collect_of,
-  command_of,
-  disk_of,
-  each_of,
-  fail_of,
-  identify_of,
-  is_ascii,
-  line_of,
-  named,
-  page_word_of,
-  port_at,
-  port_of,
-  raw_of,
-  read_of,
-  reg_of,
-  reissue_of,
-  sectors_of,
-  serve_of,
-  show_of,
-  tag_of,
-  write_of,
-}
-use Rattle.ahci_script.specs.Lines as grammar
-use Rattle.ahci_script.specs.Number.{byte_of, decimal_of, hexadecimal_of}
-use Rattle.ahci_script.specs.Words.{cut_of, words_of}
-use Rattle.ahci_script.specs.declared.line.Line.{Line}
-use Rattle.ahci_script.specs.declared.line.Line.TheVariants.{Skip, Run}
-use Rattle.ahci_script.specs.declared.line.ScriptCommand.{ScriptCommand}
-use Rattle.ahci_script.specs.declared.line.ScriptCommand.TheVariants.{Disk, Write, Read, Raw, Accept, Serve, Fail, Collect, Recover, Reissue, Reg, Ack, Identify, Flush, Show, Journal, Trim}
-use Rattle.ahci_script.proofs.WordsLemmas.{words_of-cut, words_of-whole}
-use Rattle.ahci_check.specs.Breaches.{◌>>=◌, behind_cut, last_of, sound, tags_at, tags_of, word_at, word_of}
-use Rattle.ahci_check.specs.Commands.{
-  Words,
-  collect_words,
-  command_words,
-  disk_words,
-  fail_words,
-  first_of_cut,
-  line_words,
-  named_words,
-  nameless,
-  port_words,
-  raw_words,
-  read_words,
-  seen_in,
-  stands_alone,
-  write_words,
-}
-use Rattle.ahci_check.specs.Complaints.{IsColumn, complaint_at, complaint_in, ends_replay, excess_in, is_in_place, is_language, misplaced, of_line, of_words, stands, stands_at}
+use Rattle.std.proofs.Common.{◌≡◌, ℕ, ◌&&◌, Bool, true, false, cond, List, Option, Some, None, Result, Ok, Err, is_ok, is_some, option_and_then, refl}
+use Rattle.ahci_script.specs.Words.{cut_of}
+use Rattle.ahci_check.specs.Breaches.{◌>>=◌, last_of, sound, word_at, word_of}
 use Rattle.ahci_check.specs.Kinds.{spells}
 use Rattle.ahci_check.specs.declared.breach.Breach.{Breach}
-use Rattle.ahci_check.specs.declared.complaint.Complaint.{Complaint}
-use Rattle.ahci_check.specs.declared.excess.Excess.{Excess}
 use Rattle.ahci_check.specs.declared.kind.Kind.{Kind}
-use Rattle.ahci_check.specs.declared.kind.Kind.TheVariants.{Number, Tag, Sectors, PageWord, Byte, Register, Header, Bytes}
-use Rattle.ahci_check.specs.declared.place.Place.{Place}
-use Rattle.ahci_check.specs.declared.rule.Rule.TheVariants.{Language, Port}
 
-pub abbrev Text : Type 0
+abbrev pub Text : Type 0
 Text = List ℕ
 
 pub and-false : (b : Bool) → (b && false) ≡ false
@@ -101,7 +42,7 @@ last_agrees kind words = by (spells kind words) _
     by false x = refl
 
 -- a word that isn't the last, and those behind it
-pub abbrev after : Option (Text × Text) → Kind → (Text → Bool) → Bool
+abbrev pub after : Option (Text × Text) → Kind → (Text → Bool) → Bool
 after None kind holds = false
 after (Some c) kind holds = spells kind c.0 && holds c.1
 

@@ -11,7 +11,7 @@ use ahci_script::{Line, ScriptCommand, parse};
 
 /// What there is to say of a line of the given number, without its line feed: the rule of the language that it breaks first,
 /// from the left; else that its command may not stand here; else the first limit of the port that its numbers pass. `None`
-/// where `replay` takes the line, whatever the port then answers.
+/// only where `replay` takes the line, whatever the port then answers.
 #[tactic(auto, using(crate::proofs::AgreementLemmas::complaint_agrees))]
 pub fn complaint_of(place: Place, number: u64, line: &[u8]) -> Option<Complaint>
     ensures complaint { result ≡ complaint_in place number line.now }

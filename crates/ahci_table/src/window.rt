@@ -36,6 +36,7 @@ impl<A: Allocator> Window<A> {
         Window { tag, header, bytes }
     }
 
+    /// The tag of the window's slot, below 32.
     pub fn tag(&self) -> u8
         ensures value { result ≡ self.now.tag }
         ensures small { result < 32 }

@@ -7,6 +7,8 @@ mod command_line;
 #[cfg(test)]
 mod page_lines;
 #[cfg(test)]
+mod picks;
+#[cfg(test)]
 mod port;
 #[cfg(test)]
 mod program;

@@ -16,7 +16,7 @@ pub use ncq_journal::{
     Answer, Bytes, Event, Journal, LBA_LIMIT, MAX_COUNT, Op, OutOfMemory, Outcome, Phase, Plain,
     Request, answer_of, answers_of, ci_of, device_tags_of, entry_in, is_allowed, is_busy,
     is_covered, is_halted, is_lawful, is_proper, owed_by, phase_after, phase_of, read_sectors,
-    request_of, sact_of, sector_in, sector_of,
+    request_of, sact_of, sector_in, sector_of, write_sectors,
 };
 pub use serve_fault::ServeFault;
 pub use taken::Taken;

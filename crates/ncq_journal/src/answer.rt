@@ -36,12 +36,14 @@ impl<A: Allocator> Model for Answer<A> {
 }
 
 impl<A: Allocator> Answer<A> {
+    /// The entry by which the request ended: its place, or its number where a port answers.
     pub fn entry(&self) -> u64
         ensures { result ≡ self.now.entry }
     {
         self.entry
     }
 
+    /// How it ended: written, read, or failed with an error at a sector.
     pub fn outcome(&self) -> Outcome
         ensures { result ≡ self.now.outcome }
     {

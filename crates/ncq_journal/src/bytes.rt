@@ -26,6 +26,7 @@ impl<A: Allocator> Bytes<A> {
         Bytes { bytes }
     }
 
+    /// All bytes, in their order.
     pub fn as_slice(&self) -> &[u8]
         ensures { result.now ≡ self.now }
     {

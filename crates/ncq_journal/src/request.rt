@@ -33,6 +33,7 @@ impl<'a, A: Allocator> Request<'a, A> {
         self.number
     }
 
+    /// The command that the entry issues.
     pub fn op(&self) -> &'a Op<A>
         ensures { work_of result.now ≡ self.now.work }
     {

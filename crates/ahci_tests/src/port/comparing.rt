@@ -52,8 +52,8 @@ fn op_of(alloc: Global, command: Command) -> Result<Op, AllocError> {
     })
 }
 
-/// What no entry tells of a port: PxIS, PxTFD, PxSERR and the received FIS area.
-type Shown = ([Result<u32, RegFault>; 3], [u8; 256]);
+/// What no entry tells of a port: PxIS, PxTFD, PxSERR, the received FIS area and the journal's room.
+type Shown = ([Result<u32, RegFault>; 3], [u8; 256], u64);
 
 impl Story {
     fn new(alloc: Global, depth: u32) -> Result<Self, Fail> {
@@ -73,7 +73,7 @@ impl Story {
             port.register(0x120),
             port.register(0x130),
         ];
-        (words, *port.received())
+        (words, *port.received(), port.journal().room())
     }
 
     /// Why the port is to refuse a call, by the entries so far, and by the first case that holds.
@@ -291,8 +291,8 @@ impl Story {
         Ok(32)
     }
 
-    /// Compares the entries' first number and how many there are, PxSACT, PxCI, `halted`, the room and the owners with the plain functions over the
-    /// entries.
+    /// Compares the entries' first number and how many there are, PxSACT, PxCI, `halted`, the room and the owners with the
+    /// plain functions over the entries.
     fn compare(&self, rt: &impl Abort) {
         let past = self.events.as_slice();
         let port = &self.port;

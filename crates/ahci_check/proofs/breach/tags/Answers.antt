@@ -15,8 +15,8 @@ returns-in_err-rest-in-Some c =
 pub loop-room-preserved : goal.loop-room-preserved
 loop-room-preserved c =
     sym
-        (tags-next c.loop-room.room (c.loop-room.room - 1) c.loop-room.rest.now c.in_ok-rest-in-Some.rest.now _
-            (omega (arith, c.loop-room-test.true)) (sym c.in-Some.ensures) c.in_ok-rest-in-Some.ensures.ok)
+    (tags-next c.loop-room.room (c.loop-room.room - 1) c.loop-room.rest.now c.in_ok-rest-in-Some.rest.now _
+    (omega (arith, c.loop-room-test.true)) (sym c.in-Some.ensures) c.in_ok-rest-in-Some.ensures.ok)
     ∙ c.loop-room.invariant
 
 pub returns : goal.returns
