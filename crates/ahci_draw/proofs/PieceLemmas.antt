@@ -32,9 +32,9 @@ pub more_range : {Y : Type 0} (f : ℕ → List Y) (old text new : List Y) (n : 
 more_range f old text new n so_far grown =
     grown ∙ ap (λ t. t ++ f n) so_far ∙ append_assoc old (flat_map f (range_with_len 0 n)) (f n)
     ∙ ap (λ t. old ++ t)
-        (sym
-            (ap (flat_map f) (range_more 0 n ∙ ap (λ k. range_with_len 0 n ++ k ∷ []) (zero-add n))
-            ∙ flat_map-append f (range_with_len 0 n) (n ∷ []) ∙ ap (λ t. flat_map f (range_with_len 0 n) ++ t) (append-nil (f n))))
+    (sym
+    (ap (flat_map f) (range_more 0 n ∙ ap (λ k. range_with_len 0 n ++ k ∷ []) (zero-add n))
+    ∙ flat_map-append f (range_with_len 0 n) (n ∷ []) ∙ ap (λ t. flat_map f (range_with_len 0 n) ++ t) (append-nil (f n))))
 
 -- where the text so far and the columns that are left are the whole, they are so behind the next one
 pub next_column : (answer : List ℕ) (depth first : ℕ) (past : List Entry) (text new whole : List ℕ) (phases after : List Phase) (n end : ℕ) (found : Option Entry)

@@ -10,4 +10,4 @@ unfolding hover_text
 returns g c =
     on_ok_from c.push-3.result _ _ c.push-3.ensures
     (λ last. four _ _ _ _ _ _ _ _ _ _ _ _ _ c.in_ok-push_number.ensures c.in_ok-push.ensures c.in_ok-push-2.ensures last
-        (ap (numbered (codes "<rect y='100' width='16' height='")) c.below.ensures) refl refl refl)
+    (ap (numbered (codes "<rect y='100' width='16' height='")) c.below.ensures) refl refl refl)

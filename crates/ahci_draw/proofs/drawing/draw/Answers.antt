@@ -7,7 +7,7 @@ pub returns-in-Err-Line-clause-err : goal.returns-in-Err-Line-clause-err
 returns-in-Err-Line-clause-err g c =
     sent_at _ _ _ _ c.deref-in-Err-Line.result.now (Line c.in-Err-Line.line) c.send_at.result
     (is_sheet _ _ _ _ _ c.in-Err-Line.field-0 (Line c.in-Err-Line.line) c.new-sheet.ensures.items c.deref-in-Err-Line.ensures.value
-        c.in-Err-Line.field-0-is c.in-Err-Line.ensures.err) c.send_at.ensures
+    c.in-Err-Line.field-0-is c.in-Err-Line.ensures.err) c.send_at.ensures
 
 pub returns-in-Err-Read-clause-err : goal.returns-in-Err-Read-clause-err
 returns-in-Err-Read-clause-err g c =

@@ -11,4 +11,4 @@ unfolding coloured
 returns g c =
     on_ok_from c.push-3.result _ _ c.push-3.ensures
     (λ last. four _ _ _ _ _ _ _ _ _ _ _ _ _ c.in_ok-push_number.ensures c.in_ok-push.ensures c.in_ok-push-2.ensures last
-        (ap (numbered (codes "<rect y='")) (c.below.ensures ∙ ap (λ t. below t 2) c.from.ensures)) refl refl refl)
+    (ap (numbered (codes "<rect y='")) (c.below.ensures ∙ ap (λ t. below t 2) c.from.ensures)) refl refl refl)

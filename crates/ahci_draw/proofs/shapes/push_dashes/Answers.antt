@@ -10,4 +10,4 @@ unfolding dashes_text
 returns g c =
     on_ok_from c.push-3.result _ _ c.push-3.ensures
     (λ last. four _ _ _ _ _ _ _ _ _ _ _ _ _ c.in_ok-push_number.ensures c.in_ok-push.ensures c.in_ok-push-2.ensures last
-        (ap (numbered (codes "<line x1='8' y1='98' x2='8' y2='")) c.below.ensures) refl refl refl)
+    (ap (numbered (codes "<line x1='8' y1='98' x2='8' y2='")) c.below.ensures) refl refl refl)

@@ -57,6 +57,8 @@ returns-clause-taken g c =
     let i = c.self.inside in
     let m = early_may (view_of i.starting.items i.disk i.registers i.unqueued.sent i.area i.slots.items i.journal.first i.journal.past) c.tag-tag.result
     (ap (λ p. early_refusal p c.tag-tag.result) c.self.view_is ∙ sym c.early_fault.ensures ∙ c.in_default.is) in
-    rw (← c.self.view_is)
-    (subst (λ t. MayTake (view_of i.starting.items i.disk i.registers i.unqueued.sent i.area i.slots.items i.journal.first i.journal.past) t)
-        c.tag-tag.ensures.value m, c.in-Ok.ensures.fit)
+    rw (← c.self.view_is) (
+      subst (λ t. MayTake (view_of i.starting.items i.disk i.registers i.unqueued.sent i.area i.slots.items i.journal.first i.journal.past) t)
+          c.tag-tag.ensures.value m,
+      c.in-Ok.ensures.fit,
+    )
