@@ -17,7 +17,8 @@ pub mod CollectingLemmas
 pub mod OwningLemmas
 pub mod StepLemmas
 pub mod TakingLemmas
-pub mod ServedLemmas
+pub mod RoomLemmas
+mod ServedLemmas
 pub mod ListLemmas
 pub mod UnderwayLemmas
 pub mod MappedLemmas

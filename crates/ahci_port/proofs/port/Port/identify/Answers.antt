@@ -16,14 +16,14 @@ pub send-taken-requires : goal.send-taken-requires
 send-taken-requires g c =
     let i = c.self.inside in
     let past = i.journal.past in
-    let m = plain_may (view_of i.starting.items i.disk i.registers i.unqueued.sent i.area i.slots.items i.journal.first past) (ap plain_refusal c.self.view_is ∙ sym c.plain_fault.ensures ∙ c.in_default.is) in
+    let m = plain_may (view_of i.starting.items i.disk i.registers i.unqueued.sent i.area i.slots.items i.journal) (ap plain_refusal c.self.view_is ∙ sym c.plain_fault.ensures ∙ c.in_default.is) in
     identify_passes i.disk (c.self.invariant.error_is ∙ ap (λ b. cond b (last_failure past) None) m.0) (idle_disk _ _ _ _ _ _ _ c.self.invariant m.1)
 
 pub invariant_of-self-2 : goal.invariant_of-self-2
 invariant_of-self-2 g c =
     let i = c.self.inside in
     let past = i.journal.past in
-    let m = plain_may (view_of i.starting.items i.disk i.registers i.unqueued.sent i.area i.slots.items i.journal.first past) (ap plain_refusal c.self.view_is ∙ sym c.plain_fault.ensures ∙ c.in_default.is) in
+    let m = plain_may (view_of i.starting.items i.disk i.registers i.unqueued.sent i.area i.slots.items i.journal) (ap plain_refusal c.self.view_is ∙ sym c.plain_fault.ensures ∙ c.in_default.is) in
     let calm : i.disk.error ≡ None = c.self.invariant.error_is ∙ ap (λ b. cond b (last_failure past) None) m.0 in
     let disk : c.send-taken.new.disk ≡ i.disk = c.send-taken.ensures.disk ∙ identify_state i.disk calm in
     let regs : c.receive_pio.new.registers ≡ read_by_pio i.registers =

@@ -17,6 +17,7 @@ use Rattle.ahci_port.specs.Registers.{after_write, recovered, read_data}
 use Rattle.ahci_port.proofs.LogLemmas.{log_passes, no_error, stopped_state, logged, tag_of_page, failed_low, whole_write, back_again, windows_recover}
 use Rattle.ahci_port.proofs.ReadingLemmas.{stopped_here}
 use Rattle.ahci_port.proofs.RecoveringLemmas.{keeps_recover}
+use Rattle.ahci_port.proofs.RoomLemmas.{reserves_room}
 use Rattle.ahci_port.proofs.port.Port.recover.Goals as goal
 
 pub send-taken-requires : goal.send-taken-requires
@@ -91,6 +92,7 @@ returns-clause-recovered g c =
         past_is = c.push_reserved.ensures.past ∙ ap (λ p. Recover (get_or c.page.result 0 0 % 32) ∷ p) c.in-Ok.ensures.past;
         sent_is = c.take_page.ensures.sent ∙ c.send-taken.ensures.sent;
       };
+      room = reserves_room _ _ _ _ c.in-Ok.ensures.room c.in-Ok.ensures.same c.in-Ok.ensures.more c.push_reserved.ensures.room c.push_reserved.ensures.held;
       registers_are = regs g c;
       area_is = c.receive_pio.ensures.area ∙ ap (λ b. put_at pio_place b i.area) c.pio_setup.ensures;
       windows_same = ap (map window_in) (slots g c) ∙ windows_recover i.slots.items;
