@@ -27,3 +27,4 @@ pub mod LogLemmas
 pub mod QuietLemmas
 pub mod LookingLemmas
 pub mod TrimmingLemmas
+pub mod HistoryLemmas

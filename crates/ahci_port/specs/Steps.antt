@@ -16,6 +16,7 @@ use Rattle.ncq_journal.specs.Numbering.{answer_numbered, place_of}
 use Rattle.ncq_journal.specs.Request.{request}
 use Rattle.ncq_journal.specs.Sector.{sector}
 use Rattle.ncq_journal.specs.Work.{Work, Read, Write, lba_of}
+use Rattle.ahci_port.specs.Headline.{Headline}
 use Rattle.ahci_port.specs.PortView.{PortView, next_number, sectors_in, window_at, put_at, setup_place, pio_place, register_place, bits_place}
 use Rattle.ahci_port.specs.Registers as registers
 use Rattle.ahci_port.specs.Unqueued.{sent_by}
@@ -167,11 +168,15 @@ pub record IsCollected (tag : ℕ) (old new : PortView) : Type 0 where
 abbrev pub trimmed : PortView → PortView
 trimmed port = record port { starting = port.image; first = next_number port; past = []; room = 0; held = 0 }
 
+-- a port with the journal of an earlier one before its own, over the starting image of the earlier one
+abbrev pub over_both : (earlier port : PortView) → PortView
+over_both earlier port = record port { starting = earlier.starting; past = port.past ++ earlier.past; first = earlier.first }
+
 -- what comes after a trim speaks of the whole history: each sector is that of both parts of the journal over the image at
--- the beginning of the first one
-abbrev pub GoesOn : PortView → PortView → Type 0
-GoesOn old new =
-    (later : List Entry) → IsLawful (sectors_in new) new.depth later → (s : ℕ) → sector new.starting later s ≡ sector old.starting (later ++ old.past) s
+-- the beginning of the first one, and wherever the headline holds of a port that goes on from here, it holds over both parts
+pub record GoesOn (old new : PortView) : Type 0 where
+  pub sectors : (later : List Entry) → IsLawful (sectors_in new) new.depth later → (s : ℕ) → sector new.starting later s ≡ sector old.starting (later ++ old.past) s
+  pub headline : (port : PortView) → port.starting ≡ new.starting → port.depth ≡ new.depth → Headline port → Headline (over_both old port)
 
 -- the port recovers from the failure of a tag's command: READ LOG EXT by PIO
 pub record IsRecovered (tag : ℕ) (old new : PortView) : Type 0 where
