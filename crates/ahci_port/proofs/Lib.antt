@@ -28,3 +28,4 @@ pub mod QuietLemmas
 pub mod LookingLemmas
 pub mod TrimmingLemmas
 pub mod HistoryLemmas
+pub mod CarryingLemmas
