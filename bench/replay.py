@@ -4,7 +4,7 @@
     bench/replay.py [ROUNDS]        each script is run ROUNDS times (3 if not given); the fastest run counts
 
 Each script keeps 32 commands in flight: 32 are issued, by turns a write and a read, all are accepted, served from
-the highest tag to the lowest, and collected. The program has to be built before: `./ahci --version` does.
+the highest tag to the lowest, and collected. The program has to be built before, by `./ahci --build`.
 """
 import os
 import subprocess
@@ -14,7 +14,7 @@ import time
 
 DEPTH = 32
 TOP = os.path.dirname(os.path.dirname(os.path.abspath(__file__)))
-PROGRAM = os.path.join(TOP, "crates", "ahci", "out", "ahci")
+PROGRAM = os.path.join(TOP, "crates", "ahci", "out", "rlib", "ahci", "ahci")
 
 # how many commands, how many sectors each of them has, and after how many the journal is trimmed, if it is
 SCRIPTS = [(10_000, 1, 0), (100_000, 1, 0), (1_000_000, 1, 0), (1_000_000, 1, 1_024), (2_000, 256, 0), (20, 65_536, 0)]
@@ -63,7 +63,7 @@ def cost_of(path):
 def main():
     rounds = int(sys.argv[1]) if len(sys.argv) > 1 else 3
     if not os.path.exists(PROGRAM):
-        sys.exit("bench: the program is not built yet: run ./ahci --version first")
+        sys.exit("bench: the program is not built yet: run ./ahci --build first")
     print("| commands | sectors each | trimmed after | lines | seconds | microseconds a command | MB of data a second | MiB of memory |")
     print("|---|---|---|---|---|---|---|---|")
     for commands, sectors, trimmed in SCRIPTS:

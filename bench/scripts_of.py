@@ -9,6 +9,7 @@ each command. A
 line that the port has to refuse stands in it now and then. The last line is `journal`.
 """
 import random
+import signal
 import sys
 
 FREE, ISSUED, ACCEPTED, FAILED, DONE, HELD = "free", "issued", "accepted", "failed", "done", "held"
@@ -171,4 +172,5 @@ def script_of(seed):
 if __name__ == "__main__":
     if len(sys.argv) != 2 or not sys.argv[1].isdecimal():
         sys.exit(__doc__)
+    signal.signal(signal.SIGPIPE, signal.SIG_DFL)  # the script may go to a reader that ends early
     print("\n".join(script_of(int(sys.argv[1]))))

@@ -185,7 +185,7 @@ fn end_check(rt: &HostRuntime, outcome: Result<bool, CliFault>) -> ExitCode
     match outcome {
         Ok(false) => ExitCode::SUCCESS,
         Ok(true) => ExitCode::FAILURE,
-        Err(fault) => fail(rt, fault),
+        Err(why) => fail(rt, why),
     }
 }
 

@@ -10,7 +10,7 @@ use crate::phases::in_device;
 use crate::shapes::push_shapes;
 use crate::text::push_number;
 use crate::words::push_words;
-use ahci_trace::text::push;
+use ahci_script::growing::push;
 use ncq_core::{Event, Phase};
 use std::alloc::{AllocError, Allocator};
 

@@ -4,7 +4,7 @@ ghost use Rattle.std.specs.Prelude.{◌≡◌, ◌++◌, OnOk};
 ghost use Rattle.ahci_draw.specs.Picture.{column_left, counts_text, frame_text, heading_text, height_of, key_text, view_text, width_of};
 
 use crate::text::push_number;
-use ahci_trace::text::push;
+use ahci_script::growing::push;
 use std::alloc::{AllocError, Allocator};
 
 /// The colours by class, and what they mean.

@@ -6,7 +6,7 @@ ghost use Rattle.ahci_draw.specs.Lanes.{below, lane_text, lanes_text, name_text,
 ghost use Rattle.ahci_draw.specs.Sheet.{new_lanes};
 
 use crate::text::push_number;
-use ahci_trace::text::push;
+use ahci_script::growing::push;
 use std::alloc::{AllocError, Allocator};
 
 /// So many units below the top of a tag's lane: lanes are 16 units high.

@@ -5,7 +5,7 @@ ghost use Rattle.ahci_draw.specs.Picture.{count_of, filled, filling, picture_tex
 
 use crate::heading::{column_left, push_heading};
 use crate::text::push_number;
-use ahci_trace::text::push;
+use ahci_script::growing::push;
 use std::alloc::{AllocError, Allocator};
 
 /// The byte that stands for where a column begins, and the one for where the lanes end.

@@ -7,7 +7,7 @@ ghost use Rattle.ahci_draw.specs.Column.{bar_text, bars_text, class_of, coloured
 use crate::lanes::below;
 use crate::phases::in_device;
 use crate::text::push_number;
-use ahci_trace::text::push;
+use ahci_script::growing::push;
 use ncq_core::{Event, Phase};
 use std::alloc::{AllocError, Allocator};
 

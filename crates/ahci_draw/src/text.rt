@@ -1,7 +1,7 @@
 ghost use Rattle.std.specs.Prelude.{◌≡◌, ◌++◌, OnOk};
 ghost use Rattle.ahci_draw.specs.Text.{numbered};
 
-use ahci_trace::text::push;
+use ahci_script::growing::push;
 use itoa::Buffer;
 use std::alloc::{AllocError, Allocator};
 

@@ -7,7 +7,7 @@ ghost use Rattle.ahci_draw.specs.Words.{direction, entry_words, issue_words, fai
 
 use crate::text::push_number;
 use ahci_script::spaced_byte;
-use ahci_trace::text::push;
+use ahci_script::growing::push;
 use ncq_core::{Event, Op, Plain};
 use std::alloc::{AllocError, Allocator};
 

@@ -3,6 +3,7 @@
 
 mod answer;
 mod fault;
+pub mod growing;
 mod hex_bytes;
 mod input;
 mod job;
@@ -15,6 +16,7 @@ mod result_line;
 mod result_text;
 mod tags;
 mod text;
+mod told;
 pub mod words;
 
 pub use answer::ScriptAnswer;
@@ -27,3 +29,4 @@ pub use output::{Output, OutputFailed};
 pub use refusal::{Refusal, name};
 pub use result_line::ResultLine;
 pub use text::{eight_digits, spaced_byte};
+pub use told::answer_bytes;

@@ -11,14 +11,6 @@ more_text f old text new xs i d low so_far grown =
     grown ∙ ap (λ t. t ++ f (get_or xs i d)) so_far ∙ append_assoc old (flat_map f (take i xs)) (f (get_or xs i d))
     ∙ ap (λ t. old ++ t) (sym (ap (flat_map f) (take_more xs i d low) ∙ flat_map-append f (take i xs) (get_or xs i d ∷ []) ∙ ap (λ t. flat_map f (take i xs) ++ t) (append-nil (f (get_or xs i d)))))
 
--- a line without its line feed
-pub without_feed : (line text : List ℕ) (n : ℕ) → text ≡ line ++ 10 ∷ [] → n ≡ length text - 1 → take n text ≡ line
-without_feed line text n is short =
-    ap (take n) is ∙ ap (λ k. take k (line ++ 10 ∷ [])) (short ∙ ap (λ t. length t - 1) is ∙ one_less) ∙ take-append_seam line (10 ∷ [])
-  where
-    one_less : length (line ++ 10 ∷ []) - 1 ≡ length line
-    one_less = let both = length-append line (10 ∷ []) in omega (arith, both)
-
 -- three parts, one behind the other
 pub three_parts : {X : Type 0} (old one two new a b c d : List X) → one ≡ old ++ a → two ≡ one ++ b → new ≡ two ++ c → c ≡ d → new ≡ old ++ (a ++ (b ++ d))
 three_parts old one two new a b c d first second third same =

@@ -2,7 +2,6 @@
 //! and received, the registers that changed, and where the owned slots stand. The same as one JSON object for each command.
 #![tactic(auto)]
 
-mod answering;
 mod appended;
 mod as_json;
 mod change;
@@ -17,11 +16,10 @@ mod owned;
 mod received;
 mod sent;
 mod shown;
-pub mod text;
+mod text;
 mod tracer;
 mod words;
 
-pub use answering::answer_bytes;
 pub use appended::{Appended, Happened};
 pub use change::Change;
 pub use command_trace::CommandTrace;

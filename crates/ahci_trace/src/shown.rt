@@ -15,7 +15,8 @@ use crate::names::{name_of, push_bits};
 use crate::owned::OwnedSlot;
 use crate::received::Received;
 use crate::sent::SentCommand;
-use crate::text::{push, push_byte, push_named, push_number, push_word};
+use crate::text::push_named;
+use ahci_script::growing::{push, push_byte, push_number, push_word};
 use std::alloc::{AllocError, Allocator};
 
 /// The text of a trace.

@@ -1,46 +1,10 @@
 //! Pieces of text, which are made at the end of a growing one. After a refused growth nothing is said of it.
 
-ghost use Rattle.std.specs.Prelude.{◌≡◌, ◌++◌, [], ◌∷◌, OnOk};
-ghost use Rattle.std.specs.Fmt.{decimal};
-ghost use Rattle.ahci_script.specs.Answers.{hex_of};
+ghost use Rattle.std.specs.Prelude.{◌≡◌, ◌++◌, OnOk};
 ghost use Rattle.ahci_trace.specs.Text.{bytes_text, named_text};
 
-use ahci_script::{eight_digits, spaced_byte};
-use itoa::Buffer;
+use ahci_script::growing::{push, push_byte};
 use std::alloc::{AllocError, Allocator};
-
-/// Appends bytes.
-pub fn push<A: Allocator>(text: &mut Vec<u8, A>, more: &[u8]) -> Result<(), AllocError>
-    ensures { OnOk result (text.new.items ≡ text.old.items ++ more.now) }
-{
-    text.extend_from_slice(more)
-}
-
-/// Appends a word and a decimal number.
-pub(crate) fn push_number<A: Allocator>(
-    text: &mut Vec<u8, A>,
-    word: &[u8],
-    number: u64,
-) -> Result<(), AllocError>
-    ensures { OnOk result (text.new.items ≡ text.old.items ++ (word.now ++ decimal number)) }
-{
-    push(text, word)?;
-    push(text, Buffer::new().format(number).as_bytes())
-}
-
-/// Appends a space and the two hexadecimal digits of a byte.
-pub(crate) fn push_byte<A: Allocator>(text: &mut Vec<u8, A>, byte: u8) -> Result<(), AllocError>
-    ensures { OnOk result (text.new.items ≡ text.old.items ++ (32 ∷ hex_of 2 byte)) }
-{
-    push(text, &spaced_byte(byte))
-}
-
-/// Appends the eight hexadecimal digits of a word.
-pub(crate) fn push_word<A: Allocator>(text: &mut Vec<u8, A>, word: u32) -> Result<(), AllocError>
-    ensures { OnOk result (text.new.items ≡ text.old.items ++ hex_of 8 word) }
-{
-    push(text, &eight_digits(word))
-}
 
 /// Appends bytes by their hexadecimal digits, each behind a space.
 pub(crate) fn push_bytes<A: Allocator>(

@@ -5,8 +5,7 @@ ghost use Rattle.ahci_trace.specs.Json.{text_member};
 
 use super::hex::ascii;
 use super::member::put_text;
-use crate::answering::answer_bytes;
-use ahci_script::ScriptAnswer;
+use ahci_script::{ScriptAnswer, answer_bytes};
 use json::Writer;
 use std::alloc::{AllocError, Allocator};
 

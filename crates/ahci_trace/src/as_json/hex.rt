@@ -7,7 +7,7 @@ ghost use Rattle.json.specs.Token.{string};
 ghost use Rattle.ahci_trace.specs.Json.{hex_text, text_member};
 
 use super::member::put_text;
-use crate::text::push;
+use ahci_script::growing::push;
 use ahci_script::{eight_digits, spaced_byte};
 use json::Writer;
 use std::alloc::{AllocError, Allocator};

@@ -2,14 +2,15 @@ ghost use Rattle.std.specs.Prelude.{◌≡◌, IfOk};
 ghost use Rattle.ahci_script.specs.Answers.{answer_text};
 ghost use Rattle.ahci_script.specs.Said.{said};
 
-use ahci_script::{Output, ScriptAnswer};
+use crate::answer::ScriptAnswer;
+use crate::output::Output;
 use std::alloc::{AllocError, Allocator};
 
 /// The text of an answer, without its line feed.
 ///
 /// # Errors
 /// Where a growth was refused.
-#[tactic(auto, using(crate::proofs::TextLemmas::without_feed))]
+#[tactic(auto, using(crate::proofs::FeedLemmas::without_feed))]
 pub fn answer_bytes<A: Allocator + Copy, B: Allocator>(
     alloc: A,
     answer: &ScriptAnswer<B>,
