@@ -11,7 +11,7 @@ pub record Received : Type 0 where
 
 -- what the code's receipt says
 abbrev pub received_of : {A : _} → Receipt A → Received
-received_of r = record { number = r.reply.number; answer = record { entry = r.reply.entry; outcome = r.reply.outcome; bytes = r.bytes } }
+received_of r = record { number = r.reply.number; answer = record { entry = r.reply.entry; outcome = r.reply.outcome; bytes = r.bytes.bytes } }
 
 -- some of these receipts has the number
 abbrev pub is_named : List Received → ℕ → Bool

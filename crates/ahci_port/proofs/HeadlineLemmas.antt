@@ -13,6 +13,7 @@ use Rattle.ncq_journal.specs.Answer.{Answer}
 use Rattle.ncq_core.specs.DiskState.{IsDisk, DiskState, outstanding}
 use Rattle.ncq_journal.specs.Entry.{Entry}
 use Rattle.ncq_journal.specs.Halted.{halted}
+use Rattle.ncq_journal.specs.History.{History}
 use Rattle.ncq_journal.specs.Laws.{is_answered}
 use Rattle.ncq_journal.specs.Lawful.{IsLawful}
 use Rattle.ncq_journal.specs.Phase.{phase}
@@ -72,24 +73,24 @@ device_of starting disk regs slots headers past free k =
     get_or-map is_some disk.commands i None ∙ ap is_some (k.commands i) ∙ device_at starting past i (slot_at slots i) (k.each i)
     ∙ sym (has_place-places (λ t. in_device (phase past t) && not (halted past)) i (let l = length-map disk.commands is_some in let c = k.command_count in omega arith)))
 
-pub headline_of : (starting : List ℕ) (disk : DiskState) (regs : PortState) (sent : Sent) (area : List ℕ) (slots : List (Option SlotState)) (headers : List (List ℕ)) (first : ℕ) (past : List Entry)
-    (free : ℕ) → Keeps starting disk regs slots headers past free → Headline (view_of starting disk regs sent area slots first past)
-headline_of starting disk regs sent area slots headers first past free k = record {
+pub headline_of : (starting : List ℕ) (disk : DiskState) (regs : PortState) (sent : Sent) (area : List ℕ) (slots : List (Option SlotState)) (headers : List (List ℕ)) (journal : History)
+    → Keeps starting disk regs slots headers journal.past journal.room → Headline (view_of starting disk regs sent area slots journal)
+headline_of starting disk regs sent area slots headers journal k = record {
   lawful = k.lawful;
-  owned = λ tag. rw (get_or-map window_in slots tag None) (window_of_slot (length starting / 512) disk.depth starting past tag (slot_at slots tag) k.lawful (k.each tag));
+  owned = λ tag. rw (get_or-map window_in slots tag None) (window_of_slot (length starting / 512) disk.depth starting journal.past tag (slot_at slots tag) k.lawful (k.each tag));
   st = k.tracks.st;
   fre = k.tracks.fre;
   sact_is = k.tracks.sact_is;
   ci_is = k.tracks.ci_is;
-  device_is = device_of starting disk regs slots headers past free k;
+  device_is = device_of starting disk regs slots headers journal.past journal.room k;
   error_is = k.error_is;
   sectors = k.sectors;
 }
 
 pub shape_of : (starting : List ℕ) (disk : DiskState) (regs : PortState) (sent : Sent) (area : List ℕ) (slots : List (Option SlotState))
-    (headers : List (List ℕ)) (first : ℕ) (past : List Entry) (free : ℕ)
-    → Keeps starting disk regs slots headers past free → IsDisk disk → HasShape (view_of starting disk regs sent area slots first past)
-shape_of starting disk regs sent area slots headers first past free k d = record {
+    (headers : List (List ℕ)) (journal : History)
+    → Keeps starting disk regs slots headers journal.past journal.room → IsDisk disk → HasShape (view_of starting disk regs sent area slots journal)
+shape_of starting disk regs sent area slots headers journal k d = record {
   some = k.some_slot;
   most = k.shallow;
   registers = k.tracks.depth_is;

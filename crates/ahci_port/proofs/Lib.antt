@@ -17,7 +17,8 @@ pub mod CollectingLemmas
 pub mod OwningLemmas
 pub mod StepLemmas
 pub mod TakingLemmas
-pub mod ServedLemmas
+pub mod RoomLemmas
+mod ServedLemmas
 pub mod ListLemmas
 pub mod UnderwayLemmas
 pub mod MappedLemmas
@@ -26,3 +27,5 @@ pub mod LogLemmas
 pub mod QuietLemmas
 pub mod LookingLemmas
 pub mod TrimmingLemmas
+pub mod HistoryLemmas
+pub mod CarryingLemmas

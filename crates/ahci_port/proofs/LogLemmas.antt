@@ -17,7 +17,6 @@ use Rattle.std.proofs.Common.{
   length,
   take,
   drop,
-  set,
   get_or,
   ap,
   sym,
@@ -64,10 +63,6 @@ stopped_state disk bytes stopped =
     by None = refl
     by (Some f) = inner (is_read_log f)
 
--- the disk once its error has been read
-abbrev pub no_error : DiskState → DiskState
-no_error disk = record disk { error = None }
-
 -- the log names a failed tag
 pub logged : (starting : List ℕ) (disk : DiskState) (regs : PortState) (slots : List (Option SlotState)) (headers : List (List ℕ)) (past : List Entry) (free : ℕ)
     → Keeps starting disk regs slots headers past free → halted past ≡ true → IsSomeAnd disk.error (λ e. is_failed (phase past e.tag) ≡ true)
@@ -104,11 +99,6 @@ windows_recover (Some slot ∷ slots) = ap (λ xs. Some slot.window ∷ xs) (win
 pub whole_write : {X : Type 0} (items after : List X) (len : ℕ) → len ≡ length items → length after ≡ length items → take len (after ++ drop (length after) items) ≡ after
 whole_write items after len l a =
     ap (λ xs. take len (after ++ xs)) (drop_all (length after) items (omega arith)) ∙ ap (take len) (append-nil after) ∙ take_all len after (omega arith)
-
--- a header that is put aside and put back
-pub back_again : (headers : List (List ℕ)) (x : List ℕ) → 0 < length headers → set (set headers 0 x) 0 (get_or headers 0 []) ≡ headers
-back_again [] x h = absurd (omega arith)
-back_again (y ∷ headers) x h = refl
 
 -- the command that reads the log is let through while an error stands
 pub log_passes : (disk : DiskState) → is_stopped disk ≡ true → (verdict disk (cfis_for plain.ReadLog)).answer ≡ taken.Plain plain.ReadLog

@@ -15,6 +15,7 @@ use Rattle.ncq_core.specs.declared.disk_fault.DiskFault.{DiskFault}
 use Rattle.ncq_core.specs.declared.disk_fault.DiskFault.TheVariants as disk_fault
 use Rattle.ncq_journal.specs.Entry.{Entry, Issue}
 use Rattle.ncq_journal.specs.Halted.{halted}
+use Rattle.ncq_journal.specs.History.{History}
 use Rattle.ncq_journal.specs.Numbering.{number_of}
 use Rattle.ncq_journal.specs.Owed.{owed, owed_in}
 use Rattle.ncq_journal.specs.Phase.{phase}
@@ -136,9 +137,9 @@ resumed x image depth first made low = by (new_fault image depth) (nat_lt most_f
     by (Some f) b h e = absurd (cc)
 
 -- a new port
-pub keeps_new : (image : List ℕ) (depth : ℕ) (headers : List (List ℕ)) → IsDisk (new_disk image depth) → length headers ≡ 32
-    → Keeps image (new_disk image depth) (started depth) (replicate depth None) headers [] 0
-keeps_new image depth headers d count = record {
+pub keeps_new : (image : List ℕ) (held depth : ℕ) (headers : List (List ℕ)) → IsDisk (new_disk image held depth) → length headers ≡ 32
+    → Keeps image (new_disk image held depth) (started depth) (replicate depth None) headers [] 0
+keeps_new image held depth headers d count = record {
   whole = d.whole;
   few = d.most;
   some_slot = d.deep;
@@ -158,18 +159,28 @@ keeps_new image depth headers d count = record {
 }
 
 -- nothing is outstanding in a new disk
-none_in_device : (image : List ℕ) (depth : ℕ) → outstanding (new_disk image depth) ≡ no_places
-none_in_device image depth =
-    same_sets (outstanding (new_disk image depth)) no_places (length-map no_commands is_some ∙ no_count ∙ sym length-no_places)
+none_in_device : (image : List ℕ) (held depth : ℕ) → outstanding (new_disk image held depth) ≡ no_places
+none_in_device image held depth =
+    same_sets (outstanding (new_disk image held depth)) no_places (length-map no_commands is_some ∙ no_count ∙ sym length-no_places)
     (λ i h. get_or-map is_some no_commands i None ∙ ap is_some (no_command i) ∙ sym (has_place-no_places i))
 
 no_windows : (n : ℕ) → map window_in (replicate n None) ≡ replicate n None
 no_windows zero = refl
 no_windows (suc n) = ap (λ xs. None ∷ xs) (no_windows n)
 
+-- a journal is the same where all that callers see of it is
+pub same_journal : (j : History) (first : ℕ) (past : List Entry) (room held : ℕ) → j.first ≡ first → j.past ≡ past → j.room ≡ room → j.held ≡ held
+    → j ≡ record { first = first; past = past; room = room; held = held }
+same_journal j first past room held f p r h =
+    ap (λ n. let k : History = record { first = n; past = j.past; room = j.room; held = j.held } in k) f
+    ∙ ap (λ l. let k : History = record { first = first; past = l; room = j.room; held = j.held } in k) p
+    ∙ ap (λ n. let k : History = record { first = first; past = past; room = n; held = j.held } in k) r
+    ∙ ap (λ n. let k : History = record { first = first; past = past; room = room; held = n } in k) h
+
 -- what callers see of it
-pub view_new : (first : ℕ) (image : List ℕ) (depth : ℕ)
-    → view_of image (new_disk image depth) (started depth) nothing_sent (replicate 256 0) (replicate depth None) first [] ≡ port_from first image depth
-view_new first image depth =
-    ap (λ d. record (port_from first image depth) { device = d; windows = map window_in (replicate depth None) }) (none_in_device image depth)
+pub view_new : (first : ℕ) (image : List ℕ) (held depth : ℕ) (journal : History) → journal ≡ record { first = first; past = []; room = 0; held = 0 }
+    → view_of image (new_disk image held depth) (started depth) nothing_sent (replicate 256 0) (replicate depth None) journal ≡ port_from first image depth
+view_new first image held depth journal empty =
+    ap (λ j. view_of image (new_disk image held depth) (started depth) nothing_sent (replicate 256 0) (replicate depth None) j) empty
+    ∙ ap (λ d. record (port_from first image depth) { device = d; windows = map window_in (replicate depth None) }) (none_in_device image held depth)
     ∙ ap (λ w. record (port_from first image depth) { windows = w }) (no_windows depth)

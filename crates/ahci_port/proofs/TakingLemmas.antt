@@ -34,7 +34,7 @@ use Rattle.ahci_port.specs.Faults.{step_refusal}
 use Rattle.ahci_port.specs.PortView.{PortView, next_number, put_at, register_place}
 use Rattle.ahci_port.specs.Unqueued.{sent_by}
 use Rattle.ahci_port.specs.declared.sent.Sent.{Sent}
-use Rattle.ahci_port.specs.Steps.{Appends, IsTaken, passes_end}
+use Rattle.ahci_port.specs.Steps.{Appends, IsTaken, UsesRoom, passes_end}
 use Rattle.ahci_port.specs.Steps as steps
 use Rattle.ahci_port.specs.declared.step.DeviceStep.TheVariants as step
 use Rattle.ahci_port.specs.declared.step.Stepped.{Stepped}
@@ -229,19 +229,20 @@ keeps_taken starting disk regs slots headers past free left tag k spell t room b
 pub taken_as : (old new : PortView) (tag : ℕ) (work : Work) (answer : Stepped) (lba : ℕ) (passes : Bool) (bytes : List ℕ)
     → passes_end old work ≡ passes → lba ≡ steps.first_lacking old work → AnswersSpell → lba < 2 ^ 48
     → bytes ≡ cond passes (not_found_bytes lba) accepted_bytes → answer ≡ taken_step (next_number old) (d2h_at bytes) → Appends old new (taken_entry tag (d2h_at bytes))
-    → new.registers ≡ after_register old.registers (d2h_at bytes).status (d2h_at bytes).error (d2h_at bytes).i tag → new.area ≡ put_at register_place bytes old.area → new.windows ≡ old.windows
+    → UsesRoom 1 old new → new.registers ≡ after_register old.registers (d2h_at bytes).status (d2h_at bytes).error (d2h_at bytes).i tag → new.area ≡ put_at register_place bytes old.area → new.windows ≡ old.windows
     → IsTaken tag work old new answer
-taken_as old new tag work answer lba false bytes at is spell small same step appended moved area windows =
+taken_as old new tag work answer lba false bytes at is spell small same step appended room moved area windows =
     rw at
     (record {
       answer_is = step ∙ ap (λ b. taken_step (next_number old) (d2h_at b)) same ∙ ap (λ b. cond b (Failed (next_number old)) (Accepted (next_number old))) accepts;
       appended = subst (Appends old new) (ap (λ b. taken_entry tag (d2h_at b)) same
           ∙ ap (λ b. cond b (Fail tag (d2h_at accepted_bytes).error (d2h_at accepted_bytes).lba) (Accept tag)) accepts) appended;
+      room = room;
       registers_are = moved ∙ ap (λ b. after_register old.registers (d2h_at b).status (d2h_at b).error (d2h_at b).i tag) same;
       area_is = area ∙ ap (λ b. put_at register_place b old.area) same;
       windows_same = windows;
     })
-taken_as old new tag work answer lba true bytes at is spell small same step appended moved area windows =
+taken_as old new tag work answer lba true bytes at is spell small same step appended room moved area windows =
     rw at
     (record {
       answer_is = step ∙ ap (λ b. taken_step (next_number old) (d2h_at b)) same ∙ ap (λ b. cond b (Failed (next_number old)) (Accepted (next_number old))) (rejects lba);
@@ -249,6 +250,7 @@ taken_as old new tag work answer lba true bytes at is spell small same step appe
           (ap (λ b. taken_entry tag (d2h_at b)) same ∙ ap (λ b. cond b (Fail tag (d2h_at (not_found_bytes lba)).error (d2h_at (not_found_bytes lba)).lba) (Accept tag)) (rejects lba)
           ∙ ap (Fail tag 0x10) (lba_there lba spell small ∙ is))
           appended;
+      room = room;
       registers_are = moved ∙ ap (λ b. after_register old.registers (d2h_at b).status (d2h_at b).error (d2h_at b).i tag) same;
       area_is = area ∙ ap (λ b. put_at register_place b old.area) (same ∙ ap not_found_bytes is);
       windows_same = windows;

@@ -1,3 +1,4 @@
+pub mod Carrying
 pub mod Faults
 pub mod Headline
 pub mod Keeping

@@ -8,6 +8,7 @@ use Rattle.ncq_core.specs.DiskState.{DiskError}
 use Rattle.ncq_journal.specs.declared.phase.Phase.{Phase}
 use Rattle.ncq_journal.specs.declared.phase.Phase.TheVariants.{Free}
 use Rattle.ncq_journal.specs.Entry.{Entry}
+use Rattle.ncq_journal.specs.History.{History}
 use Rattle.ncq_journal.specs.Numbering.{number_of}
 use Rattle.ncq_journal.specs.Phase.{phase}
 use Rattle.ncq_journal.specs.Request.{request}
@@ -25,6 +26,9 @@ pub record PortView : Type 0 where
   -- what the port has done since then, the newest entry first, and the number of the oldest one
   pub past : List Entry
   pub first : ℕ
+  -- how many more entries the journal takes with no more memory, and for how many in all memory is held
+  pub room : ℕ
+  pub held : ℕ
   pub registers : PortState
   -- what slot 0 sent last that was not queued
   pub sent : Sent
@@ -35,6 +39,10 @@ pub record PortView : Type 0 where
   -- the tags that are outstanding in the device, and the error that stands in it
   pub device : List Bool
   pub error : Option DiskError
+
+-- the port's journal
+abbrev pub journal_in : PortView → History
+journal_in port = record { first = port.first; past = port.past; room = port.room; held = port.held }
 
 -- how many sectors of 512 bytes the disk has
 abbrev pub sectors_in : PortView → ℕ
@@ -77,6 +85,8 @@ port_from first image depth = record {
   depth = depth;
   past = [];
   first = first;
+  room = 0;
+  held = 0;
   registers = started depth;
   sent = nothing_sent;
   area = replicate 256 0;

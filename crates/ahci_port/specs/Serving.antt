@@ -24,3 +24,4 @@ pub record CompletesOne (tag : ℕ) (disk disk_new : DiskState) (slot slot_new :
   pub past_is : journal_new.past ≡ Complete tag ∷ journal.past
   pub first_same : journal_new.first ≡ journal.first
   pub room_is : journal_new.room + 1 ≡ journal.room
+  pub held_same : journal_new.held ≡ journal.held

@@ -12,7 +12,7 @@ use Rattle.ncq_journal.specs.Answer.{Answer}
 use Rattle.ncq_journal.specs.Tags.{in_device}
 use Rattle.ahci_regs.specs.PortState.{PortState}
 use Rattle.ncq_core.specs.DiskState.{DiskState, outstanding}
-use Rattle.ncq_journal.specs.Entry.{Entry}
+use Rattle.ncq_journal.specs.History.{History}
 use Rattle.ahci_port.specs.PortView.{PortView}
 use Rattle.sata_fis.specs.Fields.{QueuedFields}
 use Rattle.ahci_port.specs.declared.ended.Ended.{Ended}
@@ -57,13 +57,15 @@ abbrev pub window_in : Option SlotState → Option WindowState
 window_in slot = option_map (λ s. s.window) slot
 
 -- what callers see of these fields
-abbrev pub view_of : List ℕ → DiskState → PortState → Sent → List ℕ → List (Option SlotState) → ℕ → List Entry → PortView
-view_of starting disk registers sent area slots first past = record {
+abbrev pub view_of : List ℕ → DiskState → PortState → Sent → List ℕ → List (Option SlotState) → History → PortView
+view_of starting disk registers sent area slots journal = record {
   starting = starting;
   image = disk.image;
   depth = disk.depth;
-  past = past;
-  first = first;
+  past = journal.past;
+  first = journal.first;
+  room = journal.room;
+  held = journal.held;
   registers = registers;
   sent = sent;
   area = area;

@@ -1,7 +1,7 @@
 -- What each call of the port does, where it is taken: one entry is appended to the journal, or a Complete for each tag that
 -- is served; the registers move by the writes and FISes of the call, and its FISes stand at their places in the received
 -- FIS area.
-use Rattle.std.specs.Prelude.{◌≡◌, ◌≢◌, ℕ, ◌<◌, max, Bool, true, false, nat_lt, List, [], ◌∷◌, ◌++◌, length, take, Option, None, Some, IsSomeAnd, slice_index, slice_set}
+use Rattle.std.specs.Prelude.{◌≡◌, ◌≢◌, ℕ, ◌+◌, ◌<◌, ◌≤◌, max, Bool, true, false, nat_lt, List, [], ◌∷◌, ◌++◌, length, take, Option, None, Some, IsSomeAnd, slice_index, slice_set}
 use Rattle.std.specs.List.{fold}
 use Rattle.std.specs.Option.{option_and_then, option_map}
 use Rattle.ahci_table.specs.Command.{op, queued_of}
@@ -16,6 +16,7 @@ use Rattle.ncq_journal.specs.Numbering.{answer_numbered, place_of}
 use Rattle.ncq_journal.specs.Request.{request}
 use Rattle.ncq_journal.specs.Sector.{sector}
 use Rattle.ncq_journal.specs.Work.{Work, Read, Write, lba_of}
+use Rattle.ahci_port.specs.Headline.{Headline}
 use Rattle.ahci_port.specs.PortView.{PortView, next_number, sectors_in, window_at, put_at, setup_place, pio_place, register_place, bits_place}
 use Rattle.ahci_port.specs.Registers as registers
 use Rattle.ahci_port.specs.Unqueued.{sent_by}
@@ -34,6 +35,22 @@ pub record Appends (old new : PortView) (entry : Entry) : Type 0 where
   pub past_is : new.past ≡ entry ∷ old.past
   pub sent_is : new.sent ≡ sent_by entry old.sent
 
+-- some entries are appended where room for them was reserved: no memory is asked for
+pub record UsesRoom (count : ℕ) (old new : PortView) : Type 0 where
+  pub room_is : new.room + count ≡ old.room
+  pub held_same : new.held ≡ old.held
+
+-- for how many entries a call that may ask for memory makes room before it appends its own: for that one, and for all that
+-- requests can need after it
+abbrev pub call_room : ℕ
+call_room = 129
+
+-- an entry is appended once there is room for so many. Memory is asked for only where less is held than they need
+pub record ReservesRoom (old new : PortView) : Type 0 where
+  pub room_is : new.room + 1 ≡ max old.room call_room
+  pub held_same : length old.past + call_room ≤ old.held → new.held ≡ old.held
+  pub held_more : old.held ≤ new.held
+
 -- the answer to the request of a number, with the number of its entry
 abbrev pub answer_to : PortView → ℕ → Option Answer
 answer_to port number = option_map (answer_numbered port.first) (option_and_then (answer port.starting port.past) (place_of port.first number))
@@ -41,6 +58,7 @@ answer_to port number = option_map (answer_numbered port.first) (option_and_then
 -- a window is issued: it stands in its slot
 pub record IsIssued (w : WindowState) (old new : PortView) : Type 0 where
   pub appended : Appends old new (Issue w.tag (op w))
+  pub room : ReservesRoom old new
   pub registers_are : new.registers ≡ registers.issued old.registers w.tag
   pub area_same : new.area ≡ old.area
   pub windows_are : new.windows ≡ slice_set old.windows w.tag (Some w)
@@ -49,6 +67,7 @@ pub record IsIssued (w : WindowState) (old new : PortView) : Type 0 where
 pub record IsAccepted (tag : ℕ) (old new : PortView) (answer : Stepped) : Type 0 where
   pub answer_is : answer ≡ Accepted (next_number old)
   pub appended : Appends old new (Accept tag)
+  pub room : UsesRoom 1 old new
   pub registers_are : new.registers ≡ registers.accepted old.registers tag
   pub area_is : new.area ≡ put_at register_place accepted_bytes old.area
   pub windows_same : new.windows ≡ old.windows
@@ -61,6 +80,7 @@ first_lacking port work = max (lba_of work) (sectors_in port)
 pub record IsRejected (tag : ℕ) (work : Work) (old new : PortView) (answer : Stepped) : Type 0 where
   pub answer_is : answer ≡ Failed (next_number old)
   pub appended : Appends old new (Fail tag 0x10 (first_lacking old work))
+  pub room : UsesRoom 1 old new
   pub registers_are : new.registers ≡ registers.refused old.registers tag
   pub area_is : new.area ≡ put_at register_place (not_found_bytes (first_lacking old work)) old.area
   pub windows_same : new.windows ≡ old.windows
@@ -114,6 +134,7 @@ with_setup (Some w) area = put_at setup_place (setup_bytes (queued_of w)) area
 pub record IsServed (tags : List ℕ) (old new : PortView) (answer : Stepped) : Type 0 where
   pub answer_is : answer ≡ Completed (next_number old) (length tags)
   pub appended : CompletesAll tags old new
+  pub room : UsesRoom (length tags) old new
   pub registers_are : new.registers ≡ registers.completed old.registers tags
   pub area_is : new.area ≡ put_at bits_place (completed_bytes (registers.word_of_tags tags)) (fold (λ area tag. with_setup (window_at old tag) area) old.area tags)
   pub moved : (k : ℕ) → k < length tags → HasMoved tags old new k
@@ -123,6 +144,7 @@ pub record IsServed (tags : List ℕ) (old new : PortView) (answer : Stepped) : 
 pub record IsFailed (tag error lba : ℕ) (old new : PortView) (answer : Stepped) : Type 0 where
   pub answer_is : answer ≡ Failed (next_number old)
   pub appended : Appends old new (Fail tag error lba)
+  pub room : UsesRoom 1 old new
   pub registers_are : new.registers ≡ registers.failed old.registers error
   pub area_is : new.area ≡ put_at bits_place (failed_bytes error) old.area
   pub windows_same : new.windows ≡ old.windows
@@ -136,23 +158,30 @@ IsStepped (step.Fail tag error lba) old new answer = IsFailed tag error lba old 
 -- a request is collected: its slot is free
 pub record IsCollected (tag : ℕ) (old new : PortView) : Type 0 where
   pub appended : Appends old new (Collect tag)
+  pub room : UsesRoom 1 old new
   pub registers_same : new.registers ≡ old.registers
   pub area_same : new.area ≡ old.area
   pub windows_are : new.windows ≡ slice_set old.windows tag None
 
--- the journal is handed out: the image is the starting image from here on, and the next entry has the next number
+-- the journal is handed out, with its memory: the image is the starting image from here on, and the next entry has the next
+-- number
 abbrev pub trimmed : PortView → PortView
-trimmed port = record port { starting = port.image; first = next_number port; past = [] }
+trimmed port = record port { starting = port.image; first = next_number port; past = []; room = 0; held = 0 }
+
+-- a port with the journal of an earlier one before its own, over the starting image of the earlier one
+abbrev pub over_both : (earlier port : PortView) → PortView
+over_both earlier port = record port { starting = earlier.starting; past = port.past ++ earlier.past; first = earlier.first }
 
 -- what comes after a trim speaks of the whole history: each sector is that of both parts of the journal over the image at
--- the beginning of the first one
-abbrev pub GoesOn : PortView → PortView → Type 0
-GoesOn old new =
-    (later : List Entry) → IsLawful (sectors_in new) new.depth later → (s : ℕ) → sector new.starting later s ≡ sector old.starting (later ++ old.past) s
+-- the beginning of the first one, and wherever the headline holds of a port that goes on from here, it holds over both parts
+pub record GoesOn (old new : PortView) : Type 0 where
+  pub sectors : (later : List Entry) → IsLawful (sectors_in new) new.depth later → (s : ℕ) → sector new.starting later s ≡ sector old.starting (later ++ old.past) s
+  pub headline : (port : PortView) → port.starting ≡ new.starting → port.depth ≡ new.depth → Headline port → Headline (over_both old port)
 
 -- the port recovers from the failure of a tag's command: READ LOG EXT by PIO
 pub record IsRecovered (tag : ℕ) (old new : PortView) : Type 0 where
   pub appended : Appends old new (Recover tag)
+  pub room : ReservesRoom old new
   pub registers_are : new.registers ≡ registers.recovered old.registers
   pub area_is : new.area ≡ put_at pio_place pio_bytes old.area
   pub windows_same : new.windows ≡ old.windows
@@ -160,6 +189,7 @@ pub record IsRecovered (tag : ℕ) (old new : PortView) : Type 0 where
 -- a held command is issued again
 pub record IsReissued (tag : ℕ) (old new : PortView) : Type 0 where
   pub appended : Appends old new (Reissue tag)
+  pub room : UsesRoom 1 old new
   pub registers_are : new.registers ≡ registers.issued old.registers tag
   pub area_same : new.area ≡ old.area
   pub windows_same : new.windows ≡ old.windows
@@ -167,6 +197,7 @@ pub record IsReissued (tag : ℕ) (old new : PortView) : Type 0 where
 -- IDENTIFY DEVICE is carried out: a PIO Setup FIS
 pub record IsIdentified (old new : PortView) : Type 0 where
   pub appended : Appends old new (Unqueued plain.Identify)
+  pub room : ReservesRoom old new
   pub registers_are : new.registers ≡ registers.read_by_pio old.registers
   pub area_is : new.area ≡ put_at pio_place pio_bytes old.area
   pub windows_same : new.windows ≡ old.windows
@@ -174,6 +205,7 @@ pub record IsIdentified (old new : PortView) : Type 0 where
 -- FLUSH CACHE EXT is carried out: a D2H Register FIS
 pub record IsFlushed (old new : PortView) : Type 0 where
   pub appended : Appends old new (Unqueued plain.Flush)
+  pub room : ReservesRoom old new
   pub registers_are : new.registers ≡ registers.flushed old.registers
   pub area_is : new.area ≡ put_at register_place flushed_bytes old.area
   pub windows_same : new.windows ≡ old.windows

@@ -58,7 +58,7 @@ impl<A: Allocator> Model for Port<A> {
 
     ghost Value = { PortView };
 
-    ghost view = { λ p. view_of p.starting.items p.disk p.registers p.unqueued.sent p.area p.slots.items p.journal.first p.journal.past };
+    ghost view = { λ p. view_of p.starting.items p.disk p.registers p.unqueued.sent p.area p.slots.items p.journal };
 
     ghost invariant = { λ p. Keeps p.starting.items p.disk p.registers p.slots.items p.headers p.journal.past p.journal.room };
 }
@@ -168,8 +168,8 @@ impl<A: Allocator + Clone> Port<A> {
         depth: u32,
         first: u64,
     ) -> Result<Self, AllocError>
-        requires new { disk ≡ new_disk starting.items depth }
-        requires disk { IsDisk (new_disk starting.items depth) }
+        requires new { disk ≡ new_disk starting.items disk.held depth }
+        requires disk { IsDisk (new_disk starting.items disk.held depth) }
         requires first { first ≤ most_first }
         ensures { IfOk result (λ p. p ≡ port_from first starting.items depth) }
     {
@@ -264,6 +264,8 @@ impl<A: Allocator> Port<A> {
         ensures first { result.now.first ≡ self.now.first }
         ensures past { result.now.past ≡ self.now.past }
         ensures room { owed self.now.past ≤ result.now.room }
+        ensures room_is { result.now.room ≡ self.now.room }
+        ensures held { result.now.held ≡ self.now.held }
         ensures headline { Headline self.now }
     {
         &self.journal

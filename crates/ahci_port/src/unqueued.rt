@@ -6,9 +6,11 @@ ghost use Rattle.ahci_regs.specs.declared.register.Register.TheVariants.{PxCi};
 ghost use Rattle.ahci_regs.specs.RegisterTable.{offset_of};
 ghost use Rattle.ncq_core.specs.Verdict.{verdict};
 ghost use Rattle.ncq_core.specs.declared.taken.Taken.TheVariants as taken;
+ghost use Rattle.ahci_port.specs.Carrying.{HasRead, Passes, area_after, carried, disk_after, told};
 ghost use Rattle.ahci_port.specs.Registers.{after_write};
 ghost use Rattle.ahci_port.specs.Unqueued.{cfis_for, entries_for, header_for, sent_for};
 
+use crate::receiving::{receive_pio, receive_register};
 use crate::sent::Sent;
 use crate::software::write;
 use ahci_regs::{PortRegs, Register};
@@ -66,7 +68,7 @@ fn sent_for(plain: Plain) -> Sent
 
 /// Sends a command by slot 0: header and command table are put where the device finds them, PxCI[0] is set, and the device
 /// takes the command, which is the answer.
-pub(crate) fn send<A: Allocator>(
+fn send<A: Allocator>(
     plain: Plain,
     header: &mut [u8; 32],
     table: &mut UnqueuedTable,
@@ -87,6 +89,60 @@ pub(crate) fn send<A: Allocator>(
         Taken::Plain(taken) => taken,
         _ => unreachable!(),
     }
+}
+
+/// Receives what the device answers to a command that it has taken: a page by PIO, or the end of a flush.
+fn receive<A: Allocator>(
+    plain: Plain,
+    table: &mut UnqueuedTable,
+    registers: &mut PortRegs,
+    area: &mut [u8; 256],
+    disk: &mut Disk<A>,
+)
+    requires { Passes plain disk.old }
+    ensures page { HasRead plain disk.old table.new.page }
+    ensures sent { table.new.sent ≡ table.old.sent }
+    ensures registers { registers.new ≡ told plain registers.old }
+    ensures area { area.new ≡ area_after plain area.old }
+    ensures disk { disk.new ≡ disk_after plain disk.old }
+{
+    match plain {
+        Plain::Identify => {
+            receive_pio(registers, area, &Disk::pio_setup());
+            table.take_page(disk.identify());
+        }
+        Plain::Flush => {
+            receive_register(registers, area, &Disk::flushed(), 0);
+        }
+        Plain::ReadLog => {
+            receive_pio(registers, area, &Disk::pio_setup());
+            table.take_page(disk.read_log());
+        }
+    }
+}
+
+/// Carries a command out by slot 0: it is sent, and what the device answers is received. The header of the window that stands
+/// in slot 0 is put aside meanwhile.
+pub(crate) fn carry_out<A: Allocator>(
+    plain: Plain,
+    headers: &mut [[u8; 32]; 32],
+    table: &mut UnqueuedTable,
+    registers: &mut PortRegs,
+    area: &mut [u8; 256],
+    disk: &mut Disk<A>,
+)
+    requires { Passes plain disk.old }
+    ensures page { HasRead plain disk.old table.new.page }
+    ensures sent { table.new.sent ≡ sent_for plain }
+    ensures headers { headers.new ≡ headers.old }
+    ensures registers { registers.new ≡ carried plain registers.old }
+    ensures area { area.new ≡ area_after plain area.old }
+    ensures disk { disk.new ≡ disk_after plain disk.old }
+{
+    let aside = headers[0];
+    let taken = send(plain, &mut headers[0], table, registers, disk);
+    receive(taken, table, registers, area, disk);
+    headers[0] = aside;
 }
 
 /// The PRDT's one entry: 512 bytes at 00020200h.

@@ -62,27 +62,27 @@ none_outstanding : (disk : DiskState) (commands : List (Option QueuedFields)) �
 none_outstanding disk commands none tag q found =
     let is : None ≡ Some q = sym (command_of-no_commands tag) ∙ ap (λ c. get_or c tag None) (sym none) ∙ found in absurd (cc)
 
-pub is_disk_new : (image : List ℕ) (depth : ℕ) (none : List (Option QueuedFields)) → none ≡ no_commands
+pub is_disk_new : (image : List ℕ) (held depth : ℕ) (none : List (Option QueuedFields)) → none ≡ no_commands
     → length image ≡ 512 * (length image / 512) → 1 ≤ length image / 512 → length image / 512 ≤ 131072 → 1 ≤ depth → depth ≤ 32
-    → IsDisk (record { image = image; depth = depth; commands = none; error = None })
-is_disk_new image depth none empty whole least most deep shallow = record {
+    → IsDisk (record { image = image; held = held; depth = depth; commands = none; error = None })
+is_disk_new image held depth none empty whole least most deep shallow = record {
   whole = whole;
   least = least;
   most = most;
   deep = deep;
   shallow = shallow;
   count = ap length empty ∙ length-no_commands;
-  each = none_outstanding (record { image = image; depth = depth; commands = none; error = None }) none empty;
+  each = none_outstanding (record { image = image; held = held; depth = depth; commands = none; error = None }) none empty;
   stands = λ e is. absurd (cc);
 }
 
 -- an error stands, and no command is left
-pub is_disk_stopped : (image : List ℕ) (depth : ℕ) (commands none : List (Option QueuedFields)) (error : Option DiskError) (tag code lba : ℕ)
-    → IsDisk (record { image = image; depth = depth; commands = commands; error = error }) → none ≡ no_commands
-    → tag < 32 → code < 256 → lba < 2 ^ 48 → IsDisk (record { image = image; depth = depth; commands = none; error = Some (record { tag = tag; error = code; lba = lba }) })
-is_disk_stopped image depth commands none error tag code lba d empty low byte far =
+pub is_disk_stopped : (image : List ℕ) (held depth : ℕ) (commands none : List (Option QueuedFields)) (error : Option DiskError) (tag code lba : ℕ)
+    → IsDisk (record { image = image; held = held; depth = depth; commands = commands; error = error }) → none ≡ no_commands
+    → tag < 32 → code < 256 → lba < 2 ^ 48 → IsDisk (record { image = image; held = held; depth = depth; commands = none; error = Some (record { tag = tag; error = code; lba = lba }) })
+is_disk_stopped image held depth commands none error tag code lba d empty low byte far =
     let e : DiskError = record { tag = tag; error = code; lba = lba } in
-    let after : DiskState = record { image = image; depth = depth; commands = none; error = Some e } in
+    let after : DiskState = record { image = image; held = held; depth = depth; commands = none; error = Some e } in
     record {
       whole = d.whole;
       least = d.least;
@@ -95,10 +95,10 @@ is_disk_stopped image depth commands none error tag code lba d empty low byte fa
     }
 
 -- other bytes stand in the image
-pub is_disk_moved : (image after : List ℕ) (depth len : ℕ) (commands : List (Option QueuedFields)) (error : Option DiskError)
-    → IsDisk (record { image = image; depth = depth; commands = commands; error = error })
-    → len ≡ length image → length after ≡ length image → IsDisk (record { image = take len (after ++ drop (length after) image); depth = depth; commands = commands; error = error })
-is_disk_moved image after depth len commands error d whole size =
+pub is_disk_moved : (image after : List ℕ) (held depth len : ℕ) (commands : List (Option QueuedFields)) (error : Option DiskError)
+    → IsDisk (record { image = image; held = held; depth = depth; commands = commands; error = error })
+    → len ≡ length image → length after ≡ length image → IsDisk (record { image = take len (after ++ drop (length after) image); held = held; depth = depth; commands = commands; error = error })
+is_disk_moved image after held depth len commands error d whole size =
     let written = whole_write image after len whole size in
     let same : length (take len (after ++ drop (length after) image)) ≡ length image = ap length written ∙ size in
     record {
@@ -113,10 +113,10 @@ is_disk_moved image after depth len commands error d whole size =
     }
 
 -- one command has ended
-pub is_disk_freed : (image : List ℕ) (depth tag : ℕ) (commands : List (Option QueuedFields)) (error : Option DiskError)
-    → IsDisk (record { image = image; depth = depth; commands = commands; error = error })
-    → IsDisk (record { image = image; depth = depth; commands = set commands tag None; error = error })
-is_disk_freed image depth tag commands error d = record {
+pub is_disk_freed : (image : List ℕ) (held depth tag : ℕ) (commands : List (Option QueuedFields)) (error : Option DiskError)
+    → IsDisk (record { image = image; held = held; depth = depth; commands = commands; error = error })
+    → IsDisk (record { image = image; held = held; depth = depth; commands = set commands tag None; error = error })
+is_disk_freed image held depth tag commands error d = record {
   whole = d.whole;
   least = d.least;
   most = d.most;

@@ -11,9 +11,11 @@ pub record DiskError : Type 0 where
   pub error : ℕ
   pub lba : ℕ
 
--- the bytes of all sectors, how many tags there are, the command outstanding at each of 32 tags, and the error
+-- the bytes of all sectors, for how many bytes memory is held, how many tags there are, the command outstanding at each of
+-- 32 tags, and the error
 pub record DiskState : Type 0 where
   pub image : List ℕ
+  pub held : ℕ
   pub depth : ℕ
   pub commands : List (Option QueuedFields)
   pub error : Option DiskError
@@ -38,9 +40,9 @@ is_stopped disk = is_some disk.error
 unfoldable pub no_commands : List (Option QueuedFields)
 no_commands = replicate 32 None
 
--- a disk on which nothing has happened yet
-abbrev pub new_disk : List ℕ → ℕ → DiskState
-new_disk image depth = record { image = image; depth = depth; commands = no_commands; error = None }
+-- a disk on which nothing has happened yet, over an image for which so much memory is held
+abbrev pub new_disk : List ℕ → ℕ → ℕ → DiskState
+new_disk image held depth = record { image = image; held = held; depth = depth; commands = no_commands; error = None }
 
 -- the most sectors of a disk, and the most tags (ACS-3, READ FPDMA QUEUED: a tag has five bits)
 abbrev pub most_disk_sectors : ℕ

@@ -6,7 +6,7 @@ mod moving;
 mod serving;
 mod taking;
 
-ghost use Rattle.std.specs.Prelude.{◌≡◌, ◌<◌, ◌^◌, None, Some, length, IfOk, IfErr};
+ghost use Rattle.std.specs.Prelude.{◌≡◌, ◌<◌, ◌^◌, None, Some, length, vec_capacity, IfOk, IfErr};
 ghost use Rattle.word_bits.specs.Places.{bits};
 ghost use Rattle.ncq_journal.specs.Image.{sector_at};
 ghost use Rattle.ncq_core.specs.DiskState.{IsDisk, disk_sectors, command_of, outstanding, is_stopped, new_disk, new_fault, no_commands};
@@ -44,13 +44,14 @@ pub struct Disk<A: Allocator = Global> {
 }
 
 impl<A: Allocator> Model for Disk<A> {
+    ghost use Rattle.std.specs.Prelude.{vec_capacity};
     ghost use Rattle.ncq_core.specs.DiskState.{DiskState, IsDisk};
 
     ghost Value = { DiskState };
 
-    ghost view = { λ d. record { image = d.image.items; depth = d.depth; commands = d.commands; error = d.error } };
+    ghost view = { λ d. record { image = d.image.items; held = vec_capacity d.image; depth = d.depth; commands = d.commands; error = d.error } };
 
-    ghost invariant = { λ d. IsDisk (record { image = d.image.items; depth = d.depth; commands = d.commands; error = d.error }) };
+    ghost invariant = { λ d. IsDisk (record { image = d.image.items; held = vec_capacity d.image; depth = d.depth; commands = d.commands; error = d.error }) };
 }
 
 impl<A: Allocator> Disk<A> {
@@ -58,9 +59,8 @@ impl<A: Allocator> Disk<A> {
     ///
     /// # Errors
     /// `BadSize` where the image is not 1 to 131,072 whole sectors of 512 bytes, `BadDepth` where the depth is not 1 to 32.
-    #[tactic(auto, using(crate::proofs::DiskLemmas::is_disk_new))]
     pub fn new(image: Vec<u8, A>, depth: u32) -> Result<Self, DiskFault>
-        ensures ok { IfOk result (λ d. (new_fault image.items depth ≡ None) × (d ≡ new_disk image.items depth)) }
+        ensures ok { IfOk result (λ d. (new_fault image.items depth ≡ None) × (d ≡ new_disk image.items (vec_capacity image) depth)) }
         ensures err { IfErr result (λ e. new_fault image.items depth ≡ Some e) }
     {
         let len = image.len();

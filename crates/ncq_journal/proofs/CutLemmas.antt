@@ -1,5 +1,5 @@
 -- What the later of two parts of a journal, with every tag free between them, knows of the earlier one.
-use Rattle.std.proofs.Common.{◌≡◌, ℕ, ◌+◌, ◌<◌, Bool, true, false, cond, ◌==◌, List, [], ◌∷◌, ◌++◌, length, ap, sym, refl, subst, ◌∙◌, Option, None, Some, is_some, IsSomeAnd, arith, suc, length-append}
+use Rattle.std.proofs.Common.{◌≡◌, ℕ, ◌+◌, ◌<◌, Bool, true, false, not, ◌&&◌, cond, ◌==◌, List, [], ◌∷◌, ◌++◌, length, ap, sym, refl, subst, ◌∙◌, Option, None, Some, is_some, IsSomeAnd, arith, suc, length-append}
 use mathlib.Core.List.{reverse}
 use Rattle.std.specs.List.{flat_map, range_with_len, slice_get}
 use Rattle.std.specs.Option.{option_map, option_or}
@@ -10,21 +10,47 @@ use Rattle.ncq_journal.specs.declared.phase.Phase.TheVariants.{Free, Issued}
 use Rattle.ncq_journal.specs.declared.outcome.Outcome.TheVariants as outcome
 use Rattle.ncq_journal.specs.Answer.{Answer, answer, completes, given}
 use Rattle.ncq_journal.specs.Entry.{Entry, Issue, Accept, Complete, Fail, Recover, Reissue, Collect, Unqueued}
+use Rattle.ncq_journal.specs.Halted.{halted}
 use Rattle.ncq_journal.specs.History.{entry_at}
 use Rattle.ncq_journal.specs.Lawful.{IsAllowed, IsLawful, Fails, Fits}
-use Rattle.ncq_journal.specs.Laws.{AllFree, is_answered, PhaseOfParts, LawfulOfParts, RequestOfParts, AnswerOfParts, AnswerOfEarlier}
+use Rattle.ncq_journal.specs.Laws.{AllFree, is_answered, PhaseOfParts, SactOfParts, CiOfParts, DeviceTagsOfParts, HaltedOfParts, BusyOfParts, OwedOfParts, LawfulOfParts, RequestOfParts, AnswerOfParts, AnswerOfEarlier}
 use Rattle.ncq_journal.specs.Numbering.{request_numbered, answer_numbered}
+use Rattle.ncq_journal.specs.Owed.{owed_in}
 use Rattle.ncq_journal.specs.Phase.{phase, is_failed}
 use Rattle.ncq_journal.specs.Request.{Request, request}
 use Rattle.ncq_journal.specs.Sector.{sector}
+use Rattle.ncq_journal.specs.Tags.{in_sact, in_ci, in_device}
 use Rattle.ncq_journal.specs.Work.{Work, Read, Write}
+use Rattle.word_bits.proofs.PlacesLemmas.{same_places}
 use Rattle.ncq_journal.proofs.AnsweredLemmas.{answered_by_phase, given_none, no_answer_yet, unanswered_is_last}
 use Rattle.ncq_journal.proofs.EntryLemmas.{slice_get-front}
 use Rattle.ncq_journal.proofs.PartLemmas.{phase_parts, halted_parts, busy_parts, command_parts, same_command, lawful_parts, sector_parts}
 use Rattle.ncq_journal.proofs.PhaseLemmas.{owned_has_request, fails_not_free}
+use Rattle.ncq_journal.proofs.TagLemmas.{sum_same}
 
 pub phase_of_parts : PhaseOfParts
 phase_of_parts = phase_parts
+
+-- what a tag's phase alone decides, each tag of both parts decides as after the later one
+pub sact_of_parts : SactOfParts
+sact_of_parts later past free = same_places (λ t. in_sact (phase (later ++ past) t)) (λ t. in_sact (phase later t)) (λ t low. ap in_sact (phase_parts later past t free))
+
+pub ci_of_parts : CiOfParts
+ci_of_parts later past free = same_places (λ t. in_ci (phase (later ++ past) t)) (λ t. in_ci (phase later t)) (λ t low. ap in_ci (phase_parts later past t free))
+
+pub device_tags_of_parts : DeviceTagsOfParts
+device_tags_of_parts later past free =
+    same_places (λ t. in_device (phase (later ++ past) t) && not (halted (later ++ past))) (λ t. in_device (phase later t) && not (halted later))
+    (λ t low. ap (λ p. in_device p && not (halted (later ++ past))) (phase_parts later past t free) ∙ ap (λ b. in_device (phase later t) && not b) (halted_parts later past free))
+
+pub halted_of_parts : HaltedOfParts
+halted_of_parts = halted_parts
+
+pub busy_of_parts : BusyOfParts
+busy_of_parts = busy_parts
+
+pub owed_of_parts : OwedOfParts
+owed_of_parts later past free = sum_same (λ t. owed_in (phase later t)) (λ t. owed_in (phase (later ++ past) t)) (λ t. ap owed_in (phase_parts later past t free))
 
 allowed_whole : (s d : ℕ) (later past : List Entry) (entry : Entry) → AllFree past → IsLawful s d later → IsAllowed s d later entry → IsAllowed s d (later ++ past) entry
 allowed_whole s d later past (Issue t work) free own h = (h.0, phase_parts later past t free ∙ h.1, halted_parts later past free ∙ h.2, h.3)

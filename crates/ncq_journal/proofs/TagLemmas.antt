@@ -91,6 +91,11 @@ sum-range_add f g h a (suc n) each =
     let here = each a in
     omega (arith, sum_by-cons f a (range_with_len (a + 1) n), sum_by-cons g a (range_with_len (a + 1) n), sum_by-cons h a (range_with_len (a + 1) n), rest, here)
 
+-- the same number for each tag makes the same sum
+pub sum_same : (f g : ℕ → ℕ) → ((u : ℕ) → g u ≡ f u) → sum_by g tags ≡ sum_by f tags
+unfolding tags
+sum_same f g same = sum-range_same f g 0 32 (λ u _ _. same u)
+
 -- the sum over all tags where one tag's number alone changes
 pub sum_one : (f g : ℕ → ℕ) (t : ℕ) → t < 32 → ((u : ℕ) → u ≢ t → g u ≡ f u) → sum_by g tags + f t ≡ sum_by f tags + g t
 unfolding tags

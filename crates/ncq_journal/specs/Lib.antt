@@ -1,6 +1,7 @@
 pub mod Answer
 pub mod Entry
 pub mod Halted
+pub mod HeldBytes
 pub mod History
 pub mod Image
 pub mod Lawful

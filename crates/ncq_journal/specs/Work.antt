@@ -11,7 +11,7 @@ pub data Work : Type 0 where
 -- what the code's Op asks for
 abbrev pub work_of : {A : _} → Op A → Work
 work_of (code.Read lba sectors) = Read lba sectors
-work_of (code.Write lba bytes) = Write lba bytes
+work_of (code.Write lba text) = Write lba text.bytes
 
 -- the LBA of the first sector
 abbrev pub lba_of : Work → ℕ

@@ -107,8 +107,8 @@ impl<A: Allocator> Journal<A> {
         self.room
     }
 
-    /// Makes room for `count` more entries. It fails only where the memory that is held is too little for them, and then
-    /// nothing has changed.
+    /// Makes room for `count` more entries. Memory is asked for only where less is held than they need; it fails only there, and
+    /// then nothing has changed.
     #[tactic(auto, using(crate::proofs::HistoryLemmas::length_history))]
     pub fn reserve(&mut self, count: u64) -> Result<(), OutOfMemory>
         ensures first { self.new.first ≡ self.old.first }
@@ -117,13 +117,25 @@ impl<A: Allocator> Journal<A> {
         ensures held { OnOk result (length self.new.past + self.new.room ≤ self.new.held) }
         ensures err { OnErr result (self.new ≡ self.old) }
         ensures enough { count ≤ self.old.room → IsOk result }
+        ensures same { length self.old.past + count ≤ self.old.held → self.new.held ≡ self.old.held }
+        ensures more { self.old.held ≤ self.new.held }
         ensures lacking { OnErr result (self.old.held < length self.old.past + count) }
     {
         if count > self.room {
-            self.events.reserve(count as usize)?;
+            if count > self.spare() {
+                self.events.reserve(count as usize)?;
+            }
             self.room = count;
         }
         Ok(())
+    }
+
+    /// For how many more entries memory is held.
+    #[tactic(auto, using(crate::proofs::HistoryLemmas::length_history))]
+    fn spare(&self) -> u64
+        ensures { length self.now.past + result ≡ self.now.held }
+    {
+        (self.events.capacity() - self.events.len()) as u64
     }
 
     /// Appends an event where `reserve` has made room, in the memory that is held.

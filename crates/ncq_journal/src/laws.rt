@@ -2,7 +2,7 @@
 ghost use Rattle.ncq_journal.specs.Laws.{LawfulAtEach, FreePastDepth, OwnedHasRequest, RequestIsItsIssue, AnsweredByPhase, OwedIsFew, OwedMoves};
 ghost use Rattle.ncq_journal.specs.Laws.{WritesItsSectors, OthersWriteNothing, CompletedIsAnswered, FailedIsNotCompleted, CompletedHasThisAnswer};
 ghost use Rattle.ncq_journal.specs.Laws.{FailedHasThisAnswer, UnansweredIsLast, OneHasFailed, HaltedByATag, BusyByATag, DeviceTagsInSact, CiInSact, TwoParts};
-ghost use Rattle.ncq_journal.specs.Laws.{PhaseOfParts, LawfulOfParts, RequestOfParts, AnswerOfParts, AnswerOfEarlier};
+ghost use Rattle.ncq_journal.specs.Laws.{PhaseOfParts, SactOfParts, CiOfParts, DeviceTagsOfParts, HaltedOfParts, BusyOfParts, OwedOfParts, LawfulOfParts, RequestOfParts, AnswerOfParts, AnswerOfEarlier};
 ghost use Rattle.ncq_journal.specs.Laws.{NumberOfPlace, NoneBelowFirst, NoneFromEnd, NumbersDiffer};
 
 /// A journal is lawful exactly where each of its entries was allowed by the entries before it.
@@ -75,6 +75,17 @@ pub fn outstanding_tags_are_active()
 /// after both is that of the later part over the image after the earlier one.
 pub fn a_journal_may_be_cut_where_all_tags_are_free()
     ensures { TwoParts }
+{}
+
+/// Where every tag is free between two parts of a journal, the tags of PxSACT, of PxCI and of the device after both are those
+/// after the later one alone, and so is whether the port has halted or is busy, and what its requests can still need.
+pub fn a_cut_leaves_what_the_tags_say()
+    ensures sact { SactOfParts }
+    ensures ci { CiOfParts }
+    ensures device { DeviceTagsOfParts }
+    ensures halted { HaltedOfParts }
+    ensures busy { BusyOfParts }
+    ensures owed { OwedOfParts }
 {}
 
 /// Where every tag is free between two parts of a journal, what comes later knows of the earlier part by its image and its

@@ -1,8 +1,9 @@
 //! What a driver asks a port of. None of these calls takes memory.
 
-ghost use Rattle.std.specs.Prelude.{◌≡◌};
+ghost use Rattle.std.specs.Prelude.{◌≡◌, ◌≤◌};
 ghost use Rattle.std.specs.Option.{option_copied};
 ghost use Rattle.word_bits.specs.Places.{bits};
+ghost use Rattle.ncq_journal.specs.Owed.{owed};
 ghost use Rattle.ahci_port.specs.Headline.{Headline};
 ghost use Rattle.ahci_port.specs.Looking.{issued_tags, accepted_tags, held_tags, read_length, HasShape};
 ghost use Rattle.ahci_port.specs.PortView.{window_at};
@@ -99,10 +100,12 @@ impl<A: Allocator> Port<A> {
         let _depth = self.disk.depth();
     }
 
-    /// Shows what holds of every port, so of one that comes out of a lock: the headline, and its shape. It does nothing.
+    /// Shows what holds of every port, so of one that comes out of a lock: the headline, its shape, and that the journal has
+    /// room for all that its requests can still need. It does nothing.
     pub fn keeps_its_promise(&self)
         ensures headline { Headline self.now }
         ensures shape { HasShape self.now }
+        ensures room { owed self.now.past ≤ self.now.room }
     {
         let _depth = self.disk.depth();
     }

@@ -10,12 +10,10 @@ ghost use Rattle.ahci_port.specs.Steps.{IsRecovered, IsIdentified, IsFlushed};
 
 use crate::fault::{PlainFault, RecoverFault};
 use crate::port::{Port, ROOM};
-use crate::receiving::{receive_pio, receive_register};
 use crate::slot::recover_slots;
 use crate::software::restart;
-use crate::unqueued::send;
-use ncq_core::laws::the_disks_answers_are_these_bytes;
-use ncq_core::{Disk, Event, Plain};
+use crate::unqueued::carry_out;
+use ncq_core::{Event, Plain};
 use std::alloc::Allocator;
 
 impl<A: Allocator> Port<A> {
@@ -37,20 +35,14 @@ impl<A: Allocator> Port<A> {
             return Err(RecoverFault::OutOfMemory);
         };
         restart(&mut self.registers);
-        let aside = self.headers[0];
-        let taken = send(
+        carry_out(
             Plain::ReadLog,
-            &mut self.headers[0],
+            &mut self.headers,
             &mut self.unqueued,
             &mut self.registers,
+            &mut self.area,
             &mut self.disk,
         );
-        receive_pio(&mut self.registers, &mut self.area, &Disk::pio_setup());
-        match taken {
-            Plain::ReadLog => self.unqueued.take_page(self.disk.read_log()),
-            _ => unreachable!(),
-        }
-        self.headers[0] = aside;
         let tag = self.unqueued.page()[0] % 32; // bits 4:0
         recover_slots(&mut self.slots);
         self.journal.push_reserved(Event::Recover(tag));
@@ -74,20 +66,14 @@ impl<A: Allocator> Port<A> {
         let Ok(()) = self.journal.reserve(ROOM) else {
             return Err(PlainFault::OutOfMemory);
         };
-        let aside = self.headers[0];
-        let taken = send(
+        carry_out(
             Plain::Identify,
-            &mut self.headers[0],
+            &mut self.headers,
             &mut self.unqueued,
             &mut self.registers,
+            &mut self.area,
             &mut self.disk,
         );
-        receive_pio(&mut self.registers, &mut self.area, &Disk::pio_setup());
-        match taken {
-            Plain::Identify => self.unqueued.take_page(self.disk.identify()),
-            _ => unreachable!(),
-        }
-        self.headers[0] = aside;
         self.journal.push_reserved(Event::Plain(Plain::Identify));
         Ok(self.unqueued.page())
     }
@@ -107,21 +93,14 @@ impl<A: Allocator> Port<A> {
         let Ok(()) = self.journal.reserve(ROOM) else {
             return Err(PlainFault::OutOfMemory);
         };
-        let aside = self.headers[0];
-        let taken = send(
+        carry_out(
             Plain::Flush,
-            &mut self.headers[0],
+            &mut self.headers,
             &mut self.unqueued,
             &mut self.registers,
+            &mut self.area,
             &mut self.disk,
         );
-        match taken {
-            Plain::Flush => {
-                receive_register(&mut self.registers, &mut self.area, &Disk::flushed(), 0);
-            }
-            _ => unreachable!(),
-        }
-        self.headers[0] = aside;
         self.journal.push_reserved(Event::Plain(Plain::Flush));
         Ok(())
     }

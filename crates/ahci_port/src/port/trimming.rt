@@ -3,6 +3,7 @@
 ghost use Rattle.std.specs.Prelude.{◌≡◌, IfOk, OnErr, OnOk};
 ghost use Rattle.ncq_journal.specs.Laws.{AllFree};
 ghost use Rattle.ahci_port.specs.Faults.{Answers, is_vacant, trim_refusal};
+ghost use Rattle.ahci_port.specs.PortView.{journal_in};
 ghost use Rattle.ahci_port.specs.Steps.{GoesOn, trimmed};
 
 use crate::fault::TrimFault;
@@ -14,12 +15,13 @@ use std::alloc::Allocator;
 impl<A: Allocator + Copy> Port<A> {
     /// Hands the journal out where every slot is free. The image becomes the starting image, which is copied, and the port
     /// goes on with an empty journal, whose first entry has the number that the next one would have had. Registers, received
-    /// FIS area and disk stay. It takes no memory.
+    /// FIS area and disk stay. It takes no memory: the journal's own goes out with it, so the next call that appends an entry of
+    /// its own asks for more.
     ///
     /// # Errors
     /// `Busy` where some slot is not free, so also where the port is halted; `Spent` where the next number is over 2^63.
     pub fn trim(&mut self) -> Result<Journal<A>, TrimFault>
-        ensures journal { IfOk result (λ j. (j.past ≡ self.old.past) × (j.first ≡ self.old.first)) }
+        ensures journal { IfOk result (λ j. j ≡ journal_in self.old) }
         ensures trimmed { OnOk result (self.new ≡ trimmed self.old) }
         ensures free { OnOk result (AllFree self.old.past) }
         ensures goes_on { OnOk result (GoesOn self.old self.new) }

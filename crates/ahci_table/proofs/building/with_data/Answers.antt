@@ -10,8 +10,8 @@ use Rattle.ahci_table.proofs.building.with_data.Goals as goal
 
 laid_here : (g : _) (c : goal.After-lay g) (bytes : List ℕ)
     → bytes ≡ c.args.table.items ++ laid (length c.args.table.items) c.args.pieces.now c.as_slice.result.now
-    → IsLaid c.args.pieces.now c.args.table.items c.in-Write.text bytes
-laid_here g c bytes is = is_laid c.in-Write.lba c.args.pieces.now c.args.table.items c.in-Write.text bytes
+    → IsLaid c.args.pieces.now c.args.table.items c.in-Write.text.bytes bytes
+laid_here g c bytes is = is_laid c.in-Write.lba c.args.pieces.now c.args.table.items c.in-Write.text.bytes bytes
     (subst (λ w. IsFree w c.args.pieces.now) (ap work_of c.in-Write.is) (free_from (work_of c.args.op.now) c.args.pieces.now c.requires.free)) c.requires.table
     (ap (λ n. rises n c.args.pieces.now) (sym c.args.table.ok.0 ∙ sym c.len.ensures) ∙ sym c.rises.ensures ∙ c.if-rises.true)
     (is ∙ ap (λ t. c.args.table.items ++ laid (length c.args.table.items) c.args.pieces.now t) c.as_slice.ensures)

@@ -106,10 +106,10 @@ pub returns-clause-ok : goal.returns-clause-ok
 returns-clause-ok g c =
     let i = c.self.inside in
     let t = here g c in
-    let old = view_of i.starting.items i.disk i.registers i.unqueued.sent i.area i.slots.items i.journal.first i.journal.past in
+    let old = view_of i.starting.items i.disk i.registers i.unqueued.sent i.area i.slots.items i.journal in
     let next = taken_slot t.owner.slot (length i.journal.past) (d2h_at c.answer_in-fis.result) in
     let new = view_of i.starting.items c.take.new.self c.receive_register-answer.new.registers i.unqueued.sent c.receive_register-answer.new.area
-    (set i.slots.items c.args.tag (Some next)) c.push_reserved.new.self.first c.push_reserved.new.self.past in
+    (set i.slots.items c.args.tag (Some next)) c.push_reserved.new.self in
     let w = t.owner.slot.window in
     let size = disk_size c.self.invariant in
     let step : c.taken_step.result ≡ taken_step (next_number old) (d2h_at c.answer_in-fis.result) =
@@ -129,5 +129,6 @@ returns-clause-ok g c =
       past_is = pasts g c;
       sent_is = sym (sends_nothing c.args.tag (d2h_at c.answer_in-fis.result) i.unqueued.sent);
     })
+    (record { room_is = c.push_reserved.ensures.room; held_same = c.push_reserved.ensures.held })
     c.receive_register-answer.ensures.registers c.receive_register-answer.ensures.area
     (windows_same i.slots.items c.args.tag t.owner.slot next t.owner.here (taken_window t.owner.slot (length i.journal.past) (d2h_at c.answer_in-fis.result)))))

@@ -64,6 +64,7 @@ returns-clause-ok g c =
     rw (← c.self.view_is, c.take.ensures.after)
     (record {
       appended = record { starting_same = refl; image_same = refl; first_same = c.push_reserved.ensures.first; depth_same = refl; past_is = c.push_reserved.ensures.past; sent_is = refl };
+      room = record { room_is = c.push_reserved.ensures.room; held_same = c.push_reserved.ensures.held };
       registers_same = refl;
       area_same = refl;
       windows_are = map-set window_in c.self.inside.slots.items c.args.tag None;

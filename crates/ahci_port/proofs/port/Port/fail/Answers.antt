@@ -81,6 +81,7 @@ returns-clause-ok g c =
         past_is = c.push_reserved.ensures.past;
         sent_is = refl;
       };
+      room = record { room_is = c.push_reserved.ensures.room; held_same = c.push_reserved.ensures.held };
       registers_are = regs g c;
       area_is = c.receive_bits.ensures.area ∙ ap (λ b. put_at bits_place b i.area) (said g c).1;
       windows_same = windows_same i.slots.items c.args.tag m.owner.slot (failed_slot m.owner.slot (length i.journal.past) c.args.error c.args.at) m.owner.here refl;

@@ -1,36 +1,28 @@
-use Rattle.std.proofs.Common.{◌≡◌, ◌∙◌, true, None, cond, ap, sym, arith}
-use Rattle.ahci_regs.specs.Receiving.{after_register}
+use Rattle.std.proofs.Common.{◌∙◌, None, cond, ap, sym, arith}
 use Rattle.ncq_journal.specs.declared.plain.Plain.TheVariants.{Flush}
-use Rattle.sata_fis.specs.Layout.{d2h_at}
 use Rattle.ahci_port.specs.Faults.{plain_refusal}
 use Rattle.ahci_port.specs.Registers.{flushed}
 use Rattle.ahci_port.specs.Slots.{view_of}
 use Rattle.ahci_port.specs.Standing.{last_failure}
 use Rattle.ahci_port.proofs.IssuingLemmas.{keeps_unqueued}
-use Rattle.ahci_port.proofs.LogLemmas.{back_again}
-use Rattle.ahci_port.proofs.QuietLemmas.{plain_may, slot_0_waits, idle_disk, flush_passes, flush_state}
+use Rattle.ahci_port.proofs.QuietLemmas.{plain_may, slot_0_waits, idle_disk}
 use Rattle.ahci_port.proofs.RegisterLemmas.{tracks_flush}
 use Rattle.ahci_port.proofs.port.Port.flush.Goals as goal
 
-pub send-taken-requires : goal.send-taken-requires
-send-taken-requires g c =
+pub carry_out-requires : goal.carry_out-requires
+carry_out-requires g c =
     let i = c.self.inside in
     let past = i.journal.past in
-    let m = plain_may (view_of i.starting.items i.disk i.registers i.unqueued.sent i.area i.slots.items i.journal.first past) (ap plain_refusal c.self.view_is ∙ sym c.plain_fault.ensures ∙ c.in_default.is) in
-    flush_passes i.disk (c.self.invariant.error_is ∙ ap (λ b. cond b (last_failure past) None) m.0) (idle_disk _ _ _ _ _ _ _ c.self.invariant m.1)
+    let m = plain_may (view_of i.starting.items i.disk i.registers i.unqueued.sent i.area i.slots.items i.journal) (ap plain_refusal c.self.view_is ∙ sym c.plain_fault.ensures ∙ c.in_default.is) in
+    (c.self.invariant.error_is ∙ ap (λ b. cond b (last_failure past) None) m.0, idle_disk _ _ _ _ _ _ _ c.self.invariant m.1)
 
 pub invariant_of-self-2 : goal.invariant_of-self-2
 invariant_of-self-2 g c =
     let i = c.self.inside in
     let past = i.journal.past in
-    let m = plain_may (view_of i.starting.items i.disk i.registers i.unqueued.sent i.area i.slots.items i.journal.first past) (ap plain_refusal c.self.view_is ∙ sym c.plain_fault.ensures ∙ c.in_default.is) in
-    let calm : i.disk.error ≡ None = c.self.invariant.error_is ∙ ap (λ b. cond b (last_failure past) None) m.0 in
-    let disk : c.send-taken.new.disk ≡ i.disk = c.send-taken.ensures.disk ∙ flush_state i.disk calm in
-    let regs : c.receive_register.new.registers ≡ flushed i.registers =
-    c.receive_register.ensures.registers ∙ ap (λ b. after_register c.send-taken.new.registers (d2h_at b).status (d2h_at b).error (d2h_at b).i 0) c.flushed.ensures
-    ∙ ap (λ r. after_register r 0x40 0 true 0) c.send-taken.ensures.registers in
-    let headers = back_again i.headers c.send-taken.new.header (let h = c.self.invariant.header_count in omega arith) in
-    rw (headers, disk, regs, c.push_reserved.ensures.past, c.in-Ok.ensures.past)
+    let m = plain_may (view_of i.starting.items i.disk i.registers i.unqueued.sent i.area i.slots.items i.journal) (ap plain_refusal c.self.view_is ∙ sym c.plain_fault.ensures ∙ c.in_default.is) in
+    let sent = c.carry_out.ensures in
+    rw (sent.headers, sent.disk, sent.registers, c.push_reserved.ensures.past, c.in-Ok.ensures.past)
     (keeps_unqueued i.starting.items i.disk i.registers (flushed i.registers) i.slots.items i.headers past i.journal.room c.push_reserved.new.self.room Flush c.self.invariant (tt, m.0, m.1)
     (tracks_flush i.disk.depth past i.registers c.self.invariant.tracks c.self.invariant.some_slot c.self.invariant.shallow (slot_0_waits past m.0 m.1))
     (let a = c.in-Ok.ensures.room in let b = c.push_reserved.ensures.room in omega arith))

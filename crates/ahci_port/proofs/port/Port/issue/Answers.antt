@@ -10,6 +10,7 @@ use Rattle.ahci_port.specs.Registers.{issued}
 use Rattle.ahci_port.specs.Slots.{view_of, window_in}
 use Rattle.ahci_port.proofs.IssuingLemmas.{keeps_issue}
 use Rattle.ahci_port.proofs.MemoryLemmas.{fit_sized}
+use Rattle.ahci_port.proofs.RoomLemmas.{reserves_room}
 use Rattle.ahci_port.proofs.TakenLemmas.{early_may, vacant_slot}
 use Rattle.ahci_port.proofs.WorkLemmas.{op_direction, op_lba, op_sectors}
 use Rattle.ahci_port.proofs.port.Port.issue.Goals as goal
@@ -18,7 +19,7 @@ pub invariant_of-self-2 : goal.invariant_of-self-2
 invariant_of-self-2 g c =
     let i = c.self.inside in
     let w = c.args.window in
-    let m = early_may (view_of i.starting.items i.disk i.registers i.unqueued.sent i.area i.slots.items i.journal.first i.journal.past) c.tag-tag.result
+    let m = early_may (view_of i.starting.items i.disk i.registers i.unqueued.sent i.area i.slots.items i.journal) c.tag-tag.result
     (ap (λ p. early_refusal p c.tag-tag.result) c.self.view_is ∙ sym c.early_fault.ensures ∙ c.in_default.is) in
     let vacant : slot_at i.slots.items c.tag-tag.result ≡ None =
     vacant_slot i.starting.items i.journal.past c.tag-tag.result (slot_at i.slots.items c.tag-tag.result) (c.self.invariant.each c.tag-tag.result) m.free in
@@ -47,6 +48,7 @@ returns-clause-issued g c =
             ∙ ap (λ x. Issue c.args.window.tag x ∷ c.reserve.new.self.past) c.in-Ok-op_of.ensures.work ∙ ap (λ p. Issue c.args.window.tag (op c.args.window) ∷ p) c.in-Ok-reserve.ensures.past;
         sent_is = refl;
       };
+      room = reserves_room _ _ _ _ c.in-Ok-reserve.ensures.room c.in-Ok-reserve.ensures.same c.in-Ok-reserve.ensures.more c.push_reserved.ensures.room c.push_reserved.ensures.held;
       registers_are = c.issue.ensures ∙ ap (issued i.registers) c.tag-tag.ensures.value;
       area_same = refl;
       windows_are = map-set window_in i.slots.items c.args.window.tag (Some (issued_slot c.len-place.result c.in-Ok.command.queued c.args.window));
@@ -55,10 +57,10 @@ returns-clause-issued g c =
 pub returns-clause-taken : goal.returns-clause-taken
 returns-clause-taken g c =
     let i = c.self.inside in
-    let m = early_may (view_of i.starting.items i.disk i.registers i.unqueued.sent i.area i.slots.items i.journal.first i.journal.past) c.tag-tag.result
+    let m = early_may (view_of i.starting.items i.disk i.registers i.unqueued.sent i.area i.slots.items i.journal) c.tag-tag.result
     (ap (λ p. early_refusal p c.tag-tag.result) c.self.view_is ∙ sym c.early_fault.ensures ∙ c.in_default.is) in
     rw (← c.self.view_is) (
-      subst (λ t. MayTake (view_of i.starting.items i.disk i.registers i.unqueued.sent i.area i.slots.items i.journal.first i.journal.past) t)
+      subst (λ t. MayTake (view_of i.starting.items i.disk i.registers i.unqueued.sent i.area i.slots.items i.journal) t)
           c.tag-tag.ensures.value m,
       c.in-Ok.ensures.fit,
     )

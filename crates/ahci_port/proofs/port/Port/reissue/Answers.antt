@@ -33,6 +33,7 @@ returns-clause-ok g c =
     rw (← c.self.view_is, slot)
     (record {
       appended = record { starting_same = refl; image_same = refl; first_same = c.push_reserved.ensures.first; depth_same = refl; past_is = c.push_reserved.ensures.past; sent_is = refl };
+      room = record { room_is = c.push_reserved.ensures.room; held_same = c.push_reserved.ensures.held };
       registers_are = c.issue.ensures;
       area_same = refl;
       windows_same = windows_same i.slots.items c.args.tag r.owner.slot (reissued_slot r.owner.slot) r.owner.here refl;

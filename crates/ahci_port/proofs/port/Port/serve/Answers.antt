@@ -1,4 +1,4 @@
-use Rattle.std.proofs.Common.{rules, ◌≡◌, ◌∙◌, ◌^◌, ℕ, ◌<◌, Some, length, get_or, ap, sym, refl, subst, arith}
+use Rattle.std.proofs.Common.{rules, ◌≡◌, ◌∙◌, ◌+◌, ◌^◌, ℕ, ◌<◌, Some, length, get_or, ap, sym, refl, subst, arith}
 use Rattle.std.specs.Prelude.{slice_index}
 use Rattle.ahci_regs.specs.Receiving.{after_bits}
 use Rattle.ahci_table.specs.Command.{queued_of}
@@ -26,6 +26,8 @@ loop-index-init g c = record {
   served = underway_first _ c.self.inside.disk c.self.inside.journal.room c.self.invariant refl (may g (goal.at.loop-index-init g c).After-len-index-end);
   starting_same = refl;
   first_same = refl;
+  room_is = omega arith;
+  held_same = refl;
   registers_same = refl;
   headers_same = refl;
   unqueued_same = refl;
@@ -81,6 +83,8 @@ loop-index-preserved g c =
           c.complete.new.journal (may g (goal.at.loop-index-preserved g c).After-len-index-end) u less found one);
       starting_same = c.loop-index.invariant.starting_same;
       first_same = c.complete.ensures.first_same ∙ c.loop-index.invariant.first_same;
+      room_is = (let a = c.complete.ensures.room_is in let b = c.loop-index.invariant.room_is in omega arith);
+      held_same = c.complete.ensures.held_same ∙ c.loop-index.invariant.held_same;
       registers_same = c.loop-index.invariant.registers_same;
       headers_same = c.loop-index.invariant.headers_same;
       unqueued_same = c.loop-index.invariant.unqueued_same;
@@ -145,8 +149,8 @@ returns-clause-ok g c =
     let i = c.loop-index.self-inside in
     let inv = c.loop-index.invariant in
     let tags = c.args.tags.now.items in
-    let old = view_of o.starting.items o.disk o.registers o.unqueued.sent o.area o.slots.items o.journal.first o.journal.past in
-    let new = view_of i.starting.items i.disk c.receive_bits.new.registers i.unqueued.sent c.receive_bits.new.area i.slots.items i.journal.first i.journal.past in
+    let old = view_of o.starting.items o.disk o.registers o.unqueued.sent o.area o.slots.items o.journal in
+    let new = view_of i.starting.items i.disk c.receive_bits.new.registers i.unqueued.sent c.receive_bits.new.area i.slots.items i.journal in
     let served = all g at.After-deref-2 in
     rw (← c.self.view_is)
     (record {
@@ -158,6 +162,7 @@ returns-clause-ok g c =
         past_is = past_all _ i.disk i.slots.items i.area i.journal.past i.journal.room served;
         sent_same = ap (λ q. q.sent) inv.unqueued_same;
       };
+      room = record { room_is = subst (λ n. i.journal.room + n ≡ o.journal.room) (over g at.After-deref-2) inv.room_is; held_same = inv.held_same };
       registers_are = regs g at.After-len;
       area_is = c.receive_bits.ensures.area ∙ ap (λ b. put_at bits_place b i.area) (bits g at.After-len)
           ∙ ap (put_at bits_place (completed_bytes (word_of_tags tags))) (area_all _ i.disk i.slots.items i.area i.journal.past i.journal.room old served refl);

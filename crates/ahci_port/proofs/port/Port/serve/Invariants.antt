@@ -1,5 +1,5 @@
 -- the first commands are served; the registers, and what else no command moves, are as they were
-use Rattle.std.proofs.Common.{◌≡◌}
+use Rattle.std.proofs.Common.{◌≡◌, ◌+◌}
 use Rattle.ahci_port.proofs.UnderwayLemmas.{Underway}
 use Rattle.ahci_port.proofs.port.Port.serve.Given as goal
 
@@ -19,6 +19,8 @@ invariant-loop-index g l = record {
       l.index l.self-inside.disk l.self-inside.slots.items l.self-inside.area l.self-inside.journal.past l.self-inside.journal.room;
   starting_same : l.self-inside.starting ≡ l.initial.self-inside.starting;
   first_same : l.self-inside.journal.first ≡ l.initial.self-inside.journal.first;
+  room_is : l.self-inside.journal.room + l.index ≡ l.initial.self-inside.journal.room;
+  held_same : l.self-inside.journal.held ≡ l.initial.self-inside.journal.held;
   registers_same : l.self-inside.registers ≡ l.initial.self-inside.registers;
   headers_same : l.self-inside.headers ≡ l.initial.self-inside.headers;
   unqueued_same : l.self-inside.unqueued ≡ l.initial.self-inside.unqueued;

@@ -1,6 +1,7 @@
 use Rattle.std.proofs.Common.{◌≡◌, ◌∙◌, ◌++◌, ℕ, None, length, take, drop, ap, sym, is_some}
 use Rattle.std.specs.List.{list_any}
 use Rattle.ahci_port.specs.Keeping.{slot_at}
+use Rattle.ahci_port.proofs.HistoryLemmas.{headline_of_both}
 use Rattle.ahci_port.proofs.LogLemmas.{whole_write}
 use Rattle.ahci_port.proofs.TrimmingLemmas.{all_free, goes_on, keeps_trim, trim_may, vacant_all}
 use Rattle.ahci_port.proofs.port.Port.trim.Goals as goal
@@ -35,4 +36,8 @@ returns-clause-goes_on g c =
     let i = c.self.inside in
     let free = all_free i.starting.items i.disk i.registers i.slots.items i.headers i.journal.past i.journal.room c.self.invariant (vacant g c) in
     rw (← c.self.view_is, image g c)
-    (goes_on i.starting.items i.disk i.registers i.slots.items i.headers i.journal.past i.journal.room c.self.invariant free)
+    (record {
+      sectors = goes_on i.starting.items i.disk i.registers i.slots.items i.headers i.journal.past i.journal.room c.self.invariant free;
+      headline = λ port begins deep h. headline_of_both i.starting.items i.disk.image i.disk.depth i.journal.first i.journal.past port c.self.invariant.same_size c.self.invariant.shallow
+          c.self.invariant.lawful free c.self.invariant.sectors begins deep h;
+    })
