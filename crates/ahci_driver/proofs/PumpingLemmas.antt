@@ -1,5 +1,6 @@
 -- The words that a pump looks at, and the journal that they come from.
-use Rattle.std.proofs.Common.{◌≡◌, ◌≢◌, ℕ, ◌^◌, ◌<◌, Bool, true, false, ◌&&◌, cond, List, [], ◌∷◌, ap, sym, refl, ◌∙◌, None, Some, arith, inl, inr}
+use Rattle.std.proofs.Common.{◌≡◌, ◌≢◌, ℕ, ◌^◌, ◌<◌, Bool, true, false, ◌&&◌, cond, List, [], ◌∷◌, ap, sym, refl, ◌∙◌, None, Some, arith, inl, inr, Option}
+use Rattle.std.specs.Prelude.{IfOk, Result, Ok, Err}
 use Rattle.std.proofs.lemmas.Bool.{cases_lt, true≢false}
 use Rattle.ncq_journal.specs.declared.phase.Phase.{Phase}
 use Rattle.ncq_journal.specs.declared.phase.Phase.TheVariants.{Free, Issued, Accepted, Rejected, Broken, Held, Done}
@@ -12,12 +13,18 @@ use Rattle.word_bits.proofs.PlacesLemmas.{length-places, has_place-places, has_p
 use Rattle.word_bits.proofs.BitsLemmas.{bits_zero, same_word}
 use Rattle.ahci_port.specs.declared.fault.ReissueFault.TheVariants as reissue
 use Rattle.ahci_port.specs.declared.fault.StepFault.TheVariants as step_fault
+use Rattle.ahci_port.specs.declared.fault.StepFault.{StepFault}
 use Rattle.ahci_port.specs.declared.step.DeviceStep.{DeviceStep}
+use Rattle.ahci_port.specs.declared.step.Stepped.{Stepped}
 use Rattle.ahci_port.specs.declared.step.DeviceStep.TheVariants.{Accept, Serve, Fail}
-use Rattle.ahci_port.specs.Faults.{is_issued, is_accepted, is_held, reissue_refusal, step_refusal}
+use Rattle.ahci_port.specs.Faults.{Answers, is_issued, is_accepted, is_held, reissue_refusal, step_refusal}
 use Rattle.ahci_port.specs.Looking.{issued_tags, accepted_tags, held_tags}
 use Rattle.ahci_port.specs.PortView.{PortView}
+use Rattle.ahci_port.specs.Steps.{IsStepped}
 use Rattle.ahci_driver.specs.Choosing.{IsLowestStep, IsOne}
+use Rattle.ahci_driver.specs.Pumping.{HasAsked, HasPumped, IsPumped, LeadsTo}
+use Rattle.ahci_driver.specs.declared.fault.PumpFault.{PumpFault}
+use Rattle.ahci_driver.specs.declared.pumped.Pumped.{Pumped}
 
 -- a place of a set has the set's property
 pub in_places : (p : ℕ → Bool) (t : ℕ) → has_place (places p) t ≡ true → p t ≡ true
@@ -115,3 +122,27 @@ lowest_is_lawful port issued accepted (Accept tag) h running b i a =
     let low = h.1 (λ none. busy_sets port.past b (sym a ∙ h.0) (sym i ∙ none)) in
     accept_may port tag running (in_places (λ t. is_issued (phase port.past t)) tag (ap (λ s. has_place s tag) (sym i) ∙ low.here))
 lowest_is_lawful port issued accepted (Fail tag error at) h running b i a = absurd h
+
+-- a chooser's answer that was done
+pub leads_itself : (old new : PortView) (issued accepted : ℕ) (answer : DeviceStep) (done : Stepped) → Answers (Ok done) (step_refusal old answer)
+    → IsStepped answer old new done → LeadsTo old new issued accepted answer done (step_refusal old answer)
+leads_itself old new issued accepted answer done h stepped = by (step_refusal old answer) h
+  where
+    by : (o : Option StepFault) → Answers (Ok done) o → LeadsTo old new issued accepted answer done o
+    by None h = stepped
+    by (Some fault) h = absurd (cc)
+
+-- a chooser's answer that was refused
+pub leads_to_low : (old new : PortView) (issued accepted : ℕ) (answer low : DeviceStep) (done : Stepped) (fault : StepFault) → Answers {T = Stepped} (Err fault) (step_refusal old answer)
+    → IsLowestStep issued accepted low → IsStepped low old new done → LeadsTo old new issued accepted answer done (step_refusal old answer)
+leads_to_low old new issued accepted answer low done fault h lowest stepped = by (step_refusal old answer) h
+  where
+    by : (o : Option StepFault) → Answers {T = Stepped} (Err fault) o → LeadsTo old new issued accepted answer done o
+    by None h = absurd (cc)
+    by (Some f) h = (low, lowest, stepped)
+
+-- a pump of this port is one of some port
+pub pumped_some : {C : Type 0} (gives : C → ℕ → ℕ → DeviceStep → C → Type 0) (before after : C) (old new : PortView) (x : Result Pumped PumpFault)
+    → IfOk x (λ p. IsPumped old new p) → IfOk x (λ p. HasAsked gives before after old new p) → IfOk x (HasPumped gives before after)
+pumped_some gives before after old new (Ok p) pumped asked = record { old = old; new = new; pumped = pumped; asked = asked }
+pumped_some gives before after old new (Err fault) pumped asked = tt

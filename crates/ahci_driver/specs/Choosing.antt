@@ -11,16 +11,16 @@ IsOne P [] = ⊥
 IsOne P (tag ∷ []) = P tag
 IsOne P (tag ∷ other ∷ tags) = ⊥
 
--- the lowest tag is served that the device has, or, where it has none, the lowest is accepted that waits
+-- the lowest tag is served that the device has, or, where it has none, the lowest is accepted that waits; tag 0, where none does
 abbrev pub IsLowestStep : ℕ → ℕ → DeviceStep → Type 0
 IsLowestStep issued accepted (Serve tags) = IsOne (IsLowest (bits accepted)) tags.items
-IsLowestStep issued accepted (Accept tag) = (bits accepted ≡ no_places) × (bits issued ≢ no_places → IsLowest (bits issued) tag)
+IsLowestStep issued accepted (Accept tag) = (bits accepted ≡ no_places) × (bits issued ≢ no_places → IsLowest (bits issued) tag) × (bits issued ≡ no_places → tag ≡ 0)
 IsLowestStep issued accepted (Fail tag error at) = ⊥
 
 -- the same of the highest tags
 abbrev pub IsHighestStep : ℕ → ℕ → DeviceStep → Type 0
 IsHighestStep issued accepted (Serve tags) = IsOne (IsHighest (bits accepted)) tags.items
-IsHighestStep issued accepted (Accept tag) = (bits accepted ≡ no_places) × (bits issued ≢ no_places → IsHighest (bits issued) tag)
+IsHighestStep issued accepted (Accept tag) = (bits accepted ≡ no_places) × (bits issued ≢ no_places → IsHighest (bits issued) tag) × (bits issued ≡ no_places → tag ≡ 0)
 IsHighestStep issued accepted (Fail tag error at) = ⊥
 
 -- the tags of a set, rising

@@ -3,5 +3,7 @@ pub mod Pumping
 pub mod Received
 pub mod Running
 pub mod Settled
+pub mod Stopping
 pub mod Submitting
 pub mod Tickets
+pub mod Trimming

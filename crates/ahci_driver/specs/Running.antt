@@ -6,11 +6,12 @@ use Rattle.ncq_journal.specs.Lawful.{IsProper}
 use Rattle.ncq_journal.specs.Work.{Work}
 use Rattle.ahci_port.specs.PortView.{PortView}
 use Rattle.ahci_driver.specs.Received.{Received}
-use Rattle.ahci_driver.specs.Settled.{IsSettled}
+use Rattle.ahci_driver.specs.Settled.{IsSettled, IsUnsettled}
 use Rattle.ahci_driver.specs.declared.run_fault.RunFault.{RunFault}
 use Rattle.ahci_driver.specs.declared.fault.SettleFault.{SettleFault}
 use Rattle.ahci_driver.specs.declared.fault.SettleFault.TheVariants as settle
-use Rattle.ahci_driver.specs.declared.run_fault.RunFault.TheVariants.{NotFresh, BadJob, OutOfMemory, Lost, Unsettled}
+use Rattle.ahci_driver.specs.declared.run_fault.RunFault.TheVariants.{NotFresh, BadJob, OutOfMemory, Lost, Foreign, Unsettled}
+use Rattle.ahci_driver.specs.declared.running.Handed.{Handed}
 use Rattle.ahci_driver.specs.declared.worker.Stop.{Stop}
 use Rattle.ahci_driver.specs.declared.worker.Stop.TheVariants as stop
 
@@ -35,6 +36,10 @@ pub record HasRun (old new : PortView) (jobs : List Work) (receipts : List Recei
   pub depth_same : new.depth ≡ old.depth
   pub first_same : new.first ≡ old.first
   pub settled : IsSettled new jobs receipts workers
+
+-- a port has the starting image, the depth and the first number of the one that was handed in
+abbrev pub IsStill : {A : _} → PortView → Handed A → Type 0
+IsStill port handed = (port.starting ≡ handed.starting.items) × (port.depth ≡ handed.depth) × (port.first ≡ handed.first)
 
 -- a fault of a run that has begun; want of memory is told as itself
 abbrev pub IsLate : RunFault → Type 0
@@ -68,9 +73,23 @@ abbrev pub unsettled : SettleFault → RunFault
 unsettled settle.OutOfMemory = OutOfMemory
 unsettled fault = Unsettled fault
 
+-- why a run is given up whose workers have brought these receipts: the port is another one, or what `settle` says of them
+abbrev pub IsRefused : {A : _} → PortView → Handed A → List Work → List Received → ℕ → RunFault → Type 0
+IsRefused port handed jobs receipts workers Foreign = ¬ (IsStill port handed)
+IsRefused port handed jobs receipts workers OutOfMemory = IsStill port handed × IsUnsettled port jobs receipts workers settle.OutOfMemory
+IsRefused port handed jobs receipts workers (Unsettled settle.OutOfMemory) = ⊥
+IsRefused port handed jobs receipts workers (Unsettled fault) = IsStill port handed × IsUnsettled port jobs receipts workers fault
+IsRefused port handed jobs receipts workers fault = ⊥
+
+-- a fault that names a job names one of so many
+abbrev pub NamesJob : ℕ → RunFault → Type 0
+NamesJob jobs (Lost i) = i < jobs
+NamesJob jobs (Unsettled (settle.Wrong i)) = i < jobs
+NamesJob jobs fault = Unit {0}
+
 -- why it was given up
 abbrev pub IsGivenUp : PortView → List Work → RunFault → Type 0
 IsGivenUp port jobs NotFresh = port.past ≢ []
 IsGivenUp port jobs (BadJob i) = (port.past ≡ []) × IsFirstBad jobs (Some i)
 IsGivenUp port jobs (Unsettled settle.OutOfMemory) = ⊥
-IsGivenUp port jobs fault = MayRun port jobs
+IsGivenUp port jobs fault = MayRun port jobs × NamesJob (length jobs) fault

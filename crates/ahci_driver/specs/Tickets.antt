@@ -26,6 +26,11 @@ abbrev pub has_length : Outcome → WindowState → ℕ → Type 0
 has_length outcome.Read w n = length (text w) ≡ n
 has_length o w n = Unit {0}
 
+-- how many bytes come with an answer: as many as the buffer has where a read has finished, and none otherwise
+abbrev pub answer_length : Outcome → ℕ → ℕ
+answer_length outcome.Read n = n
+answer_length o n = 0
+
 -- why the request of a ticket is not collected: a read of another length is none of the ticket's
 abbrev pub ticket_refusal : PortView → TicketView → Option CollectFault
 ticket_refusal port t =

@@ -3,7 +3,7 @@ ghost use Rattle.ahci_table.specs.Fit.{IsFit};
 ghost use Rattle.ahci_port.specs.Slots.{bytes_in};
 ghost use Rattle.ahci_port.specs.Steps.{IsCollected};
 ghost use Rattle.ahci_driver.specs.Settled.{answered_as};
-ghost use Rattle.ahci_driver.specs.Tickets.{suits, has_length, ticket_refusal};
+ghost use Rattle.ahci_driver.specs.Tickets.{answer_length, suits, has_length, ticket_refusal};
 
 use crate::ticket::Ticket;
 use ahci_port::{CollectFault, Outcome, Port, Reply};
@@ -24,7 +24,8 @@ fn suits(read: Option<u64>, buffer: &[u8]) -> bool
 fn filled<A: Allocator>(outcome: Outcome, window: &Window<A>, mut buffer: Vec<u8, A>) -> Vec<u8, A>
     requires fit { IsFit window.now }
     requires len { has_length outcome window.now (length buffer.items) }
-    ensures { result.items ≡ bytes_in outcome window.now }
+    ensures text { result.items ≡ bytes_in outcome window.now }
+    ensures length { length result.items ≡ answer_length outcome (length buffer.items) }
 {
     match outcome {
         Outcome::Read => window.gather(0, &mut buffer),
@@ -46,6 +47,7 @@ pub fn collect_locked<A: Allocator>(
     ensures ok { OnOk result (IsCollected ticket.tag port.old port.new) }
     ensures number { IfOk result (λ r. r.0.number ≡ ticket.number) }
     ensures answer { IfOk result (λ r. answered_as port.old ticket.number ≡ Some (record { entry = r.0.entry; outcome = r.0.outcome; bytes = r.1.items })) }
+    ensures length { IfOk result (λ r. length r.1.items ≡ answer_length r.0.outcome (length ticket.buffer)) }
     ensures fault { MatchOption (ticket_refusal port.old ticket) (IsOk result) (λ f. IsErrAnd result (λ e. (e.0 ≡ ticket) × (e.1 ≡ f))) }
     ensures err { OnErr result (port.new ≡ port.old) }
 {

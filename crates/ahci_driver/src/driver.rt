@@ -1,8 +1,11 @@
-ghost use Rattle.std.specs.Prelude.{◌≡◌, false, true, ℕ, IfOk, IfErr, OnOk, OnErr, None, ◌<◌};
+ghost use Rattle.std.specs.Prelude.{◌≡◌, false, true, ℕ, IfOk, IfErr, OnOk, OnErr, None, length, ◌<◌};
 ghost use Rattle.ncq_journal.specs.Laws.{AllFree};
 ghost use Rattle.ncq_journal.specs.Work.{work_of};
 ghost use Rattle.word_bits.specs.Places.{has_place, with_place, without_place};
 ghost use Rattle.ahci_port.specs.Headline.{Headline};
+ghost use Rattle.ahci_driver.specs.Pumping.{HasPumped};
+ghost use Rattle.ahci_driver.specs.Tickets.{answer_length};
+ghost use Rattle.ahci_driver.specs.Trimming.{IsKept};
 ghost use Rattle.ahci_driver.specs.Submitting.{HasTried, IsNotSubmitted, buffer_for, claimed, default_refusal, returned};
 
 use crate::chooser::Chooser;
@@ -64,11 +67,16 @@ impl<A: Allocator> Driver<A> {
         &self.board
     }
 
-    /// Lets the port get on by one call, whatever the chooser answers.
+    /// Lets the port get on by one call, whatever the chooser answers. It is asked once where the device takes a step, and
+    /// never otherwise.
     ///
     /// # Errors
     /// `OutOfMemory` where the port is halted and room for its recovery was refused.
-    pub fn pump<C: Chooser>(&self, rt: &impl Wait, chooser: &mut C) -> Result<Pumped, PumpFault> {
+    #[tactic(auto, using(crate::proofs::PumpingLemmas::pumped_some))]
+    pub fn pump<C: Chooser>(&self, rt: &impl Wait, chooser: &mut C) -> Result<Pumped, PumpFault>
+        ensures ok { IfOk result (HasPumped C.gives chooser.old chooser.new) }
+        ensures err { OnErr result (chooser.new ≡ chooser.old) }
+    {
         pump_locked(&mut self.port.lock(rt), chooser)
     }
 
@@ -88,6 +96,7 @@ impl<A: Allocator> Driver<A> {
         requires held { has_place seat.old.tags ticket.tag ≡ true }
         ensures board { seat.new.board ≡ seat.old.board }
         ensures number { IfOk result (λ r. r.0.number ≡ ticket.number) }
+        ensures length { IfOk result (λ r. length r.1.items ≡ answer_length r.0.outcome (length ticket.buffer)) }
         ensures tags { IfOk result (λ _. seat.new.tags ≡ without_place seat.old.tags ticket.tag) }
         ensures log { IfOk result (λ _. seat.new.log ≡ returned ticket.tag seat.old.log) }
         ensures err { IfErr result (λ e. (e.0 ≡ ticket) × (seat.new ≡ seat.old)) }
@@ -99,6 +108,15 @@ impl<A: Allocator> Driver<A> {
     }
 }
 
+/// What `trim` does once it has the lock.
+fn trim_locked<A: Allocator + Copy>(port: &mut Port<A>) -> Result<Journal<A>, TrimFault>
+    ensures free { IfOk result (λ journal. AllFree journal.past) }
+    ensures lawful { IfOk result (λ journal. IsKept journal.past) }
+{
+    port.keeps_its_promise();
+    port.trim()
+}
+
 impl<A: Allocator + Copy> Driver<A> {
     /// Hands the port's journal out, where every slot is free, as `Port::trim` does. It takes no memory, and may wait.
     ///
@@ -106,8 +124,9 @@ impl<A: Allocator + Copy> Driver<A> {
     /// `Busy` where some slot is not free, `Spent` where the next number is over 2^63.
     pub fn trim(&self, rt: &impl Wait) -> Result<Journal<A>, TrimFault>
         ensures free { IfOk result (λ journal. AllFree journal.past) }
+        ensures lawful { IfOk result (λ journal. IsKept journal.past) }
     {
-        self.port.lock(rt).trim()
+        trim_locked(&mut self.port.lock(rt))
     }
 }
 

@@ -1,11 +1,12 @@
-ghost use Rattle.std.specs.Prelude.{◌≡◌, ◌≤◌, map, length, vec_len, Err, IfOk, IfErr, IfSome, IsTrue, MatchOption, Some};
+ghost use Rattle.std.specs.Prelude.{◌≡◌, ◌≢◌, ◌↔◌, ◌⊎◌, ◌≤◌, map, length, vec_len, Err, IfOk, IfErr, IfSome, IsTrue, List, MatchOption, None, OnOk, Some};
 ghost use denote.Param.Send.{IsSync, IsSend, Frees};
 ghost use Rattle.ncq_journal.specs.Work.{work_of};
 ghost use Rattle.tag_board.specs.Board.{Board};
-ghost use Rattle.ahci_driver.specs.Received.{received_of};
-ghost use Rattle.std.specs.List.{list_any};
+ghost use Rattle.ahci_driver.specs.Received.{Received, received_of};
+ghost use Rattle.std.specs.List.{All, list_any};
+ghost use Rattle.ahci_driver.specs.Stopping.{AreAmong};
 ghost use Rattle.ahci_driver.specs.Settled.{IsSettled};
-ghost use Rattle.ahci_driver.specs.Running.{HasRun, IsFirstBad, IsGivenUp, IsLate, MayRun, is_lacking, least_lost, lost_by, unsettled, why_stopped};
+ghost use Rattle.ahci_driver.specs.Running.{HasRun, IsFirstBad, IsGivenUp, IsLate, IsRefused, IsStill, MayRun, NamesJob, is_lacking, least_lost, lost_by, unsettled, why_stopped};
 
 use crate::chooser::Chooser;
 use crate::driver::Driver;
@@ -70,6 +71,7 @@ fn crew<'a, A: Allocator + Clone, C: Chooser + Drop, G: Gate>(
 ) -> Result<Vec<Worker<'a, A, C, G>, A>, AllocError>
     requires seat { seat.board ≡ driver.now }
     requires some { 1 ≤ vec_len choosers }
+    ensures { IfOk result (λ crew. All (λ worker. worker.jobs.now ≡ jobs.now) crew.items) }
 {
     let workers = choosers.len();
     let mut crew = Vec::new(alloc.clone()?);
@@ -182,6 +184,7 @@ where
     C: Chooser + Send + Drop,
     A: Allocator + Clone + Send + Sync,
     requires { 1 ≤ vec_len choosers }
+    ensures { IfOk result (λ done. AreAmong (length (map work_of jobs.now)) done.1.items) }
 {
     port.shape();
     let depth = port.depth();
@@ -209,6 +212,43 @@ fn unsettled(fault: SettleFault) -> RunFault
     }
 }
 
+/// The end of a run, by what `settle` has said of its receipts.
+fn end_of<A: Allocator>(
+    settled: Result<(), SettleFault>,
+    port: Port<A>,
+    replies: Vec<Receipt<A>, A>,
+) -> Result<RunEnd<A>, RunFault>
+    ensures ok { OnOk settled (result ≡ Ok (record { port = port; replies = replies })) }
+    ensures fault { IfErr settled (λ f. result ≡ Err (unsettled f)) }
+{
+    match settled {
+        Ok(()) => Ok(RunEnd { port, replies }),
+        Err(fault) => Err(unsettled(fault)),
+    }
+}
+
+/// What a run ends with whose workers have brought these receipts.
+fn checked<A: Allocator + Clone>(
+    alloc: A,
+    port: Port<A>,
+    handed: &Handed<A>,
+    jobs: &[Op<A>],
+    replies: Vec<Receipt<A>, A>,
+    workers: u32,
+) -> Result<RunEnd<A>, RunFault>
+    requires { 1 ≤ workers }
+    ensures still { IfOk result (λ end. IsStill end.port handed.now) }
+    ensures settled { IfOk result (λ end. IsSettled end.port (map work_of jobs.now) (map received_of end.replies.items) workers) }
+    ensures foreign { ¬ (IsStill port handed.now) → result ≡ Err RunFault.Foreign }
+    ensures why { IfErr result (IsRefused port handed.now (map work_of jobs.now) (map received_of replies.items) workers) }
+{
+    if !is_still(&port, handed) {
+        return Err(RunFault::Foreign);
+    }
+    let settled = settle(alloc, &port, jobs, &replies, workers);
+    end_of(settled, port, replies)
+}
+
 /// What a run ends with: the first reason to give it up, or the receipts, once they are settled.
 fn ended<A: Allocator + Clone>(
     alloc: A,
@@ -218,13 +258,15 @@ fn ended<A: Allocator + Clone>(
     jobs: &[Op<A>],
     workers: u32,
 ) -> Result<RunEnd<A>, RunFault>
-    requires { 1 ≤ workers }
-    ensures starting { IfOk result (λ end. end.port.starting ≡ handed.now.starting.items) }
-    ensures depth { IfOk result (λ end. end.port.depth ≡ handed.now.depth) }
-    ensures first { IfOk result (λ end. end.port.first ≡ handed.now.first) }
+    requires some { 1 ≤ workers }
+    requires among { AreAmong (length (map work_of jobs.now)) ends.items }
+    ensures still { IfOk result (λ end. IsStill end.port handed.now) }
     ensures settled { IfOk result (λ end. IsSettled end.port (map work_of jobs.now) (map received_of end.replies.items) workers) }
     ensures late { IfErr result IsLate }
+    ensures names { IfErr result (NamesJob (length (map work_of jobs.now))) }
     ensures stopped { (fault : RunFault) → why_stopped ends.items ≡ Some fault → result ≡ Err fault }
+    ensures foreign { why_stopped ends.items ≡ None → ¬ (IsStill port handed.now) → (result ≡ Err RunFault.Foreign) ⊎ (result ≡ Err RunFault.OutOfMemory) }
+    ensures why { why_stopped ends.items ≡ None → IfErr result (λ f. f ≢ RunFault.OutOfMemory → (receipts : List Received) × IsRefused port handed.now (map work_of jobs.now) receipts workers f) }
 {
     if let Some(fault) = why_stopped(&ends) {
         return Err(fault);
@@ -235,13 +277,7 @@ fn ended<A: Allocator + Clone>(
     let Ok(replies) = in_order(own, ends, jobs.len(), workers as usize) else {
         return Err(RunFault::OutOfMemory);
     };
-    if !is_still(&port, handed) {
-        return Err(RunFault::Foreign);
-    }
-    match settle(alloc, &port, jobs, &replies, workers) {
-        Ok(()) => Ok(RunEnd { port, replies }),
-        Err(fault) => Err(unsettled(fault)),
-    }
+    checked(alloc, port, handed, jobs, replies, workers)
 }
 
 /// What a run keeps of the port that it was handed.
@@ -254,9 +290,7 @@ struct Handed<A: Allocator> {
 
 /// Whether the port has the starting image, the depth and the first number of the one that was handed in.
 fn is_still<A: Allocator>(port: &Port<A>, handed: &Handed<A>) -> bool
-    ensures starting { IsTrue result → port.now.starting ≡ handed.now.starting.items }
-    ensures depth { IsTrue result → port.now.depth ≡ handed.now.depth }
-    ensures first { IsTrue result → port.now.first ≡ handed.now.first }
+    ensures { IsTrue result ↔ IsStill port.now handed.now }
 {
     if port.depth() != handed.depth {
         return false;
@@ -269,9 +303,7 @@ fn is_still<A: Allocator>(port: &Port<A>, handed: &Handed<A>) -> bool
 
 /// A copy of what a run keeps.
 fn kept<A: Allocator + Clone>(alloc: &A, port: &Port<A>) -> Result<Handed<A>, AllocError>
-    ensures starting { IfOk result (λ k. k.starting.items ≡ port.now.starting) }
-    ensures depth { IfOk result (λ k. k.depth ≡ port.now.depth) }
-    ensures first { IfOk result (λ k. k.first ≡ port.now.first) }
+    ensures { IfOk result (IsStill port.now) }
 {
     let starting = Vec::from_slice(alloc.clone()?, port.starting_image())?;
     let depth = port.depth();

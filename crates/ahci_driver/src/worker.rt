@@ -1,5 +1,6 @@
-ghost use Rattle.std.specs.Prelude.{◌≡◌, ◌≤◌, true, IfOk};
+ghost use Rattle.std.specs.Prelude.{◌≡◌, ◌≤◌, length, true, IfErr, IfOk};
 ghost use Rattle.word_bits.specs.Places.{has_place};
+ghost use Rattle.ahci_driver.specs.Stopping.{IsStopAmong, IsStopAt, stop_at};
 
 use crate::chooser::Chooser;
 use crate::driver::Driver;
@@ -47,7 +48,9 @@ pub(crate) struct Worker<'a, A: Allocator, C, G> {
 }
 
 /// Why a worker stops at a job that was not submitted; none, where it is to be tried again.
-fn stop_at(fault: SubmitFault, job: usize) -> Option<Stop> {
+fn stop_at(fault: SubmitFault, job: usize) -> Option<Stop>
+    ensures { result ≡ stop_at fault job }
+{
     match fault {
         SubmitFault::NoTag => None,
         SubmitFault::Issue(IssueFault::Halted | IssueFault::SlotOwned) => None,
@@ -62,6 +65,7 @@ impl<'a, A: Allocator + Clone, C: Chooser, G: Gate> Worker<'a, A, C, G> {
     pub(crate) fn work<R: Wait>(mut self, rt: &R) -> Result<Vec<Receipt<A>, A>, Stop>
     where
         C: Drop,
+        ensures { IfErr result (IsStopAmong (length self.entry.jobs.now)) }
     {
         let done = self.all(rt);
         if done.is_err() {
@@ -70,9 +74,10 @@ impl<'a, A: Allocator + Clone, C: Chooser, G: Gate> Worker<'a, A, C, G> {
         done
     }
 
-    /// The receipts of the worker's jobs, in order: each turn of the workers over the jobs has one for it, but that
-    /// the last turn may be too short.
-    fn all<R: Wait>(&mut self, rt: &R) -> Result<Vec<Receipt<A>, A>, Stop> {
+    /// The receipts of the worker's jobs, in order.
+    fn all<R: Wait>(&mut self, rt: &R) -> Result<Vec<Receipt<A>, A>, Stop>
+        ensures { IfErr result (IsStopAmong (length self.old.jobs.now)) }
+    {
         let Ok(alloc) = self.alloc.clone() else {
             return Err(Stop::OutOfMemory);
         };
@@ -81,10 +86,7 @@ impl<'a, A: Allocator + Clone, C: Chooser, G: Gate> Worker<'a, A, C, G> {
             return Err(Stop::OutOfMemory);
         };
         let mut job = self.first;
-        for turn in jobs.chunks(workers) {
-            let Some(op) = turn.get(self.first) else {
-                break;
-            };
+        while let Some(op) = jobs.get(job) {
             let receipt = self.one(rt, job, op)?;
             let Ok(()) = receipts.push(receipt) else {
                 return Err(Stop::OutOfMemory);
@@ -95,7 +97,9 @@ impl<'a, A: Allocator + Clone, C: Chooser, G: Gate> Worker<'a, A, C, G> {
     }
 
     /// Does one job, from its submission to its answer.
-    fn one<R: Wait>(&mut self, rt: &R, job: usize, op: &Op<A>) -> Result<Receipt<A>, Stop> {
+    fn one<R: Wait>(&mut self, rt: &R, job: usize, op: &Op<A>) -> Result<Receipt<A>, Stop>
+        ensures { IfErr result (IsStopAt job) }
+    {
         self.gate.before(job);
         let ticket = self.submitted(rt, job, op)?;
         let (reply, bytes) = self.answered(rt, job, ticket)?;
@@ -106,7 +110,8 @@ impl<'a, A: Allocator + Clone, C: Chooser, G: Gate> Worker<'a, A, C, G> {
 
     /// Submits a job until it is taken, with one pump between two tries.
     fn submitted<R: Wait>(&mut self, rt: &R, job: usize, op: &Op<A>) -> Result<Ticket<A>, Stop>
-        ensures { IfOk result (λ t. has_place self.new.seat.tags t.tag ≡ true) }
+        ensures held { IfOk result (λ t. has_place self.new.seat.tags t.tag ≡ true) }
+        ensures stop { IfErr result (IsStopAt job) }
     {
         for _ in rt.forever() {
             if self.flag.load(SeqCst) {
@@ -136,6 +141,7 @@ impl<'a, A: Allocator + Clone, C: Chooser, G: Gate> Worker<'a, A, C, G> {
         mut ticket: Ticket<A>,
     ) -> Result<(Reply, Vec<u8, A>), Stop>
         requires { has_place self.old.seat.tags ticket.tag ≡ true }
+        ensures { IfErr result (IsStopAt job) }
     {
         for _ in rt.forever() {
             if self.flag.load(SeqCst) {
@@ -153,7 +159,8 @@ impl<'a, A: Allocator + Clone, C: Chooser, G: Gate> Worker<'a, A, C, G> {
 
     /// Lets the port get on. A worker that finds nothing to do lets others go first.
     fn pump<R: Wait>(&mut self, rt: &R) -> Result<(), Stop>
-        ensures { self.new.seat ≡ self.old.seat }
+        ensures seat { self.new.seat ≡ self.old.seat }
+        ensures stop { IfErr result (λ stop. stop ≡ Stop.OutOfMemory) }
     {
         match self.driver.pump(rt, &mut self.chooser) {
             Ok(Pumped::Idle) => thread::yield_now(),
