@@ -7,3 +7,4 @@ pub mod TagsLemmas
 pub mod EntriesLemmas
 pub mod ReadBackLemmas
 pub mod FoundLemmas
+pub mod ReadingLemmas
