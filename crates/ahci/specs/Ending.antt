@@ -4,8 +4,8 @@ use Rattle.ahci_args.specs.Asking.{AsksFor}
 use Rattle.ahci_args.specs.CommandLine.{PickWords}
 use Rattle.ahci_args.specs.Usage.{usage_faults}
 use Rattle.ahci_args.specs.declared.request.Asked.{Asked}
-use Rattle.ahci_script.specs.Fault.{status_of}
-use Rattle.ahci_script.specs.declared.fault.CliFault.{CliFault}
+use Rattle.ahci_cli.specs.Fault.{status_of}
+use Rattle.ahci_cli.specs.declared.fault.CliFault.{CliFault}
 use Rattle.clap.specs.Words.{IsAmong}
 use Rattle.clap.specs.declared.error.kind.ErrorKind.{ErrorKind}
 use Rattle.clap.specs.declared.error.kind.ErrorKind.TheVariants.{DisplayHelp, DisplayVersion, OutOfMemory}

@@ -5,7 +5,7 @@ ghost use Rattle.std.specs.Prelude.{◌≡◌, ◌<◌, ◌≤◌, ◌^◌, ◌�
 ghost use Rattle.std.specs.Process.{exit_status};
 ghost use Rattle.std.specs.String.{string_bytes};
 ghost use Rattle.ahci.specs.Ending.{EndsFor, Explains, IsInputStatus, check_status, input_status};
-ghost use Rattle.ahci_script.specs.Fault.{status_of};
+ghost use Rattle.ahci_cli.specs.Fault.{status_of};
 ghost use Rattle.clap.specs.Words.{kind_of};
 
 use ahci_cli::{

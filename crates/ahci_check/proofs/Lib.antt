@@ -1,6 +1,6 @@
 pub mod AgreementLemmas
 pub mod CommandLemmas
 pub mod ServeLemmas
-pub mod StandingLemmas
+pub mod SheetLemmas
 pub mod TagsLemmas
 pub mod WordLemmas

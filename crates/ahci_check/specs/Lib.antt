@@ -1,7 +1,7 @@
 pub mod Breaches
 pub mod Commands
 pub mod Complaints
+pub mod Faults
 pub mod Kinds
 pub mod Sheets
-pub mod Standing
 pub mod Texts

@@ -2,6 +2,7 @@
 #![tactic(auto)]
 
 mod breach;
+mod check_fault;
 mod checking;
 mod commands;
 mod complaint;
@@ -15,6 +16,7 @@ mod rule;
 mod sheet;
 mod sound;
 
+pub use check_fault::CheckFault;
 pub use checking::check;
 pub use complaint::Complaint;
 pub use fault::Fault;

@@ -1,11 +1,9 @@
-ghost use Rattle.std.specs.Prelude.{◌≡◌, ◌<◌, ◌^◌, OnErr, OnOk};
-
 use crate::complaint::Complaint;
 use crate::fault::Fault;
 use crate::judging::complaint_of;
 use crate::place::Place;
 use crate::rule::Rule;
-use ahci_script::{LINE_LIMIT, Output, OutputFailed};
+use ahci_script::{Found, LINE_LIMIT, Output, OutputFailed, TakesLines};
 use std::alloc::{AllocError, Allocator};
 use std::io::Write;
 use std::marker::Model;
@@ -15,7 +13,6 @@ use std::marker::Model;
 pub(crate) struct Sheet<A: Allocator> {
     alloc: A,
     place: Place,
-    lines: u64,
     found: bool,
     text: Output<A>,
 }
@@ -25,13 +22,13 @@ impl<A: Allocator> Model for Sheet<A> {
 
     ghost Value = { Judged };
 
-    ghost view = { λ s. record { place = s.place; lines = s.lines; found = s.found; text = s.text } };
+    ghost view = { λ s. record { place = s.place; found = s.found; text = s.text } };
 }
 
 impl<A: Allocator + Clone> Sheet<A> {
-    ghost use Rattle.std.specs.Prelude.{◌≡◌, ◌<◌, ◌+◌, ◌^◌, ℕ, take, IfOk, OnErr, OnOk};
+    ghost use Rattle.std.specs.Prelude.{◌≡◌, IfOk, OnErr, OnOk};
     ghost use Rattle.std.specs.Io.KnownBytes.{Appends};
-    ghost use Rattle.ahci_check.specs.Sheets.{IsPart, blank, counted, judged, judged_long, with_complaint};
+    ghost use Rattle.ahci_check.specs.Sheets.{IsPart, blank, judged, judged_long, with_complaint};
 
     /// No line was judged.
     pub(crate) fn new(alloc: A) -> Result<Self, AllocError>
@@ -41,7 +38,6 @@ impl<A: Allocator + Clone> Sheet<A> {
             text: Output::new(alloc.clone()?),
             alloc,
             place: Place::BeforeDisk,
-            lines: 0,
             found: false,
         })
     }
@@ -53,37 +49,27 @@ impl<A: Allocator + Clone> Sheet<A> {
         self.found
     }
 
-    /// Judges the line behind those that were counted.
-    pub(crate) fn judge(&mut self, line: &[u8]) -> Result<(), AllocError>
-        requires { self.old.lines + 1 < 2 ^ 64 }
-        ensures ok { OnOk result (self.new ≡ judged self.old line.now) }
+    /// Judges the line of the given number.
+    fn judge(&mut self, number: u64, line: &[u8]) -> Result<(), AllocError>
+        ensures ok { OnOk result (self.new ≡ judged self.old number line.now) }
         ensures err { OnErr result (self.new ≡ self.old) }
     {
-        let complaint = complaint_of(self.place, self.lines + 1, line);
+        let complaint = complaint_of(self.place, number, line);
         let place = self.place.after(line);
         self.put(complaint, place)
     }
 
-    /// Complains that the line behind those that were counted is too long.
-    pub(crate) fn judge_long(&mut self) -> Result<(), AllocError>
-        requires { self.old.lines + 1 < 2 ^ 64 }
-        ensures ok { OnOk result (self.new ≡ judged_long self.old) }
+    /// Complains that the line of the given number is too long.
+    fn judge_long(&mut self, number: u64) -> Result<(), AllocError>
+        ensures ok { OnOk result (self.new ≡ judged_long self.old number) }
         ensures err { OnErr result (self.new ≡ self.old) }
     {
         let complaint = Complaint {
-            line: self.lines + 1,
+            line: number,
             column: Some(LINE_LIMIT as u64 + 1),
             rule: Rule::Language(Fault::LongLine),
         };
         self.put(Some(complaint), self.place)
-    }
-
-    /// Counts a line that was judged.
-    pub(crate) fn count(&mut self)
-        requires { self.old.lines + 1 < 2 ^ 64 }
-        ensures { self.new ≡ counted self.old }
-    {
-        self.lines += 1;
     }
 
     /// Puts down what there is to say of a line, and the place behind it.
@@ -105,8 +91,25 @@ impl<A: Allocator + Clone> Sheet<A> {
         ensures written { OnOk result (Appends (W.contents writer.old) (W.contents writer.new) self.old.text) }
         ensures part { OnErr result (IsPart (W.contents writer.old) (W.contents writer.new) self.old.text) }
         ensures found { self.new.found ≡ self.old.found }
-        ensures lines { self.new.lines ≡ self.old.lines }
     {
         self.text.send(writer)
+    }
+}
+
+impl<A: Allocator + Clone> TakesLines<()> for Sheet<A> {
+    ghost use Rattle.ahci_check.specs.Sheets.{Judges, Keeps};
+
+    type Fault = AllocError;
+
+    ghost Takes = { Judges };
+
+    ghost Refuses = { Keeps };
+
+    fn take(&mut self, number: u64, found: Found<'_>, _output: &mut ()) -> Result<(), AllocError> {
+        match found {
+            Found::Line(line) => self.judge(number, line),
+            Found::TooLong => self.judge_long(number),
+            Found::Unfinished => Ok(()),
+        }
     }
 }

@@ -1,9 +1,11 @@
 ghost use Rattle.std.specs.Prelude.{◌≤◌, IfErr, OnOk};
+ghost use Rattle.ahci_cli.specs.Faults.{IsFaultOf, of_jobs};
 ghost use Rattle.ahci_jobs.specs.RunJobs.{EndsRun, RunsJobs};
 
+use crate::fault::CliFault;
 use ahci_args::Pick;
 use ahci_driver::{All, High, Low};
-use ahci_script::CliFault;
+use ahci_jobs::JobsFault;
 use std::alloc::Allocator;
 use std::io::{Read, Write};
 use std::sync::Wait;
@@ -20,6 +22,36 @@ pub fn run_jobs<H, R, W, A>(
     reader: &mut R,
     writer: &mut W,
 ) -> Result<(), CliFault>
+where
+    H: Threads + Wait + Sync,
+    R: Read,
+    W: Write,
+    A: Allocator + Clone + Send + Sync,
+    requires some { 1 ≤ workers }
+    requires most { workers ≤ 32 }
+    requires slots { 1 ≤ depth }
+    requires deep { depth ≤ 32 }
+    requires room { 1 ≤ sectors }
+    requires limit { sectors ≤ 131072 }
+    ensures ok { OnOk result (RunsJobs workers depth sectors (R.remaining reader.old) (R.remaining reader.new)
+        (W.contents writer.old) (W.contents writer.new)) }
+    ensures err { IfErr result (IsFaultOf of_jobs (EndsRun workers depth sectors (R.remaining reader.old) (R.remaining reader.new)
+        (W.contents writer.old) (W.contents writer.new))) }
+{
+    Ok(picked(rt, alloc, workers, depth, sectors, pick, reader, writer)?)
+}
+
+/// The same, with the faults of a job list.
+fn picked<H, R, W, A>(
+    rt: &H,
+    alloc: A,
+    workers: u32,
+    depth: u32,
+    sectors: u32,
+    pick: Pick,
+    reader: &mut R,
+    writer: &mut W,
+) -> Result<(), JobsFault>
 where
     H: Threads + Wait + Sync,
     R: Read,

@@ -3,7 +3,7 @@ ghost use Rattle.std.specs.Prelude.{◌≡◌, ◌<◌, ◌≤◌, ◌^◌, ℕ,
 ghost use Rattle.std.specs.Io.KnownBytes.{Appends, Keeps};
 ghost use Rattle.ata_pages.specs.Output.{identify_output, log_output};
 
-use ahci_script::CliFault;
+use crate::fault::CliFault;
 use ata_pages::PageFault;
 use std::alloc::Allocator;
 use std::io::Write;

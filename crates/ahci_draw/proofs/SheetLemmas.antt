@@ -2,36 +2,30 @@
 use Rattle.std.proofs.Common.{◌≡◌, List, [], ℕ, Option, Some, inl, inr, subst, sym}
 use Rattle.std.specs.Io.KnownBytes.{Appends}
 use Rattle.ahci_replay.specs.Transcript.{ReplayedTo}
-use Rattle.ahci_script.specs.declared.fault.CliFault.{CliFault}
-use Rattle.ahci_script.specs.declared.fault.CliFault.TheVariants as fault
+use Rattle.ahci_replay.specs.declared.script_fault.ScriptFault.{ScriptFault}
+use Rattle.ahci_replay.specs.declared.script_fault.ScriptFault.TheVariants as fault
 use Rattle.ahci_draw.specs.Drawn.{DrawnTo, IsSentAt, IsSentTo, IsSheetTo, picture_lines}
 use Rattle.ahci_draw.specs.Sheet.{sheet_text}
 
 -- the sheet that was empty at first
-pub is_sheet : (r s : Option (List ℕ)) (old items sheet : List ℕ) (found f : CliFault) → old ≡ [] → sheet ≡ items → found ≡ f
+pub is_sheet : (r s : Option (List ℕ)) (old items sheet : List ℕ) (found f : ScriptFault) → old ≡ [] → sheet ≡ items → found ≡ f
     → ReplayedTo sheet_text r s (Some old) (Some items) found → ReplayedTo sheet_text r s (Some []) (Some sheet) f
 is_sheet r s old items sheet found f empty same told is =
     subst (ReplayedTo sheet_text r s (Some []) (Some sheet)) told
     (subst (λ t. ReplayedTo sheet_text r s (Some []) (Some t) found) (sym same) (subst (λ o. ReplayedTo sheet_text r s (Some o) (Some items) found) empty is))
 
-sent : (r s c d : Option (List ℕ)) (sheet : List ℕ) (f : CliFault) → IsSheetTo r s f sheet → Appends c d (picture_lines sheet) → DrawnTo r s c d f
+sent : (r s c d : Option (List ℕ)) (sheet : List ℕ) (f : ScriptFault) → IsSheetTo r s f sheet → Appends c d (picture_lines sheet) → DrawnTo r s c d f
 sent r s c d sheet (fault.Line n) is written = record { sheet = sheet; replayed = is; written = written }
 sent r s c d sheet fault.Read is written = record { sheet = sheet; replayed = is; written = written }
 sent r s c d sheet fault.OutOfMemory is written = absurd is
 sent r s c d sheet fault.Write is written = absurd is
-sent r s c d sheet (fault.Job n) is written = absurd is
-sent r s c d sheet fault.Unsettled is written = absurd is
-sent r s c d sheet (fault.Lost n) is written = absurd is
 
-not_sent : (r s c d : Option (List ℕ)) (sheet : List ℕ) (f failed : CliFault) → IsSheetTo r s f sheet → IsSentTo sheet c d failed → DrawnTo r s c d failed
+not_sent : (r s c d : Option (List ℕ)) (sheet : List ℕ) (f failed : ScriptFault) → IsSheetTo r s f sheet → IsSentTo sheet c d failed → DrawnTo r s c d failed
 not_sent r s c d sheet f fault.OutOfMemory is sent = sent
 not_sent r s c d sheet f fault.Write is sent = record { sheet = sheet; replayed = inr (f, is); count = sent.0; written = sent.1 }
 not_sent r s c d sheet f (fault.Line n) is sent = absurd sent
 not_sent r s c d sheet f fault.Read is sent = absurd sent
-not_sent r s c d sheet f (fault.Job n) is sent = absurd sent
-not_sent r s c d sheet f fault.Unsettled is sent = absurd sent
-not_sent r s c d sheet f (fault.Lost n) is sent = absurd sent
 
-pub sent_at : (r s c d : Option (List ℕ)) (sheet : List ℕ) (f told : CliFault) → IsSheetTo r s f sheet → IsSentAt f sheet c d told → DrawnTo r s c d told
+pub sent_at : (r s c d : Option (List ℕ)) (sheet : List ℕ) (f told : ScriptFault) → IsSheetTo r s f sheet → IsSentAt f sheet c d told → DrawnTo r s c d told
 sent_at r s c d sheet f told is (inl (same, written)) = subst (DrawnTo r s c d) (sym same) (sent r s c d sheet f is written)
 sent_at r s c d sheet f told is (inr failed) = not_sent r s c d sheet f told is failed

@@ -2,8 +2,8 @@
 use Rattle.std.specs.Prelude.{◌≡◌, ℕ, List, [], ◌∷◌, ◌++◌, take, Option, Some, ◌⊎◌}
 use Rattle.std.specs.Io.KnownBytes.{Appends}
 use Rattle.ahci_replay.specs.Transcript.{Replayed, ReplayedTo}
-use Rattle.ahci_script.specs.declared.fault.CliFault.{CliFault}
-use Rattle.ahci_script.specs.declared.fault.CliFault.TheVariants as fault
+use Rattle.ahci_replay.specs.declared.script_fault.ScriptFault.{ScriptFault}
+use Rattle.ahci_replay.specs.declared.script_fault.ScriptFault.TheVariants as fault
 use Rattle.ahci_draw.specs.Picture.{picture_text}
 use Rattle.ahci_draw.specs.Sheet.{sheet_text}
 
@@ -16,7 +16,7 @@ abbrev pub IsSheet : Option (List ℕ) → Option (List ℕ) → List ℕ → Ty
 IsSheet r s sheet = Replayed sheet_text r s (Some []) (Some sheet)
 
 -- the sheet of the lines before a fault: a faulty line, or a failed read
-abbrev pub IsSheetTo : Option (List ℕ) → Option (List ℕ) → CliFault → List ℕ → Type 0
+abbrev pub IsSheetTo : Option (List ℕ) → Option (List ℕ) → ScriptFault → List ℕ → Type 0
 IsSheetTo r s (fault.Line n) sheet = ReplayedTo sheet_text r s (Some []) (Some sheet) (fault.Line n)
 IsSheetTo r s fault.Read sheet = ReplayedTo sheet_text r s (Some []) (Some sheet) fault.Read
 IsSheetTo r s _ sheet = ⊥
@@ -28,32 +28,31 @@ pub record Drawn (r s c d : Option (List ℕ)) : Type 0 where
   pub written : Appends c d (picture_lines sheet)
 
 -- a fault has ended the script, and the picture of what was done before it is written
-pub record DrawnBefore (r s c d : Option (List ℕ)) (f : CliFault) : Type 0 where
+pub record DrawnBefore (r s c d : Option (List ℕ)) (f : ScriptFault) : Type 0 where
   pub sheet : List ℕ
   pub replayed : IsSheetTo r s f sheet
   pub written : Appends c d (picture_lines sheet)
 
 -- how the picture of a sheet fails to be written: in part, or not at all where memory was refused
-abbrev pub IsSentTo : List ℕ → Option (List ℕ) → Option (List ℕ) → CliFault → Type 0
+abbrev pub IsSentTo : List ℕ → Option (List ℕ) → Option (List ℕ) → ScriptFault → Type 0
 IsSentTo sheet c d fault.OutOfMemory = d ≡ c
 IsSentTo sheet c d fault.Write = (count : ℕ) × Appends c d (take count (picture_lines sheet))
 IsSentTo sheet c d _ = ⊥
 
 -- the picture is written, and the fault of the script is told; or that of the writing is
-abbrev pub IsSentAt : CliFault → List ℕ → Option (List ℕ) → Option (List ℕ) → CliFault → Type 0
+abbrev pub IsSentAt : ScriptFault → List ℕ → Option (List ℕ) → Option (List ℕ) → ScriptFault → Type 0
 IsSentAt f sheet c d told = ((told ≡ f) × Appends c d (picture_lines sheet)) ⊎ IsSentTo sheet c d told
 
 -- a first part of the picture is written
 pub record DrawnPart (r s c d : Option (List ℕ)) : Type 0 where
   pub sheet : List ℕ
-  pub replayed : IsSheet r s sheet ⊎ ((f : CliFault) × IsSheetTo r s f sheet)
+  pub replayed : IsSheet r s sheet ⊎ ((f : ScriptFault) × IsSheetTo r s f sheet)
   pub count : ℕ
   pub written : Appends c d (take count (picture_lines sheet))
 
 -- how a fault ends it: where memory was refused nothing is written
-abbrev pub DrawnTo : Option (List ℕ) → Option (List ℕ) → Option (List ℕ) → Option (List ℕ) → CliFault → Type 0
+abbrev pub DrawnTo : Option (List ℕ) → Option (List ℕ) → Option (List ℕ) → Option (List ℕ) → ScriptFault → Type 0
 DrawnTo r s c d (fault.Line n) = DrawnBefore r s c d (fault.Line n)
 DrawnTo r s c d fault.Read = DrawnBefore r s c d fault.Read
 DrawnTo r s c d fault.OutOfMemory = d ≡ c
 DrawnTo r s c d fault.Write = DrawnPart r s c d
-DrawnTo r s c d _ = ⊥

@@ -4,7 +4,7 @@ ghost use Rattle.ahci_draw.specs.Drawn.{Drawn, DrawnTo, IsSentAt, IsSentTo, pict
 
 use crate::drawer::Drawer;
 use crate::picture::picture_of;
-use ahci_replay::{CliFault, replay_with};
+use ahci_replay::{ScriptFault, replay_with};
 use ahci_script::Output;
 use std::alloc::Allocator;
 use std::io::{Read, Write};
@@ -18,26 +18,26 @@ pub fn draw<R: Read, W: Write, A: Allocator + Copy>(
     alloc: A,
     reader: &mut R,
     writer: &mut W,
-) -> Result<(), CliFault>
+) -> Result<(), ScriptFault>
     ensures ok { OnOk result (Drawn (R.remaining reader.old) (R.remaining reader.new) (W.contents writer.old) (W.contents writer.new)) }
     ensures err { IfErr result (DrawnTo (R.remaining reader.old) (R.remaining reader.new) (W.contents writer.old) (W.contents writer.new)) }
 {
     let mut sheet = Vec::new(alloc);
     match replay_with(alloc, &mut Drawer::new(alloc), reader, &mut sheet) {
         Ok(()) => send(alloc, &sheet, writer),
-        Err(CliFault::Line(line)) => Err(send_at(CliFault::Line(line), alloc, &sheet, writer)),
-        Err(CliFault::Read) => Err(send_at(CliFault::Read, alloc, &sheet, writer)),
-        Err(_) => Err(CliFault::OutOfMemory), // a sheet takes all that it has room for
+        Err(ScriptFault::Line(line)) => Err(send_at(ScriptFault::Line(line), alloc, &sheet, writer)),
+        Err(ScriptFault::Read) => Err(send_at(ScriptFault::Read, alloc, &sheet, writer)),
+        Err(_) => Err(ScriptFault::OutOfMemory), // a sheet takes all that it has room for
     }
 }
 
 /// Writes the picture of what was done before a fault, and answers the fault, or how the writing failed.
 fn send_at<W: Write, A: Allocator + Copy>(
-    fault: CliFault,
+    fault: ScriptFault,
     alloc: A,
     sheet: &[u8],
     writer: &mut W,
-) -> CliFault
+) -> ScriptFault
     ensures { IsSentAt fault sheet.now (W.contents writer.old) (W.contents writer.new) result }
 {
     match send(alloc, sheet, writer) {
@@ -51,7 +51,7 @@ fn send<W: Write, A: Allocator + Copy>(
     alloc: A,
     sheet: &[u8],
     writer: &mut W,
-) -> Result<(), CliFault>
+) -> Result<(), ScriptFault>
     ensures ok { OnOk result (Appends (W.contents writer.old) (W.contents writer.new) (picture_lines sheet.now)) }
     ensures err { IfErr result (IsSentTo sheet.now (W.contents writer.old) (W.contents writer.new)) }
 {

@@ -4,14 +4,9 @@
 
 ghost use Rattle.std.specs.Prelude.{◌≤◌};
 
-use ahci_check::check;
-use ahci_draw::draw;
-use ahci_driver::Low;
-use ahci_jobs::run_jobs;
-use ahci_replay::replay;
-use ahci_script::CliFault;
-use ahci_trace::{trace, trace_json};
-use ata_pages::{PageFault, write_identify, write_log};
+use ahci_cli::{
+    CliFault, Pick, check, draw, replay, run_jobs, trace, trace_json, write_identify, write_log,
+};
 use std::fs;
 use std::rt::Files;
 use std::sync::Wait;
@@ -207,7 +202,7 @@ fn is_list_as_expected<T: Threads + Wait + Sync>(
         list.workers,
         list.depth,
         list.sectors,
-        Low,
+        Pick::Low,
         &mut reader,
         &mut written,
     );
@@ -232,7 +227,7 @@ fn is_error_log_as_expected(rt: &HostRuntime) -> anyhow::Result<bool> {
 fn is_page_told(
     rt: &HostRuntime,
     name: &str,
-    outcome: Result<(), PageFault>,
+    outcome: Result<(), CliFault>,
     written: &[u8],
 ) -> anyhow::Result<bool> {
     let page = fs::read(rt, format!(in rt.alloc(); "{name}.out")?)?;

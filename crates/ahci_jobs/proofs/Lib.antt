@@ -1,3 +1,3 @@
-pub mod ReadingLemmas
+pub mod ListLemmas
 pub mod RunningLemmas
 pub mod TellingLemmas

@@ -8,14 +8,17 @@ use Rattle.ahci_driver.specs.declared.fault.SettleFault.TheVariants as settle
 use Rattle.ahci_driver.specs.declared.run_fault.RunFault.TheVariants as of_run
 use Rattle.ahci_port.specs.PortView.{PortView}
 use Rattle.ahci_script.specs.Jobs.{job_line_of}
-use Rattle.ahci_script.specs.declared.fault.CliFault.{CliFault}
-use Rattle.ahci_script.specs.declared.fault.CliFault.TheVariants.{Line, Job, Read, Write, Unsettled, Lost, OutOfMemory}
+use Rattle.ahci_jobs.specs.declared.jobs_fault.JobsFault.{JobsFault}
+use Rattle.ahci_jobs.specs.declared.jobs_fault.JobsFault.TheVariants.{Line, Job, Read, Write, Unsettled, Lost, OutOfMemory}
+use Rattle.ahci_jobs.specs.declared.list_fault.ListFault.{ListFault}
+use Rattle.ahci_jobs.specs.declared.list_fault.ListFault.TheVariants as list
 use Rattle.ahci_script.specs.declared.job.JobLine.{JobLine}
 use Rattle.ahci_script.specs.declared.job.JobLine.TheVariants.{Skip, Do}
 use Rattle.ncq_journal.specs.Lawful.{IsProper}
 use Rattle.ncq_journal.specs.Work.{Work}
 use Rattle.ahci_script.proofs.FoundLemmas.{Bytes}
-use Rattle.ahci_jobs.proofs.ReadingLemmas.{Known}
+use Rattle.ahci_jobs.proofs.ListLemmas.{Known}
+use Rattle.ahci_jobs.specs.Faults.{jobs_fault_of}
 use Rattle.ahci_jobs.specs.JobList.{AreGood, IsGood, IsListFault, IsListed, asked_in, command_for, commands_of, no_line, one_more}
 use Rattle.ahci_jobs.specs.Results.{IsTold, SaysPart, run_text}
 use Rattle.ahci_jobs.specs.RunJobs.{EndsRun, IsUndone, blank_port}
@@ -72,17 +75,14 @@ is_late port jobs sectors depth (of_run.Unsettled (settle.Wrong i)) is all h = t
 is_late port jobs sectors depth (of_run.Unsettled (settle.Extra n)) is all h = tt
 
 -- the list ended early
-pub ends_listing : (f : CliFault) (workers depth sectors : ℕ) (r s c : Known) → IsListFault r s f → EndsRun workers depth sectors r s c c f
-ends_listing (Line n) workers depth sectors r s c h = (h, refl)
-ends_listing (Job i) workers depth sectors r s c h = (h, refl)
-ends_listing Read workers depth sectors r s c h = (h, refl)
-ends_listing OutOfMemory workers depth sectors r s c h = inl refl
-ends_listing Write workers depth sectors r s c h = absurd h
-ends_listing Unsettled workers depth sectors r s c h = absurd h
-ends_listing (Lost i) workers depth sectors r s c h = absurd h
+pub ends_listing : (f : ListFault) (workers depth sectors : ℕ) (r s c : Known) → IsListFault r s f → EndsRun workers depth sectors r s c c (jobs_fault_of f)
+ends_listing (list.Line n) workers depth sectors r s c h = (h, refl)
+ends_listing (list.Job i) workers depth sectors r s c h = (h, refl)
+ends_listing list.Read workers depth sectors r s c h = (h, refl)
+ends_listing list.OutOfMemory workers depth sectors r s c h = inl refl
 
 -- the run was given up
-pub ends_running : (f : CliFault) (workers depth sectors : ℕ) (r s c : Known) (jobs : List Work) → IsListed r s jobs → IsUndone f → EndsRun workers depth sectors r s c c f
+pub ends_running : (f : JobsFault) (workers depth sectors : ℕ) (r s c : Known) (jobs : List Work) → IsListed r s jobs → IsUndone f → EndsRun workers depth sectors r s c c f
 ends_running Unsettled workers depth sectors r s c jobs listed h = ((jobs, listed), refl)
 ends_running (Lost i) workers depth sectors r s c jobs listed h = ((jobs, listed), refl)
 ends_running OutOfMemory workers depth sectors r s c jobs listed h = inl refl
@@ -92,7 +92,7 @@ ends_running Read workers depth sectors r s c jobs listed h = absurd h
 ends_running Write workers depth sectors r s c jobs listed h = absurd h
 
 -- the output took no more
-pub ends_telling : {T : Type 0} (result : Result T CliFault) (workers depth sectors : ℕ) (r s c d : Known) (jobs : List Work) (port : PortView) (replies : List Received)
+pub ends_telling : {T : Type 0} (result : Result T JobsFault) (workers depth sectors : ℕ) (r s c d : Known) (jobs : List Work) (port : PortView) (replies : List Received)
     → IsListed r s jobs → HasRun (blank_port sectors depth) port jobs replies workers → OnErr result (SaysPart c [] d (run_text port replies)) → IfErr result IsTold
     → IfErr result (EndsRun workers depth sectors r s c d)
 ends_telling (Ok x) workers depth sectors r s c d jobs port replies listed ran part told = told

@@ -2,9 +2,8 @@
 use Rattle.std.specs.Prelude.{◌≡◌, ℕ, ◌+◌, ◌*◌, List, [], ◌∷◌, ◌++◌, Option, Some, None, length, replicate, ◌⊎◌}
 use Rattle.std.specs.Io.KnownBytes.{Consumes, IsAtEnd}
 use Rattle.ahci_script.specs.Jobs.{job_line_of}
-use Rattle.ahci_script.specs.Unread.{MayFail, found_of, too_long, unfinished, whole, with_feeds}
-use Rattle.ahci_script.specs.declared.fault.CliFault.{CliFault}
-use Rattle.ahci_script.specs.declared.fault.CliFault.TheVariants as fault
+use Rattle.ahci_script.specs.Reading.{IsNext}
+use Rattle.ahci_script.specs.Unread.{Begins, MayFail, found_of, too_long, unfinished, whole, with_feeds}
 use Rattle.ahci_script.specs.declared.job.Job.{Job}
 use Rattle.ahci_script.specs.declared.job.Job.TheVariants as job
 use Rattle.ahci_script.specs.declared.job.JobLine.{JobLine}
@@ -12,6 +11,8 @@ use Rattle.ahci_script.specs.declared.job.JobLine.TheVariants.{Skip, Do}
 use Rattle.ncq_journal.specs.Lawful.{IsProper}
 use Rattle.ncq_journal.specs.Work.{Work}
 use Rattle.ncq_journal.specs.Work as work
+use Rattle.ahci_jobs.specs.declared.list_fault.ListFault.{ListFault}
+use Rattle.ahci_jobs.specs.declared.list_fault.ListFault.TheVariants as fault
 
 -- the command that a job asks for; a write's sectors are filled with one byte
 abbrev pub command_for : Job → Work
@@ -35,11 +36,23 @@ IsBad (Some (Do j)) = ¬ (IsProper (command_for j))
 IsBad line = ⊥
 
 -- why a line of the given number, behind so many jobs, ends a job list
-abbrev pub IsLineFault : Option JobLine → ℕ → ℕ → CliFault → Type 0
+abbrev pub IsLineFault : Option JobLine → ℕ → ℕ → ListFault → Type 0
 IsLineFault line number jobs (fault.Line n) = (n ≡ number) × (line ≡ None)
 IsLineFault line number jobs (fault.Job i) = (i ≡ jobs) × IsBad line
 IsLineFault line number jobs fault.OutOfMemory = IsGood line
-IsLineFault line number jobs _ = ⊥
+IsLineFault line number jobs fault.Read = ⊥
+
+-- a list goes on: with a good line, or with more input
+abbrev pub Takes : List Work → Begins → List Work → Type 0
+Takes old (whole line) new = IsGood (job_line_of line) × (new ≡ old ++ commands_of (job_line_of line))
+Takes old too_long new = ⊥
+Takes old unfinished new = new ≡ old
+
+-- a list does not go on
+abbrev pub Refuses : List Work → ℕ → Begins → ListFault → Type 0
+Refuses old number (whole line) f = IsLineFault (job_line_of line) number (length old) f
+Refuses old number too_long f = f ≡ fault.Line number
+Refuses old number unfinished f = ⊥
 
 -- lines of their own, each of them good
 pub data AreGood : List (List ℕ) → Type 0 where
@@ -62,10 +75,6 @@ pub record IsListed (remaining_old remaining_new : Option (List ℕ)) (jobs : Li
   pub consumed : Consumes remaining_old remaining_new (with_feeds lines ++ rest)
   pub end : IsAtEnd remaining_new
 
--- the next line among unread bytes: one with its line feed, or at the end of the input all that is left
-abbrev pub IsNext : Option (List ℕ) → List ℕ → List ℕ → Type 0
-IsNext remaining unread line = (found_of unread ≡ whole line) ⊎ (IsAtEnd remaining × (found_of unread ≡ unfinished) × (line ≡ unread))
-
 -- no job list goes on with these bytes: the line is too long, or not understood
 abbrev pub IsFaulty : Option (List ℕ) → List ℕ → Type 0
 IsFaulty remaining unread =
@@ -86,10 +95,9 @@ pub record ListedFirst (remaining_old : Option (List ℕ)) (P : List (List ℕ) 
   pub holds : P lines remaining rest
 
 -- why a job list is not read to its end: the first fault in the order of the input
-abbrev pub IsListFault : Option (List ℕ) → Option (List ℕ) → CliFault → Type 0
+abbrev pub IsListFault : Option (List ℕ) → Option (List ℕ) → ListFault → Type 0
 IsListFault r s (fault.Line n) = ListedFirst r (λ lines remaining rest. (n ≡ length lines + 1) × IsFaulty remaining rest)
 IsListFault r s (fault.Job i) = ListedFirst r (λ lines remaining rest. (i ≡ length (asked_in lines)) × IsBadNext remaining rest)
 IsListFault r s fault.Read =
     ListedFirst r (λ lines remaining rest. (found_of rest ≡ unfinished) × MayFail (length (with_feeds lines ++ rest)) remaining s)
 IsListFault r s fault.OutOfMemory = ListedFirst r (λ _ _ _. Unit {0})
-IsListFault r s _ = ⊥

@@ -1,4 +1,4 @@
+pub mod Faults
 pub mod JobList
-pub mod Reading
 pub mod Results
 pub mod RunJobs

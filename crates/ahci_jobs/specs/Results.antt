@@ -6,12 +6,12 @@ use Rattle.ahci_driver.specs.Received.{Received}
 use Rattle.ahci_port.specs.PortView.{PortView, sectors_in}
 use Rattle.ahci_script.specs.Results.{Told, told_text}
 use Rattle.ahci_script.specs.Results as line
-use Rattle.ahci_script.specs.declared.fault.CliFault.{CliFault}
-use Rattle.ahci_script.specs.declared.fault.CliFault.TheVariants as fault
 use Rattle.ncq_journal.specs.Answer.{Answer}
 use Rattle.ncq_journal.specs.Sector.{sector}
 use Rattle.ncq_journal.specs.declared.outcome.Outcome.{Outcome}
 use Rattle.ncq_journal.specs.declared.outcome.Outcome.TheVariants.{Read, Wrote, Failed}
+use Rattle.ahci_jobs.specs.declared.jobs_fault.JobsFault.{JobsFault}
+use Rattle.ahci_jobs.specs.declared.jobs_fault.JobsFault.TheVariants as fault
 
 -- the line of a job that ended so, with these bytes
 abbrev pub line_with : Outcome → List ℕ → Told
@@ -62,7 +62,7 @@ pub record SaysPart (contents_old : Option (List ℕ)) (waiting : List ℕ) (con
   pub said : waiting ++ text ≡ first ++ rest
 
 -- the faults of the output, and want of memory
-abbrev pub IsTold : CliFault → Type 0
+abbrev pub IsTold : JobsFault → Type 0
 IsTold fault.Write = Unit {0}
 IsTold fault.OutOfMemory = Unit {0}
 IsTold _ = ⊥

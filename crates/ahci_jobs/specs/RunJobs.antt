@@ -6,11 +6,12 @@ use Rattle.ahci_driver.specs.Running.{HasRun}
 use Rattle.ahci_driver.specs.declared.run_fault.RunFault.{RunFault}
 use Rattle.ahci_driver.specs.declared.run_fault.RunFault.TheVariants as run
 use Rattle.ahci_port.specs.PortView.{PortView, new_port}
-use Rattle.ahci_script.specs.declared.fault.CliFault.{CliFault}
-use Rattle.ahci_script.specs.declared.fault.CliFault.TheVariants as fault
 use Rattle.ncq_journal.specs.Work.{Work}
 use Rattle.ahci_jobs.specs.JobList.{IsListFault, IsListed}
 use Rattle.ahci_jobs.specs.Results.{SaysPart, run_text}
+use Rattle.ahci_jobs.specs.declared.jobs_fault.JobsFault.{JobsFault}
+use Rattle.ahci_jobs.specs.declared.jobs_fault.JobsFault.TheVariants as fault
+use Rattle.ahci_jobs.specs.declared.list_fault.ListFault.TheVariants as list
 
 -- a new port over a disk of zeros
 abbrev pub blank_port : ℕ → ℕ → PortView
@@ -29,14 +30,14 @@ pub record HasDone (workers depth sectors : ℕ) (remaining_old remaining_new : 
 abbrev pub RunsJobs : ℕ → ℕ → ℕ → Option (List ℕ) → Option (List ℕ) → Option (List ℕ) → Option (List ℕ) → Type 0
 RunsJobs workers depth sectors r s c d = HasDone workers depth sectors r s (Appends c d)
 
--- the program's fault, where a run that has begun was given up
-abbrev pub fault_of : RunFault → CliFault
+-- the fault, where a run that has begun was given up
+abbrev pub fault_of : RunFault → JobsFault
 fault_of run.OutOfMemory = fault.OutOfMemory
 fault_of (run.Lost job) = fault.Lost job
 fault_of given_up = fault.Unsettled
 
 -- the faults of a run that was given up
-abbrev pub IsUndone : CliFault → Type 0
+abbrev pub IsUndone : JobsFault → Type 0
 IsUndone fault.Unsettled = Unit {0}
 IsUndone (fault.Lost i) = Unit {0}
 IsUndone fault.OutOfMemory = Unit {0}
@@ -44,10 +45,10 @@ IsUndone _ = ⊥
 
 -- why it isn't. A fault of the input, and a run that isn't settled, come before any text; where the output takes no more, or
 -- memory is wanted, some first part of the text may be written
-abbrev pub EndsRun : ℕ → ℕ → ℕ → Option (List ℕ) → Option (List ℕ) → Option (List ℕ) → Option (List ℕ) → CliFault → Type 0
-EndsRun workers depth sectors r s c d (fault.Line n) = IsListFault r s (fault.Line n) × (d ≡ c)
-EndsRun workers depth sectors r s c d (fault.Job i) = IsListFault r s (fault.Job i) × (d ≡ c)
-EndsRun workers depth sectors r s c d fault.Read = IsListFault r s fault.Read × (d ≡ c)
+abbrev pub EndsRun : ℕ → ℕ → ℕ → Option (List ℕ) → Option (List ℕ) → Option (List ℕ) → Option (List ℕ) → JobsFault → Type 0
+EndsRun workers depth sectors r s c d (fault.Line n) = IsListFault r s (list.Line n) × (d ≡ c)
+EndsRun workers depth sectors r s c d (fault.Job i) = IsListFault r s (list.Job i) × (d ≡ c)
+EndsRun workers depth sectors r s c d fault.Read = IsListFault r s list.Read × (d ≡ c)
 EndsRun workers depth sectors r s c d fault.Write = HasDone workers depth sectors r s (SaysPart c [] d)
 EndsRun workers depth sectors r s c d fault.OutOfMemory = (d ≡ c) ⊎ HasDone workers depth sectors r s (SaysPart c [] d)
 EndsRun workers depth sectors r s c d fault.Unsettled = ((jobs : List Work) × IsListed r s jobs) × (d ≡ c)

@@ -2,8 +2,11 @@
 #![tactic(auto)]
 
 mod job_list;
+mod jobs_fault;
+mod list_fault;
 mod making;
 mod running;
 mod telling;
 
+pub use jobs_fault::JobsFault;
 pub use running::run_jobs;

@@ -5,10 +5,10 @@ ghost use Rattle.ahci_driver.specs.Running.{HasRun, IsFirstBad, IsLate};
 ghost use Rattle.ahci_jobs.specs.RunJobs.{EndsRun, IsUndone, RunsJobs, blank_port, fault_of};
 
 use crate::job_list::listed;
+use crate::jobs_fault::JobsFault;
 use crate::telling::tell_run;
 use ahci_driver::{Chooser, Open, RunEnd, RunFault, run};
 use ahci_port::Port;
-use ahci_script::CliFault;
 use ncq_core::{MAX_SECTORS, Op};
 use std::alloc::{AllocError, Allocator};
 use std::io::{Read, Write};
@@ -19,15 +19,15 @@ use std::thread::Threads;
 const SECTOR: usize = 512;
 
 /// The program's fault, where a run that has begun was given up.
-fn cli_fault(fault: RunFault) -> CliFault
+fn given_up(fault: RunFault) -> JobsFault
     requires { IsLate fault }
     ensures told { result ≡ fault_of fault }
     ensures undone { IsUndone result }
 {
     match fault {
-        RunFault::OutOfMemory => CliFault::OutOfMemory,
-        RunFault::Lost(job) => CliFault::Lost(job as u64),
-        RunFault::Foreign | RunFault::Unsettled(_) => CliFault::Unsettled,
+        RunFault::OutOfMemory => JobsFault::OutOfMemory,
+        RunFault::Lost(job) => JobsFault::Lost(job as u64),
+        RunFault::Foreign | RunFault::Unsettled(_) => JobsFault::Unsettled,
         // The port is new, and each job was judged as it was read.
         RunFault::NotFresh | RunFault::BadJob(_) => unreachable!(),
     }
@@ -57,7 +57,7 @@ fn done<H, C, A>(
     sectors: u32,
     chooser: C,
     jobs: &[Op<A>],
-) -> Result<RunEnd<A>, CliFault>
+) -> Result<RunEnd<A>, JobsFault>
 where
     H: Threads + Wait + Sync,
     C: Chooser + Copy + Send + Drop,
@@ -76,7 +76,7 @@ where
     let choosers = vec![in alloc.clone()?; chooser; workers as usize]?;
     match run(rt, alloc, port, jobs, workers, choosers, &Open) {
         Ok(end) => Ok(end),
-        Err(fault) => Err(cli_fault(fault)),
+        Err(fault) => Err(given_up(fault)),
     }
 }
 
@@ -97,7 +97,7 @@ pub fn run_jobs<H, R, W, C, A>(
     chooser: C,
     reader: &mut R,
     writer: &mut W,
-) -> Result<(), CliFault>
+) -> Result<(), JobsFault>
 where
     H: Threads + Wait + Sync,
     R: Read,

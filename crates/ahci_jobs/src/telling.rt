@@ -8,9 +8,10 @@ ghost use Rattle.ahci_script.specs.Results.{told};
 ghost use Rattle.ahci_driver.specs.Received.{received_of};
 ghost use Rattle.ahci_jobs.specs.Results.{IsTold, Says, SaysPart, fed, is_blank, line_for, replies_text, run_text, sector_text, sectors_text};
 
+use crate::jobs_fault::JobsFault;
 use ahci_driver::{Receipt, RunEnd};
 use ahci_port::{Outcome, Port};
-use ahci_script::{CliFault, Output, ResultLine};
+use ahci_script::{Output, ResultLine};
 use std::alloc::Allocator;
 use std::io::Write;
 
@@ -22,7 +23,7 @@ fn tell<W: Write, A: Allocator>(
     output: &mut Output<A>,
     writer: &mut W,
     line: ResultLine<'_>,
-) -> Result<(), CliFault>
+) -> Result<(), JobsFault>
     ensures ok { OnOk result (Says (W.contents writer.old) output.old (W.contents writer.new) output.new (fed (told line.entry))) }
     ensures err { OnErr result (SaysPart (W.contents writer.old) output.old (W.contents writer.new) (fed (told line.entry))) }
     ensures fault { IfErr result IsTold }
@@ -50,7 +51,7 @@ fn tell_replies<W: Write, A: Allocator>(
     output: &mut Output<A>,
     writer: &mut W,
     replies: &[Receipt<A>],
-) -> Result<(), CliFault>
+) -> Result<(), JobsFault>
     ensures ok { OnOk result (Says (W.contents writer.old) output.old (W.contents writer.new) output.new (replies_text (map received_of replies.now))) }
     ensures err { OnErr result (SaysPart (W.contents writer.old) output.old (W.contents writer.new) (replies_text (map received_of replies.now))) }
     ensures fault { IfErr result IsTold }
@@ -74,7 +75,7 @@ fn tell_sector<W: Write, A: Allocator>(
     writer: &mut W,
     port: &Port<A>,
     lba: u32,
-) -> Result<(), CliFault>
+) -> Result<(), JobsFault>
     requires { lba < sectors_in port.now }
     ensures ok { OnOk result (Says (W.contents writer.old) output.old (W.contents writer.new) output.new
         (sector_text lba (sector port.now.starting port.now.past lba))) }
@@ -103,7 +104,7 @@ fn tell_sectors<W: Write, A: Allocator>(
     output: &mut Output<A>,
     writer: &mut W,
     port: &Port<A>,
-) -> Result<(), CliFault>
+) -> Result<(), JobsFault>
     ensures ok { OnOk result (Says (W.contents writer.old) output.old (W.contents writer.new) output.new (sectors_text port.now (sectors_in port.now))) }
     ensures err { OnErr result (SaysPart (W.contents writer.old) output.old (W.contents writer.new) (sectors_text port.now (sectors_in port.now))) }
     ensures fault { IfErr result IsTold }
@@ -119,7 +120,7 @@ pub(crate) fn tell_run<W: Write, A: Allocator>(
     alloc: A,
     writer: &mut W,
     end: &RunEnd<A>,
-) -> Result<(), CliFault>
+) -> Result<(), JobsFault>
     ensures ok { OnOk result (Appends (W.contents writer.old) (W.contents writer.new) (run_text end.now.port (map received_of end.now.replies.items))) }
     ensures err { OnErr result (SaysPart (W.contents writer.old) [] (W.contents writer.new) (run_text end.now.port (map received_of end.now.replies.items))) }
     ensures fault { IfErr result IsTold }

@@ -1,3 +1,4 @@
+pub mod Fault
 pub mod Refusals
 pub mod Commands
 pub mod Place

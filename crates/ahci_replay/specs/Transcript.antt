@@ -1,13 +1,14 @@
 -- What a script's lines add to the output, and how far a script has come.
 use Rattle.std.specs.Prelude.{◌≡◌, ℕ, ◌+◌, Bool, true, false, if◌then◌else◌, List, [], ◌∷◌, ◌++◌, Option, Some, None, length, take, option_and_then, ◌⊎◌}
 use Rattle.std.specs.Io.KnownBytes.{Appends, Consumes, IsAtEnd}
-use Rattle.ahci_script.specs.declared.fault.CliFault.{CliFault}
-use Rattle.ahci_script.specs.declared.fault.CliFault.TheVariants as fault
 use Rattle.ahci_replay.specs.Commands.{Runs, is_in_place}
 use Rattle.ahci_replay.specs.Place.{Place}
+use Rattle.ahci_replay.specs.declared.script_fault.ScriptFault.{ScriptFault}
+use Rattle.ahci_replay.specs.declared.script_fault.ScriptFault.TheVariants as fault
 use Rattle.ahci_script.specs.Answers.{answer_text}
 use Rattle.ahci_script.specs.Lines.{line_of}
 use Rattle.ahci_script.specs.Said.{Said}
+use Rattle.ahci_script.specs.Reading.{IsNext}
 use Rattle.ahci_script.specs.Unread.{Begins, MayFail, found_of, too_long, unfinished, whole, with_feeds}
 use Rattle.ahci_script.specs.declared.line.ScriptCommand.{ScriptCommand}
 use Rattle.ahci_script.specs.declared.line.Line.{Line}
@@ -53,20 +54,6 @@ pub data Adds (telling : Telling) : Option PortView → List (List ℕ) → List
       → found_of (first ++ 10 ∷ []) ≡ whole first → placed port first ≡ Some l → RunsLine telling port l next added → Adds telling next more text last
       → Adds telling port (first ∷ more) (added ++ text) last
 
--- from one place to a later one: lines were read, and what they add is written or waits
-pub record Progress (telling : Telling) (from to : Place) : Type 0 where
-  pub lines : List (List ℕ)
-  pub text : List ℕ
-  pub came : List ℕ
-  pub answered : Adds telling from.port lines text to.port
-  pub consumed : Consumes from.remaining to.remaining came
-  pub read : from.unread ++ came ≡ with_feeds lines ++ to.unread
-  pub counted : to.line ≡ from.line + length lines
-  pub all_came : to.came ≡ from.came + length came
-  pub sent : List ℕ
-  pub written : Appends from.contents to.contents sent
-  pub said : from.waiting ++ text ≡ sent ++ to.waiting
-
 -- the text grew by what a line adds
 pub record Grown (telling : Telling) (port_old : Option PortView) (text : List ℕ) (port_new : Option PortView) (old new : List ℕ) : Type 0 where
   pub spelled : Line
@@ -76,80 +63,56 @@ pub record Grown (telling : Telling) (port_old : Option PortView) (text : List �
   pub grown : new ≡ old ++ added
 
 -- the faults of a command: it is out of place, or there is no memory for it
-abbrev pub IsCommandFault : Option PortView → ScriptCommand → ℕ → CliFault → Type 0
+abbrev pub IsCommandFault : Option PortView → ScriptCommand → ℕ → ScriptFault → Type 0
 IsCommandFault port command n (fault.Line k) = (k ≡ n) × (is_in_place port command ≡ false)
 IsCommandFault port command n fault.OutOfMemory = Unit {0}
 IsCommandFault port command n _ = ⊥
 
 -- the faults of a line: it is not understood or out of place, or there is no memory for it
-abbrev pub IsLineFault : Option PortView → List ℕ → ℕ → CliFault → Type 0
+abbrev pub IsLineFault : Option PortView → List ℕ → ℕ → ScriptFault → Type 0
 IsLineFault port text n (fault.Line k) = (k ≡ n) × (placed port text ≡ None)
 IsLineFault port text n fault.OutOfMemory = Unit {0}
 IsLineFault port text n _ = ⊥
 
--- the line that what is unread begins with is too long, or adds nothing; a line without its line feed is judged at the
--- end of the input alone
-abbrev pub IsFaultyAs : Option (List ℕ) → Option PortView → List ℕ → Begins → Type 0
-IsFaultyAs remaining port unread (whole text) = placed port text ≡ None
-IsFaultyAs remaining port unread too_long = Unit {0}
-IsFaultyAs remaining port unread unfinished = IsAtEnd remaining × (placed port unread ≡ None)
+-- of what waits some first part is written, and the rest waits
+pub record Sends (contents_old contents_new : Option (List ℕ)) (waiting left : List ℕ) : Type 0 where
+  pub sent : List ℕ
+  pub written : Appends contents_old contents_new sent
+  pub said : waiting ≡ sent ++ left
 
-abbrev pub IsFaulty : Option (List ℕ) → Option PortView → List ℕ → Type 0
-IsFaulty remaining port unread = IsFaultyAs remaining port unread (found_of unread)
+-- some first part of a text is written
+abbrev pub WritesPart : Option (List ℕ) → Option (List ℕ) → List ℕ → Type 0
+WritesPart contents_old contents_new text = (count : ℕ) × Appends contents_old contents_new (take count text)
 
--- a read failed: no whole line is left unanswered, and the reader gave no byte, or too many came
-abbrev pub IsCutOff : Option (List ℕ) → List ℕ → ℕ → Option (List ℕ) → Type 0
-IsCutOff remaining unread came remaining_new = (found_of unread ≡ unfinished) × MayFail came remaining remaining_new
+-- a line is answered, and what waits then may be written
+pub record Answers (telling : Telling) (from : Place) (line : List ℕ) (to : Place) : Type 0 where
+  pub waiting : List ℕ
+  pub grown : Grown telling from.port line to.port from.waiting waiting
+  pub sends : Sends from.contents to.contents waiting to.waiting
 
--- the last line may have been answered too: it lacks its line feed, so nothing may come behind it
-abbrev pub MayEnd : Telling → Option (List ℕ) → Option PortView → List ℕ → Option PortView → List ℕ → List ℕ → Type 0
-MayEnd telling remaining port rest port_new old new =
-    (new ≡ old) ⊎ (IsAtEnd remaining × (found_of rest ≡ unfinished) × Grown telling port rest port_new old new)
+-- a script goes on: a line is answered; or all that waits is written, before more of the script is read
+abbrev pub Takes : Telling → Place → ℕ → Begins → Place → Type 0
+Takes telling from number (whole line) to = Answers telling from line to
+Takes telling from number too_long to = ⊥
+Takes telling from number unfinished to = (to.port ≡ from.port) × (to.waiting ≡ []) × Appends from.contents to.contents from.waiting
 
--- lines were read, and a first part of what they add is written
-pub record WritesPart (telling : Telling) (from to : Place) : Type 0 where
-  pub lines : List (List ℕ)
-  pub rest : List ℕ
-  pub text : List ℕ
-  pub all : List ℕ
-  pub came : List ℕ
-  pub remaining : Option (List ℕ)
-  pub port : Option PortView
-  pub last_port : Option PortView
-  pub count : ℕ
-  pub answered : Adds telling from.port lines text port
-  pub consumed : Consumes from.remaining remaining came
-  pub read : from.unread ++ came ≡ with_feeds lines ++ rest
-  pub last : MayEnd telling remaining port rest last_port (from.waiting ++ text) all
-  pub written : Appends from.contents to.contents (take count all)
+-- nothing was answered or written
+abbrev pub Stays : Place → Place → Type 0
+Stays from to = (to.contents ≡ from.contents) × (to.waiting ≡ from.waiting)
 
--- where a fault stops a script: behind lines that are answered, and before the line that it names
-abbrev pub Stops : Telling → Place → Place → CliFault → Type 0
-Stops telling from to (fault.Line n) =
-    (p : Option PortView) × Progress telling from (record to { port = p }) × (n ≡ to.line + 1) × IsFaulty to.remaining p to.unread
-Stops telling from to fault.Read =
-    (r : Option (List ℕ)) × Progress telling from (record to { remaining = r }) × IsCutOff r to.unread to.came to.remaining
-Stops telling from to fault.OutOfMemory = (p : Option PortView) × Progress telling from (record to { port = p })
-Stops telling from to fault.Write = WritesPart telling from to
-Stops telling from to _ = ⊥
+-- a line is not answered; or its answer is written in part
+abbrev pub RefusesLine : Telling → Place → ℕ → List ℕ → Place → ScriptFault → Type 0
+RefusesLine telling from number line to (fault.Line k) = (k ≡ number) × (placed from.port line ≡ None) × Stays from to
+RefusesLine telling from number line to fault.Read = ⊥
+RefusesLine telling from number line to fault.Write =
+    (waiting : List ℕ) × (port : Option PortView) × Grown telling from.port line port from.waiting waiting × WritesPart from.contents to.contents waiting
+RefusesLine telling from number line to fault.OutOfMemory = Stays from to
 
--- the last line is answered, where it lacks its line feed
-abbrev pub EndsWith : Telling → Option PortView → List ℕ → Option PortView → List ℕ → List ℕ → Type 0
-EndsWith telling port rest port_new old new =
-    ((rest ≡ []) × (port_new ≡ port) × (new ≡ old)) ⊎ Grown telling port rest port_new old new
-
--- the whole input was read and answered
-pub record Ends (telling : Telling) (from to : Place) : Type 0 where
-  pub before : List ℕ
-  pub port : Option PortView
-  pub progress : Progress telling from (record to { waiting = before; port = port })
-  pub unended : found_of to.unread ≡ unfinished
-  pub last : EndsWith telling port to.unread to.port before to.waiting
-  pub end : IsAtEnd to.remaining
-
--- a script of which nothing came yet
-abbrev pub beginning : Option (List ℕ) → Option (List ℕ) → Place
-beginning remaining contents = record { remaining = remaining; contents = contents; unread = []; waiting = []; port = None; line = 0; came = 0 }
+-- a script does not go on
+abbrev pub Refuses : Telling → Place → ℕ → Begins → ScriptFault → Place → Type 0
+Refuses telling from number (whole line) f to = RefusesLine telling from number line to f
+Refuses telling from number too_long f to = (f ≡ fault.Line number) × Stays from to
+Refuses telling from number unfinished f to = (f ≡ fault.Write) × WritesPart from.contents to.contents from.waiting
 
 -- the lines of a whole input, the last of which may lack its line feed, and the text that they add, which is written
 pub record Replayed (telling : Telling) (remaining_old remaining_new contents_old contents_new : Option (List ℕ)) : Type 0 where
@@ -161,31 +124,40 @@ pub record Replayed (telling : Telling) (remaining_old remaining_new contents_ol
   pub last_port : Option PortView
   pub answered : Adds telling None lines text port
   pub unended : found_of rest ≡ unfinished
-  pub last : EndsWith telling port rest last_port text all
+  pub last : Grown telling port rest last_port text all
   pub consumed : Consumes remaining_old remaining_new (with_feeds lines ++ rest)
   pub end : IsAtEnd remaining_new
   pub written : Appends contents_old contents_new all
 
--- lines at the front of an input, and the text that they add, which is written; what holds behind them is said of what the
--- reader has left, of the port, of the bytes behind the lines, and of how many bytes came
-pub record ReplayedFirst (telling : Telling) (remaining_old contents_old contents_new : Option (List ℕ)) (count : ℕ) (P : Option (List ℕ) → Option PortView → List ℕ → ℕ → Type 0) : Type 0 where
+-- lines at the front of an input, and the text that they add; what holds behind them is said of the text, of what the reader has
+-- left, of the port, of the bytes behind the lines, and of the lines
+pub record ReplayedFirst (telling : Telling) (remaining_old : Option (List ℕ))
+    (P : List ℕ → Option (List ℕ) → Option PortView → List ℕ → List (List ℕ) → Type 0) : Type 0 where
   pub lines : List (List ℕ)
   pub rest : List ℕ
   pub remaining : Option (List ℕ)
   pub text : List ℕ
   pub port : Option PortView
   pub answered : Adds telling None lines text port
-  pub counted : length lines ≡ count
   pub consumed : Consumes remaining_old remaining (with_feeds lines ++ rest)
-  pub holds : P remaining port rest (length (with_feeds lines ++ rest))
-  pub written : Appends contents_old contents_new text
+  pub holds : P text remaining port rest lines
 
--- how a fault ends a script: the answers to the lines before it are written, and a failed write leaves a first part of them
-abbrev pub ReplayedTo : Telling → Option (List ℕ) → Option (List ℕ) → Option (List ℕ) → Option (List ℕ) → CliFault → Type 0
+-- the next line is too long, or adds nothing; a line without its line feed is judged at the end of the input alone
+abbrev pub IsFaulty : Option (List ℕ) → Option PortView → List ℕ → Type 0
+IsFaulty remaining port rest = (found_of rest ≡ too_long) ⊎ ((line : List ℕ) × IsNext remaining rest line × (placed port line ≡ None))
+
+-- the next line may have been answered too
+abbrev pub MayAnswer : Telling → Option (List ℕ) → Option PortView → List ℕ → List ℕ → List ℕ → Type 0
+MayAnswer telling remaining port rest text all =
+    (all ≡ text) ⊎ ((line : List ℕ) × (last_port : Option PortView) × IsNext remaining rest line × Grown telling port line last_port text all)
+
+-- how a fault ends a script: the answers to the lines before it are written. Where a read failed, no whole line is left
+-- unanswered; a failed write leaves a first part of the answers
+abbrev pub ReplayedTo : Telling → Option (List ℕ) → Option (List ℕ) → Option (List ℕ) → Option (List ℕ) → ScriptFault → Type 0
 ReplayedTo telling r s c d (fault.Line n) =
-    (count : ℕ) × (n ≡ count + 1) × ReplayedFirst telling r c d count (λ remaining port rest _. IsFaulty remaining port rest)
+    ReplayedFirst telling r (λ text remaining port rest lines. Appends c d text × ((n ≡ length lines + 1) × IsFaulty remaining port rest))
 ReplayedTo telling r s c d fault.Read =
-    (count : ℕ) × ReplayedFirst telling r c d count (λ remaining _ rest came. IsCutOff remaining rest came s)
-ReplayedTo telling r s c d fault.OutOfMemory = (count : ℕ) × ReplayedFirst telling r c d count (λ _ _ _ _. Unit {0})
-ReplayedTo telling r s c d fault.Write = WritesPart telling (beginning r c) (beginning r d)
-ReplayedTo telling r s c d _ = ⊥
+    ReplayedFirst telling r (λ text remaining port rest lines. Appends c d text × ((found_of rest ≡ unfinished) × MayFail (length (with_feeds lines ++ rest)) remaining s))
+ReplayedTo telling r s c d fault.OutOfMemory = ReplayedFirst telling r (λ text remaining port rest lines. Appends c d text)
+ReplayedTo telling r s c d fault.Write =
+    ReplayedFirst telling r (λ text remaining port rest lines. (all : List ℕ) × MayAnswer telling remaining port rest text all × WritesPart c d all)

@@ -8,12 +8,13 @@ mod refusals;
 mod replaying;
 mod running;
 mod script;
+mod script_fault;
 mod session;
 mod teller;
 mod unanswered;
 
-pub use ahci_script::CliFault;
 pub use replaying::{replay, replay_with};
+pub use script_fault::ScriptFault;
 pub use session::Session;
 pub use teller::Teller;
 pub use unanswered::Unanswered;

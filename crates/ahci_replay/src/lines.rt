@@ -5,10 +5,11 @@ ghost use Rattle.ahci_script.specs.Lines.{HasSmallTag};
 ghost use Rattle.ahci_replay.specs.Commands.{is_in_place};
 ghost use Rattle.ahci_replay.specs.Transcript.{Grown, HasRun, IsCommandFault, IsLineFault, placed};
 
+use crate::script_fault::ScriptFault;
 use crate::session::Session;
 use crate::teller::Teller;
 use crate::unanswered::Unanswered;
-use ahci_script::{CliFault, Line, Output, ScriptCommand, parse};
+use ahci_script::{Line, Output, ScriptCommand, parse};
 use std::alloc::Allocator;
 
 /// Answers a line of the given number.
@@ -18,14 +19,14 @@ pub(crate) fn answer_line<T: Teller<A>, A: Allocator + Copy>(
     teller: &mut T,
     number: u64,
     line: &[u8],
-) -> Result<(), CliFault>
+) -> Result<(), ScriptFault>
     ensures ok { OnOk result (Grown T.telling session.old line.now session.new output.old output.new) }
     ensures err { OnErr result (output.new ≡ output.old) }
     ensures fault { IfErr result (IsLineFault session.old line.now number) }
-    ensures wrong { placed session.old line.now ≡ None → result ≡ Err (CliFault.Line number) }
+    ensures wrong { placed session.old line.now ≡ None → result ≡ Err (ScriptFault.Line number) }
 {
     match parse(line) {
-        None => Err(CliFault::Line(number)),
+        None => Err(ScriptFault::Line(number)),
         Some(Line::Skip) => Ok(()),
         Some(Line::Run(command)) => answer_command(session, output, teller, number, command),
     }
@@ -38,18 +39,18 @@ fn answer_command<T: Teller<A>, A: Allocator + Copy>(
     teller: &mut T,
     number: u64,
     command: ScriptCommand<'_>,
-) -> Result<(), CliFault>
+) -> Result<(), ScriptFault>
     requires { HasSmallTag command }
     ensures ok { OnOk result ((text : List ℕ) × HasRun T.telling session.old command.entry session.new text
         × (output.new ≡ output.old ++ text)) }
     ensures err { OnErr result (output.new ≡ output.old) }
     ensures fault { IfErr result (IsCommandFault session.old command.entry number) }
-    ensures wrong { is_in_place session.old command.entry ≡ false → result ≡ Err (CliFault.Line number) }
+    ensures wrong { is_in_place session.old command.entry ≡ false → result ≡ Err (ScriptFault.Line number) }
 {
     teller.look(session.port());
     match session.run(command) {
         Ok(answer) => Ok(teller.tell(&answer, session.port(), output)?),
-        Err(Unanswered::OutOfPlace) => Err(CliFault::Line(number)),
-        Err(Unanswered::OutOfMemory) => Err(CliFault::OutOfMemory),
+        Err(Unanswered::OutOfPlace) => Err(ScriptFault::Line(number)),
+        Err(Unanswered::OutOfMemory) => Err(ScriptFault::OutOfMemory),
     }
 }

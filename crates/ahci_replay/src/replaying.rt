@@ -2,8 +2,9 @@ ghost use Rattle.std.specs.Prelude.{IfErr, OnOk};
 ghost use Rattle.ahci_replay.specs.Transcript.{Replayed, ReplayedTo, answers_alone};
 
 use crate::script::Script;
+use crate::script_fault::ScriptFault;
 use crate::teller::{AnswersAlone, Teller};
-use ahci_script::CliFault;
+use ahci_script::take_lines;
 use std::alloc::Allocator;
 use std::io::{Read, Write};
 
@@ -13,7 +14,7 @@ pub fn replay<R: Read, W: Write, A: Allocator + Copy>(
     alloc: A,
     reader: &mut R,
     writer: &mut W,
-) -> Result<(), CliFault>
+) -> Result<(), ScriptFault>
     ensures ok { OnOk result (Replayed answers_alone (R.remaining reader.old) (R.remaining reader.new)
         (W.contents writer.old) (W.contents writer.new)) }
     ensures err { IfErr result
@@ -29,20 +30,18 @@ pub fn replay_with<T: Teller<A>, R: Read, W: Write, A: Allocator + Copy>(
     teller: &mut T,
     reader: &mut R,
     writer: &mut W,
-) -> Result<(), CliFault>
+) -> Result<(), ScriptFault>
     ensures ok { OnOk result (Replayed T.telling (R.remaining reader.old) (R.remaining reader.new)
         (W.contents writer.old) (W.contents writer.new)) }
     ensures err { IfErr result
         (ReplayedTo T.telling (R.remaining reader.old) (R.remaining reader.new)
         (W.contents writer.old) (W.contents writer.new)) }
 {
-    let mut script = Script::new(alloc)?;
-    match script.run(teller, reader, writer) {
-        Ok(()) => {
-            script.output.send(writer)?;
-            Ok(())
-        }
-        Err(fault) => {
+    let mut script = Script::new(alloc, teller);
+    match take_lines(alloc, reader, &mut script, writer) {
+        Ok(()) => Ok(script.output.send(writer)?),
+        Err(stopped) => {
+            let fault = ScriptFault::from(stopped);
             if fault.is_of_output() {
                 return Err(fault);
             }

@@ -49,7 +49,6 @@ use Rattle.std.proofs.lemmas.List.Quantifiers.{position-Some}
 use Rattle.std.proofs.lemmas.List.Sums.{position_or_len_is}
 use Rattle.std.proofs.Math.Seq.{take-append_seam}
 use Rattle.ahci_script.specs.Unread.{found_at, found_of, line_end, too_long, unfinished, whole, with_feeds}
-use Rattle.ahci_script.specs.declared.fault.CliFault.{CliFault}
 
 abbrev pub Bytes : Type 0
 Bytes = List ℕ
@@ -68,7 +67,7 @@ cut_at_feed u e found =
     sym (take-append-drop e u) ∙ ap (λ l. take e u ++ l) (rw (add-one, ← feed) (drop-cons u e 0 within))
 
 -- what holds of the one error holds of the result's error
-pub if_err_from : {T : Type 0} (r : Result T CliFault) (f : CliFault) (P : CliFault → Type 0) → IsErrAnd r (λ e. e ≡ f) → P f → IfErr r P
+pub if_err_from : {T E : Type 0} (r : Result T E) (f : E) (P : E → Type 0) → IsErrAnd r (λ e. e ≡ f) → P f → IfErr r P
 if_err_from (Ok x) f P is p = absurd is
 if_err_from (Err e) f P is p = subst P (sym is) p
 
@@ -128,3 +127,8 @@ found_line u l is =
 pub on_ok_from : {T E : Type 0} (r : Result T E) (P Q : Type 0) → OnOk r P → (P → Q) → OnOk r Q
 on_ok_from (Ok x) P Q p f = f p
 on_ok_from (Err e) P Q p f = p
+
+-- what follows of the error, where there is one
+pub if_err_map : {T E : Type 0} (r : Result T E) (P Q : E → Type 0) → IfErr r P → ((e : E) → P e → Q e) → IfErr r Q
+if_err_map (Ok x) P Q p f = p
+if_err_map (Err e) P Q p f = f e p

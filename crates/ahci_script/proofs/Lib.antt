@@ -8,3 +8,4 @@ pub mod EntriesLemmas
 pub mod ReadBackLemmas
 pub mod FoundLemmas
 pub mod FeedLemmas
+pub mod ReadingLemmas

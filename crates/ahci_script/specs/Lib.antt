@@ -1,4 +1,3 @@
-pub mod Fault
 pub mod Jobs
 pub mod Results
 pub mod Number
@@ -9,3 +8,5 @@ pub mod Said
 pub mod Answers
 pub mod Unread
 pub mod Printing
+pub mod Reading
+pub mod Standing

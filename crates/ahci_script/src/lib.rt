@@ -2,7 +2,6 @@
 #![tactic(auto)]
 
 mod answer;
-mod fault;
 pub mod growing;
 mod hex_bytes;
 mod input;
@@ -11,22 +10,27 @@ pub mod laws;
 mod line;
 pub mod number;
 mod output;
+mod reading;
 mod refusal;
 mod result_line;
 mod result_text;
+mod stopped;
 mod tags;
+mod takes_lines;
 mod text;
 mod told;
 pub mod words;
 
 pub use answer::ScriptAnswer;
-pub use fault::CliFault;
 pub use hex_bytes::{HexBytes, header, is_hexadecimal};
 pub use input::{Found, INPUT_LIMIT, Input, InputFailed, LINE_LIMIT};
 pub use job::{Job, JobLine, parse_job};
 pub use line::{Line, ScriptCommand, is_all_ascii, parse};
 pub use output::{Output, OutputFailed};
+pub use reading::take_lines;
 pub use refusal::{Refusal, name};
 pub use result_line::ResultLine;
+pub use stopped::Stopped;
+pub use takes_lines::TakesLines;
 pub use text::{eight_digits, spaced_byte};
 pub use told::answer_bytes;

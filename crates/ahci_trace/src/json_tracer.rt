@@ -6,7 +6,7 @@ use crate::as_json::json_text;
 use crate::command_trace::CommandTrace;
 use crate::mark::Mark;
 use ahci_port::Port;
-use ahci_replay::{CliFault, Teller, replay_with};
+use ahci_replay::{ScriptFault, Teller, replay_with};
 use ahci_script::{Output, ScriptAnswer};
 use std::alloc::{AllocError, Allocator};
 use std::io::{Read, Write};
@@ -20,7 +20,7 @@ pub fn trace_json<R: Read, W: Write, A: Allocator + Copy>(
     alloc: A,
     reader: &mut R,
     writer: &mut W,
-) -> Result<(), CliFault>
+) -> Result<(), ScriptFault>
     ensures ok { OnOk result (Replayed json_line (R.remaining reader.old) (R.remaining reader.new)
         (W.contents writer.old) (W.contents writer.new)) }
     ensures err { IfErr result

@@ -6,7 +6,7 @@ use crate::command_trace::CommandTrace;
 use crate::mark::Mark;
 use crate::shown::text_of;
 use ahci_port::Port;
-use ahci_replay::{CliFault, Teller, replay_with};
+use ahci_replay::{ScriptFault, Teller, replay_with};
 use ahci_script::{Output, ScriptAnswer};
 use std::alloc::{AllocError, Allocator};
 use std::io::{Read, Write};
@@ -18,7 +18,7 @@ pub fn trace<R: Read, W: Write, A: Allocator + Copy>(
     alloc: A,
     reader: &mut R,
     writer: &mut W,
-) -> Result<(), CliFault>
+) -> Result<(), ScriptFault>
     ensures ok { OnOk result (Replayed trace_text (R.remaining reader.old) (R.remaining reader.new)
         (W.contents writer.old) (W.contents writer.new)) }
     ensures err { IfErr result

@@ -1,10 +1,7 @@
 //! Scripts and job lists where memory is refused: what was answered before is written, and the fault is want of memory, with
 //! status 3.
 use crate::heap::{Asked, Heap, equal, growths_of, refuse_from};
-use ahci_driver::Low;
-use ahci_jobs::run_jobs;
-use ahci_replay::replay;
-use ahci_script::CliFault;
+use ahci_cli::{CliFault, Pick, replay, run_jobs};
 use refusing_allocator::Refusing;
 use std::alloc::{AllocError, Global};
 use std::io;
@@ -198,7 +195,7 @@ fn done<R: Threads + Wait + Sync>(rt: &R, alloc: Global, growth: u64) -> (Ended,
         lines: LIST.as_slice(),
     };
     let mut written = Vec::new(alloc);
-    let how = run_jobs(rt, &heap, 2, 2, 8, Low, &mut reader, &mut written);
+    let how = run_jobs(rt, &heap, 2, 2, 8, Pick::Low, &mut reader, &mut written);
     (ending_of(&heap, how), written)
 }
 

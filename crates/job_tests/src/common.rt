@@ -2,8 +2,7 @@
 ghost use Rattle.std.specs.Prelude.{◌≤◌};
 
 use ahci_driver::Chooser;
-use ahci_jobs::run_jobs;
-use ahci_script::CliFault;
+use ahci_jobs::{JobsFault, run_jobs};
 use std::alloc::Global;
 use std::io::{Read, Write};
 use std::sync::Wait;
@@ -20,7 +19,7 @@ pub fn done<H, R, W, C>(
     chooser: C,
     reader: &mut R,
     writer: &mut W,
-) -> Option<Result<(), CliFault>>
+) -> Option<Result<(), JobsFault>>
 where
     H: Threads + Wait + Sync,
     R: Read,

@@ -1,7 +1,7 @@
 //! Worked job lists: what is written, or the fault that ends them.
 use crate::common::{Crew, done};
 use ahci_driver::{All, Chooser, High, Low};
-use ahci_script::CliFault;
+use ahci_jobs::JobsFault;
 use std::alloc::{AllocError, Global};
 use std::process::Abort;
 use std::sync::Wait;
@@ -9,7 +9,7 @@ use std::test::Fail;
 use std::thread::Threads;
 
 /// A job list, its crew, what it writes, and how it ends.
-type List = (&'static str, Crew, &'static str, Result<(), CliFault>);
+type List = (&'static str, Crew, &'static str, Result<(), JobsFault>);
 
 static LISTS: [List; 19] = [
     (
@@ -20,7 +20,7 @@ static LISTS: [List; 19] = [
     ),
     ("", (2, 2, 8), "", Ok(())),
     ("# no job\n\n#", (1, 1, 1), "", Ok(())),
-    ("read 0 0\n", (2, 2, 8), "", Err(CliFault::Job(0))),
+    ("read 0 0\n", (2, 2, 8), "", Err(JobsFault::Job(0))),
     (
         "read 8 1\nwrite 0 1 33\n",
         (1, 1, 8),
@@ -45,20 +45,20 @@ static LISTS: [List; 19] = [
         "read 0 1\nread 0 131073\n",
         (1, 1, 8),
         "",
-        Err(CliFault::Line(2)),
+        Err(JobsFault::Line(2)),
     ),
-    ("read 0 65537\nread\n", (1, 1, 8), "", Err(CliFault::Job(0))),
+    ("read 0 65537\nread\n", (1, 1, 8), "", Err(JobsFault::Job(0))),
     (
         "read\nread 0 65537\n",
         (1, 1, 8),
         "",
-        Err(CliFault::Line(1)),
+        Err(JobsFault::Line(1)),
     ),
     (
         "# jobs alone are numbered\nread 0 1\n\nwrite 281474976710656 1 00\n",
         (1, 1, 8),
         "",
-        Err(CliFault::Job(1)),
+        Err(JobsFault::Job(1)),
     ),
     (
         "read 281474976710655 2\n",
@@ -66,12 +66,12 @@ static LISTS: [List; 19] = [
         "failed 10 281474976710655\n",
         Ok(()),
     ),
-    ("write 0 1 1\n", (1, 1, 8), "", Err(CliFault::Line(1))),
-    ("write 0 1\n", (1, 1, 8), "", Err(CliFault::Line(1))),
-    ("read 0 1 00\n", (1, 1, 8), "", Err(CliFault::Line(1))),
-    ("read 0  1\n", (1, 1, 8), "", Err(CliFault::Line(1))),
-    ("disk 8 4\n", (1, 1, 8), "", Err(CliFault::Line(1))),
-    ("#\u{80}\n", (1, 1, 8), "", Err(CliFault::Line(1))),
+    ("write 0 1 1\n", (1, 1, 8), "", Err(JobsFault::Line(1))),
+    ("write 0 1\n", (1, 1, 8), "", Err(JobsFault::Line(1))),
+    ("read 0 1 00\n", (1, 1, 8), "", Err(JobsFault::Line(1))),
+    ("read 0  1\n", (1, 1, 8), "", Err(JobsFault::Line(1))),
+    ("disk 8 4\n", (1, 1, 8), "", Err(JobsFault::Line(1))),
+    ("#\u{80}\n", (1, 1, 8), "", Err(JobsFault::Line(1))),
 ];
 
 #[test]

@@ -1,7 +1,7 @@
 //! A reader that fails after every number of bytes, and a writer that takes any number of bytes and no more.
 use ahci_driver::Low;
 use ahci_jobs::run_jobs;
-use ahci_script::CliFault;
+use ahci_jobs::JobsFault;
 use std::io;
 use std::io::{Read, Write};
 use std::process::Abort;
@@ -57,7 +57,7 @@ fn a_reader_may_fail_after_any_byte(rt: HostRuntime) {
         let mut written = Vec::new(rt.alloc());
         let ended = run_jobs(&rt, rt.alloc(), 2, 2, 8, Low, &mut reader, &mut written);
         assert!(rt;
-            ended == Err(CliFault::Read) && written.is_empty(),
+            ended == Err(JobsFault::Read) && written.is_empty(),
             "after {count} bytes: {ended:?}"
         );
     }
@@ -73,7 +73,7 @@ fn a_writer_may_take_any_number_of_bytes(rt: HostRuntime) {
         };
         let ended = run_jobs(&rt, rt.alloc(), 2, 2, 8, Low, &mut reader, &mut writer);
         let expected = if room < TOLD.len() {
-            Err(CliFault::Write)
+            Err(JobsFault::Write)
         } else {
             Ok(())
         };

@@ -1,10 +1,10 @@
 -- A line that replay takes stands for the check too, and both have a disk behind it or neither.
-use Rattle.std.proofs.Common.{◌≡◌, ℕ, ◌==◌, ◌^◌, ◌||◌, Bool, true, false, cond, not, nat_lt, List, Option, Some, None, fold, is_none, is_some, option_and_then, refl, sym, ap, ◌∙◌}
+use Rattle.std.proofs.Common.{◌≡◌, ℕ, ◌+◌, ◌==◌, ◌^◌, ◌||◌, Bool, true, false, cond, not, nat_lt, List, Option, Some, None, is_none, is_some, option_and_then, refl, sym, ap, ◌∙◌}
 use Rattle.std.specs.Option.{unwrap_or}
 use Rattle.ahci_check.proofs.AgreementLemmas.{complaint_agrees}
 use Rattle.ahci_check.specs.Breaches.{behind}
 use Rattle.ahci_check.specs.Complaints.{complaint_in, disk_excess, ends_replay, is_in_place, place_after, place_by, stands_at}
-use Rattle.ahci_check.specs.Sheets.{Sheet, with_line}
+use Rattle.ahci_check.specs.Sheets.{Sheet, judged, judged_from}
 use Rattle.ahci_check.specs.declared.place.Place.TheVariants.{BeforeDisk, BehindDisk}
 use Rattle.ahci_port.specs.PortView.{PortView}
 use Rattle.ahci_replay.specs.Commands.{MakesDisk, Runs}
@@ -168,11 +168,11 @@ spelled_alike telling line port (Some Skip) l next added is ran = ap (place_by (
 spelled_alike telling line port (Some (Run c)) l next added is ran =
     ap (place_by (place_of port) line) (is_taken (replay.is_in_place port c) (Run c) l is) ∙ line_alike telling line port l next added ran
 
-stand_alike : (telling : Telling) (port last : Option PortView) (lines : List (List ℕ)) (text : List ℕ) (sheet : Sheet) → Adds telling port lines text last
-    → sheet.place ≡ place_of port → (fold with_line sheet lines).place ≡ place_of last
-stand_alike telling port last lines text sheet (no_line same) is = is
-stand_alike telling port last lines text sheet (one_more same first l next added more rest end own spelled ran others) is =
-    stand_alike telling next last more rest (with_line sheet first) others
+stand_alike : (telling : Telling) (port last : Option PortView) (lines : List (List ℕ)) (text : List ℕ) (sheet : Sheet) (number : ℕ) → Adds telling port lines text last
+    → sheet.place ≡ place_of port → (judged_from number sheet lines).place ≡ place_of last
+stand_alike telling port last lines text sheet number (no_line same) is = is
+stand_alike telling port last lines text sheet number (one_more same first l next added more rest end own spelled ran others) is =
+    stand_alike telling next last more rest (judged sheet number first) (number + 1) others
     (ap (λ p. place_after p first) is ∙ spelled_alike telling first port (line_of first) l next added spelled ran)
 
 pub check_agrees : CheckAgrees

@@ -1,7 +1,7 @@
 -- A check of a script and its replay agree.
-use Rattle.std.specs.Prelude.{◌≡◌, ℕ, List, Option, None, Some, fold, is_none}
+use Rattle.std.specs.Prelude.{◌≡◌, ℕ, List, Option, None, Some, is_none}
 use Rattle.ahci_check.specs.Complaints.{complaint_in, ends_replay}
-use Rattle.ahci_check.specs.Sheets.{Sheet, with_line}
+use Rattle.ahci_check.specs.Sheets.{Sheet, judged_from}
 use Rattle.ahci_check.specs.declared.place.Place.{Place}
 use Rattle.ahci_check.specs.declared.place.Place.TheVariants.{BeforeDisk, BehindDisk}
 use Rattle.ahci_port.specs.PortView.{PortView}
@@ -18,8 +18,8 @@ StopAlike = (port : Option PortView) (number : ℕ) (line : List ℕ) → ends_r
 
 -- behind lines that replay has answered, the check's next line stands where replay's does
 abbrev pub StandAlike : Type 0
-StandAlike = (telling : Telling) (port last : Option PortView) (lines : List (List ℕ)) (text : List ℕ) (sheet : Sheet)
-    → Adds telling port lines text last → sheet.place ≡ place_of port → (fold with_line sheet lines).place ≡ place_of last
+StandAlike = (telling : Telling) (port last : Option PortView) (lines : List (List ℕ)) (text : List ℕ) (sheet : Sheet) (number : ℕ)
+    → Adds telling port lines text last → sheet.place ≡ place_of port → (judged_from number sheet lines).place ≡ place_of last
 
 pub record CheckAgrees : Type 0 where
   pub stop : StopAlike

@@ -1,8 +1,5 @@
 //! A trace, as text and as JSON, a picture and a check of one script where memory, the input or the output fails.
-use ahci_check::check;
-use ahci_draw::draw;
-use ahci_script::CliFault;
-use ahci_trace::{trace, trace_json};
+use ahci_cli::{CliFault, check, draw, trace, trace_json};
 use json::{Scratch, is_valid};
 use refusing_allocator::{Refusals, Refusing};
 use std::alloc::Allocator;

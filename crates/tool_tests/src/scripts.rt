@@ -1,6 +1,5 @@
 //! Whole scripts: the text that a check writes of them, and how it ends.
-use ahci_check::check;
-use ahci_script::CliFault;
+use ahci_cli::{CliFault, check};
 use std::test::Fail;
 
 /// A script, the text of its complaints, and whether there was any.

@@ -1,5 +1,5 @@
 -- A fault has ended the script, behind which the picture is written, or not.
-use Rattle.ahci_script.specs.declared.fault.CliFault.TheVariants.{Line, Read}
+use Rattle.ahci_replay.specs.declared.script_fault.ScriptFault.TheVariants.{Line, Read}
 use Rattle.ahci_draw.proofs.SheetLemmas.{is_sheet, sent_at}
 use Rattle.ahci_draw.proofs.drawing.draw.Goals as goal
 

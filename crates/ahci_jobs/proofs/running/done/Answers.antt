@@ -3,6 +3,6 @@ use Rattle.ncq_journal.specs.Work.{work_of}
 use Rattle.ahci_jobs.proofs.RunningLemmas.{is_late}
 use Rattle.ahci_jobs.proofs.running.done.Goals as goal
 
-pub cli_fault-requires : goal.cli_fault-requires
-cli_fault-requires g c =
+pub given_up-requires : goal.given_up-requires
+given_up-requires g c =
     is_late c.in_ok-port.port (map work_of c.args.jobs.now) c.args.sectors c.args.depth c.in-Err.fault c.in_ok-port.ensures c.requires.jobs c.in-Err.ensures.fault

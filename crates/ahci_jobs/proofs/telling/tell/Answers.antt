@@ -1,4 +1,4 @@
-use Rattle.ahci_script.specs.declared.fault.CliFault.TheVariants.{Write}
+use Rattle.ahci_jobs.specs.declared.jobs_fault.JobsFault.TheVariants.{Write}
 use Rattle.ahci_jobs.specs.Results.{SaysPart}
 use Rattle.ahci_jobs.proofs.TellingLemmas.{on_err_from, part_sent}
 use Rattle.ahci_jobs.proofs.telling.tell.Goals as goal

@@ -1,6 +1,6 @@
 use Rattle.std.proofs.Common.{[], map, ap}
 use Rattle.ahci_driver.specs.Received.{received_of}
-use Rattle.ahci_script.specs.declared.fault.CliFault.TheVariants.{Write}
+use Rattle.ahci_jobs.specs.declared.jobs_fault.JobsFault.TheVariants.{Write}
 use Rattle.ahci_jobs.specs.Results.{SaysPart, run_text}
 use Rattle.ahci_jobs.proofs.TellingLemmas.{on_err_from, told_all, told_first, told_part, told_second}
 use Rattle.ahci_jobs.proofs.telling.tell_run.Goals as goal

@@ -1,5 +1,5 @@
 use Rattle.std.proofs.Common.{rules}
-use Rattle.ahci_script.specs.declared.fault.CliFault.TheVariants.{Line}
+use Rattle.ahci_replay.specs.declared.script_fault.ScriptFault.TheVariants.{Line}
 use Rattle.ahci_replay.proofs.LineLemmas.{fault_of_line, ran_grown, skip_grown, wrong_line}
 use Rattle.ahci_replay.proofs.lines.answer_line.Goals as goal
 

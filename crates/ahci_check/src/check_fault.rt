@@ -1,0 +1,44 @@
+ghost use Rattle.std.specs.Prelude.{◌≡◌};
+ghost use Rattle.ahci_check.specs.declared.check_fault.CheckFault.TheVariants as the-fault;
+ghost use Rattle.ahci_check.specs.Faults.{fault_of};
+
+use ahci_script::{OutputFailed, Stopped};
+use std::alloc::AllocError;
+
+/// Why a script was not judged to its end.
+#[derive(Clone, Copy, Debug, PartialEq, Eq)]
+pub enum CheckFault {
+    /// A read failed, or the input is longer than its limit.
+    Read,
+    /// A write or a flush failed, or a write took no byte.
+    Write,
+    /// The system gave no memory.
+    OutOfMemory,
+}
+
+impl From<Stopped<AllocError>> for CheckFault {
+    ghost from_gives = { λ stopped fault. fault ≡ fault_of stopped };
+
+    fn from(stopped: Stopped<AllocError>) -> CheckFault {
+        match stopped {
+            Stopped::Read => CheckFault::Read,
+            Stopped::Taker(_) | Stopped::OutOfMemory => CheckFault::OutOfMemory,
+        }
+    }
+}
+
+impl From<OutputFailed> for CheckFault {
+    ghost from_gives = { λ _ fault. fault ≡ the-fault.Write };
+
+    fn from(_failed: OutputFailed) -> CheckFault {
+        CheckFault::Write
+    }
+}
+
+impl From<AllocError> for CheckFault {
+    ghost from_gives = { λ _ fault. fault ≡ the-fault.OutOfMemory };
+
+    fn from(_refused: AllocError) -> CheckFault {
+        CheckFault::OutOfMemory
+    }
+}

@@ -1,0 +1,34 @@
+-- The faults of scripts, of checks and of job lists as those of the program.
+use Rattle.std.specs.Prelude.{◌≡◌}
+use Rattle.ahci_check.specs.declared.check_fault.CheckFault.{CheckFault}
+use Rattle.ahci_check.specs.declared.check_fault.CheckFault.TheVariants as check
+use Rattle.ahci_cli.specs.declared.fault.CliFault.{CliFault}
+use Rattle.ahci_cli.specs.declared.fault.CliFault.TheVariants.{Line, Job, Read, Write, Unsettled, Lost, OutOfMemory}
+use Rattle.ahci_jobs.specs.declared.jobs_fault.JobsFault.{JobsFault}
+use Rattle.ahci_jobs.specs.declared.jobs_fault.JobsFault.TheVariants as jobs
+use Rattle.ahci_replay.specs.declared.script_fault.ScriptFault.{ScriptFault}
+use Rattle.ahci_replay.specs.declared.script_fault.ScriptFault.TheVariants as script
+
+abbrev pub of_script : ScriptFault → CliFault
+of_script (script.Line n) = Line n
+of_script script.Read = Read
+of_script script.Write = Write
+of_script script.OutOfMemory = OutOfMemory
+
+abbrev pub of_check : CheckFault → CliFault
+of_check check.Read = Read
+of_check check.Write = Write
+of_check check.OutOfMemory = OutOfMemory
+
+abbrev pub of_jobs : JobsFault → CliFault
+of_jobs (jobs.Line n) = Line n
+of_jobs (jobs.Job i) = Job i
+of_jobs jobs.Read = Read
+of_jobs jobs.Write = Write
+of_jobs jobs.Unsettled = Unsettled
+of_jobs (jobs.Lost i) = Lost i
+of_jobs jobs.OutOfMemory = OutOfMemory
+
+-- the program's fault is that of another, of which this holds
+abbrev pub IsFaultOf : {F : Type 0} → (F → CliFault) → (F → Type 0) → CliFault → Type 0
+IsFaultOf {F} as P fault = (found : F) × (fault ≡ as found) × P found

@@ -1,0 +1,17 @@
+-- Why a script ends before its last line.
+use Rattle.std.specs.Prelude.{Bool, true, false}
+use Rattle.ahci_script.specs.declared.stopped.Stopped.{Stopped}
+use Rattle.ahci_script.specs.declared.stopped.Stopped.TheVariants as stopped
+use Rattle.ahci_replay.specs.declared.script_fault.ScriptFault.{ScriptFault}
+use Rattle.ahci_replay.specs.declared.script_fault.ScriptFault.TheVariants as fault
+
+-- the output takes no more
+abbrev pub is_of_output : ScriptFault → Bool
+is_of_output fault.Write = true
+is_of_output _ = false
+
+-- the fault where the reading stopped
+abbrev pub fault_of : Stopped ScriptFault → ScriptFault
+fault_of stopped.Read = fault.Read
+fault_of (stopped.Taker f) = f
+fault_of stopped.OutOfMemory = fault.OutOfMemory

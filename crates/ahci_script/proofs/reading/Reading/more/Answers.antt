@@ -1,0 +1,19 @@
+use Rattle.std.proofs.Common.{sym}
+use Rattle.ahci_script.specs.Standing.{Halts, stand}
+use Rattle.ahci_script.specs.declared.stopped.Stopped.TheVariants.{Read}
+use Rattle.ahci_script.proofs.FoundLemmas.{if_err_from}
+use Rattle.ahci_script.proofs.ReadingLemmas.{Reads-more, halts_at, halts_reading}
+use Rattle.ahci_script.specs.Unread.{unfinished}
+use Rattle.ahci_script.proofs.reading.Reading.more.Goals as goal
+
+pub returns-in-Err-clause-err : goal.returns-in-Err-clause-err
+returns-in-Err-clause-err g c =
+    halts_at g.T.TakesLines.Takes g.T.TakesLines.Refuses unfinished c.in-Err.fault (stand (g.R.Read.remaining c.args.reader.now) (c.args.taker.now, c.args.output.now) c.args.self.now) _ (sym c.requires.unfinished) c.in-Err.ensures.err
+
+pub returns-in_err-fill-in-Ok-clause-err : goal.returns-in_err-fill-in-Ok-clause-err
+returns-in_err-fill-in-Ok-clause-err g c =
+    if_err_from _ Read (Halts g.T.TakesLines.Takes g.T.TakesLines.Refuses _ _) c.from_residual.ensures.1
+    (halts_reading g.T.TakesLines.Takes g.T.TakesLines.Refuses c.args.self.now.input c.fill.new.self _ _ _ _ _ c.in-Ok.ensures.ok c.requires.unfinished c.in_err-fill-in-Ok.ensures.failed c.in_err-fill-in-Ok.ensures.err)
+
+pub returns-in_ok-fill-in-Ok-clause-ok : goal.returns-in_ok-fill-in-Ok-clause-ok
+returns-in_ok-fill-in-Ok-clause-ok g c = Reads-more _ c.args.self.now.input c.fill.new.self _ _ _ _ _ c.in-Ok.ensures.ok c.in_ok-fill-in-Ok.ensures.ok

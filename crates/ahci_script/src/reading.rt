@@ -1,0 +1,140 @@
+//! The lines of an input, read as they come.
+
+ghost use Rattle.std.specs.Prelude.{◌≤◌, ◌+◌, length, IfErr, OnOk};
+ghost use Rattle.ahci_script.specs.Reading.{ReadsAll, StopsReading};
+ghost use Rattle.ahci_script.specs.declared.input.TheConstants.{INPUT_LIMIT};
+
+use crate::input::{Found, INPUT_LIMIT, Input};
+use crate::stopped::Stopped;
+use crate::takes_lines::TakesLines;
+use std::alloc::{AllocError, Allocator};
+use std::io::Read;
+
+/// An input that is read line by line: what came and is not yet taken, and how many lines were taken.
+#[derive(Drop)]
+struct Reading<A: Allocator> {
+    input: Input<A>,
+    line: u64,
+    // Each line that was taken had a byte at least, its line feed.
+    ghost counted: { line + length input.bytes ≤ input.came },
+    ghost limited: { input.came ≤ INPUT_LIMIT },
+}
+
+impl<A: Allocator> Reading<A> {
+    ghost use Rattle.std.specs.Prelude.{◌≡◌, ◌<◌, ◌≤◌, [], length, false, true, IfErr, IfOk, OnOk};
+    ghost use Rattle.ahci_script.specs.Reading.{MayEnd, last_of};
+    ghost use Rattle.ahci_script.specs.Standing.{Ends, Halts, Reads, left_in, stand};
+    ghost use Rattle.ahci_script.specs.Unread.{found_of, shown, unfinished};
+    ghost use Rattle.ahci_script.specs.declared.input.TheConstants.{LINE_LIMIT};
+
+    /// No byte came yet.
+    fn new(alloc: A) -> Result<Self, AllocError>
+        ensures { IfOk result (λ r. (r.input.bytes ≡ []) × (r.input.came ≡ 0) × (r.line ≡ 0)) }
+    {
+        Ok(Reading {
+            input: Input::new(alloc)?,
+            line: 0,
+        })
+    }
+
+    /// Has all lines taken, up to one that is too long.
+    fn take_all<T: TakesLines<O>, O, R: Read>(
+        &mut self,
+        reader: &mut R,
+        taker: &mut T,
+        output: &mut O,
+    ) -> Result<(), Stopped<T::Fault>>
+        ensures ok { OnOk result (Ends T.Takes (stand (R.remaining reader.old) (taker.old, output.old) self.old)
+            (stand (R.remaining reader.new) (taker.new, output.new) self.new)) }
+        ensures err { IfErr result (Halts T.Takes T.Refuses (stand (R.remaining reader.old) (taker.old, output.old) self.old)
+            (stand (R.remaining reader.new) (taker.new, output.new) self.new)) }
+    {
+        while self.turn(reader, taker, output)? {}
+        match taker.take(self.line + 1, self.last(), output) {
+            Ok(()) => Ok(()),
+            Err(fault) => Err(Stopped::Taker(fault)),
+        }
+    }
+
+    /// What ends the input: a line that is too long, or all that is unread.
+    fn last(&self) -> Found<'_>
+        ensures { shown result ≡ last_of self.now.input.bytes }
+    {
+        match self.input.find_line() {
+            Found::TooLong => Found::TooLong,
+            _ => Found::Line(self.input.unread()),
+        }
+    }
+
+    /// Has the next line taken, or reads more where none is whole. `false` at the end of the input, and before a line that is
+    /// too long.
+    fn turn<T: TakesLines<O>, O, R: Read>(
+        &mut self,
+        reader: &mut R,
+        taker: &mut T,
+        output: &mut O,
+    ) -> Result<bool, Stopped<T::Fault>>
+        ensures ok { OnOk result (Reads T.Takes (stand (R.remaining reader.old) (taker.old, output.old) self.old)
+            (stand (R.remaining reader.new) (taker.new, output.new) self.new)) }
+        ensures err { IfErr result (Halts T.Takes T.Refuses (stand (R.remaining reader.old) (taker.old, output.old) self.old)
+            (stand (R.remaining reader.new) (taker.new, output.new) self.new)) }
+        ensures end { IfOk result (λ more. more ≡ false → MayEnd (R.remaining reader.new) self.new.input.bytes) }
+        ensures less { IfOk result (λ more. more ≡ true → left_in self.new < left_in self.old) }
+    {
+        let length = match self.input.find_line() {
+            Found::TooLong => return Ok(false),
+            Found::Unfinished => return self.more(reader, taker, output),
+            Found::Line(line) => match taker.take(self.line + 1, Found::Line(line), output) {
+                Ok(()) => line.len(),
+                Err(fault) => return Err(Stopped::Taker(fault)),
+            },
+        };
+        self.input.skip(length + 1);
+        self.line += 1;
+        Ok(true)
+    }
+
+    /// Reads more of the input, of which no whole line is left. `false` at its end.
+    fn more<T: TakesLines<O>, O, R: Read>(
+        &mut self,
+        reader: &mut R,
+        taker: &mut T,
+        output: &mut O,
+    ) -> Result<bool, Stopped<T::Fault>>
+        requires short { length self.old.input.bytes ≤ LINE_LIMIT }
+        requires unfinished { found_of self.old.input.bytes ≡ unfinished }
+        ensures ok { OnOk result (Reads T.Takes (stand (R.remaining reader.old) (taker.old, output.old) self.old)
+            (stand (R.remaining reader.new) (taker.new, output.new) self.new)) }
+        ensures err { IfErr result (Halts T.Takes T.Refuses (stand (R.remaining reader.old) (taker.old, output.old) self.old)
+            (stand (R.remaining reader.new) (taker.new, output.new) self.new)) }
+        ensures end { IfOk result (λ more. more ≡ false → MayEnd (R.remaining reader.new) self.new.input.bytes) }
+        ensures less { IfOk result (λ more. more ≡ true → left_in self.new < left_in self.old) }
+    {
+        match taker.take(self.line + 1, Found::Unfinished, output) {
+            Ok(()) => Ok(self.input.fill(reader)?),
+            Err(fault) => Err(Stopped::Taker(fault)),
+        }
+    }
+}
+
+/// Has the lines of an input taken, one after another, from the first on; the last may lack its line feed. A line of more
+/// than 4,096 bytes is the last.
+///
+/// # Errors
+/// `Read` where the input fails or has more than 67,108,864 bytes; `Taker` where a line is refused; `OutOfMemory`, before
+/// anything is read.
+pub fn take_lines<T: TakesLines<O>, O, R: Read, A: Allocator>(
+    alloc: A,
+    reader: &mut R,
+    taker: &mut T,
+    output: &mut O,
+) -> Result<(), Stopped<T::Fault>>
+    ensures ok { OnOk result (ReadsAll T.Takes (R.remaining reader.old) (R.remaining reader.new) (taker.old, output.old) (taker.new, output.new)) }
+    ensures err { IfErr result (StopsReading T.Takes T.Refuses (R.remaining reader.old) (R.remaining reader.new)
+        (taker.old, output.old) (taker.new, output.new)) }
+{
+    let Ok(mut reading) = Reading::new(alloc) else {
+        return Err(Stopped::OutOfMemory);
+    };
+    reading.take_all(reader, taker, output)
+}

@@ -1,0 +1,23 @@
+use crate::input::InputFailed;
+
+/// Why an input was not read to its end.
+#[derive(Clone, Copy, Debug, PartialEq, Eq)]
+pub enum Stopped<F> {
+    /// A read failed, or the input is longer than its limit.
+    Read,
+    /// The lines are taken no more.
+    Taker(F),
+    /// The system gave no memory.
+    OutOfMemory,
+}
+
+impl<F> From<InputFailed> for Stopped<F> {
+    ghost use Rattle.std.specs.Prelude.{◌≡◌};
+    ghost use Rattle.ahci_script.specs.declared.stopped.Stopped.TheVariants as stopped;
+
+    ghost from_gives = { λ _ fault. fault ≡ stopped.Read };
+
+    fn from(_failed: InputFailed) -> Stopped<F> {
+        Stopped::Read
+    }
+}
