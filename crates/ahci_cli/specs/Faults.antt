@@ -31,4 +31,4 @@ of_jobs jobs.OutOfMemory = OutOfMemory
 
 -- the program's fault is that of another, of which this holds
 abbrev pub IsFaultOf : {F : Type 0} → (F → CliFault) → (F → Type 0) → CliFault → Type 0
-IsFaultOf {F} as P fault = (found : F) × (fault ≡ as found) × P found
+IsFaultOf {F} into P fault = (found : F) × (fault ≡ into found) × P found

@@ -3,8 +3,8 @@ use crate::lanes::push_new_lanes;
 use crate::mark::Mark;
 use ahci_port::Port;
 use ahci_replay::Teller;
-use ahci_script::{Output, ScriptAnswer, answer_bytes};
 use ahci_script::growing::push;
+use ahci_script::{Output, ScriptAnswer, answer_bytes};
 use std::alloc::{AllocError, Allocator};
 
 /// Tells of each answer what its command has drawn, on the sheet from which the picture is made.

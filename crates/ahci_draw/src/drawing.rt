@@ -25,7 +25,12 @@ pub fn draw<R: Read, W: Write, A: Allocator + Copy>(
     let mut sheet = Vec::new(alloc);
     match replay_with(alloc, &mut Drawer::new(alloc), reader, &mut sheet) {
         Ok(()) => send(alloc, &sheet, writer),
-        Err(ScriptFault::Line(line)) => Err(send_at(ScriptFault::Line(line), alloc, &sheet, writer)),
+        Err(ScriptFault::Line(line)) => Err(send_at(
+            ScriptFault::Line(line),
+            alloc,
+            &sheet,
+            writer,
+        )),
         Err(ScriptFault::Read) => Err(send_at(ScriptFault::Read, alloc, &sheet, writer)),
         Err(_) => Err(ScriptFault::OutOfMemory), // a sheet takes all that it has room for
     }

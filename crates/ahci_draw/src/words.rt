@@ -6,8 +6,8 @@ ghost use Rattle.ncq_journal.specs.Work.{work_of};
 ghost use Rattle.ahci_draw.specs.Words.{direction, entry_words, issue_words, failure_words, plain_words};
 
 use crate::text::push_number;
-use ahci_script::spaced_byte;
 use ahci_script::growing::push;
+use ahci_script::spaced_byte;
 use ncq_core::{Event, Op, Plain};
 use std::alloc::{AllocError, Allocator};
 

@@ -31,9 +31,10 @@ Fails f old number found fault new = Refuses (f old) number found fault
 good : {S : Type 0} (f : S → List Work) (a b : S) (n : ℕ) (lines : Lines) → Taken (Goes f) a n lines b → AreGood lines × (f b ≡ f a ++ asked_in lines)
 good f _ _ n _ (reading.nothing s k) = (no_line, sym (append-nil (f s)))
 good f _ b n _ (reading.one_more s k first t more u own takes others) =
-    let rest = good f t b (k + 1) more others in
-    (one_more first more own takes.0 rest.0,
-    rest.1 ∙ ap (λ l. l ++ asked_in more) takes.1 ∙ append_assoc (f s) (commands_of (job_line_of first)) (asked_in more))
+    let rest = good f t b (k + 1) more others in (
+      one_more first more own takes.0 rest.0,
+      rest.1 ∙ ap (λ l. l ++ asked_in more) takes.1 ∙ append_assoc (f s) (commands_of (job_line_of first)) (asked_in more),
+    )
 good f _ b n lines (reading.more_input s k t more u takes others) =
     let rest = good f t b k more others in (rest.0, rest.1 ∙ ap (λ l. l ++ asked_in more) takes)
 

@@ -180,10 +180,11 @@ pub all_part_written : {S : Type 0} (telling : Telling) (f : S → Place) (r s e
 all_part_written telling f r s e d a b new h part =
     first_answered telling f _ _ r a new
     (λ text lines remaining rest to sends holds.
-    let last = last_answers telling s rest (length lines + 1) (f to) (f b) holds.1 holds.2 in
-    (text ++ last.2.grown.added,
-    inr (rest, (f b).port, subst (λ k. IsNext k rest rest) (sym holds.0) (inr (last.0, last.1, refl)), rebased (f to).port (f b).port rest text _ _ last.2.grown),
-    sent_part (f a).contents (f b).contents d (text ++ last.2.grown.added) (f b).waiting (with_answer (f a).contents (f to) (f b) rest text last.2 sends) part)) h
+    let last = last_answers telling s rest (length lines + 1) (f to) (f b) holds.1 holds.2 in (
+      text ++ last.2.grown.added,
+      inr (rest, (f b).port, subst (λ k. IsNext k rest rest) (sym holds.0) (inr (last.0, last.1, refl)), rebased (f to).port (f b).port rest text _ _ last.2.grown),
+      sent_part (f a).contents (f b).contents d (text ++ last.2.grown.added) (f b).waiting (with_answer (f a).contents (f to) (f b) rest text last.2 sends) part,
+    )) h
 
 -- ---- a fault
 
@@ -285,11 +286,12 @@ cut_off : (telling : Telling) (c s remaining : Known) (found : Begins) (n : ℕ)
     → Refuses telling p n found Write q → Sends c p.contents text p.waiting
     → (all : Text) × MayAnswer telling remaining p.port rest text all × WritesPart c q.contents all
 cut_off telling c s remaining (whole line) n text rest p q same comes h sends =
-    let g = h.2 in
-    (text ++ g.added,
-    inr (line, h.1, subst (λ k. IsNext k rest line) (sym same) comes, rebased p.port h.1 line text _ _ g),
-    sent_part c p.contents q.contents (text ++ g.added) (p.waiting ++ g.added) (sends_text c p.contents text p.waiting g.added sends)
-    (subst (WritesPart p.contents q.contents) g.grown h.3))
+    let g = h.2 in (
+      text ++ g.added,
+      inr (line, h.1, subst (λ k. IsNext k rest line) (sym same) comes, rebased p.port h.1 line text _ _ g),
+      sent_part c p.contents q.contents (text ++ g.added) (p.waiting ++ g.added) (sends_text c p.contents text p.waiting g.added sends)
+          (subst (WritesPart p.contents q.contents) g.grown h.3),
+    )
 cut_off telling c s remaining too_long n text rest p q same comes h sends = absurd (cc)
 cut_off telling c s remaining unfinished n text rest p q same comes h sends =
     (text, inl refl, sent_part c p.contents q.contents text p.waiting sends h.1)

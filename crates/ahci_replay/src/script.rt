@@ -42,7 +42,13 @@ impl<'t, T: Teller<A>, A: Allocator + Copy> Script<'t, T, A> {
         ensures err { IfErr result (RefusesLine T.telling (place (W.contents writer.old) self.old.output self.old.session) number line.now
             (place (W.contents writer.new) self.new.output self.new.session)) }
     {
-        answer_line(&mut self.session, &mut self.output, &mut *self.teller, number, line)?;
+        answer_line(
+            &mut self.session,
+            &mut self.output,
+            &mut *self.teller,
+            number,
+            line,
+        )?;
         if self.output.is_full() {
             self.output.send(writer)?;
         }
@@ -62,12 +68,7 @@ impl<'t, T: Teller<A>, W: Write, A: Allocator + Copy> TakesLines<W> for Script<'
     ghost Refuses = { λ old number found fault new. Refuses T.telling (place (W.contents old.1) old.0.output old.0.session) number found fault
         (place (W.contents new.1) new.0.output new.0.session) };
 
-    fn take(
-        &mut self,
-        number: u64,
-        found: Found<'_>,
-        writer: &mut W,
-    ) -> Result<(), ScriptFault> {
+    fn take(&mut self, number: u64, found: Found<'_>, writer: &mut W) -> Result<(), ScriptFault> {
         match found {
             Found::Line(line) => self.answer(number, line, writer),
             Found::TooLong => Err(ScriptFault::Line(number)),

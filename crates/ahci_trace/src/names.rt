@@ -5,8 +5,8 @@ ghost use Rattle.word_bits.specs.Places.{bits, has_place};
 ghost use Rattle.ahci_trace.specs.Names.{bits_of, bits_text, name_of, name_text, named, names_text};
 
 use crate::named_bit::NamedBit;
-use ahci_script::growing::push;
 use ahci_regs::Register;
+use ahci_script::growing::push;
 use std::alloc::{AllocError, Allocator};
 use word_bits::is_set;
 

@@ -47,7 +47,12 @@ static LISTS: [List; 19] = [
         "",
         Err(JobsFault::Line(2)),
     ),
-    ("read 0 65537\nread\n", (1, 1, 8), "", Err(JobsFault::Job(0))),
+    (
+        "read 0 65537\nread\n",
+        (1, 1, 8),
+        "",
+        Err(JobsFault::Job(0)),
+    ),
     (
         "read\nread 0 65537\n",
         (1, 1, 8),

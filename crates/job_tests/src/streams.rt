@@ -1,7 +1,6 @@
 //! A reader that fails after every number of bytes, and a writer that takes any number of bytes and no more.
 use ahci_driver::Low;
-use ahci_jobs::run_jobs;
-use ahci_jobs::JobsFault;
+use ahci_jobs::{JobsFault, run_jobs};
 use std::io;
 use std::io::{Read, Write};
 use std::process::Abort;
