@@ -9,6 +9,8 @@ pub enum Jobs {
     None,
     /// Twelve over three sectors.
     Few,
+    /// The first five of these.
+    Five,
     /// A write of a sector, and a read of it.
     Pair,
     /// Thirty-two writes, of which that of job 17 is past the last of 64 sectors.
@@ -36,6 +38,7 @@ fn count_of(jobs: Jobs) -> u32 {
     match jobs {
         Jobs::None => 0,
         Jobs::Few => 12,
+        Jobs::Five => 5,
         Jobs::Pair => 2,
         Jobs::Crowd => 32,
         Jobs::Many => 4_000,
@@ -45,7 +48,7 @@ fn count_of(jobs: Jobs) -> u32 {
 fn job_at(jobs: Jobs, index: u32) -> Job {
     let lba = u64::from(index % 64);
     match jobs {
-        Jobs::None | Jobs::Few => FEW[index as usize % 12],
+        Jobs::None | Jobs::Few | Jobs::Five => FEW[index as usize % 12],
         Jobs::Pair if index == 0 => Job::Write(0, 0x11),
         Jobs::Pair => Job::Read(0),
         Jobs::Crowd => Job::Write(if index == 17 { 64 } else { lba }, (index % 32) as u8),

@@ -15,6 +15,8 @@ mod jobs;
 #[cfg(test)]
 mod one_seat;
 #[cfg(test)]
+mod reading;
+#[cfg(test)]
 mod runs;
 #[cfg(test)]
 mod steps;

@@ -1,15 +1,23 @@
-//! One thread with one seat: the worked story of a write and a read, and two commands that are completed together.
+//! One thread with one seat: the worked story of a write and a read, two commands that are completed together, and one that is
+//! submitted while the port is halted.
 ghost use Rattle.std.specs.Prelude.{◌≡◌};
 
 use crate::common::{Job, Way, is_filled, op_of};
+use crate::steps::TableStep;
 use crate::steps::TableStep::Accept;
-use ahci_driver::{All, Driver, Low, Pumped, SubmitFault, TagBoard, TagSeat, Ticket};
-use ahci_port::{CollectFault, Outcome, Port, Reply, Stepped};
+use ahci_driver::{Driver, Pumped, SubmitFault, TagBoard, TagSeat, Ticket};
+use ahci_port::{CollectFault, IssueFault, Outcome, Port, Reply, Stepped};
 use std::alloc::{AllocError, Global};
 use std::process::Abort;
 use std::sync::Wait;
 use std::test::Fail;
 use word_bits::is_set;
+
+const FAILED: TableStep = TableStep::Fail {
+    tag: 0,
+    error: 0x40,
+    at: 1,
+};
 
 /// A call of the driver.
 #[derive(Clone, Copy, Debug)]
@@ -21,6 +29,8 @@ enum Call {
     Pump,
     /// With `All`.
     PumpAll,
+    /// With a chooser that always fails tag 0 at sector 1.
+    Fail,
     Collect,
     FreeNow,
 }
@@ -61,23 +71,19 @@ impl Story {
                     Err(fault) => Said::Refused(fault),
                 }
             }
-            Call::Stubborn => {
-                let mut chooser = Way::Always(Accept(255));
-                self.driver
-                    .pump(rt, &mut chooser)
-                    .map_or(Said::Nothing, Said::Pumped)
-            }
-            Call::Pump => self
-                .driver
-                .pump(rt, &mut Low)
-                .map_or(Said::Nothing, Said::Pumped),
-            Call::PumpAll => self
-                .driver
-                .pump(rt, &mut All)
-                .map_or(Said::Nothing, Said::Pumped),
+            Call::Stubborn => self.pumps(rt, Way::Always(Accept(255))),
+            Call::Pump => self.pumps(rt, Way::Lowest),
+            Call::PumpAll => self.pumps(rt, Way::All),
+            Call::Fail => self.pumps(rt, Way::Always(FAILED)),
             Call::Collect => self.collects(rt),
             Call::FreeNow => Said::Free(self.driver.board().free_now(&mut self.seat)),
         })
+    }
+
+    fn pumps<R: Wait>(&mut self, rt: &R, mut chooser: Way) -> Said {
+        self.driver
+            .pump(rt, &mut chooser)
+            .map_or(Said::Nothing, Said::Pumped)
     }
 
     fn collects<R: Wait>(&mut self, rt: &R) -> Said {
@@ -170,17 +176,22 @@ fn one_driver(alloc: Global) -> Result<Story, Fail> {
     })
 }
 
+/// Makes these calls, in this order.
+fn plays<R: Wait + Abort>(rt: &R, alloc: Global, calls: &[(Call, Said)]) -> Result<Story, Fail> {
+    let mut story = one_driver(alloc)?;
+    for (call, wanted) in calls {
+        equal(rt, *call, story.goes(rt, alloc, *call)?, *wanted);
+    }
+    Ok(story)
+}
+
 #[test]
 fn a_write_is_read_back_by_one_seat(rt: HostRuntime) -> Result<(), Fail> {
-    let mut story = one_driver(rt.alloc())?;
-    for (call, wanted) in STORY {
-        equal(&rt, call, story.goes(&rt, rt.alloc(), call)?, wanted);
-    }
     let Story {
         driver,
         seat,
         ticket: _,
-    } = story;
+    } = plays(&rt, rt.alloc(), STORY.as_slice())?;
     let (port, board) = driver.into_parts();
     assert!(rt; board.close(seat) == 3);
     assert!(rt; port.journal().len() == 8);
@@ -226,9 +237,46 @@ static TOGETHER: [(Call, Said); 8] = [
 
 #[test]
 fn all_completes_two_commands_by_one_pump(rt: HostRuntime) -> Result<(), Fail> {
-    let mut story = one_driver(rt.alloc())?;
-    for (call, wanted) in TOGETHER {
-        equal(&rt, call, story.goes(&rt, rt.alloc(), call)?, wanted);
-    }
+    let _story = plays(&rt, rt.alloc(), TOGETHER.as_slice())?;
+    Ok(())
+}
+
+static HALTED: [(Call, Said); 8] = [
+    (Call::Submit(Job::Write(1, 0x77)), Said::Ticket(0, 0)),
+    (
+        Call::Pump,
+        Said::Pumped(Pumped::Stepped(Stepped::Accepted(1))),
+    ),
+    (
+        Call::Fail,
+        Said::Pumped(Pumped::Stepped(Stepped::Failed(2))),
+    ),
+    (
+        Call::Submit(Job::Read(1)),
+        Said::Refused(SubmitFault::Issue(IssueFault::Halted)),
+    ),
+    (Call::FreeNow, Said::Free(2)),
+    (Call::Pump, Said::Pumped(Pumped::Recovered(0))),
+    (
+        Call::Collect,
+        Said::Collected(
+            Reply {
+                number: 0,
+                entry: 2,
+                outcome: Outcome::Failed {
+                    error: 0x40,
+                    lba: 1,
+                },
+            },
+            0,
+            None,
+        ),
+    ),
+    (Call::FreeNow, Said::Free(3)),
+];
+
+#[test]
+fn a_halted_port_takes_no_command(rt: HostRuntime) -> Result<(), Fail> {
+    let _story = plays(&rt, rt.alloc(), HALTED.as_slice())?;
     Ok(())
 }

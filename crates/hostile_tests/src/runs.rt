@@ -3,12 +3,15 @@
 use crate::commands::port_of;
 use crate::heap::{Heap, equal, grant_all};
 use crate::jobs::{Jobs, Way, crowd, ops_of};
-use ahci_driver::{Open, RunFault, run};
+use ahci_driver::{Gate, Open, RunFault, run};
 use refusing_allocator::{Refusals, Refusing};
 use std::alloc::Global;
 use std::process::Abort;
 use std::sync::Wait;
+use std::sync::atomic::AtomicU32;
+use std::sync::atomic::Ordering::SeqCst;
 use std::test::Fail;
+use std::thread;
 use std::thread::Threads;
 
 /// A run on four sectors.
@@ -85,11 +88,12 @@ struct Ended {
 }
 
 /// Runs once. The port is the run's own, and its jobs are lent.
-fn runs<R: Threads + Wait + Sync>(
+fn runs<R: Threads + Wait + Sync, G: Gate>(
     rt: &R,
     heap: &Heap,
     setting: Setting,
     refusals: Refusals,
+    gate: &G,
 ) -> Result<Ended, Fail> {
     let workers = setting.workers;
     if workers < 1 || workers > 32 {
@@ -100,7 +104,7 @@ fn runs<R: Threads + Wait + Sync>(
     let port = port_of(heap, setting.depth)?;
     let choosers = crowd(heap, setting.way, workers)?;
     heap.refuse(refusals);
-    let how = match run(rt, heap, port, &ops, workers, choosers, &Open) {
+    let how = match run(rt, heap, port, &ops, workers, choosers, gate) {
         Ok(end) => Ok((end.replies.len(), end.port.journal().len())),
         Err(fault) => Err(fault),
     };
@@ -142,7 +146,7 @@ fn refuses_each<R: Threads + Wait + Sync + Abort>(
         let wanted = wanted(setting, growth);
         for refusals in [Refusals::From(growth), Refusals::Only(growth)] {
             let heap = Refusing::new(alloc);
-            let found = runs(rt, &heap, setting, refusals)?;
+            let found = runs(rt, &heap, setting, refusals, &Open)?;
             equal(rt, &(setting, refusals), growth as usize, &found, &wanted);
             assert!(rt; heap.out() == 0);
         }
@@ -154,6 +158,79 @@ fn refuses_each<R: Threads + Wait + Sync + Abort>(
 fn a_run_refused_memory_ends_with_all_its_threads(rt: HostRuntime) -> Result<(), Fail> {
     for setting in SETTINGS {
         refuses_each(&rt, rt.alloc(), setting)?;
+    }
+    Ok(())
+}
+
+/// Job 0 begins once so many workers have come with theirs, and the requests for memory are counted from there; one of them
+/// is refused, and the other workers' jobs begin then.
+#[derive(Drop)]
+struct Holds<'a> {
+    heap: &'a Heap,
+    others: u32,
+    growth: u64,
+    come: AtomicU32,
+}
+
+impl<'a> Holds<'a> {
+    /// It does not wait for ever: where threads can't be made, nobody comes.
+    fn waits(&self, is_first: bool) {
+        for _ in 0..1_000_000u32 {
+            let is_over = if is_first {
+                self.come.load(SeqCst) == self.others
+            } else {
+                self.heap.refused() > 0
+            };
+            if is_over {
+                return;
+            }
+            thread::yield_now();
+        }
+    }
+}
+
+impl<'a> Gate for Holds<'a> {
+    fn before(&self, job: usize) {
+        if job > 0 {
+            let _before = self.come.fetch_add(1, SeqCst);
+        }
+        self.waits(job == 0);
+        if job == 0 {
+            self.heap.refuse(Refusals::Only(self.growth));
+        }
+    }
+
+    fn after(&self, _job: usize) {}
+}
+
+// A write's window, its copy in the journal, the journal's room, and the room of its recovery: at the last one its worker has
+// the only tag, and keeps it. Growths and entries are not looked at.
+#[test]
+fn all_workers_end_where_one_stops_with_the_only_tag(rt: HostRuntime) -> Result<(), Fail> {
+    let setting = Setting {
+        workers: 4,
+        depth: 1,
+        jobs: Jobs::Few,
+        way: Way::FailsSecond(0),
+        growths: 0,
+        entries: 0,
+    };
+    let wanted = Ended {
+        how: Err(RunFault::OutOfMemory),
+        requests: None,
+        left: 0,
+    };
+    for growth in 0..4u64 {
+        let heap = Refusing::new(rt.alloc());
+        let gate = Holds {
+            heap: &heap,
+            others: 3,
+            growth,
+            come: AtomicU32::new(0),
+        };
+        let found = runs(&rt, &heap, setting, Refusals::None, &gate)?;
+        equal(&rt, &setting, growth as usize, &found, &wanted);
+        assert!(rt; heap.out() == 0);
     }
     Ok(())
 }
