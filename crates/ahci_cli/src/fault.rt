@@ -1,9 +1,10 @@
 ghost use Rattle.std.specs.Prelude.{◌≡◌};
-ghost use Rattle.ahci_cli.specs.Faults.{of_check, of_jobs, of_script};
+ghost use Rattle.ahci_cli.specs.Faults.{of_check, of_jobs, of_page, of_script};
 
 use ahci_check::CheckFault;
 use ahci_jobs::JobsFault;
 use ahci_replay::ScriptFault;
+use ata_pages::PageFault;
 use thiserror::Error;
 
 /// Why the program ends early. The text is what standard error shows.
@@ -84,6 +85,17 @@ impl From<JobsFault> for CliFault {
             JobsFault::Unsettled => CliFault::Unsettled,
             JobsFault::Lost(job) => CliFault::Lost(job),
             JobsFault::OutOfMemory => CliFault::OutOfMemory,
+        }
+    }
+}
+
+impl From<PageFault> for CliFault {
+    ghost from_gives = { λ page fault. fault ≡ of_page page };
+
+    fn from(page: PageFault) -> CliFault {
+        match page {
+            PageFault::Write => CliFault::Write,
+            PageFault::OutOfMemory => CliFault::OutOfMemory,
         }
     }
 }

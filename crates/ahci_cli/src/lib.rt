@@ -1,13 +1,20 @@
-//! What the program `ahci` calls: the command line, scripts and what is told of them, lists of jobs, and the disk's pages.
+//! The program `ahci` as one function, and what it calls: the command line, scripts and what is told of them, lists of jobs, and
+//! the disk's pages.
 #![tactic(auto)]
 
+mod ending;
 mod fault;
+mod fault_text;
 mod jobs;
 mod pages;
+mod running;
 mod scripts;
+mod words_fault;
 
 pub use ahci_args::{Asked, Pick, asked, not_text};
 pub use fault::CliFault;
 pub use jobs::run_jobs;
 pub use pages::{write_identify, write_log};
+pub use running::{program, program_without_words};
 pub use scripts::{check, draw, replay, trace, trace_json};
+pub use words_fault::WordsFault;

@@ -1,10 +1,10 @@
 //! The disk's pages, with the faults of the program.
-ghost use Rattle.std.specs.Prelude.{◌≡◌, ◌<◌, ◌≤◌, ◌^◌, ℕ, Err, OnErr, OnOk, false, take};
-ghost use Rattle.std.specs.Io.KnownBytes.{Appends, Keeps};
+ghost use Rattle.std.specs.Prelude.{◌<◌, ◌≤◌, ◌^◌, IfErr, OnOk};
+ghost use Rattle.std.specs.Io.KnownBytes.{Appends};
+ghost use Rattle.ahci_cli.specs.Faults.{EndsPage, IsFaultOf, of_page};
 ghost use Rattle.ata_pages.specs.Output.{identify_output, log_output};
 
 use crate::fault::CliFault;
-use ata_pages::PageFault;
 use std::alloc::Allocator;
 use std::io::Write;
 
@@ -20,11 +20,10 @@ pub fn write_identify<W: Write, A: Allocator>(
     requires deep { 1 ≤ depth }
     requires shallow { depth ≤ 32 }
     ensures ok { OnOk result (Appends (W.contents writer.old) (W.contents writer.new) (identify_output sectors depth raw)) }
-    ensures part { OnErr result
-        ((n : ℕ) × Appends (W.contents writer.old) (W.contents writer.new) (take n (identify_output sectors depth raw))) }
-    ensures memory { result ≡ Err CliFault.OutOfMemory → (raw ≡ false) × Keeps (W.contents writer.old) (W.contents writer.new) }
+    ensures err { IfErr result (IsFaultOf of_page (EndsPage (identify_output sectors depth raw) raw (W.contents writer.old)
+        (W.contents writer.new))) }
 {
-    ata_pages::write_identify(alloc, sectors, depth, raw, writer).map_err(cli_fault)
+    Ok(ata_pages::write_identify(alloc, sectors, depth, raw, writer)?)
 }
 
 /// Writes page 0 of log 10h after an error, as `ata_pages::write_log` does: the tag of the command that failed, below 32, the
@@ -40,20 +39,8 @@ pub fn write_log<W: Write, A: Allocator>(
     requires tag { tag < 32 }
     requires lba { lba < 2 ^ 48 }
     ensures ok { OnOk result (Appends (W.contents writer.old) (W.contents writer.new) (log_output tag error lba raw)) }
-    ensures part { OnErr result
-        ((n : ℕ) × Appends (W.contents writer.old) (W.contents writer.new) (take n (log_output tag error lba raw))) }
-    ensures memory { result ≡ Err CliFault.OutOfMemory → (raw ≡ false) × Keeps (W.contents writer.old) (W.contents writer.new) }
+    ensures err { IfErr result (IsFaultOf of_page (EndsPage (log_output tag error lba raw) raw (W.contents writer.old)
+        (W.contents writer.new))) }
 {
-    ata_pages::write_log(alloc, tag, error, lba, raw, writer).map_err(cli_fault)
-}
-
-/// The program's fault for that of a page.
-fn cli_fault(fault: PageFault) -> CliFault
-    ensures write { fault ≡ PageFault.Write → result ≡ CliFault.Write }
-    ensures memory { fault ≡ PageFault.OutOfMemory → result ≡ CliFault.OutOfMemory }
-{
-    match fault {
-        PageFault::Write => CliFault::Write,
-        PageFault::OutOfMemory => CliFault::OutOfMemory,
-    }
+    Ok(ata_pages::write_log(alloc, tag, error, lba, raw, writer)?)
 }

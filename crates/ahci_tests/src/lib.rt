@@ -14,3 +14,5 @@ mod port;
 mod program;
 #[cfg(test)]
 mod table;
+#[cfg(test)]
+mod whole;

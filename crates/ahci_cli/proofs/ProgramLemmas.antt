@@ -1,0 +1,39 @@
+-- What the program's parts do, put together.
+use Rattle.std.proofs.Common.{◌≡◌, ℕ, List, length, take, Bool, false, sym, subst, arith}
+use Rattle.std.specs.Prelude.{Result, Ok, Err, IfErr, MatchResult, OnErr, OnOk}
+use Rattle.std.proofs.Math.Seq.{take-length}
+use Rattle.std.specs.Io.KnownBytes.{Appends}
+use Rattle.streams.specs.declared.output_failed.OutputFailed.{OutputFailed}
+use Rattle.ahci_args.specs.Asking.{AsksFor}
+use Rattle.ahci_args.specs.declared.request.Asked.{Asked}
+use Rattle.ahci_args.specs.declared.request.Asked.TheVariants.{Replay, Run, Identify, Log, Trace, Check, Draw}
+use Rattle.ahci_cli.specs.Faults.{IsFaultOf}
+use Rattle.ahci_cli.specs.Program.{Did, HasRanges, IsTold, Known}
+use Rattle.ahci_cli.specs.declared.fault.CliFault.{CliFault}
+
+-- what a call did that judges no line
+pub did : {F : Type 0} (whole : Type 0) (into : F → CliFault) (early : F → Type 0) (outcome : Result (Unit {0}) CliFault) (result : Result Bool CliFault)
+    → OnOk outcome whole → IfErr outcome (IsFaultOf into early) → MatchResult outcome (λ _. result ≡ Ok false) (λ fault. result ≡ Err fault)
+    → Did whole into early result
+did whole into early (Ok done) result ok err is = subst (Did whole into early) (sym is) ok
+did whole into early (Err fault) result ok err is = subst (Did whole into early) (sym is) err
+
+-- a text that a writer took to its end, or in part
+pub told : (before after : Known) (text : List ℕ) (outcome : Result (Unit {0}) OutputFailed)
+    → OnOk outcome (Appends before after text) → OnErr outcome ((n : ℕ) × Appends before after (take n text)) → IsTold before after text
+told before after text (Ok done) ok err = (length text, subst (Appends before after) (sym (take-length text)) ok)
+told before after text (Err failed) ok err = err
+
+-- what words ask for has its numbers in their ranges
+pub has_ranges : (words : List (List ℕ)) (asked : Asked) → AsksFor words asked → HasRanges asked
+has_ranges words Replay asks = tt
+has_ranges words Check asks = tt
+has_ranges words Draw asks = tt
+has_ranges words (Trace json) asks = tt
+has_ranges words (Run workers depth sectors pick) asks =
+    (asks.has.workers.least, asks.has.workers.most, asks.has.depth.least, asks.has.depth.most, asks.has.sectors.least, asks.has.sectors.most)
+has_ranges words (Identify sectors depth raw) asks = (asks.has.depth.least, asks.has.depth.most)
+has_ranges words (Log tag error lba raw) asks =
+    let tag_most = asks.has.place.tag.most in
+    let lba_most = asks.has.place.lba.most in
+    (omega arith, omega arith)

@@ -1,0 +1,17 @@
+use Rattle.std.proofs.Common.{Global, inr, refl, map}
+use Rattle.std.specs.String.{string_bytes}
+use Rattle.clap.specs.Words.{kind_of}
+use Rattle.ahci_cli.proofs.ProgramLemmas.{has_ranges}
+use Rattle.ahci_cli.proofs.running.program.Goals as goal
+
+pub done-outcome-requires-after_bounds : goal.done-outcome-requires-after_bounds
+done-outcome-requires-after_bounds g c κs within = has_ranges (map (string_bytes {Z = Global}) c.args.words.now) c.in-Ok.asked c.in-Ok.ensures.ok
+
+pub returns-in-Err : goal.returns-in-Err
+returns-in-Err g c = inr (record {
+  picks = c.in-Err.ensures.faults.0;
+  kind = kind_of c.in-Err.error;
+  fails = c.in-Err.ensures.faults.1;
+  unread = refl;
+  says = c.explain.ensures;
+})

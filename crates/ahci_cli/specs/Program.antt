@@ -1,0 +1,166 @@
+-- The program as a whole: what it writes and how it ends, for the words of its command line.
+use Rattle.std.specs.Prelude.{◌≡◌, ◌<◌, ◌≤◌, ◌^◌, ℕ, Bool, true, false, List, ◌++◌, Option, Result, Ok, Err, ◌⊎◌, ⊤, take, codes}
+use Rattle.std.specs.Fmt.{decimal}
+use Rattle.std.specs.Io.KnownBytes.{Appends}
+use Rattle.clap.specs.Words.{IsAmong}
+use Rattle.clap.specs.declared.error.kind.ErrorKind.{ErrorKind}
+use Rattle.clap.specs.declared.error.kind.ErrorKind.TheVariants as wrong
+use Rattle.ahci_args.specs.Asking.{AsksFor}
+use Rattle.ahci_args.specs.CommandLine.{PickWords}
+use Rattle.ahci_args.specs.Usage.{usage_faults}
+use Rattle.ahci_args.specs.declared.request.Asked.{Asked}
+use Rattle.ahci_args.specs.declared.request.Asked.TheVariants.{Replay, Run, Identify, Log, Trace, Check, Draw}
+use Rattle.ahci_check.specs.Sheets.{EndsCheck, IsChecked}
+use Rattle.ahci_cli.specs.Fault.{status_of}
+use Rattle.ahci_cli.specs.Faults.{EndsPage, IsFaultOf, of_check, of_jobs, of_page, of_script}
+use Rattle.ahci_cli.specs.declared.fault.CliFault.{CliFault}
+use Rattle.ahci_cli.specs.declared.fault.CliFault.TheVariants as fault
+use Rattle.ahci_cli.specs.declared.words_fault.WordsFault.{WordsFault}
+use Rattle.ahci_cli.specs.declared.words_fault.WordsFault.TheVariants.{NotText, OutOfMemory}
+use Rattle.ahci_draw.specs.Drawn.{Drawn, DrawnTo}
+use Rattle.ahci_jobs.specs.RunJobs.{EndsRun, RunsJobs}
+use Rattle.ahci_replay.specs.Transcript.{Replayed, ReplayedTo, answers_alone}
+use Rattle.ahci_trace.specs.Json.{json_line}
+use Rattle.ahci_trace.specs.Text.{trace_text}
+use Rattle.ata_pages.specs.Output.{identify_output, log_output}
+
+-- bytes that a reader has left, or that a writer holds, where they are known
+abbrev pub Known : Type 0
+Known = Option (List ℕ)
+
+-- what the reader has left and what the writer holds, before and after
+pub record Streams : Type 0 where
+  pub had : Known
+  pub left : Known
+  pub held : Known
+  pub holds : Known
+
+abbrev pub streams : Known → Known → Known → Known → Streams
+streams had left held holds = record { had = had; left = left; held = held; holds = holds }
+
+-- the text of a fault, as standard error shows it
+abbrev pub fault_text : CliFault → List ℕ
+fault_text (fault.Line line) = codes "ahci: line " ++ (decimal line ++ codes ": not understood\n")
+fault_text (fault.Job job) = codes "ahci: job " ++ (decimal job ++ codes ": bad count or address\n")
+fault_text fault.Read = codes "ahci: input failed\n"
+fault_text fault.Write = codes "ahci: output failed\n"
+fault_text fault.Unsettled = codes "ahci: run not settled\n"
+fault_text (fault.Lost job) = codes "ahci: run not settled\n"
+fault_text fault.OutOfMemory = codes "ahci: out of memory\n"
+
+-- ---- what was asked for, done: whether a line that `check` judged is faulty, or why the program ends early
+
+-- a call that went to its end, or ended early by one of its own faults
+abbrev pub Did : {F : Type 0} → Type 0 → (F → CliFault) → (F → Type 0) → Result Bool CliFault → Type 0
+Did whole into early (Ok false) = whole
+Did whole into early (Ok true) = ⊥
+Did whole into early (Err fault) = IsFaultOf into early fault
+
+-- a page was written, and nothing was read
+abbrev pub DidPage : List ℕ → Bool → Streams → Result Bool CliFault → Type 0
+DidPage text raw s outcome =
+    (s.left ≡ s.had) × Did (Appends s.held s.holds text) of_page (EndsPage text raw s.held s.holds) outcome
+
+-- lines were judged
+abbrev pub DidCheck : Streams → Result Bool CliFault → Type 0
+DidCheck s (Ok faulty) = IsChecked s.had s.left s.held s.holds faulty
+DidCheck s (Err fault) = IsFaultOf of_check (EndsCheck s.had s.left s.held s.holds) fault
+
+abbrev pub Does : Asked → Streams → Result Bool CliFault → Type 0
+Does Replay s outcome =
+    Did (Replayed answers_alone s.had s.left s.held s.holds) of_script (ReplayedTo answers_alone s.had s.left s.held s.holds) outcome
+Does (Trace false) s outcome =
+    Did (Replayed trace_text s.had s.left s.held s.holds) of_script (ReplayedTo trace_text s.had s.left s.held s.holds) outcome
+Does (Trace true) s outcome =
+    Did (Replayed json_line s.had s.left s.held s.holds) of_script (ReplayedTo json_line s.had s.left s.held s.holds) outcome
+Does Check s outcome = DidCheck s outcome
+Does Draw s outcome = Did (Drawn s.had s.left s.held s.holds) of_script (DrawnTo s.had s.left s.held s.holds) outcome
+Does (Run workers depth sectors pick) s outcome =
+    Did (RunsJobs workers depth sectors s.had s.left s.held s.holds) of_jobs (EndsRun workers depth sectors s.had s.left s.held s.holds) outcome
+Does (Identify sectors depth raw) s outcome = DidPage (identify_output sectors depth raw) raw s outcome
+Does (Log tag error lba raw) s outcome = DidPage (log_output tag error lba raw) raw s outcome
+
+-- ---- what standard error is told, and the status
+
+-- the text was written, or, where a write failed, a first part of it
+abbrev pub IsTold : Known → Known → List ℕ → Type 0
+IsTold before after text = (n : ℕ) × Appends before after (take n text)
+
+-- of a good outcome nothing is told, of a fault its text
+abbrev pub Tells : Known → Known → Result Bool CliFault → Type 0
+Tells before after (Ok faulty) = after ≡ before
+Tells before after (Err fault) = IsTold before after (fault_text fault)
+
+-- 0 where all went to its end, 1 where a line that was judged is faulty, else the fault's
+abbrev pub status_for : Result Bool CliFault → ℕ
+status_for (Ok false) = 0
+status_for (Ok true) = 1
+status_for (Err fault) = status_of fault
+
+-- the outcome is told, and the status is its own
+pub record Ends (before after : Known) (status : ℕ) (outcome : Result Bool CliFault) : Type 0 where
+  pub told : Tells before after outcome
+  pub status_is : status ≡ status_for outcome
+
+-- ---- the whole
+
+-- the words ask for something, which is done, told and ended
+pub record Obeys (words : List (List ℕ)) (s : Streams) (before after : Known) (status : ℕ) : Type 0 where
+  pub asked : Asked
+  pub asks : AsksFor words asked
+  pub outcome : Result Bool CliFault
+  pub does : Does asked s outcome
+  pub ends : Ends before after status outcome
+
+-- a text that was asked for stands on the output, to its end or to where the output failed; memory for it may be refused
+abbrev pub IsShown : List ℕ → Known → Known → Result Bool CliFault → Type 0
+IsShown text held holds (Ok false) = Appends held holds text
+IsShown text held holds (Ok true) = ⊥
+IsShown text held holds (Err fault.Write) = IsTold held holds text
+IsShown text held holds (Err fault.OutOfMemory) = holds ≡ held
+IsShown text held holds (Err other) = ⊥
+
+-- help, or the version
+pub record Shows (held holds before after : Known) (status : ℕ) : Type 0 where
+  pub text : List ℕ
+  pub outcome : Result Bool CliFault
+  pub shown : IsShown text held holds outcome
+  pub ends : Ends before after status outcome
+
+-- a wrong command line: a text on the errors and 2; memory for the text may be refused
+abbrev pub Rejects : Known → Known → ℕ → Type 0
+Rejects before after status =
+    ((text : List ℕ) × IsTold before after text × (status ≡ 2)) ⊎ Ends before after status (Err fault.OutOfMemory)
+
+-- what the parser of the command line has to say, by the kind of its fault
+abbrev pub Says : ErrorKind → Known → Known → Known → Known → ℕ → Type 0
+Says wrong.DisplayHelp held holds before after status = Shows held holds before after status
+Says wrong.DisplayVersion held holds before after status = Shows held holds before after status
+Says wrong.OutOfMemory held holds before after status = (holds ≡ held) × Ends before after status (Err fault.OutOfMemory)
+Says other held holds before after status = (holds ≡ held) × Rejects before after status
+
+-- the words have one of the faults that the parser's rules find in them, or the parser lacked memory; nothing is read
+pub record Explains (words : List (List ℕ)) (s : Streams) (before after : Known) (status : ℕ) : Type 0 where
+  pub picks : PickWords
+  pub kind : ErrorKind
+  pub fails : (kind ≡ wrong.OutOfMemory) ⊎ IsAmong kind (usage_faults picks words)
+  pub unread : s.left ≡ s.had
+  pub says : Says kind s.held s.holds before after status
+
+-- a run of the program, by the words of its command line, its reader and writer, standard error before and after, and its status
+abbrev pub Runs : List (List ℕ) → Streams → Known → Known → ℕ → Type 0
+Runs words s before after status = Obeys words s before after status ⊎ Explains words s before after status
+
+-- the words could not be read: an argument is no text, or there is no memory
+abbrev pub RunsWithout : WordsFault → Known → Known → Known → Known → ℕ → Type 0
+RunsWithout NotText held holds before after status =
+    Says wrong.InvalidValue held holds before after status ⊎ Says wrong.OutOfMemory held holds before after status
+RunsWithout OutOfMemory held holds before after status = Says wrong.OutOfMemory held holds before after status
+
+-- the numbers of what is asked for are in their ranges
+abbrev pub HasRanges : Asked → Type 0
+HasRanges (Run workers depth sectors pick) =
+    (1 ≤ workers) × (workers ≤ 32) × (1 ≤ depth) × (depth ≤ 32) × (1 ≤ sectors) × (sectors ≤ 131072)
+HasRanges (Identify sectors depth raw) = (1 ≤ depth) × (depth ≤ 32)
+HasRanges (Log tag error lba raw) = (tag < 32) × (lba < 2 ^ 48)
+HasRanges other = ⊤
