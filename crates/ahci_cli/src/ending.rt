@@ -1,6 +1,5 @@
 //! How the program ends: what is told of an outcome, and the status.
 
-ghost use Rattle.std.specs.Prelude.{ℕ, List};
 ghost use Rattle.clap.specs.Words.{kind_of};
 ghost use Rattle.ahci_cli.specs.Program.{Ends, IsShown, IsTold, Rejects, Says};
 
@@ -48,20 +47,20 @@ pub(crate) fn explain<W: Write, E: Write>(
     match error.kind() {
         ErrorKind::OutOfMemory => end(Err(CliFault::OutOfMemory), errors),
         ErrorKind::DisplayHelp | ErrorKind::DisplayVersion => {
-            end(show(alloc, error, writer), errors)
+            match format!(in alloc; "{error}") {
+                Ok(text) => end(show(text.as_bytes(), writer), errors),
+                Err(_) => end(Err(CliFault::OutOfMemory), errors),
+            }
         }
         _ => reject(alloc, error, errors),
     }
 }
 
 /// Writes help, or the version.
-fn show<W: Write>(alloc: Global, error: &Error, writer: &mut W) -> Result<bool, CliFault>
-    ensures { (text : List ℕ) × IsShown text (W.contents writer.old) (W.contents writer.new) result }
+fn show<W: Write>(text: &[u8], writer: &mut W) -> Result<bool, CliFault>
+    ensures { IsShown text.now (W.contents writer.old) (W.contents writer.new) result }
 {
-    let Ok(text) = format!(in alloc; "{error}") else {
-        return Err(CliFault::OutOfMemory);
-    };
-    match write_whole(writer, text.as_bytes()) {
+    match write_whole(writer, text) {
         Ok(()) => Ok(false),
         Err(OutputFailed) => Err(CliFault::Write),
     }
