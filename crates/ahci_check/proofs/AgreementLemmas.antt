@@ -1,198 +1,214 @@
--- The words of a line are sound exactly where it is a line of the language.
-use Rattle.std.proofs.Common.{◌≡◌, ℕ, ◌+◌, ◌-◌, ◌==◌, ◌||◌, Bool, true, false, cond, not, [], ◌∷◌, Option, Some, None, Ok, Err, IfSome, is_ok, is_some, codes, length, option_and_then, option_map, refl, ◌∙◌, arith}
-use Rattle.std.specs.Str.{bytes_eq}
-use Rattle.ahci_script.specs.Lines.{
-  accept_of,
-  ack_of,
-  at_most_32,
-  collect_of,
-  command_of,
-  disk_of,
-  each_of,
-  fail_of,
-  identify_of,
-  is_ascii,
-  line_of,
-  named,
-  page_word_of,
-  port_at,
-  port_of,
-  raw_of,
-  read_of,
-  reg_of,
-  reissue_of,
-  sectors_of,
-  serve_of,
-  show_of,
-  tag_of,
-  write_of,
-}
-use Rattle.ahci_script.specs.Lines as grammar
-use Rattle.ahci_script.specs.Number.{decimal_of, hexadecimal_of}
-use Rattle.ahci_script.specs.Words.{cut_of}
+-- A line that replay takes stands for the check too, and both have a disk after it or neither.
+use Rattle.std.proofs.Common.{◌≡◌, ℕ, suc, ◌+◌, ◌==◌, ◌||◌, Bool, true, false, cond, not, nat_lt, List, [], ◌∷◌, ◌++◌, Option, Some, None, Result, Ok, Err, is_none, is_some, length, option_and_then, refl, sym, ap, ◌∙◌, append-nil, arith}
+use Rattle.std.proofs.lemmas.Bool.{cond-false, cond-true}
+use Rattle.std.specs.Option.{unwrap_or}
+use Rattle.std.specs.Result.{result_ok}
+use Rattle.ncq_core.specs.DiskState.{most_depth, most_disk_sectors}
+use Rattle.ahci_port.specs.Faults.{most_first}
+use Rattle.ahci_check.proofs.ComplaintLemmas.{complaint_agrees}
+use Rattle.ahci_check.specs.Complaints.{complaint_in, disk_excess, ends_replay, first_wrong, is_in_place, place_after, place_by, stands_at}
+use Rattle.ahci_check.specs.Sheets.{Sheet, judged, judged_from}
+use Rattle.ahci_check.specs.declared.place.Place.TheVariants.{BeforeDisk, BehindDisk}
+use Rattle.ahci_port.specs.PortView.{PortView}
+use Rattle.ahci_replay.specs.Commands.{MakesDisk, Runs}
+use Rattle.ahci_replay.specs.Commands as replay
+use Rattle.ahci_replay.specs.Refusals.{disk_refusal}
+use Rattle.ahci_replay.specs.Transcript.{Adds, RunsLine, Telling, no_line, one_more, placed, placed_by}
+use Rattle.ahci_script.specs.Lines.{line_of, reading}
+use Rattle.ahci_script.specs.Words.{after_first}
+use Rattle.ahci_script.specs.Said.{Said}
+use Rattle.ahci_script.specs.declared.breach.Breach.{Breach}
 use Rattle.ahci_script.specs.declared.line.Line.{Line}
 use Rattle.ahci_script.specs.declared.line.Line.TheVariants.{Skip, Run}
 use Rattle.ahci_script.specs.declared.line.ScriptCommand.{ScriptCommand}
-use Rattle.ahci_script.specs.declared.line.ScriptCommand.TheVariants.{Accept, Serve, Recover, Reissue, Reg, Ack, Identify, Flush, Show, Journal, Trim}
-use Rattle.ahci_check.specs.Breaches.{behind_cut, last_of, sound}
-use Rattle.ahci_check.specs.Commands.{Words, command_words, first_of_cut, line_words, named_words, nameless, seen_in, stands_alone}
-use Rattle.ahci_check.specs.Complaints.{IsColumn, complaint_at, complaint_in, ends_replay, excess_in, is_in_place, is_language, misplaced, of_line, of_words, stands, stands_at}
-use Rattle.ahci_check.specs.Kinds.{spells}
-use Rattle.ahci_check.specs.declared.breach.Breach.{Breach}
-use Rattle.ahci_check.specs.declared.complaint.Complaint.{Complaint}
-use Rattle.ahci_check.specs.declared.excess.Excess.{Excess}
-use Rattle.ahci_check.specs.declared.kind.Kind.{Kind}
-use Rattle.ahci_check.specs.declared.kind.Kind.TheVariants.{Number, Tag, PageWord, Register}
-use Rattle.ahci_check.specs.declared.place.Place.{Place}
-use Rattle.ahci_check.specs.declared.rule.Rule.TheVariants.{Language, Port}
-use Rattle.ahci_check.proofs.CommandLemmas.{collect_agrees, disk_agrees, fail_agrees, raw_agrees, read_agrees, write_agrees}
-use Rattle.ahci_check.proofs.ServeLemmas.{tags_agree}
-use Rattle.ahci_check.proofs.WordLemmas.{Text, last_agrees, one}
+use Rattle.ahci_script.specs.declared.line.ScriptCommand.TheVariants as command
+use Rattle.ahci_script.specs.declared.refusal.Refusal.{Refusal}
+use Rattle.ahci_check.specs.Agreement.{CheckAgrees, place_of}
 
--- commands of one word behind the name
-single_agrees : {B : Type 0} (kind : Kind) (words : Text) (value : Option B) (f : B → ScriptCommand) → spells kind words ≡ is_some value
-    → is_ok (last_of kind words) ≡ is_some (option_and_then (λ x. Some (f x)) value)
-single_agrees kind words value f is = last_agrees kind words ∙ is ∙ one value f
+-- ---- where a line may stand
 
--- the same command, or none, in both
-either : {T : Type 0} (b : Bool) (x y : Words) (u v : Option T) → is_ok x ≡ is_some u → is_ok y ≡ is_some v → is_ok (cond b x y) ≡ is_some (cond b u v)
-either true x y u v p q = p
-either false x y u v p q = q
+before : (c : ScriptCommand) → is_in_place BeforeDisk c ≡ replay.is_in_place None c
+before (command.Disk sectors depth first) = refl
+before (command.Write tag lba sectors fill) = refl
+before (command.Read tag lba sectors) = refl
+before (command.Raw tag header bytes) = refl
+before (command.Accept tag) = refl
+before (command.Serve tags) = refl
+before (command.Fail tag error lba) = refl
+before (command.Collect tag number) = refl
+before command.Recover = refl
+before (command.Reissue tag) = refl
+before (command.Reg off) = refl
+before (command.Ack mask) = refl
+before (command.Identify word) = refl
+before command.Flush = refl
+before (command.Show lba) = refl
+before command.Journal = refl
+before command.Trim = refl
 
-neither : {T : Type 0} (b : Bool) (u v : Option T) → is_some u ≡ false → is_some v ≡ false → is_some (cond b u v) ≡ false
-neither true u v p q = p
-neither false u v p q = q
+later : (port : PortView) (c : ScriptCommand) → is_in_place BehindDisk c ≡ replay.is_in_place (Some port) c
+later port (command.Disk sectors depth first) = refl
+later port (command.Write tag lba sectors fill) = refl
+later port (command.Read tag lba sectors) = refl
+later port (command.Raw tag header bytes) = refl
+later port (command.Accept tag) = refl
+later port (command.Serve tags) = refl
+later port (command.Fail tag error lba) = refl
+later port (command.Collect tag number) = refl
+later port command.Recover = refl
+later port (command.Reissue tag) = refl
+later port (command.Reg off) = refl
+later port (command.Ack mask) = refl
+later port (command.Identify word) = refl
+later port command.Flush = refl
+later port (command.Show lba) = refl
+later port command.Journal = refl
+later port command.Trim = refl
 
-unnamed : (line name : Text) → is_ok (nameless line name) ≡ false
-unnamed line [] = refl
-unnamed line (b ∷ bs) = refl
+same_place : (port : Option PortView) (c : ScriptCommand) → is_in_place (place_of port) c ≡ replay.is_in_place port c
+same_place None c = before c
+same_place (Some port) c = later port c
 
-not_named : (line name : Text) (spare : Breach) → is_ok (cond (stands_alone name) (Err spare) (nameless line name)) ≡ false
-not_named line name spare = by (stands_alone name)
-  where
-    by : (b : Bool) → is_ok (cond b (Err spare) (nameless line name)) ≡ false
-    by true = refl
-    by false = unnamed line name
+taken : (b : Bool) (l : Line) → b ≡ is_some (cond b (Some l) None)
+taken true l = refl
+taken false l = refl
 
-named_agrees : (line name words : Text) → is_ok (named_words line name words) ≡ is_some (named name words)
-named_agrees line name words =
-    either (bytes_eq name (codes "disk")) _ _ _ _ (disk_agrees words)
-    (either (bytes_eq name (codes "write")) _ _ _ _ (write_agrees words)
-    (either (bytes_eq name (codes "read")) _ _ _ _ (read_agrees words)
-    (either (bytes_eq name (codes "raw")) _ _ _ _ (raw_agrees words)
-    (either (bytes_eq name (codes "accept")) _ _ _ _ (single_agrees Tag words (tag_of words) Accept refl)
-    (either (bytes_eq name (codes "serve")) _ _ _ _ (tags_agree 32 words ∙ one (grammar.tags_of words) (λ tags. Serve (record { items = tags })))
-    (either (bytes_eq name (codes "fail")) _ _ _ _ (fail_agrees words)
-    (either (bytes_eq name (codes "collect")) _ _ _ _ (collect_agrees words)
-    (either (bytes_eq name (codes "reissue")) _ _ _ _ (single_agrees Tag words (tag_of words) Reissue refl)
-    (either (bytes_eq name (codes "reg")) _ _ _ _ (single_agrees Register words (hexadecimal_of words) Reg refl)
-    (either (bytes_eq name (codes "ack")) _ _ _ _ (single_agrees Register words (hexadecimal_of words) Ack refl)
-    (either (bytes_eq name (codes "identify")) _ _ _ _ (single_agrees PageWord words (page_word_of words) Identify refl)
-    (either (bytes_eq name (codes "show")) _ _ _ _ (single_agrees Number words (decimal_of words) Show refl)
-    (not_named line name _)))))))))))))
+stands_alike : (port : Option PortView) (spelled : Option Line) → stands_at (place_of port) spelled ≡ is_some (option_and_then (placed_by port) spelled)
+stands_alike port None = refl
+stands_alike port (Some Skip) = refl
+stands_alike port (Some (Run c)) = same_place port c ∙ taken (replay.is_in_place port c) (Run c)
 
--- no command of other words stands without them
-named_none : (name : Text) → is_some (named name []) ≡ false
-named_none name =
-    neither (bytes_eq name (codes "disk")) _ _ refl
-    (neither (bytes_eq name (codes "write")) _ _ refl
-    (neither (bytes_eq name (codes "read")) _ _ refl
-    (neither (bytes_eq name (codes "raw")) _ _ refl
-    (neither (bytes_eq name (codes "accept")) _ _ refl
-    (neither (bytes_eq name (codes "serve")) _ _ refl
-    (neither (bytes_eq name (codes "fail")) _ _ refl
-    (neither (bytes_eq name (codes "collect")) _ _ refl
-    (neither (bytes_eq name (codes "reissue")) _ _ refl
-    (neither (bytes_eq name (codes "reg")) _ _ refl
-    (neither (bytes_eq name (codes "ack")) _ _ refl
-    (neither (bytes_eq name (codes "identify")) _ _ refl
-    (neither (bytes_eq name (codes "show")) _ _ refl refl))))))))))))
+not_some : {X : Type 0} (o : Option X) → not (is_some o) ≡ is_none o
+not_some None = refl
+not_some (Some x) = refl
 
-command_agrees : (line : Text) → is_ok (command_words line) ≡ is_some (command_of line)
-command_agrees line =
-    alone (bytes_eq line (codes "recover")) (bytes_eq line (codes "flush")) (bytes_eq line (codes "journal")) (bytes_eq line (codes "trim")) _ _ (by (cut_of line))
-  where
-    alone : (a b c d : Bool) (x : Words) (o : Option ScriptCommand) → is_ok x ≡ is_some o
-        → is_ok (cond (a || (b || (c || d))) sound x) ≡ is_some (cond a (Some Recover) (cond b (Some Flush) (cond c (Some Journal) (cond d (Some Trim) o))))
-    alone true b c d x o h = refl
-    alone false true c d x o h = refl
-    alone false false true d x o h = refl
-    alone false false false true x o h = refl
-    alone false false false false x o h = h
+stop_alike : (port : Option PortView) (number : ℕ) (line : List ℕ) → ends_replay (complaint_in (place_of port) number line) ≡ is_none (placed port line)
+stop_alike port number line =
+    complaint_agrees (place_of port) number line ∙ ap not (stands_alike port (line_of line)) ∙ not_some (placed port line)
 
-    by : (o : Option (Text × Text)) → is_ok (named_words line (first_of_cut o line) (behind_cut o)) ≡ is_some (option_and_then (λ c. named c.0 c.1) o)
-    by None = named_agrees line line [] ∙ named_none line
-    by (Some c) = named_agrees line c.0 c.1
+-- ---- the place after a line
 
--- the words of a line are sound exactly where the line is one of the language
-pub lines_agree : (line : Text) → is_ok (line_words line) ≡ is_some (line_of line)
-lines_agree [] = refl
-lines_agree (b ∷ bs) = by (b == 35) _
-  where
-    comment : (ascii : Bool) (breach : Breach) → is_ok (cond ascii sound (Err breach)) ≡ is_some (cond ascii (Some Skip) None)
-    comment true breach = refl
-    comment false breach = refl
+-- the limits of a disk stand in the order of its refusals
+none_alike : {X : Type 0} (a b c d e : Bool) (v w x y z : Option X) (p q r : Refusal) → is_none v ≡ false → is_none w ≡ false → is_none x ≡ false → is_none y ≡ false → is_none z ≡ false
+    → is_none (cond a v (cond b w (cond c x (cond d y (cond e z None))))) ≡ is_none (cond (a || b) (Some p) (cond (c || d) (Some q) (cond e (Some r) None)))
+none_alike true b c d e v w x y z p q r hv hw hx hy hz = hv
+none_alike false true c d e v w x y z p q r hv hw hx hy hz = hw
+none_alike false false true d e v w x y z p q r hv hw hx hy hz = hx
+none_alike false false false true e v w x y z p q r hv hw hx hy hz = hy
+none_alike false false false false true v w x y z p q r hv hw hx hy hz = hz
+none_alike false false false false false v w x y z p q r hv hw hx hy hz = refl
 
-    same : (w : Words) → is_ok (seen_in (b ∷ bs) w) ≡ is_ok w
-    same (Ok x) = refl
-    same (Err breach) = refl
+disk_alike : (words : List ℕ) (sectors depth : ℕ) (first : Option ℕ) → is_none (disk_excess words sectors depth first) ≡ is_none (disk_refusal sectors depth first)
+disk_alike words sectors depth first =
+    none_alike (sectors == 0) (nat_lt most_disk_sectors sectors) (depth == 0) (nat_lt most_depth depth) (nat_lt most_first (unwrap_or first 0)) _ _ _ _ _ _ _ _ refl refl refl refl refl
 
-    by : (hash : Bool) (breach : Breach) → is_ok (cond hash (cond (is_ascii bs) sound (Err breach)) (seen_in (b ∷ bs) (command_words (b ∷ bs))))
-        ≡ is_some (cond hash (cond (is_ascii bs) (Some Skip) None) (option_and_then (λ c. Some (Run c)) (command_of (b ∷ bs))))
-    by true breach = comment (is_ascii bs) breach
-    by false breach = same (command_words (b ∷ bs)) ∙ command_agrees (b ∷ bs) ∙ one (command_of (b ∷ bs)) Run
+made : (refusal : Option Refusal) (b : Bool) (sectors depth : ℕ) (first : Option ℕ) (next : Option PortView) (said : Said) → b ≡ is_none refusal
+    → MakesDisk refusal sectors depth first next said → cond b BehindDisk BeforeDisk ≡ place_of next
+made (Some refusal) b sectors depth first next said is does = ap (λ t. cond t BehindDisk BeforeDisk) is ∙ sym (ap place_of does.0)
+made None b sectors depth first next said is does = ap (λ t. cond t BehindDisk BeforeDisk) is ∙ sym (ap place_of does.0)
 
--- what there is to say of a command that is in its place, or isn't
-abbrev of_command : Place → ℕ → Text → ScriptCommand → Bool → Option Complaint
-of_command place number line c b =
-    cond b (option_map (λ (e : Excess). complaint_at number line e.left (Port e.limit)) (excess_in line c))
-    (Some (record { line = number; column = None; rule = Language (misplaced place) }))
+first_run : (line : List ℕ) (c : ScriptCommand) (next : Option PortView) (said : Said) → Runs None c next said → place_by BeforeDisk line (Ok (Run c)) ≡ place_of next
+first_run line (command.Disk sectors depth first) next said ran =
+    made (disk_refusal sectors depth first) _ sectors depth first next said (disk_alike (after_first line) sectors depth first) ran
+first_run line (command.Write tag lba sectors fill) next said ran = absurd ran
+first_run line (command.Read tag lba sectors) next said ran = absurd ran
+first_run line (command.Raw tag header bytes) next said ran = absurd ran
+first_run line (command.Accept tag) next said ran = absurd ran
+first_run line (command.Serve tags) next said ran = absurd ran
+first_run line (command.Fail tag error lba) next said ran = absurd ran
+first_run line (command.Collect tag number) next said ran = absurd ran
+first_run line command.Recover next said ran = absurd ran
+first_run line (command.Reissue tag) next said ran = absurd ran
+first_run line (command.Reg off) next said ran = absurd ran
+first_run line (command.Ack mask) next said ran = absurd ran
+first_run line (command.Identify word) next said ran = absurd ran
+first_run line command.Flush next said ran = absurd ran
+first_run line (command.Show lba) next said ran = absurd ran
+first_run line command.Journal next said ran = absurd ran
+first_run line command.Trim next said ran = absurd ran
 
--- a complaint of the language stands exactly where the line may not stand
-pub complaint_agrees : (place : Place) (number : ℕ) (line : Text) → ends_replay (complaint_in place number line) ≡ not (stands place line)
-complaint_agrees place number line = by (line_words line) (lines_agree line)
-  where
-    limits : (o : Option Excess) (f : Excess → Complaint) → ((e : Excess) → is_language (f e).rule ≡ false) → ends_replay (option_map f o) ≡ false
-    limits None f is = refl
-    limits (Some e) f is = is e
+same : (b : Bool) → cond b BehindDisk BehindDisk ≡ BehindDisk
+same true = refl
+same false = refl
 
-    placed : (c : ScriptCommand) (b : Bool) → ends_replay (of_command place number line c b) ≡ not b
-    placed c true = limits (excess_in line c) _ (λ e. refl)
-    placed c false = refl
+stays_after : (line : List ℕ) (c : ScriptCommand) → place_by BehindDisk line (Ok (Run c)) ≡ BehindDisk
+stays_after line (command.Disk sectors depth first) = same (is_none (disk_excess (after_first line) sectors depth first))
+stays_after line (command.Write tag lba sectors fill) = refl
+stays_after line (command.Read tag lba sectors) = refl
+stays_after line (command.Raw tag header bytes) = refl
+stays_after line (command.Accept tag) = refl
+stays_after line (command.Serve tags) = refl
+stays_after line (command.Fail tag error lba) = refl
+stays_after line (command.Collect tag number) = refl
+stays_after line command.Recover = refl
+stays_after line (command.Reissue tag) = refl
+stays_after line (command.Reg off) = refl
+stays_after line (command.Ack mask) = refl
+stays_after line (command.Identify word) = refl
+stays_after line command.Flush = refl
+stays_after line (command.Show lba) = refl
+stays_after line command.Journal = refl
+stays_after line command.Trim = refl
 
-    spelled : (o : Option Line) → true ≡ is_some o → ends_replay (of_line place number line o) ≡ not (stands_at place o)
-    spelled None h = cc
-    spelled (Some Skip) h = refl
-    spelled (Some (Run c)) h = placed c (is_in_place place c)
+run_alike : (line : List ℕ) (port : Option PortView) (c : ScriptCommand) (next : Option PortView) (said : Said) → Runs port c next said
+    → place_by (place_of port) line (Ok (Run c)) ≡ place_of next
+run_alike line None c next said ran = first_run line c next said ran
+run_alike line (Some port) c (Some next) said ran = stays_after line c
+run_alike line (Some port) c None said ran = absurd ran
 
-    unspelled : (o : Option Line) → false ≡ is_some o → true ≡ not (stands_at place o)
-    unspelled None h = refl
-    unspelled (Some l) h = cc
+line_alike : (telling : Telling) (line : List ℕ) (port : Option PortView) (l : Line) (next : Option PortView) (added : List ℕ) → RunsLine telling port l next added
+    → place_by (place_of port) line (Ok l) ≡ place_of next
+line_alike telling line port Skip next added ran = sym (ap place_of ran.0)
+line_alike telling line port (Run c) next added ran = run_alike line port c next ran.said ran.ran
 
-    by : (w : Words) → is_ok w ≡ is_some (line_of line) → ends_replay (of_words place number line w) ≡ not (stands place line)
-    by (Err breach) h = unspelled (line_of line) h
-    by (Ok x) h = spelled (line_of line) h
+-- what was taken is the line itself
+is_taken : (b : Bool) (x l : Line) → cond b (Some x) None ≡ Some l → x ≡ l
+is_taken true x l is = ap (λ o. unwrap_or o x) is
+is_taken false x l is = cc
 
--- a column is one of the line's, or the one behind it
-pub complaint_column : (place : Place) (number : ℕ) (line : Text) → IfSome (complaint_in place number line) (λ c. IfSome c.column (IsColumn line))
-complaint_column place number line = by (line_words line)
-  where
-    column : (left : ℕ) → IsColumn line (length line - left + 1)
-    column left = (omega arith, omega arith)
+spelled_alike : (telling : Telling) (line : List ℕ) (port : Option PortView) (read : Result Line Breach) (l : Line) (next : Option PortView) (added : List ℕ)
+    → option_and_then (placed_by port) (result_ok read) ≡ Some l → RunsLine telling port l next added → place_by (place_of port) line read ≡ place_of next
+spelled_alike telling line port (Err breach) l next added is ran = cc
+spelled_alike telling line port (Ok Skip) l next added is ran =
+    ap (λ x. place_by (place_of port) line (Ok x)) (is_taken true Skip l is) ∙ line_alike telling line port l next added ran
+spelled_alike telling line port (Ok (Run c)) l next added is ran =
+    ap (λ x. place_by (place_of port) line (Ok x)) (is_taken (replay.is_in_place port c) (Run c) l is) ∙ line_alike telling line port l next added ran
 
-    limits : (o : Option Excess) (f : Excess → Complaint) → ((e : Excess) → IfSome (f e).column (IsColumn line)) → IfSome (option_map f o) (λ c. IfSome c.column (IsColumn line))
-    limits None f is = tt
-    limits (Some e) f is = is e
+after_alike : (telling : Telling) (line : List ℕ) (port : Option PortView) (l : Line) (next : Option PortView) (added : List ℕ)
+    → placed port line ≡ Some l → RunsLine telling port l next added → place_after (place_of port) line ≡ place_of next
+after_alike telling line port l next added is ran = spelled_alike telling line port (reading line) l next added is ran
 
-    placed : (c : ScriptCommand) (b : Bool) → IfSome (of_command place number line c b) (λ c. IfSome c.column (IsColumn line))
-    placed c true = limits (excess_in line c) _ (λ e. column e.left)
-    placed c false = tt
+stand_alike : (telling : Telling) (port last : Option PortView) (lines : List (List ℕ)) (text : List ℕ) (sheet : Sheet) (number : ℕ) → Adds telling port lines text last
+    → sheet.place ≡ place_of port → (judged_from number sheet lines).place ≡ place_of last
+stand_alike telling port last lines text sheet number (no_line same) is = is
+stand_alike telling port last lines text sheet number (one_more same first l next added more rest end own spelled ran others) is =
+    stand_alike telling next last more rest (judged sheet number first) (number + 1) others
+    (ap (λ p. place_after p first) is ∙ after_alike telling first port l next added spelled ran)
 
-    spelled : (o : Option Line) → IfSome (of_line place number line o) (λ c. IfSome c.column (IsColumn line))
-    spelled None = tt
-    spelled (Some Skip) = tt
-    spelled (Some (Run c)) = placed c (is_in_place place c)
+-- ---- the first line at which replay ends
 
-    by : (w : Words) → IfSome (of_words place number line w) (λ c. IfSome c.column (IsColumn line))
-    by (Err breach) = column breach.left
-    by (Ok x) = spelled (line_of line)
+-- lines that replay has answered have no complaint that ends it: the first such one stands after them
+passed : (telling : Telling) (port last : Option PortView) (lines : List (List ℕ)) (text : List ℕ) (number : ℕ) (tail : List (List ℕ)) → Adds telling port lines text last
+    → first_wrong (place_of port) number (lines ++ tail) ≡ first_wrong (place_of last) (number + length lines) tail
+passed telling port last lines text number tail (no_line same) = ap (λ n. first_wrong (place_of port) n tail) (omega arith)
+passed telling port last lines text number tail (one_more same first l next added more rest end own spelled ran others) =
+    let stops = stop_alike port number first ∙ ap is_none spelled in
+    cond-false (ends_replay (complaint_in (place_of port) number first)) (Some number) _ stops
+    ∙ ap (λ p. first_wrong p (number + 1) (more ++ tail)) (after_alike telling first port l next added spelled ran)
+    ∙ passed telling next last more rest (number + 1) tail others
+    ∙ ap (λ n. first_wrong (place_of last) n tail) (let e : number + 1 + length more ≡ number + suc (length more) = omega arith in e)
+
+none_ends : (telling : Telling) (last : Option PortView) (lines : List (List ℕ)) (text : List ℕ) → Adds telling None lines text last → first_wrong BeforeDisk 1 lines ≡ None
+none_ends telling last lines text answered =
+    ap (first_wrong BeforeDisk 1) (sym (append-nil lines)) ∙ passed telling None last lines text 1 [] answered
+
+first_ends : (telling : Telling) (last : Option PortView) (lines : List (List ℕ)) (text line : List ℕ) (more : List (List ℕ)) → Adds telling None lines text last → placed last line ≡ None
+    → first_wrong BeforeDisk 1 (lines ++ line ∷ more) ≡ Some (length lines + 1)
+first_ends telling last lines text line more answered wrong =
+    let number = 1 + length lines in
+    passed telling None last lines text 1 (line ∷ more) answered
+    ∙ cond-true (ends_replay (complaint_in (place_of last) number line)) (Some number) _ (stop_alike last number line ∙ ap is_none wrong)
+    ∙ ap Some (let e : number ≡ length lines + 1 = omega arith in e)
+
+pub check_agrees : CheckAgrees
+check_agrees = record { stop = stop_alike; stand = stand_alike; none = none_ends; first = first_ends }

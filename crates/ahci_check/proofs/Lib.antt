@@ -1,6 +1,3 @@
 pub mod AgreementLemmas
-pub mod CommandLemmas
-pub mod ServeLemmas
+pub mod ComplaintLemmas
 pub mod SheetLemmas
-pub mod TagsLemmas
-pub mod WordLemmas

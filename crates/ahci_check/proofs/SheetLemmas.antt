@@ -7,7 +7,10 @@ use Rattle.ahci_script.specs.Reading.{MayEnd, ReadsAll, StopsReading, Taken, Tak
 use Rattle.ahci_script.specs.Unread.{MayFail, found_of, unfinished, with_feeds}
 use Rattle.ahci_script.specs.declared.stopped.Stopped.{Stopped}
 use Rattle.ahci_script.specs.declared.stopped.Stopped.TheVariants as stopped
-use Rattle.ahci_check.specs.Complaints.{complaint_in, place_after}
+use Rattle.ahci_script.specs.Lines.{reading}
+use Rattle.ahci_script.specs.declared.breach.Breach.{Breach}
+use Rattle.ahci_script.specs.declared.line.Line.{Line}
+use Rattle.ahci_check.specs.Complaints.{complaint_in, of_reading, place_after, place_by}
 use Rattle.ahci_check.specs.Faults.{fault_of}
 use Rattle.ahci_check.specs.Sheets.{AreLines, EndsCheck, IsChecked, IsPart, Judged, Judges, Keeps, Sheet, blank, judged, judged_from, no_line, one_more, sheet_of, with_complaint, with_last, with_next}
 use Rattle.ahci_check.specs.declared.check_fault.CheckFault.TheVariants.{OutOfMemory, Write}
@@ -24,13 +27,14 @@ abbrev State : Type 0
 State = Sheet × Unit {0}
 
 -- what there is to say of a line was put down
-pub put_judged : {T E : Type 0} (result : Result T E) (seen sheet new : Sheet) (complaint : Option Complaint) (place : Place) (number : ℕ) (line : List ℕ) → seen ≡ sheet
-    → complaint ≡ complaint_in seen.place number line → place ≡ place_after seen.place line
+pub put_judged : {T E : Type 0} (result : Result T E) (seen sheet new : Sheet) (read : Result Line Breach) (complaint : Option Complaint) (place : Place) (number : ℕ) (line : List ℕ)
+    → seen ≡ sheet → read ≡ reading line → complaint ≡ of_reading seen.place number line read → place ≡ place_by seen.place line read
     → OnOk result (new ≡ with_complaint sheet complaint place) → OnOk result (new ≡ judged sheet number line)
-put_judged (Ok x) seen sheet new complaint place number line same is goes put =
-    put ∙ ap (λ k. with_complaint sheet k place) (is ∙ ap (λ (s : Sheet). complaint_in s.place number line) same)
-    ∙ ap (λ p. with_complaint sheet (complaint_in sheet.place number line) p) (goes ∙ ap (λ (s : Sheet). place_after s.place line) same)
-put_judged (Err e) seen sheet new complaint place number line same is goes put = put
+put_judged (Ok x) seen sheet new read complaint place number line same spelled is goes put =
+    put ∙ ap (λ k. with_complaint sheet k place) (is ∙ ap (of_reading seen.place number line) spelled ∙ ap (λ (s : Sheet). complaint_in s.place number line) same)
+    ∙ ap (λ p. with_complaint sheet (complaint_in sheet.place number line) p)
+    (goes ∙ ap (place_by seen.place line) spelled ∙ ap (λ (s : Sheet). place_after s.place line) same)
+put_judged (Err e) seen sheet new read complaint place number line same spelled is goes put = put
 
 -- lines are judged as they are taken
 own : (a b : State) (n : ℕ) (lines : Lines) → Taken Judges a n lines b → AreLines lines

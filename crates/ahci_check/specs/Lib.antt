@@ -1,7 +1,5 @@
-pub mod Breaches
-pub mod Commands
+pub mod Agreement
 pub mod Complaints
 pub mod Faults
-pub mod Kinds
 pub mod Sheets
 pub mod Texts

@@ -8,7 +8,7 @@ use Rattle.ahci_check.specs.Texts.{complaint_text}
 use Rattle.ahci_check.specs.declared.check_fault.CheckFault.{CheckFault}
 use Rattle.ahci_check.specs.declared.check_fault.CheckFault.TheVariants as fault
 use Rattle.ahci_check.specs.declared.complaint.Complaint.{Complaint}
-use Rattle.ahci_check.specs.declared.fault.Fault.TheVariants.{LongLine}
+use Rattle.ahci_script.specs.declared.fault.Fault.TheVariants.{LongLine}
 use Rattle.ahci_check.specs.declared.place.Place.{Place}
 use Rattle.ahci_check.specs.declared.place.Place.TheVariants.{BeforeDisk}
 use Rattle.ahci_check.specs.declared.rule.Rule.TheVariants.{Language}
@@ -37,7 +37,7 @@ with_complaint sheet complaint place =
 abbrev pub judged : Sheet → ℕ → List ℕ → Sheet
 judged sheet number line = with_complaint sheet (complaint_in sheet.place number line) (place_after sheet.place line)
 
--- the complaint about a line of more than 4,096 bytes, at the first byte behind these
+-- the complaint about a line of more than 4,096 bytes, at the first byte after these
 abbrev pub long_line : ℕ → Complaint
 long_line number = record { line = number; column = Some (line_limit + 1); rule = Language LongLine }
 
@@ -71,11 +71,11 @@ pub data AreLines : List (List ℕ) → Type 0 where
   no_line : AreLines []
   one_more : (first : List ℕ) (more : List (List ℕ)) → found_of (first ++ 10 ∷ []) ≡ whole first → AreLines more → AreLines (first ∷ more)
 
--- the sheet with the last line behind these lines
+-- the sheet with the last line after these lines
 abbrev pub with_last : List (List ℕ) → List ℕ → Sheet
 with_last lines rest = with_next (sheet_of lines) (length lines + 1) (last_of rest)
 
--- lines at the front of an input, and what holds of them, of what the reader has left then, and of the bytes behind them
+-- lines at the front of an input, and what holds of them, of what the reader has left then, and of the bytes after them
 pub record Judged (remaining_old : Option (List ℕ)) (P : List (List ℕ) → Option (List ℕ) → List ℕ → Type 0) : Type 0 where
   pub lines : List (List ℕ)
   pub rest : List ℕ

@@ -6,7 +6,7 @@ use std::fmt;
 pub struct Complaint {
     /// The number of the line, counted from 1.
     pub line: u64,
-    /// Where the word begins that breaks the rule: its first byte, counted from 1; a byte over 127 itself; behind the line,
+    /// Where the word begins that breaks the rule: its first byte, counted from 1; a byte over 127 itself; after the line,
     /// where a word is missing; 4,097 in a line that is too long. `None` where it is the whole line, which stands where it may not.
     pub column: Option<u64>,
     /// The rule.

@@ -1,24 +1,11 @@
 ghost use Rattle.std.specs.Prelude.{◌≡◌};
 ghost use Rattle.ahci_check.specs.Complaints.{disk_excess, excess_at, excess_in, transfer_excess};
 
-use crate::breach::behind;
 use crate::limit::Limit;
-use ahci_script::ScriptCommand;
-
-/// How many sectors a disk has at most.
-const MOST_SECTORS: u64 = 131_072;
-
-/// How many slots a port has at most.
-const MOST_SLOTS: u64 = 32;
-
-/// The largest number that the first entry of a journal may have.
-const MOST_FIRST: u64 = 1 << 63;
-
-/// How many sectors a command moves at most.
-const MOST_COUNT: u32 = 65_536;
-
-/// An LBA is below this (ACS-3, READ FPDMA QUEUED: 48 bits).
-const LBA_LIMIT: u64 = 1 << 48;
+use ahci_port::MOST_FIRST;
+use ahci_script::{ScriptCommand, after_first};
+use ncq_core::{MAX_DEPTH, MAX_SECTORS};
+use ncq_journal::{LBA_LIMIT, MAX_COUNT};
 
 /// Where a number passes a limit of the port: how many bytes of the line there are from there on, and the limit.
 #[derive(Clone, Copy, Debug, PartialEq, Eq)]
@@ -46,9 +33,9 @@ pub(crate) fn excess_of(line: &[u8], command: &ScriptCommand<'_>) -> Option<Exce
             sectors,
             depth,
             first,
-        } => disk_excess(behind(line), *sectors, *depth, *first),
+        } => disk_excess(after_first(line), *sectors, *depth, *first),
         ScriptCommand::Write { lba, sectors, .. } | ScriptCommand::Read { lba, sectors, .. } => {
-            transfer_excess(behind(behind(line)), *lba, *sectors)
+            transfer_excess(after_first(after_first(line)), *lba, *sectors)
         }
         _ => None,
     }
@@ -66,14 +53,14 @@ pub(crate) fn disk_excess(
     let number = first.unwrap_or(0);
     if sectors == 0 {
         excess_at(words, Limit::EmptyDisk)
-    } else if sectors > MOST_SECTORS {
+    } else if sectors > u64::from(MAX_SECTORS) {
         excess_at(words, Limit::LargeDisk(sectors))
     } else if depth == 0 {
-        excess_at(behind(words), Limit::NoSlots)
-    } else if depth > MOST_SLOTS {
-        excess_at(behind(words), Limit::ManySlots(depth))
+        excess_at(after_first(words), Limit::NoSlots)
+    } else if depth > u64::from(MAX_DEPTH) {
+        excess_at(after_first(words), Limit::ManySlots(depth))
     } else if number > MOST_FIRST {
-        excess_at(behind(behind(words)), Limit::LargeFirst(number))
+        excess_at(after_first(after_first(words)), Limit::LargeFirst(number))
     } else {
         None
     }
@@ -84,9 +71,9 @@ fn transfer_excess(words: &[u8], lba: u64, sectors: u32) -> Option<Excess>
     ensures { result ≡ transfer_excess words.now lba sectors }
 {
     if sectors == 0 {
-        excess_at(behind(words), Limit::NoSectors)
-    } else if sectors > MOST_COUNT {
-        excess_at(behind(words), Limit::ManySectors(u64::from(sectors)))
+        excess_at(after_first(words), Limit::NoSectors)
+    } else if sectors > MAX_COUNT {
+        excess_at(after_first(words), Limit::ManySectors(u64::from(sectors)))
     } else if lba >= LBA_LIMIT {
         excess_at(words, Limit::FarSector(lba))
     } else {

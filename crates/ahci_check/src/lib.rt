@@ -1,25 +1,21 @@
 //! Scripts judged line by line, with nothing run.
 #![tactic(auto)]
 
-mod breach;
 mod check_fault;
 mod checking;
-mod commands;
 mod complaint;
 mod excess;
-mod fault;
 mod judging;
-mod kind;
+pub mod laws;
 mod limit;
 mod place;
 mod rule;
 mod sheet;
-mod sound;
 
+pub use ahci_script::Fault;
 pub use check_fault::CheckFault;
 pub use checking::check;
 pub use complaint::Complaint;
-pub use fault::Fault;
 pub use judging::complaint_of;
 pub use limit::Limit;
 pub use place::Place;

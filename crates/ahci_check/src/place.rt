@@ -1,12 +1,10 @@
 ghost use Rattle.std.specs.Prelude.{◌≡◌};
-ghost use Rattle.ahci_check.specs.Complaints.{is_in_place, misplaced, place_after};
+ghost use Rattle.ahci_check.specs.Complaints.{is_in_place, misplaced, place_after, place_by};
 
-use crate::breach::behind;
 use crate::excess::disk_excess;
-use crate::fault::Fault;
-use ahci_script::{Line, ScriptCommand, parse};
+use ahci_script::{Breach, Fault, Line, ScriptCommand, after_first, read_line};
 
-/// Where a line of a script stands: a `disk` whose numbers are in the port's limits opens what stands behind it.
+/// Where a line of a script stands: a `disk` whose numbers are in the port's limits opens what stands after it.
 #[derive(Clone, Copy, Debug, PartialEq, Eq)]
 pub enum Place {
     BeforeDisk,
@@ -14,12 +12,19 @@ pub enum Place {
 }
 
 impl Place {
-    /// The place of the next line, behind one without its line feed.
+    /// The place of the next line, after one without its line feed.
     pub fn after(self, line: &[u8]) -> Place
         ensures { result ≡ place_after self line.now }
     {
-        match parse(line) {
-            Some(
+        self.after_reading(line, &read_line(line))
+    }
+
+    /// The place of the next line, after one that was read.
+    pub(crate) fn after_reading(self, line: &[u8], read: &Result<Line<'_>, Breach>) -> Place
+        ensures { result ≡ place_by self line.now read.now }
+    {
+        match read {
+            Ok(
                 Line::Run(
                     ScriptCommand::Disk {
                         sectors,
@@ -27,7 +32,8 @@ impl Place {
                         first,
                     },
                 ),
-            ) if disk_excess(behind(line), sectors, depth, first).is_none() => Place::BehindDisk,
+            ) if disk_excess(after_first(line), *sectors, *depth, *first).is_none() =>
+                Place::BehindDisk,
             _ => self,
         }
     }

@@ -1,5 +1,5 @@
-use crate::fault::Fault;
 use crate::limit::Limit;
+use ahci_script::Fault;
 use std::fmt;
 
 /// The rule that a line breaks.

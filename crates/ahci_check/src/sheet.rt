@@ -1,9 +1,8 @@
 use crate::complaint::Complaint;
-use crate::fault::Fault;
-use crate::judging::complaint_of;
+use crate::judging::judged;
 use crate::place::Place;
 use crate::rule::Rule;
-use ahci_script::{Found, LINE_LIMIT, Output, OutputFailed, TakesLines};
+use ahci_script::{Fault, Found, LINE_LIMIT, Output, OutputFailed, TakesLines, read_line};
 use std::alloc::{AllocError, Allocator};
 use std::io::Write;
 use std::marker::Model;
@@ -54,8 +53,9 @@ impl<A: Allocator + Clone> Sheet<A> {
         ensures ok { OnOk result (self.new ≡ judged self.old number line.now) }
         ensures err { OnErr result (self.new ≡ self.old) }
     {
-        let complaint = complaint_of(self.place, number, line);
-        let place = self.place.after(line);
+        let read = read_line(line);
+        let complaint = judged(self.place, number, line, &read);
+        let place = self.place.after_reading(line, &read);
         self.put(complaint, place)
     }
 
@@ -72,7 +72,7 @@ impl<A: Allocator + Clone> Sheet<A> {
         self.put(Some(complaint), self.place)
     }
 
-    /// Puts down what there is to say of a line, and the place behind it.
+    /// Puts down what there is to say of a line, and the place after it.
     fn put(&mut self, complaint: Option<Complaint>, place: Place) -> Result<(), AllocError>
         ensures ok { OnOk result (self.new ≡ with_complaint self.old complaint place) }
         ensures err { OnErr result (self.new ≡ self.old) }

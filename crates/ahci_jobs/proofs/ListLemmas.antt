@@ -75,7 +75,7 @@ listed_all f r s a b new h =
       end = last.0;
     }
 
--- why a list ends behind good lines
+-- why a list ends after good lines
 abbrev Why : ListFault → Lines → Known → List ℕ → Type 0
 Why (Line n) lines remaining rest = (n ≡ length lines + 1) × IsFaulty remaining rest
 Why (Job i) lines remaining rest = (i ≡ length (asked_in lines)) × IsBadNext remaining rest

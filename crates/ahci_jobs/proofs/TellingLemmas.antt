@@ -63,7 +63,7 @@ Says-trans c d e w x y s t p q = record {
   said = sym (append_assoc w s t) ∙ ap (λ l. l ++ t) p.said ∙ append_assoc p.sent x t ∙ ap (λ l. p.sent ++ l) q.said ∙ sym (append_assoc p.sent q.sent y);
 }
 
--- a first part behind text that was told
+-- a first part after text that was told
 pub part_after : (c d e : Known) (w x s t : Bytes) → Says c w d x s → SaysPart d x e t → SaysPart c w e (s ++ t)
 part_after c d e w x s t p q = record {
   first = p.sent ++ q.first;
@@ -141,7 +141,7 @@ sectors_part c d w port k (suc n) low part =
       | inr more ↦ part_more c d w (sectors_text port n) (sector_text n (sector port.starting port.past n)) (sectors_part c d w port k n more part)
     ]
 
--- two texts were told behind nothing, and all of them is written
+-- two texts were told after nothing, and all of them is written
 pub told_all : (c d e f : Known) (w x y s t all : Bytes) → w ≡ [] → s ++ t ≡ all → Says c w d x s → Says d x e y t → Appends e f y → Appends c f all
 told_all c d e f w x y s t all none is first second sent =
     let says = Says-trans c d e w x y s t first second in

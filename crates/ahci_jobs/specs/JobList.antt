@@ -35,7 +35,7 @@ abbrev pub IsBad : Option JobLine → Type 0
 IsBad (Some (Do j)) = ¬ (IsProper (command_for j))
 IsBad line = ⊥
 
--- why a line of the given number, behind so many jobs, ends a job list
+-- why a line of the given number, after so many jobs, ends a job list
 abbrev pub IsLineFault : Option JobLine → ℕ → ℕ → ListFault → Type 0
 IsLineFault line number jobs (fault.Line n) = (n ≡ number) × (line ≡ None)
 IsLineFault line number jobs (fault.Job i) = (i ≡ jobs) × IsBad line
@@ -84,8 +84,8 @@ IsFaulty remaining unread =
 abbrev pub IsBadNext : Option (List ℕ) → List ℕ → Type 0
 IsBadNext remaining unread = (line : List ℕ) × IsNext remaining unread line × IsBad (job_line_of line)
 
--- good lines at the front of an input, and what holds behind them: of the lines, of what the reader has left, and of the
--- bytes behind the lines
+-- good lines at the front of an input, and what holds after them: of the lines, of what the reader has left, and of the
+-- bytes after the lines
 pub record ListedFirst (remaining_old : Option (List ℕ)) (P : List (List ℕ) → Option (List ℕ) → List ℕ → Type 0) : Type 0 where
   pub lines : List (List ℕ)
   pub rest : List ℕ

@@ -48,7 +48,7 @@ sectors_text port (suc n) = sectors_text port n ++ sector_text n (sector port.st
 abbrev pub run_text : PortView → List Received → List ℕ
 run_text port replies = replies_text replies ++ sectors_text port (sectors_in port)
 
--- text comes behind what waits: some first part of both is written, and the rest waits
+-- text comes after what waits: some first part of both is written, and the rest waits
 pub record Says (contents_old : Option (List ℕ)) (waiting_old : List ℕ) (contents_new : Option (List ℕ)) (waiting_new text : List ℕ) : Type 0 where
   pub sent : List ℕ
   pub written : Appends contents_old contents_new sent

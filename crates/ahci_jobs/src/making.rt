@@ -12,7 +12,7 @@ use ncq_core::{Bytes, LBA_LIMIT, MAX_COUNT, Op};
 use std::alloc::{AllocError, Allocator};
 
 /// How many bytes a sector has.
-const SECTOR: usize = 512;
+pub(crate) const SECTOR: usize = 512;
 
 /// Whether a job's command can be issued.
 fn is_good(job: Job) -> bool

@@ -6,6 +6,7 @@ ghost use Rattle.ahci_jobs.specs.RunJobs.{EndsRun, IsUndone, RunsJobs, blank_por
 
 use crate::job_list::listed;
 use crate::jobs_fault::JobsFault;
+use crate::making::SECTOR;
 use crate::telling::tell_run;
 use ahci_driver::{Chooser, Open, RunEnd, RunFault, run};
 use ahci_port::Port;
@@ -14,9 +15,6 @@ use std::alloc::{AllocError, Allocator};
 use std::io::{Read, Write};
 use std::sync::Wait;
 use std::thread::Threads;
-
-/// How many bytes a sector has.
-const SECTOR: usize = 512;
 
 /// The program's fault, where a run that has begun was given up.
 fn given_up(fault: RunFault) -> JobsFault

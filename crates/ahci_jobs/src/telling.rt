@@ -9,14 +9,12 @@ ghost use Rattle.ahci_driver.specs.Received.{received_of};
 ghost use Rattle.ahci_jobs.specs.Results.{IsTold, Says, SaysPart, fed, is_blank, line_for, replies_text, run_text, sector_text, sectors_text};
 
 use crate::jobs_fault::JobsFault;
+use crate::making::SECTOR;
 use ahci_driver::{Receipt, RunEnd};
 use ahci_port::{Outcome, Port};
 use ahci_script::{Output, ResultLine};
 use std::alloc::Allocator;
 use std::io::Write;
-
-/// How many bytes a sector has.
-const SECTOR: usize = 512;
 
 /// Appends a line to what waits, and sends it once enough waits.
 fn tell<W: Write, A: Allocator>(

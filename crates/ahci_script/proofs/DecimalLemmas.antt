@@ -9,7 +9,7 @@ pub digits_grow : (n : ℕ) (xs : List ℕ) → n ≤ fold with_digit n xs
 digits_grow n [] = omega arith
 digits_grow n (x ∷ xs) = omega (arith, digits_grow (with_digit n x) xs)
 
--- the next digit of the rest goes behind the number
+-- the next digit of the rest goes after the number
 pub fold-drop-digit : (n i : ℕ) (xs : List ℕ) → i < length xs → fold with_digit n (drop i xs) ≡ fold with_digit (with_digit n (get_or xs i 0)) (drop (i + 1) xs)
 fold-drop-digit n i xs h = grind (arith, common_steps)
 

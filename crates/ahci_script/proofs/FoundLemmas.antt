@@ -58,7 +58,7 @@ with_feeds-append [] ms = refl
 with_feeds-append (l ∷ ls) ms =
     rw (with_feeds-append ls ms) (sym (append_assoc l (10 ∷ with_feeds ls) (with_feeds ms)))
 
--- text up to its first line feed, that line feed, and the text behind it
+-- text up to its first line feed, that line feed, and the text after it
 pub cut_at_feed : (u : Bytes) (e : ℕ) → line_end u ≡ Some e → u ≡ take e u ++ 10 ∷ drop (e + 1) u
 cut_at_feed u e found =
     let at = position-Some (λ b. b == 10) u e 0 found in
@@ -104,8 +104,8 @@ placed_at at len n is within =
     ap (λ b. cond b (Some at) None) (lt-ltb at len (omega arith)) ∙ ap Some is
 
 -- with its line feed a line ends where it ended
-feed_behind : (t : Bytes) → position_or_len (λ b. b == 10) t ≡ length t → line_end (t ++ 10 ∷ []) ≡ Some (length t)
-feed_behind t none =
+feed_after : (t : Bytes) → position_or_len (λ b. b == 10) t ≡ length t → line_end (t ++ 10 ∷ []) ≡ Some (length t)
+feed_after t none =
     let at : position_or_len (λ b. b == 10) (t ++ 10 ∷ []) ≡ length t = position_or_len_push (λ b. b == 10) t 10 ∙ ap (λ n. cond (n == length t) (length t + 0) n) none ∙ same_end
     (length t == length t) (length t) in
     placed_at (position_or_len (λ b. b == 10) (t ++ 10 ∷ [])) (length (t ++ 10 ∷ [])) (length t) at (omega (arith, length-append t (10 ∷ [])))
@@ -113,7 +113,7 @@ feed_behind t none =
 -- so it is found whole
 fed_line : (t : Bytes) → position_or_len (λ b. b == 10) t ≡ length t → nat_le (length t) 4096 ≡ true → found_of (t ++ 10 ∷ []) ≡ whole t
 fed_line t none short =
-    ap (λ o. found_at o (t ++ 10 ∷ [])) (feed_behind t none) ∙ ap (λ b. cond b (whole (take (length t) (t ++ 10 ∷ []))) too_long) short ∙ ap whole (take-append_seam t (10 ∷ []))
+    ap (λ o. found_at o (t ++ 10 ∷ [])) (feed_after t none) ∙ ap (λ b. cond b (whole (take (length t) (t ++ 10 ∷ []))) too_long) short ∙ ap whole (take-append_seam t (10 ∷ []))
 
 -- where a whole line was found, it ends at the first line feed
 pub found_line : (u l : Bytes) → whole l ≡ found_of u → (e : ℕ) × (line_end u ≡ Some e) × (l ≡ take e u) × (length l ≡ e) × (found_of (take e u ++ 10 ∷ []) ≡ whole (take e u))

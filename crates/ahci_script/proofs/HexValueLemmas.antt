@@ -10,7 +10,7 @@ fold-none : (xs : List ℕ) → fold with_hex_digit None xs ≡ None
 fold-none [] = refl
 fold-none (x ∷ xs) = fold-none xs
 
--- the next digit of the rest goes behind the number
+-- the next digit of the rest goes after the number
 fold-drop-hex : (number : Option ℕ) (i : ℕ) (xs : List ℕ) → i < length xs
     → fold with_hex_digit number (drop i xs) ≡ fold with_hex_digit (with_hex_digit number (get_or xs i 0)) (drop (i + 1) xs)
 fold-drop-hex number i xs h = ap (fold with_hex_digit number) (drop_more xs i 0 h)

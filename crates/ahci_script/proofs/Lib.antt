@@ -2,7 +2,6 @@ pub mod DecimalLemmas
 pub mod HexBytesLemmas
 pub mod HexValueLemmas
 pub mod PrintingLemmas
-pub mod WordsLemmas
 pub mod TagsLemmas
 pub mod EntriesLemmas
 pub mod ReadBackLemmas

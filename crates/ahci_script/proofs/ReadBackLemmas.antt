@@ -1,29 +1,9 @@
 -- Every printed command is read back, command by command.
-use Rattle.std.proofs.Common.{
-  ◌≡◌,
-  ℕ,
-  ◌^◌,
-  ◌<◌,
-  true,
-  List,
-  [],
-  ◌∷◌,
-  ◌++◌,
-  length,
-  refl,
-  ap,
-  ◌∙◌,
-  Option,
-  Some,
-  None,
-  codes,
-  option_and_then,
-  arith,
-}
+use Rattle.std.proofs.Common.{◌≡◌, ℕ, ◌^◌, ◌<◌, true, List, [], ◌∷◌, ◌++◌, length, refl, ap, ◌∙◌, Some, None, Result, Ok, codes, arith}
 use Rattle.std.specs.Fmt.{decimal}
 use Rattle.std.specs.List.{All}
 use Rattle.ahci_script.specs.Answers.{hex_of, numbers_text}
-use Rattle.ahci_script.specs.HexBytes.{header_of, hex_bytes_of}
+use Rattle.ahci_script.specs.Breaches.{◌>>=◌, seen_in}
 use Rattle.ahci_script.specs.Lines.{
   AreTags,
   accept_of,
@@ -33,22 +13,23 @@ use Rattle.ahci_script.specs.Lines.{
   disk_of,
   fail_of,
   identify_of,
-  line_of,
   named,
-  port_at,
-  port_of,
+  named_more,
+  number_if_any,
   raw_of,
   read_of,
+  reading,
   reg_of,
   reissue_of,
   serve_of,
   show_of,
-  tags_of,
   write_of,
 }
-use Rattle.ahci_script.specs.Number.{byte_of, decimal_below, decimal_of, hexadecimal_of, sectors_limit}
+use Rattle.ahci_script.specs.Number.{sectors_limit}
 use Rattle.ahci_script.specs.Printing.{IsReadBack, before, hex_bytes}
-use Rattle.ahci_script.specs.Words.{cut_of}
+use Rattle.ahci_script.specs.Words.{Rest, ends, first_at, word_of}
+use Rattle.ahci_script.specs.declared.breach.Breach.{Breach}
+use Rattle.ahci_script.specs.declared.fault.Fault.{Fault}
 use Rattle.ahci_script.specs.declared.line.ScriptCommand.{ScriptCommand}
 use Rattle.ahci_script.specs.declared.line.ScriptCommand.TheVariants.{
   Disk,
@@ -71,137 +52,120 @@ use Rattle.ahci_script.specs.declared.line.ScriptCommand.TheVariants.{
 }
 use Rattle.ahci_script.specs.declared.line.Line.TheVariants as line
 use Rattle.ahci_script.proofs.PrintingLemmas.{
-  byte-back,
-  byte-word,
-  bytes-word,
+  Spells,
+  byte-spelled,
+  bytes-spelled,
   cut-before,
-  cut-word,
-  decimal-back,
-  decimal-word,
-  decimal_below-back,
-  header-back,
-  hex_bytes-back,
-  hexadecimal-back,
+  header-spelled,
   is_word,
+  number-spelled,
+  page_word-spelled,
+  register-spelled,
+  sectors-spelled,
+  tag-spelled,
+  word-before,
+  word-last,
 }
 use Rattle.ahci_script.proofs.TagsLemmas.{tags-back}
 
 -- a value that is found goes on
-then : {A B : Type 0} (o : Option A) (x : A) (f : A → Option B) (y : Option B) → o ≡ Some x → f x ≡ y → option_and_then f o ≡ y
-then o x f y found next = ap (option_and_then f) found ∙ next
+then : {T U E : Type 0} (r : Result T E) (x : T) (f : T → Result U E) (y : Result U E) → r ≡ Ok x → f x ≡ y → (r >>= f) ≡ y
+then r x f y found next = ap (λ k. k >>= f) found ∙ next
+
+-- and so does a word, where words stand after it
+word : {T U : Type 0} {spelled : List ℕ → Result T Fault} {text : List ℕ} {value : T} (others : List ℕ) (f : T × Rest → Result U Breach) (y : Result U Breach)
+    → Spells spelled text value → f (value, Some others) ≡ y → (word_of spelled (Some (before text others)) >>= f) ≡ y
+word {spelled} {text} {value} others f y s next = then (word_of spelled (Some (before text others))) (value, Some others) f y (word-before others s) next
+
+-- and where it is the last
+last : {T U : Type 0} {spelled : List ℕ → Result T Fault} {text : List ℕ} {value : T} (f : T × Rest → Result U Breach) (y : Result U Breach)
+    → Spells spelled text value → f (value, None) ≡ y → (word_of spelled (Some text) >>= f) ≡ y
+last {spelled} {text} {value} f y s next = then (word_of spelled (Some text)) (value, None) f y (word-last s) next
 
 -- a command by its name
-by_name : (name arguments : List ℕ) (command : ScriptCommand) → is_word name ≡ true
-    → command_of (before name arguments) ≡ option_and_then (λ c. named c.0 c.1) (cut_of (before name arguments)) → named name arguments ≡ Some command
-    → option_and_then (λ c. Some (line.Run c)) (command_of (before name arguments)) ≡ Some (line.Run command)
-by_name name arguments command word unnamed its =
-    ap (option_and_then (λ c. Some (line.Run c)))
-    (unnamed ∙ then (cut_of (before name arguments)) (name, arguments) (λ c. named c.0 c.1) (Some command) (cut-before name arguments word) its)
+by_name : (name words : List ℕ) (command : ScriptCommand) → is_word name ≡ true
+    → reading (before name words) ≡ seen_in (before name words) (command_of (before name words) >>= λ c. Ok (line.Run c))
+    → named (before name words) name (Some words) ≡ Ok command → reading (before name words) ≡ Ok (line.Run command)
+by_name name words command whole is its =
+    let text = before name words in
+    let first = ap (λ c. first_at c text) (cut-before name words whole) in
+    is ∙ ap (λ f. seen_in text (named text f.0 f.1 >>= λ c. Ok (line.Run c))) first ∙ ap (λ r. seen_in text (r >>= λ c. Ok (line.Run c))) its
 
--- a word is cut off
-cut_off : {B : Type 0} (word others : List ℕ) (f : List ℕ × List ℕ → Option B) (y : Option B) → is_word word ≡ true → f (word, others) ≡ y
-    → option_and_then f (cut_of (before word others)) ≡ y
-cut_off word others f y is next = then (cut_of (before word others)) (word, others) f y (cut-before word others is) next
+disk-back : (sectors depth : ℕ) → sectors < 2 ^ 64 → depth < 2 ^ 64 → disk_of (Some (before (decimal sectors) (decimal depth))) ≡ Ok (Disk sectors depth None)
+disk-back sectors depth s d = word (decimal depth) _ _ (number-spelled sectors s) (last _ _ (number-spelled depth d) refl)
 
-tag-word : (tag : ℕ) → tag < 32 → is_word (decimal tag) ≡ true
-tag-word tag h = decimal-word tag (omega arith)
+any-back : (n : ℕ) → n < 2 ^ 64 → number_if_any (Some (decimal n)) ≡ Ok (Some n)
+any-back n h = last (λ w. ends w.1 >>= λ end. Ok (Some w.0)) (Ok (Some n)) (number-spelled n h) refl
 
-tag-back : {B : Type 0} (tag : ℕ) (f : ℕ → Option B) (y : Option B) → tag < 32 → f tag ≡ y
-    → option_and_then f (decimal_below 32 (decimal tag)) ≡ y
-tag-back tag f y h next = then (decimal_below 32 (decimal tag)) tag f y (decimal_below-back 32 tag (omega arith) h) next
-
-number-back : {B : Type 0} (n : ℕ) (f : ℕ → Option B) (y : Option B) → n < 2 ^ 64 → f n ≡ y → option_and_then f (decimal_of (decimal n)) ≡ y
-number-back n f y h next = then (decimal_of (decimal n)) n f y (decimal-back n h) next
-
--- a depth alone
-port-back : (depth : ℕ) → depth < 2 ^ 64 → port_of (decimal depth) ≡ Some (depth, None)
-port-back depth d =
-    ap (λ c. port_at c (decimal depth)) (cut-word (decimal depth) (decimal-word depth d)) ∙ number-back depth _ _ d refl
-
--- a depth, and behind it a first number
-port_with-back : (depth first : ℕ) → depth < 2 ^ 64 → first < 2 ^ 64 → port_of (before (decimal depth) (decimal first)) ≡ Some (depth, Some first)
-port_with-back depth first d f =
-    let words = before (decimal depth) (decimal first) in
-    ap (λ c. port_at c words) (cut-before (decimal depth) (decimal first) (decimal-word depth d))
-    ∙ number-back depth _ _ d (number-back first _ _ f refl)
-
-disk-back : (sectors depth : ℕ) (first : Option ℕ) (words : List ℕ) → sectors < 2 ^ 64 → port_of words ≡ Some (depth, first)
-    → disk_of (before (decimal sectors) words) ≡ Some (Disk sectors depth first)
-disk-back sectors depth first words s port =
-    cut_off (decimal sectors) words _ _ (decimal-word sectors s)
-    (number-back sectors _ _ s (then (port_of words) (depth, first) _ _ port refl))
+disk_with-back : (sectors depth first : ℕ) → sectors < 2 ^ 64 → depth < 2 ^ 64 → first < 2 ^ 64
+    → disk_of (Some (before (decimal sectors) (before (decimal depth) (decimal first)))) ≡ Ok (Disk sectors depth (Some first))
+disk_with-back sectors depth first s d f =
+    word (before (decimal depth) (decimal first)) _ _ (number-spelled sectors s)
+    (word (decimal first) _ _ (number-spelled depth d)
+    (ap (λ r. r >>= λ o. Ok (Disk sectors depth o)) (any-back first f)))
 
 write-back : (tag lba sectors fill : ℕ) → tag < 32 → lba < 2 ^ 64 → sectors < sectors_limit → fill < 256
-    → write_of (before (decimal tag) (before (decimal lba) (before (decimal sectors) (hex_of 2 fill)))) ≡ Some (Write tag lba sectors fill)
+    → write_of (Some (before (decimal tag) (before (decimal lba) (before (decimal sectors) (hex_of 2 fill))))) ≡ Ok (Write tag lba sectors fill)
 write-back tag lba sectors fill t l n b =
-    cut_off (decimal tag) (before (decimal lba) (before (decimal sectors) (hex_of 2 fill))) _ _ (tag-word tag t)
-    (cut_off (decimal lba) (before (decimal sectors) (hex_of 2 fill)) _ _ (decimal-word lba l)
-    (cut_off (decimal sectors) (hex_of 2 fill) _ _ (decimal-word sectors (omega arith))
-    (tag-back tag _ _ t (number-back lba _ _ l
-    (then (decimal_below sectors_limit (decimal sectors)) sectors _ _ (decimal_below-back sectors_limit sectors (omega arith) n)
-    (then (byte_of (hex_of 2 fill)) fill _ _ (byte-back fill b) refl))))))
+    word (before (decimal lba) (before (decimal sectors) (hex_of 2 fill))) _ _ (tag-spelled tag t)
+    (word (before (decimal sectors) (hex_of 2 fill)) _ _ (number-spelled lba l)
+    (word (hex_of 2 fill) _ _ (sectors-spelled sectors n) (last _ _ (byte-spelled fill b) refl)))
 
 read-back : (tag lba sectors : ℕ) → tag < 32 → lba < 2 ^ 64 → sectors < sectors_limit
-    → read_of (before (decimal tag) (before (decimal lba) (decimal sectors))) ≡ Some (Read tag lba sectors)
+    → read_of (Some (before (decimal tag) (before (decimal lba) (decimal sectors)))) ≡ Ok (Read tag lba sectors)
 read-back tag lba sectors t l n =
-    cut_off (decimal tag) (before (decimal lba) (decimal sectors)) _ _ (tag-word tag t)
-    (cut_off (decimal lba) (decimal sectors) _ _ (decimal-word lba l)
-    (tag-back tag _ _ t (number-back lba _ _ l
-    (then (decimal_below sectors_limit (decimal sectors)) sectors _ _ (decimal_below-back sectors_limit sectors (omega arith) n) refl))))
+    word (before (decimal lba) (decimal sectors)) _ _ (tag-spelled tag t)
+    (word (decimal sectors) _ _ (number-spelled lba l) (last _ _ (sectors-spelled sectors n) refl))
 
 fail-back : (tag error lba : ℕ) → tag < 32 → error < 256 → lba < 2 ^ 64
-    → fail_of (before (decimal tag) (before (hex_of 2 error) (decimal lba))) ≡ Some (Fail tag error lba)
+    → fail_of (Some (before (decimal tag) (before (hex_of 2 error) (decimal lba)))) ≡ Ok (Fail tag error lba)
 fail-back tag error lba t e l =
-    cut_off (decimal tag) (before (hex_of 2 error) (decimal lba)) _ _ (tag-word tag t)
-    (cut_off (hex_of 2 error) (decimal lba) _ _ (byte-word error)
-    (tag-back tag _ _ t (then (byte_of (hex_of 2 error)) error _ _ (byte-back error e) (number-back lba _ _ l refl))))
+    word (before (hex_of 2 error) (decimal lba)) _ _ (tag-spelled tag t)
+    (word (decimal lba) _ _ (byte-spelled error e) (last _ _ (number-spelled lba l) refl))
 
-collect-back : (tag number : ℕ) → tag < 32 → number < 2 ^ 64 → collect_of (before (decimal tag) (decimal number)) ≡ Some (Collect tag number)
-collect-back tag number t n = cut_off (decimal tag) (decimal number) _ _ (tag-word tag t) (tag-back tag _ _ t (number-back number _ _ n refl))
+collect-back : (tag number : ℕ) → tag < 32 → number < 2 ^ 64 → collect_of (Some (before (decimal tag) (decimal number))) ≡ Ok (Collect tag number)
+collect-back tag number t n = word (decimal number) _ _ (tag-spelled tag t) (last _ _ (number-spelled number n) refl)
 
 raw-back : (tag : ℕ) (header bytes : List ℕ) → tag < 32 → length header ≡ 32 → All (λ b. b < 256) header → 0 < length bytes
     → All (λ b. b < 256) bytes
-    → raw_of (before (decimal tag) (before (hex_bytes header) (hex_bytes bytes))) ≡ Some (Raw tag header bytes)
+    → raw_of (Some (before (decimal tag) (before (hex_bytes header) (hex_bytes bytes)))) ≡ Ok (Raw tag header bytes)
 raw-back tag header bytes t size heads some all =
-    cut_off (decimal tag) (before (hex_bytes header) (hex_bytes bytes)) _ _ (tag-word tag t)
-    (cut_off (hex_bytes header) (hex_bytes bytes) _ _ (bytes-word header)
-    (tag-back tag _ _ t
-    (then (header_of (hex_bytes header)) header _ _ (header-back header heads size)
-    (then (hex_bytes_of (hex_bytes bytes)) bytes _ _ (hex_bytes-back bytes all some) refl))))
+    word (before (hex_bytes header) (hex_bytes bytes)) _ _ (tag-spelled tag t)
+    (word (hex_bytes bytes) _ _ (header-spelled header heads size) (last _ _ (bytes-spelled bytes all some) refl))
 
-accept-back : (tag : ℕ) → tag < 32 → accept_of (decimal tag) ≡ Some (Accept tag)
-accept-back tag h = tag-back tag _ _ h refl
+accept-back : (tag : ℕ) → tag < 32 → accept_of (Some (decimal tag)) ≡ Ok (Accept tag)
+accept-back tag h = last _ _ (tag-spelled tag h) refl
 
-serve-back : (t : ℕ) (ts : List ℕ) → AreTags (t ∷ ts) → serve_of (decimal t ++ numbers_text ts) ≡ Some (Serve (record { items = t ∷ ts }))
-serve-back t ts are = then (tags_of (decimal t ++ numbers_text ts)) (t ∷ ts) _ _ (tags-back t ts are) refl
+serve-back : (t : ℕ) (ts : List ℕ) → AreTags (t ∷ ts) → serve_of (Some (decimal t ++ numbers_text ts)) ≡ Ok (Serve (record { items = t ∷ ts }))
+serve-back t ts are = ap (λ r. r >>= λ tags. Ok (Serve (record { items = tags }))) (tags-back t ts are)
 
-serve-line : (tags : List ℕ) → AreTags tags → line_of (codes "serve" ++ numbers_text tags) ≡ Some (line.Run (Serve (record { items = tags })))
+serve-line : (tags : List ℕ) → AreTags tags → reading (codes "serve" ++ numbers_text tags) ≡ Ok (line.Run (Serve (record { items = tags })))
+unfolding named named_more
 serve-line [] are = absurd (omega (arith, are.some))
 serve-line (t ∷ ts) are = by_name (codes "serve") (decimal t ++ numbers_text ts) (Serve (record { items = t ∷ ts })) refl refl (serve-back t ts are)
 
-reissue-back : (tag : ℕ) → tag < 32 → reissue_of (decimal tag) ≡ Some (Reissue tag)
-reissue-back tag h = tag-back tag _ _ h refl
+reissue-back : (tag : ℕ) → tag < 32 → reissue_of (Some (decimal tag)) ≡ Ok (Reissue tag)
+reissue-back tag h = last _ _ (tag-spelled tag h) refl
 
-reg-back : (off : ℕ) → off < 2 ^ 32 → reg_of (hex_of 8 off) ≡ Some (Reg off)
-reg-back off h = then (hexadecimal_of (hex_of 8 off)) off _ _ (hexadecimal-back off h) refl
+reg-back : (off : ℕ) → off < 2 ^ 32 → reg_of (Some (hex_of 8 off)) ≡ Ok (Reg off)
+reg-back off h = last _ _ (register-spelled off h) refl
 
-ack-back : (mask : ℕ) → mask < 2 ^ 32 → ack_of (hex_of 8 mask) ≡ Some (Ack mask)
-ack-back mask h = then (hexadecimal_of (hex_of 8 mask)) mask _ _ (hexadecimal-back mask h) refl
+ack-back : (mask : ℕ) → mask < 2 ^ 32 → ack_of (Some (hex_of 8 mask)) ≡ Ok (Ack mask)
+ack-back mask h = last _ _ (register-spelled mask h) refl
 
-identify-back : (word : ℕ) → word < 256 → identify_of (decimal word) ≡ Some (Identify word)
-identify-back word h = then (decimal_below 256 (decimal word)) word _ _ (decimal_below-back 256 word (omega arith) h) refl
+identify-back : (w : ℕ) → w < 256 → identify_of (Some (decimal w)) ≡ Ok (Identify w)
+identify-back w h = last _ _ (page_word-spelled w h) refl
 
-show-back : (lba : ℕ) → lba < 2 ^ 64 → show_of (decimal lba) ≡ Some (Show lba)
-show-back lba h = number-back lba _ _ h refl
+show-back : (lba : ℕ) → lba < 2 ^ 64 → show_of (Some (decimal lba)) ≡ Ok (Show lba)
+show-back lba h = last _ _ (number-spelled lba h) refl
 
 pub read_back : IsReadBack
+unfolding named named_more
 read_back (Disk sectors depth None) h =
-    by_name (codes "disk") (before (decimal sectors) (decimal depth)) (Disk sectors depth None) refl refl
-    (disk-back sectors depth None (decimal depth) h.0 (port-back depth h.1))
+    by_name (codes "disk") (before (decimal sectors) (decimal depth)) (Disk sectors depth None) refl refl (disk-back sectors depth h.0 h.1)
 read_back (Disk sectors depth (Some first)) h =
-    let words = before (decimal depth) (decimal first) in
-    by_name (codes "disk") (before (decimal sectors) words) (Disk sectors depth (Some first)) refl refl
-    (disk-back sectors depth (Some first) words h.0 (port_with-back depth first h.1 h.2))
+    by_name (codes "disk") (before (decimal sectors) (before (decimal depth) (decimal first))) (Disk sectors depth (Some first)) refl refl
+    (disk_with-back sectors depth first h.0 h.1 h.2)
 read_back (Write tag lba sectors fill) h =
     by_name (codes "write") (before (decimal tag) (before (decimal lba) (before (decimal sectors) (hex_of 2 fill)))) (Write tag lba sectors fill) refl refl
     (write-back tag lba sectors fill h.0 h.1 h.2 h.3)
@@ -221,7 +185,7 @@ read_back Recover h = refl
 read_back (Reissue tag) h = by_name (codes "reissue") (decimal tag) (Reissue tag) refl refl (reissue-back tag h)
 read_back (Reg off) h = by_name (codes "reg") (hex_of 8 off) (Reg off) refl refl (reg-back off h)
 read_back (Ack mask) h = by_name (codes "ack") (hex_of 8 mask) (Ack mask) refl refl (ack-back mask h)
-read_back (Identify word) h = by_name (codes "identify") (decimal word) (Identify word) refl refl (identify-back word h)
+read_back (Identify w) h = by_name (codes "identify") (decimal w) (Identify w) refl refl (identify-back w h)
 read_back Flush h = refl
 read_back (Show lba) h = by_name (codes "show") (decimal lba) (Show lba) refl refl (show-back lba h)
 read_back Journal h = refl

@@ -1,11 +1,11 @@
 -- Lemmas about how an input is read.
-use Rattle.std.proofs.Common.{◌≡◌, ℕ, ◌+◌, Bool, true, false, List, [], ◌∷◌, ◌++◌, Option, Some, MatchBool, length, take, drop, refl, sym, ap, ◌∙◌, subst, inl, inr, append_assoc, append-nil, length-append, arith}
+use Rattle.std.proofs.Common.{◌≡◌, ℕ, ◌+◌, Bool, true, false, List, [], ◌∷◌, ◌++◌, Option, MatchBool, length, take, drop, refl, sym, ap, ◌∙◌, subst, inl, inr, append_assoc, append-nil, length-append, arith}
 use Rattle.std.proofs.KnownBytes.{Consumes-nil, Consumes-trans}
 use Rattle.std.specs.Io.KnownBytes.{Consumes, IsAtEnd}
 use Rattle.ahci_script.proofs.FoundLemmas.{Bytes, cut_at_feed, found_line, with_feeds-append}
 use Rattle.ahci_script.specs.Reading.{Comes, MayEnd, ReadsAll, Step, StopsReading, Taken, TakenFirst, last_by, last_of, more_input, nothing, one_more}
 use Rattle.ahci_script.specs.Standing.{Ends, Halts, Reads, Stand}
-use Rattle.ahci_script.specs.Unread.{Begins, Grows, MayFail, Unread, found_of, line_end, too_long, unfinished, whole, with_feeds}
+use Rattle.ahci_script.specs.Unread.{Begins, Grows, MayFail, Unread, found_of, too_long, unfinished, whole, with_feeds}
 use Rattle.ahci_script.specs.declared.stopped.Stopped.{Stopped}
 use Rattle.ahci_script.specs.declared.stopped.Stopped.TheVariants as stopped
 
@@ -122,7 +122,7 @@ halts_reading Takes Refuses old new r s line a b takes is failed same =
     subst (λ (i : Unread). Halts Takes Refuses (parts r old.bytes old.came line a) (parts s i.bytes i.came line b) stopped.Read) (sym same)
     (r, Reads-asked (parts r old.bytes old.came line a) b takes, is, failed)
 
--- a fault behind a part that went well
+-- a fault after a part that went well
 pub halts_after : {S F : Type 0} (Takes : Step S) (Refuses : Refusal S F) (f : Stopped F) (a b c : Stand S) → Reads Takes a b → Halts Takes Refuses b c f
     → Halts Takes Refuses a c f
 halts_after Takes Refuses stopped.Read a b c p s = (s.0, Reads-trans a b (record c { remaining = s.0 }) p s.1, s.2, s.3)

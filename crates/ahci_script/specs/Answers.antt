@@ -39,7 +39,7 @@ hex_of zero number = []
 hex_of (suc digits) number =
     hex_of digits (number / 16) ++ digit_glyph false (number % 16) ∷ []
 
--- numbers, each in decimal and behind a space
+-- numbers, each in decimal and after a space
 abbrev pub numbers_text : List ℕ → List ℕ
 numbers_text [] = []
 numbers_text (number ∷ numbers) = 32 ∷ (decimal number ++ numbers_text numbers)
@@ -48,7 +48,7 @@ numbers_text (number ∷ numbers) = 32 ∷ (decimal number ++ numbers_text numbe
 abbrev pub entries_between : ℕ → ℕ → List ℕ
 entries_between first end = range_with_len first (end - first)
 
--- a sector among these bytes, by its first byte and behind a space
+-- a sector among these bytes, by its first byte and after a space
 abbrev pub sector_text : List ℕ → ℕ → List ℕ
 sector_text bytes i = 32 ∷ hex_of 2 (slice_index bytes (512 * i))
 

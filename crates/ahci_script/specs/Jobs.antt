@@ -1,45 +1,50 @@
--- The lines of a job list: what each of them spells.
-use Rattle.std.specs.Prelude.{ℕ, ◌==◌, List, [], ◌∷◌, Option, Some, None, codes, if◌then◌else◌}
+-- The lines of a job list: what each of them spells. A job's words are those of a script.
+use Rattle.std.specs.Prelude.{ℕ, ◌==◌, List, [], ◌∷◌, Option, Result, Ok, Err, codes, if◌then◌else◌}
+use Rattle.std.specs.Result.{result_ok}
 use Rattle.std.specs.Str.{bytes_eq}
+use Rattle.ahci_script.specs.declared.breach.Breach.{Breach}
 use Rattle.ahci_script.specs.declared.job.Job.{Job}
 use Rattle.ahci_script.specs.declared.job.Job.TheVariants.{Write, Read}
 use Rattle.ahci_script.specs.declared.job.JobLine.{JobLine}
 use Rattle.ahci_script.specs.declared.job.JobLine.TheVariants.{Skip, Do}
-use Rattle.ahci_script.specs.Lines.{◌>>=◌, is_ascii, sectors_of}
-use Rattle.ahci_script.specs.Number.{byte_of, decimal_of}
-use Rattle.ahci_script.specs.Words.{cut_of}
+use Rattle.ahci_script.specs.Breaches.{◌>>=◌, comment_of}
+use Rattle.ahci_script.specs.Lines.{unnamed}
+use Rattle.ahci_script.specs.Number.{byte_of, decimal_of, sectors_of}
+use Rattle.ahci_script.specs.Words.{Rest, ends, first_of, word_of}
 
 -- write LBA N BB
-abbrev pub write_job_of : List ℕ → Option Job
-write_job_of arguments = do
-  l ← cut_of arguments
-  n ← cut_of l.1
-  lba ← decimal_of l.0
-  sectors ← sectors_of n.0
-  fill ← byte_of n.1
-  Some (Write lba sectors fill)
+abbrev pub write_job_of : Rest → Result Job Breach
+write_job_of words = do
+  l ← word_of decimal_of words
+  n ← word_of sectors_of l.1
+  b ← word_of byte_of n.1
+  end ← ends b.1
+  Ok (Write l.0 n.0 b.0)
 
 -- read LBA N
-abbrev pub read_job_of : List ℕ → Option Job
-read_job_of arguments = do
-  l ← cut_of arguments
-  lba ← decimal_of l.0
-  sectors ← sectors_of l.1
-  Some (Read lba sectors)
+abbrev pub read_job_of : Rest → Result Job Breach
+read_job_of words = do
+  l ← word_of decimal_of words
+  n ← word_of sectors_of l.1
+  end ← ends n.1
+  Ok (Read l.0 n.0)
 
--- a job by its name, which stands before its arguments
-abbrev pub named_job : List ℕ → List ℕ → Option Job
-named_job name arguments =
-    if bytes_eq name (codes "write") then write_job_of arguments
-    else if bytes_eq name (codes "read") then read_job_of arguments
-    else None
+-- a job by its name, the first word of its line
+abbrev pub named_job : List ℕ → List ℕ → Rest → Result Job Breach
+named_job line name words =
+    if bytes_eq name (codes "write") then write_job_of words
+    else if bytes_eq name (codes "read") then read_job_of words
+    else Err (unnamed line name)
 
--- a job: a name, a space and the arguments
-abbrev pub job_of : List ℕ → Option Job
-job_of line = (cut_of line >>= λ c. named_job c.0 c.1)
+abbrev pub job_of : List ℕ → Result Job Breach
+job_of line = named_job line (first_of line).0 (first_of line).1
 
--- a line: nothing, a comment behind `#`, or a job
+-- a line: nothing, a comment after `#`, or a job
+abbrev pub job_reading : List ℕ → Result JobLine Breach
+job_reading [] = Ok Skip
+job_reading (b ∷ bs) =
+    if b == 35 then (comment_of (b ∷ bs) >>= λ end. Ok Skip) else (job_of (b ∷ bs) >>= λ j. Ok (Do j))
+
+-- what a line spells, none where it breaks a rule
 abbrev pub job_line_of : List ℕ → Option JobLine
-job_line_of [] = Some Skip
-job_line_of (b ∷ bs) =
-    if b == 35 then (if is_ascii bs then Some Skip else None) else (job_of (b ∷ bs) >>= λ j. Some (Do j))
+job_line_of line = result_ok (job_reading line)

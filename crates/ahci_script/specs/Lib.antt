@@ -1,3 +1,5 @@
+pub mod Breaches
+pub mod Faults
 pub mod Jobs
 pub mod Results
 pub mod Number

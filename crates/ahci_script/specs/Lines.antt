@@ -1,191 +1,187 @@
--- The lines of a script: what each of them spells.
-use Rattle.std.specs.Prelude.{ℕ, ◌<◌, ◌≤◌, ◌==◌, Bool, List, [], ◌∷◌, ◌++◌, Option, Some, None, option_and_then, option_map, length, nat_le, nat_lt, codes, if◌then◌else◌}
-use Rattle.std.specs.List.{All, list_all}
+-- The lines of a script: what each of them spells, or the first rule that it breaks.
+use Rattle.std.specs.Prelude.{ℕ, zero, suc, ◌<◌, ◌≤◌, ◌==◌, List, [], ◌∷◌, ◌++◌, Option, Some, None, Result, Ok, Err, length, codes, if◌then◌else◌}
+use Rattle.std.specs.List.{All}
+use Rattle.std.specs.Result.{result_ok}
 use Rattle.std.specs.Str.{bytes_eq}
+use Rattle.ahci_script.specs.Breaches.{◌>>=◌, breach_at, comment_of, seen_in}
+use Rattle.ahci_script.specs.HexBytes.{header_of, hex_bytes_of}
+use Rattle.ahci_script.specs.Number.{byte_of, decimal_of, hexadecimal_of, page_word_of, sectors_of, tag_of}
+use Rattle.ahci_script.specs.Words.{Rest, ends, first_of, word_of}
+use Rattle.ahci_script.specs.declared.breach.Breach.{Breach}
+use Rattle.ahci_script.specs.declared.fault.Fault.TheVariants.{ManyTags, SpareSpace, UnknownCommand}
 use Rattle.ahci_script.specs.declared.line.ScriptCommand.{ScriptCommand}
 use Rattle.ahci_script.specs.declared.line.ScriptCommand.TheVariants.{Disk, Write, Read, Raw, Accept, Serve, Fail, Collect, Recover, Reissue, Reg, Ack, Identify, Flush, Show, Journal, Trim}
 use Rattle.ahci_script.specs.declared.line.Line.{Line}
 use Rattle.ahci_script.specs.declared.line.Line.TheVariants as the-line
-use Rattle.ahci_script.specs.HexBytes.{header_of, hex_bytes_of}
-use Rattle.ahci_script.specs.Number.{byte_of, decimal_below, decimal_of, hexadecimal_of, sectors_limit}
-use Rattle.ahci_script.specs.Words.{cut_of, words_of}
 
-infixl 10 ◌>>=◌
-abbrev pub ◌>>=◌ : {A B : Type 0} → Option A → (A → Option B) → Option B
-o >>= f = option_and_then f o
+-- a command, or the first rule that its words break
+abbrev pub Command : Type 0
+Command = Result ScriptCommand Breach
 
--- a tag: 0 to 31
-abbrev pub tag_of : List ℕ → Option ℕ
-tag_of = decimal_below 32
-
--- what each word spells, in the order of the words; none where one of them spells nothing
-abbrev pub each_of : (List ℕ → Option ℕ) → List (List ℕ) → Option (List ℕ)
-each_of spells [] = Some []
-each_of spells (word ∷ words) = do
-  number ← spells word
-  numbers ← each_of spells words
-  Some (number ∷ numbers)
-
--- numbers, of which there are 32 at most
-abbrev pub at_most_32 : List ℕ → Option (List ℕ)
-at_most_32 numbers = if nat_le (length numbers) 32 then Some numbers else None
-
--- tags: each word spells one, and there are 32 at most
-abbrev pub tags_of : List ℕ → Option (List ℕ)
-tags_of arguments = (each_of tag_of (words_of arguments) >>= at_most_32)
-
--- tags, and behind them the one that a word spells, where they were less than 32
-abbrev pub with_tag : List ℕ → List ℕ → Option (List ℕ)
-with_tag tags word = if nat_lt (length tags) 32 then option_map (λ tag. tags ++ tag ∷ []) (tag_of word) else None
-
--- a number of sectors: 0 to 131,072
-abbrev pub sectors_of : List ℕ → Option ℕ
-sectors_of = decimal_below sectors_limit
-
--- a word of the identify page: 0 to 255
-abbrev pub page_word_of : List ℕ → Option ℕ
-page_word_of = decimal_below 256
-
--- D, or D F, where the cut of these words is known
-abbrev pub port_at : Option (List ℕ × List ℕ) → List ℕ → Option (ℕ × Option ℕ)
-port_at None words = do
-  depth ← decimal_of words
-  Some (depth, None)
-port_at (Some d) words = do
-  depth ← decimal_of d.0
-  first ← decimal_of d.1
-  Some (depth, Some first)
-
--- D, or D F: the depth of a port, and the first number of its journal, where one is given
-abbrev pub port_of : List ℕ → Option (ℕ × Option ℕ)
-port_of words = port_at (cut_of words) words
+-- a number, where a word is left
+abbrev pub number_if_any : Rest → Result (Option ℕ) Breach
+number_if_any None = Ok None
+number_if_any (Some text) = do
+  n ← word_of decimal_of (Some text)
+  end ← ends n.1
+  Ok (Some n.0)
 
 -- disk S D, or disk S D F
-abbrev pub disk_of : List ℕ → Option ScriptCommand
-disk_of arguments = do
-  s ← cut_of arguments
-  sectors ← decimal_of s.0
-  port ← port_of s.1
-  Some (Disk sectors port.0 port.1)
+abbrev pub disk_of : Rest → Command
+disk_of words = do
+  s ← word_of decimal_of words
+  d ← word_of decimal_of s.1
+  first ← number_if_any d.1
+  Ok (Disk s.0 d.0 first)
 
 -- write T LBA N BB
-abbrev pub write_of : List ℕ → Option ScriptCommand
-write_of arguments = do
-  t ← cut_of arguments
-  l ← cut_of t.1
-  n ← cut_of l.1
-  tag ← tag_of t.0
-  lba ← decimal_of l.0
-  sectors ← sectors_of n.0
-  fill ← byte_of n.1
-  Some (Write tag lba sectors fill)
+abbrev pub write_of : Rest → Command
+write_of words = do
+  t ← word_of tag_of words
+  l ← word_of decimal_of t.1
+  n ← word_of sectors_of l.1
+  b ← word_of byte_of n.1
+  end ← ends b.1
+  Ok (Write t.0 l.0 n.0 b.0)
 
 -- read T LBA N
-abbrev pub read_of : List ℕ → Option ScriptCommand
-read_of arguments = do
-  t ← cut_of arguments
-  l ← cut_of t.1
-  tag ← tag_of t.0
-  lba ← decimal_of l.0
-  sectors ← sectors_of l.1
-  Some (Read tag lba sectors)
+abbrev pub read_of : Rest → Command
+read_of words = do
+  t ← word_of tag_of words
+  l ← word_of decimal_of t.1
+  n ← word_of sectors_of l.1
+  end ← ends n.1
+  Ok (Read t.0 l.0 n.0)
 
 -- raw T H B
-abbrev pub raw_of : List ℕ → Option ScriptCommand
-raw_of arguments = do
-  t ← cut_of arguments
-  h ← cut_of t.1
-  tag ← tag_of t.0
-  header ← header_of h.0
-  bytes ← hex_bytes_of h.1
-  Some (Raw tag header bytes)
+abbrev pub raw_of : Rest → Command
+raw_of words = do
+  t ← word_of tag_of words
+  h ← word_of header_of t.1
+  b ← word_of hex_bytes_of h.1
+  end ← ends b.1
+  Ok (Raw t.0 h.0 b.0)
 
 -- accept T
-abbrev pub accept_of : List ℕ → Option ScriptCommand
-accept_of arguments = do
-  tag ← tag_of arguments
-  Some (Accept tag)
+abbrev pub accept_of : Rest → Command
+accept_of words = do
+  t ← word_of tag_of words
+  end ← ends t.1
+  Ok (Accept t.0)
+
+-- tags that were read, and the tags of the words that are left, as many as there is room for
+unfoldable pub more_tags : ℕ → List ℕ → Rest → Result (List ℕ) Breach
+more_tags room tags None = Ok tags
+more_tags zero tags (Some text) = Err (breach_at text ManyTags)
+more_tags (suc room) tags (Some text) = do
+  t ← word_of tag_of (Some text)
+  more_tags room (tags ++ t.0 ∷ []) t.1
+
+-- 1 to 32 tags
+abbrev pub tags_of : Rest → Result (List ℕ) Breach
+tags_of words = do
+  t ← word_of tag_of words
+  more_tags 31 (t.0 ∷ []) t.1
 
 -- serve T T ..
-abbrev pub serve_of : List ℕ → Option ScriptCommand
-serve_of arguments = do
-  tags ← tags_of arguments
-  Some (Serve (record { items = tags }))
+abbrev pub serve_of : Rest → Command
+serve_of words = do
+  tags ← tags_of words
+  Ok (Serve (record { items = tags }))
 
 -- fail T EE LBA
-abbrev pub fail_of : List ℕ → Option ScriptCommand
-fail_of arguments = do
-  t ← cut_of arguments
-  e ← cut_of t.1
-  tag ← tag_of t.0
-  error ← byte_of e.0
-  lba ← decimal_of e.1
-  Some (Fail tag error lba)
+abbrev pub fail_of : Rest → Command
+fail_of words = do
+  t ← word_of tag_of words
+  e ← word_of byte_of t.1
+  l ← word_of decimal_of e.1
+  end ← ends l.1
+  Ok (Fail t.0 e.0 l.0)
 
 -- collect T K
-abbrev pub collect_of : List ℕ → Option ScriptCommand
-collect_of arguments = do
-  t ← cut_of arguments
-  tag ← tag_of t.0
-  number ← decimal_of t.1
-  Some (Collect tag number)
+abbrev pub collect_of : Rest → Command
+collect_of words = do
+  t ← word_of tag_of words
+  n ← word_of decimal_of t.1
+  end ← ends n.1
+  Ok (Collect t.0 n.0)
 
 -- reissue T
-abbrev pub reissue_of : List ℕ → Option ScriptCommand
-reissue_of arguments = do
-  tag ← tag_of arguments
-  Some (Reissue tag)
+abbrev pub reissue_of : Rest → Command
+reissue_of words = do
+  t ← word_of tag_of words
+  end ← ends t.1
+  Ok (Reissue t.0)
 
 -- reg OFF
-abbrev pub reg_of : List ℕ → Option ScriptCommand
-reg_of arguments = do
-  off ← hexadecimal_of arguments
-  Some (Reg off)
+abbrev pub reg_of : Rest → Command
+reg_of words = do
+  off ← word_of hexadecimal_of words
+  end ← ends off.1
+  Ok (Reg off.0)
 
 -- ack MASK
-abbrev pub ack_of : List ℕ → Option ScriptCommand
-ack_of arguments = do
-  mask ← hexadecimal_of arguments
-  Some (Ack mask)
+abbrev pub ack_of : Rest → Command
+ack_of words = do
+  mask ← word_of hexadecimal_of words
+  end ← ends mask.1
+  Ok (Ack mask.0)
 
 -- identify W
-abbrev pub identify_of : List ℕ → Option ScriptCommand
-identify_of arguments = do
-  word ← page_word_of arguments
-  Some (Identify word)
+abbrev pub identify_of : Rest → Command
+identify_of words = do
+  w ← word_of page_word_of words
+  end ← ends w.1
+  Ok (Identify w.0)
 
 -- show LBA
-abbrev pub show_of : List ℕ → Option ScriptCommand
-show_of arguments = do
-  lba ← decimal_of arguments
-  Some (Show lba)
+abbrev pub show_of : Rest → Command
+show_of words = do
+  l ← word_of decimal_of words
+  end ← ends l.1
+  Ok (Show l.0)
 
--- a command by its name, which stands before its arguments
-abbrev pub named : List ℕ → List ℕ → Option ScriptCommand
-named name arguments =
-    if bytes_eq name (codes "disk") then disk_of arguments
-    else if bytes_eq name (codes "write") then write_of arguments
-    else if bytes_eq name (codes "read") then read_of arguments
-    else if bytes_eq name (codes "raw") then raw_of arguments
-    else if bytes_eq name (codes "accept") then accept_of arguments
-    else if bytes_eq name (codes "serve") then serve_of arguments
-    else if bytes_eq name (codes "fail") then fail_of arguments
-    else if bytes_eq name (codes "collect") then collect_of arguments
-    else if bytes_eq name (codes "reissue") then reissue_of arguments
-    else if bytes_eq name (codes "reg") then reg_of arguments
-    else if bytes_eq name (codes "ack") then ack_of arguments
-    else if bytes_eq name (codes "identify") then identify_of arguments
-    else if bytes_eq name (codes "show") then show_of arguments
-    else None
+-- a command of no other words
+abbrev pub alone : ScriptCommand → Rest → Command
+alone command words = do
+  end ← ends words
+  Ok command
 
--- a command: `recover`, `flush`, `journal` or `trim` alone, or a name, a space and the arguments
-abbrev pub command_of : List ℕ → Option ScriptCommand
-command_of line =
-    if bytes_eq line (codes "recover") then Some Recover
-    else if bytes_eq line (codes "flush") then Some Flush
-    else if bytes_eq line (codes "journal") then Some Journal
-    else if bytes_eq line (codes "trim") then Some Trim
-    else (cut_of line >>= λ c. named c.0 c.1)
+-- a line that begins with no command's name
+abbrev pub unnamed : List ℕ → List ℕ → Breach
+unnamed line [] = breach_at line SpareSpace
+unnamed line (b ∷ bs) = breach_at line UnknownCommand
+
+-- a command by its name, the first word of its line: those of the disk, of the device, and of what there is to see
+unfoldable pub named_more : List ℕ → List ℕ → Rest → Command
+named_more line name words =
+    if bytes_eq name (codes "disk") then disk_of words
+    else if bytes_eq name (codes "accept") then accept_of words
+    else if bytes_eq name (codes "serve") then serve_of words
+    else if bytes_eq name (codes "fail") then fail_of words
+    else if bytes_eq name (codes "reg") then reg_of words
+    else if bytes_eq name (codes "ack") then ack_of words
+    else if bytes_eq name (codes "show") then show_of words
+    else if bytes_eq name (codes "journal") then alone Journal words
+    else if bytes_eq name (codes "trim") then alone Trim words
+    else Err (unnamed line name)
+
+-- and, before them, those of requests
+unfoldable pub named : List ℕ → List ℕ → Rest → Command
+named line name words =
+    if bytes_eq name (codes "write") then write_of words
+    else if bytes_eq name (codes "read") then read_of words
+    else if bytes_eq name (codes "raw") then raw_of words
+    else if bytes_eq name (codes "collect") then collect_of words
+    else if bytes_eq name (codes "recover") then alone Recover words
+    else if bytes_eq name (codes "reissue") then reissue_of words
+    else if bytes_eq name (codes "identify") then identify_of words
+    else if bytes_eq name (codes "flush") then alone Flush words
+    else named_more line name words
+
+-- a command, which is a name and its words
+abbrev pub command_of : List ℕ → Command
+command_of line = named line (first_of line).0 (first_of line).1
 
 -- a list of tags: 1 to 32, each one of 32
 pub record AreTags (tags : List ℕ) : Type 0 where
@@ -209,12 +205,12 @@ abbrev pub HasSmallTags : Line → Type 0
 HasSmallTags the-line.Skip = Unit {0}
 HasSmallTags (the-line.Run command) = HasSmallTag command
 
--- a comment may hold any byte below 128
-abbrev pub is_ascii : List ℕ → Bool
-is_ascii = list_all (λ b. nat_lt b 128)
+-- a line: nothing, a comment after `#`, or a command
+abbrev pub reading : List ℕ → Result Line Breach
+reading [] = Ok the-line.Skip
+reading (b ∷ bs) =
+    if b == 35 then (comment_of (b ∷ bs) >>= λ end. Ok the-line.Skip) else seen_in (b ∷ bs) (command_of (b ∷ bs) >>= λ c. Ok (the-line.Run c))
 
--- a line: nothing, a comment behind `#`, or a command
+-- what a line spells, none where it breaks a rule
 abbrev pub line_of : List ℕ → Option Line
-line_of [] = Some the-line.Skip
-line_of (b ∷ bs) =
-    if b == 35 then (if is_ascii bs then Some the-line.Skip else None) else (command_of (b ∷ bs) >>= λ c. Some (the-line.Run c))
+line_of line = result_ok (reading line)

@@ -1,15 +1,15 @@
 -- How a command is printed, and which of its numbers a script can have.
-use Rattle.std.specs.Prelude.{◌≡◌, ℕ, ◌^◌, ◌<◌, List, [], ◌∷◌, ◌++◌, Some, None, IfSome, codes, length}
+use Rattle.std.specs.Prelude.{◌≡◌, ℕ, ◌^◌, ◌<◌, List, [], ◌∷◌, ◌++◌, Some, None, Ok, IfSome, codes, length}
 use Rattle.std.specs.List.{All}
 use Rattle.std.specs.Fmt.{decimal}
 use Rattle.ahci_script.specs.Answers.{hex_of, numbers_text}
-use Rattle.ahci_script.specs.Lines.{AreTags, line_of}
+use Rattle.ahci_script.specs.Lines.{AreTags, reading}
 use Rattle.ahci_script.specs.Number.{sectors_limit}
 use Rattle.ahci_script.specs.declared.line.ScriptCommand.{ScriptCommand}
 use Rattle.ahci_script.specs.declared.line.ScriptCommand.TheVariants.{Disk, Write, Read, Raw, Accept, Serve, Fail, Collect, Recover, Reissue, Reg, Ack, Identify, Flush, Show, Journal, Trim}
 use Rattle.ahci_script.specs.declared.line.Line.TheVariants as line
 
--- a word and the words behind it
+-- a word and the words after it
 abbrev pub before : List ℕ → List ℕ → List ℕ
 before word others = word ++ 32 ∷ others
 
@@ -60,4 +60,4 @@ IsInRange command = Unit {0}
 
 -- every command, printed, is read back as itself
 abbrev pub IsReadBack : Type 0
-IsReadBack = (command : ScriptCommand) → IsInRange command → line_of (printed command) ≡ Some (line.Run command)
+IsReadBack = (command : ScriptCommand) → IsInRange command → reading (printed command) ≡ Ok (line.Run command)

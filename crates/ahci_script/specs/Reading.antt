@@ -1,5 +1,5 @@
 -- How the lines of an input are taken, one after another.
-use Rattle.std.specs.Prelude.{◌≡◌, ℕ, ◌+◌, ◌*◌, ◌-◌, List, [], ◌∷◌, ◌++◌, Option, length, ◌⊎◌}
+use Rattle.std.specs.Prelude.{◌≡◌, ℕ, ◌+◌, List, [], ◌∷◌, ◌++◌, Option, length, ◌⊎◌}
 use Rattle.std.specs.Io.KnownBytes.{Consumes, IsAtEnd}
 use Rattle.ahci_script.specs.Unread.{Begins, MayFail, found_of, too_long, unfinished, whole, with_feeds}
 use Rattle.ahci_script.specs.declared.stopped.Stopped.{Stopped}
@@ -19,7 +19,7 @@ pub data Taken {S : Type 0} (Takes : Step S) : S → ℕ → List (List ℕ) →
       → Taken Takes s number more u
 
 -- lines at the front of an input were taken, and what holds then: of the lines, of what the reader has left, of the bytes
--- behind the lines, and of the state
+-- after the lines, and of the state
 pub record TakenFirst {S : Type 0} (Takes : Step S) (remaining_old : Option (List ℕ)) (from : S)
     (P : List (List ℕ) → Option (List ℕ) → List ℕ → S → Type 0) : Type 0 where
   pub lines : List (List ℕ)

@@ -42,7 +42,7 @@ pub record Ends {S : Type 0} (Takes : Step S) (from to : Stand S) : Type 0 where
   pub ended : MayEnd to.remaining to.unread
   pub taken : Takes before (to.line + 1) (last_of to.unread) to.state
 
--- a fault ends the reading behind lines that were taken
+-- a fault ends the reading after lines that were taken
 abbrev pub Halts : {S F : Type 0} → Step S → (S → ℕ → Begins → F → S → Type 0) → Stand S → Stand S → Stopped F → Type 0
 Halts Takes Refuses from to stopped.Read =
     (r : Option (List ℕ)) × Reads Takes from (record to { remaining = r }) × (found_of to.unread ≡ unfinished) × MayFail to.came r to.remaining

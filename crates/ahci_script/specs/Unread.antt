@@ -37,7 +37,7 @@ shown (Line line) = whole line.now
 shown TooLong = too_long
 shown Unfinished = unfinished
 
--- some bytes came from the reader, behind those that are unread
+-- some bytes came from the reader, after those that are unread
 pub record Grows (old new : Unread) (remaining_old remaining_new : Option (List ℕ)) : Type 0 where
   pub came : List ℕ
   pub some : 0 < length came

@@ -15,7 +15,7 @@ pub enum ScriptAnswer<A: Allocator = Global> {
     Issued(u64),
     /// The entry of the step.
     Accepted(u64),
-    /// The entries of the step, which follow one another: from the first up to the end, which is the number behind the last.
+    /// The entries of the step, which follow one another: from the first up to the end, which is the number after the last.
     Completed {
         first: u64,
         end: u64,

@@ -1,8 +1,8 @@
-ghost use Rattle.std.specs.Prelude.{◌≡◌, ◌<◌, length, get_or, IfSome};
-ghost use Rattle.std.specs.List.{list_all};
-ghost use Rattle.ahci_script.specs.HexBytes.{header_of, hex_bytes_of, is_hex_digit, pairs_of};
+ghost use Rattle.std.specs.Prelude.{◌≡◌, ◌<◌, length, get_or};
+ghost use Rattle.ahci_script.specs.HexBytes.{header_of, hex_bytes_of, some_bytes_of, some_header_of};
 
-use crate::number::{hex_digit, hex_digit_value};
+use crate::fault::Fault;
+use crate::number::{hex_digit_value, is_hexadecimal, not_hexadecimal};
 use std::marker::Model;
 
 /// Bytes as a line spells them, by two hexadecimal digits each, in either case. They stay in the line, and are read where they
@@ -23,8 +23,8 @@ impl<'a> Model for HexBytes<'a> {
 
 impl<'a> HexBytes<'a> {
     /// The bytes that a word spells: an even number of hexadecimal digits, two at least, and nothing else.
-    pub fn new(word: &'a [u8]) -> Option<Self>
-        ensures { result ≡ hex_bytes_of word.now }
+    fn new(word: &'a [u8]) -> Option<Self>
+        ensures { result ≡ some_bytes_of word.now }
     {
         if word.is_empty() || word.len() % 2 != 0 || !is_hexadecimal(word) {
             return None;
@@ -61,16 +61,22 @@ impl<'a> HexBytes<'a> {
     }
 }
 
-/// Whether each letter of the word is a hexadecimal digit.
-pub fn is_hexadecimal(word: &[u8]) -> bool
-    ensures { result ≡ list_all is_hex_digit word.now }
+/// Bytes, by an even number of hexadecimal digits, two at least, and nothing else.
+pub(crate) fn hex_bytes(word: &[u8]) -> Result<HexBytes<'_>, Fault>
+    ensures { result ≡ hex_bytes_of word.now }
 {
-    word.iter().all(|b| hex_digit(*b).is_some())
+    HexBytes::new(word).ok_or(not_hexadecimal(word, Fault::OddDigits))
 }
 
 /// The 32 bytes of a command header, by 64 hexadecimal digits.
-pub fn header(word: &[u8]) -> Option<[u8; 32]>
+pub(crate) fn header(word: &[u8]) -> Result<[u8; 32], Fault>
     ensures { result ≡ header_of word.now }
+{
+    some_header(word).ok_or(not_hexadecimal(word, Fault::NotSixtyFourDigits))
+}
+
+fn some_header(word: &[u8]) -> Option<[u8; 32]>
+    ensures { result ≡ some_header_of word.now }
 {
     let bytes = HexBytes::new(word)?;
     if bytes.len() != 32 {

@@ -90,7 +90,7 @@ impl<A: Allocator> Input<A> {
         }
     }
 
-    /// Reads more bytes. `false` at the end of the input. It fails where the reader does, and where a byte comes behind the
+    /// Reads more bytes. `false` at the end of the input. It fails where the reader does, and where a byte comes after the
     /// limit.
     pub fn fill<R: Read>(&mut self, reader: &mut R) -> Result<bool, InputFailed>
         requires { length self.old.bytes ≤ LINE_LIMIT }

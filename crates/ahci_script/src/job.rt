@@ -1,9 +1,9 @@
 ghost use Rattle.std.specs.Prelude.{◌≡◌};
-ghost use Rattle.ahci_script.specs.Jobs.{job_line_of, job_of, named_job, read_job_of, write_job_of};
+ghost use Rattle.ahci_script.specs.Jobs.{job_line_of, job_of, job_reading, read_job_of, write_job_of};
 
-use crate::line::is_all_ascii;
-use crate::number::{byte, decimal, sectors};
-use crate::words::cut;
+use crate::breach::Breach;
+use crate::grammar::{comment, unnamed};
+use crate::words::{Words, first};
 
 /// A line of a job list, read and not yet judged.
 #[derive(Clone, Copy, Debug, PartialEq, Eq)]
@@ -27,55 +27,52 @@ pub enum Job {
 pub fn parse_job(line: &[u8]) -> Option<JobLine>
     ensures { result ≡ job_line_of line.now }
 {
+    read_job(line).ok()
+}
+
+/// What a line spells; else a rule of the language that it breaks.
+fn read_job(line: &[u8]) -> Result<JobLine, Breach>
+    ensures { result ≡ job_reading line.now }
+{
     match line {
-        [] => Some(JobLine::Skip),
-        [b'#', comment @ ..] => {
-            if is_all_ascii(comment) {
-                Some(JobLine::Skip)
-            } else {
-                None
-            }
+        [] => Ok(JobLine::Skip),
+        [b'#', ..] => {
+            comment(line)?;
+            Ok(JobLine::Skip)
         }
-        _ => Some(JobLine::Do(spelled(line)?)),
+        _ => Ok(JobLine::Do(spelled(line)?)),
     }
 }
 
-/// A name, a space and the arguments.
-fn spelled(line: &[u8]) -> Option<Job>
+/// A job, by its name and the words after it.
+fn spelled(line: &[u8]) -> Result<Job, Breach>
     ensures { result ≡ job_of line.now }
 {
-    let (name, arguments) = cut(line)?;
-    by_name(name, arguments)
-}
-
-fn by_name(name: &[u8], arguments: &[u8]) -> Option<Job>
-    ensures { result ≡ named_job name.now arguments.now }
-{
+    let (name, words) = first(line);
     if name == b"write".as_slice() {
-        write(arguments)
+        write(words)
     } else if name == b"read".as_slice() {
-        read(arguments)
+        read(words)
     } else {
-        None
+        Err(unnamed(line, name))
     }
 }
 
-fn write(arguments: &[u8]) -> Option<Job>
-    ensures { result ≡ write_job_of arguments.now }
+fn write(words: Words<'_>) -> Result<Job, Breach>
+    ensures { result ≡ write_job_of words.entry }
 {
-    let (lba, others) = cut(arguments)?;
-    let (count, fill) = cut(others)?;
-    let lba = decimal(lba)?;
-    let sectors = sectors(count)?;
-    let fill = byte(fill)?;
-    Some(Job::Write { lba, sectors, fill })
+    let (lba, words) = words.number()?;
+    let (sectors, words) = words.sectors()?;
+    let (fill, words) = words.byte()?;
+    words.end()?;
+    Ok(Job::Write { lba, sectors, fill })
 }
 
-fn read(arguments: &[u8]) -> Option<Job>
-    ensures { result ≡ read_job_of arguments.now }
+fn read(words: Words<'_>) -> Result<Job, Breach>
+    ensures { result ≡ read_job_of words.entry }
 {
-    let (lba, count) = cut(arguments)?;
-    let lba = decimal(lba)?;
-    let sectors = sectors(count)?;
-    Some(Job::Read { lba, sectors })
+    let (lba, words) = words.number()?;
+    let (sectors, words) = words.sectors()?;
+    words.end()?;
+    Ok(Job::Read { lba, sectors })
 }

@@ -2,13 +2,16 @@
 #![tactic(auto)]
 
 mod answer;
+mod breach;
+mod fault;
+mod grammar;
 pub mod growing;
 mod hex_bytes;
 mod input;
 mod job;
 pub mod laws;
 mod line;
-pub mod number;
+mod number;
 mod output;
 mod reading;
 mod refusal;
@@ -19,13 +22,16 @@ mod tags;
 mod takes_lines;
 mod text;
 mod told;
-pub mod words;
+mod words;
 
 pub use answer::ScriptAnswer;
-pub use hex_bytes::{HexBytes, header, is_hexadecimal};
+pub use breach::Breach;
+pub use fault::Fault;
+pub use grammar::{parse, read_line};
+pub use hex_bytes::HexBytes;
 pub use input::{Found, INPUT_LIMIT, Input, InputFailed, LINE_LIMIT};
 pub use job::{Job, JobLine, parse_job};
-pub use line::{Line, ScriptCommand, is_all_ascii, parse};
+pub use line::{Line, ScriptCommand};
 pub use output::{Output, OutputFailed};
 pub use reading::take_lines;
 pub use refusal::{Refusal, name};
@@ -34,3 +40,4 @@ pub use stopped::Stopped;
 pub use takes_lines::TakesLines;
 pub use text::{eight_digits, spaced_byte};
 pub use told::answer_bytes;
+pub use words::after_first;

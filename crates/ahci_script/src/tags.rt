@@ -1,29 +1,27 @@
-ghost use Rattle.std.specs.Prelude.{◌≡◌, IfSome, option_map};
-ghost use Rattle.ahci_script.specs.Lines.{AreTags, tags_of, with_tag};
+ghost use Rattle.std.specs.Prelude.{◌≡◌, Err, IfErr, IfOk, Ok};
+ghost use Rattle.ahci_script.specs.Lines.{AreTags, tags_of};
 
-use crate::number::tag;
-use crate::words::cut;
+use crate::breach::Breach;
+use crate::fault::Fault;
+use crate::words::Words;
 use arrayvec::ArrayVec;
 
-/// The tags that words spell, each from 0 to 31, in the order of the words. `None` where a word spells none, or there are
-/// more than 32.
-pub(crate) fn tags(words: &[u8]) -> Option<ArrayVec<u8, 32>>
-    ensures value { option_map (λ tags. tags.items) result ≡ tags_of words.now }
-    ensures tags { IfSome result (λ tags. AreTags tags.items) }
+/// The tags that the words spell, each from 0 to 31, in their order: 1 to 32 of them, and nothing else.
+pub(crate) fn tags(words: Words<'_>) -> Result<ArrayVec<u8, 32>, Breach>
+    ensures ok { IfOk result (λ tags. tags_of words.entry ≡ Ok tags.items) }
+    ensures err { IfErr result (λ breach. tags_of words.entry ≡ Err breach) }
+    ensures tags { IfOk result (λ tags. AreTags tags.items) }
 {
+    let (tag, mut left) = words.tag()?;
     let mut tags = ArrayVec::new();
-    let mut rest = words;
-    while let Some((word, others)) = cut(rest) {
-        push_tag(&mut tags, word)?;
-        rest = others;
+    tags.push(tag);
+    while let Some(text) = left.text() {
+        if tags.is_full() {
+            return Err(Breach::at(text, Fault::ManyTags));
+        }
+        let (tag, others) = left.tag()?;
+        tags.push(tag);
+        left = others;
     }
-    push_tag(&mut tags, rest)?;
-    Some(tags)
-}
-
-/// Puts the tag that a word spells behind the others. `None` where it spells none, or 32 are there.
-fn push_tag(tags: &mut ArrayVec<u8, 32>, word: &[u8]) -> Option<()>
-    ensures { option_map (λ _. tags.new.items) result ≡ with_tag tags.old.items word.now }
-{
-    tags.try_push(tag(word)?).ok()
+    Ok(tags)
 }

@@ -98,7 +98,7 @@ fn push_answer<T: Allocator, A: Allocator>(text: &mut Vec<u8, T>, answer: &Scrip
     }
 }
 
-/// Appends the numbers of a new disk, and behind them the first number of the journal where the line gave one.
+/// Appends the numbers of a new disk, and after them the first number of the journal where the line gave one.
 fn push_disk<T: Allocator>(text: &mut Vec<u8, T>, sectors: u64, depth: u64, first: Option<u64>)
     requires { vec_len text.old + room_of (Disk sectors depth first) ≤ vec_capacity text.old }
     ensures items { text.new.items ≡ text.old.items ++ answer_text (Disk sectors depth first) }
@@ -134,7 +134,7 @@ pub(crate) fn push_number<T: Allocator>(text: &mut Vec<u8, T>, word: &[u8], numb
     push(text, Buffer::new().format(number).as_bytes());
 }
 
-/// Appends the entries from the first up to the end, each behind a space.
+/// Appends the entries from the first up to the end, each after a space.
 fn push_entries<T: Allocator>(text: &mut Vec<u8, T>, first: u64, end: u64)
     requires { vec_len text.old + 21 * (end - first) ≤ vec_capacity text.old }
     ensures items { text.new.items ≡ text.old.items ++ numbers_text (entries_between first end) }
@@ -146,7 +146,7 @@ fn push_entries<T: Allocator>(text: &mut Vec<u8, T>, first: u64, end: u64)
     }
 }
 
-/// Appends sectors of 512 bytes, each by its first byte and behind a space.
+/// Appends sectors of 512 bytes, each by its first byte and after a space.
 pub(crate) fn push_sectors<T: Allocator>(text: &mut Vec<u8, T>, bytes: &[u8])
     requires { vec_len text.old + 3 * (length bytes.now / 512) ≤ vec_capacity text.old }
     ensures items { text.new.items ≡ text.old.items ++ sectors_text bytes.now (length bytes.now / 512) }

@@ -1,4 +1,3 @@
-use Rattle.std.proofs.Common.{IfErr, OnOk}
 use Rattle.ahci_script.specs.Standing.{Ends, Halts, stand}
 use Rattle.ahci_script.proofs.FoundLemmas.{if_err_map, on_ok_from}
 use Rattle.ahci_script.proofs.ReadingLemmas.{from_start, reads_all, stops_reading}

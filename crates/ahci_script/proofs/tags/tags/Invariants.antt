@@ -1,12 +1,12 @@
-use Rattle.std.proofs.Common.{◌≡◌, length}
-use Rattle.ahci_script.specs.Lines.{each_of, tag_of}
-use Rattle.ahci_script.specs.Words.{words_of}
-use Rattle.ahci_script.proofs.TagsLemmas.{behind}
+use Rattle.std.proofs.Common.{◌≡◌, ◌-◌, ◌<◌, ◌≤◌, length, All}
+use Rattle.ahci_script.specs.Lines.{more_tags}
 use Rattle.ahci_script.proofs.tags.tags.Given as goal
 
--- the tags so far, and behind them those of the rest, are those of all words
-abbrev pub invariant-loop-word : goal.invariant-loop-word
-invariant-loop-word l = behind l.tags.items (each_of tag_of (words_of l.rest)) ≡ each_of tag_of (words_of l.words)
+-- the tags so far, with those of the words that are left, are those of all words
+abbrev pub invariant-loop-text : goal.invariant-loop-text
+invariant-loop-text l =
+    (0 < length l.tags.items) × (length l.tags.items ≤ 32) × All (λ t. t < 32) l.tags.items
+    × (more_tags (32 - length l.tags.items) l.tags.items l.left ≡ more_tags (32 - length l.initial.tags.items) l.initial.tags.items l.initial.left)
 
-abbrev pub decreases-loop-word : goal.decreases-loop-word
-decreases-loop-word l = length l.rest
+abbrev pub decreases-loop-text : goal.decreases-loop-text
+decreases-loop-text l = 32 - length l.tags.items

@@ -1,4 +1,3 @@
-use Rattle.std.proofs.Common.{sym}
 use Rattle.ahci_script.specs.Standing.{Halts, stand}
 use Rattle.ahci_script.proofs.FoundLemmas.{if_err_from}
 use Rattle.ahci_script.proofs.ReadingLemmas.{Reads-refl, Reads-trans, ends_last, halts_after, halts_last}

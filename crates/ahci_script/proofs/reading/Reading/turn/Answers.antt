@@ -1,4 +1,3 @@
-use Rattle.std.proofs.Common.{sym}
 use Rattle.ahci_script.specs.Standing.{stand}
 use Rattle.ahci_script.specs.Unread.{whole}
 use Rattle.ahci_script.proofs.ReadingLemmas.{Reads-line, Reads-refl, halts_at}

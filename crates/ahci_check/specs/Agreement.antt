@@ -1,6 +1,6 @@
--- A check of a script and its replay agree.
-use Rattle.std.specs.Prelude.{◌≡◌, ℕ, List, Option, None, Some, is_none}
-use Rattle.ahci_check.specs.Complaints.{complaint_in, ends_replay}
+-- A check of a script and its replay agree: both end at the same line.
+use Rattle.std.specs.Prelude.{◌≡◌, ℕ, ◌+◌, List, ◌∷◌, ◌++◌, Option, None, Some, is_none, length}
+use Rattle.ahci_check.specs.Complaints.{complaint_in, ends_replay, first_wrong}
 use Rattle.ahci_check.specs.Sheets.{Sheet, judged_from}
 use Rattle.ahci_check.specs.declared.place.Place.{Place}
 use Rattle.ahci_check.specs.declared.place.Place.TheVariants.{BeforeDisk, BehindDisk}
@@ -16,11 +16,23 @@ place_of (Some port) = BehindDisk
 abbrev pub StopAlike : Type 0
 StopAlike = (port : Option PortView) (number : ℕ) (line : List ℕ) → ends_replay (complaint_in (place_of port) number line) ≡ is_none (placed port line)
 
--- behind lines that replay has answered, the check's next line stands where replay's does
+-- after lines that replay has answered, the check's next line stands where replay's does
 abbrev pub StandAlike : Type 0
 StandAlike = (telling : Telling) (port last : Option PortView) (lines : List (List ℕ)) (text : List ℕ) (sheet : Sheet) (number : ℕ)
     → Adds telling port lines text last → sheet.place ≡ place_of port → (judged_from number sheet lines).place ≡ place_of last
 
+-- replay has answered all lines: none has such a complaint
+abbrev pub NoneEnds : Type 0
+NoneEnds = (telling : Telling) (last : Option PortView) (lines : List (List ℕ)) (text : List ℕ)
+    → Adds telling None lines text last → first_wrong BeforeDisk 1 lines ≡ None
+
+-- replay has answered lines, and ends at the next: it is the first line with such a complaint, whatever comes after it
+abbrev pub FirstEnds : Type 0
+FirstEnds = (telling : Telling) (last : Option PortView) (lines : List (List ℕ)) (text line : List ℕ) (more : List (List ℕ))
+    → Adds telling None lines text last → placed last line ≡ None → first_wrong BeforeDisk 1 (lines ++ line ∷ more) ≡ Some (length lines + 1)
+
 pub record CheckAgrees : Type 0 where
   pub stop : StopAlike
   pub stand : StandAlike
+  pub none : NoneEnds
+  pub first : FirstEnds

@@ -7,7 +7,7 @@ pub enum Fault {
     UnknownCommand,
     /// The line ends before its last word.
     MissingWord,
-    /// A word stands behind the last.
+    /// A word stands after the last.
     SpareWord,
     /// Two spaces, or a space at an end of the line.
     SpareSpace,
@@ -41,13 +41,13 @@ pub enum Fault {
     LongLine,
     /// A command other than `disk`, where no disk was accepted yet.
     BeforeDisk,
-    /// A `disk` behind one that was accepted.
+    /// A `disk` after one that was accepted.
     SecondDisk,
 }
 
 impl fmt::Display for Fault {
     ghost use Rattle.std.specs.Prelude.{Some};
-    ghost use Rattle.ahci_check.specs.Texts.{fault_text};
+    ghost use Rattle.ahci_script.specs.Faults.{fault_text};
 
     ghost output = { λ fault. Some (fault_text fault) };
 

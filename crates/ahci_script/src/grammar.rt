@@ -1,0 +1,270 @@
+//! The grammar of scripts: each command's name, and the words that stand after it.
+
+ghost use Rattle.std.specs.Prelude.{◌≡◌, IfOk, IfSome};
+ghost use Rattle.ahci_script.specs.Breaches.{comment_of};
+ghost use Rattle.ahci_script.specs.Lines.{HasSmallTag, HasSmallTags, accept_of, ack_of, alone, collect_of, command_of, disk_of, fail_of, identify_of, line_of, named, named_more, raw_of, read_of, reading, reg_of, reissue_of, serve_of, show_of, unnamed, write_of};
+
+use crate::breach::{Breach, high_byte};
+use crate::fault::Fault;
+use crate::line::{Line, ScriptCommand};
+use crate::tags::tags;
+use crate::words::{Words, first};
+
+/// Reads a line, without its line feed: what it spells; else the first rule of the language that it breaks, from the left. A
+/// byte over 127 is told before all else.
+pub fn read_line(line: &[u8]) -> Result<Line<'_>, Breach>
+    ensures line { result ≡ reading line.now }
+    ensures tags { IfOk result (λ line. HasSmallTags line) }
+{
+    match line {
+        [] => Ok(Line::Skip),
+        [b'#', ..] => {
+            comment(line)?;
+            Ok(Line::Skip)
+        }
+        _ => match command(line) {
+            Ok(command) => Ok(Line::Run(command)),
+            Err(breach) => Err(breach.seen_in(line)),
+        },
+    }
+}
+
+/// What a line spells. `None` where it breaks a rule.
+pub fn parse(line: &[u8]) -> Option<Line<'_>>
+    ensures line { result ≡ line_of line.now }
+    ensures tags { IfSome result (λ line. HasSmallTags line) }
+{
+    read_line(line).ok()
+}
+
+/// A comment may hold any byte below 128.
+pub(crate) fn comment(line: &[u8]) -> Result<(), Breach>
+    ensures { result ≡ comment_of line.now }
+{
+    match high_byte(line) {
+        Some(at) => Err(Breach::at(&line[at..], Fault::HighByte)),
+        None => Ok(()),
+    }
+}
+
+/// A command, by its name and the words after it.
+fn command(line: &[u8]) -> Result<ScriptCommand<'_>, Breach>
+    ensures command { result ≡ command_of line.now }
+    ensures tag { IfOk result (λ command. HasSmallTag command) }
+{
+    let (name, words) = first(line);
+    named(line, name, words)
+}
+
+/// The commands of requests, and all others.
+#[tactic(auto, unfolding(crate::specs::Lines::named))]
+fn named<'a>(line: &[u8], name: &[u8], words: Words<'a>) -> Result<ScriptCommand<'a>, Breach>
+    ensures command { result ≡ named line.now name.now words.entry }
+    ensures tag { IfOk result (λ command. HasSmallTag command) }
+{
+    if name == b"write".as_slice() {
+        write(words)
+    } else if name == b"read".as_slice() {
+        read(words)
+    } else if name == b"raw".as_slice() {
+        raw(words)
+    } else if name == b"collect".as_slice() {
+        collect(words)
+    } else if name == b"recover".as_slice() {
+        alone(words, ScriptCommand::Recover)
+    } else if name == b"reissue".as_slice() {
+        reissue(words)
+    } else if name == b"identify".as_slice() {
+        identify(words)
+    } else if name == b"flush".as_slice() {
+        alone(words, ScriptCommand::Flush)
+    } else {
+        named_more(line, name, words)
+    }
+}
+
+/// The commands of the disk, of the device, and of what there is to see.
+#[tactic(auto, unfolding(crate::specs::Lines::named_more))]
+fn named_more<'a>(line: &[u8], name: &[u8], words: Words<'a>) -> Result<ScriptCommand<'a>, Breach>
+    ensures command { result ≡ named_more line.now name.now words.entry }
+    ensures tag { IfOk result (λ command. HasSmallTag command) }
+{
+    if name == b"disk".as_slice() {
+        disk(words)
+    } else if name == b"accept".as_slice() {
+        accept(words)
+    } else if name == b"serve".as_slice() {
+        serve(words)
+    } else if name == b"fail".as_slice() {
+        fail(words)
+    } else if name == b"reg".as_slice() {
+        reg(words)
+    } else if name == b"ack".as_slice() {
+        ack(words)
+    } else if name == b"show".as_slice() {
+        show(words)
+    } else if name == b"journal".as_slice() {
+        alone(words, ScriptCommand::Journal)
+    } else if name == b"trim".as_slice() {
+        alone(words, ScriptCommand::Trim)
+    } else {
+        Err(unnamed(line, name))
+    }
+}
+
+/// A line that begins with no command's name.
+pub(crate) fn unnamed(line: &[u8], name: &[u8]) -> Breach
+    ensures { result ≡ unnamed line.now name.now }
+{
+    if name.is_empty() {
+        Breach::at(line, Fault::SpareSpace)
+    } else {
+        Breach::at(line, Fault::UnknownCommand)
+    }
+}
+
+/// A command of no other words.
+fn alone<'a>(words: Words<'a>, command: ScriptCommand<'a>) -> Result<ScriptCommand<'a>, Breach>
+    requires { HasSmallTag command }
+    ensures command { result ≡ alone command.entry words.entry }
+    ensures tag { IfOk result (λ command. HasSmallTag command) }
+{
+    words.end()?;
+    Ok(command)
+}
+
+fn disk(words: Words<'_>) -> Result<ScriptCommand<'_>, Breach>
+    ensures command { result ≡ disk_of words.entry }
+    ensures tag { IfOk result (λ command. HasSmallTag command) }
+{
+    let (sectors, words) = words.number()?;
+    let (depth, words) = words.number()?;
+    let first = words.number_if_any()?;
+    Ok(ScriptCommand::Disk {
+        sectors,
+        depth,
+        first,
+    })
+}
+
+fn write(words: Words<'_>) -> Result<ScriptCommand<'_>, Breach>
+    ensures command { result ≡ write_of words.entry }
+    ensures tag { IfOk result (λ command. HasSmallTag command) }
+{
+    let (tag, words) = words.tag()?;
+    let (lba, words) = words.number()?;
+    let (sectors, words) = words.sectors()?;
+    let (fill, words) = words.byte()?;
+    words.end()?;
+    Ok(ScriptCommand::Write {
+        tag,
+        lba,
+        sectors,
+        fill,
+    })
+}
+
+fn read(words: Words<'_>) -> Result<ScriptCommand<'_>, Breach>
+    ensures command { result ≡ read_of words.entry }
+    ensures tag { IfOk result (λ command. HasSmallTag command) }
+{
+    let (tag, words) = words.tag()?;
+    let (lba, words) = words.number()?;
+    let (sectors, words) = words.sectors()?;
+    words.end()?;
+    Ok(ScriptCommand::Read { tag, lba, sectors })
+}
+
+fn raw(words: Words<'_>) -> Result<ScriptCommand<'_>, Breach>
+    ensures command { result ≡ raw_of words.entry }
+    ensures tag { IfOk result (λ command. HasSmallTag command) }
+{
+    let (tag, words) = words.tag()?;
+    let (header, words) = words.header()?;
+    let (bytes, words) = words.bytes()?;
+    words.end()?;
+    Ok(ScriptCommand::Raw { tag, header, bytes })
+}
+
+fn accept(words: Words<'_>) -> Result<ScriptCommand<'_>, Breach>
+    ensures command { result ≡ accept_of words.entry }
+    ensures tag { IfOk result (λ command. HasSmallTag command) }
+{
+    let (tag, words) = words.tag()?;
+    words.end()?;
+    Ok(ScriptCommand::Accept { tag })
+}
+
+fn serve(words: Words<'_>) -> Result<ScriptCommand<'_>, Breach>
+    ensures command { result ≡ serve_of words.entry }
+    ensures tag { IfOk result (λ command. HasSmallTag command) }
+{
+    let tags = tags(words)?;
+    Ok(ScriptCommand::Serve { tags })
+}
+
+fn fail(words: Words<'_>) -> Result<ScriptCommand<'_>, Breach>
+    ensures command { result ≡ fail_of words.entry }
+    ensures tag { IfOk result (λ command. HasSmallTag command) }
+{
+    let (tag, words) = words.tag()?;
+    let (error, words) = words.byte()?;
+    let (lba, words) = words.number()?;
+    words.end()?;
+    Ok(ScriptCommand::Fail { tag, error, lba })
+}
+
+fn collect(words: Words<'_>) -> Result<ScriptCommand<'_>, Breach>
+    ensures command { result ≡ collect_of words.entry }
+    ensures tag { IfOk result (λ command. HasSmallTag command) }
+{
+    let (tag, words) = words.tag()?;
+    let (number, words) = words.number()?;
+    words.end()?;
+    Ok(ScriptCommand::Collect { tag, number })
+}
+
+fn reissue(words: Words<'_>) -> Result<ScriptCommand<'_>, Breach>
+    ensures command { result ≡ reissue_of words.entry }
+    ensures tag { IfOk result (λ command. HasSmallTag command) }
+{
+    let (tag, words) = words.tag()?;
+    words.end()?;
+    Ok(ScriptCommand::Reissue { tag })
+}
+
+fn reg(words: Words<'_>) -> Result<ScriptCommand<'_>, Breach>
+    ensures command { result ≡ reg_of words.entry }
+    ensures tag { IfOk result (λ command. HasSmallTag command) }
+{
+    let (off, words) = words.register()?;
+    words.end()?;
+    Ok(ScriptCommand::Reg { off })
+}
+
+fn ack(words: Words<'_>) -> Result<ScriptCommand<'_>, Breach>
+    ensures command { result ≡ ack_of words.entry }
+    ensures tag { IfOk result (λ command. HasSmallTag command) }
+{
+    let (mask, words) = words.register()?;
+    words.end()?;
+    Ok(ScriptCommand::Ack { mask })
+}
+
+fn identify(words: Words<'_>) -> Result<ScriptCommand<'_>, Breach>
+    ensures command { result ≡ identify_of words.entry }
+    ensures tag { IfOk result (λ command. HasSmallTag command) }
+{
+    let (word, words) = words.page_word()?;
+    words.end()?;
+    Ok(ScriptCommand::Identify { word })
+}
+
+fn show(words: Words<'_>) -> Result<ScriptCommand<'_>, Breach>
+    ensures command { result ≡ show_of words.entry }
+    ensures tag { IfOk result (λ command. HasSmallTag command) }
+{
+    let (lba, words) = words.number()?;
+    words.end()?;
+    Ok(ScriptCommand::Show { lba })
+}
