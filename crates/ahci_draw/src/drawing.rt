@@ -23,7 +23,7 @@ pub fn draw<R: Read, W: Write, A: Allocator + Copy>(
     ensures err { IfErr result (DrawnTo (R.remaining reader.old) (R.remaining reader.new) (W.contents writer.old) (W.contents writer.new)) }
 {
     let mut sheet = Vec::new(alloc);
-    match replay_with(alloc, &mut Drawer::new(alloc), reader, &mut sheet) {
+    match replay_with(alloc, &Drawer::new(alloc), reader, &mut sheet) {
         Ok(()) => send(alloc, &sheet, writer),
         Err(ScriptFault::Line(line)) => Err(send_at(
             ScriptFault::Line(line),

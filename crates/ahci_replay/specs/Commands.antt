@@ -146,8 +146,8 @@ MayRun old c new = new ≡ old
 -- a command may lack memory: one that takes some, and that nothing stands against which is looked at before. The others never
 -- lack any
 abbrev pub MayLackOn : PortView → ScriptCommand → Type 0
-MayLackOn port (command.Write tag lba sectors fill) = (1 ≤ sectors) × (sectors ≤ most_sectors) × (lba < 2 ^ 48)
-MayLackOn port (command.Read tag lba sectors) = Unit {0}
+MayLackOn port (command.Write tag lba sectors fill) = refusal_on port (command.Write tag lba sectors fill) ≡ None
+MayLackOn port (command.Read tag lba sectors) = refusal_on port (command.Read tag lba sectors) ≡ None
 MayLackOn port (command.Raw tag header bytes) = Unit {0}
 MayLackOn port (command.Collect tag number) = Unit {0}
 MayLackOn port command.Recover = refusal_on port command.Recover ≡ None

@@ -17,7 +17,7 @@ use ahci_port::Port;
 use ahci_script::{HexBytes, Refusal, ScriptAnswer, ScriptCommand};
 use ahci_table::{BuildFault, Piece, Window, default_pieces};
 use arrayvec::ArrayVec;
-use ncq_core::{Bytes, LBA_LIMIT, MAX_COUNT, MAX_SECTORS, Op};
+use ncq_core::{Bytes, LBA_LIMIT, MAX_COUNT, MAX_SECTORS, Op, Phase};
 use std::alloc::{AllocError, Allocator};
 
 /// How many bytes a sector has.
@@ -35,8 +35,27 @@ pub(crate) fn filled<A: Allocator>(
     vec![in alloc; fill; sectors as usize * SECTOR]
 }
 
-/// Issues a write. Count and address are compared before a byte of it is made, so that a bad one
-/// never ends in want of memory.
+/// What stands against a command: its count, its address, and then what the port says of its tag. All of it can be known before
+/// a window is built, so a refused command makes none.
+fn against<A: Allocator>(port: &Port<A>, tag: u8, lba: u64, sectors: u32) -> Option<Refusal>
+    ensures { result ≡ issue_refusal port.now tag lba sectors }
+{
+    if sectors == 0 || sectors > MAX_COUNT {
+        Some(Refusal::BadCount)
+    } else if lba >= LBA_LIMIT {
+        Some(Refusal::BadLba)
+    } else if port.halted() {
+        Some(Refusal::Halted)
+    } else if u32::from(tag) >= port.depth() {
+        Some(Refusal::NoSuchTag)
+    } else if matches!(port.phase(tag), Phase::Free) {
+        None
+    } else {
+        Some(Refusal::SlotOwned)
+    }
+}
+
+/// Issues a write.
 pub(crate) fn write<A: Allocator + Copy>(
     port: &mut Port<A>,
     alloc: &A,
@@ -50,14 +69,30 @@ pub(crate) fn write<A: Allocator + Copy>(
     ensures err { OnErr result (port.new ≡ port.old) }
     ensures lacking { OnErr result (MayLackOn port.old (ScriptCommand.Write tag lba sectors fill)) }
 {
-    if sectors == 0 || sectors > MAX_COUNT {
-        return Ok(ScriptAnswer::Refused(Refusal::BadCount));
-    }
-    if lba >= LBA_LIMIT {
-        return Ok(ScriptAnswer::Refused(Refusal::BadLba));
+    if let Some(refusal) = against(port, tag, lba, sectors) {
+        return Ok(ScriptAnswer::Refused(refusal));
     }
     let bytes = Bytes::from_vec(filled(alloc.clone()?, sectors, fill)?);
     issue(port, alloc, tag, &Op::Write { lba, bytes })
+}
+
+/// Issues a read.
+pub(crate) fn read<A: Allocator + Copy>(
+    port: &mut Port<A>,
+    alloc: &A,
+    tag: u8,
+    lba: u64,
+    sectors: u32,
+) -> Result<ScriptAnswer<A>, AllocError>
+    requires { tag < 32 }
+    ensures ok { IfOk result (λ answer. RunsOn port.old (ScriptCommand.Read tag lba sectors) port.new (said answer)) }
+    ensures err { OnErr result (port.new ≡ port.old) }
+    ensures lacking { OnErr result (MayLackOn port.old (ScriptCommand.Read tag lba sectors)) }
+{
+    if let Some(refusal) = against(port, tag, lba, sectors) {
+        return Ok(ScriptAnswer::Refused(refusal));
+    }
+    issue(port, alloc, tag, &Op::Read { lba, sectors })
 }
 
 /// The pieces that serve for a command where nothing else is asked for.
@@ -70,7 +105,7 @@ fn pieces_of<A: Allocator>(op: &Op<A>) -> ArrayVec<Piece, 32>
 
 /// Issues a command: its window is built first, so a bad count or address is told before anything
 /// that the port says.
-pub(crate) fn issue<A: Allocator + Copy>(
+fn issue<A: Allocator + Copy>(
     port: &mut Port<A>,
     alloc: &A,
     tag: u8,

@@ -16,7 +16,7 @@ use std::alloc::Allocator;
 pub(crate) fn answer_line<T: Teller<A>, A: Allocator + Copy>(
     session: &mut Session<A>,
     output: &mut Output<A>,
-    teller: &mut T,
+    teller: &T,
     number: u64,
     line: &[u8],
 ) -> Result<(), ScriptFault>
@@ -36,7 +36,7 @@ pub(crate) fn answer_line<T: Teller<A>, A: Allocator + Copy>(
 fn answer_command<T: Teller<A>, A: Allocator + Copy>(
     session: &mut Session<A>,
     output: &mut Output<A>,
-    teller: &mut T,
+    teller: &T,
     number: u64,
     command: ScriptCommand<'_>,
 ) -> Result<(), ScriptFault>
@@ -47,9 +47,9 @@ fn answer_command<T: Teller<A>, A: Allocator + Copy>(
     ensures fault { IfErr result (IsCommandFault session.old command.entry number) }
     ensures wrong { is_in_place session.old command.entry ≡ false → result ≡ Err (ScriptFault.Line number) }
 {
-    teller.look(session.port());
+    let before = teller.look(session.port());
     match session.run(command) {
-        Ok(answer) => Ok(teller.tell(&answer, session.port(), output)?),
+        Ok(answer) => Ok(teller.tell(before, &answer, session.port(), output)?),
         Err(Unanswered::OutOfPlace) => Err(ScriptFault::Line(number)),
         Err(Unanswered::OutOfMemory) => Err(ScriptFault::OutOfMemory),
     }

@@ -21,13 +21,13 @@ pub fn replay<R: Read, W: Write, A: Allocator + Copy>(
         (ReplayedTo answers_alone (R.remaining reader.old) (R.remaining reader.new)
         (W.contents writer.old) (W.contents writer.new)) }
 {
-    replay_with(alloc, &mut AnswersAlone, reader, writer)
+    replay_with(alloc, &AnswersAlone, reader, writer)
 }
 
 /// The same, and for each answer stands what the teller tells of the command.
 pub fn replay_with<T: Teller<A>, R: Read, W: Write, A: Allocator + Copy>(
     alloc: A,
-    teller: &mut T,
+    teller: &T,
     reader: &mut R,
     writer: &mut W,
 ) -> Result<(), ScriptFault>

@@ -9,7 +9,7 @@ ghost use Rattle.ahci_replay.specs.Commands.{HasStepped, MayLackOn, MayRunOn, Re
 ghost use Rattle.ahci_replay.specs.Refusals.{of_step, refusal_on};
 
 use crate::answering::{collected, stepped};
-use crate::issuing::{issue, issue_raw, write};
+use crate::issuing::{issue_raw, read, write};
 use crate::refusals::{
     collect_refusal, plain_refusal, recover_refusal, register_refusal, reissue_refusal,
     step_refusal, trim_refusal,
@@ -17,7 +17,6 @@ use crate::refusals::{
 use crate::unanswered::Unanswered;
 use ahci_port::{DeviceStep, Port};
 use ahci_script::{Refusal, ScriptAnswer, ScriptCommand};
-use ncq_core::Op;
 use std::alloc::{AllocError, Allocator};
 
 /// Runs a command on the port.
@@ -42,9 +41,7 @@ pub(crate) fn run_on<A: Allocator + Copy>(
             sectors,
             fill,
         } => Ok(write(port, alloc, tag, lba, sectors, fill)?),
-        ScriptCommand::Read { tag, lba, sectors } => {
-            Ok(issue(port, alloc, tag, &Op::Read { lba, sectors })?)
-        }
+        ScriptCommand::Read { tag, lba, sectors } => Ok(read(port, alloc, tag, lba, sectors)?),
         ScriptCommand::Raw { tag, header, bytes } => {
             Ok(issue_raw(port, alloc, tag, header, &bytes)?)
         }

@@ -11,7 +11,7 @@ use std::io::Write;
 pub(crate) struct Script<'t, T, A: Allocator> {
     pub(crate) output: Output<A>,
     session: Session<A>,
-    teller: &'t mut T,
+    teller: &'t T,
 }
 
 impl<'t, T: Teller<A>, A: Allocator + Copy> Script<'t, T, A> {
@@ -20,7 +20,7 @@ impl<'t, T: Teller<A>, A: Allocator + Copy> Script<'t, T, A> {
     ghost use Rattle.ahci_replay.specs.Transcript.{Answers, RefusesLine};
 
     /// A script of which nothing came yet.
-    pub(crate) fn new(alloc: A, teller: &'t mut T) -> Self
+    pub(crate) fn new(alloc: A, teller: &'t T) -> Self
         ensures { (result.output ≡ []) × (result.session ≡ None) }
     {
         Script {
@@ -45,7 +45,7 @@ impl<'t, T: Teller<A>, A: Allocator + Copy> Script<'t, T, A> {
         answer_line(
             &mut self.session,
             &mut self.output,
-            &mut *self.teller,
+            self.teller,
             number,
             line,
         )?;

@@ -11,28 +11,32 @@ pub trait Teller<A: Allocator> {
     ghost use Rattle.ahci_script.specs.Said.{said};
     ghost use Rattle.ahci_replay.specs.Transcript.{Telling};
 
+    /// What it keeps of the port that a command finds.
+    type Before: Drop;
+
     // The text.
     ghost telling: { Telling };
 
-    // It has looked at this port, or at none.
-    ghost HasSeen: { Self → Option PortView → Type 0 };
+    // This was kept of that port, or of none before the disk.
+    ghost IsOf: { Self.Before → Option PortView → Type 0 };
 
-    /// Looks at the port, or at none before the disk, that a command finds.
-    fn look(&mut self, port: Option<&Port<A>>)
-        ensures { HasSeen self.new (option_copied port.entry) };
+    /// What is to be kept of the port, or of none before the disk, that a command finds.
+    fn look(&self, port: Option<&Port<A>>) -> Self::Before
+        ensures { IsOf result (option_copied port.entry) };
 
     /// Puts the text for the answer of a command that has left this port into the output: whole lines.
     ///
     /// # Errors
     /// Where a growth was refused. The output is then as it was.
     fn tell(
-        &mut self,
+        &self,
+        before: Self::Before,
         answer: &ScriptAnswer<A>,
         port: Option<&Port<A>>,
         output: &mut Output<A>,
     ) -> Result<(), AllocError>
-        ensures ok { OnOk result ((before : Option PortView) → HasSeen self.old before
-            → output.new ≡ output.old ++ telling (said answer.now) before (option_copied port.entry)) }
+        ensures ok { OnOk result ((found : Option PortView) → IsOf before found
+            → output.new ≡ output.old ++ telling (said answer.now) found (option_copied port.entry)) }
         ensures err { OnErr result (output.new ≡ output.old) };
 }
 
@@ -43,14 +47,17 @@ pub(crate) struct AnswersAlone;
 impl<A: Allocator> Teller<A> for AnswersAlone {
     ghost use Rattle.ahci_replay.specs.Transcript.{answers_alone};
 
+    type Before = ();
+
     ghost telling = { answers_alone };
 
-    ghost HasSeen = { λ teller port. Unit {0} };
+    ghost IsOf = { λ kept port. Unit {0} };
 
-    fn look(&mut self, _port: Option<&Port<A>>) {}
+    fn look(&self, _port: Option<&Port<A>>) {}
 
     fn tell(
-        &mut self,
+        &self,
+        _before: (),
         answer: &ScriptAnswer<A>,
         _port: Option<&Port<A>>,
         output: &mut Output<A>,

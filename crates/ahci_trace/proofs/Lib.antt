@@ -2,3 +2,4 @@ pub mod TextLemmas
 pub mod NameLemmas
 pub mod AsciiLemmas
 pub mod LineLemmas
+pub mod ObjectLemmas

@@ -3,7 +3,12 @@ use Rattle.std.specs.Prelude.{◌≡◌, ℕ, ◌==◌, Bool, true, not, List, [
 use Rattle.std.specs.List.{list_all}
 use Rattle.ahci_port.specs.PortView.{PortView}
 use Rattle.ahci_replay.specs.Transcript.{Adds, answers_alone}
+use Rattle.ahci_script.specs.Answers.{answer_text}
+use Rattle.ahci_script.specs.Said.{Said}
+use Rattle.json.specs.Print.{print}
+use Rattle.ahci_trace.specs.Json.{command_object, json_line}
 use Rattle.ahci_trace.specs.Text.{trace_text}
+use Rattle.ahci_trace.specs.Trace.{Told}
 
 -- no line feed is among these bytes
 abbrev pub is_line : List ℕ → Bool
@@ -23,3 +28,14 @@ pub data Noted : List ℕ → List ℕ → Type 0 where
 abbrev pub KeepsAnswers : Type 0
 KeepsAnswers = (port last : Option PortView) (lines : List (List ℕ)) (text : List ℕ) → Adds trace_text port lines text last
     → (answers : List ℕ) × Adds answers_alone port lines answers last × Noted text answers
+
+-- objects, each on a line and with an answer as its first member, and the answers alone
+pub data Objects : List ℕ → List ℕ → Type 0 where
+  no_object : Objects [] []
+  an_object : (said : Said) (told : Told) (text answers : List ℕ) → Objects text answers
+      → Objects (print (command_object said told) ++ 10 ∷ text) (answer_text said ++ 10 ∷ answers)
+
+-- what a script's lines add to a trace as JSON is an object for each answer that they add alone, in their order
+abbrev pub HasObjects : Type 0
+HasObjects = (port last : Option PortView) (lines : List (List ℕ)) (text : List ℕ) → Adds json_line port lines text last
+    → (answers : List ℕ) × Adds answers_alone port lines answers last × Objects text answers

@@ -27,15 +27,13 @@ pub fn trace_json<R: Read, W: Write, A: Allocator + Copy>(
         (ReplayedTo json_line (R.remaining reader.old) (R.remaining reader.new)
         (W.contents writer.old) (W.contents writer.new)) }
 {
-    let mark = Mark::of_none();
-    replay_with(alloc, &mut JsonTracer { alloc, mark }, reader, writer)
+    replay_with(alloc, &JsonTracer { alloc }, reader, writer)
 }
 
 /// Tells each answer, and what its command did, as one JSON object.
 #[derive(Drop)]
 struct JsonTracer<A: Allocator> {
     alloc: A,
-    mark: Mark,
 }
 
 impl<A: Allocator + Copy> JsonTracer<A> {
@@ -48,27 +46,28 @@ impl<A: Allocator + Copy> JsonTracer<A> {
     ghost use Rattle.ahci_trace.specs.Mark.{mark_of};
     ghost use Rattle.ahci_trace.specs.Trace.{told};
 
-    /// What a command did that has left this port.
-    fn trace(&self, port: Option<&Port<A>>) -> Result<CommandTrace<A>, AllocError>
-        ensures { IfOk result (λ trace. (before : Option PortView) → self.now.mark ≡ mark_of before
+    /// What a command did that found the port of the mark, and has left this one.
+    fn trace(&self, mark: &Mark, port: Option<&Port<A>>) -> Result<CommandTrace<A>, AllocError>
+        ensures { IfOk result (λ trace. (before : Option PortView) → mark.now ≡ mark_of before
             → told trace ≡ told_between before (option_copied port.entry)) }
     {
         match port {
             None => Ok(CommandTrace::nothing(self.alloc)),
-            Some(port) => CommandTrace::of(self.alloc, &self.mark, port),
+            Some(port) => CommandTrace::of(self.alloc, mark, port),
         }
     }
 
-    /// The object for an answer and what its command did, which has left this port.
+    /// The object for an answer and what its command did, which found the port of the mark, and has left this one.
     fn object(
         &self,
+        mark: &Mark,
         answer: &ScriptAnswer<A>,
         port: Option<&Port<A>>,
     ) -> Result<Vec<u8, A>, AllocError>
-        ensures { IfOk result (λ text. (before : Option PortView) → self.now.mark ≡ mark_of before
+        ensures { IfOk result (λ text. (before : Option PortView) → mark.now ≡ mark_of before
             → text.items ≡ print (command_object (said answer.now) (told_between before (option_copied port.entry)))) }
     {
-        json_text(self.alloc, answer, &self.trace(port)?)
+        json_text(self.alloc, answer, &self.trace(mark, port)?)
     }
 }
 
@@ -77,21 +76,24 @@ impl<A: Allocator + Copy> Teller<A> for JsonTracer<A> {
     ghost use Rattle.ahci_trace.specs.Json.{json_line};
     ghost use Rattle.ahci_trace.specs.Mark.{mark_of};
 
+    type Before = Mark;
+
     ghost telling = { json_line };
 
-    ghost HasSeen = { λ tracer port. tracer.mark ≡ mark_of port };
+    ghost IsOf = { λ mark port. mark ≡ mark_of port };
 
-    fn look(&mut self, port: Option<&Port<A>>) {
-        self.mark = Mark::of(port);
+    fn look(&self, port: Option<&Port<A>>) -> Mark {
+        Mark::of(port)
     }
 
     fn tell(
-        &mut self,
+        &self,
+        before: Mark,
         answer: &ScriptAnswer<A>,
         port: Option<&Port<A>>,
         output: &mut Output<A>,
     ) -> Result<(), AllocError> {
-        let text = self.object(answer, port)?;
+        let text = self.object(&before, answer, port)?;
         output.put_text(&text)
     }
 }

@@ -1,8 +1,14 @@
 //! Laws: each function is empty, and its clause holds of all scripts.
-ghost use Rattle.ahci_trace.specs.Lines.{KeepsAnswers};
+ghost use Rattle.ahci_trace.specs.Lines.{HasObjects, KeepsAnswers};
 
 /// The lines of a trace that aren't indented are the answers of the script alone: what any lines of a script add to a trace is
 /// what they add without it, and behind each answer lines that begin with two spaces.
 pub fn a_trace_without_its_notes_is_the_answers()
     ensures { KeepsAnswers }
+{}
+
+/// The objects of a trace as JSON have the answers of the script alone, in their order: what any lines of a script add is an
+/// object on a line for each answer, which is its first member.
+pub fn each_object_has_its_answer()
+    ensures { HasObjects }
 {}

@@ -10,7 +10,6 @@ use ahci_replay::{ScriptFault, Teller, replay_with};
 use ahci_script::{Output, ScriptAnswer};
 use std::alloc::{AllocError, Allocator};
 use std::io::{Read, Write};
-use std::marker::Model;
 
 /// Runs the script that the reader gives as `replay` does, and behind each answer writes what the command did to the port, in
 /// lines that are indented by two spaces. Faults are those of `replay`.
@@ -25,49 +24,35 @@ pub fn trace<R: Read, W: Write, A: Allocator + Copy>(
         (ReplayedTo trace_text (R.remaining reader.old) (R.remaining reader.new)
         (W.contents writer.old) (W.contents writer.new)) }
 {
-    replay_with(alloc, &mut Tracer::new(alloc), reader, writer)
+    replay_with(alloc, &Tracer { alloc }, reader, writer)
 }
 
-/// Tells what each command did to the port. Contracts see the mark that it keeps.
+/// Tells what each command did to the port.
 #[derive(Drop)]
 pub struct Tracer<A: Allocator> {
     alloc: A,
-    mark: Mark,
-}
-
-impl<A: Allocator> Model for Tracer<A> {
-    ghost use Rattle.ahci_trace.specs.declared.mark.Mark.{Mark};
-
-    ghost Value = { Mark };
-
-    ghost view = { λ t. t.mark };
 }
 
 impl<A: Allocator + Copy> Tracer<A> {
-    ghost use Rattle.std.specs.Prelude.{◌≡◌, IfOk, None, Option};
+    ghost use Rattle.std.specs.Prelude.{◌≡◌, IfOk, Option};
     ghost use Rattle.std.specs.Option.{option_copied};
     ghost use Rattle.ahci_port.specs.PortView.{PortView};
     ghost use Rattle.ahci_trace.specs.Mark.{mark_of};
     ghost use Rattle.ahci_trace.specs.Text.{trace_notes};
 
-    /// It has looked at no port yet.
-    pub fn new(alloc: A) -> Self
-        ensures { result ≡ mark_of None }
-    {
-        Tracer {
-            alloc,
-            mark: Mark::of_none(),
-        }
+    /// The notes are made with this allocator.
+    pub fn new(alloc: A) -> Self {
+        Tracer { alloc }
     }
 
-    /// What a command did that has left this port.
-    fn notes(&self, port: Option<&Port<A>>) -> Result<Vec<u8, A>, AllocError>
-        ensures { IfOk result (λ text. (before : Option PortView) → self.now ≡ mark_of before
+    /// What a command did that found the port of the mark, and has left this one.
+    fn notes(&self, mark: &Mark, port: Option<&Port<A>>) -> Result<Vec<u8, A>, AllocError>
+        ensures { IfOk result (λ text. (before : Option PortView) → mark.now ≡ mark_of before
             → text.items ≡ trace_notes before (option_copied port.entry)) }
     {
         match port {
             None => Ok(Vec::new(self.alloc)),
-            Some(port) => text_of(self.alloc, &CommandTrace::of(self.alloc, &self.mark, port)?),
+            Some(port) => text_of(self.alloc, &CommandTrace::of(self.alloc, mark, port)?),
         }
     }
 }
@@ -77,21 +62,24 @@ impl<A: Allocator + Copy> Teller<A> for Tracer<A> {
     ghost use Rattle.ahci_trace.specs.Mark.{mark_of};
     ghost use Rattle.ahci_trace.specs.Text.{trace_text};
 
+    type Before = Mark;
+
     ghost telling = { trace_text };
 
-    ghost HasSeen = { λ tracer port. tracer ≡ mark_of port };
+    ghost IsOf = { λ mark port. mark ≡ mark_of port };
 
-    fn look(&mut self, port: Option<&Port<A>>) {
-        self.mark = Mark::of(port);
+    fn look(&self, port: Option<&Port<A>>) -> Mark {
+        Mark::of(port)
     }
 
     fn tell(
-        &mut self,
+        &self,
+        before: Mark,
         answer: &ScriptAnswer<A>,
         port: Option<&Port<A>>,
         output: &mut Output<A>,
     ) -> Result<(), AllocError> {
-        let notes = self.notes(port)?;
+        let notes = self.notes(&before, port)?;
         output.put_noted(answer, &notes)
     }
 }
