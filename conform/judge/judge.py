@@ -1,0 +1,53 @@
+"""Judges one script: the model's trace, the emulator line by line, and what differs."""
+from typing import Dict, List, NamedTuple, Tuple
+
+from .adapter import Adapter, EmulatorFault
+from .compare import Comparer
+from .differences import Difference
+from .driver import Driver
+from .known import Known
+from .model import Step, Trace
+
+
+class Judged(NamedTuple):
+    """What one script gave."""
+
+    name: str
+    trace: Trace
+    lines: int  # that were played
+    known: Dict[str, Tuple[int, int]]  # by an entry's name: how often, and the first line
+    step: int  # the place in the trace of the line with new differences, or -1
+    new: List[Difference]
+
+    @property
+    def passed(self) -> bool:
+        return not self.new
+
+
+def judge(name: str, trace: Trace, adapter: Adapter, known: Known) -> Judged:
+    """Plays a script to its end, or to the first line that differs in a way that the list doesn't have."""
+    driver = Driver(adapter)
+    comparer = Comparer(driver)
+    seen: Dict[str, Tuple[int, int]] = {}
+    try:
+        for at, step in enumerate(trace.steps):
+            new = []
+            for difference in driver.play(step) + comparer.compare(step):
+                entries, left = known.explain(step, difference)
+                for entry in entries:
+                    times, first = seen.get(entry.name, (0, step.number))
+                    seen[entry.name] = (times + 1, first)
+                if any(left.mask) or not entries:
+                    new.append(left)
+            if new:
+                return Judged(name, trace, at + 1, seen, at, new)
+            comparer.go_on(step)
+        last = Step(0, "", "", [], None, {}, {}, {})
+        driver.found = []
+        driver.compare_sectors(range(driver.sectors) if driver.started and driver.sectors <= 4096 else sorted(driver.image))
+        new = [left for left in (known.explain(last, it)[1] for it in driver.found) if any(left.mask)]
+        return Judged(name, trace, len(trace.steps), seen, len(trace.steps) - 1 if new else -1, new)
+    except EmulatorFault as why:
+        raise EmulatorFault(f"{name}, line {step.number} ({step.line[:60]}): {why}") from why
+    finally:
+        driver.stop()
