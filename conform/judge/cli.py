@@ -9,7 +9,9 @@ import sys
 import time
 from typing import Callable, Iterator, List, Optional, Tuple
 
-from . import model, page, report
+from stand_in import faults
+
+from . import model, page, report, shown
 from .adapter import Adapter, EmulatorFault
 from .judge import Judged, judge
 from .known import NOTHING, Known, ListFault, read_known
@@ -37,6 +39,7 @@ Examples:
   conform/ahci_conform --seed 7 --json | jq .new          one seed, for tools
   conform/ahci_conform --known none examples/*.ahci       every difference is told as a new one
   conform/ahci_conform --emulator mine.py:Mine s.ahci     an adapter of your own (conform/ADAPTERS.md)
+  conform/ahci_conform --shown conform/qemu               each entry of QEMU's list by its own script
   conform/ahci_conform --page conform/qemu-7.2.json       the list as the page docs/QEMU.md
 """
 
@@ -61,6 +64,7 @@ def words() -> Words:
     made.add_argument("--fault", metavar="NAME", help="plant this fault in the stand-in; `list` names them")
     made.add_argument("--go-on", action="store_true", help="judge the scripts behind one with a new difference too")
     made.add_argument("--json", action="store_true", help="an object a script, a line each, in the place of text and table")
+    made.add_argument("--shown", metavar="FOLDER", help="check that the list's entries are each shown by the script FOLDER/NAME.ahci")
     made.add_argument("--page", metavar="FILE", help="print the page of this list of known differences, and judge nothing")
     return made
 
@@ -104,6 +108,10 @@ def adapter_of(asked: argparse.Namespace) -> Callable[[], Adapter]:
     """What makes the emulator's adapter, anew for each script."""
     if asked.emulator == "qemu":
         return lambda: Qemu(asked.qemu) if asked.qemu else Qemu()
+    if asked.emulator == "stand-in":
+        if asked.fault not in (None, *(it.name for it in faults.FAULTS)):
+            raise Wrong(f"there is no fault '{asked.fault}': --fault list names them")
+        return faults.named(asked.fault)
     path, colon, name = asked.emulator.rpartition(":")
     if not colon:
         raise Wrong(f"there is no emulator '{asked.emulator}': qemu, stand-in, or FILE.py:CLASS")
@@ -144,6 +152,14 @@ def run(asked: argparse.Namespace) -> int:
     return 0 if all(it.passed for it in runs) else 1
 
 
+def check_list(asked: argparse.Namespace) -> int:
+    """`--shown`: each entry of the list by its own script."""
+    known = known_for(asked)
+    faults = list(shown.faults_of(known, asked.shown, model.program_at(asked.model, TOP), adapter_of(asked)))
+    print("\n".join([*faults, f"{len(known.entries)} known differences, {len(faults)} faults"]))
+    return 1 if faults else 0
+
+
 def stop(number: int, _: object) -> None:
     sys.exit(128 + number)
 
@@ -152,10 +168,15 @@ def main(given: Optional[List[str]] = None) -> int:
     signal.signal(signal.SIGTERM, stop)
     try:
         asked = words().parse_args(given)
-        if asked.page:
-            print(page.page_of(read_known(asked.page)), end="")
+        if asked.fault and asked.emulator != "stand-in":
+            raise Wrong("--fault is for --emulator stand-in alone")
+        if asked.fault == "list":
+            print("\n".join(f"{it.name:<32}{(it.stand_in.__doc__ or '').strip()}" for it in faults.FAULTS))
             return 0
-        return run(asked)
+        if asked.page:
+            print(page.page_of(read_known(asked.page), os.path.basename(asked.page)), end="")
+            return 0
+        return check_list(asked) if asked.shown else run(asked)
     except (Wrong, ListFault, model.ModelFault) as why:
         print(f"ahci_conform: {why}", file=sys.stderr)
         return 2

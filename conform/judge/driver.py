@@ -163,6 +163,13 @@ class Driver:
                 return
             self.tell(f"disk, sector {lba}", self.image.get(lba, bytes(layout.SECTOR)), data)
 
+    def compare_disk(self) -> List[Difference]:
+        """At a script's end: the whole disk, or of a large one what was written."""
+        self.found = []
+        sectors = range(self.sectors) if self.started and self.sectors <= 4096 else sorted(self.image)
+        self.compare_sectors([lba for lba in sectors if lba not in self.spoiled])
+        return self.found
+
     def fail(self, step: Step) -> None:
         tag, error, lba = int(step.words[1]), int(step.words[2], 16), int(step.words[3])
         self.failure = (error, lba)

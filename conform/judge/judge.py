@@ -6,7 +6,7 @@ from .compare import Comparer
 from .differences import Difference
 from .driver import Driver
 from .known import Known
-from .model import Step, Trace
+from .model import Trace
 
 
 class Judged(NamedTuple):
@@ -42,10 +42,7 @@ def judge(name: str, trace: Trace, adapter: Adapter, known: Known) -> Judged:
             if new:
                 return Judged(name, trace, at + 1, seen, at, new)
             comparer.go_on(step)
-        last = Step(0, "", "", [], None, {}, {}, {})
-        driver.found = []
-        driver.compare_sectors(range(driver.sectors) if driver.started and driver.sectors <= 4096 else sorted(driver.image))
-        new = [left for left in (known.explain(last, it)[1] for it in driver.found) if any(left.mask)]
+        new = driver.compare_disk()
         return Judged(name, trace, len(trace.steps), seen, len(trace.steps) - 1 if new else -1, new)
     except EmulatorFault as why:
         raise EmulatorFault(f"{name}, line {step.number} ({step.line[:60]}): {why}") from why

@@ -17,14 +17,16 @@ class Cover(NamedTuple):
 
     place: "re.Pattern[str]"
     lines: Tuple[str, ...] = ()  # first words of lines
-    answer: str = ""  # how the model's answer begins
+    answer: Optional["re.Pattern[str]"] = None  # of the model
     bits: Optional[bytes] = None
     got: Optional[bytes] = None  # among these bits
     expected: Optional[bytes] = None
 
     def explains(self, step: Step, difference: Difference) -> bytes:
         """The bits of a difference that this explains."""
-        if self.lines and step.words[0] not in self.lines or not step.answer.startswith(self.answer) or not self.place.fullmatch(difference.place):
+        if self.lines and step.words[0] not in self.lines or self.answer and not self.answer.fullmatch(step.answer):
+            return b""
+        if not self.place.fullmatch(difference.place):
             return b""
         bits = b"\xff" * len(difference.mask) if self.bits is None else self.bits
         if len(bits) != len(difference.mask):
@@ -96,13 +98,18 @@ def bytes_in(text: Optional[str], where: str) -> Optional[bytes]:
         raise ListFault(f"{where}: '{text}' are no hexadecimal bytes") from why
 
 
+def pattern(text: str) -> "re.Pattern[str]":
+    """A text in which `*` stands for any text."""
+    return re.compile(re.escape(text).replace(r"\*", ".*"))
+
+
 def cover_of(value: Any, where: str) -> Cover:
     given = checked(value, COVER, ("place",), where)
-    place = re.compile(re.escape(given["place"]).replace(r"\*", ".*"))
     bits, got, expected = (bytes_in(given.get(name), f"{where}: '{name}'") for name in ("bits", "got", "expected"))
     if bits is not None and not any(bits):
         raise ListFault(f"{where}: no bit of 'bits' is 1")
-    return Cover(place, tuple(given.get("lines", [])), given.get("answer", ""), bits, got, expected)
+    answer = pattern(given["answer"]) if "answer" in given else None
+    return Cover(pattern(given["place"]), tuple(given.get("lines", [])), answer, bits, got, expected)
 
 
 def entry_of(value: Any, where: str) -> Entry:
