@@ -141,6 +141,8 @@ def run(asked: argparse.Namespace) -> int:
     for name, text in scripts_in(asked):
         judged = judge(name, model.trace_of(program, text), make(), known)
         runs.append(judged)
+        if judged.trace.end and not asked.json:
+            print(f"{name}: judged up to the model's `{judged.trace.end}`", flush=True)
         if asked.json:
             print(json.dumps(report.as_json(judged)), flush=True)
         elif judged.new:
