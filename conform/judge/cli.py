@@ -37,7 +37,8 @@ Examples:
   conform/ahci_conform examples/two_writes.ahci           one script on QEMU
   conform/ahci_conform --seed 1-500                       500 random scripts, as bench/scripts_of.py makes them
   conform/ahci_conform --seed 7 --json | jq .new          one seed, for tools
-  conform/ahci_conform --known none examples/*.ahci       every difference is told as a new one
+  conform/ahci_conform --without no_error_log conform/qemu/no_error_log.ahci
+                                                          a known difference, told as a new one
   conform/ahci_conform --emulator mine.py:Mine s.ahci     an adapter of your own (conform/ADAPTERS.md)
   conform/ahci_conform --shown conform/qemu               each entry of QEMU's list by its own script
   conform/ahci_conform --page conform/qemu-7.2.json       the list as the page docs/QEMU.md
@@ -61,9 +62,11 @@ def words() -> Words:
     made.add_argument("--seed", metavar="A-B", help="judge the random scripts of these seeds, as 7, 1-500 or 1-50,77")
     made.add_argument("--model", metavar="PATH", help="the model's program (default: the one that ./ahci --build makes, else ./ahci, unproved and slow)")
     made.add_argument("--known", metavar="FILE", help="the list of known differences, or `none` (default: the emulator's own)")
+    made.add_argument("--without", metavar="NAME", help="leave this entry out of the list, so that it is told as a new difference")
     made.add_argument("--fault", metavar="NAME", help="plant this fault in the stand-in; `list` names them")
     made.add_argument("--go-on", action="store_true", help="judge the scripts behind one with a new difference too")
     made.add_argument("--json", action="store_true", help="an object a script, a line each, in the place of text and table")
+    made.add_argument("--each-line", action="store_true", help="a line for each line of the scripts: its number, and the known differences that it shows; a new difference goes to standard error")
     made.add_argument("--shown", metavar="FOLDER", help="check that the list's entries are each shown by the script FOLDER/NAME.ahci")
     made.add_argument("--page", metavar="FILE", help="print the page of this list of known differences, and judge nothing")
     return made
@@ -95,7 +98,7 @@ def scripts_in(asked: argparse.Namespace) -> Iterator[Tuple[str, str]]:
     for path in asked.scripts:
         try:
             with (open(0, encoding="latin-1", closefd=False) if path == "-" else open(path, encoding="latin-1")) as text:
-                yield os.path.basename(path), text.read()
+                yield "standard input" if path == "-" else os.path.basename(path), text.read()
         except OSError as why:
             raise Wrong(f"{path} can't be read: {why.strerror}") from why
     if asked.seed:
@@ -128,7 +131,28 @@ def adapter_of(asked: argparse.Namespace) -> Callable[[], Adapter]:
 
 def known_for(asked: argparse.Namespace) -> Known:
     path = asked.known or LISTS.get(asked.emulator)
-    return NOTHING if path in (None, "none") else read_known(path)
+    known = NOTHING if path in (None, "none") else read_known(path)
+    if asked.without and asked.without not in [entry.name for entry in known.entries]:
+        raise Wrong(f"the list has no entry '{asked.without}': it has {', '.join(entry.name for entry in known.entries) or 'none'}")
+    return known._replace(entries=[entry for entry in known.entries if entry.name != asked.without])
+
+
+def tell(asked: argparse.Namespace, judged: Judged, title: str) -> None:
+    """What is told of one script when it has ended."""
+    text = "\n".join(report.differences_text(judged, title)) if judged.new else ""
+    if asked.json:
+        print(json.dumps(report.as_json(judged)), flush=True)
+    elif asked.each_line:
+        for step, names in zip(judged.trace.steps, judged.names):
+            print(" ".join([str(step.number), *(names or ["same"])]))
+        sys.stdout.flush()
+        if text:
+            print(text, file=sys.stderr)
+    else:
+        if judged.trace.end:
+            print(f"{judged.name}: judged up to the model's `{judged.trace.end}`", flush=True)
+        if text:
+            print(text, flush=True)
 
 
 def run(asked: argparse.Namespace) -> int:
@@ -141,15 +165,10 @@ def run(asked: argparse.Namespace) -> int:
     for name, text in scripts_in(asked):
         judged = judge(name, model.trace_of(program, text), make(), known)
         runs.append(judged)
-        if judged.trace.end and not asked.json:
-            print(f"{name}: judged up to the model's `{judged.trace.end}`", flush=True)
-        if asked.json:
-            print(json.dumps(report.as_json(judged)), flush=True)
-        elif judged.new:
-            print("\n".join(report.differences_text(judged, make().title)), flush=True)
+        tell(asked, judged, make().title)
         if judged.new and not asked.go_on:
             break
-    if not asked.json:
+    if not asked.json and not asked.each_line:
         print("\n".join(report.table(runs, known, time.monotonic() - begun)))
     return 0 if all(it.passed for it in runs) else 1
 

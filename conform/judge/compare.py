@@ -36,13 +36,18 @@ class Comparer:
             expected, got = self.expected(name).to_bytes(4, "big"), word.to_bytes(4, "big")
             if expected == got:
                 continue
-            now = Difference(name, expected, got, differs(expected, got))
+            now = Difference(name, expected, got, differs(expected, got), self.note(name))
             carried[name] = now
             mask = self.news(now)
             if any(mask):
                 found.append(now._replace(mask=mask))
         self.carried = carried
         return found
+
+    def note(self, name: str) -> str:
+        """Why the model's own PxCI may have more bits than what is expected."""
+        untold = ", ".join(str(tag) for tag in sorted(self.driver.untold))
+        return f"PxCI is written at `accept`: not yet for slot {untold}" if name == "PxCI" and untold else ""
 
     def news(self, now: Difference) -> bytes:
         """The bits that differ in another way than after the line before."""

@@ -14,10 +14,14 @@ class Judged(NamedTuple):
 
     name: str
     trace: Trace
-    lines: int  # that were played
+    names: List[List[str]]  # of the entries that each line that was played shows
     known: Dict[str, Tuple[int, int]]  # by an entry's name: how often, and the first line
     step: int  # the place in the trace of the line with new differences, or -1
     new: List[Difference]
+
+    @property
+    def lines(self) -> int:
+        return len(self.names)
 
     @property
     def passed(self) -> bool:
@@ -29,21 +33,24 @@ def judge(name: str, trace: Trace, adapter: Adapter, known: Known) -> Judged:
     driver = Driver(adapter)
     comparer = Comparer(driver)
     seen: Dict[str, Tuple[int, int]] = {}
+    names: List[List[str]] = []
     try:
         for at, step in enumerate(trace.steps):
-            new = []
+            new: List[Difference] = []
+            names.append([])
             for difference in driver.play(step) + comparer.compare(step):
                 entries, left = known.explain(step, difference)
                 for entry in entries:
                     times, first = seen.get(entry.name, (0, step.number))
                     seen[entry.name] = (times + 1, first)
+                    names[-1] += [entry.name] if entry.name not in names[-1] else []
                 if any(left.mask) or not entries:
                     new.append(left)
             if new:
-                return Judged(name, trace, at + 1, seen, at, new)
+                return Judged(name, trace, names, seen, at, new)
             comparer.go_on(step)
         new = driver.compare_disk()
-        return Judged(name, trace, len(trace.steps), seen, len(trace.steps) - 1 if new else -1, new)
+        return Judged(name, trace, names, seen, len(trace.steps) - 1 if new else -1, new)
     except EmulatorFault as why:
         raise EmulatorFault(f"{name}, line {step.number} ({step.line[:60]}): {why}") from why
     finally:

@@ -3,7 +3,10 @@ from typing import List
 
 from .known import Entry, Known
 
-CHOICES = {"standard": "the standard's: the emulator does otherwise", "model": "the model's own: the standard leaves it open"}
+CHOICES = {
+    "standard": "the standard's, and the emulator does otherwise",
+    "model": "the model's own, where the standard leaves one or the model is narrower",
+}
 HEAD = """\
 # {title} beside the model
 
@@ -12,8 +15,8 @@ data, disk ([conform](../conform/README.md)). A command that succeeds goes the s
 the FISes and their bytes, the data, the scatter lists and the sectors are those of the model. What differs is below, and nothing
 else was found. This page is made from `conform/{file}` by `conform/ahci_conform --page`; `make -C conform check` compares them.
 
-Each difference has the smallest script that shows it, by its last line: `conform/ahci_conform --known none conform/qemu/NAME.ahci`
-tells it as a new one.
+Each difference has the smallest script that shows it, by its last line. `conform/ahci_conform --without NAME
+conform/qemu/NAME.ahci` tells it as a new one, with what was expected and what was got.
 
 ## At a glance
 
@@ -54,7 +57,7 @@ def anchor(title: str) -> str:
 
 def page_of(known: Known, file: str) -> str:
     lines = [HEAD.format(title=known.title, file=file).rstrip("\n")]
-    lines += [f"| [{it.title}](#{anchor(it.title)}) | {it.section} | {CHOICES[it.choice].split(':')[0]} |" for it in known.entries]
+    lines += [f"| [{it.title}](#{anchor(it.title)}) | {it.section} | {CHOICES[it.choice].split(',')[0]} |" for it in known.entries]
     lines.append("")
     for entry in known.entries:
         lines += section(entry, known.title)

@@ -8,6 +8,7 @@ from .known import Known
 from .model import Step
 
 AROUND = 6  # lines of the trace before a difference
+MOST_TOLD = 8  # differences of one line
 MOST = 96  # digits of a long value that are shown
 
 
@@ -25,12 +26,13 @@ def value(place: str, data: bytes) -> str:
 
 
 def apart(it: Difference) -> str:
-    """Which bits or fields differ; of long bytes the first place too."""
-    if it.note and not it.names:
-        return it.note
-    first = next((at for at, byte in enumerate(it.mask) if byte), 0)
-    where = f", first at byte {first} (expected {it.expected[first:first + 1].hex()}, got {it.got[first:first + 1].hex()})" if len(it.mask) > 28 else ""
-    return ", ".join(it.names) + where + (f" ({it.note})" if it.note else "")
+    """Which bits or fields differ; of many bytes how many, and the first."""
+    note = f" ({it.note})" if it.note else ""
+    if len(it.mask) <= 28:
+        return ", ".join(it.names) + note
+    first = next(at for at, byte in enumerate(it.mask) if byte)
+    many = sum(byte != 0 for byte in it.mask)
+    return f"{many} of {len(it.mask)} bytes, first that at {first:x}h: expected {it.expected[first:first + 1].hex()}h, got {it.got[first:first + 1].hex()}h{note}"
 
 
 def step_lines(step: Step, mark: str) -> List[str]:
@@ -46,14 +48,21 @@ def step_lines(step: Step, mark: str) -> List[str]:
     return lines
 
 
+def places(judged: Judged) -> str:
+    """The places that differ; many sectors of the disk are one."""
+    return ", ".join(dict.fromkeys("disk" if it.place.startswith("disk, ") else it.place for it in judged.new))
+
+
 def differences_text(judged: Judged, title: str) -> List[str]:
     """The new differences of a script, as a table of places, and the model's trace around them."""
     step = judged.trace.steps[judged.step]
-    lines = [f"{judged.name}, line {step.number}: {step.line[:80]}", f"the model's answer: {step.answer[:80]}", ""]
-    for it in judged.new:
+    lines = [f"{judged.name}, line {step.number}: {step.line[:80]} ({places(judged)})", f"the model's answer: {step.answer[:80]}", ""]
+    for it in judged.new[:MOST_TOLD]:
         section = layout.section_of(it.place)
         lines += [f"  {it.place}" + (f"  ({section})" if section else ""), f"    expected  {value(it.place, it.expected)}",
                   f"    got       {value(it.place, it.got)}", f"    differs   {apart(it)}"]
+    if len(judged.new) > MOST_TOLD:
+        lines.append(f"  and {len(judged.new) - MOST_TOLD} more")
     lines += ["", f"The model's trace around it (> is the line at which {title} differs):"]
     for at in range(max(0, judged.step - AROUND), min(len(judged.trace.steps), judged.step + 2)):
         lines += step_lines(judged.trace.steps[at], ">" if at == judged.step else " ")
@@ -85,7 +94,7 @@ def table(runs: List[Judged], known: Known, seconds: float) -> List[str]:
         lines += ["", "| New difference | at | line |", "|---|---|---|"]
         for run in bad:
             step = run.trace.steps[run.step]
-            lines.append(f"| {', '.join(dict.fromkeys(it.place for it in run.new))} | {run.name}, line {step.number} | `{step.line[:40]}` |")
+            lines.append(f"| {places(run)} | {run.name}, line {step.number} | `{step.line[:40]}` |")
     return lines
 
 

@@ -51,12 +51,12 @@ class Runs(unittest.TestCase):
     def test_a_difference_has_status_1(self) -> None:
         status, out, _ = self.judge("--fault", "no_sdbs", script="disk 1 1\nread 0 0 1\naccept 0\nserve 0\n")
         self.assertEqual(status, 1)
-        self.assertIn("-, line 4: serve 0", out)
+        self.assertIn("standard input, line 4: serve 0 (PxIS)", out)
 
     def test_a_script_is_judged_up_to_its_faulty_line_which_is_told(self) -> None:
         status, out, _ = self.judge(script="disk 1 1\nwhat\n")
         self.assertEqual(status, 0)
-        self.assertIn("-: judged up to the model's `ahci: line 2: not understood`", out)
+        self.assertIn("standard input: judged up to the model's `ahci: line 2: not understood`", out)
 
     def test_no_script_is_like_one_that_does_nothing(self) -> None:
         self.assertEqual(self.judge(script="")[0], 0)
