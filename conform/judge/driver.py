@@ -10,6 +10,7 @@ from .window import GUARD, UNTOUCHED, Window, memory_of, table_of, window_of, ra
 
 ERR, BUSY = 0x01, 0x88  # of a status: ERR; BSY and DRQ
 ALL = 0xFFFFFFFF
+OWN_IMAGE = "the tool's own image of the disk"  # a difference here is a fault of the tool
 
 
 class Driver:
@@ -22,6 +23,7 @@ class Driver:
         self.windows: Dict[int, Window] = {}
         self.untold: Set[int] = set()  # issued, with PxCI not yet written: the port would accept at once
         self.image: Dict[int, bytes] = {}
+        self.texts: Dict[int, bytes] = {}  # what the commands of the slots have read
         self.spoiled: Set[int] = set()  # sectors that the port may have changed while it was halted
         self.failure = (0, 0)  # error and LBA of the failed command
         self.found: List[Difference] = []
@@ -37,7 +39,7 @@ class Driver:
         actions: Dict[str, Callable[[Step], None]] = {
             "disk": self.disk, "write": self.issue, "read": self.issue, "raw": self.issue, "reissue": self.issue,
             "accept": self.accept, "serve": self.serve, "fail": self.fail, "recover": self.recover,
-            "identify": self.identify, "flush": self.flush, "ack": self.ack, "show": self.show,
+            "identify": self.identify, "flush": self.flush, "ack": self.ack, "show": self.show, "collect": self.collect,
         }
         actions.get(word, lambda _: None)(step)
         return self.found
@@ -76,7 +78,7 @@ class Driver:
 
     # the lines
     def disk(self, step: Step) -> None:
-        """Starts the emulator, and its port as AHCI 1.3.1 wants it, section 10.1.2."""
+        """Starts the emulator, and its port as AHCI 1.3.1 wants it ("System Software Specific Initialization")."""
         self.sectors, depth = int(step.words[1]), int(step.words[2])
         self.started = True  # so that `stop` ends one that came up half way
         self.adapter.start(self.sectors, depth)
@@ -134,6 +136,7 @@ class Driver:
         self.wait_for("set_device_bits")
         windows = [self.windows[tag] for tag in tags]
         texts = [self.effect(window) for window in windows]
+        self.texts.update(zip(tags, texts))
         for window, text in zip(windows, texts):
             self.compare_done(window, text)
 
@@ -204,7 +207,16 @@ class Driver:
         self.write(layout.PX_IS, int(step.words[1], 16))
 
     def show(self, step: Step) -> None:
-        self.compare_sectors([int(step.words[1])])
+        lba = int(step.words[1])
+        self.compare_sectors([lba])
+        self.tell(OWN_IMAGE, bytes.fromhex(step.answer.split(" ")[2]), self.image.get(lba, bytes(1))[:1])
+
+    def collect(self, step: Step) -> None:
+        """The model's answer shows whether the tool's own image, which data are compared with, is the model's."""
+        answer = step.answer.split(" ")
+        if answer[0] == "read":
+            text = self.texts[int(step.words[1])]
+            self.tell(OWN_IMAGE, bytes.fromhex("".join(answer[2:])), text[:: layout.SECTOR])
 
     # commands that aren't queued
     def plain(self, sent: Sent) -> None:

@@ -26,8 +26,8 @@ conform/qemu/NAME.ahci` tells it as a new one, with what was expected and what w
 BESIDE = """\
 ## What no script can show
 
-A script's driver makes no such access, so these were tried by hand: by reads and writes of QEMU's registers, and by windows
-that the model refuses.
+A script's driver makes no such access, so these are tried by hand-made ones, by [test_beside.py](../conform/tests/test_beside.py),
+which `make -C conform check` runs.
 
 | What | Standard | {title} | Model |
 |---|---|---|---|

@@ -117,7 +117,7 @@ class Qtest:
         except subprocess.TimeoutExpired:
             return "QEMU has closed its connection"
         with open(self.path("err"), encoding="utf-8", errors="replace") as err:
-            said = [line.strip() for line in err if line.strip()]
+            said = [line.strip() for line in err if line.strip() and not line.startswith("blkdebug: ")]
         end = f"by signal {-status}" if status is not None and status < 0 else f"with status {status}"
         return f"QEMU has ended {end}" + (f": {said[-1]}" if said else "")
 
