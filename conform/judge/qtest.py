@@ -108,7 +108,7 @@ class Qtest:
             if open_ends:
                 return
             if time.monotonic() > until:
-                raise EmulatorFault(f"QEMU answers nothing since {SECONDS:.0f} seconds")
+                raise EmulatorFault(f"QEMU has answered nothing for {SECONDS:.0f} seconds")
 
     def death(self) -> str:
         assert self.process

@@ -166,9 +166,8 @@ class LastSectorDisk(Disk):
 class LastSectorRefused(StandIn):
     """A command that ends with the last sector is taken to pass it."""
 
-    def start(self, sectors: int, depth: int) -> None:
-        super().start(sectors, depth)
-        self.disk = LastSectorDisk(sectors, depth)
+    def new_disk(self, sectors: int, depth: int) -> Disk:
+        return LastSectorDisk(sectors, depth)
 
 
 class LogNamesSlot0(StandIn):

@@ -19,12 +19,16 @@ class StandIn(Adapter):
     patience = quiet = 0.0  # what comes has come when a call returns
 
     def start(self, sectors: int, depth: int) -> None:
-        self.disk = Disk(sectors, depth)
+        self.disk = self.new_disk(sectors, depth)
         self.memory = Memory()
         self.halted = False
         self.words: Dict[int, int] = {offset: 0 for offset, _, _ in layout.REGISTERS.values()}
         self.words.update({0x00: 0x40000000 | (depth - 1) << 8, 0x04: 0x80000000, 0x0C: 1, 0x10: 0x00010301})
         self.words.update({layout.PX_TFD: 0x40, 0x124: 0x101, 0x128: 0x123})
+
+    def new_disk(self, sectors: int, depth: int) -> Disk:
+        """The disk behind the port: another one can stand here, over a library for one."""
+        return Disk(sectors, depth)
 
     def stop(self) -> None:
         pass

@@ -2,6 +2,7 @@
 import os
 import stat
 import subprocess
+import sys
 import tempfile
 import unittest
 from unittest import mock
@@ -33,7 +34,7 @@ class Programs(unittest.TestCase):
         self.assertEqual(self.fault("echo no such machine >&2; exit 1"), "QEMU has ended with status 1: no such machine")
 
     def test_one_that_hangs_is_told_and_ended(self) -> None:
-        self.assertEqual(self.fault("exec sleep 60"), "QEMU answers nothing since 1 seconds")
+        self.assertEqual(self.fault("exec sleep 60"), "QEMU has answered nothing for 1 seconds")
 
 
 @needs_qemu
@@ -64,7 +65,7 @@ class Disks(unittest.TestCase):
             disk = nbd.NbdDisk(os.path.join(folder, "nbd"), 1)
             self.addCleanup(disk.close)
             code = f"import socket; s = socket.socket(socket.AF_UNIX); s.connect({os.path.join(folder, 'nbd')!r}); s.sendall(bytes(4)); s.close()"
-            subprocess.run(["python3", "-c", code], check=True)
+            subprocess.run([sys.executable, "-c", code], check=True)
             with self.assertRaisesRegex(EmulatorFault, "the emulator"):
                 disk.pump()
 
