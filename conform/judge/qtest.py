@@ -101,7 +101,7 @@ class Qtest:
         while True:
             ready, _, _ = select.select([*ends, self.disk], [], [], 0.5)
             if self.disk in ready:
-                self.disk.pump()
+                self.serve_disk()
             open_ends = [end.fill() for end in ends if end in ready]
             if not all(open_ends) or self.process and self.process.poll() is not None:
                 raise EmulatorFault(self.death())
@@ -110,10 +110,18 @@ class Qtest:
             if time.monotonic() > until:
                 raise EmulatorFault(f"QEMU has answered nothing for {SECONDS:.0f} seconds")
 
+    def serve_disk(self) -> None:
+        """Where QEMU ends, its disk may be the first to notice."""
+        try:
+            self.disk.pump()
+        except EmulatorFault as why:
+            text = self.death()
+            raise EmulatorFault(text if "has ended" in text else str(why)) from why
+
     def death(self) -> str:
         assert self.process
         try:
-            status: Optional[int] = self.process.wait(SECONDS)
+            status: Optional[int] = self.process.wait(1)
         except subprocess.TimeoutExpired:
             return "QEMU has closed its connection"
         with open(self.path("err"), encoding="utf-8", errors="replace") as err:
@@ -165,7 +173,7 @@ class Qtest:
         until = time.monotonic() + SECONDS
         while self.disk.done < done and time.monotonic() < until:
             if select.select([self.disk], [], [], 0.05)[0]:
-                self.disk.pump()
+                self.serve_disk()
         return self.disk.done >= done
 
     def stop(self) -> None:
