@@ -89,6 +89,22 @@ class Beside(unittest.TestCase):
         fis = self.qemu.read_memory(layout.RECEIVED_AREA + 0x58, 8)
         self.assertEqual((self.sector(), fis[0], fis[4]), (b"\xaa", 0xA1, 1))
 
+    def test_after_an_error_a_comreset_brings_the_port_back(self) -> None:
+        self.run_port()
+        self.put(0)
+        self.issue(0)
+        self.assertTrue(self.qemu.fail(0, 0x40, 0))
+        self.qemu.settle()
+        self.assertEqual(self.read(PX_TFD), 0x441)
+        self.write(PX_CMD, FRE)
+        for value in (1, 0):
+            self.write(layout.PX_SCTL, value)
+        self.run_port()
+        self.issue(0)
+        self.assertEqual(self.read(PX_CI), 0)
+        self.release(0)
+        self.assertEqual((self.sector(), self.read(PX_SACT)), (b"\xaa", 0))
+
     def test_identify_goes_through_while_a_command_is_outstanding(self) -> None:
         self.run_port()
         self.put(1)
