@@ -1,0 +1,1 @@
+"""The same scripts on the model and on an emulator, compared after each line."""

@@ -1,0 +1,212 @@
+"""The command line of ahci_conform."""
+import argparse
+import importlib.util
+import json
+import os
+import re
+import signal
+import sys
+import time
+from typing import Callable, Iterator, List, Optional, Tuple
+
+from stand_in import faults
+
+from . import model, page, report, shown
+from .adapter import Adapter, EmulatorFault
+from .judge import Judged, judge
+from .known import NOTHING, Known, ListFault, read_known
+from .qemu import Qemu
+
+TOP = os.path.dirname(os.path.dirname(os.path.dirname(os.path.abspath(__file__))))
+CONFORM = os.path.join(TOP, "conform")
+LISTS = {"qemu": os.path.join(CONFORM, "qemu-7.2.json")}
+ABOUT = """\
+Plays scripts on an emulator's AHCI port as a driver would, and compares the port with the reference model after each line:
+all registers, the FISes received at the line, a read's data, the disk, PRDBC where it counts. A script ends at the first line
+with a difference that the list of known ones doesn't have; the line, what was expected, what was got and the trace around it
+are told.
+"""
+EXAMPLES = """\
+Exit status:
+  0  every difference is on the list
+  1  some script has a new difference
+  2  the command line is wrong, or the model, the list or a script can't be read
+  3  the emulator can't be started, has died, or answers nothing
+
+Examples:
+  conform/ahci_conform examples/two_writes.ahci           one script on QEMU
+  conform/ahci_conform --seed 1-500                       500 random scripts, as bench/scripts_of.py makes them
+  conform/ahci_conform --seed 7 --json | jq .new          one seed, for tools
+  conform/ahci_conform --without no_error_log conform/qemu/no_error_log.ahci
+                                                          a known difference, told as a new one
+  conform/ahci_conform --emulator mine.py:Mine s.ahci     an adapter of your own (conform/ADAPTERS.md)
+  conform/ahci_conform --shown conform/qemu               each entry of QEMU's list by its own script
+  conform/ahci_conform --page conform/qemu-7.2.json       the list as the page docs/QEMU.md
+"""
+
+
+class Wrong(Exception):
+    """What is wrong with the command line, in one line."""
+
+
+class Words(argparse.ArgumentParser):
+    def error(self, message: str) -> None:  # type: ignore[override]
+        raise Wrong(f"{message} (conform/ahci_conform --help explains)")
+
+
+def words() -> Words:
+    made = Words(prog="ahci_conform", description=ABOUT, epilog=EXAMPLES, formatter_class=argparse.RawDescriptionHelpFormatter)
+    made.add_argument("scripts", metavar="SCRIPT", nargs="*", help="script files; - is standard input")
+    made.add_argument("--emulator", metavar="NAME", default="qemu", help="qemu, stand-in, or FILE.py:CLASS (default: qemu)")
+    made.add_argument("--qemu", metavar="PATH", help="QEMU's program (default: qemu-system-x86_64)")
+    made.add_argument("--seed", metavar="A-B", help="judge the random scripts of these seeds, as 7, 1-500 or 1-50,77")
+    made.add_argument("--model", metavar="PATH", help="the model's program (default: the one that ./ahci --build makes, else ./ahci, unproved and slow)")
+    made.add_argument("--known", metavar="FILE", help="the list of known differences, or `none` (default: the emulator's own)")
+    made.add_argument("--without", metavar="NAME", help="leave this entry out of the list, so that it is told as a new difference")
+    made.add_argument("--fault", metavar="NAME", help="plant this fault in the stand-in; `list` names them")
+    made.add_argument("--go-on", action="store_true", help="judge the scripts behind one with a new difference too")
+    made.add_argument("--json", action="store_true", help="an object a script, a line each, in the place of text and table")
+    made.add_argument("--each-line", action="store_true", help="a line for each line of the scripts: its number, and the known differences that it shows; a new difference goes to standard error")
+    made.add_argument("--shown", metavar="FOLDER", help="check that the list's entries are each shown by the script FOLDER/NAME.ahci")
+    made.add_argument("--page", metavar="FILE", help="print the page of this list of known differences, and judge nothing")
+    return made
+
+
+def seeds_in(text: str) -> List[int]:
+    seeds: List[int] = []
+    for part in text.split(","):
+        ends = re.fullmatch(r"([0-9]{1,15})(?:-([0-9]{1,15}))?", part)
+        if not ends or int(ends[1]) > int(ends[2] or ends[1]):
+            raise Wrong(f"'{part}' names no seeds: give one, as 77, or a range, as 1-50, with commas between them")
+        seeds += range(int(ends[1]), int(ends[2] or ends[1]) + 1)
+    return seeds
+
+
+def script_maker() -> Callable[[int], List[str]]:
+    """`script_of` of bench/scripts_of.py."""
+    path = os.path.join(TOP, "bench", "scripts_of.py")
+    found = importlib.util.spec_from_file_location("scripts_of", path)
+    if not found or not found.loader or not os.path.exists(path):
+        raise Wrong(f"there is no {path}")
+    module = importlib.util.module_from_spec(found)
+    found.loader.exec_module(module)
+    return module.script_of  # type: ignore[no-any-return]
+
+
+def scripts_in(asked: argparse.Namespace) -> Iterator[Tuple[str, str]]:
+    """Names and texts."""
+    for path in asked.scripts:
+        try:
+            with (open(0, encoding="latin-1", closefd=False) if path == "-" else open(path, encoding="latin-1")) as text:
+                yield "standard input" if path == "-" else os.path.basename(path), text.read()
+        except OSError as why:
+            raise Wrong(f"{path} can't be read: {why.strerror}") from why
+    if asked.seed:
+        script_of = script_maker()
+        for seed in seeds_in(asked.seed):
+            yield f"seed {seed}", "".join(f"{line}\n" for line in script_of(seed))
+
+
+def adapter_of(asked: argparse.Namespace) -> Callable[[], Adapter]:
+    """What makes the emulator's adapter, anew for each script."""
+    if asked.emulator == "qemu":
+        return lambda: Qemu(asked.qemu) if asked.qemu else Qemu()
+    if asked.emulator == "stand-in":
+        if asked.fault not in (None, *(it.name for it in faults.FAULTS)):
+            raise Wrong(f"there is no fault '{asked.fault}': --fault list names them")
+        return faults.named(asked.fault)
+    path, colon, name = asked.emulator.rpartition(":")
+    if not colon:
+        raise Wrong(f"there is no emulator '{asked.emulator}': qemu, stand-in, or FILE.py:CLASS")
+    found = importlib.util.spec_from_file_location("adapter_of_the_user", path)
+    if not found or not found.loader or not os.path.exists(path):
+        raise Wrong(f"there is no adapter {path}")
+    module = importlib.util.module_from_spec(found)
+    found.loader.exec_module(module)
+    made = getattr(module, name, None)
+    if not (isinstance(made, type) and issubclass(made, Adapter)):
+        raise Wrong(f"{path} has no class {name} that is a judge.adapter.Adapter")
+    return made
+
+
+def known_for(asked: argparse.Namespace) -> Known:
+    path = asked.known or LISTS.get(asked.emulator)
+    known = NOTHING if path in (None, "none") else read_known(path)
+    if asked.without and asked.without not in [entry.name for entry in known.entries]:
+        raise Wrong(f"the list has no entry '{asked.without}': it has {', '.join(entry.name for entry in known.entries) or 'none'}")
+    return known._replace(entries=[entry for entry in known.entries if entry.name != asked.without])
+
+
+def tell(asked: argparse.Namespace, judged: Judged, title: str) -> None:
+    """What is told of one script when it has ended."""
+    text = "\n".join(report.differences_text(judged, title)) if judged.new else ""
+    if asked.json:
+        print(json.dumps(report.as_json(judged)), flush=True)
+    elif asked.each_line:
+        for step, names in zip(judged.trace.steps, judged.names):
+            print(" ".join([str(step.number), *(names or ["same"])]))
+        sys.stdout.flush()
+        if text:
+            print(text, file=sys.stderr)
+    else:
+        if judged.trace.end:
+            print(f"{judged.name}: judged up to the model's `{judged.trace.end}`", flush=True)
+        if text:
+            print(text, flush=True)
+
+
+def run(asked: argparse.Namespace) -> int:
+    """Judges all scripts, and tells of each as it ends."""
+    if not asked.scripts and not asked.seed:
+        raise Wrong("SCRIPT or --seed is missing (conform/ahci_conform --help explains)")
+    make, known, program = adapter_of(asked), known_for(asked), model.program_at(asked.model, TOP)
+    runs: List[Judged] = []
+    begun = time.monotonic()
+    for name, text in scripts_in(asked):
+        judged = judge(name, model.trace_of(program, text), make(), known)
+        runs.append(judged)
+        tell(asked, judged, make().title)
+        if judged.new and not asked.go_on:
+            break
+    if not asked.json and not asked.each_line:
+        print("\n".join(report.table(runs, known, time.monotonic() - begun)))
+    return 0 if all(it.passed for it in runs) else 1
+
+
+def check_list(asked: argparse.Namespace) -> int:
+    """`--shown`: each entry of the list by its own script."""
+    known = known_for(asked)
+    faults = list(shown.faults_of(known, asked.shown, model.program_at(asked.model, TOP), adapter_of(asked)))
+    print("\n".join([*faults, f"{len(known.entries)} known differences, {len(faults)} faults"]))
+    return 1 if faults else 0
+
+
+def stop(number: int, _: object) -> None:
+    sys.exit(128 + number)
+
+
+def main(given: Optional[List[str]] = None) -> int:
+    signal.signal(signal.SIGTERM, stop)
+    try:
+        asked = words().parse_args(given)
+        if asked.fault and asked.emulator != "stand-in":
+            raise Wrong("--fault is for --emulator stand-in alone")
+        if asked.fault == "list":
+            print("\n".join(f"{it.name:<32}{(it.stand_in.__doc__ or '').strip()}" for it in faults.FAULTS))
+            return 0
+        if asked.page:
+            print(page.page_of(read_known(asked.page), os.path.basename(asked.page)), end="")
+            return 0
+        return check_list(asked) if asked.shown else run(asked)
+    except (Wrong, ListFault, model.ModelFault) as why:
+        print(f"ahci_conform: {why}", file=sys.stderr)
+        return 2
+    except EmulatorFault as why:
+        print(f"ahci_conform: {why}", file=sys.stderr)
+        return 3
+    except KeyboardInterrupt:
+        print("ahci_conform: stopped", file=sys.stderr)
+        return 130
+    except BrokenPipeError:
+        os.dup2(os.open(os.devnull, os.O_WRONLY), 1)  # nothing more can be told
+        return 1

@@ -1,0 +1,104 @@
+"""The model's side: `ahci trace --json`, line by line."""
+import json
+import os
+import subprocess
+from typing import Any, Dict, List, NamedTuple, Optional
+
+from . import layout
+
+
+class ModelFault(Exception):
+    """The model's program can't be run, or its trace can't be read. Its text is one line."""
+
+
+class Sent(NamedTuple):
+    header: bytes
+    cfis: bytes
+    prdt: List[bytes]
+
+
+class Step(NamedTuple):
+    """One line of a script, and what the model did at it."""
+
+    number: int  # of the line in its script, from 1
+    line: str
+    answer: str
+    entries: List[Dict[str, Any]]
+    sent: Optional[Sent]
+    received: Dict[str, bytes]
+    registers: Dict[str, int]  # those that changed
+    phases: Dict[int, str]  # of the slots that are owned
+
+    @property
+    def words(self) -> List[str]:
+        return self.line.split(" ")
+
+
+class Trace(NamedTuple):
+    steps: List[Step]
+    end: str  # empty, or what the model said when it ended at a faulty line
+
+
+def commands_of(script: str) -> List["tuple[int, str]"]:
+    """The lines that are commands, with their numbers."""
+    lines = script.split("\n")
+    return [(at, line) for at, line in enumerate(lines, 1) if line and not line.startswith("#")]
+
+
+def sent_of(told: Optional[Dict[str, Any]]) -> Optional[Sent]:
+    if told is None:
+        return None
+    return Sent(bytes.fromhex(told["header"]), bytes.fromhex(told["cfis"]), [bytes.fromhex(it) for it in told["prdt"]])
+
+
+def step_of(number: int, line: str, told: Dict[str, Any]) -> Step:
+    return Step(
+        number, line, told["answer"], told["entries"], sent_of(told["sent"]),
+        {name: bytes.fromhex(text) for name, text in told["received"].items()},
+        {it["name"]: int(it["word"], 16) for it in told["registers"]},
+        {it["tag"]: it["phase"] for it in told["slots"]},
+    )
+
+
+def steps_of(script: str, trace: str) -> List[Step]:
+    """A script's commands beside the objects of its trace, of which there are fewer where the script ends with a fault."""
+    steps = []
+    for (number, line), told in zip(commands_of(script), trace.splitlines()):
+        try:
+            steps.append(step_of(number, line, json.loads(told)))
+        except (ValueError, KeyError, TypeError) as why:
+            raise ModelFault(f"line {number} of the model's trace can't be read: {type(why).__name__} {why}") from why
+    return steps
+
+
+def trace_of(program: str, script: str, seconds: float = 600.0) -> Trace:
+    """Runs the model over a script."""
+    try:
+        ran = subprocess.run([program, "trace", "--json"], input=script.encode(), capture_output=True, timeout=seconds, check=False)
+    except subprocess.TimeoutExpired as why:
+        raise ModelFault(f"the model, {program}, has no answer after {seconds:.0f} seconds") from why
+    except OSError as why:
+        raise ModelFault(f"the model, {program}, can't be run: {why.strerror} (./ahci --build makes it)") from why
+    said = ran.stderr.decode("latin-1").strip()
+    faults = [line for line in said.splitlines() if ": line " in line]
+    if ran.returncode != 0 and not (ran.returncode == 1 and faults):
+        raise ModelFault(f"the model, {program}, ended with status {ran.returncode}: {(said.splitlines() or ['no text'])[-1]}")
+    steps = steps_of(script, ran.stdout.decode("ascii"))
+    if not faults and len(steps) != len(commands_of(script)):
+        raise ModelFault(f"the model, {program}, answered {len(steps)} of {len(commands_of(script))} lines")
+    return Trace(steps, faults[0] if faults else "")
+
+
+def program_at(given: Optional[str], top: str) -> str:
+    """The program to run: the one that was named, or the built one, or `./ahci`, which says that it runs unproved."""
+    built = os.path.join(top, "crates", "ahci", "out", "rlib", "ahci", "ahci")
+    return given or (built if os.path.exists(built) else os.path.join(top, "ahci"))
+
+
+def log_page(tag: int, error: int, lba: int) -> bytes:
+    """The page of log 10h that names a failed command (docs/LAYOUTS.md, "Log 10h, page 0")."""
+    page = bytearray(layout.SECTOR)
+    page[0], page[2], page[3] = tag, 0x41, error
+    page[4:7], page[8:11] = (lba & 0xFFFFFF).to_bytes(3, "little"), (lba >> 24).to_bytes(3, "little")
+    page[511] = -sum(page) & 0xFF
+    return bytes(page)

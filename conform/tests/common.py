@@ -1,0 +1,36 @@
+"""What the tests share: stored traces, which need no model, and the model where it is built."""
+import os
+import shutil
+import unittest
+from typing import Optional
+
+from judge import model
+from judge.model import Trace, commands_of, steps_of
+
+TESTS = os.path.dirname(os.path.abspath(__file__))
+CONFORM = os.path.dirname(TESTS)
+TOP = os.path.dirname(CONFORM)
+BUILT = os.path.join(TOP, "crates", "ahci", "out", "rlib", "ahci", "ahci")
+MODEL: Optional[str] = os.environ.get("MODEL") or (BUILT if os.path.exists(BUILT) else None)
+
+needs_model = unittest.skipUnless(MODEL, "the model isn't built: ./ahci --build, or make check MODEL=PATH")
+needs_qemu = unittest.skipUnless(shutil.which("qemu-system-x86_64"), "QEMU is missing: Debian's package is qemu-system-x86")
+
+
+def text_of(*names: str) -> str:
+    with open(os.path.join(TOP, *names), encoding="utf-8") as text:
+        return text.read()
+
+
+def stored() -> Trace:
+    """The example whose trace is stored as JSON: an error in a queue of three, its recovery, and two reissues."""
+    script = text_of("examples", "error_in_a_queue.ahci")
+    return Trace(steps_of(script, text_of("examples", "error_in_a_queue.json")), "")
+
+
+def trace_of(script: str) -> Trace:
+    assert MODEL
+    return model.trace_of(MODEL, script)
+
+
+__all__ = ["commands_of", "needs_model", "needs_qemu", "stored", "text_of", "trace_of"]

@@ -1,0 +1,88 @@
+"""Whole scripts on the stand-in, over a stored trace."""
+import unittest
+from typing import List, Type
+
+from judge.adapter import EmulatorFault
+from judge.judge import Judged, judge
+from judge.known import NOTHING
+from judge.report import as_json, differences_text, table
+from judge.window import memory_of, pieces_of, window_of
+from stand_in.faults import FAULTS, named
+from stand_in.port import StandIn
+from tests.common import stored
+
+
+class Counted(StandIn):
+    """Counts its ends."""
+
+    stops: List[str] = []
+
+    def stop(self) -> None:
+        self.stops.append("stop")
+
+
+class Dies(Counted):
+    def read_registers(self, offsets: object) -> List[int]:
+        raise EmulatorFault("it has ended by signal 9")
+
+
+def run(made: Type[StandIn]) -> Judged:
+    return judge("queue", stored(), made(), NOTHING)
+
+
+class Whole(unittest.TestCase):
+    def test_the_stand_in_does_as_the_model(self) -> None:
+        judged = run(StandIn)
+        self.assertEqual((judged.new, judged.lines, judged.known), ([], len(stored().steps), {}))
+
+    def test_an_error_that_stops_nothing_is_told_where_the_next_line_is_tried(self) -> None:
+        judged = run(named("goes_on_after_an_error"))
+        self.assertEqual(judged.trace.steps[judged.step].line, "serve 0")
+        self.assertEqual(sorted(it.place for it in judged.new), ["DMA Setup FIS", "PxSACT", "PxTFD", "Set Device Bits FIS"])
+
+    def test_faults_that_this_script_shows_are_found_at_their_place(self) -> None:
+        shown = [fault.name for fault in FAULTS if run(fault.stand_in).new]
+        self.assertEqual(len(shown), 14)
+        self.assertNotIn("lba_of_24_bits", shown)
+
+    def test_the_emulator_is_ended_whatever_happens(self) -> None:
+        Counted.stops.clear()
+        run(Counted)
+        with self.assertRaisesRegex(EmulatorFault, r"queue, line 5 \(disk 1000 32\): it has ended by signal 9"):
+            run(Dies)
+        self.assertEqual(Counted.stops, ["stop", "stop"])
+
+
+class Reports(unittest.TestCase):
+    def test_a_difference_is_told_with_its_line_its_bits_and_the_trace(self) -> None:
+        text = "\n".join(differences_text(run(named("no_sdbs")), "the stand-in"))
+        for part in ("queue, line 19: fail 1 40 7 (PxIS)", "PxIS  (AHCI 1.3.1, section 3.3.5)", "expected  40000008  SDBS, TFES", "got       40000000  TFES",
+                     "differs   SDBS", ">    19  fail 1 40 7"):
+            self.assertIn(part, text)
+
+    def test_the_same_run_is_told_in_the_same_words(self) -> None:
+        once, again = (table([run(named("no_sdbs"))], NOTHING, 0.0) for _ in range(2))
+        self.assertEqual(once, again)
+        self.assertIn("| PxIS | queue, line 19 | `fail 1 40 7` |", once)
+
+    def test_the_json_names_line_place_and_bits(self) -> None:
+        new = as_json(run(named("no_sdbs")))["new"]
+        self.assertEqual((new["line"], new["differences"][0]["place"], new["differences"][0]["differs"]), (19, "PxIS", ["SDBS"]))
+        self.assertIsNone(as_json(run(StandIn))["new"])
+
+
+class Windows(unittest.TestCase):
+    def test_pieces_have_one_byte_more_than_dbc_says(self) -> None:
+        sent = stored().steps[1].sent
+        assert sent
+        self.assertEqual(pieces_of(sent.prdt), [(0x10001000, 512)])
+
+    def test_a_reads_pieces_are_filled_so_that_missing_bytes_show(self) -> None:
+        sent = stored().steps[1].sent
+        assert sent
+        places = dict(memory_of(window_of(0, sent, False, 0, bytes(512))))
+        self.assertEqual((places[0x10001000], places[0x10001200]), (b"\xc5" * 512, b"\xc5" * 64))
+
+
+if __name__ == "__main__":
+    unittest.main()
