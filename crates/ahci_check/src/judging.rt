@@ -1,5 +1,5 @@
 ghost use Rattle.std.specs.Prelude.{◌≡◌, IfSome, not};
-ghost use Rattle.ahci_check.specs.Complaints.{IsColumn, column_of, complaint_at, complaint_in, ends_replay, of_command, of_reading, stands};
+ghost use Rattle.ahci_check.specs.Complaints.{IsColumn, complaint_at, complaint_in, ends_replay, of_command, of_reading, stands};
 
 use crate::complaint::Complaint;
 use crate::excess::excess_of;

@@ -1,16 +1,16 @@
 -- Lemmas about how a job list is read.
-use Rattle.std.proofs.Common.{◌≡◌, ℕ, ◌+◌, List, [], ◌∷◌, ◌++◌, Option, length, refl, sym, ap, ◌∙◌, subst, inl, inr, append_assoc, append-nil}
+use Rattle.std.proofs.Common.{◌≡◌, ℕ, ◌+◌, List, [], ◌++◌, Option, length, sym, ap, ◌∙◌, subst, inl, inr, append_assoc, append-nil}
 use Rattle.std.proofs.KnownBytes.{Consumes-nil}
 use Rattle.std.specs.Io.KnownBytes.{Consumes, IsAtEnd}
 use Rattle.ahci_script.specs.Jobs.{job_line_of}
 use Rattle.ahci_script.specs.Reading as reading
 use Rattle.ahci_script.specs.Reading.{Comes, MayEnd, ReadsAll, Step, StopsReading, Taken, TakenFirst, last_by, last_of}
-use Rattle.ahci_script.specs.Unread.{Begins, MayFail, found_of, too_long, unfinished, whole, with_feeds}
+use Rattle.ahci_script.specs.Unread.{Begins, found_of, too_long, unfinished, whole, with_feeds}
 use Rattle.ahci_script.specs.declared.stopped.Stopped.{Stopped}
 use Rattle.ahci_script.specs.declared.stopped.Stopped.TheVariants as stopped
 use Rattle.ncq_journal.specs.Work.{Work}
 use Rattle.ahci_jobs.specs.Faults.{list_fault_of}
-use Rattle.ahci_jobs.specs.JobList.{AreGood, IsBadNext, IsFaulty, IsGood, IsListFault, IsListed, ListedFirst, Refuses, Takes, asked_in, commands_of, no_line, one_more}
+use Rattle.ahci_jobs.specs.JobList.{AreGood, IsBadNext, IsFaulty, IsListFault, IsListed, ListedFirst, Refuses, Takes, asked_in, commands_of, no_line, one_more}
 use Rattle.ahci_jobs.specs.declared.list_fault.ListFault.{ListFault}
 use Rattle.ahci_jobs.specs.declared.list_fault.ListFault.TheVariants.{Line, Job, Read, OutOfMemory}
 

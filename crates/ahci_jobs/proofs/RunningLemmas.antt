@@ -21,7 +21,7 @@ use Rattle.ahci_jobs.proofs.ListLemmas.{Known}
 use Rattle.ahci_jobs.specs.Faults.{jobs_fault_of}
 use Rattle.ahci_jobs.specs.JobList.{AreGood, IsGood, IsListFault, IsListed, asked_in, command_for, commands_of, no_line, one_more}
 use Rattle.ahci_jobs.specs.Results.{IsTold, SaysPart, run_text}
-use Rattle.ahci_jobs.specs.RunJobs.{EndsRun, IsUndone, blank_port}
+use Rattle.ahci_jobs.specs.RunJobs.{EndsRun, blank_port, fault_of}
 
 -- all of these commands can be issued
 abbrev pub AllProper : List Work → Type 0
@@ -82,14 +82,14 @@ ends_listing list.Read workers depth sectors r s c h = (h, refl)
 ends_listing list.OutOfMemory workers depth sectors r s c h = inl refl
 
 -- the run was given up
-pub ends_running : (f : JobsFault) (workers depth sectors : ℕ) (r s c : Known) (jobs : List Work) → IsListed r s jobs → IsUndone f → EndsRun workers depth sectors r s c c f
-ends_running Unsettled workers depth sectors r s c jobs listed h = ((jobs, listed), refl)
-ends_running (Lost i) workers depth sectors r s c jobs listed h = ((jobs, listed), refl)
-ends_running OutOfMemory workers depth sectors r s c jobs listed h = inl refl
-ends_running (Line n) workers depth sectors r s c jobs listed h = absurd h
-ends_running (Job i) workers depth sectors r s c jobs listed h = absurd h
-ends_running Read workers depth sectors r s c jobs listed h = absurd h
-ends_running Write workers depth sectors r s c jobs listed h = absurd h
+pub ends_running : (f : RunFault) (port : PortView) (workers depth sectors : ℕ) (r s c : Known) (jobs : List Work) → IsListed r s jobs → IsGivenUp port jobs f
+    → EndsRun workers depth sectors r s c c (fault_of f)
+ends_running of_run.NotFresh port workers depth sectors r s c jobs listed h = ((jobs, listed), refl)
+ends_running (of_run.BadJob i) port workers depth sectors r s c jobs listed h = ((jobs, listed), refl)
+ends_running of_run.OutOfMemory port workers depth sectors r s c jobs listed h = inl refl
+ends_running (of_run.Lost i) port workers depth sectors r s c jobs listed h = ((jobs, listed, h.1), refl)
+ends_running of_run.Foreign port workers depth sectors r s c jobs listed h = ((jobs, listed), refl)
+ends_running (of_run.Unsettled settled) port workers depth sectors r s c jobs listed h = ((jobs, listed), refl)
 
 -- the output took no more
 pub ends_telling : {T : Type 0} (result : Result T JobsFault) (workers depth sectors : ℕ) (r s c d : Known) (jobs : List Work) (port : PortView) (replies : List Received)

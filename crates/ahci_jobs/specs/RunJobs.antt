@@ -1,5 +1,5 @@
 -- A job list from its text to the text of its results.
-use Rattle.std.specs.Prelude.{◌≡◌, ℕ, ◌*◌, List, [], Option, replicate, ◌⊎◌}
+use Rattle.std.specs.Prelude.{◌≡◌, ℕ, ◌*◌, ◌<◌, List, [], Option, length, replicate, ◌⊎◌}
 use Rattle.std.specs.Io.KnownBytes.{Appends}
 use Rattle.ahci_driver.specs.Received.{Received}
 use Rattle.ahci_driver.specs.Running.{HasRun}
@@ -36,14 +36,7 @@ fault_of run.OutOfMemory = fault.OutOfMemory
 fault_of (run.Lost job) = fault.Lost job
 fault_of given_up = fault.Unsettled
 
--- the faults of a run that was given up
-abbrev pub IsUndone : JobsFault → Type 0
-IsUndone fault.Unsettled = Unit {0}
-IsUndone (fault.Lost i) = Unit {0}
-IsUndone fault.OutOfMemory = Unit {0}
-IsUndone _ = ⊥
-
--- why it isn't. A fault of the input, and a run that isn't settled, come before any text; where the output takes no more, or
+-- why it isn't. A fault of the input, and a run that isn't settled, come before any text, and a job that is lost is one of the list; where the output takes no more, or
 -- memory is wanted, some first part of the text may be written
 abbrev pub EndsRun : ℕ → ℕ → ℕ → Option (List ℕ) → Option (List ℕ) → Option (List ℕ) → Option (List ℕ) → JobsFault → Type 0
 EndsRun workers depth sectors r s c d (fault.Line n) = IsListFault r s (list.Line n) × (d ≡ c)
@@ -52,4 +45,4 @@ EndsRun workers depth sectors r s c d fault.Read = IsListFault r s list.Read × 
 EndsRun workers depth sectors r s c d fault.Write = HasDone workers depth sectors r s (SaysPart c [] d)
 EndsRun workers depth sectors r s c d fault.OutOfMemory = (d ≡ c) ⊎ HasDone workers depth sectors r s (SaysPart c [] d)
 EndsRun workers depth sectors r s c d fault.Unsettled = ((jobs : List Work) × IsListed r s jobs) × (d ≡ c)
-EndsRun workers depth sectors r s c d (fault.Lost i) = ((jobs : List Work) × IsListed r s jobs) × (d ≡ c)
+EndsRun workers depth sectors r s c d (fault.Lost i) = ((jobs : List Work) × IsListed r s jobs × (i < length jobs)) × (d ≡ c)

@@ -4,7 +4,7 @@ ghost use Rattle.std.specs.Prelude.{◌≡◌, ◌++◌, ◌↔◌, ◌∷◌, [
 ghost use Rattle.ahci_script.specs.Jobs.{job_line_of};
 ghost use Rattle.ncq_journal.specs.Lawful.{IsProper};
 ghost use Rattle.ncq_journal.specs.Work.{work_of};
-ghost use Rattle.ahci_jobs.specs.JobList.{IsBad, IsGood, IsLineFault, command_for, commands_of};
+ghost use Rattle.ahci_jobs.specs.JobList.{IsGood, IsLineFault, command_for, commands_of};
 
 use crate::list_fault::ListFault;
 use ahci_script::{Job, JobLine, parse_job};

@@ -1,8 +1,8 @@
 ghost use Rattle.std.specs.Prelude.{◌≡◌, ◌≤◌, None, map, vec_len, IfErr, IfOk, OnOk};
 ghost use Rattle.ncq_journal.specs.Work.{work_of};
 ghost use Rattle.ahci_driver.specs.Received.{received_of};
-ghost use Rattle.ahci_driver.specs.Running.{HasRun, IsFirstBad, IsLate};
-ghost use Rattle.ahci_jobs.specs.RunJobs.{EndsRun, IsUndone, RunsJobs, blank_port, fault_of};
+ghost use Rattle.ahci_driver.specs.Running.{HasRun, IsFirstBad, IsGivenUp, IsLate};
+ghost use Rattle.ahci_jobs.specs.RunJobs.{EndsRun, RunsJobs, blank_port, fault_of};
 
 use crate::job_list::listed;
 use crate::jobs_fault::JobsFault;
@@ -19,8 +19,7 @@ use std::thread::Threads;
 /// The program's fault, where a run that has begun was given up.
 fn given_up(fault: RunFault) -> JobsFault
     requires { IsLate fault }
-    ensures told { result ≡ fault_of fault }
-    ensures undone { IsUndone result }
+    ensures { result ≡ fault_of fault }
 {
     match fault {
         RunFault::OutOfMemory => JobsFault::OutOfMemory,
@@ -46,7 +45,30 @@ fn blank<A: Allocator + Clone>(alloc: A, sectors: u32, depth: u32) -> Result<Por
     }
 }
 
-/// Does the jobs on a new port.
+/// A new port, and a chooser for each worker.
+fn crew<C, A>(
+    alloc: &A,
+    workers: u32,
+    depth: u32,
+    sectors: u32,
+    chooser: C,
+) -> Result<(Port<A>, Vec<C, A>), AllocError>
+where
+    C: Copy + Drop,
+    A: Allocator + Clone,
+    requires slots { 1 ≤ depth }
+    requires deep { depth ≤ 32 }
+    requires room { 1 ≤ sectors }
+    requires limit { sectors ≤ MAX_SECTORS }
+    ensures port { IfOk result (λ crew. crew.0 ≡ blank_port sectors depth) }
+    ensures choosers { IfOk result (λ crew. vec_len crew.1 ≡ workers) }
+{
+    let port = blank(alloc.clone()?, sectors, depth)?;
+    let choosers = vec![in alloc.clone()?; chooser; workers as usize]?;
+    Ok((port, choosers))
+}
+
+/// Does the jobs on a new port. A fault is the run's own.
 fn done<H, C, A>(
     rt: &H,
     alloc: A,
@@ -55,7 +77,7 @@ fn done<H, C, A>(
     sectors: u32,
     chooser: C,
     jobs: &[Op<A>],
-) -> Result<RunEnd<A>, JobsFault>
+) -> Result<RunEnd<A>, RunFault>
 where
     H: Threads + Wait + Sync,
     C: Chooser + Copy + Send + Drop,
@@ -68,14 +90,12 @@ where
     requires limit { sectors ≤ MAX_SECTORS }
     requires jobs { IsFirstBad (map work_of jobs.now) None }
     ensures ok { IfOk result (λ end. HasRun (blank_port sectors depth) end.port (map work_of jobs.now) (map received_of end.replies.items) workers) }
-    ensures err { IfErr result IsUndone }
+    ensures fault { IfErr result (IsGivenUp (blank_port sectors depth) (map work_of jobs.now)) }
 {
-    let port = blank(alloc.clone()?, sectors, depth)?;
-    let choosers = vec![in alloc.clone()?; chooser; workers as usize]?;
-    match run(rt, alloc, port, jobs, workers, choosers, &Open) {
-        Ok(end) => Ok(end),
-        Err(fault) => Err(given_up(fault)),
-    }
+    let Ok((port, choosers)) = crew(&alloc, workers, depth, sectors, chooser) else {
+        return Err(RunFault::OutOfMemory);
+    };
+    run(rt, alloc, port, jobs, workers, choosers, &Open)
 }
 
 /// Does the jobs that the reader gives on a disk of zeros, by workers on threads, and writes a line for each job, in the
@@ -114,6 +134,8 @@ where
         (W.contents writer.old) (W.contents writer.new)) }
 {
     let jobs = listed(alloc.clone()?, reader)?;
-    let end = done(rt, alloc.clone()?, workers, depth, sectors, chooser, &jobs)?;
-    tell_run(alloc, writer, &end)
+    match done(rt, alloc.clone()?, workers, depth, sectors, chooser, &jobs) {
+        Ok(end) => tell_run(alloc, writer, &end),
+        Err(fault) => Err(given_up(fault)),
+    }
 }

@@ -25,6 +25,7 @@ fn tell<W: Write, A: Allocator>(
     ensures ok { OnOk result (Says (W.contents writer.old) output.old (W.contents writer.new) output.new (fed (told line.entry))) }
     ensures err { OnErr result (SaysPart (W.contents writer.old) output.old (W.contents writer.new) (fed (told line.entry))) }
     ensures fault { IfErr result IsTold }
+    ensures short { IfErr result (λ fault. fault ≡ JobsFault.OutOfMemory → W.contents writer.new ≡ W.contents writer.old) }
 {
     output.put_result(line)?;
     if output.is_full() {

@@ -57,6 +57,7 @@ impl<'t, T: Teller<A>, A: Allocator + Copy> Script<'t, T, A> {
 }
 
 impl<'t, T: Teller<A>, W: Write, A: Allocator + Copy> TakesLines<W> for Script<'t, T, A> {
+    ghost use Rattle.std.specs.Prelude.{◌≡◌, []};
     ghost use Rattle.ahci_replay.specs.Place.{place};
     ghost use Rattle.ahci_replay.specs.Transcript.{Refuses, Takes};
 
@@ -64,6 +65,8 @@ impl<'t, T: Teller<A>, W: Write, A: Allocator + Copy> TakesLines<W> for Script<'
 
     ghost Takes = { λ old number found new. Takes T.telling (place (W.contents old.1) old.0.output old.0.session) number found
         (place (W.contents new.1) new.0.output new.0.session) };
+
+    ghost IsSent = { λ s. s.0.output ≡ [] };
 
     ghost Refuses = { λ old number found fault new. Refuses T.telling (place (W.contents old.1) old.0.output old.0.session) number found fault
         (place (W.contents new.1) new.0.output new.0.session) };

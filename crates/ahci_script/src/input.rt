@@ -2,6 +2,7 @@ ghost use Rattle.std.specs.Prelude.{◌≡◌, ℕ, ◌+◌, ◌<◌, ◌≤◌,
 ghost use Rattle.std.specs.Io.KnownBytes.{Consumes, IsAtEnd};
 ghost use Rattle.ahci_script.specs.Unread.{Grows, MayFail, found_of, line_end, shown};
 
+use crate::takes_lines::TakesLines;
 use std::alloc::{AllocError, Allocator, Global};
 use std::io::Read;
 use std::marker::Model;
@@ -90,10 +91,17 @@ impl<A: Allocator> Input<A> {
         }
     }
 
-    /// Reads more bytes. `false` at the end of the input. It fails where the reader does, and where a byte comes after the
+    /// Reads more bytes, which may wait for whoever writes them: so whoever takes the lines, and the output beside it, have to
+    /// have sent all before. `false` at the end of the input. It fails where the reader does, and where a byte comes after the
     /// limit.
-    pub fn fill<R: Read>(&mut self, reader: &mut R) -> Result<bool, InputFailed>
-        requires { length self.old.bytes ≤ LINE_LIMIT }
+    pub fn fill<R: Read, T: TakesLines<O>, O>(
+        &mut self,
+        reader: &mut R,
+        taker: &T,
+        output: &O,
+    ) -> Result<bool, InputFailed>
+        requires short { length self.old.bytes ≤ LINE_LIMIT }
+        requires sent { T.IsSent (taker.now, output.now) }
         ensures ok { IfOk result (λ more. MatchBool more
             (Grows self.old self.new (R.remaining reader.old) (R.remaining reader.new))
             ((self.new ≡ self.old) × IsAtEnd (R.remaining reader.new)

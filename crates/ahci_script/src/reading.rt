@@ -111,7 +111,7 @@ impl<A: Allocator> Reading<A> {
         ensures less { IfOk result (λ more. more ≡ true → left_in self.new < left_in self.old) }
     {
         match taker.take(self.line + 1, Found::Unfinished, output) {
-            Ok(()) => Ok(self.input.fill(reader)?),
+            Ok(()) => Ok(self.input.fill(reader, &*taker, &*output)?),
             Err(fault) => Err(Stopped::Taker(fault)),
         }
     }

@@ -1,9 +1,11 @@
 //! A reader that fails after every number of bytes, and a writer that takes any number of bytes and no more.
 use ahci_driver::Low;
 use ahci_jobs::{JobsFault, run_jobs};
+use std::alloc::AllocError;
 use std::io;
 use std::io::{Read, Write};
 use std::process::Abort;
+use std::test::Fail;
 
 static LIST: &[u8] = b"write 0 2 11\nwrite 4 1 22\nread 1 1\nread 4 2\n";
 
@@ -81,4 +83,39 @@ fn a_writer_may_take_any_number_of_bytes(rt: HostRuntime) {
             "room for {room} bytes: {ended:?}"
         );
     }
+}
+
+/// The text of a read of so many sectors of zeros, and of a write, whose first sector is not all zero then.
+fn long_text(rt: &HostRuntime, sectors: usize) -> Result<Vec<u8>, AllocError> {
+    let mut text = b"read".to_vec(rt.alloc())?;
+    for _ in 0..sectors {
+        text.extend_from_slice(b" 00")?;
+    }
+    text.extend_from_slice(b"\nwrote\nsector 0 11\n")?;
+    Ok(text)
+}
+
+#[test]
+fn a_writer_may_fail_before_all_results_are_made(rt: HostRuntime) -> Result<(), Fail> {
+    let told = long_text(&rt, 8192)?;
+    // More than 16,384 bytes are sent before the write is told.
+    for room in [0, 1, 16_384, 24_580, 24_581, 24_586, 24_598, 24_599] {
+        let mut reader = b"read 0 8192\nwrite 0 1 11\n".as_slice();
+        let mut writer = Full {
+            written: Vec::new(rt.alloc()),
+            room,
+        };
+        let ended = run_jobs(&rt, rt.alloc(), 1, 1, 8192, Low, &mut reader, &mut writer);
+        let taken = room.min(told.len());
+        let expected = if taken < told.len() {
+            Err(JobsFault::Write)
+        } else {
+            Ok(())
+        };
+        assert!(rt;
+            ended == expected && writer.written.as_slice() == &told[..taken],
+            "room for {room} bytes: {ended:?}"
+        );
+    }
+    Ok(())
 }

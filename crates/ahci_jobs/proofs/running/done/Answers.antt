@@ -1,8 +1,14 @@
-use Rattle.std.proofs.Common.{map}
+use Rattle.std.proofs.Common.{IfErr, IfOk, map, subst}
 use Rattle.ncq_journal.specs.Work.{work_of}
-use Rattle.ahci_jobs.proofs.RunningLemmas.{is_late}
+use Rattle.ahci_driver.specs.Received.{received_of}
+use Rattle.ahci_driver.specs.Running.{HasRun, IsGivenUp}
 use Rattle.ahci_jobs.proofs.running.done.Goals as goal
 
-pub given_up-requires : goal.given_up-requires
-given_up-requires g c =
-    is_late c.in_ok-port.port (map work_of c.args.jobs.now) c.args.sectors c.args.depth c.in-Err.fault c.in_ok-port.ensures c.requires.jobs c.in-Err.ensures.fault
+pub returns-clause-ok : goal.returns-clause-ok
+returns-clause-ok g c =
+    subst (λ port. IfOk c.run.result (λ end. HasRun port end.port (map work_of c.args.jobs.now) (map received_of end.replies.items) c.args.workers))
+    c.in-Ok.ensures.port c.run.ensures.ok
+
+pub returns-clause-fault : goal.returns-clause-fault
+returns-clause-fault g c =
+    subst (λ port. IfErr c.run.result (IsGivenUp port (map work_of c.args.jobs.now))) c.in-Ok.ensures.port c.run.ensures.fault
