@@ -122,7 +122,10 @@ def adapter_of(asked: argparse.Namespace) -> Callable[[], Adapter]:
     if not found or not found.loader or not os.path.exists(path):
         raise Wrong(f"there is no adapter {path}")
     module = importlib.util.module_from_spec(found)
-    found.loader.exec_module(module)
+    try:
+        found.loader.exec_module(module)
+    except (Exception, SystemExit) as why:  # whatever the file does
+        raise Wrong(f"{path} can't be loaded: {type(why).__name__}: {why}") from why
     made = getattr(module, name, None)
     if not (isinstance(made, type) and issubclass(made, Adapter)):
         raise Wrong(f"{path} has no class {name} that is a judge.adapter.Adapter")
@@ -189,11 +192,11 @@ def main(given: Optional[List[str]] = None) -> int:
     signal.signal(signal.SIGTERM, stop)
     try:
         asked = words().parse_args(given)
-        if asked.fault and asked.emulator != "stand-in":
-            raise Wrong("--fault is for --emulator stand-in alone")
         if asked.fault == "list":
             print("\n".join(f"{it.name:<32}{(it.stand_in.__doc__ or '').strip()}" for it in faults.FAULTS))
             return 0
+        if asked.fault and asked.emulator != "stand-in":
+            raise Wrong("--fault is for --emulator stand-in alone")
         if asked.page:
             print(page.page_of(read_known(asked.page), os.path.basename(asked.page)), end="")
             return 0
