@@ -1,0 +1,246 @@
+/* One AHCI port with its NCQ disk, as C calls of the static library libahci.a or the shared one libahci.so.0: `make -C c` builds both.
+
+   Every call answers a status, AHCI_OK or the one reason for which it was refused (ahci_status). A refused call has changed
+   nothing: neither the port nor what its pointers lead to. AHCI_OUT_OF_MEMORY stands for nothing but refused memory.
+
+   What the caller owes, since nothing checks it: each pointer is valid for the bytes said, aligned for its type, and not null,
+   also where 0 bytes are said; no two of one call overlap; an ahci_port is never copied and its fields are never read or
+   written; one call at a time is made of one port. Calls of different ports may run at once on different threads, and a port
+   may go from one thread to another if something orders the calls. docs/C.md has all of it.
+
+   "Section" is one of AHCI 1.3.1, "SATA" Serial ATA, and ACS-3 the ATA command set. A sector has 512 bytes. */
+#ifndef AHCI_H
+#define AHCI_H
+
+#include <stdbool.h>
+#include <stddef.h>
+#include <stdint.h>
+
+#ifdef __cplusplus
+extern "C" {
+#endif
+
+#define AHCI_SECTOR_BYTES 512
+#define AHCI_MOST_SECTORS 131072   /* of one port's disk: 64 MiB */
+#define AHCI_MOST_TAGS 32
+#define AHCI_MOST_COUNT 65536      /* sectors of one command */
+#define AHCI_HEADER_BYTES 32       /* a command header (section 4.2.2) */
+#define AHCI_RECEIVED_BYTES 256    /* the received FIS area (section 4.2.1) */
+#define AHCI_PAGE_BYTES 512        /* the page of IDENTIFY DEVICE, and page 0 of log 10h */
+
+/* A place for a port. All zeros is an empty place. */
+typedef struct ahci_port {
+    void *at;
+    bool full;
+} ahci_port;
+#define AHCI_PORT_EMPTY { NULL, false }
+
+/* What a call answers. Each stands for one thing. */
+typedef enum ahci_status {
+    AHCI_OK = 0,
+    /* of places, arguments and memory */
+    AHCI_NO_PORT = 1,           /* the place is empty */
+    AHCI_PORT_THERE = 2,        /* the place has a port already */
+    AHCI_OUT_OF_MEMORY = 3,     /* the system gave no memory */
+    AHCI_BUFFER_TOO_SMALL = 4,  /* the answer has more bytes than the buffer */
+    AHCI_WRONG_LENGTH = 5,      /* a buffer of one fixed length has another */
+    AHCI_BAD_TAG = 6,           /* the tag is not 0 to 31 */
+    AHCI_BAD_KIND = 7,          /* the kind is none of those that the call knows */
+    AHCI_NO_SUCH_SECTOR = 8,    /* the LBA is past the last sector */
+    AHCI_NO_SUCH_ENTRY = 9,     /* the journal has no entry of this number, or it has no bytes */
+    AHCI_TOO_MANY_TAGS = 10,    /* a list of over 32 tags */
+    /* of making a port */
+    AHCI_BAD_SIZE = 11,         /* the disk is not 1 to 131,072 whole sectors */
+    AHCI_BAD_DEPTH = 12,        /* the depth is not 1 to 32 */
+    AHCI_BAD_FIRST = 13,        /* the number of the first entry is over 2^63 */
+    /* of registers */
+    AHCI_UNALIGNED = 16,        /* the offset isn't a multiple of 4 */
+    AHCI_NO_SUCH_REGISTER = 17, /* no register of this model stands at the offset */
+    AHCI_NOT_STARTED = 18,      /* a write of PxSACT or PxCI while ST is 0: no call answers it yet */
+    AHCI_NOT_RECEIVING = 19,    /* a write that sets ST while FRE is 0: no call answers it yet */
+    AHCI_RUNNING = 20,          /* a write that clears FRE or moves a base while ST is 1: no call answers it yet */
+    /* of the port */
+    AHCI_HALTED = 32,           /* a command has failed, and the port has not recovered */
+    AHCI_NO_SUCH_TAG = 33,      /* the tag is not below the depth */
+    AHCI_SLOT_OWNED = 34,       /* the slot has a request */
+    AHCI_BAD_HEADER = 35,       /* the command header is none that the port takes, or its table isn't in the window */
+    AHCI_BAD_COMMAND = 36,      /* CFIS is no READ or WRITE FPDMA QUEUED in the header's direction */
+    AHCI_WRONG_TAG = 37,        /* the command's tag is not the window's */
+    AHCI_BAD_LIST = 38,         /* the PRDT is none that the port takes */
+    AHCI_BAD_COUNT = 39,        /* not 1 to 65,536 sectors, or a write whose bytes are not as many sectors */
+    AHCI_BAD_LBA = 40,          /* the LBA doesn't fit 48 bits */
+    AHCI_NOT_ISSUED = 41,       /* the tag's command does not wait for the device */
+    AHCI_NOT_ACCEPTED = 42,     /* the command of the tag, or of some tag of the list, is not accepted */
+    AHCI_OUTSIDE_COMMAND = 43,  /* the sector is not one of the command's */
+    AHCI_BAD_TAGS = 44,         /* a list of no tag, or with one tag twice */
+    AHCI_NOT_HALTED = 45,       /* no command has failed */
+    AHCI_NOT_HELD = 46,         /* the tag's command is not held */
+    AHCI_QUEUE_BUSY = 47,       /* a queued command is issued or accepted */
+    AHCI_STRANGER = 48,         /* the slot is free, or its request has another number */
+    AHCI_NOT_YET = 49,          /* the request has no answer yet */
+    AHCI_BUSY = 50,             /* some slot is not free */
+    AHCI_SPENT = 51,            /* the number of the next entry is over 2^63 */
+    /* of FISes */
+    AHCI_EMPTY_FIS = 64,        /* there are no bytes */
+    AHCI_UNKNOWN_TYPE = 65,     /* the type is none of the seven */
+    AHCI_WRONG_FIS_LENGTH = 66, /* the type doesn't have so many bytes */
+    AHCI_BAD_FLAG = 67,         /* a flag that is neither 0 nor 1 */
+    AHCI_BAD_STATUS = 68,       /* bit 7 or 3 of a Set Device Bits FIS's status is 1 */
+    AHCI_BAD_PAYLOAD = 69,      /* the payload of a Data FIS is not 4 to 8,192 bytes, a multiple of 4 */
+    /* of journals */
+    AHCI_NOT_ALLOWED = 80       /* an event that can't come where it stands */
+} ahci_status;
+
+/* What a command does. */
+typedef enum ahci_kind {
+    AHCI_READ = 0,
+    AHCI_WRITE = 1
+} ahci_kind;
+
+/* Where a tag's command stands. */
+typedef enum ahci_phase {
+    AHCI_PHASE_FREE = 0,        /* the slot has no request */
+    AHCI_PHASE_ISSUED = 1,      /* the command waits for the device */
+    AHCI_PHASE_ACCEPTED = 2,    /* the device has taken it */
+    AHCI_PHASE_REJECTED = 3,    /* the device refused it, and the port has not recovered */
+    AHCI_PHASE_BROKEN = 4,      /* it failed after it was accepted, and the port has not recovered */
+    AHCI_PHASE_HELD = 5,        /* another's error ended it: it can be issued again */
+    AHCI_PHASE_DONE = 6         /* the request has its answer */
+} ahci_phase;
+
+/* What the device did in a step. */
+typedef enum ahci_did {
+    AHCI_ACCEPTED = 0,
+    AHCI_COMPLETED = 1,
+    AHCI_FAILED = 2
+} ahci_did;
+
+typedef struct ahci_stepped {
+    uint64_t first; /* the number of the step's first entry */
+    uint32_t count; /* how many entries it has: one, but for a list of tags */
+    uint32_t did;   /* ahci_did */
+} ahci_stepped;
+
+/* How a request ended. */
+typedef enum ahci_outcome {
+    AHCI_DID_READ = 0,
+    AHCI_DID_WRITE = 1,
+    AHCI_DID_FAIL = 2
+} ahci_outcome;
+
+typedef struct ahci_reply {
+    uint64_t number;  /* the request's, that of its Issue entry */
+    uint64_t entry;   /* the number of the entry that answered it */
+    uint64_t lba;     /* of a failure: the failing sector; else 0 */
+    uint64_t bytes;   /* of a read: how many bytes it has read; else 0 */
+    uint32_t outcome; /* ahci_outcome */
+    uint32_t error;   /* of a failure: the error byte; else 0 */
+} ahci_reply;
+
+/* One slot of a port. */
+typedef struct ahci_slot {
+    uint64_t number; /* that of the request that owns it; 0 where it is free */
+    uint64_t bytes;  /* how many bytes its request reads: those that collect wants room for; 0 for a write or a free slot */
+    uint32_t phase;  /* ahci_phase */
+    uint32_t owned;  /* 1 where a request owns it, else 0 */
+} ahci_slot;
+
+/* Which tags wait for what, each set as the bits of a word. */
+typedef struct ahci_tag_sets {
+    uint32_t issued;   /* their command waits for the device */
+    uint32_t accepted; /* the device has taken their command */
+    uint32_t held;     /* another command's error has ended theirs */
+} ahci_tag_sets;
+
+/* ---- a port ---- */
+
+/* Makes a port of `depth` slots over a copy of an image, in an empty place. It is started and has done nothing.
+   AHCI_PORT_THERE, AHCI_BAD_SIZE, AHCI_BAD_DEPTH, AHCI_OUT_OF_MEMORY. */
+uint32_t ahci_port_new(ahci_port *port, const uint8_t *image, size_t image_bytes, uint32_t depth);
+
+/* The same over a disk of zeros. */
+uint32_t ahci_port_new_zeros(ahci_port *port, uint32_t sectors, uint32_t depth);
+
+/* As ahci_port_new, where the journal goes on from an earlier one: its first entry has the number `first`, at most 2^63.
+   AHCI_BAD_FIRST behind AHCI_BAD_DEPTH. */
+uint32_t ahci_port_resume(ahci_port *port, const uint8_t *image, size_t image_bytes, uint32_t depth, uint64_t first);
+
+/* Frees a port, and leaves its place empty. AHCI_NO_PORT, as of every call from here on. */
+uint32_t ahci_port_free(ahci_port *port);
+
+/* How many slots there are, 1 to 32. */
+uint32_t ahci_port_depth(ahci_port *port, uint32_t *depth);
+
+/* How many sectors the disk has, 1 to 131,072. */
+uint32_t ahci_port_sectors(ahci_port *port, uint32_t *sectors);
+
+/* Reads the register at an offset from the HBA's base, in bytes (sections 3.1 and 3.3): port 0's stand from 100h on.
+   AHCI_UNALIGNED, AHCI_NO_SUCH_REGISTER. */
+uint32_t ahci_port_register(ahci_port *port, uint32_t offset, uint32_t *word);
+
+/* Software writes a word to PxIS, in which a 1 clears (section 3.3.5). */
+uint32_t ahci_port_acknowledge(ahci_port *port, uint32_t mask);
+
+/* Copies the received FIS area (section 4.2.1): DMA Setup at 00h, PIO Setup at 20h, D2H Register at 40h, Set Device Bits at
+   58h. AHCI_WRONG_LENGTH where out_bytes is not 256. */
+uint32_t ahci_port_received(ahci_port *port, uint8_t *out, size_t out_bytes);
+
+/* Issues the command of a window as it lies in memory ("Building a Command"): the 32 bytes of its command header, and the
+   memory from the tag's base on, 10000000h + tag * 4000000h, in which the header's table and the PRDT's data stand. Its number is *number, that of its Issue
+   entry. AHCI_BAD_TAG where the tag is not below 32, AHCI_WRONG_LENGTH where the header has not 32 bytes, then AHCI_HALTED,
+   AHCI_NO_SUCH_TAG, AHCI_SLOT_OWNED, AHCI_BAD_HEADER, AHCI_BAD_COMMAND, AHCI_WRONG_TAG, AHCI_BAD_LIST, AHCI_OUT_OF_MEMORY. */
+uint32_t ahci_port_issue(ahci_port *port, uint32_t tag, const uint8_t *header, size_t header_bytes, const uint8_t *memory, size_t memory_bytes, uint64_t *number);
+
+/* Issues a read or a write of `sectors` sectors from `lba` on, in a window that the library lays out: pieces of 4,096 bytes
+   for up to 256 sectors, and of 1 MiB for more. A write has 512 * sectors bytes of data; of a read `data` is not looked at.
+   AHCI_BAD_TAG, AHCI_BAD_KIND, AHCI_BAD_COUNT, AHCI_BAD_LBA, then as of ahci_port_issue. */
+uint32_t ahci_port_submit(ahci_port *port, uint32_t tag, uint32_t kind, uint64_t lba, uint32_t sectors, const uint8_t *data, size_t data_bytes, uint64_t *number);
+
+/* The device takes a tag's command: a D2H Register FIS. One that passes the last sector it fails with error 10h: *done tells
+   which. It takes no memory. AHCI_BAD_TAG, AHCI_HALTED, AHCI_NOT_ISSUED. */
+uint32_t ahci_port_accept(ahci_port *port, uint32_t tag, ahci_stepped *done);
+
+/* The device moves the data of the commands of 1 to 32 tags, a byte each, one after the other, and completes them by one Set
+   Device Bits FIS. It takes no memory. AHCI_TOO_MANY_TAGS, AHCI_HALTED, AHCI_NOT_ACCEPTED, AHCI_BAD_TAGS. */
+uint32_t ahci_port_serve(ahci_port *port, const uint8_t *tags, size_t count, ahci_stepped *done);
+
+/* The device fails an accepted command at one of its sectors, with an error byte: a Set Device Bits FIS with ERR. It takes no
+   memory. AHCI_BAD_TAG, AHCI_HALTED, AHCI_NOT_ACCEPTED, AHCI_OUTSIDE_COMMAND. */
+uint32_t ahci_port_fail(ahci_port *port, uint32_t tag, uint8_t error, uint64_t lba, ahci_stepped *done);
+
+/* Software recovers (section 6.2.2): the port is stopped and started, and READ LOG EXT tells the failed tag, which is *tag.
+   AHCI_NOT_HALTED, AHCI_OUT_OF_MEMORY. */
+uint32_t ahci_port_recover(ahci_port *port, uint32_t *tag);
+
+/* Software issues a held command again. It takes no memory. AHCI_BAD_TAG, AHCI_HALTED, AHCI_NOT_HELD. */
+uint32_t ahci_port_reissue(ahci_port *port, uint32_t tag);
+
+/* Takes the answer of request `number` of a tag, and frees its slot. What a read has read is copied to `out`, which has room
+   for all bytes of the request, also where it failed: ahci_port_slot tells how many. It takes no memory. AHCI_BAD_TAG,
+   AHCI_STRANGER, AHCI_NOT_YET, AHCI_BUFFER_TOO_SMALL: the request is as it was then, and can be collected again. */
+uint32_t ahci_port_collect(ahci_port *port, uint32_t tag, uint64_t number, ahci_reply *reply, uint8_t *out, size_t out_bytes);
+
+/* Sends IDENTIFY DEVICE (ACS-3), by slot 0: its page is copied to `out`, word w in bytes 2w and 2w + 1.
+   AHCI_WRONG_LENGTH where out_bytes is not 512, AHCI_HALTED, AHCI_QUEUE_BUSY, AHCI_OUT_OF_MEMORY. */
+uint32_t ahci_port_identify(ahci_port *port, uint8_t *out, size_t out_bytes);
+
+/* Sends FLUSH CACHE EXT (ACS-3), by slot 0. AHCI_HALTED, AHCI_QUEUE_BUSY, AHCI_OUT_OF_MEMORY. */
+uint32_t ahci_port_flush(ahci_port *port);
+
+/* Which tags wait for what. */
+uint32_t ahci_port_tag_sets(ahci_port *port, ahci_tag_sets *sets);
+
+/* One slot. AHCI_BAD_TAG; a tag that is not below the depth is a free slot. */
+uint32_t ahci_port_slot(ahci_port *port, uint32_t tag, ahci_slot *slot);
+
+/* Copies a sector as it is now. AHCI_WRONG_LENGTH where out_bytes is not 512, AHCI_NO_SUCH_SECTOR. */
+uint32_t ahci_port_copy(ahci_port *port, uint64_t lba, uint8_t *out, size_t out_bytes);
+
+/* Throws the journal away where every slot is free, and its memory with it: *entries is how many it had. Numbers go on.
+   AHCI_BUSY, AHCI_SPENT. */
+uint32_t ahci_port_trim(ahci_port *port, uint64_t *entries);
+
+#ifdef __cplusplus
+}
+#endif
+#endif

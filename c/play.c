@@ -1,0 +1,290 @@
+/* Plays the script language of `ahci replay` (docs/PROGRAM.md) through the library: a line of answer for each command. The
+   exit status is 1 at a line that is not understood or stands where it may not, and 3 where memory is refused. */
+#include "ahci.h"
+#include <inttypes.h>
+#include <stdio.h>
+#include <stdlib.h>
+#include <string.h>
+
+#define MOST_LINE 4096
+static ahci_port port = AHCI_PORT_EMPTY;
+static bool made;        /* whether a disk was accepted */
+static uint64_t entries; /* since the port was made or trimmed */
+static uint8_t *bytes;   /* room for the longest command's sectors */
+static size_t room;
+static unsigned line_number;
+
+static const char *name_of(uint32_t status)
+{
+    static const struct { uint32_t status; const char *name; } names[] = {
+        { AHCI_BAD_SIZE, "BadSize" }, { AHCI_BAD_DEPTH, "BadDepth" }, { AHCI_BAD_FIRST, "BadFirst" },
+        { AHCI_UNALIGNED, "Unaligned" }, { AHCI_NO_SUCH_REGISTER, "NoSuchRegister" }, { AHCI_NO_SUCH_SECTOR, "NoSuchSector" },
+        { AHCI_HALTED, "Halted" }, { AHCI_NO_SUCH_TAG, "NoSuchTag" }, { AHCI_SLOT_OWNED, "SlotOwned" },
+        { AHCI_BAD_HEADER, "BadHeader" }, { AHCI_BAD_COMMAND, "BadCommand" }, { AHCI_WRONG_TAG, "WrongTag" },
+        { AHCI_BAD_LIST, "BadList" }, { AHCI_BAD_COUNT, "BadCount" }, { AHCI_BAD_LBA, "BadLba" },
+        { AHCI_NOT_ISSUED, "NotIssued" }, { AHCI_NOT_ACCEPTED, "NotAccepted" }, { AHCI_OUTSIDE_COMMAND, "OutsideCommand" },
+        { AHCI_BAD_TAGS, "BadTags" }, { AHCI_NOT_HALTED, "NotHalted" }, { AHCI_NOT_HELD, "NotHeld" },
+        { AHCI_QUEUE_BUSY, "QueueBusy" }, { AHCI_STRANGER, "Stranger" }, { AHCI_NOT_YET, "NotYet" },
+        { AHCI_BUSY, "Busy" }, { AHCI_SPENT, "Spent" },
+    };
+    for (size_t i = 0; i < sizeof names / sizeof *names; i++)
+        if (names[i].status == status)
+            return names[i].name;
+    return NULL;
+}
+
+static void lost(void)
+{
+    fprintf(stderr, "play: line %u: not understood\n", line_number);
+    fflush(stdout);
+    exit(1);
+}
+
+/* Answers a refusal, and whether there was none. */
+static bool done(uint32_t status)
+{
+    const char *name = name_of(status);
+    if (status == AHCI_OK)
+        return true;
+    if (status == AHCI_OUT_OF_MEMORY) {
+        fputs("play: out of memory\n", stderr);
+        exit(3);
+    }
+    if (!name) {
+        fprintf(stderr, "play: line %u: status %u\n", line_number, (unsigned)status);
+        exit(1);
+    }
+    printf("refused %s\n", name);
+    return false;
+}
+
+static uint64_t number(const char *word, uint64_t most)
+{
+    uint64_t value = 0;
+    if (!*word || strlen(word) > 20)
+        lost();
+    for (; *word; word++) {
+        if (*word < '0' || *word > '9' || value > (UINT64_MAX - (uint64_t)(*word - '0')) / 10)
+            lost();
+        value = 10 * value + (uint64_t)(*word - '0');
+    }
+    if (value > most)
+        lost();
+    return value;
+}
+
+static unsigned digit(char c)
+{
+    if (c >= '0' && c <= '9') return (unsigned)(c - '0');
+    if (c >= 'a' && c <= 'f') return (unsigned)(c - 'a') + 10;
+    if (c >= 'A' && c <= 'F') return (unsigned)(c - 'A') + 10;
+    lost();
+    return 0;
+}
+
+static uint32_t hexadecimal(const char *word, size_t most)
+{
+    uint32_t value = 0;
+    if (!*word || strlen(word) > most)
+        lost();
+    for (; *word; word++)
+        value = value << 4 | digit(*word);
+    return value;
+}
+
+static uint8_t byte_of(const char *word)
+{
+    if (strlen(word) != 2)
+        lost();
+    return (uint8_t)hexadecimal(word, 2);
+}
+
+static size_t hex_bytes(const char *word, uint8_t *to)
+{
+    size_t n = strlen(word);
+    if (!n || n % 2)
+        lost();
+    for (size_t i = 0; i < n / 2; i++)
+        to[i] = (uint8_t)(digit(word[2 * i]) << 4 | digit(word[2 * i + 1]));
+    return n / 2;
+}
+
+static void *filled(uint64_t sectors, uint8_t fill)
+{
+    size_t wanted = 512 * (size_t)sectors;
+    if (room < wanted) {
+        bytes = realloc(bytes, wanted);
+        room = wanted;
+        if (!bytes)
+            exit(3);
+    }
+    if (wanted)
+        memset(bytes, fill, wanted);
+    return bytes;
+}
+
+static void make(char **words, int n)
+{
+    uint64_t sectors = number(words[1], UINT64_MAX), depth = number(words[2], UINT64_MAX), first = n == 4 ? number(words[3], UINT64_MAX) : 0;
+    uint32_t status = !sectors || sectors > AHCI_MOST_SECTORS ? AHCI_BAD_SIZE : !depth || depth > AHCI_MOST_TAGS ? AHCI_BAD_DEPTH : AHCI_OK;
+    if (status == AHCI_OK)
+        status = ahci_port_resume(&port, filled(sectors, 0), 512 * (size_t)sectors, (uint32_t)depth, first);
+    if (!done(status))
+        return;
+    made = true;
+    entries = 0;
+    printf(n == 4 ? "disk %" PRIu64 " %" PRIu64 " %" PRIu64 "\n" : "disk %" PRIu64 " %" PRIu64 "\n", sectors, depth, first);
+}
+
+static void submit(char **words, bool is_write)
+{
+    uint32_t tag = (uint32_t)number(words[1], 31), sectors = (uint32_t)number(words[3], 131072);
+    uint64_t lba = number(words[2], UINT64_MAX), k;
+    uint8_t fill = is_write ? byte_of(words[4]) : 0;
+    uint8_t *data = filled(is_write ? sectors : 1, fill);
+    if (done(ahci_port_submit(&port, tag, is_write ? AHCI_WRITE : AHCI_READ, lba, sectors, data, is_write ? 512 * (size_t)sectors : 0, &k))) {
+        entries++;
+        printf("issued %" PRIu64 "\n", k);
+    }
+}
+
+static void raw(char **words)
+{
+    uint8_t header[MOST_LINE];
+    static uint8_t memory[MOST_LINE];
+    uint32_t tag = (uint32_t)number(words[1], 31);
+    uint64_t k;
+    size_t header_bytes = hex_bytes(words[2], header), memory_bytes = hex_bytes(words[3], memory);
+    if (header_bytes != AHCI_HEADER_BYTES)
+        lost();
+    if (done(ahci_port_issue(&port, tag, header, header_bytes, memory, memory_bytes, &k))) {
+        entries++;
+        printf("issued %" PRIu64 "\n", k);
+    }
+}
+
+static void serve(char **words, int n)
+{
+    uint8_t tags[AHCI_MOST_TAGS];
+    ahci_stepped step;
+    for (int i = 1; i < n; i++)
+        tags[i - 1] = (uint8_t)number(words[i], 31);
+    if (!done(ahci_port_serve(&port, tags, (size_t)n - 1, &step)))
+        return;
+    entries += step.count;
+    printf("completed");
+    for (uint32_t i = 0; i < step.count; i++)
+        printf(" %" PRIu64, step.first + i);
+    puts("");
+}
+
+static void step(uint32_t status, const ahci_stepped *step)
+{
+    if (!done(status))
+        return;
+    entries++;
+    printf("%s %" PRIu64 "\n", step->did == AHCI_ACCEPTED ? "accepted" : "failed", step->first);
+}
+
+static void collect(char **words)
+{
+    uint32_t tag = (uint32_t)number(words[1], 31);
+    ahci_slot slot;
+    ahci_reply reply;
+    if (ahci_port_slot(&port, tag, &slot) != AHCI_OK)
+        lost();
+    uint8_t *out = filled(slot.bytes / 512, 0xEE);
+    if (!done(ahci_port_collect(&port, tag, number(words[2], UINT64_MAX), &reply, out ? out : (uint8_t *)"", slot.bytes)))
+        return;
+    entries++;
+    if (reply.outcome == AHCI_DID_READ) {
+        printf("read %" PRIu64, reply.entry);
+        for (uint64_t i = 0; i < reply.bytes; i += 512)
+            printf(" %02x", out[i]);
+        puts("");
+    } else if (reply.outcome == AHCI_DID_WRITE) {
+        printf("wrote %" PRIu64 "\n", reply.entry);
+    } else {
+        printf("failed %" PRIu64 " %02x %" PRIu64 "\n", reply.entry, (unsigned)reply.error, reply.lba);
+    }
+}
+
+static void look(char **words, int n)
+{
+    static uint8_t page[512];
+    uint32_t word, w;
+    uint64_t lba;
+    (void)n;
+    if (!strcmp(words[0], "reg")) {
+        if (done(ahci_port_register(&port, hexadecimal(words[1], 8), &word)))
+            printf("%08x\n", (unsigned)word);
+    } else if (!strcmp(words[0], "ack")) {
+        if (done(ahci_port_acknowledge(&port, hexadecimal(words[1], 8))))
+            puts("acked");
+    } else if (!strcmp(words[0], "show")) {
+        lba = number(words[1], UINT64_MAX);
+        if (done(ahci_port_copy(&port, lba, page, sizeof page)))
+            printf("sector %" PRIu64 " %02x\n", lba, page[0]);
+    } else {
+        w = (uint32_t)number(words[1], 255);
+        if (done(ahci_port_identify(&port, page, sizeof page))) {
+            entries++;
+            printf("word %u %02x%02x\n", (unsigned)w, page[2 * w + 1], page[2 * w]);
+        }
+    }
+}
+
+static bool is(char **words, int n, const char *name, int wanted) { return !strcmp(words[0], name) && n == wanted; }
+
+static void run(char **words, int n)
+{
+    ahci_stepped s;
+    uint32_t tag;
+    uint64_t count;
+    if (is(words, n, "disk", 3) || is(words, n, "disk", 4)) {
+        if (made)
+            lost();
+        make(words, n);
+        return;
+    }
+    if (!made)
+        lost();
+    if (is(words, n, "write", 5)) submit(words, true);
+    else if (is(words, n, "read", 4)) submit(words, false);
+    else if (is(words, n, "raw", 4)) raw(words);
+    else if (is(words, n, "accept", 2)) step(ahci_port_accept(&port, (uint32_t)number(words[1], 31), &s), &s);
+    else if (!strcmp(words[0], "serve") && n > 1 && n <= 33) serve(words, n);
+    else if (is(words, n, "fail", 4)) step(ahci_port_fail(&port, (uint32_t)number(words[1], 31), byte_of(words[2]), number(words[3], UINT64_MAX), &s), &s);
+    else if (is(words, n, "collect", 3)) collect(words);
+    else if (is(words, n, "recover", 1)) { if (done(ahci_port_recover(&port, &tag))) { entries++; printf("recovered %u\n", (unsigned)tag); } }
+    else if (is(words, n, "reissue", 2)) { tag = (uint32_t)number(words[1], 31); if (done(ahci_port_reissue(&port, tag))) { entries++; printf("reissued %u\n", (unsigned)tag); } }
+    else if (is(words, n, "flush", 1)) { if (done(ahci_port_flush(&port))) { entries++; puts("flushed"); } }
+    else if (is(words, n, "journal", 1)) printf("journal %" PRIu64 "\n", entries);
+    else if (is(words, n, "trim", 1)) { if (done(ahci_port_trim(&port, &count))) { if (count != entries) lost(); entries = 0; printf("trimmed %" PRIu64 "\n", count); } }
+    else if (n == 2 && (!strcmp(words[0], "reg") || !strcmp(words[0], "ack") || !strcmp(words[0], "show") || !strcmp(words[0], "identify"))) look(words, n);
+    else lost();
+}
+
+int main(void)
+{
+    static char line[MOST_LINE + 2];
+    while (fgets(line, sizeof line, stdin)) {
+        char *words[40], *at = line;
+        int n = 0;
+        line_number++;
+        line[strcspn(line, "\n")] = 0;
+        if (!*line || *line == '#')
+            continue;
+        while (n < 40) {
+            words[n++] = at;
+            at = strchr(at, ' ');
+            if (!at)
+                break;
+            *at++ = 0;
+        }
+        run(words, n);
+    }
+    ahci_port_free(&port);
+    free(bytes);
+    return 0;
+}

@@ -1,0 +1,5 @@
+pub mod ArgumentLemmas
+pub mod CollectingLemmas
+pub mod IssuingLemmas
+pub mod OverLemmas
+pub mod Walks

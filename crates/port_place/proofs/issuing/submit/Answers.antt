@@ -1,0 +1,15 @@
+use Rattle.std.proofs.Common.{None, length, subst, sym, ◌∙◌}
+use Rattle.port_place.specs.Asked.{AnswersUnless, submit_refusal, work_asked}
+use Rattle.port_place.specs.Done.{AnswersCommand, Same}
+use Rattle.port_place.proofs.ArgumentLemmas.{with_small}
+use Rattle.port_place.proofs.issuing.submit.Goals as goal
+
+pub returns : goal.returns
+returns g c =
+    let a = c.args in
+    let against = submit_refusal a.kind a.lba a.sectors (length a.data.now) in
+    subst
+    (λ reason. AnswersUnless reason c.command.result
+    (AnswersCommand a.tag (work_asked a.kind a.lba a.sectors a.data.now) c.command.result a.port.now c.command.new.port a.number.now c.command.new.number)
+    (Same a.port.now c.command.new.port a.number.now c.command.new.number))
+    (sym (with_small a.tag against c.if-tag-ge32.false ∙ (sym c.submit_refusal.ensures ∙ c.in_default.is))) c.command.ensures

@@ -1,0 +1,42 @@
+-- How a command that C asks for is answered: its arguments first, then what the port says.
+use Rattle.std.specs.Prelude.{◌≡◌, ℕ, ◌*◌, ◌^◌, Bool, ◌||◌, ◌&&◌, not, nat_eq, nat_le, nat_lt, List, length, Option, None, Some, if◌then◌else◌}
+use Rattle.ahci_port.specs.PortView.{PortView}
+use Rattle.ahci_table.specs.Window.{WindowState}
+use Rattle.ncq_journal.specs.Lawful.{most_sectors}
+use Rattle.ncq_journal.specs.Work.{Work, Read, Write}
+use Rattle.port_place.specs.Done.{AnswersCommand, AnswersWindow, Same}
+use Rattle.port_place.specs.Refusals.{most_tags, with_length, with_tag}
+use Rattle.port_place.specs.declared.status.Status.{Status}
+use Rattle.port_place.specs.declared.status.Status.TheVariants as status
+
+-- refused by its arguments for this reason, or else answered
+abbrev pub AnswersUnless : Option Status → Status → (answered same : Type 0) → Type 0
+AnswersUnless None answer answered same = answered
+AnswersUnless (Some reason) answer answered same = (answer ≡ reason) × same
+
+-- memory was refused for the window, or the port has answered it
+pub data AnswersCopy (window : WindowState) (answer : Status) (old new : PortView) (before after : ℕ) : Type 0 where
+  is_answered : AnswersWindow window answer old new before after → AnswersCopy window answer old new before after
+  lacks_memory : answer ≡ status.OutOfMemory → new ≡ old → after ≡ before → AnswersCopy window answer old new before after
+
+abbrev pub AnswersIssue : ℕ → (header memory : List ℕ) → Status → PortView → PortView → (before after : ℕ) → Type 0
+AnswersIssue tag header memory answer old new before after =
+    AnswersUnless (with_tag tag (with_length 32 (length header) None)) answer
+    (AnswersCopy (record { tag = tag; header = header; bytes = memory }) answer old new before after) (Same old new before after)
+
+-- why no command is made of these numbers: the kind, the count with the length of a write's data, the address
+abbrev pub submit_refusal : (kind lba sectors bytes : ℕ) → Option Status
+submit_refusal kind lba sectors bytes =
+    if nat_lt 1 kind then Some status.BadKind
+    else (if nat_eq sectors 0 || nat_lt most_sectors sectors then Some status.BadCount
+    else (if nat_eq kind 1 && not (nat_eq bytes (512 * sectors)) then Some status.BadCount
+    else (if nat_le (2 ^ 48) lba then Some status.BadLba else None)))
+
+-- kind 0 reads, kind 1 writes
+abbrev pub work_asked : (kind lba sectors : ℕ) → List ℕ → Work
+work_asked kind lba sectors bytes = if nat_eq kind 0 then Read lba sectors else Write lba bytes
+
+abbrev pub AnswersSubmit : (tag kind lba sectors : ℕ) → List ℕ → Status → PortView → PortView → (before after : ℕ) → Type 0
+AnswersSubmit tag kind lba sectors bytes answer old new before after =
+    AnswersUnless (with_tag tag (submit_refusal kind lba sectors (length bytes))) answer
+    (AnswersCommand tag (work_asked kind lba sectors bytes) answer old new before after) (Same old new before after)

@@ -1,0 +1,9 @@
+pub mod Asked
+pub mod Done
+pub mod Flat
+pub mod Held
+pub mod Making
+pub mod Over
+pub mod Refusals
+pub mod Status
+pub mod Told

@@ -1,0 +1,128 @@
+//! How answers are taken.
+
+ghost use Rattle.std.specs.Prelude.{◌≡◌, ◌≤◌, length};
+ghost use Rattle.ahci_port.specs.Slots.{bytes_in};
+ghost use Rattle.ahci_table.specs.Fit.{IsFit};
+ghost use Rattle.port_place.specs.Done.{HasCollected, HasLength};
+ghost use Rattle.port_place.specs.Flat.{begun_with, flat_reply};
+ghost use Rattle.port_place.specs.Refusals.{collect_refused, is_short, slot_refusal};
+ghost use Rattle.port_place.specs.Told.{Told};
+
+use crate::flat::FlatReply;
+use crate::status::Status;
+use ahci_port::{Outcome, Port, Reply};
+use ahci_table::Window;
+use ncq_core::Phase;
+use std::alloc::Allocator;
+
+/// Takes the answer of a request and frees its slot. What a read has read stands at the beginning of `out` then. It takes no
+/// memory, and a buffer that is too small is told before anything changes.
+pub fn collect<A: Allocator>(
+    port: &mut Port<A>,
+    tag: u32,
+    number: u64,
+    reply: &mut FlatReply,
+    out: &mut [u8],
+) -> Status
+    ensures { Told result (collect_refused port.old tag number (length out.old)) (HasCollected tag number port.old port.new reply.new out.old out.new)
+        ((port.new ≡ port.old) × (reply.new ≡ reply.old) × (out.new ≡ out.old)) }
+{
+    if tag >= 32 {
+        return Status::BadTag;
+    }
+    take(port, tag as u8, number, reply, out)
+}
+
+/// The same of a tag below 32.
+fn take<A: Allocator>(
+    port: &mut Port<A>,
+    tag: u8,
+    number: u64,
+    reply: &mut FlatReply,
+    out: &mut [u8],
+) -> Status
+    ensures { Told result (slot_refusal port.old tag number (length out.old)) (HasCollected tag number port.old port.new reply.new out.old out.new)
+        ((port.new ≡ port.old) × (reply.new ≡ reply.old) × (out.new ≡ out.old)) }
+{
+    if let Some(refusal) = refusal(port, tag, number, out.len()) {
+        return refusal;
+    }
+    port.keeps_its_promise();
+    let bytes = port.read_length(tag).unwrap_or(0);
+    match port.collect(tag, number) {
+        Ok((ended, window)) => {
+            *reply = copied(&ended, &window, bytes, out);
+            Status::Done
+        }
+        // It is the slot's request, and done.
+        Err(_) => unreachable!(),
+    }
+}
+
+/// Why the request of a tag below 32 is not collected into a buffer with so much room.
+fn refusal<A: Allocator>(port: &Port<A>, tag: u8, number: u64, room: usize) -> Option<Status>
+    ensures { result ≡ slot_refusal port.now tag number room }
+{
+    match port.owner(tag) {
+        Some(owner) if owner == number => match port.phase(tag) {
+            Phase::Done if is_short(port.read_length(tag), room) => Some(Status::BufferTooSmall),
+            Phase::Done => None,
+            _ => Some(Status::NotYet),
+        },
+        _ => Some(Status::Stranger),
+    }
+}
+
+/// Whether there is less room than a request reads.
+fn is_short(read: Option<u64>, room: usize) -> bool
+    ensures { result ≡ is_short read room }
+{
+    match read {
+        Some(bytes) => (room as u64) < bytes,
+        None => false,
+    }
+}
+
+/// The answer as a struct, and a finished read's bytes, which are its window's text, at the beginning of a buffer.
+fn copied<A: Allocator>(ended: &Reply, window: &Window<A>, bytes: u64, out: &mut [u8]) -> FlatReply
+    requires fit { IsFit window.now }
+    requires len { HasLength ended.now.outcome window.now bytes }
+    requires room { bytes ≤ length out.old }
+    ensures reply { result ≡ flat_reply ended.now.number ended.now.outcome ended.now.entry (length (bytes_in ended.now.outcome window.now)) }
+    ensures out { out.new ≡ begun_with (bytes_in ended.now.outcome window.now) out.old }
+{
+    let Reply {
+        number,
+        entry,
+        outcome,
+    } = *ended;
+    match outcome {
+        Outcome::Read => {
+            window.gather(0, &mut out[..bytes as usize]);
+            FlatReply {
+                number,
+                entry,
+                lba: 0,
+                bytes,
+                outcome: 0,
+                error: 0,
+            }
+        }
+        Outcome::Wrote => FlatReply {
+            number,
+            entry,
+            lba: 0,
+            bytes: 0,
+            outcome: 1,
+            error: 0,
+        },
+        Outcome::Failed { error, lba } => FlatReply {
+            number,
+            entry,
+            lba,
+            bytes: 0,
+            outcome: 2,
+            error: u32::from(error),
+        },
+    }
+}

@@ -1,0 +1,116 @@
+//! The status of each fault of the port.
+
+ghost use Rattle.std.specs.Prelude.{◌≡◌};
+ghost use Rattle.port_place.specs.Status.{of_collect, of_issue, of_plain, of_recover, of_register, of_reissue, of_resume, of_step, of_trim};
+
+use crate::status::Status;
+use ahci_port::{
+    CollectFault, IssueFault, PlainFault, RecoverFault, ReissueFault, ResumeFault, StepFault,
+    TrimFault,
+};
+use ahci_regs::RegFault;
+
+/// Why a window was not issued.
+pub(crate) fn issue_status(fault: IssueFault) -> Status
+    ensures { result ≡ of_issue fault }
+{
+    match fault {
+        IssueFault::Halted => Status::Halted,
+        IssueFault::NoSuchTag => Status::NoSuchTag,
+        IssueFault::SlotOwned => Status::SlotOwned,
+        IssueFault::BadHeader => Status::BadHeader,
+        IssueFault::BadCommand => Status::BadCommand,
+        IssueFault::WrongTag => Status::WrongTag,
+        IssueFault::BadList => Status::BadList,
+        IssueFault::OutOfMemory => Status::OutOfMemory,
+    }
+}
+
+/// Why the device did not take a step.
+pub(crate) fn step_status(fault: StepFault) -> Status
+    ensures { result ≡ of_step fault }
+{
+    match fault {
+        StepFault::Halted => Status::Halted,
+        StepFault::NotIssued => Status::NotIssued,
+        StepFault::NotAccepted => Status::NotAccepted,
+        StepFault::OutsideCommand => Status::OutsideCommand,
+        StepFault::BadTags => Status::BadTags,
+    }
+}
+
+/// Why a request was not collected.
+pub(crate) fn collect_status(fault: CollectFault) -> Status
+    ensures { result ≡ of_collect fault }
+{
+    match fault {
+        CollectFault::Stranger => Status::Stranger,
+        CollectFault::NotYet => Status::NotYet,
+    }
+}
+
+/// Why the port did not recover.
+pub(crate) fn recover_status(fault: RecoverFault) -> Status
+    ensures { result ≡ of_recover fault }
+{
+    match fault {
+        RecoverFault::NotHalted => Status::NotHalted,
+        RecoverFault::OutOfMemory => Status::OutOfMemory,
+    }
+}
+
+/// Why a held command was not issued again.
+pub(crate) fn reissue_status(fault: ReissueFault) -> Status
+    ensures { result ≡ of_reissue fault }
+{
+    match fault {
+        ReissueFault::Halted => Status::Halted,
+        ReissueFault::NotHeld => Status::NotHeld,
+    }
+}
+
+/// Why a command that is not queued was not sent.
+pub(crate) fn plain_status(fault: PlainFault) -> Status
+    ensures { result ≡ of_plain fault }
+{
+    match fault {
+        PlainFault::Halted => Status::Halted,
+        PlainFault::QueueBusy => Status::QueueBusy,
+        PlainFault::OutOfMemory => Status::OutOfMemory,
+    }
+}
+
+/// Why no port was made.
+pub(crate) fn resume_status(fault: ResumeFault) -> Status
+    ensures { result ≡ of_resume fault }
+{
+    match fault {
+        ResumeFault::BadSize => Status::BadSize,
+        ResumeFault::BadDepth => Status::BadDepth,
+        ResumeFault::BadFirst => Status::BadFirst,
+        ResumeFault::OutOfMemory => Status::OutOfMemory,
+    }
+}
+
+/// Why the journal was not handed out.
+pub(crate) fn trim_status(fault: TrimFault) -> Status
+    ensures { result ≡ of_trim fault }
+{
+    match fault {
+        TrimFault::Busy => Status::Busy,
+        TrimFault::Spent => Status::Spent,
+    }
+}
+
+/// Why a register was not read or written.
+pub(crate) fn register_status(fault: RegFault) -> Status
+    ensures { result ≡ of_register fault }
+{
+    match fault {
+        RegFault::Unaligned => Status::Unaligned,
+        RegFault::NoSuchRegister => Status::NoSuchRegister,
+        RegFault::NotStarted => Status::NotStarted,
+        RegFault::NotReceiving => Status::NotReceiving,
+        RegFault::Running => Status::Running,
+    }
+}

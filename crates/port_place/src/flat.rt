@@ -1,0 +1,64 @@
+//! What C sees as structs: numbers side by side, with no padding.
+
+/// What the device did in a step.
+#[repr(C)]
+#[derive(Clone, Copy, Debug, PartialEq, Eq)]
+pub struct FlatStep {
+    /// The number of its first entry.
+    pub first: u64,
+    /// How many entries it has.
+    pub count: u32,
+    /// 0 where a command is accepted, 1 where commands are completed, 2 where one has failed.
+    pub did: u32,
+}
+
+/// How a request ended.
+#[repr(C)]
+#[derive(Clone, Copy, Debug, PartialEq, Eq)]
+pub struct FlatReply {
+    pub number: u64,
+    /// The number of the entry that answered it.
+    pub entry: u64,
+    /// Of a failure, the failing sector.
+    pub lba: u64,
+    /// How many bytes it has read.
+    pub bytes: u64,
+    /// 0 where it has read, 1 where it has written, 2 where it has failed.
+    pub outcome: u32,
+    /// Of a failure, the error byte.
+    pub error: u32,
+}
+
+/// One slot.
+#[repr(C)]
+#[derive(Clone, Copy, Debug, PartialEq, Eq)]
+pub struct FlatSlot {
+    /// The number of the request that owns it; 0 where it is free.
+    pub number: u64,
+    /// How many bytes the request reads.
+    pub bytes: u64,
+    /// The phase of the tag.
+    pub phase: u32,
+    /// 1 where a request owns it.
+    pub owned: u32,
+}
+
+/// Which tags wait for what.
+#[repr(C)]
+#[derive(Clone, Copy, Debug, PartialEq, Eq)]
+pub struct FlatSets {
+    pub issued: u32,
+    pub accepted: u32,
+    pub held: u32,
+}
+
+/// One entry of a journal. What its kind doesn't name is 0.
+#[repr(C)]
+#[derive(Clone, Copy, Debug, PartialEq, Eq)]
+pub struct FlatEntry {
+    pub lba: u64,
+    pub sectors: u32,
+    pub kind: u32,
+    pub tag: u32,
+    pub error: u32,
+}
