@@ -265,9 +265,27 @@ static void run(char **words, int n)
     else lost();
 }
 
-int main(void)
+/* Writes the disk's sectors, where there is a disk, to a file. */
+static bool write_image(const char *path)
+{
+    uint8_t sector[AHCI_SECTOR_BYTES];
+    uint32_t sectors = 0;
+    FILE *file = fopen(path, "wb");
+    bool well = file && (!made || ahci_port_sectors(&port, &sectors) == AHCI_OK);
+    for (uint32_t lba = 0; well && lba < sectors; lba++)
+        well = ahci_port_copy(&port, lba, sector, sizeof sector) == AHCI_OK && fwrite(sector, sizeof sector, 1, file) == 1;
+    return file && !fclose(file) && well;
+}
+
+/* play [--image FILE] < SCRIPT: the sectors as they are after the last line go to the file. */
+int main(int count, char **arguments)
 {
     static char line[MOST_LINE + 2];
+    const char *image = count == 3 && !strcmp(arguments[1], "--image") ? arguments[2] : NULL;
+    if (count != 1 && !image) {
+        fputs("usage: play [--image FILE] < SCRIPT\n", stderr);
+        return 2;
+    }
     while (fgets(line, sizeof line, stdin)) {
         char *words[40], *at = line;
         int n = 0;
@@ -284,7 +302,10 @@ int main(void)
         }
         run(words, n);
     }
+    bool well = !image || write_image(image);
     ahci_port_free(&port);
     free(bytes);
-    return 0;
+    if (!well)
+        fprintf(stderr, "play: %s can't be written\n", image);
+    return well ? 0 : 1;
 }
