@@ -1,5 +1,5 @@
 -- The program as a whole: what it writes and how it ends, for the words of its command line.
-use Rattle.std.specs.Prelude.{◌≡◌, ◌<◌, ◌≤◌, ◌^◌, ℕ, Bool, true, false, List, ◌++◌, Option, Result, Ok, Err, ◌⊎◌, ⊤, take, codes}
+use Rattle.std.specs.Prelude.{◌≡◌, ◌<◌, ◌≤◌, ◌^◌, ℕ, Bool, true, false, List, [], ◌++◌, Option, Result, Ok, Err, ◌⊎◌, ⊤, take, codes}
 use Rattle.std.specs.Fmt.{decimal}
 use Rattle.std.specs.Io.KnownBytes.{Appends}
 use Rattle.clap.specs.Words.{IsAmong}
@@ -104,10 +104,12 @@ pub record Ends (before after : Known) (status : ℕ) (outcome : Result Bool Cli
 
 -- ---- the whole
 
--- the words ask for something, which is done, told and ended
+-- the words have no fault and ask for something, which is done, told and ended
 pub record Obeys (words : List (List ℕ)) (s : Streams) (before after : Known) (status : ℕ) : Type 0 where
   pub asked : Asked
   pub asks : AsksFor words asked
+  pub picks : PickWords
+  pub sound : usage_faults picks words ≡ []
   pub outcome : Result Bool CliFault
   pub does : Does asked s outcome
   pub ends : Ends before after status outcome
