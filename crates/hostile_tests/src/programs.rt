@@ -35,11 +35,12 @@ static TWO_WRITES: [Line; 14] = [
     ("journal\n", "journal 11\n", 0),
 ];
 
-static A_RECOVERY: [Line; 10] = [
+static A_RECOVERY: [Line; 11] = [
     ("disk 8 1\n", "disk 8 1\n", 4),
     ("write 0 3 1 aa\n", "issued 0\n", 4),
     ("accept 0\n", "accepted 1\n", 0),
     ("fail 0 40 3\n", "failed 2\n", 0),
+    ("write 1 0 1 aa\n", "refused Halted\n", 0),
     ("recover\n", "recovered 0\n", 1),
     ("collect 0 0\n", "failed 2 40 3\n", 0),
     ("read 0 3 1\n", "issued 5\n", 1),
@@ -48,8 +49,8 @@ static A_RECOVERY: [Line; 10] = [
     ("collect 0 5\n", "read 7 00\n", 1),
 ];
 
-// 32 slots are pushed one by one: 4 growths. A raw window has one, also where it is refused.
-static UNQUEUED: [Line; 8] = [
+// 32 slots are pushed one by one: 4 growths. A raw window has one, also where it is refused; a refused write or read has none.
+static UNQUEUED: [Line; 11] = [
     ("disk 1000 32\n", "disk 1000 32\n", 7),
     ("identify 75\n", "word 75 001f\n", 1),
     ("flush\n", "flushed\n", 1),
@@ -60,6 +61,9 @@ static UNQUEUED: [Line; 8] = [
         1,
     ),
     ("write 0 0 256 aa\n", "issued 3\n", 3),
+    ("write 0 0 256 aa\n", "refused SlotOwned\n", 0),
+    ("read 0 0 256\n", "refused SlotOwned\n", 0),
+    ("read 1 0 65537\n", "refused BadCount\n", 0),
     ("reg 134\n", "00000001\n", 0),
     ("disk 0\n", "", 0),
 ];

@@ -1,4 +1,4 @@
-use Rattle.std.proofs.Common.{Global, inr, refl, map}
+use Rattle.std.proofs.Common.{Global, inl, inr, refl, map}
 use Rattle.std.specs.String.{string_bytes}
 use Rattle.clap.specs.Words.{kind_of}
 use Rattle.ahci_cli.proofs.ProgramLemmas.{has_ranges}
@@ -14,4 +14,15 @@ returns-in-Err g c = inr (record {
   fails = c.in-Err.ensures.faults.1;
   unread = refl;
   says = c.explain.ensures;
+})
+
+pub returns-in-Ok : goal.returns-in-Ok
+returns-in-Ok g c = inl (record {
+  asked = c.in-Ok.asked;
+  asks = c.in-Ok.ensures.ok;
+  picks = c.in-Ok.ensures.faults.0;
+  sound = c.in-Ok.ensures.faults.1;
+  outcome = c.done-outcome.result;
+  does = c.done-outcome.ensures;
+  ends = c.end.ensures;
 })
