@@ -6,9 +6,9 @@ use std::alloc::{AllocError, Global};
 use std::process::Abort;
 use std::test::Fail;
 
+mod both_ends;
 mod hostile;
 mod raw;
-mod streams;
 
 /// A line and its answer, with none where the line is skipped.
 type Row = (&'static str, &'static str);
