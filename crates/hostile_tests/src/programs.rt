@@ -173,7 +173,7 @@ fn replays_each(
 fn a_script_refused_memory_has_answered_the_lines_before(rt: HostRuntime) -> Result<(), Fail> {
     replays_each(&rt, rt.alloc(), TWO_WRITES.as_slice(), Ok(()))?;
     replays_each(&rt, rt.alloc(), A_RECOVERY.as_slice(), Ok(()))?;
-    let ending = Err(CliFault::Line(8));
+    let ending = Err(CliFault::Line(11));
     replays_each(&rt, rt.alloc(), UNQUEUED.as_slice(), ending)
 }
 
