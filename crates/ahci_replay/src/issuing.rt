@@ -103,8 +103,8 @@ fn pieces_of<A: Allocator>(op: &Op<A>) -> ArrayVec<Piece, 32>
     default_pieces(op.sectors() as u32)
 }
 
-/// Issues a command: its window is built first, so a bad count or address is told before anything
-/// that the port says.
+/// Issues a command by a window over the default pieces. What stands against it was asked before (`against`); its count and
+/// address are looked at once more as its window is built.
 fn issue<A: Allocator + Copy>(
     port: &mut Port<A>,
     alloc: &A,

@@ -24,7 +24,7 @@ pub trait Teller<A: Allocator> {
     fn look(&self, port: Option<&Port<A>>) -> Self::Before
         ensures { IsOf result (option_copied port.entry) };
 
-    /// Puts the text for the answer of a command that has left this port into the output: whole lines.
+    /// Puts the text for the answer of a command that has left this port into the output.
     ///
     /// # Errors
     /// Where a growth was refused. The output is then as it was.
