@@ -2,6 +2,7 @@
 #![tactic(auto)]
 
 ghost use Rattle.std.specs.Prelude.{◌≡◌, ◌<◌, Ok, IfOk};
+ghost use Rattle.ahci_port.specs.Headline.{Headline};
 
 use ahci_port::{DeviceStep, Outcome, Port, Stepped};
 use ahci_table::{Window, default_pieces};
@@ -30,6 +31,7 @@ fn main(rt: HostRuntime) -> anyhow::Result<()> {
     let numbers = fail(&rt, &mut port)?;
     recover(&rt, &mut port, numbers[1])?;
     finish(&rt, &mut port, numbers)?;
+    promised(&port);
     let mut sector = [0; 512];
     if u64::from(port.sectors()) > 9 {
         port.copy(9, &mut sector);
@@ -85,6 +87,13 @@ fn finish(rt: &HostRuntime, port: &mut Port, numbers: [u64; 3]) -> anyhow::Resul
     show(rt, port)?;
     collect(rt, port, 0, numbers[0])?;
     collect(rt, port, 2, numbers[2])
+}
+
+/// What the proof of any caller may say of a port between two calls: the whole promise. The call does nothing.
+fn promised(port: &Port)
+    ensures { Headline port.now }
+{
+    port.keeps_its_promise();
 }
 
 /// So many sectors of one byte.
