@@ -62,3 +62,56 @@ pub struct FlatEntry {
     pub tag: u32,
     pub error: u32,
 }
+
+/// All that can be seen of a port at once. What stands by tag has 32 places.
+#[repr(C)]
+#[derive(Clone, Copy, Debug, PartialEq, Eq)]
+pub struct FlatState {
+    /// The number of the journal's first entry, and of the next one.
+    pub first: u64,
+    pub next: u64,
+    /// By tag, the number of the request that owns the slot; 0 where it is free.
+    pub numbers: [u64; 32],
+    pub depth: u32,
+    pub sectors: u32,
+    /// 1 where a command has failed and the port has not recovered.
+    pub halted: u32,
+    pub issued: u32,
+    pub accepted: u32,
+    pub held: u32,
+    pub cap: u32,
+    pub ghc: u32,
+    pub pi: u32,
+    pub vs: u32,
+    pub px_clb: u32,
+    pub px_clbu: u32,
+    pub px_fb: u32,
+    pub px_fbu: u32,
+    pub px_is: u32,
+    pub px_ie: u32,
+    pub px_cmd: u32,
+    pub px_tfd: u32,
+    pub px_sig: u32,
+    pub px_ssts: u32,
+    pub px_sctl: u32,
+    pub px_serr: u32,
+    pub px_sact: u32,
+    pub px_ci: u32,
+    /// The received FIS area.
+    pub received: [u8; 256],
+    /// By tag, the number of the phase.
+    pub phases: [u8; 32],
+}
+
+/// What a window asks for.
+#[repr(C)]
+#[derive(Clone, Copy, Debug, PartialEq, Eq)]
+pub struct FlatCommand {
+    pub lba: u64,
+    pub sectors: u32,
+    /// 0 for a read, 1 for a write.
+    pub kind: u32,
+    pub tag: u32,
+    /// How many entries its PRDT has.
+    pub pieces: u32,
+}
