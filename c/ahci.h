@@ -29,6 +29,7 @@ extern "C" {
 #define AHCI_MOST_COUNT 65536      /* sectors of one command */
 #define AHCI_HEADER_BYTES 32       /* a command header (section 4.2.2) */
 #define AHCI_RECEIVED_BYTES 256    /* the received FIS area (section 4.2.1) */
+#define AHCI_MOST_FIS_BYTES 8196   /* a Data FIS with 8,192 bytes of payload */
 #define AHCI_PAGE_BYTES 512        /* the page of IDENTIFY DEVICE, and page 0 of log 10h */
 
 /* A place for a port. All zeros is an empty place. */
@@ -212,6 +213,30 @@ typedef struct ahci_state {
     uint8_t phases[32];     /* by tag: ahci_phase */
 } ahci_state;
 
+/* A FIS (SATA, "FIS types"), with no padding. What its type doesn't have is 0. */
+typedef struct ahci_fis {
+    uint64_t lba;      /* H2D, D2H, PIO Setup: below 2^48 */
+    uint32_t sactive;  /* Set Device Bits */
+    uint32_t offset;   /* DMA Setup: the buffer offset in bytes */
+    uint32_t transfer; /* DMA Setup: the transfer count in bytes */
+    uint16_t features; /* H2D */
+    uint16_t count;    /* H2D, D2H, PIO Setup */
+    uint16_t bytes;    /* PIO Setup: the transfer count in bytes */
+    uint16_t payload;  /* Data: how many bytes of payload follow byte 3 */
+    uint8_t kind;      /* byte 0: 27h H2D, 34h D2H, 39h DMA Activate, 41h DMA Setup, 46h Data, 5Fh PIO Setup, A1h Set Device Bits */
+    uint8_t c;         /* flags, 0 or 1: H2D */
+    uint8_t a;         /* DMA Setup */
+    uint8_t i;         /* D2H, DMA Setup, PIO Setup, Set Device Bits */
+    uint8_t d;         /* DMA Setup, PIO Setup: from the device to the host */
+    uint8_t status;    /* D2H, PIO Setup, Set Device Bits */
+    uint8_t error;     /* the same */
+    uint8_t device;    /* H2D, D2H, PIO Setup */
+    uint8_t command;   /* H2D */
+    uint8_t control;   /* H2D */
+    uint8_t e_status;  /* PIO Setup: the status after the transfer */
+    uint8_t tag;       /* DMA Setup: below 32 */
+} ahci_fis;
+
 /* What a window asks for. */
 typedef struct ahci_command {
     uint64_t lba;
@@ -320,6 +345,15 @@ uint32_t ahci_port_entry_bytes(ahci_port *port, uint64_t number, uint8_t *out, s
 uint32_t ahci_port_state(ahci_port *port, ahci_state *state);
 
 /* ---- the layers alone, with no port ---- */
+
+/* Reads a FIS, which takes all of the bytes. Reserved bits are ignored. The payload of a Data FIS stands behind its first four
+   bytes. AHCI_EMPTY_FIS, AHCI_UNKNOWN_TYPE, AHCI_WRONG_FIS_LENGTH. */
+uint32_t ahci_fis_decode(const uint8_t *bytes, size_t count, ahci_fis *fis);
+
+/* Writes a FIS, reserved bits 0, to the beginning of `out`: *length bytes, 8,196 at most. Fields that its type doesn't have are
+   not looked at. A Data FIS has this payload; for others the payload is not looked at. AHCI_UNKNOWN_TYPE, then what is out of
+   its range: AHCI_BAD_FLAG, AHCI_BAD_LBA, AHCI_BAD_TAG, AHCI_BAD_STATUS, AHCI_BAD_PAYLOAD; AHCI_BUFFER_TOO_SMALL. */
+uint32_t ahci_fis_encode(const ahci_fis *fis, const uint8_t *payload, size_t payload_bytes, uint8_t *out, size_t out_bytes, size_t *length);
 
 /* Whether a port would take a window, and what it asks for: AHCI_BAD_TAG, AHCI_WRONG_LENGTH, AHCI_OUT_OF_MEMORY, then the
    first rule that it breaks: AHCI_BAD_HEADER, AHCI_BAD_COMMAND, AHCI_WRONG_TAG, AHCI_BAD_LIST. `memory` begins at the tag's

@@ -117,6 +117,14 @@ class _Command(ctypes.Structure):
     _fields_ = [("lba", _u64), ("sectors", _u32), ("kind", _u32), ("tag", _u32), ("pieces", _u32)]
 
 
+class _Fis(ctypes.Structure):
+    _fields_ = [
+        ("lba", _u64), ("sactive", _u32), ("offset", _u32), ("transfer", _u32),
+        *((name, ctypes.c_uint16) for name in ("features", "count", "bytes", "payload")),
+        *((name, _u8) for name in ("kind", "c", "a", "i", "d", "status", "error", "device", "command", "control", "e_status", "tag")),
+    ]
+
+
 class Stepped(NamedTuple):
     """What the device did: 0 accepted, 1 completed, 2 failed; the step's first entry, and how many it has."""
 
@@ -206,6 +214,31 @@ class Command(NamedTuple):
     pieces: int
 
 
+class Fis(NamedTuple):
+    """A FIS (ahci_fis). What its type doesn't have is 0; `kind` is byte 0, the type."""
+
+    kind: int
+    lba: int = 0
+    sactive: int = 0
+    offset: int = 0
+    transfer: int = 0
+    features: int = 0
+    count: int = 0
+    bytes: int = 0
+    payload: int = 0
+    c: int = 0
+    a: int = 0
+    i: int = 0
+    d: int = 0
+    status: int = 0
+    error: int = 0
+    device: int = 0
+    command: int = 0
+    control: int = 0
+    e_status: int = 0
+    tag: int = 0
+
+
 _port = ctypes.POINTER(_Place)
 _ARGUMENTS = {
     "new": [_port, ctypes.c_char_p, _size, _u32],
@@ -236,6 +269,8 @@ _ARGUMENTS = {
     "state": [_port, ctypes.POINTER(_State)],
 }
 _ALONE = {
+    "fis_decode": [ctypes.c_char_p, _size, ctypes.POINTER(_Fis)],
+    "fis_encode": [ctypes.POINTER(_Fis), ctypes.c_char_p, _size, ctypes.c_char_p, _size, ctypes.POINTER(_size)],
     "window_check": [_u32, ctypes.c_char_p, _size, ctypes.c_char_p, _size, ctypes.POINTER(_Command)],
     "identify_page": [_u32, _u32, ctypes.c_char_p, _size],
     "log_page": [_u32, _u8, _u64, ctypes.c_char_p, _size],
@@ -430,6 +465,23 @@ def _alone(name: str, size: int, *arguments: object) -> bytes:
     out = ctypes.create_string_buffer(size)
     _done(getattr(_loaded(), f"ahci_{name}")(*arguments, out, size))
     return out.raw
+
+
+def fis_decode(data: bytes) -> Fis:
+    """Reads a FIS, which takes all of the bytes."""
+    found = _Fis()
+    _done(_loaded().ahci_fis_decode(data, len(data), ctypes.byref(found)))
+    return Fis(**{name: getattr(found, name) for name in Fis._fields})
+
+
+def fis_encode(fis: Fis, payload: bytes = b"") -> bytes:
+    """The bytes of a FIS; a Data FIS has this payload."""
+    given = _Fis()
+    for (name, kind), value in zip(_Fis._fields_, (getattr(fis, name) for name, _ in _Fis._fields_)):
+        setattr(given, name, _fits(value, 8 * ctypes.sizeof(kind), name))
+    out, length = ctypes.create_string_buffer(8196), _size()
+    _done(_loaded().ahci_fis_encode(ctypes.byref(given), payload, len(payload), out, 8196, ctypes.byref(length)))
+    return out.raw[: length.value]
 
 
 def window_check(tag: int, header: bytes, memory: bytes) -> Command:

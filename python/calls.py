@@ -16,6 +16,10 @@ with ahci.Port.zeros(sectors=8, depth=4) as port:
     except ahci.Refused as why:
         assert why.status == ahci.Status.NO_SUCH_ENTRY
 assert ahci.log_page(3, 0x40, 5)[:5] == bytes([3, 0, 0x41, 0x40, 5]) and sum(ahci.log_page(3, 0x40, 5)) % 256 == 0
+setup = bytes([0x41, 0xA0, 0, 0, 31] + [0] * 11 + [0x78, 0x56, 0x34, 0x12, 0, 2] + [0] * 6)
+assert ahci.fis_decode(setup) == ahci.Fis(kind=0x41, a=1, d=1, tag=31, offset=0x12345678, transfer=512)
+assert ahci.fis_encode(ahci.fis_decode(setup)) == setup
+assert ahci.fis_encode(ahci.Fis(kind=0x46), b"\1\2\3\4") == b"\x46\0\0\0\1\2\3\4"
 assert ahci.status_text(ahci.Status.OUTSIDE_COMMAND) == "OutsideCommand"
 assert ahci.version() == 0x000100
 try:

@@ -14,6 +14,7 @@ ghost use Rattle.ncq_journal.specs.Sector.{sector};
 ghost use Rattle.port_place.specs.Alone.{AnswersCheck, log_refusal, page_refusal};
 ghost use Rattle.port_place.specs.Asked.{AnswersIssue, AnswersSubmit};
 ghost use Rattle.port_place.specs.Done.{AnswersRegister, HasCollected, HasRecovered, HasStepped, IsSets, Same};
+ghost use Rattle.port_place.specs.Fises.{AnswersDecode, AnswersEncode, fis_named};
 ghost use Rattle.port_place.specs.Flat.{flat_slot};
 ghost use Rattle.port_place.specs.Making.{size_refusal};
 ghost use Rattle.port_place.specs.Names.{AnswersText};
@@ -24,7 +25,8 @@ ghost use Rattle.port_place.specs.Told.{Told, ToldOr};
 
 use ahci_port::DeviceStep;
 use port_place::{
-    FlatCommand, FlatEntry, FlatReply, FlatSets, FlatSlot, FlatState, FlatStep, Place, Status,
+    FlatCommand, FlatEntry, FlatFis, FlatReply, FlatSets, FlatSlot, FlatState, FlatStep, Place,
+    Status,
 };
 use std::alloc::Global;
 
@@ -424,6 +426,27 @@ pub extern "C" fn ahci_port_state(port: &mut Place, heap: Global, state: &mut Fl
     };
     let answer = port_place::state(&held, state);
     port.back(held, answer)
+}
+
+/// Reads a FIS.
+#[unsafe(no_mangle)]
+pub extern "C" fn ahci_fis_decode(bytes: &[u8], fis: &mut FlatFis) -> u32
+    ensures { Numbered result (λ answer. AnswersDecode bytes.now answer fis.old fis.new) }
+{
+    port_place::fis_decode(bytes, fis).code()
+}
+
+/// Writes a FIS, with this payload where it is Data.
+#[unsafe(no_mangle)]
+pub extern "C" fn ahci_fis_encode(
+    fis: &FlatFis,
+    payload: &[u8],
+    out: &mut [u8],
+    length: &mut usize,
+) -> u32
+    ensures { Numbered result (λ answer. AnswersEncode (fis_named fis.now payload.now) answer out.old out.new length.old length.new) }
+{
+    port_place::fis_encode(fis, payload, out, length).code()
 }
 
 /// Whether a port would take a window, and what it asks for then.

@@ -1,6 +1,7 @@
 pub mod Alone
 pub mod Asked
 pub mod Done
+pub mod Fises
 pub mod Flat
 pub mod Held
 pub mod Making

@@ -18,6 +18,8 @@ use Rattle.ahci_port.specs.declared.fault.TrimFault.{TrimFault}
 use Rattle.ahci_port.specs.declared.fault.TrimFault.TheVariants as trim
 use Rattle.ahci_table.specs.declared.fault.TableFault.{TableFault}
 use Rattle.ahci_table.specs.declared.fault.TableFault.TheVariants as table
+use Rattle.sata_fis.specs.declared.fault.FisFault.{FisFault}
+use Rattle.sata_fis.specs.declared.fault.FisFault.TheVariants as fis
 use Rattle.ahci_regs.specs.declared.fault.RegFault.{RegFault}
 use Rattle.ahci_regs.specs.declared.fault.RegFault.TheVariants as reg
 use Rattle.port_place.specs.declared.status.Status.{Status}
@@ -137,3 +139,9 @@ of_table table.BadHeader = status.BadHeader
 of_table table.BadCommand = status.BadCommand
 of_table table.WrongTag = status.WrongTag
 of_table table.BadList = status.BadList
+
+-- bytes are no FIS
+abbrev pub of_fis : FisFault → Status
+of_fis fis.Empty = status.EmptyFis
+of_fis (fis.UnknownType type) = status.UnknownType
+of_fis (fis.WrongLength len) = status.WrongFisLength

@@ -115,3 +115,34 @@ pub struct FlatCommand {
     /// How many entries its PRDT has.
     pub pieces: u32,
 }
+
+/// A FIS. What its type doesn't have is 0.
+#[repr(C)]
+#[derive(Clone, Copy, Debug, PartialEq, Eq)]
+pub struct FlatFis {
+    pub lba: u64,
+    pub sactive: u32,
+    /// The buffer offset of DMA Setup, in bytes.
+    pub offset: u32,
+    /// The transfer count of DMA Setup, in bytes.
+    pub transfer: u32,
+    pub features: u16,
+    pub count: u16,
+    /// The transfer count of PIO Setup, in bytes.
+    pub bytes: u16,
+    /// How many bytes of payload a Data FIS has.
+    pub payload: u16,
+    /// Byte 0, the type.
+    pub kind: u8,
+    pub c: u8,
+    pub a: u8,
+    pub i: u8,
+    pub d: u8,
+    pub status: u8,
+    pub error: u8,
+    pub device: u8,
+    pub command: u8,
+    pub control: u8,
+    pub e_status: u8,
+    pub tag: u8,
+}

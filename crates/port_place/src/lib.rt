@@ -5,6 +5,7 @@ mod bare;
 mod collecting;
 mod entries;
 mod faults;
+mod fises;
 mod flat;
 mod held;
 mod issuing;
@@ -21,7 +22,10 @@ mod windows;
 
 pub use collecting::collect;
 pub use entries::{entry, entry_bytes};
-pub use flat::{FlatCommand, FlatEntry, FlatReply, FlatSets, FlatSlot, FlatState, FlatStep};
+pub use fises::{fis_decode, fis_encode};
+pub use flat::{
+    FlatCommand, FlatEntry, FlatFis, FlatReply, FlatSets, FlatSlot, FlatState, FlatStep,
+};
 pub use held::Held;
 pub use issuing::{issue, submit};
 pub use looking::{copy, depth, received, register, sectors, slot, tag_sets};
