@@ -20,12 +20,16 @@
 extern "C" {
 #endif
 
+/* The version of this header: major, minor and patch, a byte each. That of the library is what ahci_version answers. */
+#define AHCI_VERSION 0x000100u
+
 #define AHCI_SECTOR_BYTES 512
 #define AHCI_MOST_SECTORS 131072   /* of one port's disk: 64 MiB */
 #define AHCI_MOST_TAGS 32
 #define AHCI_MOST_COUNT 65536      /* sectors of one command */
 #define AHCI_HEADER_BYTES 32       /* a command header (section 4.2.2) */
 #define AHCI_RECEIVED_BYTES 256    /* the received FIS area (section 4.2.1) */
+#define AHCI_MOST_FIS_BYTES 8196   /* a Data FIS with 8,192 bytes of payload */
 #define AHCI_PAGE_BYTES 512        /* the page of IDENTIFY DEVICE, and page 0 of log 10h */
 
 /* A place for a port. All zeros is an empty place. */
@@ -152,6 +156,96 @@ typedef struct ahci_tag_sets {
     uint32_t held;     /* another command's error has ended theirs */
 } ahci_tag_sets;
 
+/* What an entry of the journal says. */
+typedef enum ahci_event {
+    AHCI_EVENT_READ = 0,     /* a read is issued: tag, lba, sectors */
+    AHCI_EVENT_WRITE = 1,    /* a write is issued: tag, lba, sectors */
+    AHCI_EVENT_ACCEPT = 2,   /* tag */
+    AHCI_EVENT_COMPLETE = 3, /* tag */
+    AHCI_EVENT_FAIL = 4,     /* tag, error, lba: the failing sector */
+    AHCI_EVENT_RECOVER = 5,  /* tag: the one whose command had failed */
+    AHCI_EVENT_REISSUE = 6,  /* tag */
+    AHCI_EVENT_COLLECT = 7,  /* tag */
+    AHCI_EVENT_IDENTIFY = 8, /* IDENTIFY DEVICE was carried out */
+    AHCI_EVENT_FLUSH = 9,    /* FLUSH CACHE EXT was carried out */
+    AHCI_EVENT_READ_LOG = 10 /* READ LOG EXT by itself: no port does so */
+} ahci_event;
+
+/* One entry. What its kind doesn't name is 0. */
+typedef struct ahci_entry {
+    uint64_t lba;
+    uint32_t sectors;
+    uint32_t kind; /* ahci_event */
+    uint32_t tag;
+    uint32_t error;
+} ahci_entry;
+
+/* All that can be seen of a port at once, with no padding: two ports that have done the same are equal by memcmp. */
+typedef struct ahci_state {
+    uint64_t first;         /* the number of the journal's first entry, and of the next one */
+    uint64_t next;
+    uint64_t numbers[32];   /* by tag: that of the request that owns the slot; 0 where it is free */
+    uint32_t depth;
+    uint32_t sectors;
+    uint32_t halted;        /* 1 where a command has failed and the port has not recovered, else 0 */
+    uint32_t issued;        /* as in ahci_tag_sets */
+    uint32_t accepted;
+    uint32_t held;
+    uint32_t cap;           /* the registers (sections 3.1 and 3.3) */
+    uint32_t ghc;
+    uint32_t pi;
+    uint32_t vs;
+    uint32_t px_clb;
+    uint32_t px_clbu;
+    uint32_t px_fb;
+    uint32_t px_fbu;
+    uint32_t px_is;
+    uint32_t px_ie;
+    uint32_t px_cmd;
+    uint32_t px_tfd;
+    uint32_t px_sig;
+    uint32_t px_ssts;
+    uint32_t px_sctl;
+    uint32_t px_serr;
+    uint32_t px_sact;
+    uint32_t px_ci;
+    uint8_t received[256];  /* the received FIS area (section 4.2.1) */
+    uint8_t phases[32];     /* by tag: ahci_phase */
+} ahci_state;
+
+/* A FIS (SATA, "FIS types"), with no padding. What its type doesn't have is 0. */
+typedef struct ahci_fis {
+    uint64_t lba;      /* H2D, D2H, PIO Setup: below 2^48 */
+    uint32_t sactive;  /* Set Device Bits */
+    uint32_t offset;   /* DMA Setup: the buffer offset in bytes */
+    uint32_t transfer; /* DMA Setup: the transfer count in bytes */
+    uint16_t features; /* H2D */
+    uint16_t count;    /* H2D, D2H, PIO Setup */
+    uint16_t bytes;    /* PIO Setup: the transfer count in bytes */
+    uint16_t payload;  /* Data: how many bytes of payload follow byte 3 */
+    uint8_t kind;      /* byte 0: 27h H2D, 34h D2H, 39h DMA Activate, 41h DMA Setup, 46h Data, 5Fh PIO Setup, A1h Set Device Bits */
+    uint8_t c;         /* flags, 0 or 1: H2D */
+    uint8_t a;         /* DMA Setup */
+    uint8_t i;         /* D2H, DMA Setup, PIO Setup, Set Device Bits */
+    uint8_t d;         /* DMA Setup, PIO Setup: from the device to the host */
+    uint8_t status;    /* D2H, PIO Setup, Set Device Bits */
+    uint8_t error;     /* the same */
+    uint8_t device;    /* H2D, D2H, PIO Setup */
+    uint8_t command;   /* H2D */
+    uint8_t control;   /* H2D */
+    uint8_t e_status;  /* PIO Setup: the status after the transfer */
+    uint8_t tag;       /* DMA Setup: below 32 */
+} ahci_fis;
+
+/* What a window asks for. */
+typedef struct ahci_command {
+    uint64_t lba;
+    uint32_t sectors;
+    uint32_t kind;   /* ahci_kind */
+    uint32_t tag;
+    uint32_t pieces; /* how many entries its PRDT has */
+} ahci_command;
+
 /* ---- a port ---- */
 
 /* Makes a port of `depth` slots over a copy of an image, in an empty place. It is started and has done nothing.
@@ -165,7 +259,7 @@ uint32_t ahci_port_new_zeros(ahci_port *port, uint32_t sectors, uint32_t depth);
    AHCI_BAD_FIRST behind AHCI_BAD_DEPTH. */
 uint32_t ahci_port_resume(ahci_port *port, const uint8_t *image, size_t image_bytes, uint32_t depth, uint64_t first);
 
-/* Frees a port, and leaves its place empty. AHCI_NO_PORT, as of every call from here on. */
+/* Frees a port, and leaves its place empty. AHCI_NO_PORT, as of every call from here on to ahci_port_state. */
 uint32_t ahci_port_free(ahci_port *port);
 
 /* How many slots there are, 1 to 32. */
@@ -239,6 +333,50 @@ uint32_t ahci_port_copy(ahci_port *port, uint64_t lba, uint8_t *out, size_t out_
 /* Throws the journal away where every slot is free, and its memory with it: *entries is how many it had. Numbers go on.
    AHCI_BUSY, AHCI_SPENT. */
 uint32_t ahci_port_trim(ahci_port *port, uint64_t *entries);
+
+/* The entry of a number of the journal. AHCI_NO_SUCH_ENTRY. */
+uint32_t ahci_port_entry(ahci_port *port, uint64_t number, ahci_entry *entry);
+
+/* Copies the bytes of the write that the entry of a number issued, 512 * sectors of them, to the beginning of `out`.
+   AHCI_NO_SUCH_ENTRY where there is none or it issues no write, AHCI_BUFFER_TOO_SMALL. */
+uint32_t ahci_port_entry_bytes(ahci_port *port, uint64_t number, uint8_t *out, size_t out_bytes);
+
+/* All that can be seen of a port at once. It takes no memory. */
+uint32_t ahci_port_state(ahci_port *port, ahci_state *state);
+
+/* ---- the layers alone, with no port ---- */
+
+/* Reads a FIS, which takes all of the bytes. Reserved bits are ignored. The payload of a Data FIS stands behind its first four
+   bytes. AHCI_EMPTY_FIS, AHCI_UNKNOWN_TYPE, AHCI_WRONG_FIS_LENGTH. */
+uint32_t ahci_fis_decode(const uint8_t *bytes, size_t count, ahci_fis *fis);
+
+/* Writes a FIS, reserved bits 0, to the beginning of `out`: *length bytes, 8,196 at most. Fields that its type doesn't have are
+   not looked at. A Data FIS has this payload; for others the payload is not looked at. AHCI_UNKNOWN_TYPE, then what is out of
+   its range: AHCI_BAD_FLAG, AHCI_BAD_LBA, AHCI_BAD_TAG, AHCI_BAD_STATUS, AHCI_BAD_PAYLOAD; AHCI_BUFFER_TOO_SMALL. */
+uint32_t ahci_fis_encode(const ahci_fis *fis, const uint8_t *payload, size_t payload_bytes, uint8_t *out, size_t out_bytes, size_t *length);
+
+/* Whether a port would take a window, and what it asks for: AHCI_BAD_TAG, AHCI_WRONG_LENGTH, AHCI_OUT_OF_MEMORY, then the
+   first rule that it breaks: AHCI_BAD_HEADER, AHCI_BAD_COMMAND, AHCI_WRONG_TAG, AHCI_BAD_LIST. `memory` begins at the tag's
+   base, as of ahci_port_issue. */
+uint32_t ahci_window_check(uint32_t tag, const uint8_t *header, size_t header_bytes, const uint8_t *memory, size_t memory_bytes, ahci_command *command);
+
+/* The page of IDENTIFY DEVICE (ACS-3) of a disk of so many sectors with 1 to 32 slots.
+   AHCI_WRONG_LENGTH where out_bytes is not 512, AHCI_BAD_DEPTH. */
+uint32_t ahci_identify_page(uint32_t sectors, uint32_t depth, uint8_t *out, size_t out_bytes);
+
+/* Page 0 of log 10h (ACS-3, "NCQ Command Error log") after the error of a tag's command at a sector.
+   AHCI_WRONG_LENGTH where out_bytes is not 512, AHCI_BAD_TAG, AHCI_BAD_LBA. */
+uint32_t ahci_log_page(uint32_t tag, uint8_t error, uint64_t lba, uint8_t *out, size_t out_bytes);
+
+/* ---- the library ---- */
+
+/* The name of a status as `ahci replay` writes it, as "OutsideCommand", or as here for one that it has not, as "NoPort"; "Ok" of
+   AHCI_OK. It is copied to the beginning of `out` with a 0 byte behind it, and *length is the name's, without the 0.
+   AHCI_BAD_KIND for a number that is no status, AHCI_BUFFER_TOO_SMALL: 32 bytes are enough. */
+uint32_t ahci_status_text(uint32_t status, uint8_t *out, size_t out_bytes, size_t *length);
+
+/* The library's version, as AHCI_VERSION. */
+uint32_t ahci_version(void);
 
 #ifdef __cplusplus
 }

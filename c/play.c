@@ -1,5 +1,6 @@
 /* Plays the script language of `ahci replay` (docs/PROGRAM.md) through the library: a line of answer for each command. The
-   exit status is 1 at a line that is not understood or stands where it may not, and 3 where memory is refused. */
+   exit status is 1 at a line that is not understood or stands where it may not, and 3 where memory is refused. After each
+   command the port's whole state is compared with what single calls tell of it: the exit status is 4 where they differ. */
 #include "ahci.h"
 #include <inttypes.h>
 #include <stdio.h>
@@ -10,6 +11,7 @@
 static ahci_port port = AHCI_PORT_EMPTY;
 static bool made;        /* whether a disk was accepted */
 static uint64_t entries; /* since the port was made or trimmed */
+static uint64_t first;   /* the number of the first of them */
 static uint8_t *bytes;   /* room for the longest command's sectors */
 static size_t room;
 static unsigned line_number;
@@ -40,6 +42,14 @@ static void lost(void)
     exit(1);
 }
 
+/* Two calls have told different things of one port. */
+static void differs(const char *what)
+{
+    fprintf(stderr, "play: line %u: %s\n", line_number, what);
+    fflush(stdout);
+    exit(4);
+}
+
 /* Answers a refusal, and whether there was none. */
 static bool done(uint32_t status)
 {
@@ -54,6 +64,10 @@ static bool done(uint32_t status)
         fprintf(stderr, "play: line %u: status %u\n", line_number, (unsigned)status);
         exit(1);
     }
+    uint8_t text[32];
+    size_t length;
+    if (ahci_status_text(status, text, sizeof text, &length) != AHCI_OK || length != strlen(name) || strcmp((char *)text, name) != 0)
+        differs("a status has another name");
     printf("refused %s\n", name);
     return false;
 }
@@ -125,15 +139,35 @@ static void *filled(uint64_t sectors, uint8_t fill)
 
 static void make(char **words, int n)
 {
-    uint64_t sectors = number(words[1], UINT64_MAX), depth = number(words[2], UINT64_MAX), first = n == 4 ? number(words[3], UINT64_MAX) : 0;
+    uint64_t sectors = number(words[1], UINT64_MAX), depth = number(words[2], UINT64_MAX), number_of_first = n == 4 ? number(words[3], UINT64_MAX) : 0;
     uint32_t status = !sectors || sectors > AHCI_MOST_SECTORS ? AHCI_BAD_SIZE : !depth || depth > AHCI_MOST_TAGS ? AHCI_BAD_DEPTH : AHCI_OK;
     if (status == AHCI_OK)
-        status = ahci_port_resume(&port, filled(sectors, 0), 512 * (size_t)sectors, (uint32_t)depth, first);
+        status = ahci_port_resume(&port, filled(sectors, 0), 512 * (size_t)sectors, (uint32_t)depth, number_of_first);
     if (!done(status))
         return;
     made = true;
     entries = 0;
-    printf(n == 4 ? "disk %" PRIu64 " %" PRIu64 " %" PRIu64 "\n" : "disk %" PRIu64 " %" PRIu64 "\n", sectors, depth, first);
+    first = number_of_first;
+    printf(n == 4 ? "disk %" PRIu64 " %" PRIu64 " %" PRIu64 "\n" : "disk %" PRIu64 " %" PRIu64 "\n", sectors, depth, number_of_first);
+}
+
+/* The entry of a command that was issued, and the bytes of a write. */
+static void issued(uint64_t k, uint32_t tag, bool is_write, uint64_t lba, uint32_t sectors, const uint8_t *data)
+{
+    ahci_entry entry;
+    size_t size = 512 * (size_t)sectors;
+    uint8_t *copy = malloc(size);
+    if (!copy)
+        exit(3);
+    if (ahci_port_entry(&port, k, &entry) != AHCI_OK || entry.kind != (is_write ? AHCI_EVENT_WRITE : AHCI_EVENT_READ) || entry.tag != tag
+        || entry.lba != lba || entry.sectors != sectors || entry.error != 0)
+        differs("an entry is not that of its command");
+    if (ahci_port_entry_bytes(&port, k, copy, size - 1) != (is_write ? AHCI_BUFFER_TOO_SMALL : AHCI_NO_SUCH_ENTRY))
+        differs("bytes are copied where there is no room for them, or none");
+    if (is_write && (ahci_port_entry_bytes(&port, k, copy, size) != AHCI_OK || memcmp(copy, data, size) != 0))
+        differs("an entry has lost its bytes");
+    free(copy);
+    printf("issued %" PRIu64 "\n", k);
 }
 
 static void submit(char **words, bool is_write)
@@ -144,7 +178,7 @@ static void submit(char **words, bool is_write)
     uint8_t *data = filled(is_write ? sectors : 1, fill);
     if (done(ahci_port_submit(&port, tag, is_write ? AHCI_WRITE : AHCI_READ, lba, sectors, data, is_write ? 512 * (size_t)sectors : 0, &k))) {
         entries++;
-        printf("issued %" PRIu64 "\n", k);
+        issued(k, tag, is_write, lba, sectors, data);
     }
 }
 
@@ -155,9 +189,17 @@ static void raw(char **words)
     uint32_t tag = (uint32_t)number(words[1], 31);
     uint64_t k;
     size_t header_bytes = hex_bytes(words[2], header), memory_bytes = hex_bytes(words[3], memory);
+    ahci_command command;
     if (header_bytes != AHCI_HEADER_BYTES)
         lost();
-    if (done(ahci_port_issue(&port, tag, header, header_bytes, memory, memory_bytes, &k))) {
+    uint32_t checked = ahci_window_check(tag, header, header_bytes, memory, memory_bytes, &command);
+    uint32_t status = ahci_port_issue(&port, tag, header, header_bytes, memory, memory_bytes, &k);
+    if (status != checked && status != AHCI_HALTED && status != AHCI_NO_SUCH_TAG && status != AHCI_SLOT_OWNED)
+        differs("a window is checked otherwise than it is issued");
+    if (done(status)) {
+        ahci_entry entry;
+        if (ahci_port_entry(&port, k, &entry) != AHCI_OK || entry.kind != command.kind || entry.tag != command.tag || entry.lba != command.lba || entry.sectors != command.sectors)
+            differs("a window asks for another command than was issued");
         entries++;
         printf("issued %" PRIu64 "\n", k);
     }
@@ -228,10 +270,50 @@ static void look(char **words, int n)
     } else {
         w = (uint32_t)number(words[1], 255);
         if (done(ahci_port_identify(&port, page, sizeof page))) {
+            uint8_t alone[AHCI_PAGE_BYTES];
+            uint32_t sectors, depth;
+            if (ahci_port_sectors(&port, &sectors) || ahci_port_depth(&port, &depth) || ahci_identify_page(sectors, depth, alone, sizeof alone) || memcmp(page, alone, sizeof alone))
+                differs("the page of IDENTIFY DEVICE is another one");
             entries++;
             printf("word %u %02x%02x\n", (unsigned)w, page[2 * w + 1], page[2 * w]);
         }
     }
+}
+
+/* The whole state is what single calls tell. */
+static void compare(void)
+{
+    static const uint32_t offsets[18] = { 0x000, 0x004, 0x00c, 0x010, 0x100, 0x104, 0x108, 0x10c, 0x110, 0x114, 0x118, 0x120, 0x124, 0x128, 0x12c, 0x130, 0x134, 0x138 };
+    ahci_state whole, told;
+    ahci_tag_sets sets;
+    ahci_entry entry;
+    uint32_t *const words[18] = {
+        &told.cap, &told.ghc, &told.pi, &told.vs, &told.px_clb, &told.px_clbu, &told.px_fb, &told.px_fbu, &told.px_is,
+        &told.px_ie, &told.px_cmd, &told.px_tfd, &told.px_sig, &told.px_ssts, &told.px_sctl, &told.px_serr, &told.px_sact, &told.px_ci,
+    };
+    told.first = first;
+    told.next = first + entries;
+    told.halted = 0;
+    for (uint32_t tag = 0; tag < 32; tag++) {
+        ahci_slot slot;
+        if (ahci_port_slot(&port, tag, &slot) != AHCI_OK)
+            differs("no slot");
+        told.numbers[tag] = slot.number;
+        told.phases[tag] = (uint8_t)slot.phase;
+        told.halted |= slot.phase == AHCI_PHASE_REJECTED || slot.phase == AHCI_PHASE_BROKEN;
+    }
+    for (int i = 0; i < 18; i++)
+        if (ahci_port_register(&port, offsets[i], words[i]) != AHCI_OK)
+            differs("no register");
+    if (ahci_port_depth(&port, &told.depth) || ahci_port_sectors(&port, &told.sectors) || ahci_port_tag_sets(&port, &sets) || ahci_port_received(&port, told.received, sizeof told.received))
+        differs("a call that only looks is refused");
+    told.issued = sets.issued;
+    told.accepted = sets.accepted;
+    told.held = sets.held;
+    if (ahci_port_state(&port, &whole) != AHCI_OK || memcmp(&whole, &told, sizeof whole) != 0)
+        differs("the whole state is not what single calls tell");
+    if (ahci_port_entry(&port, whole.next, &entry) != AHCI_NO_SUCH_ENTRY || (entries && ahci_port_entry(&port, whole.next - 1, &entry) != AHCI_OK))
+        differs("the journal ends elsewhere");
 }
 
 static bool is(char **words, int n, const char *name, int wanted) { return !strcmp(words[0], name) && n == wanted; }
@@ -260,7 +342,7 @@ static void run(char **words, int n)
     else if (is(words, n, "reissue", 2)) { tag = (uint32_t)number(words[1], 31); if (done(ahci_port_reissue(&port, tag))) { entries++; printf("reissued %u\n", (unsigned)tag); } }
     else if (is(words, n, "flush", 1)) { if (done(ahci_port_flush(&port))) { entries++; puts("flushed"); } }
     else if (is(words, n, "journal", 1)) printf("journal %" PRIu64 "\n", entries);
-    else if (is(words, n, "trim", 1)) { if (done(ahci_port_trim(&port, &count))) { if (count != entries) lost(); entries = 0; printf("trimmed %" PRIu64 "\n", count); } }
+    else if (is(words, n, "trim", 1)) { if (done(ahci_port_trim(&port, &count))) { if (count != entries) lost(); first += entries; entries = 0; printf("trimmed %" PRIu64 "\n", count); } }
     else if (n == 2 && (!strcmp(words[0], "reg") || !strcmp(words[0], "ack") || !strcmp(words[0], "show") || !strcmp(words[0], "identify"))) look(words, n);
     else lost();
 }
@@ -301,6 +383,8 @@ int main(int count, char **arguments)
             *at++ = 0;
         }
         run(words, n);
+        if (made)
+            compare();
     }
     bool well = !image || write_image(image);
     ahci_port_free(&port);

@@ -29,7 +29,8 @@ static int story(void)
 {
     static uint8_t image[8 * AHCI_SECTOR_BYTES], data[AHCI_SECTOR_BYTES], read[AHCI_SECTOR_BYTES], page[AHCI_PAGE_BYTES];
     ahci_port port = AHCI_PORT_EMPTY;
-    const uint8_t list[] = { 0 };
+    const uint8_t list[] = { 0 }, header[AHCI_HEADER_BYTES] = { 0 };
+    ahci_command command;
     uint64_t number, entries;
     ahci_stepped done;
     ahci_reply reply;
@@ -41,6 +42,13 @@ static int story(void)
     TRY(ahci_port_accept(&port, 0, &done));
     TRY(ahci_port_serve(&port, list, 1, &done));
     TRY(ahci_port_collect(&port, 0, number, &reply, read, 0));
+    uint32_t checked = ahci_window_check(0, header, sizeof header, image, sizeof image, &command);
+    if (checked == AHCI_OUT_OF_MEMORY) {
+        lacking++;
+        checked = ahci_window_check(0, header, sizeof header, image, sizeof image, &command);
+    }
+    if (checked != AHCI_BAD_HEADER)
+        wrong("a window of zeros has a header");
     TRY(ahci_port_identify(&port, page, sizeof page));
     TRY(ahci_port_flush(&port));
     TRY(ahci_port_trim(&port, &entries));

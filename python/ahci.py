@@ -14,7 +14,7 @@ from __future__ import annotations
 import ctypes
 import enum
 import os
-from typing import List, NamedTuple, Optional, Sequence, Tuple
+from typing import Dict, List, NamedTuple, Optional, Sequence, Tuple
 
 _u8, _u32, _u64, _size = ctypes.c_uint8, ctypes.c_uint32, ctypes.c_uint64, ctypes.c_size_t
 
@@ -98,6 +98,33 @@ class _Sets(ctypes.Structure):
     _fields_ = [("issued", _u32), ("accepted", _u32), ("held", _u32)]
 
 
+class _Entry(ctypes.Structure):
+    _fields_ = [("lba", _u64), ("sectors", _u32), ("kind", _u32), ("tag", _u32), ("error", _u32)]
+
+
+_REGISTERS = "cap ghc pi vs px_clb px_clbu px_fb px_fbu px_is px_ie px_cmd px_tfd px_sig px_ssts px_sctl px_serr px_sact px_ci".split()
+
+
+class _State(ctypes.Structure):
+    _fields_ = [
+        ("first", _u64), ("next", _u64), ("numbers", _u64 * 32),
+        *((name, _u32) for name in ("depth", "sectors", "halted", "issued", "accepted", "held", *_REGISTERS)),
+        ("received", _u8 * 256), ("phases", _u8 * 32),
+    ]
+
+
+class _Command(ctypes.Structure):
+    _fields_ = [("lba", _u64), ("sectors", _u32), ("kind", _u32), ("tag", _u32), ("pieces", _u32)]
+
+
+class _Fis(ctypes.Structure):
+    _fields_ = [
+        ("lba", _u64), ("sactive", _u32), ("offset", _u32), ("transfer", _u32),
+        *((name, ctypes.c_uint16) for name in ("features", "count", "bytes", "payload")),
+        *((name, _u8) for name in ("kind", "c", "a", "i", "d", "status", "error", "device", "command", "control", "e_status", "tag")),
+    ]
+
+
 class Stepped(NamedTuple):
     """What the device did: 0 accepted, 1 completed, 2 failed; the step's first entry, and how many it has."""
 
@@ -134,6 +161,84 @@ class TagSets(NamedTuple):
     held: int
 
 
+class Event(enum.IntEnum):
+    """What an entry of the journal says (ahci_event)."""
+
+    READ = 0
+    WRITE = 1
+    ACCEPT = 2
+    COMPLETE = 3
+    FAIL = 4
+    RECOVER = 5
+    REISSUE = 6
+    COLLECT = 7
+    IDENTIFY = 8
+    FLUSH = 9
+    READ_LOG = 10
+
+
+class Entry(NamedTuple):
+    """One entry of the journal. What its kind doesn't name is 0."""
+
+    lba: int
+    sectors: int
+    kind: Event
+    tag: int
+    error: int
+
+
+class State(NamedTuple):
+    """All that can be seen of a port at once (ahci_state): two ports that have done the same have equal states."""
+
+    first: int
+    next: int
+    numbers: Tuple[int, ...]
+    depth: int
+    sectors: int
+    halted: int
+    issued: int
+    accepted: int
+    held: int
+    registers: Dict[str, int]
+    received: bytes
+    phases: Tuple[int, ...]
+
+
+class Command(NamedTuple):
+    """What a window asks for: 0 a read, 1 a write, and how many entries its PRDT has."""
+
+    lba: int
+    sectors: int
+    kind: int
+    tag: int
+    pieces: int
+
+
+class Fis(NamedTuple):
+    """A FIS (ahci_fis). What its type doesn't have is 0; `kind` is byte 0, the type."""
+
+    kind: int
+    lba: int = 0
+    sactive: int = 0
+    offset: int = 0
+    transfer: int = 0
+    features: int = 0
+    count: int = 0
+    bytes: int = 0
+    payload: int = 0
+    c: int = 0
+    a: int = 0
+    i: int = 0
+    d: int = 0
+    status: int = 0
+    error: int = 0
+    device: int = 0
+    command: int = 0
+    control: int = 0
+    e_status: int = 0
+    tag: int = 0
+
+
 _port = ctypes.POINTER(_Place)
 _ARGUMENTS = {
     "new": [_port, ctypes.c_char_p, _size, _u32],
@@ -159,6 +264,18 @@ _ARGUMENTS = {
     "slot": [_port, _u32, ctypes.POINTER(_Slot)],
     "copy": [_port, _u64, ctypes.c_char_p, _size],
     "trim": [_port, ctypes.POINTER(_u64)],
+    "entry": [_port, _u64, ctypes.POINTER(_Entry)],
+    "entry_bytes": [_port, _u64, ctypes.c_char_p, _size],
+    "state": [_port, ctypes.POINTER(_State)],
+}
+_ALONE = {
+    "fis_decode": [ctypes.c_char_p, _size, ctypes.POINTER(_Fis)],
+    "fis_encode": [ctypes.POINTER(_Fis), ctypes.c_char_p, _size, ctypes.c_char_p, _size, ctypes.POINTER(_size)],
+    "window_check": [_u32, ctypes.c_char_p, _size, ctypes.c_char_p, _size, ctypes.POINTER(_Command)],
+    "identify_page": [_u32, _u32, ctypes.c_char_p, _size],
+    "log_page": [_u32, _u8, _u64, ctypes.c_char_p, _size],
+    "status_text": [_u32, ctypes.c_char_p, _size, ctypes.POINTER(_size)],
+    "version": [],
 }
 _library: Optional[ctypes.CDLL] = None
 
@@ -167,10 +284,17 @@ def _loaded() -> ctypes.CDLL:
     global _library
     if _library is None:
         _library = ctypes.CDLL(os.environ.get("AHCI_LIBRARY", "libahci.so.0"))
-        for name, arguments in _ARGUMENTS.items():
-            call = getattr(_library, f"ahci_port_{name}")
+        for name, arguments in [*((f"port_{it}", kinds) for it, kinds in _ARGUMENTS.items()), *_ALONE.items()]:
+            call = getattr(_library, f"ahci_{name}")
             call.argtypes, call.restype = arguments, _u32
     return _library
+
+
+def _done(status: int) -> None:
+    if status == Status.OUT_OF_MEMORY:
+        raise MemoryError
+    if status:
+        raise Refused(status)
 
 
 def _fits(value: int, bits: int, name: str) -> int:
@@ -197,11 +321,7 @@ class Port:
         return made
 
     def _call(self, name: str, *arguments: object) -> None:
-        status = getattr(_loaded(), f"ahci_port_{name}")(ctypes.byref(self._place), *arguments)
-        if status == Status.OUT_OF_MEMORY:
-            raise MemoryError
-        if status:
-            raise Refused(status)
+        _done(getattr(_loaded(), f"ahci_port_{name}")(ctypes.byref(self._place), *arguments))
 
     def free(self) -> None:
         """Frees the port. A second time does nothing."""
@@ -319,6 +439,78 @@ class Port:
     def trim(self) -> int:
         """Throws the journal away where every slot is free; the answer is how many entries it had."""
         return self._number("trim", _u64)
+
+    def entry(self, number: int) -> Entry:
+        """The entry of a number of the journal."""
+        found = _Entry()
+        self._call("entry", _fits(number, 64, "number"), ctypes.byref(found))
+        return Entry(found.lba, found.sectors, Event(found.kind), found.tag, found.error)
+
+    def entry_bytes(self, number: int) -> bytes:
+        """The bytes of the write that the entry of a number has issued."""
+        return self._copied("entry_bytes", max(1, 512 * self.entry(number).sectors), number)
+
+    def state(self) -> State:
+        """All that can be seen of the port at once."""
+        found = _State()
+        self._call("state", ctypes.byref(found))
+        registers = {name: getattr(found, name) for name in _REGISTERS}
+        return State(
+            found.first, found.next, tuple(found.numbers), found.depth, found.sectors, found.halted, found.issued, found.accepted,
+            found.held, registers, bytes(found.received), tuple(found.phases),
+        )
+
+
+def _alone(name: str, size: int, *arguments: object) -> bytes:
+    out = ctypes.create_string_buffer(size)
+    _done(getattr(_loaded(), f"ahci_{name}")(*arguments, out, size))
+    return out.raw
+
+
+def fis_decode(data: bytes) -> Fis:
+    """Reads a FIS, which takes all of the bytes."""
+    found = _Fis()
+    _done(_loaded().ahci_fis_decode(data, len(data), ctypes.byref(found)))
+    return Fis(**{name: getattr(found, name) for name in Fis._fields})
+
+
+def fis_encode(fis: Fis, payload: bytes = b"") -> bytes:
+    """The bytes of a FIS; a Data FIS has this payload."""
+    given = _Fis()
+    for (name, kind), value in zip(_Fis._fields_, (getattr(fis, name) for name, _ in _Fis._fields_)):
+        setattr(given, name, _fits(value, 8 * ctypes.sizeof(kind), name))
+    out, length = ctypes.create_string_buffer(8196), _size()
+    _done(_loaded().ahci_fis_encode(ctypes.byref(given), payload, len(payload), out, 8196, ctypes.byref(length)))
+    return out.raw[: length.value]
+
+
+def window_check(tag: int, header: bytes, memory: bytes) -> Command:
+    """What a window asks for. It raises the first rule that the window breaks, where a port would not take it."""
+    found = _Command()
+    _done(_loaded().ahci_window_check(_fits(tag, 32, "tag"), header, len(header), memory, len(memory), ctypes.byref(found)))
+    return Command(found.lba, found.sectors, found.kind, found.tag, found.pieces)
+
+
+def identify_page(sectors: int, depth: int) -> bytes:
+    """The page of IDENTIFY DEVICE of a disk of so many sectors with so many slots."""
+    return _alone("identify_page", 512, _fits(sectors, 32, "sectors"), _fits(depth, 32, "depth"))
+
+
+def log_page(tag: int, error: int, lba: int) -> bytes:
+    """Page 0 of log 10h after the error of a tag's command at a sector."""
+    return _alone("log_page", 512, _fits(tag, 32, "tag"), _fits(error, 8, "error"), _fits(lba, 64, "lba"))
+
+
+def status_text(status: int) -> str:
+    """The name of a status as `ahci replay` writes it."""
+    out, length = ctypes.create_string_buffer(32), _size()
+    _done(_loaded().ahci_status_text(_fits(status, 32, "status"), out, 32, ctypes.byref(length)))
+    return out.raw[: length.value].decode("ascii")
+
+
+def version() -> int:
+    """The library's version: major, minor and patch, a byte each."""
+    return int(_loaded().ahci_version())
 
 
 def tags_of(word: int) -> List[int]:

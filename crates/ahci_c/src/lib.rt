@@ -8,17 +8,26 @@ ghost use Rattle.ahci_port.specs.Registers.{acknowledged};
 ghost use Rattle.ahci_port.specs.Steps.{IsFlushed, IsIdentified, IsReissued, trimmed};
 ghost use Rattle.ahci_regs.specs.Reading.{read_of};
 ghost use Rattle.ncq_core.specs.Identify.{identify_page};
+ghost use Rattle.ncq_core.specs.Log.{log_page};
+ghost use Rattle.ncq_journal.specs.Numbering.{entry_numbered};
 ghost use Rattle.ncq_journal.specs.Sector.{sector};
+ghost use Rattle.port_place.specs.Alone.{AnswersCheck, log_refusal, page_refusal};
 ghost use Rattle.port_place.specs.Asked.{AnswersIssue, AnswersSubmit};
 ghost use Rattle.port_place.specs.Done.{AnswersRegister, HasCollected, HasRecovered, HasStepped, IsSets, Same};
+ghost use Rattle.port_place.specs.Fises.{AnswersDecode, AnswersEncode, fis_named};
 ghost use Rattle.port_place.specs.Flat.{flat_slot};
 ghost use Rattle.port_place.specs.Making.{size_refusal};
-ghost use Rattle.port_place.specs.Over.{Changes, Empties, Fills, Reads};
+ghost use Rattle.port_place.specs.Names.{AnswersText};
+ghost use Rattle.port_place.specs.Over.{Changes, Empties, Fills, Numbered, Reads};
 ghost use Rattle.port_place.specs.Refusals.{accept_refusal, collect_refused, copy_refusal, fail_refusal, flush_refusal, identify_refusal, received_refusal, recover_refused, reissue_refused, serve_refusal, trim_refused, with_tag};
+ghost use Rattle.port_place.specs.Seen.{AnswersBytes, AnswersEntry, IsState, written_by};
 ghost use Rattle.port_place.specs.Told.{Told, ToldOr};
 
 use ahci_port::DeviceStep;
-use port_place::{FlatReply, FlatSets, FlatSlot, FlatStep, Place, Status};
+use port_place::{
+    FlatCommand, FlatEntry, FlatFis, FlatReply, FlatSets, FlatSlot, FlatState, FlatStep, Place,
+    Status,
+};
 use std::alloc::Global;
 
 /// Makes a port over a copy of an image, in an empty place.
@@ -368,4 +377,120 @@ pub extern "C" fn ahci_port_trim(port: &mut Place, heap: Global, entries: &mut u
     };
     let answer = port_place::trim(&mut held, entries);
     port.back(held, answer)
+}
+
+/// The entry of a number of the journal.
+#[unsafe(no_mangle)]
+pub extern "C" fn ahci_port_entry(
+    port: &mut Place,
+    heap: Global,
+    number: u64,
+    entry: &mut FlatEntry,
+) -> u32
+    ensures { Reads result port.old.held.port port.new.held.port (entry.new ≡ entry.old)
+        (λ answer port. AnswersEntry (entry_numbered port.first port.past number) answer entry.old entry.new) }
+{
+    let Some(held) = port.take(heap) else {
+        return Status::NoPort.code();
+    };
+    let answer = port_place::entry(&held, number, entry);
+    port.back(held, answer)
+}
+
+/// Copies the bytes of the write that the entry of a number has issued.
+#[unsafe(no_mangle)]
+pub extern "C" fn ahci_port_entry_bytes(
+    port: &mut Place,
+    heap: Global,
+    number: u64,
+    out: &mut [u8],
+) -> u32
+    ensures { Reads result port.old.held.port port.new.held.port (out.new ≡ out.old)
+        (λ answer port. AnswersBytes (written_by (entry_numbered port.first port.past number)) answer out.old out.new) }
+{
+    let Some(held) = port.take(heap) else {
+        return Status::NoPort.code();
+    };
+    let answer = port_place::entry_bytes(&held, number, out);
+    port.back(held, answer)
+}
+
+/// All that can be seen of a port at once.
+#[unsafe(no_mangle)]
+pub extern "C" fn ahci_port_state(port: &mut Place, heap: Global, state: &mut FlatState) -> u32
+    ensures { Reads result port.old.held.port port.new.held.port (state.new ≡ state.old)
+        (λ answer port. (answer ≡ Status.Done) × IsState port state.new) }
+{
+    let Some(held) = port.take(heap) else {
+        return Status::NoPort.code();
+    };
+    let answer = port_place::state(&held, state);
+    port.back(held, answer)
+}
+
+/// Reads a FIS.
+#[unsafe(no_mangle)]
+pub extern "C" fn ahci_fis_decode(bytes: &[u8], fis: &mut FlatFis) -> u32
+    ensures { Numbered result (λ answer. AnswersDecode bytes.now answer fis.old fis.new) }
+{
+    port_place::fis_decode(bytes, fis).code()
+}
+
+/// Writes a FIS, with this payload where it is Data.
+#[unsafe(no_mangle)]
+pub extern "C" fn ahci_fis_encode(
+    fis: &FlatFis,
+    payload: &[u8],
+    out: &mut [u8],
+    length: &mut usize,
+) -> u32
+    ensures { Numbered result (λ answer. AnswersEncode (fis_named fis.now payload.now) answer out.old out.new length.old length.new) }
+{
+    port_place::fis_encode(fis, payload, out, length).code()
+}
+
+/// Whether a port would take a window, and what it asks for then.
+#[unsafe(no_mangle)]
+pub extern "C" fn ahci_window_check(
+    heap: Global,
+    tag: u32,
+    header: &[u8],
+    memory: &[u8],
+    command: &mut FlatCommand,
+) -> u32
+    ensures { Numbered result (λ answer. AnswersCheck tag header.now memory.now answer command.old command.new) }
+{
+    port_place::window_check(heap, tag, header, memory, command).code()
+}
+
+/// Copies the page of IDENTIFY DEVICE of a disk.
+#[unsafe(no_mangle)]
+pub extern "C" fn ahci_identify_page(sectors: u32, depth: u32, out: &mut [u8]) -> u32
+    ensures { Numbered result (λ answer. Told answer (page_refusal depth (length out.old)) (out.new ≡ identify_page sectors depth) (out.new ≡ out.old)) }
+{
+    port_place::identify_page(sectors, depth, out).code()
+}
+
+/// Copies page 0 of log 10h after an error.
+#[unsafe(no_mangle)]
+pub extern "C" fn ahci_log_page(tag: u32, error: u8, lba: u64, out: &mut [u8]) -> u32
+    ensures { Numbered result (λ answer. Told answer (log_refusal tag lba (length out.old)) (out.new ≡ log_page (record { tag = tag; error = error; lba = lba })) (out.new ≡ out.old)) }
+{
+    port_place::log_page(tag, error, lba, out).code()
+}
+
+/// The name of the status of a number.
+#[unsafe(no_mangle)]
+pub extern "C" fn ahci_status_text(status: u32, out: &mut [u8], length: &mut usize) -> u32
+    ensures { Numbered result (λ answer. AnswersText status answer out.old out.new length.old length.new) }
+{
+    port_place::status_text(status, out, length).code()
+}
+
+/// The library's version: major, minor and patch, a byte each.
+#[unsafe(no_mangle)]
+pub extern "C" fn ahci_version() -> u32
+    ensures { result ≡ 0x000100 }
+{
+    0x00_01_00
 }

@@ -1,5 +1,7 @@
 pub mod ArgumentLemmas
 pub mod CollectingLemmas
+pub mod EntryLemmas
 pub mod IssuingLemmas
 pub mod OverLemmas
+pub mod TagLemmas
 pub mod Walks

@@ -1,11 +1,11 @@
 -- How a command that C asks for is answered: its arguments first, then what the port says.
-use Rattle.std.specs.Prelude.{◌≡◌, ℕ, ◌*◌, ◌^◌, Bool, ◌||◌, ◌&&◌, not, nat_eq, nat_le, nat_lt, List, length, Option, None, Some, if◌then◌else◌}
+use Rattle.std.specs.Prelude.{◌≡◌, ℕ, ◌*◌, ◌^◌, ◌||◌, ◌&&◌, not, nat_eq, nat_le, nat_lt, List, length, Option, None, Some, if◌then◌else◌}
 use Rattle.ahci_port.specs.PortView.{PortView}
 use Rattle.ahci_table.specs.Window.{WindowState}
 use Rattle.ncq_journal.specs.Lawful.{most_sectors}
 use Rattle.ncq_journal.specs.Work.{Work, Read, Write}
 use Rattle.port_place.specs.Done.{AnswersCommand, AnswersWindow, Same}
-use Rattle.port_place.specs.Refusals.{most_tags, with_length, with_tag}
+use Rattle.port_place.specs.Refusals.{with_length, with_tag}
 use Rattle.port_place.specs.declared.status.Status.{Status}
 use Rattle.port_place.specs.declared.status.Status.TheVariants as status
 

@@ -1,5 +1,5 @@
 -- What each call does of a port where nothing stands against it, and what it puts where its pointers lead.
-use Rattle.std.specs.Prelude.{◌≡◌, ℕ, true, List, length, Option, Some, Result, Ok, Err}
+use Rattle.std.specs.Prelude.{◌≡◌, ℕ, true, List, length, Some, Result, Ok, Err}
 use Rattle.ahci_port.specs.Faults.{MayTake, RefusesIssue}
 use Rattle.ahci_port.specs.Looking.{accepted_tags, held_tags, issued_tags}
 use Rattle.word_bits.specs.Places.{bits}

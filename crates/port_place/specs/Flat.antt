@@ -1,11 +1,10 @@
 -- What C sees as structs: which numbers stand in them.
-use Rattle.std.specs.Prelude.{◌≡◌, ℕ, ◌/◌, List, [], ◌++◌, length, drop, Option, None, Some, Bool, if◌then◌else◌}
+use Rattle.std.specs.Prelude.{ℕ, ◌/◌, List, ◌++◌, length, drop, Option, None, Some, Bool, if◌then◌else◌}
 use Rattle.std.specs.Option.{unwrap_or}
 use Rattle.ahci_port.specs.declared.step.Stepped.{Stepped}
 use Rattle.ahci_port.specs.declared.step.Stepped.TheVariants as stepped
 use Rattle.ahci_port.specs.Looking.{read_length}
 use Rattle.ahci_port.specs.PortView.{PortView, owner_of}
-use Rattle.ncq_journal.specs.Answer.{Answer}
 use Rattle.ncq_journal.specs.Entry as entry
 use Rattle.ncq_journal.specs.Phase.{phase}
 use Rattle.ncq_journal.specs.Work as work
@@ -13,6 +12,7 @@ use Rattle.ncq_journal.specs.declared.outcome.Outcome.{Outcome}
 use Rattle.ncq_journal.specs.declared.outcome.Outcome.TheVariants as outcome
 use Rattle.ncq_journal.specs.declared.phase.Phase.{Phase}
 use Rattle.ncq_journal.specs.declared.phase.Phase.TheVariants as phases
+use Rattle.ncq_journal.specs.declared.plain.Plain.{Plain}
 use Rattle.ncq_journal.specs.declared.plain.Plain.TheVariants as plain
 use Rattle.port_place.specs.declared.flat.FlatStep.{FlatStep}
 use Rattle.port_place.specs.declared.flat.FlatReply.{FlatReply}
@@ -34,6 +34,10 @@ flat_reply number (outcome.Failed error lba) entry bytes = record { number = num
 -- a buffer with some bytes at its beginning
 abbrev pub begun_with : List ℕ → List ℕ → List ℕ
 begun_with bytes buffer = bytes ++ drop (length bytes) buffer
+
+-- 1 for what holds
+abbrev pub number_if : Bool → ℕ
+number_if b = if b then 1 else 0
 
 abbrev pub phase_number : Phase → ℕ
 phase_number phases.Free = 0
@@ -57,6 +61,12 @@ flat_slot port tag = record {
   owned = owned_number (owner_of port tag);
 }
 
+-- the kind of the entry of a command that is not queued
+abbrev pub plain_kind : Plain → ℕ
+plain_kind plain.Identify = 8
+plain_kind plain.Flush = 9
+plain_kind plain.ReadLog = 10
+
 -- an entry of the journal
 abbrev pub flat_entry : entry.Entry → FlatEntry
 flat_entry (entry.Issue tag (work.Read lba sectors)) = record { lba = lba; sectors = sectors; kind = 0; tag = tag; error = 0 }
@@ -67,6 +77,4 @@ flat_entry (entry.Fail tag error lba) = record { lba = lba; sectors = 0; kind = 
 flat_entry (entry.Recover tag) = record { lba = 0; sectors = 0; kind = 5; tag = tag; error = 0 }
 flat_entry (entry.Reissue tag) = record { lba = 0; sectors = 0; kind = 6; tag = tag; error = 0 }
 flat_entry (entry.Collect tag) = record { lba = 0; sectors = 0; kind = 7; tag = tag; error = 0 }
-flat_entry (entry.Unqueued plain.Identify) = record { lba = 0; sectors = 0; kind = 8; tag = 0; error = 0 }
-flat_entry (entry.Unqueued plain.Flush) = record { lba = 0; sectors = 0; kind = 9; tag = 0; error = 0 }
-flat_entry (entry.Unqueued plain.ReadLog) = record { lba = 0; sectors = 0; kind = 10; tag = 0; error = 0 }
+flat_entry (entry.Unqueued command) = record { lba = 0; sectors = 0; kind = plain_kind command; tag = 0; error = 0 }

@@ -1,9 +1,13 @@
+pub mod Alone
 pub mod Asked
 pub mod Done
+pub mod Fises
 pub mod Flat
 pub mod Held
 pub mod Making
+pub mod Names
 pub mod Over
 pub mod Refusals
+pub mod Seen
 pub mod Status
 pub mod Told

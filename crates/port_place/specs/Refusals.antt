@@ -1,15 +1,11 @@
 -- Why each call is refused: the first reason that holds, in this order. Arguments are looked at before the port.
-use Rattle.std.specs.Prelude.{ℕ, ◌*◌, ◌^◌, Bool, false, ◌||◌, not, nat_eq, nat_le, nat_lt, List, length, Option, None, Some, Result, Ok, Err, if◌then◌else◌}
+use Rattle.std.specs.Prelude.{ℕ, Bool, false, nat_eq, nat_lt, List, length, Option, None, Some, if◌then◌else◌}
 use Rattle.std.specs.Option.{option_map, option_or}
 use Rattle.ahci_port.specs.Faults.{collect_refusal, plain_refusal, recover_refusal, reissue_refusal, resume_refusal, step_refusal, trim_refusal}
 use Rattle.ahci_port.specs.Looking.{read_length}
 use Rattle.ahci_port.specs.PortView.{PortView, sectors_in}
-use Rattle.ahci_port.specs.declared.step.DeviceStep.{DeviceStep}
 use Rattle.ahci_port.specs.declared.step.DeviceStep.TheVariants as step
-use Rattle.ahci_regs.specs.Reading.{read_of}
-use Rattle.ahci_regs.specs.declared.fault.RegFault.{RegFault}
-use Rattle.ncq_journal.specs.Lawful.{most_sectors}
-use Rattle.port_place.specs.Status.{of_collect, of_plain, of_recover, of_register, of_reissue, of_resume, of_step, of_trim}
+use Rattle.port_place.specs.Status.{of_collect, of_plain, of_recover, of_reissue, of_resume, of_step, of_trim}
 use Rattle.port_place.specs.declared.status.Status.{Status}
 use Rattle.port_place.specs.declared.status.Status.TheVariants as status
 

@@ -1,5 +1,5 @@
 -- The number for C of each answer, and the answer for each fault of the crates below. Each number stands for one thing.
-use Rattle.std.specs.Prelude.{ℕ, Option, Some, None}
+use Rattle.std.specs.Prelude.{ℕ}
 use Rattle.ahci_port.specs.declared.fault.IssueFault.{IssueFault}
 use Rattle.ahci_port.specs.declared.fault.IssueFault.TheVariants as issue
 use Rattle.ahci_port.specs.declared.fault.StepFault.{StepFault}
@@ -16,6 +16,10 @@ use Rattle.ahci_port.specs.declared.fault.PlainFault.{PlainFault}
 use Rattle.ahci_port.specs.declared.fault.PlainFault.TheVariants as plain
 use Rattle.ahci_port.specs.declared.fault.TrimFault.{TrimFault}
 use Rattle.ahci_port.specs.declared.fault.TrimFault.TheVariants as trim
+use Rattle.ahci_table.specs.declared.fault.TableFault.{TableFault}
+use Rattle.ahci_table.specs.declared.fault.TableFault.TheVariants as table
+use Rattle.sata_fis.specs.declared.fault.FisFault.{FisFault}
+use Rattle.sata_fis.specs.declared.fault.FisFault.TheVariants as fis
 use Rattle.ahci_regs.specs.declared.fault.RegFault.{RegFault}
 use Rattle.ahci_regs.specs.declared.fault.RegFault.TheVariants as reg
 use Rattle.port_place.specs.declared.status.Status.{Status}
@@ -128,3 +132,16 @@ of_register reg.NoSuchRegister = status.NoSuchRegister
 of_register reg.NotStarted = status.NotStarted
 of_register reg.NotReceiving = status.NotReceiving
 of_register reg.Running = status.Running
+
+-- a port would not take a window
+abbrev pub of_table : TableFault → Status
+of_table table.BadHeader = status.BadHeader
+of_table table.BadCommand = status.BadCommand
+of_table table.WrongTag = status.WrongTag
+of_table table.BadList = status.BadList
+
+-- bytes are no FIS
+abbrev pub of_fis : FisFault → Status
+of_fis fis.Empty = status.EmptyFis
+of_fis (fis.UnknownType type) = status.UnknownType
+of_fis (fis.WrongLength len) = status.WrongFisLength

@@ -1,7 +1,7 @@
 //! The status of each fault of the port.
 
 ghost use Rattle.std.specs.Prelude.{◌≡◌};
-ghost use Rattle.port_place.specs.Status.{of_collect, of_issue, of_plain, of_recover, of_register, of_reissue, of_resume, of_step, of_trim};
+ghost use Rattle.port_place.specs.Status.{of_collect, of_fis, of_issue, of_plain, of_recover, of_register, of_reissue, of_resume, of_step, of_table, of_trim};
 
 use crate::status::Status;
 use ahci_port::{
@@ -9,6 +9,8 @@ use ahci_port::{
     TrimFault,
 };
 use ahci_regs::RegFault;
+use ahci_table::TableFault;
+use sata_fis::FisFault;
 
 /// Why a window was not issued.
 pub(crate) fn issue_status(fault: IssueFault) -> Status
@@ -112,5 +114,28 @@ pub(crate) fn register_status(fault: RegFault) -> Status
         RegFault::NotStarted => Status::NotStarted,
         RegFault::NotReceiving => Status::NotReceiving,
         RegFault::Running => Status::Running,
+    }
+}
+
+/// Which rule a window breaks first.
+pub(crate) fn table_status(fault: TableFault) -> Status
+    ensures { result ≡ of_table fault }
+{
+    match fault {
+        TableFault::BadHeader => Status::BadHeader,
+        TableFault::BadCommand => Status::BadCommand,
+        TableFault::WrongTag => Status::WrongTag,
+        TableFault::BadList => Status::BadList,
+    }
+}
+
+/// Why bytes are no FIS.
+pub(crate) fn fis_status(fault: FisFault) -> Status
+    ensures { result ≡ of_fis fault }
+{
+    match fault {
+        FisFault::Empty => Status::EmptyFis,
+        FisFault::UnknownType(_) => Status::UnknownType,
+        FisFault::WrongLength(_) => Status::WrongFisLength,
     }
 }

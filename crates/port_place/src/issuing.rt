@@ -55,7 +55,7 @@ fn hand_copy<A: Allocator + Copy>(
 }
 
 /// The bytes of a header.
-fn header_of(bytes: &[u8]) -> [u8; 32]
+pub(crate) fn header_of(bytes: &[u8]) -> [u8; 32]
     requires { length bytes.now ≡ 32 }
     ensures { result ≡ bytes.now }
 {

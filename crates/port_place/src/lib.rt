@@ -3,24 +3,38 @@
 
 mod bare;
 mod collecting;
+mod entries;
 mod faults;
+mod fises;
 mod flat;
 mod held;
 mod issuing;
 mod looking;
 mod making;
+mod naming;
+mod pages;
 mod place;
 mod recovering;
+mod standing;
 mod status;
 mod stepping;
+mod windows;
 
 pub use collecting::collect;
-pub use flat::{FlatEntry, FlatReply, FlatSets, FlatSlot, FlatStep};
+pub use entries::{entry, entry_bytes};
+pub use fises::{fis_decode, fis_encode};
+pub use flat::{
+    FlatCommand, FlatEntry, FlatFis, FlatReply, FlatSets, FlatSlot, FlatState, FlatStep,
+};
 pub use held::Held;
 pub use issuing::{issue, submit};
 pub use looking::{copy, depth, received, register, sectors, slot, tag_sets};
 pub use making::{make, make_zeros};
+pub use naming::status_text;
+pub use pages::{identify_page, log_page};
 pub use place::Place;
 pub use recovering::{acknowledge, flush, identify, recover, reissue, trim};
+pub use standing::state;
 pub use status::Status;
 pub use stepping::{accept, fail, serve};
+pub use windows::window_check;

@@ -1,4 +1,4 @@
-use Rattle.std.proofs.Common.{◌∙◌, ap, length, refl, subst, sym}
+use Rattle.std.proofs.Common.{◌∙◌, ap, length, subst, sym}
 use Rattle.std.specs.Option.{unwrap_or}
 use Rattle.ahci_port.specs.Slots.{bytes_in}
 use Rattle.port_place.specs.Done.{HasLength}

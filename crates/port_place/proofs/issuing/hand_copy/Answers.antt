@@ -1,4 +1,4 @@
-use Rattle.std.proofs.Common.{◌≡◌, List, ap, subst, sym, ◌∙◌}
+use Rattle.std.proofs.Common.{ap, subst, ◌∙◌}
 use Rattle.ahci_table.specs.Window.{WindowState}
 use Rattle.port_place.specs.Asked.{is_answered}
 use Rattle.port_place.specs.Done.{AnswersWindow}

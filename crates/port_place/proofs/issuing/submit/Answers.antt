@@ -1,4 +1,4 @@
-use Rattle.std.proofs.Common.{None, length, subst, sym, ◌∙◌}
+use Rattle.std.proofs.Common.{length, subst, sym, ◌∙◌}
 use Rattle.port_place.specs.Asked.{AnswersUnless, submit_refusal, work_asked}
 use Rattle.port_place.specs.Done.{AnswersCommand, Same}
 use Rattle.port_place.proofs.ArgumentLemmas.{with_small}

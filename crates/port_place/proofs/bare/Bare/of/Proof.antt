@@ -1,6 +1,6 @@
 -- `of` hands the box to `into_raw_with_allocator`, and puts both parts of the answer into the fields.
 use mir.Raw.{raw as bare_type}
-use Rattle.port_place.proofs.Walks.{◌≡◌, refl, ap, ◌∙◌, List, [], ◌∷◌, ◌++◌, proved_at, id⊢, fst∗, never, ftrue, fsep, flft, Args, Dict, Fn, a_type, dcons, dnil, inst_fn, Val, vstruct, of_list, WpFn, sem, ◌⊑◌, fact, tables, Item, ‵, raw, prop, ◌⊛◌, some, later, ◌$◌, ◌∵◌, !, qed, move, drop, use1, split, split3, join, pick, fpick, fsplit, fjoin, feq_l, rewrite, regoal, suffices, await, done, whole, sub, agg, stop, fld, no_more, and_then, of_opd, returns, enter, alloc_all, pass_all, free_all, look_at, get, get_in, sets, lands_as, RattleType, no, bounded, Ptr, RawPtr, block_ptr, null_ptr, ptr_val, in_a_block, plain, heard, nothing, only, Tuple, calls_at, Ended, triple_of, framed, says, Stays, stay_dropped, walk_of, ends_at, token, handle_tells, Goes-blank, box_owns, Bx, D, τ, R, P, B, word, box_typed, box_out, box_in}
+use Rattle.port_place.proofs.Walks.{◌≡◌, refl, ap, ◌∙◌, List, [], ◌∷◌, ◌++◌, proved_at, id⊢, fst∗, never, ftrue, fsep, flft, Dict, Fn, a_type, dcons, dnil, inst_fn, Val, vstruct, of_list, WpFn, sem, ◌⊑◌, fact, tables, Item, ‵, raw, prop, ◌⊛◌, some, later, ◌$◌, ◌∵◌, !, qed, move, drop, use1, split, split3, join, pick, fpick, fsplit, fjoin, feq_l, rewrite, regoal, suffices, await, done, whole, sub, agg, stop, fld, no_more, and_then, of_opd, returns, enter, alloc_all, pass_all, free_all, look_at, get, get_in, sets, lands_as, RattleType, no, bounded, Ptr, RawPtr, block_ptr, null_ptr, ptr_val, in_a_block, plain, heard, nothing, only, Tuple, calls_at, Ended, triple_of, framed, says, Stays, stay_dropped, walk_of, ends_at, token, handle_tells, Goes-blank, box_owns, Bx, D, τ, R, P, B, word, box_typed, box_out, box_in}
 use Rattle.std.specs.contracts.boxed.Box.into_raw_with_allocator as opened
 use Rattle.std.proofs.boxed.Box.into_raw_with_allocator.Met as opening
 use Rattle.port_place.specs.contracts.bare.Bare as bare

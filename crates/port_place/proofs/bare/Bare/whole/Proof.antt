@@ -1,5 +1,5 @@
 -- `whole` gives what the two fields own to `from_raw`.
-use Rattle.port_place.proofs.Walks.{◌≡◌, refl, sym, ap, List, [], ◌∷◌, ◌++◌, proved_at, id⊢, ftrue, fsep, flft, Fn, a_type, bounded, dcons, dnil, inst_fn, Val, vptr, WpFn, ◌⊑◌, fact, tables, Item, at_ret, ‵, raw, prop, ◌⊛◌, some, later, ◌$◌, ◌∵◌, !, qed, move, drop, use1, split, split3, join, pick, fsplit, fjoin, feq_i, rewrite, regoal, suffices, await, done, whole, sub, stop, fld, no_more, and_then, of_opd, returns, enter, first, blocks, exec, alloc_all, pass_all, free_all, look_at, get, get_in, sets, lands_last, env, RattleType, no, block_ptr, plain, heard, nothing, only, calls_at_last, Ended, triple_of, framed, says, Stays, stay_dropped, walk_of, ends_at, token, Goes-blank, box_owns, Bx, D, R, P, B, args, box_ty, word, box_typed, box_out, box_in, has_ty, WT}
+use Rattle.port_place.proofs.Walks.{◌≡◌, refl, sym, ap, List, [], ◌∷◌, ◌++◌, proved_at, id⊢, ftrue, fsep, flft, Fn, inst_fn, Val, vptr, WpFn, ◌⊑◌, fact, tables, Item, at_ret, ‵, raw, prop, ◌⊛◌, some, later, ◌$◌, ◌∵◌, !, qed, move, drop, use1, split, split3, join, pick, fsplit, fjoin, feq_i, rewrite, regoal, suffices, await, done, whole, sub, stop, fld, no_more, and_then, of_opd, returns, enter, first, blocks, exec, alloc_all, pass_all, free_all, look_at, get, get_in, sets, lands_last, env, RattleType, no, block_ptr, plain, heard, nothing, only, calls_at_last, Ended, triple_of, framed, says, Stays, stay_dropped, walk_of, ends_at, Goes-blank, Bx, D, R, P, B, args, box_ty, word, box_typed, box_out, box_in, has_ty, WT}
 use lib.Dec.{T}
 use mathlib.Core.Path.{subst}
 use Rattle.std.proofs.VecSteps.Shapes.{after}

@@ -1,5 +1,5 @@
 -- `keep` moves both fields, and what they own goes with them.
-use Rattle.port_place.proofs.Walks.{refl, List, [], ◌∷◌, ◌++◌, proved_at, id⊢, ftrue, fsep, Val, WpFn, tables, ‵, prop, ◌⊛◌, ◌$◌, ◌∵◌, !, qed, drop, move, use1, split, join, fsplit, fjoin, regoal, suffices, done, whole, sub, agg, stop, fld, no_more, and_then, of_opd, returns, enter, alloc_all, pass_all, free_all, look_at, get, get_in, sets, RattleType, yes, plain, nothing, says, Stays, stay_dropped, walk_of, ends_at, Goes-dropped, D, R, P, B, word, box_typed, box_out, box_in, PortBox}
+use Rattle.port_place.proofs.Walks.{refl, List, [], ◌∷◌, ◌++◌, proved_at, id⊢, ftrue, fsep, Val, WpFn, tables, ‵, prop, ◌⊛◌, ◌$◌, ◌∵◌, !, qed, drop, move, use1, split, join, fsplit, fjoin, regoal, suffices, done, whole, sub, agg, stop, fld, no_more, and_then, of_opd, returns, enter, alloc_all, pass_all, free_all, look_at, get, get_in, sets, RattleType, yes, plain, nothing, says, Stays, stay_dropped, walk_of, ends_at, Goes-dropped, D, B, word, box_typed, box_out, box_in, PortBox}
 use Rattle.std.specs.Prelude.{Some}
 use Rattle.port_place.specs.contracts.bare.Bare as bare
 use Rattle.port_place.specs.contracts.held.Held as held

@@ -1,0 +1,131 @@
+/* The calls that need no port, against values from the standards and by hand. */
+#include "ahci.h"
+#include <stdio.h>
+#include <stdlib.h>
+#include <string.h>
+
+#define CHECK(it) do { if (!(it)) { printf("line %d: %s\n", __LINE__, #it); exit(1); } } while (0)
+
+/* Word w of a page of IDENTIFY DEVICE stands in bytes 2w and 2w + 1. */
+static unsigned word(const uint8_t *page, int w) { return page[2 * w] | (unsigned)page[2 * w + 1] << 8; }
+
+static void pages(void)
+{
+    uint8_t page[AHCI_PAGE_BYTES], untouched[AHCI_PAGE_BYTES];
+    CHECK(ahci_identify_page(131072, 32, page, sizeof page) == AHCI_OK);
+    CHECK(word(page, 75) == 31);                            /* queue depth less one */
+    CHECK((word(page, 76) & 1 << 8) != 0);                  /* NCQ */
+    CHECK(word(page, 60) == 0 && word(page, 61) == 2);      /* 20000h sectors */
+    CHECK(memcmp(page + 2 * 27, "OSTFAWERN QCD SI K", 18) == 0); /* the first of two characters is the high byte */
+    memcpy(untouched, page, sizeof page);
+    CHECK(ahci_identify_page(1, 0, page, sizeof page) == AHCI_BAD_DEPTH);
+    CHECK(ahci_identify_page(1, 33, page, sizeof page) == AHCI_BAD_DEPTH);
+    CHECK(ahci_identify_page(1, 1, page, sizeof page - 1) == AHCI_WRONG_LENGTH);
+    CHECK(memcmp(page, untouched, sizeof page) == 0);
+
+    /* tag 3, status 41h, error 40h, LBA 0605_0403_0201h; all bytes add up to 0 */
+    const uint8_t head[] = { 3, 0, 0x41, 0x40, 0x01, 0x02, 0x03, 0, 0x04, 0x05, 0x06 };
+    uint8_t sum = 0;
+    CHECK(ahci_log_page(3, 0x40, 0x060504030201, page, sizeof page) == AHCI_OK);
+    CHECK(memcmp(page, head, sizeof head) == 0);
+    CHECK(page[511] == 0x67);
+    for (size_t i = 0; i < sizeof page; i++)
+        sum = (uint8_t)(sum + page[i]);
+    CHECK(sum == 0);
+    CHECK(ahci_log_page(32, 0, 0, page, sizeof page) == AHCI_BAD_TAG);
+    CHECK(ahci_log_page(0, 0, (uint64_t)1 << 48, page, sizeof page) == AHCI_BAD_LBA);
+    CHECK(ahci_log_page(0, 0, 0, page, 0) == AHCI_WRONG_LENGTH);
+}
+
+/* READ FPDMA QUEUED of sector 9 with tag 1, into one piece behind its table. */
+static void windows(void)
+{
+    static uint8_t memory[0x90 + 512];
+    const uint8_t base[4] = { 0x00, 0x00, 0x00, 0x14 };                     /* 14000000h, of tag 1 */
+    const uint8_t fis[20] = { 0x27, 0x80, 0x60, 1, 9, 0, 0, 0x40, 0, 0, 0, 0, 1 << 3, 0, 0, 0, 0, 0, 0, 0 };
+    const uint8_t entry[16] = { 0x90, 0x00, 0x00, 0x14, 0, 0, 0, 0, 0, 0, 0, 0, 0xFF, 0x01, 0, 0 };
+    uint8_t header[AHCI_HEADER_BYTES] = { 5, 0, 1, 0 };                     /* CFL 5, one entry */
+    ahci_command command = { 7, 7, 7, 7, 7 }, untouched = command;
+    memcpy(header + 8, base, 4);
+    memcpy(memory, fis, sizeof fis);
+    memcpy(memory + 0x80, entry, sizeof entry);
+    CHECK(ahci_window_check(32, header, sizeof header, memory, sizeof memory, &command) == AHCI_BAD_TAG);
+    CHECK(ahci_window_check(1, header, 31, memory, sizeof memory, &command) == AHCI_WRONG_LENGTH);
+    CHECK(ahci_window_check(0, header, sizeof header, memory, sizeof memory, &command) == AHCI_BAD_HEADER);
+    memory[2] = 0x25; /* READ DMA EXT */
+    CHECK(ahci_window_check(1, header, sizeof header, memory, sizeof memory, &command) == AHCI_BAD_COMMAND);
+    memory[2] = 0x60;
+    memory[12] = 2 << 3;
+    CHECK(ahci_window_check(1, header, sizeof header, memory, sizeof memory, &command) == AHCI_WRONG_TAG);
+    memory[12] = 1 << 3;
+    CHECK(ahci_window_check(1, header, sizeof header, memory, sizeof memory - 1, &command) == AHCI_BAD_LIST);
+    CHECK(memcmp(&command, &untouched, sizeof command) == 0);
+    CHECK(ahci_window_check(1, header, sizeof header, memory, sizeof memory, &command) == AHCI_OK);
+    CHECK(command.lba == 9 && command.sectors == 1 && command.kind == AHCI_READ && command.tag == 1 && command.pieces == 1);
+}
+
+/* The bytes of each type as Serial ATA lays them out, there and back. */
+static void fises(void)
+{
+    static const struct { uint8_t bytes[28]; size_t count; ahci_fis fis; } all[] = {
+        /* READ FPDMA QUEUED: features 0008h, LBA 060504030201h, tag 5 in count */
+        { { 0x27, 0x80, 0x60, 8, 1, 2, 3, 0x40, 4, 5, 6, 0, 5 << 3, 0, 0, 0 }, 20,
+          { .kind = 0x27, .c = 1, .command = 0x60, .features = 8, .lba = 0x060504030201, .device = 0x40, .count = 5 << 3 } },
+        { { 0x34, 0x40, 0x50, 0x10, 7, 0, 0, 0x40, 0, 0, 0, 0, 0x34, 0x12 }, 20,
+          { .kind = 0x34, .i = 1, .status = 0x50, .error = 0x10, .lba = 7, .device = 0x40, .count = 0x1234 } },
+        { { 0x39 }, 4, { .kind = 0x39 } },
+        /* A 7, I 6 and D 5 in byte 1; the offset in bytes 16 to 19, the count in 20 to 23 */
+        { { 0x41, 0xA0, 0, 0, 31, 0, 0, 0, 0, 0, 0, 0, 0, 0, 0, 0, 0x78, 0x56, 0x34, 0x12, 0, 2, 0, 0 }, 28,
+          { .kind = 0x41, .a = 1, .d = 1, .tag = 31, .offset = 0x12345678, .transfer = 512 } },
+        /* E_Status in byte 15, the count in 16 and 17 */
+        { { 0x5F, 0x60, 0x58, 0, 9, 0, 0, 0x40, 0, 0, 0, 0, 1, 0, 0, 0x50, 0, 2 }, 20,
+          { .kind = 0x5F, .i = 1, .d = 1, .status = 0x58, .lba = 9, .device = 0x40, .count = 1, .e_status = 0x50, .bytes = 512 } },
+        { { 0xA1, 0x40, 0x41, 0x40, 0x08, 0, 0, 0x80 }, 8, { .kind = 0xA1, .i = 1, .status = 0x41, .error = 0x40, .sactive = 0x80000008 } },
+    };
+    uint8_t out[32];
+    size_t length;
+    ahci_fis fis;
+    for (size_t n = 0; n < sizeof all / sizeof *all; n++) {
+        CHECK(ahci_fis_decode(all[n].bytes, all[n].count, &fis) == AHCI_OK && memcmp(&fis, &all[n].fis, sizeof fis) == 0);
+        memset(out, 0xEE, sizeof out);
+        CHECK(ahci_fis_encode(&all[n].fis, (const uint8_t *)"", 0, out, all[n].count - 1, &length) == AHCI_BUFFER_TOO_SMALL && out[0] == 0xEE);
+        CHECK(ahci_fis_encode(&all[n].fis, (const uint8_t *)"", 0, out, sizeof out, &length) == AHCI_OK && length == all[n].count);
+        CHECK(memcmp(out, all[n].bytes, length) == 0 && out[length] == 0xEE);
+        CHECK(ahci_fis_decode(all[n].bytes, all[n].count - 1, &fis) == AHCI_WRONG_FIS_LENGTH);
+    }
+    const uint8_t payload[] = { 1, 2, 3, 4 }, data[] = { 0x46, 0, 0, 0, 1, 2, 3, 4 };
+    ahci_fis carrier = { .kind = 0x46, .payload = 4 }, flag = { .kind = 0x27, .c = 2 }, far = { .kind = 0x34, .lba = (uint64_t)1 << 48 };
+    ahci_fis tag = { .kind = 0x41, .tag = 32 }, busy = { .kind = 0xA1, .status = 0x80 };
+    CHECK(ahci_fis_decode(data, sizeof data, &fis) == AHCI_OK && memcmp(&fis, &carrier, sizeof fis) == 0);
+    CHECK(ahci_fis_encode(&carrier, payload, 4, out, sizeof out, &length) == AHCI_OK && length == 8 && memcmp(out, data, 8) == 0);
+    CHECK(ahci_fis_encode(&carrier, payload, 3, out, sizeof out, &length) == AHCI_BAD_PAYLOAD);
+    CHECK(ahci_fis_encode(&flag, payload, 0, out, sizeof out, &length) == AHCI_BAD_FLAG);
+    CHECK(ahci_fis_encode(&far, payload, 0, out, sizeof out, &length) == AHCI_BAD_LBA);
+    CHECK(ahci_fis_encode(&tag, payload, 0, out, sizeof out, &length) == AHCI_BAD_TAG);
+    CHECK(ahci_fis_encode(&busy, payload, 0, out, sizeof out, &length) == AHCI_BAD_STATUS);
+    CHECK(ahci_fis_decode(data, 0, &fis) == AHCI_EMPTY_FIS);
+    CHECK(ahci_fis_decode(payload, 4, &fis) == AHCI_UNKNOWN_TYPE);
+}
+
+static void names(void)
+{
+    char text[32] = "unchanged";
+    size_t length = 99;
+    CHECK(ahci_status_text(14, (uint8_t *)text, sizeof text, &length) == AHCI_BAD_KIND);
+    CHECK(ahci_status_text(AHCI_OUTSIDE_COMMAND, (uint8_t *)text, 14, &length) == AHCI_BUFFER_TOO_SMALL);
+    CHECK(length == 99 && strcmp(text, "unchanged") == 0);
+    CHECK(ahci_status_text(AHCI_OUTSIDE_COMMAND, (uint8_t *)text, 15, &length) == AHCI_OK);
+    CHECK(length == 14 && strcmp(text, "OutsideCommand") == 0);
+    CHECK(ahci_status_text(AHCI_OK, (uint8_t *)text, sizeof text, &length) == AHCI_OK && strcmp(text, "Ok") == 0);
+    CHECK(ahci_version() == AHCI_VERSION);
+}
+
+int main(void)
+{
+    pages();
+    windows();
+    fises();
+    names();
+    puts("the calls without a port: as the standards have it");
+    return 0;
+}

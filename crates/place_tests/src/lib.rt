@@ -1,0 +1,14 @@
+//! Tests of what no contract says, over the public calls of `port_place`. They stand in a crate of their own, so that no other
+//! crate is proved twice.
+#![tactic(auto)]
+
+#[cfg(test)]
+mod alone;
+#[cfg(test)]
+mod heap;
+#[cfg(test)]
+mod making;
+#[cfg(test)]
+mod refused;
+#[cfg(test)]
+mod seen;

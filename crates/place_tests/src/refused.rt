@@ -1,0 +1,177 @@
+//! The calls that may want memory: what they answer where it is refused, and that the port is as it was then; and those that
+//! take none, over an allocator that has none left.
+use crate::heap::{Heap, look_at, port_of, refuse_from};
+use ahci_port::Port;
+use port_place::{
+    FlatCommand, FlatReply, FlatStep, Status, accept, collect, entry_bytes, fail, flush, identify,
+    recover, serve, submit, window_check,
+};
+use refusing_allocator::{Refusals, Refusing};
+use std::process::Abort;
+use std::test::Fail;
+
+/// A call that may want memory.
+#[derive(Clone, Copy, Debug)]
+enum Call {
+    Read,
+    Write,
+    Identify,
+    Flush,
+    Check,
+}
+
+// How many requests each makes of a new port: a read its window and the journal's room; a write its bytes and the journal's
+// copy of them too; a check the window's copy.
+static CALLS: [(Call, u64); 5] = [
+    (Call::Read, 2),
+    (Call::Write, 4),
+    (Call::Identify, 1),
+    (Call::Flush, 1),
+    (Call::Check, 1),
+];
+
+/// A read or a write of sector 3 by tag 1.
+fn submits<'a>(heap: &'a Heap, port: &mut Port<&'a Heap>, kind: u32) -> Status {
+    let mut number = 0;
+    submit(port, heap, 1, kind, 3, 1, &[0xAB; 512], &mut number)
+}
+
+/// Looks at a window whose header is of zeros.
+fn checks(heap: &Heap) -> Status {
+    let mut command = FlatCommand {
+        lba: 0,
+        sectors: 0,
+        kind: 0,
+        tag: 0,
+        pieces: 0,
+    };
+    match window_check(heap, 0, &[0; 32], &[0; 64], &mut command) {
+        Status::BadHeader => Status::Done,
+        other => other,
+    }
+}
+
+fn goes<'a>(heap: &'a Heap, port: &mut Port<&'a Heap>, call: Call) -> Status {
+    match call {
+        Call::Read => submits(heap, port, 0),
+        Call::Write => submits(heap, port, 1),
+        Call::Identify => identify(port, &mut [0; 512]),
+        Call::Flush => flush(port),
+        Call::Check => checks(heap),
+    }
+}
+
+/// Makes a call while requests are refused, and then with memory. A refusal leaves the port as it was.
+fn tries(rt: &impl Abort, heap: &Heap, call: Call, growth: u64) -> Result<(Status, u64), Fail> {
+    let mut port = port_of(heap)?;
+    let before = look_at(&port);
+    refuse_from(heap, growth);
+    let said = goes(heap, &mut port, call);
+    let requests = heap.requests();
+    if said == Status::OutOfMemory {
+        assert!(rt;
+            look_at(&port) == before,
+            "{call:?}, growth {growth}: changed"
+        );
+        heap.refuse(Refusals::None);
+        assert_eq!(rt; goes(heap, &mut port, call), Status::Done);
+    }
+    Ok((said, requests))
+}
+
+#[test]
+fn a_port_refused_memory_is_as_it_was_and_goes_on_with_memory(rt: HostRuntime) -> Result<(), Fail> {
+    for (call, growths) in CALLS {
+        for growth in 0..=growths {
+            let heap = Refusing::new(rt.alloc());
+            let found = tries(&rt, &heap, call, growth)?;
+            let wanted = if growth < growths {
+                (Status::OutOfMemory, growth + 1)
+            } else {
+                (Status::Done, growths)
+            };
+            assert_eq!(rt; found, wanted, "{call:?}, growth {growth}");
+            assert!(rt; heap.out() == 0);
+        }
+    }
+    Ok(())
+}
+
+/// An answer with nothing in it.
+fn no_reply() -> FlatReply {
+    FlatReply {
+        number: 0,
+        entry: 0,
+        lba: 0,
+        bytes: 0,
+        outcome: 0,
+        error: 0,
+    }
+}
+
+/// Accepts, serves and collects tag 1's write, which is request 0, and looks at its bytes.
+fn runs(port: &mut Port<&Heap>, out: &mut [u8; 512]) -> [Status; 5] {
+    let mut done = FlatStep {
+        first: 0,
+        count: 0,
+        did: 0,
+    };
+    let mut reply = no_reply();
+    [
+        accept(port, 1, &mut done),
+        serve(port, &[1], &mut done),
+        collect(port, 1, 7, &mut reply, &mut []),
+        collect(port, 1, 0, &mut reply, &mut []),
+        entry_bytes(port, 0, out),
+    ]
+}
+
+#[test]
+fn what_follows_an_issue_asks_for_no_memory(rt: HostRuntime) -> Result<(), Fail> {
+    let heap = Refusing::new(rt.alloc());
+    let mut port = port_of(&heap)?;
+    assert_eq!(rt; submits(&heap, &mut port, 1), Status::Done);
+    refuse_from(&heap, 0);
+    let mut out = [0; 512];
+    let wanted = [
+        Status::Done,
+        Status::Done,
+        Status::Stranger,
+        Status::Done,
+        Status::Done,
+    ];
+    assert_eq!(rt; runs(&mut port, &mut out), wanted);
+    assert!(rt; out == [0xAB; 512]);
+    assert_eq!(rt; heap.requests(), 0);
+    Ok(())
+}
+
+/// A port whose tag 1 has failed, with three entries.
+fn halted<'a>(heap: &'a Heap, port: &mut Port<&'a Heap>) -> [Status; 3] {
+    let mut done = FlatStep {
+        first: 0,
+        count: 0,
+        did: 0,
+    };
+    [
+        submits(heap, port, 0),
+        accept(port, 1, &mut done),
+        fail(port, 1, 0x40, 3, &mut done),
+    ]
+}
+
+#[test]
+fn a_port_that_recovers_asks_for_room_first(rt: HostRuntime) -> Result<(), Fail> {
+    let heap = Refusing::new(rt.alloc());
+    let mut port = port_of(&heap)?;
+    assert_eq!(rt; halted(&heap, &mut port), [Status::Done; 3]);
+    let before = look_at(&port);
+    refuse_from(&heap, 0);
+    let mut tag = 9;
+    assert_eq!(rt; recover(&mut port, &mut tag), Status::OutOfMemory);
+    assert!(rt; look_at(&port) == before);
+    heap.refuse(Refusals::None);
+    assert_eq!(rt; recover(&mut port, &mut tag), Status::Done);
+    assert_eq!(rt; tag, 1);
+    Ok(())
+}

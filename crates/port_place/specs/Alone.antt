@@ -1,0 +1,40 @@
+-- The layers below a port, called alone: when each call is refused, and what it answers else.
+use Rattle.std.specs.Prelude.{◌≡◌, ℕ, ◌^◌, ◌||◌, nat_eq, nat_le, nat_lt, List, length, Option, None, Some, if◌then◌else◌}
+use Rattle.ahci_table.specs.Command.{queued_of}
+use Rattle.ahci_table.specs.Fit.{Breaks, IsFit}
+use Rattle.ahci_table.specs.Prdt.{pieces}
+use Rattle.ahci_table.specs.Window.{WindowState}
+use Rattle.ahci_table.specs.declared.fault.TableFault.{TableFault}
+use Rattle.ncq_core.specs.DiskState.{most_depth}
+use Rattle.sata_fis.specs.Fields.{QueuedFields}
+use Rattle.port_place.specs.Asked.{AnswersUnless}
+use Rattle.port_place.specs.Flat.{number_if}
+use Rattle.port_place.specs.Refusals.{with_length, with_tag}
+use Rattle.port_place.specs.Status.{of_table}
+use Rattle.port_place.specs.declared.flat.FlatCommand.{FlatCommand}
+use Rattle.port_place.specs.declared.status.Status.{Status}
+use Rattle.port_place.specs.declared.status.Status.TheVariants as status
+
+-- a page has 512 bytes, and a disk 1 to 32 tags
+abbrev pub page_refusal : (depth len : ℕ) → Option Status
+page_refusal depth len = with_length 512 len (if nat_eq depth 0 || nat_lt most_depth depth then Some status.BadDepth else None)
+
+-- an error is one of a tag, at a 48-bit LBA
+abbrev pub log_refusal : (tag lba len : ℕ) → Option Status
+log_refusal tag lba len = with_length 512 len (with_tag tag (if nat_le (2 ^ 48) lba then Some status.BadLba else None))
+
+-- what a queued command asks for, and how many pieces of memory it names
+abbrev pub flat_command : QueuedFields → ℕ → FlatCommand
+flat_command queued count = record { lba = queued.lba; sectors = queued.sectors; kind = number_if queued.write; tag = queued.tag; pieces = count }
+
+-- a window was looked at: it is fit, and its command stands in a struct; or the first rule that it breaks is told, or memory
+-- for its copy was refused
+pub data AnswersWindowCheck (window : WindowState) (answer : Status) (before after : FlatCommand) : Type 0 where
+  is_fit : answer ≡ status.Done → IsFit window → after ≡ flat_command (queued_of window) (length (pieces window)) → AnswersWindowCheck window answer before after
+  breaks : (fault : TableFault) → answer ≡ of_table fault → Breaks window fault → after ≡ before → AnswersWindowCheck window answer before after
+  lacks_memory : answer ≡ status.OutOfMemory → after ≡ before → AnswersWindowCheck window answer before after
+
+abbrev pub AnswersCheck : ℕ → (header memory : List ℕ) → Status → (before after : FlatCommand) → Type 0
+AnswersCheck tag header memory answer before after =
+    AnswersUnless (with_tag tag (with_length 32 (length header) None)) answer
+    (AnswersWindowCheck (record { tag = tag; header = header; bytes = memory }) answer before after) (after ≡ before)
