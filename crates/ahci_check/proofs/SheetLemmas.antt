@@ -3,7 +3,7 @@ use Rattle.std.proofs.Common.{◌≡◌, ℕ, ◌+◌, Bool, List, [], ◌∷◌
 use Rattle.std.proofs.KnownBytes.{Appends-nil, Consumes-nil}
 use Rattle.std.specs.Io.KnownBytes.{Appends, Consumes}
 use Rattle.ahci_script.specs.Reading as reading
-use Rattle.ahci_script.specs.Reading.{MayEnd, ReadsAll, StopsReading, Taken, TakenFirst, last_of}
+use Rattle.ahci_script.specs.Reading.{MayEnd, ReadsAll, ReadsAs, StopsReading, Taken, TakenFirst, last_of}
 use Rattle.ahci_script.specs.Unread.{MayFail, found_of, unfinished, with_feeds}
 use Rattle.ahci_script.specs.declared.stopped.Stopped.{Stopped}
 use Rattle.ahci_script.specs.declared.stopped.Stopped.TheVariants as stopped
@@ -11,7 +11,8 @@ use Rattle.ahci_script.specs.Lines.{reading}
 use Rattle.ahci_script.specs.declared.breach.Breach.{Breach}
 use Rattle.ahci_script.specs.declared.line.Line.{Line}
 use Rattle.ahci_check.specs.Complaints.{complaint_in, of_reading, place_after, place_by}
-use Rattle.ahci_check.specs.Faults.{fault_of}
+use Rattle.streams.specs.Ends.{ReadSoFar, WrittenSoFar, with_flush}
+use Rattle.ahci_check.specs.Faults.{ReadsTo, WritesTo, fault_of}
 use Rattle.ahci_check.specs.Sheets.{AreLines, EndsCheck, IsChecked, IsPart, Judged, Judges, Keeps, Sheet, blank, judged, judged_from, no_line, one_more, sheet_of, with_complaint, with_last, with_next}
 use Rattle.ahci_check.specs.declared.check_fault.CheckFault.TheVariants.{OutOfMemory, Write}
 use Rattle.ahci_check.specs.declared.complaint.Complaint.{Complaint}
@@ -109,3 +110,15 @@ part_checked {F} (Err f) r s c d a b new reads stops part = cut F f r s c d a b 
 -- no memory at the start: nothing was read or written
 pub nothing_checked : (r c : Known) → EndsCheck r r c c OutOfMemory
 nothing_checked r c = nothing r _ (Appends-nil c)
+
+-- the reads, where lines were not all taken
+pub reads_to : {F : Type 0} (f : Stopped F) (old new : ReadSoFar) → ReadsAs old new f → ReadsTo old new (fault_of f)
+reads_to stopped.Read old new told = told
+reads_to (stopped.Taker f) old new told = told
+reads_to stopped.OutOfMemory old new told = told
+
+-- the writes, where the text was written then
+pub writes_to : {F : Type 0} (f : Stopped F) (old new : WrittenSoFar) → new ≡ with_flush old → WritesTo old new (fault_of f)
+writes_to stopped.Read old new is = is
+writes_to (stopped.Taker f) old new is = ap (λ (w : WrittenSoFar). w.failed) is
+writes_to stopped.OutOfMemory old new is = ap (λ (w : WrittenSoFar). w.failed) is

@@ -1,4 +1,7 @@
 -- Why a script was not judged to its end.
+use Rattle.std.specs.Prelude.{◌≡◌, ⊤}
+use Rattle.streams.specs.Ends.{ReadSoFar, WrittenSoFar, with_failed_write, with_flush}
+use Rattle.ahci_script.specs.Unread.{FailsReading}
 use Rattle.ahci_script.specs.declared.stopped.Stopped.{Stopped}
 use Rattle.ahci_script.specs.declared.stopped.Stopped.TheVariants as stopped
 use Rattle.ahci_check.specs.declared.check_fault.CheckFault.{CheckFault}
@@ -9,3 +12,16 @@ abbrev pub fault_of : {F : Type 0} → Stopped F → CheckFault
 fault_of stopped.Read = fault.Read
 fault_of (stopped.Taker refused) = fault.OutOfMemory
 fault_of stopped.OutOfMemory = fault.OutOfMemory
+
+-- how the writes went then: one failed, and the fault is that; or none did, and after a failed read what was written is flushed
+abbrev pub WritesTo : WrittenSoFar → WrittenSoFar → CheckFault → Type 0
+WritesTo old new fault.Write = new ≡ with_failed_write old
+WritesTo old new fault.Read = new ≡ with_flush old
+WritesTo old new fault.OutOfMemory = new.failed ≡ old.failed
+
+-- and the reads: one failed, or a byte came after the limit, and the fault is that; or none failed. A failed write is told before
+-- a failed read
+abbrev pub ReadsTo : ReadSoFar → ReadSoFar → CheckFault → Type 0
+ReadsTo old new fault.Read = FailsReading new
+ReadsTo old new fault.Write = ⊤
+ReadsTo old new fault.OutOfMemory = new.failed ≡ old.failed

@@ -2,10 +2,11 @@ use crate::complaint::Complaint;
 use crate::judging::judged;
 use crate::place::Place;
 use crate::rule::Rule;
-use ahci_script::{Fault, Found, LINE_LIMIT, Output, OutputFailed, TakesLines, read_line};
+use ahci_script::{Fault, Found, LINE_LIMIT, Output, TakesLines, read_line};
 use std::alloc::{AllocError, Allocator};
 use std::io::Write;
 use std::marker::Model;
+use streams::{OutputFailed, Writes};
 
 /// The complaints about the lines so far, which wait for the output as text.
 #[derive(Drop)]
@@ -27,6 +28,7 @@ impl<A: Allocator> Model for Sheet<A> {
 impl<A: Allocator + Clone> Sheet<A> {
     ghost use Rattle.std.specs.Prelude.{◌≡◌, IfOk, OnErr, OnOk};
     ghost use Rattle.std.specs.Io.KnownBytes.{Appends};
+    ghost use Rattle.streams.specs.Ends.{with_failed_write, with_flush};
     ghost use Rattle.ahci_check.specs.Sheets.{IsPart, blank, judged, judged_long, with_complaint};
 
     /// No line was judged.
@@ -87,12 +89,18 @@ impl<A: Allocator + Clone> Sheet<A> {
     }
 
     /// Writes the text, and flushes. After a failure some first part of it was written.
-    pub(crate) fn send<W: Write>(&mut self, writer: &mut W) -> Result<(), OutputFailed>
+    pub(crate) fn send<W: Write>(
+        &mut self,
+        writer: &mut W,
+        writes: &mut Writes,
+    ) -> Result<(), OutputFailed>
         ensures written { OnOk result (Appends (W.contents writer.old) (W.contents writer.new) self.old.text) }
         ensures part { OnErr result (IsPart (W.contents writer.old) (W.contents writer.new) self.old.text) }
         ensures found { self.new.found ≡ self.old.found }
+        ensures flushed { OnOk result (writes.new ≡ with_flush writes.old) }
+        ensures failed { OnErr result (writes.new ≡ with_failed_write writes.old) }
     {
-        self.text.send(writer)
+        self.text.send(writer, writes)
     }
 }
 

@@ -1,6 +1,8 @@
 //! How the program ends: what is told of an outcome, and the status.
 
 ghost use Rattle.clap.specs.Words.{kind_of};
+ghost use Rattle.std.specs.Prelude.{◌≡◌, OnErr, OnOk};
+ghost use Rattle.streams.specs.Ends.{with_failed_write, with_flush};
 ghost use Rattle.ahci_cli.specs.Program.{Ends, IsShown, IsTold, Rejects, Says};
 
 use crate::fault::CliFault;
@@ -9,7 +11,7 @@ use clap::Error;
 use clap::error::ErrorKind;
 use std::alloc::Global;
 use std::io::Write;
-use streams::{OutputFailed, write_whole};
+use streams::{OutputFailed, Writes};
 
 /// The exit status of a wrong command line.
 const USAGE: u8 = 2;
@@ -32,7 +34,7 @@ pub(crate) fn end<E: Write>(outcome: Result<bool, CliFault>, errors: &mut E) -> 
 fn tell<E: Write>(text: &[u8], errors: &mut E)
     ensures { IsTold (E.contents errors.old) (E.contents errors.new) text.now }
 {
-    let _ = write_whole(errors, text);
+    let _ = Writes::new().write_whole(errors, text);
 }
 
 /// What the parser of the command line has to say: help and the version on the writer, a wrong command line on the errors.
@@ -48,7 +50,7 @@ pub(crate) fn explain<W: Write, E: Write>(
         ErrorKind::OutOfMemory => end(Err(CliFault::OutOfMemory), errors),
         ErrorKind::DisplayHelp | ErrorKind::DisplayVersion => {
             match format!(in alloc; "{error}") {
-                Ok(text) => end(show(text.as_bytes(), writer), errors),
+                Ok(text) => end(show(text.as_bytes(), writer, &mut Writes::new()), errors),
                 Err(_) => end(Err(CliFault::OutOfMemory), errors),
             }
         }
@@ -57,10 +59,12 @@ pub(crate) fn explain<W: Write, E: Write>(
 }
 
 /// Writes help, or the version.
-fn show<W: Write>(text: &[u8], writer: &mut W) -> Result<bool, CliFault>
-    ensures { IsShown text.now (W.contents writer.old) (W.contents writer.new) result }
+fn show<W: Write>(text: &[u8], writer: &mut W, writes: &mut Writes) -> Result<bool, CliFault>
+    ensures shown { IsShown text.now (W.contents writer.old) (W.contents writer.new) result }
+    ensures flushed { OnOk result (writes.new ≡ with_flush writes.old) }
+    ensures failed { OnErr result (writes.new ≡ with_failed_write writes.old) }
 {
-    match write_whole(writer, text) {
+    match writes.write_whole(writer, text) {
         Ok(()) => Ok(false),
         Err(OutputFailed) => Err(CliFault::Write),
     }

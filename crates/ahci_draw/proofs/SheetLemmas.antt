@@ -1,10 +1,11 @@
 -- How a run ends whose script a fault has ended.
-use Rattle.std.proofs.Common.{◌≡◌, List, [], ℕ, Option, Some, inl, inr, subst, sym}
+use Rattle.std.proofs.Common.{◌≡◌, List, [], ℕ, Option, Some, Result, Ok, Err, IfErr, inl, inr, subst, sym}
 use Rattle.std.specs.Io.KnownBytes.{Appends}
 use Rattle.ahci_replay.specs.Transcript.{ReplayedTo}
 use Rattle.ahci_replay.specs.declared.script_fault.ScriptFault.{ScriptFault}
 use Rattle.ahci_replay.specs.declared.script_fault.ScriptFault.TheVariants as fault
-use Rattle.ahci_draw.specs.Drawn.{DrawnTo, IsSentAt, IsSentTo, IsSheetTo, picture_lines}
+use Rattle.streams.specs.Ends.{WrittenSoFar, with_flush}
+use Rattle.ahci_draw.specs.Drawn.{DrawWrites, DrawnTo, IsSentAt, IsSentTo, IsSheetTo, SendWrites, SendWritesAt, picture_lines}
 use Rattle.ahci_draw.specs.Sheet.{sheet_text}
 
 -- the sheet that was empty at first
@@ -29,3 +30,23 @@ not_sent r s c d sheet f fault.Read is sent = absurd sent
 pub sent_at : (r s c d : Option (List ℕ)) (sheet : List ℕ) (f told : ScriptFault) → IsSheetTo r s f sheet → IsSentAt f sheet c d told → DrawnTo r s c d told
 sent_at r s c d sheet f told is (inl (same, written)) = subst (DrawnTo r s c d) (sym same) (sent r s c d sheet f is written)
 sent_at r s c d sheet f told is (inr failed) = not_sent r s c d sheet f told is failed
+
+-- how the writes went where the picture was not written
+pub draws_as : (old new : WrittenSoFar) (f : ScriptFault) → SendWrites old new f → DrawWrites old new f
+draws_as old new fault.OutOfMemory sent = sent
+draws_as old new fault.Write sent = sent
+draws_as old new (fault.Line n) sent = absurd sent
+draws_as old new fault.Read sent = absurd sent
+
+pub draws_sent : {T : Type 0} (result : Result T ScriptFault) (old new : WrittenSoFar) → IfErr result (SendWrites old new) → IfErr result (DrawWrites old new)
+draws_sent (Ok x) old new sent = sent
+draws_sent (Err f) old new sent = draws_as old new f sent
+
+-- behind a line that is faulty, and behind a failed read
+pub draws_line : (n : ℕ) (told : ScriptFault) (old new : WrittenSoFar) → SendWritesAt (fault.Line n) old new told → DrawWrites old new told
+draws_line n told old new (inl (same, is)) = subst (DrawWrites old new) (sym same) is
+draws_line n told old new (inr sent) = draws_as old new told sent
+
+pub draws_read : (told : ScriptFault) (old new : WrittenSoFar) → SendWritesAt fault.Read old new told → DrawWrites old new told
+draws_read told old new (inl (same, is)) = subst (DrawWrites old new) (sym same) is
+draws_read told old new (inr sent) = draws_as old new told sent

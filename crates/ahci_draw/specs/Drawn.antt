@@ -1,6 +1,7 @@
 -- What a run of `draw` has written.
 use Rattle.std.specs.Prelude.{◌≡◌, ℕ, List, [], ◌∷◌, ◌++◌, take, Option, Some, ◌⊎◌}
 use Rattle.std.specs.Io.KnownBytes.{Appends}
+use Rattle.streams.specs.Ends.{WrittenSoFar, with_failed_write, with_flush}
 use Rattle.ahci_replay.specs.Transcript.{Replayed, ReplayedTo}
 use Rattle.ahci_replay.specs.declared.script_fault.ScriptFault.{ScriptFault}
 use Rattle.ahci_replay.specs.declared.script_fault.ScriptFault.TheVariants as fault
@@ -56,3 +57,22 @@ DrawnTo r s c d (fault.Line n) = DrawnBefore r s c d (fault.Line n)
 DrawnTo r s c d fault.Read = DrawnBefore r s c d fault.Read
 DrawnTo r s c d fault.OutOfMemory = d ≡ c
 DrawnTo r s c d fault.Write = DrawnPart r s c d
+
+-- ---- how the writes went
+
+-- where a picture is not written: a write or a flush failed, and the fault is that; or none was tried, for want of memory
+abbrev pub SendWrites : WrittenSoFar → WrittenSoFar → ScriptFault → Type 0
+SendWrites old new fault.Write = new ≡ with_failed_write old
+SendWrites old new fault.OutOfMemory = new ≡ old
+SendWrites old new _ = ⊥
+
+-- behind a fault of the script: the picture was written and flushed, and that fault is told; or it was not
+abbrev pub SendWritesAt : ScriptFault → WrittenSoFar → WrittenSoFar → ScriptFault → Type 0
+SendWritesAt f old new told = ((told ≡ f) × (new ≡ with_flush old)) ⊎ SendWrites old new told
+
+-- where a fault is told
+abbrev pub DrawWrites : WrittenSoFar → WrittenSoFar → ScriptFault → Type 0
+DrawWrites old new (fault.Line n) = new ≡ with_flush old
+DrawWrites old new fault.Read = new ≡ with_flush old
+DrawWrites old new fault.Write = new ≡ with_failed_write old
+DrawWrites old new fault.OutOfMemory = new ≡ old

@@ -1,6 +1,7 @@
-ghost use Rattle.std.specs.Prelude.{IfErr, OnOk};
+ghost use Rattle.std.specs.Prelude.{◌≡◌, IfErr, OnOk};
+ghost use Rattle.streams.specs.Ends.{with_flush};
 ghost use Rattle.std.specs.Io.KnownBytes.{Appends};
-ghost use Rattle.ahci_draw.specs.Drawn.{Drawn, DrawnTo, IsSentAt, IsSentTo, picture_lines};
+ghost use Rattle.ahci_draw.specs.Drawn.{DrawWrites, Drawn, DrawnTo, IsSentAt, IsSentTo, SendWrites, SendWritesAt, picture_lines};
 
 use crate::drawer::Drawer;
 use crate::picture::picture_of;
@@ -8,6 +9,7 @@ use ahci_replay::{ScriptFault, replay_with};
 use ahci_script::Output;
 use std::alloc::Allocator;
 use std::io::{Read, Write};
+use streams::Writes;
 
 /// Runs the script that the reader gives as `replay` does, and writes a picture of what the port did, as SVG. At a fault of the
 /// script the picture shows what was done before it.
@@ -22,16 +24,32 @@ pub fn draw<R: Read, W: Write, A: Allocator + Copy>(
     ensures ok { OnOk result (Drawn (R.remaining reader.old) (R.remaining reader.new) (W.contents writer.old) (W.contents writer.new)) }
     ensures err { IfErr result (DrawnTo (R.remaining reader.old) (R.remaining reader.new) (W.contents writer.old) (W.contents writer.new)) }
 {
+    drawn(alloc, reader, writer, &mut Writes::new())
+}
+
+/// The same, and tells how the writes went.
+fn drawn<R: Read, W: Write, A: Allocator + Copy>(
+    alloc: A,
+    reader: &mut R,
+    writer: &mut W,
+    writes: &mut Writes,
+) -> Result<(), ScriptFault>
+    ensures ok { OnOk result (Drawn (R.remaining reader.old) (R.remaining reader.new) (W.contents writer.old) (W.contents writer.new)) }
+    ensures err { IfErr result (DrawnTo (R.remaining reader.old) (R.remaining reader.new) (W.contents writer.old) (W.contents writer.new)) }
+    ensures flushed { OnOk result (writes.new ≡ with_flush writes.old) }
+    ensures writes { IfErr result (DrawWrites writes.old writes.new) }
+{
     let mut sheet = Vec::new(alloc);
     match replay_with(alloc, &Drawer::new(alloc), reader, &mut sheet) {
-        Ok(()) => send(alloc, &sheet, writer),
+        Ok(()) => send(alloc, &sheet, writer, writes),
         Err(ScriptFault::Line(line)) => Err(send_at(
             ScriptFault::Line(line),
             alloc,
             &sheet,
             writer,
+            writes,
         )),
-        Err(ScriptFault::Read) => Err(send_at(ScriptFault::Read, alloc, &sheet, writer)),
+        Err(ScriptFault::Read) => Err(send_at(ScriptFault::Read, alloc, &sheet, writer, writes)),
         Err(_) => Err(ScriptFault::OutOfMemory), // a sheet takes all that it has room for
     }
 }
@@ -42,10 +60,12 @@ fn send_at<W: Write, A: Allocator + Copy>(
     alloc: A,
     sheet: &[u8],
     writer: &mut W,
+    writes: &mut Writes,
 ) -> ScriptFault
-    ensures { IsSentAt fault sheet.now (W.contents writer.old) (W.contents writer.new) result }
+    ensures sent { IsSentAt fault sheet.now (W.contents writer.old) (W.contents writer.new) result }
+    ensures writes { SendWritesAt fault writes.old writes.new result }
 {
-    match send(alloc, sheet, writer) {
+    match send(alloc, sheet, writer, writes) {
         Ok(()) => fault,
         Err(failed) => failed,
     }
@@ -56,12 +76,15 @@ fn send<W: Write, A: Allocator + Copy>(
     alloc: A,
     sheet: &[u8],
     writer: &mut W,
+    writes: &mut Writes,
 ) -> Result<(), ScriptFault>
     ensures ok { OnOk result (Appends (W.contents writer.old) (W.contents writer.new) (picture_lines sheet.now)) }
     ensures err { IfErr result (IsSentTo sheet.now (W.contents writer.old) (W.contents writer.new)) }
+    ensures flushed { OnOk result (writes.new ≡ with_flush writes.old) }
+    ensures writes { IfErr result (SendWrites writes.old writes.new) }
 {
     let mut output = Output::new(alloc);
     output.put_text(&picture_of(alloc, sheet)?)?;
-    output.send(writer)?;
+    output.send(writer, writes)?;
     Ok(())
 }

@@ -4,12 +4,13 @@ use Rattle.std.proofs.KnownBytes.{Consumes-nil}
 use Rattle.std.specs.Io.KnownBytes.{Consumes, IsAtEnd}
 use Rattle.ahci_script.specs.Jobs.{job_line_of}
 use Rattle.ahci_script.specs.Reading as reading
-use Rattle.ahci_script.specs.Reading.{Comes, MayEnd, ReadsAll, Step, StopsReading, Taken, TakenFirst, last_by, last_of}
+use Rattle.ahci_script.specs.Reading.{Comes, MayEnd, ReadsAll, ReadsAs, Step, StopsReading, Taken, TakenFirst, last_by, last_of}
 use Rattle.ahci_script.specs.Unread.{Begins, found_of, too_long, unfinished, whole, with_feeds}
 use Rattle.ahci_script.specs.declared.stopped.Stopped.{Stopped}
 use Rattle.ahci_script.specs.declared.stopped.Stopped.TheVariants as stopped
 use Rattle.ncq_journal.specs.Work.{Work}
-use Rattle.ahci_jobs.specs.Faults.{list_fault_of}
+use Rattle.streams.specs.Ends.{ReadSoFar}
+use Rattle.ahci_jobs.specs.Faults.{ListReads, list_fault_of}
 use Rattle.ahci_jobs.specs.JobList.{AreGood, IsBadNext, IsFaulty, IsListFault, IsListed, ListedFirst, Refuses, Takes, asked_in, commands_of, no_line, one_more}
 use Rattle.ahci_jobs.specs.declared.list_fault.ListFault.{ListFault}
 use Rattle.ahci_jobs.specs.declared.list_fault.ListFault.TheVariants.{Line, Job, Read, OutOfMemory}
@@ -120,3 +121,19 @@ list_fault f (stopped.Taker fault) r s a b new h =
     subst (λ k. Why fault lines k rest) (sym holds.0)
     (refused fault holds.1.0 lines s rest holds.1.1 (subst (λ old. Refuses old (length lines + 1) holds.1.0 fault) asked holds.1.2))) h)
 list_fault f stopped.OutOfMemory r s a b new h = nothing_listed r
+
+-- no line is refused with a failed read
+never_read : (found : Begins) (old : List Work) (n : ℕ) → Refuses old n found Read → ⊥
+never_read (whole line) old n h = h
+never_read too_long old n h = cc
+never_read unfinished old n h = h
+
+-- the reads, where the reading stopped
+pub list_reads : {S : Type 0} (f : S → List Work) (stop : Stopped ListFault) (r s : Known) (a b : S) (old new : ReadSoFar) → StopsReading (Goes f) (Fails f) r s a b stop
+    → ReadsAs old new stop → ListReads old new (list_fault_of stop)
+list_reads f stopped.Read r s a b old new h told = told
+list_reads f (stopped.Taker (Line n)) r s a b old new h told = told
+list_reads f (stopped.Taker (Job i)) r s a b old new h told = told
+list_reads f (stopped.Taker Read) r s a b old new h told = absurd (never_read h.holds.1.0 (f h.to) (length h.lines + 1) h.holds.1.2)
+list_reads f (stopped.Taker OutOfMemory) r s a b old new h told = told
+list_reads f stopped.OutOfMemory r s a b old new h told = told

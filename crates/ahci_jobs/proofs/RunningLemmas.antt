@@ -18,9 +18,10 @@ use Rattle.ncq_journal.specs.Lawful.{IsProper}
 use Rattle.ncq_journal.specs.Work.{Work}
 use Rattle.ahci_script.proofs.FoundLemmas.{Bytes}
 use Rattle.ahci_jobs.proofs.ListLemmas.{Known}
-use Rattle.ahci_jobs.specs.Faults.{jobs_fault_of}
+use Rattle.streams.specs.Ends.{ReadSoFar, WrittenSoFar}
+use Rattle.ahci_jobs.specs.Faults.{ListReads, RunReads, RunWrites, jobs_fault_of}
 use Rattle.ahci_jobs.specs.JobList.{AreGood, IsGood, IsListFault, IsListed, asked_in, command_for, commands_of, no_line, one_more}
-use Rattle.ahci_jobs.specs.Results.{IsTold, SaysPart, run_text}
+use Rattle.ahci_jobs.specs.Results.{IsTold, SaysPart, TellsAs, run_text}
 use Rattle.ahci_jobs.specs.RunJobs.{EndsRun, blank_port, fault_of}
 
 -- all of these commands can be issued
@@ -105,3 +106,57 @@ ends_telling (Err (Job i)) workers depth sectors r s c d jobs port replies liste
 ends_telling (Err Read) workers depth sectors r s c d jobs port replies listed ran part told = absurd told
 ends_telling (Err Unsettled) workers depth sectors r s c d jobs port replies listed ran part told = absurd told
 ends_telling (Err (Lost i)) workers depth sectors r s c d jobs port replies listed ran part told = absurd told
+
+-- ---- how the reads and writes went
+
+-- where the list ended early
+pub reads_listing : (f : ListFault) (old new : ReadSoFar) → ListReads old new f → RunReads old new (jobs_fault_of f)
+reads_listing (list.Line n) old new told = told
+reads_listing (list.Job i) old new told = told
+reads_listing list.Read old new told = told
+reads_listing list.OutOfMemory old new told = told
+
+pub writes_listing : (f : ListFault) (w : WrittenSoFar) → RunWrites w w (jobs_fault_of f)
+writes_listing (list.Line n) w = refl
+writes_listing (list.Job i) w = refl
+writes_listing list.Read w = refl
+writes_listing list.OutOfMemory w = refl
+
+-- where the run was given up
+pub reads_running : (f : RunFault) (old new : ReadSoFar) → new.failed ≡ old.failed → RunReads old new (fault_of f)
+reads_running of_run.NotFresh old new told = told
+reads_running (of_run.BadJob i) old new told = told
+reads_running of_run.OutOfMemory old new told = told
+reads_running (of_run.Lost i) old new told = told
+reads_running of_run.Foreign old new told = told
+reads_running (of_run.Unsettled settled) old new told = told
+
+pub writes_running : (f : RunFault) (w : WrittenSoFar) → RunWrites w w (fault_of f)
+writes_running of_run.NotFresh w = refl
+writes_running (of_run.BadJob i) w = refl
+writes_running of_run.OutOfMemory w = refl
+writes_running (of_run.Lost i) w = refl
+writes_running of_run.Foreign w = refl
+writes_running (of_run.Unsettled settled) w = refl
+
+-- where the output took no more
+pub ends_writing : {T : Type 0} (result : Result T JobsFault) (old new : WrittenSoFar) → IfErr result (TellsAs old new) → IfErr result (RunWrites old new)
+ends_writing (Ok x) old new told = told
+ends_writing (Err Write) old new told = told
+ends_writing (Err OutOfMemory) old new told = told
+ends_writing (Err (Line n)) old new told = absurd told
+ends_writing (Err (Job i)) old new told = absurd told
+ends_writing (Err Read) old new told = absurd told
+ends_writing (Err Unsettled) old new told = absurd told
+ends_writing (Err (Lost i)) old new told = absurd told
+
+-- all was read by then
+pub ends_reading : {T : Type 0} (result : Result T JobsFault) (old new : ReadSoFar) → IfErr result IsTold → new.failed ≡ old.failed → IfErr result (RunReads old new)
+ends_reading (Ok x) old new is same = is
+ends_reading (Err Write) old new is same = same
+ends_reading (Err OutOfMemory) old new is same = same
+ends_reading (Err (Line n)) old new is same = absurd is
+ends_reading (Err (Job i)) old new is same = absurd is
+ends_reading (Err Read) old new is same = absurd is
+ends_reading (Err Unsettled) old new is same = absurd is
+ends_reading (Err (Lost i)) old new is same = absurd is

@@ -43,7 +43,10 @@ use Rattle.ahci_driver.specs.Received.{Received, received_of}
 use Rattle.ahci_driver.specs.declared.receipt.Receipt.{Receipt}
 use Rattle.ahci_port.specs.PortView.{PortView}
 use Rattle.ncq_journal.specs.Sector.{sector}
-use Rattle.ahci_jobs.specs.Results.{Says, SaysPart, fed, line_for, replies_text, sector_text, sectors_text}
+use Rattle.streams.specs.Ends.{WrittenSoFar}
+use Rattle.ahci_jobs.specs.declared.jobs_fault.JobsFault.{JobsFault}
+use Rattle.ahci_jobs.specs.declared.jobs_fault.JobsFault.TheVariants as fault
+use Rattle.ahci_jobs.specs.Results.{Says, SaysPart, TellsAs, fed, line_for, replies_text, sector_text, sectors_text}
 
 abbrev pub Known : Type 0
 Known = Option (List ℕ)
@@ -160,3 +163,13 @@ told_first c d w s t all none is part = subst (λ v. SaysPart c v d all) none (s
 -- the first, and a first part of the second are written
 pub told_second : (c d e : Known) (w x s t all : Bytes) → w ≡ [] → s ++ t ≡ all → Says c w d x s → SaysPart d x e t → SaysPart c [] e all
 told_second c d e w x s t all none is first part = subst (λ v. SaysPart c v e all) none (subst (SaysPart c w e) is (part_after c d e w x s t first part))
+
+-- writes of which none failed come first
+pub tells_after : (f : JobsFault) (old mid new : WrittenSoFar) → mid.failed ≡ old.failed → TellsAs mid new f → TellsAs old new f
+tells_after fault.Write old mid new first then = then
+tells_after fault.OutOfMemory old mid new first then = then ∙ first
+tells_after (fault.Line n) old mid new first then = absurd then
+tells_after (fault.Job i) old mid new first then = absurd then
+tells_after fault.Read old mid new first then = absurd then
+tells_after fault.Unsettled old mid new first then = absurd then
+tells_after (fault.Lost i) old mid new first then = absurd then

@@ -10,6 +10,7 @@ use Rattle.ncq_journal.specs.Answer.{Answer}
 use Rattle.ncq_journal.specs.Sector.{sector}
 use Rattle.ncq_journal.specs.declared.outcome.Outcome.{Outcome}
 use Rattle.ncq_journal.specs.declared.outcome.Outcome.TheVariants.{Read, Wrote, Failed}
+use Rattle.streams.specs.Ends.{WrittenSoFar, with_failed_write}
 use Rattle.ahci_jobs.specs.declared.jobs_fault.JobsFault.{JobsFault}
 use Rattle.ahci_jobs.specs.declared.jobs_fault.JobsFault.TheVariants as fault
 
@@ -66,3 +67,9 @@ abbrev pub IsTold : JobsFault → Type 0
 IsTold fault.Write = Unit {0}
 IsTold fault.OutOfMemory = Unit {0}
 IsTold _ = ⊥
+
+-- how the writes went then: a write or a flush failed, and the fault is that; or none failed, and memory was wanted
+abbrev pub TellsAs : WrittenSoFar → WrittenSoFar → JobsFault → Type 0
+TellsAs old new fault.Write = new ≡ with_failed_write old
+TellsAs old new fault.OutOfMemory = new.failed ≡ old.failed
+TellsAs old new _ = ⊥

@@ -1,5 +1,6 @@
-ghost use Rattle.std.specs.Prelude.{map, IfErr, IfOk};
+ghost use Rattle.std.specs.Prelude.{◌≡◌, map, IfErr, IfOk, OnOk};
 ghost use Rattle.ncq_journal.specs.Work.{work_of};
+ghost use Rattle.ahci_jobs.specs.Faults.{ListReads};
 ghost use Rattle.ahci_jobs.specs.JobList.{IsListFault, IsListed};
 
 use crate::list_fault::ListFault;
@@ -8,6 +9,7 @@ use ahci_script::{Found, TakesLines, take_lines};
 use ncq_core::Op;
 use std::alloc::{AllocError, Allocator};
 use std::io::Read;
+use streams::Reads;
 
 /// The commands of the jobs of a list, as far as it was read.
 #[derive(Drop)]
@@ -55,11 +57,14 @@ impl<A: Allocator + Clone> TakesLines<()> for JobList<A> {
 pub(crate) fn listed<R: Read, A: Allocator + Clone>(
     alloc: A,
     reader: &mut R,
+    reads: &mut Reads,
 ) -> Result<Vec<Op<A>, A>, ListFault>
     ensures ok { IfOk result (λ jobs. IsListed (R.remaining reader.old) (R.remaining reader.new) (map work_of jobs.items)) }
     ensures err { IfErr result (IsListFault (R.remaining reader.old) (R.remaining reader.new)) }
+    ensures unfailed { OnOk result (reads.new.failed ≡ reads.old.failed) }
+    ensures reads { IfErr result (ListReads reads.old reads.new) }
 {
     let mut list = JobList::new(alloc.clone()?)?;
-    take_lines(alloc, reader, &mut list, &mut ())?;
+    take_lines(alloc, reader, reads, &mut list, &mut ())?;
     Ok(list.jobs)
 }

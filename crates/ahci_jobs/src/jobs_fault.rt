@@ -3,8 +3,8 @@ ghost use Rattle.ahci_jobs.specs.Faults.{jobs_fault_of};
 ghost use Rattle.ahci_jobs.specs.declared.jobs_fault.JobsFault.TheVariants as the-fault;
 
 use crate::list_fault::ListFault;
-use ahci_script::OutputFailed;
 use std::alloc::AllocError;
+use streams::OutputFailed;
 
 /// Why a job list is not done to its end.
 #[derive(Clone, Copy, Debug, PartialEq, Eq)]

@@ -2,6 +2,8 @@ ghost use Rattle.std.specs.Prelude.{◌≡◌, ◌≤◌, None, map, vec_len, If
 ghost use Rattle.ncq_journal.specs.Work.{work_of};
 ghost use Rattle.ahci_driver.specs.Received.{received_of};
 ghost use Rattle.ahci_driver.specs.Running.{HasRun, IsFirstBad, IsGivenUp, IsLate};
+ghost use Rattle.streams.specs.Ends.{with_flush};
+ghost use Rattle.ahci_jobs.specs.Faults.{RunReads, RunWrites};
 ghost use Rattle.ahci_jobs.specs.RunJobs.{EndsRun, RunsJobs, blank_port, fault_of};
 
 use crate::job_list::listed;
@@ -15,6 +17,7 @@ use std::alloc::{AllocError, Allocator};
 use std::io::{Read, Write};
 use std::sync::Wait;
 use std::thread::Threads;
+use streams::{Reads, Writes};
 
 /// The program's fault, where a run that has begun was given up.
 fn given_up(fault: RunFault) -> JobsFault
@@ -133,9 +136,57 @@ where
     ensures err { IfErr result (EndsRun workers depth sectors (R.remaining reader.old) (R.remaining reader.new)
         (W.contents writer.old) (W.contents writer.new)) }
 {
-    let jobs = listed(alloc.clone()?, reader)?;
+    run_list(
+        rt,
+        alloc,
+        workers,
+        depth,
+        sectors,
+        chooser,
+        reader,
+        &mut Reads::new(),
+        writer,
+        &mut Writes::new(),
+    )
+}
+
+/// The same, and tells how the reads and writes went.
+fn run_list<H, R, W, C, A>(
+    rt: &H,
+    alloc: A,
+    workers: u32,
+    depth: u32,
+    sectors: u32,
+    chooser: C,
+    reader: &mut R,
+    reads: &mut Reads,
+    writer: &mut W,
+    writes: &mut Writes,
+) -> Result<(), JobsFault>
+where
+    H: Threads + Wait + Sync,
+    R: Read,
+    W: Write,
+    C: Chooser + Copy + Send + Drop,
+    A: Allocator + Clone + Send + Sync,
+    requires some { 1 ≤ workers }
+    requires most { workers ≤ 32 }
+    requires slots { 1 ≤ depth }
+    requires deep { depth ≤ 32 }
+    requires room { 1 ≤ sectors }
+    requires limit { sectors ≤ MAX_SECTORS }
+    ensures ok { OnOk result (RunsJobs workers depth sectors (R.remaining reader.old) (R.remaining reader.new)
+        (W.contents writer.old) (W.contents writer.new)) }
+    ensures err { IfErr result (EndsRun workers depth sectors (R.remaining reader.old) (R.remaining reader.new)
+        (W.contents writer.old) (W.contents writer.new)) }
+    ensures flushed { OnOk result (writes.new ≡ with_flush writes.old) }
+    ensures writes { IfErr result (RunWrites writes.old writes.new) }
+    ensures unfailed { OnOk result (reads.new.failed ≡ reads.old.failed) }
+    ensures reads { IfErr result (RunReads reads.old reads.new) }
+{
+    let jobs = listed(alloc.clone()?, reader, reads)?;
     match done(rt, alloc.clone()?, workers, depth, sectors, chooser, &jobs) {
-        Ok(end) => tell_run(alloc, writer, &end),
+        Ok(end) => tell_run(alloc, writer, writes, &end),
         Err(fault) => Err(given_up(fault)),
     }
 }

@@ -6,7 +6,8 @@ ghost use Rattle.ncq_journal.specs.Sector.{sector};
 ghost use Rattle.ahci_port.specs.PortView.{sectors_in};
 ghost use Rattle.ahci_script.specs.Results.{told};
 ghost use Rattle.ahci_driver.specs.Received.{received_of};
-ghost use Rattle.ahci_jobs.specs.Results.{IsTold, Says, SaysPart, fed, is_blank, line_for, replies_text, run_text, sector_text, sectors_text};
+ghost use Rattle.streams.specs.Ends.{with_flush};
+ghost use Rattle.ahci_jobs.specs.Results.{IsTold, TellsAs, Says, SaysPart, fed, is_blank, line_for, replies_text, run_text, sector_text, sectors_text};
 
 use crate::jobs_fault::JobsFault;
 use crate::making::SECTOR;
@@ -15,21 +16,25 @@ use ahci_port::{Outcome, Port};
 use ahci_script::{Output, ResultLine};
 use std::alloc::Allocator;
 use std::io::Write;
+use streams::Writes;
 
 /// Appends a line to what waits, and sends it once enough waits.
 fn tell<W: Write, A: Allocator>(
     output: &mut Output<A>,
     writer: &mut W,
+    writes: &mut Writes,
     line: ResultLine<'_>,
 ) -> Result<(), JobsFault>
     ensures ok { OnOk result (Says (W.contents writer.old) output.old (W.contents writer.new) output.new (fed (told line.entry))) }
     ensures err { OnErr result (SaysPart (W.contents writer.old) output.old (W.contents writer.new) (fed (told line.entry))) }
     ensures fault { IfErr result IsTold }
+    ensures unfailed { OnOk result (writes.new.failed ≡ writes.old.failed) }
+    ensures writes { IfErr result (TellsAs writes.old writes.new) }
     ensures short { IfErr result (λ fault. fault ≡ JobsFault.OutOfMemory → W.contents writer.new ≡ W.contents writer.old) }
 {
     output.put_result(line)?;
     if output.is_full() {
-        output.send(writer)?;
+        output.send(writer, writes)?;
     }
     Ok(())
 }
@@ -49,14 +54,17 @@ fn line_of<A: Allocator>(receipt: &Receipt<A>) -> ResultLine<'_>
 fn tell_replies<W: Write, A: Allocator>(
     output: &mut Output<A>,
     writer: &mut W,
+    writes: &mut Writes,
     replies: &[Receipt<A>],
 ) -> Result<(), JobsFault>
     ensures ok { OnOk result (Says (W.contents writer.old) output.old (W.contents writer.new) output.new (replies_text (map received_of replies.now))) }
     ensures err { OnErr result (SaysPart (W.contents writer.old) output.old (W.contents writer.new) (replies_text (map received_of replies.now))) }
     ensures fault { IfErr result IsTold }
+    ensures unfailed { OnOk result (writes.new.failed ≡ writes.old.failed) }
+    ensures writes { IfErr result (TellsAs writes.old writes.new) }
 {
     for receipt in replies {
-        tell(output, writer, line_of(receipt))?;
+        tell(output, writer, writes, line_of(receipt))?;
     }
     Ok(())
 }
@@ -72,6 +80,7 @@ fn is_all_zero(bytes: &[u8]) -> bool
 fn tell_sector<W: Write, A: Allocator>(
     output: &mut Output<A>,
     writer: &mut W,
+    writes: &mut Writes,
     port: &Port<A>,
     lba: u32,
 ) -> Result<(), JobsFault>
@@ -81,6 +90,8 @@ fn tell_sector<W: Write, A: Allocator>(
     ensures err { OnErr result (SaysPart (W.contents writer.old) output.old (W.contents writer.new)
         (sector_text lba (sector port.now.starting port.now.past lba))) }
     ensures fault { IfErr result IsTold }
+    ensures unfailed { OnOk result (writes.new.failed ≡ writes.old.failed) }
+    ensures writes { IfErr result (TellsAs writes.old writes.new) }
 {
     let lba = u64::from(lba);
     let mut bytes = [0; SECTOR];
@@ -91,6 +102,7 @@ fn tell_sector<W: Write, A: Allocator>(
     tell(
         output,
         writer,
+        writes,
         ResultLine::Sector {
             lba,
             byte: bytes[0],
@@ -102,14 +114,17 @@ fn tell_sector<W: Write, A: Allocator>(
 fn tell_sectors<W: Write, A: Allocator>(
     output: &mut Output<A>,
     writer: &mut W,
+    writes: &mut Writes,
     port: &Port<A>,
 ) -> Result<(), JobsFault>
     ensures ok { OnOk result (Says (W.contents writer.old) output.old (W.contents writer.new) output.new (sectors_text port.now (sectors_in port.now))) }
     ensures err { OnErr result (SaysPart (W.contents writer.old) output.old (W.contents writer.new) (sectors_text port.now (sectors_in port.now))) }
     ensures fault { IfErr result IsTold }
+    ensures unfailed { OnOk result (writes.new.failed ≡ writes.old.failed) }
+    ensures writes { IfErr result (TellsAs writes.old writes.new) }
 {
     for lba in 0..port.sectors() {
-        tell_sector(output, writer, port, lba)?;
+        tell_sector(output, writer, writes, port, lba)?;
     }
     Ok(())
 }
@@ -118,15 +133,18 @@ fn tell_sectors<W: Write, A: Allocator>(
 pub(crate) fn tell_run<W: Write, A: Allocator>(
     alloc: A,
     writer: &mut W,
+    writes: &mut Writes,
     end: &RunEnd<A>,
 ) -> Result<(), JobsFault>
     ensures ok { OnOk result (Appends (W.contents writer.old) (W.contents writer.new) (run_text end.now.port (map received_of end.now.replies.items))) }
     ensures err { OnErr result (SaysPart (W.contents writer.old) [] (W.contents writer.new) (run_text end.now.port (map received_of end.now.replies.items))) }
     ensures fault { IfErr result IsTold }
+    ensures flushed { OnOk result (writes.new ≡ with_flush writes.old) }
+    ensures writes { IfErr result (TellsAs writes.old writes.new) }
 {
     let mut output = Output::new(alloc);
-    tell_replies(&mut output, writer, &end.replies)?;
-    tell_sectors(&mut output, writer, &end.port)?;
-    output.send(writer)?;
+    tell_replies(&mut output, writer, writes, &end.replies)?;
+    tell_sectors(&mut output, writer, writes, &end.port)?;
+    output.send(writer, writes)?;
     Ok(())
 }

@@ -4,11 +4,12 @@ use Rattle.std.proofs.KnownBytes.{Appends-nil, Appends-trans, Consumes-nil}
 use Rattle.std.proofs.Math.Seq.{take-append-add}
 use Rattle.std.specs.Io.KnownBytes.{Appends, Consumes, IsAtEnd}
 use Rattle.ahci_script.specs.Reading as reading
-use Rattle.ahci_script.specs.Reading.{Comes, IsNext, MayEnd, ReadsAll, Step, StopsReading, Taken, TakenFirst, last_by, last_of}
+use Rattle.ahci_script.specs.Reading.{Comes, IsNext, MayEnd, ReadsAll, Step, ReadsAs, StopsReading, Taken, TakenFirst, last_by, last_of}
 use Rattle.ahci_script.specs.Unread.{Begins, MayFail, found_of, too_long, unfinished, whole, with_feeds}
 use Rattle.ahci_script.specs.declared.stopped.Stopped.{Stopped}
 use Rattle.ahci_script.specs.declared.stopped.Stopped.TheVariants as stopped
 use Rattle.ahci_port.specs.PortView.{PortView}
+use Rattle.streams.specs.Ends.{ReadSoFar, WrittenSoFar, with_flush}
 use Rattle.ahci_replay.specs.Fault.{fault_of, is_of_output}
 use Rattle.ahci_replay.specs.Place.{Place}
 use Rattle.ahci_replay.specs.Transcript.{
@@ -17,6 +18,7 @@ use Rattle.ahci_replay.specs.Transcript.{
   Grown,
   IsFaulty,
   MayAnswer,
+  ReadsTo,
   Refuses,
   Replayed,
   ReplayedFirst,
@@ -26,6 +28,7 @@ use Rattle.ahci_replay.specs.Transcript.{
   Takes,
   Telling,
   WritesPart,
+  WritesTo,
   no_line,
   one_more,
 }
@@ -224,7 +227,7 @@ stopped_before telling f stopped.Read r s a b other h = record {
   to = h.to;
   taken = h.taken;
   consumed = h.consumed;
-  holds = ((ap (λ x. (f x).contents) h.holds.2, ap (λ x. (f x).waiting) h.holds.2), (h.holds.0, h.holds.1));
+  holds = ((ap (λ x. (f x).contents) h.holds.2, ap (λ x. (f x).waiting) h.holds.2, ap (λ x. (f x).failed) h.holds.2), (h.holds.0, h.holds.1));
 }
 stopped_before telling f (stopped.Taker fault) r s a b other h =
     let now = refused telling s fault h.holds.1.0 h.lines h.rest (f h.to) (f b) other h.holds.1.1 h.holds.1.2 in
@@ -244,7 +247,7 @@ stopped_before telling f stopped.OutOfMemory r s a b other h = record {
   to = a;
   taken = reading.nothing a 1;
   consumed = Consumes-nil r;
-  holds = ((ap (λ x. (f x).contents) h.1, ap (λ x. (f x).waiting) h.1), tt);
+  holds = ((ap (λ x. (f x).contents) h.1, ap (λ x. (f x).waiting) h.1, ap (λ x. (f x).failed) h.1), tt);
 }
 
 -- and then what waits is written
@@ -307,3 +310,72 @@ output_failed telling f (stopped.Taker Read) r s a b new is h = absurd (cc)
 output_failed telling f (stopped.Taker OutOfMemory) r s a b new is h = absurd (cc)
 output_failed telling f stopped.Read r s a b new is h = absurd (cc)
 output_failed telling f stopped.OutOfMemory r s a b new is h = absurd (cc)
+
+-- ---- whether a write failed
+
+-- none did while lines were answered
+unfailed : {S : Type 0} (telling : Telling) (f : S → Place) (a b : S) (n : ℕ) (lines : List Text) → Taken (Goes telling f) a n lines b → (f b).failed ≡ (f a).failed
+unfailed telling f _ _ n _ (reading.nothing s k) = refl
+unfailed telling f _ b n _ (reading.one_more s k first t more u own takes others) = unfailed telling f t b (k + 1) more others ∙ takes.unfailed
+unfailed telling f _ b n lines (reading.more_input s k t more u takes others) = unfailed telling f t b k more others ∙ takes.3
+
+-- nor while a whole script was
+pub whole_unfailed : {S : Type 0} (telling : Telling) (f : S → Place) (r s : Known) (a b : S) → ReadsAll (Goes telling f) r s a b → (f b).failed ≡ (f a).failed
+whole_unfailed telling f r s a b h =
+    (last_answers telling s h.rest (length h.lines + 1) (f h.to) (f b) h.holds.1 h.holds.2).2.unfailed ∙ unfailed telling f a h.to 1 h.lines h.taken
+
+-- nor where a fault but of the output has ended it
+pub stopped_unfailed : {S : Type 0} (telling : Telling) (f : S → Place) (stop : Stopped ScriptFault) (r s : Known) (a b : S) → is_of_output (fault_of stop) ≡ false
+    → StopsReading (Goes telling f) (Fails telling f) r s a b stop → (f b).failed ≡ (f a).failed
+stopped_unfailed telling f stop r s a b other h =
+    let before = stopped_before telling f stop r s a b other h in
+    before.holds.0.2 ∙ unfailed telling f a before.to 1 before.lines before.taken
+
+cut_failed : (telling : Telling) (found : Begins) (n : ℕ) (p q : Place) → Refuses telling p n found Write q → q.failed ≡ true
+cut_failed telling (whole line) n p q h = h.4
+cut_failed telling too_long n p q h = absurd (cc)
+cut_failed telling unfinished n p q h = h.2
+
+-- one did where a fault of the output has ended it
+pub output_has_failed : {S : Type 0} (telling : Telling) (f : S → Place) (stop : Stopped ScriptFault) (r s : Known) (a b : S) → is_of_output (fault_of stop) ≡ true
+    → StopsReading (Goes telling f) (Fails telling f) r s a b stop → (f b).failed ≡ true
+output_has_failed telling f (stopped.Taker Write) r s a b is h = cut_failed telling h.holds.1.0 (length h.lines + 1) (f h.to) (f b) h.holds.1.2
+output_has_failed telling f (stopped.Taker (Line n)) r s a b is h = absurd (cc)
+output_has_failed telling f (stopped.Taker Read) r s a b is h = absurd (cc)
+output_has_failed telling f (stopped.Taker OutOfMemory) r s a b is h = absurd (cc)
+output_has_failed telling f stopped.Read r s a b is h = absurd (cc)
+output_has_failed telling f stopped.OutOfMemory r s a b is h = absurd (cc)
+
+-- a flush after writes of which none failed
+pub with_flush_same : (old mid : WrittenSoFar) → mid.failed ≡ old.failed → with_flush mid ≡ with_flush old
+with_flush_same old mid is = ap (λ f. with_flush (record { failed = f; flushed = true })) is
+
+-- the writes, where what waits was written behind a fault
+pub writes_to : (fault : ScriptFault) (old mid new : WrittenSoFar) → is_of_output fault ≡ false → mid.failed ≡ old.failed → new ≡ with_flush mid → WritesTo old new fault
+writes_to (Line n) old mid new other is sent = sent ∙ with_flush_same old mid is
+writes_to Read old mid new other is sent = sent ∙ with_flush_same old mid is
+writes_to OutOfMemory old mid new other is sent = sent ∙ with_flush_same old mid is
+writes_to Write old mid new other is sent = absurd (cc)
+
+-- and where one failed
+pub writes_failed : (fault : ScriptFault) (old new : WrittenSoFar) → is_of_output fault ≡ true → new.failed ≡ true → WritesTo old new fault
+writes_failed (Line n) old new is failed = absurd (cc)
+writes_failed Read old new is failed = absurd (cc)
+writes_failed OutOfMemory old new is failed = absurd (cc)
+writes_failed Write old new is failed = failed
+
+-- no line is refused with a failed read
+never_read : (telling : Telling) (found : Begins) (n : ℕ) (p q : Place) → Refuses telling p n found Read q → ⊥
+never_read telling (whole line) n p q h = h
+never_read telling too_long n p q h = cc
+never_read telling unfinished n p q h = cc
+
+-- the reads, where the reading stopped
+pub reads_to : {S : Type 0} (telling : Telling) (f : S → Place) (stop : Stopped ScriptFault) (r s : Known) (a b : S) (old new : ReadSoFar)
+    → StopsReading (Goes telling f) (Fails telling f) r s a b stop → ReadsAs old new stop → ReadsTo old new (fault_of stop)
+reads_to telling f stopped.Read r s a b old new h told = told
+reads_to telling f (stopped.Taker (Line n)) r s a b old new h told = told
+reads_to telling f (stopped.Taker Read) r s a b old new h told = absurd (never_read telling h.holds.1.0 (length h.lines + 1) (f h.to) (f b) h.holds.1.2)
+reads_to telling f (stopped.Taker Write) r s a b old new h told = tt
+reads_to telling f (stopped.Taker OutOfMemory) r s a b old new h told = told
+reads_to telling f stopped.OutOfMemory r s a b old new h told = told

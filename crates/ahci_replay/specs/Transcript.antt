@@ -1,5 +1,5 @@
 -- What a script's lines add to the output, and how far a script has come.
-use Rattle.std.specs.Prelude.{◌≡◌, ℕ, ◌+◌, Bool, true, false, if◌then◌else◌, List, [], ◌∷◌, ◌++◌, Option, Some, None, length, take, option_and_then, ◌⊎◌}
+use Rattle.std.specs.Prelude.{◌≡◌, ℕ, ◌+◌, Bool, true, false, if◌then◌else◌, List, [], ◌∷◌, ◌++◌, Option, Some, None, length, take, option_and_then, ◌⊎◌, ⊤}
 use Rattle.std.specs.Io.KnownBytes.{Appends, Consumes, IsAtEnd}
 use Rattle.ahci_replay.specs.Commands.{Runs, is_in_place}
 use Rattle.ahci_replay.specs.Place.{Place}
@@ -9,7 +9,8 @@ use Rattle.ahci_script.specs.Answers.{answer_text}
 use Rattle.ahci_script.specs.Lines.{line_of}
 use Rattle.ahci_script.specs.Said.{Said}
 use Rattle.ahci_script.specs.Reading.{IsNext}
-use Rattle.ahci_script.specs.Unread.{Begins, MayFail, found_of, too_long, unfinished, whole, with_feeds}
+use Rattle.streams.specs.Ends.{ReadSoFar, WrittenSoFar, with_flush}
+use Rattle.ahci_script.specs.Unread.{Begins, FailsReading, MayFail, found_of, too_long, unfinished, whole, with_feeds}
 use Rattle.ahci_script.specs.declared.line.ScriptCommand.{ScriptCommand}
 use Rattle.ahci_script.specs.declared.line.Line.{Line}
 use Rattle.ahci_script.specs.declared.line.Line.TheVariants as line
@@ -89,16 +90,18 @@ pub record Answers (telling : Telling) (from : Place) (line : List ℕ) (to : Pl
   pub waiting : List ℕ
   pub grown : Grown telling from.port line to.port from.waiting waiting
   pub sends : Sends from.contents to.contents waiting to.waiting
+  pub unfailed : to.failed ≡ from.failed
 
 -- a script goes on: a line is answered; or all that waits is written, before more of the script is read
 abbrev pub Takes : Telling → Place → ℕ → Begins → Place → Type 0
 Takes telling from number (whole line) to = Answers telling from line to
 Takes telling from number too_long to = ⊥
-Takes telling from number unfinished to = (to.port ≡ from.port) × (to.waiting ≡ []) × Appends from.contents to.contents from.waiting
+Takes telling from number unfinished to =
+    (to.port ≡ from.port) × (to.waiting ≡ []) × Appends from.contents to.contents from.waiting × (to.failed ≡ from.failed)
 
 -- nothing was answered or written
 abbrev pub Stays : Place → Place → Type 0
-Stays from to = (to.contents ≡ from.contents) × (to.waiting ≡ from.waiting)
+Stays from to = (to.contents ≡ from.contents) × (to.waiting ≡ from.waiting) × (to.failed ≡ from.failed)
 
 -- a line is not answered; or its answer is written in part
 abbrev pub RefusesLine : Telling → Place → ℕ → List ℕ → Place → ScriptFault → Type 0
@@ -106,13 +109,14 @@ RefusesLine telling from number line to (fault.Line k) = (k ≡ number) × (plac
 RefusesLine telling from number line to fault.Read = ⊥
 RefusesLine telling from number line to fault.Write =
     (waiting : List ℕ) × (port : Option PortView) × Grown telling from.port line port from.waiting waiting × WritesPart from.contents to.contents waiting
+    × (to.failed ≡ true)
 RefusesLine telling from number line to fault.OutOfMemory = Stays from to
 
 -- a script does not go on
 abbrev pub Refuses : Telling → Place → ℕ → Begins → ScriptFault → Place → Type 0
 Refuses telling from number (whole line) f to = RefusesLine telling from number line to f
 Refuses telling from number too_long f to = (f ≡ fault.Line number) × Stays from to
-Refuses telling from number unfinished f to = (f ≡ fault.Write) × WritesPart from.contents to.contents from.waiting
+Refuses telling from number unfinished f to = (f ≡ fault.Write) × WritesPart from.contents to.contents from.waiting × (to.failed ≡ true)
 
 -- the lines of a whole input, the last of which may lack its line feed, and the text that they add, which is written
 pub record Replayed (telling : Telling) (remaining_old remaining_new contents_old contents_new : Option (List ℕ)) : Type 0 where
@@ -161,3 +165,17 @@ ReplayedTo telling r s c d fault.Read =
 ReplayedTo telling r s c d fault.OutOfMemory = ReplayedFirst telling r (λ text remaining port rest lines. Appends c d text)
 ReplayedTo telling r s c d fault.Write =
     ReplayedFirst telling r (λ text remaining port rest lines. (all : List ℕ) × MayAnswer telling remaining port rest text all × WritesPart c d all)
+
+-- ---- how the writes and reads went
+
+-- where a script ends early: a write failed, and the fault is that; or none did, and what was written is flushed
+abbrev pub WritesTo : WrittenSoFar → WrittenSoFar → ScriptFault → Type 0
+WritesTo old new fault.Write = new.failed ≡ true
+WritesTo old new other = new ≡ with_flush old
+
+-- where a script ends early: a read failed, or a byte came after the limit, and the fault is that; or no read failed. A failed
+-- write is told before a failed read
+abbrev pub ReadsTo : ReadSoFar → ReadSoFar → ScriptFault → Type 0
+ReadsTo old new fault.Read = FailsReading new
+ReadsTo old new fault.Write = ⊤
+ReadsTo old new other = new.failed ≡ old.failed

@@ -1,5 +1,6 @@
-ghost use Rattle.std.specs.Prelude.{IfErr, OnOk};
-ghost use Rattle.ahci_replay.specs.Transcript.{Replayed, ReplayedTo, answers_alone};
+ghost use Rattle.std.specs.Prelude.{◌≡◌, [], IfErr, None, OnOk};
+ghost use Rattle.streams.specs.Ends.{with_flush};
+ghost use Rattle.ahci_replay.specs.Transcript.{ReadsTo, Replayed, ReplayedTo, WritesTo, answers_alone};
 
 use crate::script::Script;
 use crate::script_fault::ScriptFault;
@@ -7,6 +8,7 @@ use crate::teller::{AnswersAlone, Teller};
 use ahci_script::take_lines;
 use std::alloc::Allocator;
 use std::io::{Read, Write};
+use streams::Reads;
 
 /// Runs the script that the reader gives, and writes an answer for each command. The first fault
 /// in the order of the input ends it, after the answers to the lines before.
@@ -38,14 +40,36 @@ pub fn replay_with<T: Teller<A>, R: Read, W: Write, A: Allocator + Copy>(
         (W.contents writer.old) (W.contents writer.new)) }
 {
     let mut script = Script::new(alloc, teller);
-    match take_lines(alloc, reader, &mut script, writer) {
-        Ok(()) => Ok(script.output.send(writer)?),
+    replay_script(alloc, &mut script, reader, &mut Reads::new(), writer)
+}
+
+/// Runs a script of which nothing came yet, and tells how its reads and writes went.
+fn replay_script<'t, T: Teller<A>, R: Read, W: Write, A: Allocator + Copy>(
+    alloc: A,
+    script: &mut Script<'t, T, A>,
+    reader: &mut R,
+    reads: &mut Reads,
+    writer: &mut W,
+) -> Result<(), ScriptFault>
+    requires new { (script.old.output ≡ []) × (script.old.session ≡ None) }
+    ensures ok { OnOk result (Replayed T.telling (R.remaining reader.old) (R.remaining reader.new)
+        (W.contents writer.old) (W.contents writer.new)) }
+    ensures err { IfErr result
+        (ReplayedTo T.telling (R.remaining reader.old) (R.remaining reader.new)
+        (W.contents writer.old) (W.contents writer.new)) }
+    ensures flushed { OnOk result (script.new.writes ≡ with_flush script.old.writes) }
+    ensures writes { IfErr result (WritesTo script.old.writes script.new.writes) }
+    ensures unfailed { OnOk result (reads.new.failed ≡ reads.old.failed) }
+    ensures reads { IfErr result (ReadsTo reads.old reads.new) }
+{
+    match take_lines(alloc, reader, reads, script, writer) {
+        Ok(()) => Ok(script.output.send(writer, &mut script.writes)?),
         Err(stopped) => {
             let fault = ScriptFault::from(stopped);
             if fault.is_of_output() {
                 return Err(fault);
             }
-            script.output.send(writer)?;
+            script.output.send(writer, &mut script.writes)?;
             Err(fault)
         }
     }

@@ -5,11 +5,13 @@ use crate::teller::Teller;
 use ahci_script::{Found, Output, TakesLines};
 use std::alloc::Allocator;
 use std::io::Write;
+use streams::Writes;
 
-/// A script that runs: what is answered and not yet written, the port, and who tells the answers.
+/// A script that runs: what is answered and not yet written, how the writes went, the port, and who tells the answers.
 #[derive(Drop)]
 pub(crate) struct Script<'t, T, A: Allocator> {
     pub(crate) output: Output<A>,
+    pub(crate) writes: Writes,
     session: Session<A>,
     teller: &'t T,
 }
@@ -25,6 +27,7 @@ impl<'t, T: Teller<A>, A: Allocator + Copy> Script<'t, T, A> {
     {
         Script {
             output: Output::new(alloc),
+            writes: Writes::new(),
             session: Session::new(alloc),
             teller,
         }
@@ -37,10 +40,10 @@ impl<'t, T: Teller<A>, A: Allocator + Copy> Script<'t, T, A> {
         line: &[u8],
         writer: &mut W,
     ) -> Result<(), ScriptFault>
-        ensures ok { OnOk result (Answers T.telling (place (W.contents writer.old) self.old.output self.old.session) line.now
-            (place (W.contents writer.new) self.new.output self.new.session)) }
-        ensures err { IfErr result (RefusesLine T.telling (place (W.contents writer.old) self.old.output self.old.session) number line.now
-            (place (W.contents writer.new) self.new.output self.new.session)) }
+        ensures ok { OnOk result (Answers T.telling (place (W.contents writer.old) self.old.output self.old.session self.old.writes.failed) line.now
+            (place (W.contents writer.new) self.new.output self.new.session self.new.writes.failed)) }
+        ensures err { IfErr result (RefusesLine T.telling (place (W.contents writer.old) self.old.output self.old.session self.old.writes.failed) number line.now
+            (place (W.contents writer.new) self.new.output self.new.session self.new.writes.failed)) }
     {
         answer_line(
             &mut self.session,
@@ -50,7 +53,7 @@ impl<'t, T: Teller<A>, A: Allocator + Copy> Script<'t, T, A> {
             line,
         )?;
         if self.output.is_full() {
-            self.output.send(writer)?;
+            self.output.send(writer, &mut self.writes)?;
         }
         Ok(())
     }
@@ -63,20 +66,20 @@ impl<'t, T: Teller<A>, W: Write, A: Allocator + Copy> TakesLines<W> for Script<'
 
     type Fault = ScriptFault;
 
-    ghost Takes = { λ old number found new. Takes T.telling (place (W.contents old.1) old.0.output old.0.session) number found
-        (place (W.contents new.1) new.0.output new.0.session) };
+    ghost Takes = { λ old number found new. Takes T.telling (place (W.contents old.1) old.0.output old.0.session old.0.writes.failed) number found
+        (place (W.contents new.1) new.0.output new.0.session new.0.writes.failed) };
 
     ghost IsSent = { λ s. s.0.output ≡ [] };
 
-    ghost Refuses = { λ old number found fault new. Refuses T.telling (place (W.contents old.1) old.0.output old.0.session) number found fault
-        (place (W.contents new.1) new.0.output new.0.session) };
+    ghost Refuses = { λ old number found fault new. Refuses T.telling (place (W.contents old.1) old.0.output old.0.session old.0.writes.failed) number found fault
+        (place (W.contents new.1) new.0.output new.0.session new.0.writes.failed) };
 
     fn take(&mut self, number: u64, found: Found<'_>, writer: &mut W) -> Result<(), ScriptFault> {
         match found {
             Found::Line(line) => self.answer(number, line, writer),
             Found::TooLong => Err(ScriptFault::Line(number)),
             // Before the read, which may wait for whoever writes the script.
-            Found::Unfinished => Ok(self.output.send(writer)?),
+            Found::Unfinished => Ok(self.output.send(writer, &mut self.writes)?),
         }
     }
 }

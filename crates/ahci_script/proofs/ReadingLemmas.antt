@@ -4,7 +4,7 @@ use Rattle.std.proofs.KnownBytes.{Consumes-nil, Consumes-trans}
 use Rattle.std.specs.Io.KnownBytes.{Consumes, IsAtEnd}
 use Rattle.ahci_script.proofs.FoundLemmas.{Bytes, cut_at_feed, found_line, with_feeds-append}
 use Rattle.ahci_script.specs.Reading.{Comes, MayEnd, ReadsAll, Step, StopsReading, Taken, TakenFirst, last_by, last_of, more_input, nothing, one_more}
-use Rattle.ahci_script.specs.Standing.{Ends, Halts, Reads, Stand}
+use Rattle.ahci_script.specs.Standing.{Ends, Halts, HasRead, Stand}
 use Rattle.ahci_script.specs.Unread.{Begins, Grows, MayFail, Unread, found_of, too_long, unfinished, whole, with_feeds}
 use Rattle.ahci_script.specs.declared.stopped.Stopped.{Stopped}
 use Rattle.ahci_script.specs.declared.stopped.Stopped.TheVariants as stopped
@@ -28,8 +28,8 @@ Taken-append {S} {Takes} _ b c _ _ ms (one_more s n first t more u own takes oth
 Taken-append _ b c _ ls ms (more_input s n t more u takes others) later = more_input s n t (more ++ ms) c takes (Taken-append t b c n more ms others later)
 
 -- two parts of a reading, one after the other
-pub Reads-trans : {S : Type 0} {Takes : Step S} (a b c : Stand S) → Reads Takes a b → Reads Takes b c → Reads Takes a c
-Reads-trans {S} {Takes} a b c p q = record {
+pub HasRead-trans : {S : Type 0} {Takes : Step S} (a b c : Stand S) → HasRead Takes a b → HasRead Takes b c → HasRead Takes a c
+HasRead-trans {S} {Takes} a b c p q = record {
   lines = p.lines ++ q.lines;
   came = p.came ++ q.came;
   taken = Taken-append a.state b.state c.state (a.line + 1) p.lines q.lines p.taken
@@ -41,8 +41,8 @@ Reads-trans {S} {Takes} a b c p q = record {
   all_came = rw (length-append p.came q.came) (omega (arith, p.all_came, q.all_came));
 }
 
-pub Reads-refl : {S : Type 0} {Takes : Step S} (a : Stand S) → Reads Takes a a
-Reads-refl a = record {
+pub HasRead-refl : {S : Type 0} {Takes : Step S} (a : Stand S) → HasRead Takes a a
+HasRead-refl a = record {
   lines = [];
   came = [];
   taken = nothing a.state (a.line + 1);
@@ -53,9 +53,9 @@ Reads-refl a = record {
 }
 
 -- a line was taken
-pub Reads-line : {S : Type 0} {Takes : Step S} (r : Known) (u l u' : Bytes) (n n' line : ℕ) (a b : S) → whole l ≡ found_of u → Takes a (line + 1) (whole l) b
-    → u' ≡ drop (length l + 1) u → n' ≡ n → Reads Takes (parts r u n line a) (parts r u' n' (line + 1) b)
-Reads-line {S} {Takes} r u l u' n n' line a b is takes left same =
+pub HasRead-line : {S : Type 0} {Takes : Step S} (r : Known) (u l u' : Bytes) (n n' line : ℕ) (a b : S) → whole l ≡ found_of u → Takes a (line + 1) (whole l) b
+    → u' ≡ drop (length l + 1) u → n' ≡ n → HasRead Takes (parts r u n line a) (parts r u' n' (line + 1) b)
+HasRead-line {S} {Takes} r u l u' n n' line a b is takes left same =
     let (e, found, at, len, own) = found_line u l is in
     record {
       lines = take e u ∷ [];
@@ -69,10 +69,10 @@ Reads-line {S} {Takes} r u l u' n n' line a b is takes left same =
     }
 
 -- more input was asked for: bytes came, or the reader is at its end
-pub Reads-more : {S : Type 0} {Takes : Step S} (more : Bool) (old new : Unread) (r s : Known) (line : ℕ) (a b : S) → Takes a (line + 1) unfinished b
+pub HasRead-more : {S : Type 0} {Takes : Step S} (more : Bool) (old new : Unread) (r s : Known) (line : ℕ) (a b : S) → Takes a (line + 1) unfinished b
     → MatchBool more (Grows old new r s) ((new ≡ old) × IsAtEnd s × Consumes r s [])
-    → Reads Takes (parts r old.bytes old.came line a) (parts s new.bytes new.came line b)
-Reads-more true old new r s line a b takes grows = record {
+    → HasRead Takes (parts r old.bytes old.came line a) (parts s new.bytes new.came line b)
+HasRead-more true old new r s line a b takes grows = record {
   lines = [];
   came = grows.came;
   taken = more_input a (line + 1) b [] b takes (nothing b (line + 1));
@@ -81,7 +81,7 @@ Reads-more true old new r s line a b takes grows = record {
   counted = omega arith;
   all_came = grows.count;
 }
-Reads-more false old new r s line a b takes ended = record {
+HasRead-more false old new r s line a b takes ended = record {
   lines = [];
   came = [];
   taken = more_input a (line + 1) b [] b takes (nothing b (line + 1));
@@ -92,8 +92,8 @@ Reads-more false old new r s line a b takes ended = record {
 }
 
 -- more input was asked for, and none came
-pub Reads-asked : {S : Type 0} {Takes : Step S} (p : Stand S) (b : S) → Takes p.state (p.line + 1) unfinished b → Reads Takes p (record p { state = b })
-Reads-asked p b takes = record {
+pub HasRead-asked : {S : Type 0} {Takes : Step S} (p : Stand S) (b : S) → Takes p.state (p.line + 1) unfinished b → HasRead Takes p (record p { state = b })
+HasRead-asked p b takes = record {
   lines = [];
   came = [];
   taken = more_input p.state (p.line + 1) b [] b takes (nothing b (p.line + 1));
@@ -112,7 +112,7 @@ comes_found unfinished r u is = sym is
 -- what was found is refused
 pub halts_at : {S F : Type 0} (Takes : Step S) (Refuses : Refusal S F) (found : Begins) (fault : F) (p : Stand S) (b : S) → found ≡ found_of p.unread
     → Refuses p.state (p.line + 1) found fault b → Halts Takes Refuses p (record p { state = b }) (stopped.Taker fault)
-halts_at Takes Refuses found fault p b is refused = (p.state, Reads-refl p, (found, comes_found found p.remaining p.unread is, refused))
+halts_at Takes Refuses found fault p b is refused = (p.state, HasRead-refl p, (found, comes_found found p.remaining p.unread is, refused))
 
 -- a read failed
 pub halts_reading : {S F : Type 0} (Takes : Step S) (Refuses : Refusal S F) (old new : Unread) (r s : Known) (line : ℕ) (a b : S) → Takes a (line + 1) unfinished b
@@ -120,17 +120,17 @@ pub halts_reading : {S F : Type 0} (Takes : Step S) (Refuses : Refusal S F) (old
     → Halts Takes Refuses (parts r old.bytes old.came line a) (parts s new.bytes new.came line b) stopped.Read
 halts_reading Takes Refuses old new r s line a b takes is failed same =
     subst (λ (i : Unread). Halts Takes Refuses (parts r old.bytes old.came line a) (parts s i.bytes i.came line b) stopped.Read) (sym same)
-    (r, Reads-asked (parts r old.bytes old.came line a) b takes, is, failed)
+    (r, HasRead-asked (parts r old.bytes old.came line a) b takes, is, failed)
 
 -- a fault after a part that went well
-pub halts_after : {S F : Type 0} (Takes : Step S) (Refuses : Refusal S F) (f : Stopped F) (a b c : Stand S) → Reads Takes a b → Halts Takes Refuses b c f
+pub halts_after : {S F : Type 0} (Takes : Step S) (Refuses : Refusal S F) (f : Stopped F) (a b c : Stand S) → HasRead Takes a b → Halts Takes Refuses b c f
     → Halts Takes Refuses a c f
-halts_after Takes Refuses stopped.Read a b c p s = (s.0, Reads-trans a b (record c { remaining = s.0 }) p s.1, s.2, s.3)
-halts_after Takes Refuses (stopped.Taker f) a b c p s = (s.0, Reads-trans a b (record c { state = s.0 }) p s.1, s.2)
+halts_after Takes Refuses stopped.Read a b c p s = (s.0, HasRead-trans a b (record c { remaining = s.0 }) p s.1, s.2, s.3)
+halts_after Takes Refuses (stopped.Taker f) a b c p s = (s.0, HasRead-trans a b (record c { state = s.0 }) p s.1, s.2)
 halts_after Takes Refuses stopped.OutOfMemory a b c p s = absurd s
 
 -- the last is taken
-pub ends_last : {S : Type 0} {Takes : Step S} (last : Begins) (a : Stand S) (p : Stand S) (b : S) → Reads Takes a p → MayEnd p.remaining p.unread
+pub ends_last : {S : Type 0} {Takes : Step S} (last : Begins) (a : Stand S) (p : Stand S) (b : S) → HasRead Takes a p → MayEnd p.remaining p.unread
     → last ≡ last_of p.unread → Takes p.state (p.line + 1) last b → Ends Takes a (record p { state = b })
 ends_last {S} {Takes} last a p b so_far ended is taken =
     record { before = p.state; reads = so_far; ended = ended; taken = subst (λ f. Takes p.state (p.line + 1) f b) is taken }
@@ -140,7 +140,7 @@ comes_last r u (inl long) = subst (λ f. Comes r u (last_by f u)) (sym long) lon
 comes_last r u (inr ended) = subst (λ f. Comes r u (last_by f u)) (sym ended.1) (inr (ended.0, ended.1, refl))
 
 -- the last is refused
-pub halts_last : {S F : Type 0} (Takes : Step S) (Refuses : Refusal S F) (last : Begins) (fault : F) (a : Stand S) (p : Stand S) (b : S) → Reads Takes a p
+pub halts_last : {S F : Type 0} (Takes : Step S) (Refuses : Refusal S F) (last : Begins) (fault : F) (a : Stand S) (p : Stand S) (b : S) → HasRead Takes a p
     → MayEnd p.remaining p.unread → last ≡ last_of p.unread → Refuses p.state (p.line + 1) last fault b → Halts Takes Refuses a (record p { state = b }) (stopped.Taker fault)
 halts_last Takes Refuses last fault a p b so_far ended is refused =
     (p.state, so_far, (last, subst (Comes p.remaining p.unread) (sym is) (comes_last p.remaining p.unread ended), refused))
@@ -154,7 +154,7 @@ from_start P r u n line a new h =
     subst (λ l. P (parts r [] 0 l a)) new.2 (subst (λ k. P (parts r [] k line a)) new.1 (subst (λ x. P (parts r x n line a)) new.0 h))
 
 -- the lines at the front of an input
-first : {S : Type 0} {Takes : Step S} (P : List Bytes → Known → Bytes → S → Type 0) (r : Known) (a : S) (to : Stand S) (h : Reads Takes (start r a) to)
+first : {S : Type 0} {Takes : Step S} (P : List Bytes → Known → Bytes → S → Type 0) (r : Known) (a : S) (to : Stand S) (h : HasRead Takes (start r a) to)
     → P h.lines to.remaining to.unread to.state → TakenFirst Takes r a P
 first P r a to h holds = record {
   lines = h.lines;

@@ -1,7 +1,8 @@
 -- How the lines of an input are taken, one after another.
 use Rattle.std.specs.Prelude.{◌≡◌, ℕ, ◌+◌, List, [], ◌∷◌, ◌++◌, Option, length, ◌⊎◌}
 use Rattle.std.specs.Io.KnownBytes.{Consumes, IsAtEnd}
-use Rattle.ahci_script.specs.Unread.{Begins, MayFail, found_of, too_long, unfinished, whole, with_feeds}
+use Rattle.streams.specs.Ends.{ReadSoFar}
+use Rattle.ahci_script.specs.Unread.{Begins, FailsReading, MayFail, found_of, too_long, unfinished, whole, with_feeds}
 use Rattle.ahci_script.specs.declared.stopped.Stopped.{Stopped}
 use Rattle.ahci_script.specs.declared.stopped.Stopped.TheVariants as stopped
 
@@ -63,3 +64,8 @@ StopsReading Takes Refuses r s from to stopped.Read =
     TakenFirst Takes r from (λ lines remaining rest at. (found_of rest ≡ unfinished) × MayFail (length (with_feeds lines ++ rest)) remaining s × (to ≡ at))
 StopsReading Takes Refuses r s from to (stopped.Taker fault) =
     TakenFirst Takes r from (λ lines remaining rest at. (remaining ≡ s) × ((found : Begins) × Comes s rest found × Refuses at (length lines + 1) found fault to))
+
+-- what the reads told where the lines were not all taken: one failed, or a byte came after the limit; or none failed by then
+abbrev pub ReadsAs : {F : Type 0} → ReadSoFar → ReadSoFar → Stopped F → Type 0
+ReadsAs old new stopped.Read = FailsReading new
+ReadsAs old new other = new.failed ≡ old.failed

@@ -26,7 +26,7 @@ abbrev pub left_in : {A : _} → Reading A → ℕ
 left_in r = 2 * (INPUT_LIMIT - r.input.came) + length r.input.bytes
 
 -- lines were taken
-pub record Reads {S : Type 0} (Takes : Step S) (from to : Stand S) : Type 0 where
+pub record HasRead {S : Type 0} (Takes : Step S) (from to : Stand S) : Type 0 where
   pub lines : List (List ℕ)
   pub came : List ℕ
   pub taken : Taken Takes from.state (from.line + 1) lines to.state
@@ -38,14 +38,14 @@ pub record Reads {S : Type 0} (Takes : Step S) (from to : Stand S) : Type 0 wher
 -- all lines were taken, and the last
 pub record Ends {S : Type 0} (Takes : Step S) (from to : Stand S) : Type 0 where
   pub before : S
-  pub reads : Reads Takes from (record to { state = before })
+  pub reads : HasRead Takes from (record to { state = before })
   pub ended : MayEnd to.remaining to.unread
   pub taken : Takes before (to.line + 1) (last_of to.unread) to.state
 
 -- a fault ends the reading after lines that were taken
 abbrev pub Halts : {S F : Type 0} → Step S → (S → ℕ → Begins → F → S → Type 0) → Stand S → Stand S → Stopped F → Type 0
 Halts Takes Refuses from to stopped.Read =
-    (r : Option (List ℕ)) × Reads Takes from (record to { remaining = r }) × (found_of to.unread ≡ unfinished) × MayFail to.came r to.remaining
+    (r : Option (List ℕ)) × HasRead Takes from (record to { remaining = r }) × (found_of to.unread ≡ unfinished) × MayFail to.came r to.remaining
 Halts Takes Refuses from to (stopped.Taker fault) =
-    (before : _) × Reads Takes from (record to { state = before }) × ((found : Begins) × Comes to.remaining to.unread found × Refuses before (to.line + 1) found fault to.state)
+    (before : _) × HasRead Takes from (record to { state = before }) × ((found : Begins) × Comes to.remaining to.unread found × Refuses before (to.line + 1) found fault to.state)
 Halts Takes Refuses from to stopped.OutOfMemory = ⊥

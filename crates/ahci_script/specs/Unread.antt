@@ -1,8 +1,9 @@
 -- What a script's reader holds: the bytes that came and were not yet taken as lines.
-use Rattle.std.specs.Prelude.{◌≡◌, ℕ, ◌+◌, ◌<◌, List, [], ◌∷◌, ◌++◌, Option, Some, None, length, take, position, nat_le, ◌==◌, if◌then◌else◌, ◌⊎◌}
+use Rattle.std.specs.Prelude.{◌≡◌, ℕ, ◌+◌, ◌<◌, List, [], ◌∷◌, ◌++◌, Option, Some, None, true, length, take, position, nat_le, ◌==◌, if◌then◌else◌, ◌⊎◌}
 use Rattle.ahci_script.specs.declared.input.Found.{Found}
 use Rattle.ahci_script.specs.declared.input.Found.TheVariants.{Line, TooLong, Unfinished}
 use Rattle.std.specs.Io.KnownBytes.{Consumes, Keeps}
+use Rattle.streams.specs.Ends.{ReadSoFar}
 
 -- bytes that came and were not yet taken, and how many came in all
 pub record Unread : Type 0 where
@@ -48,6 +49,10 @@ pub record Grows (old new : Unread) (remaining_old remaining_new : Option (List 
 -- where reading may fail, after so many bytes: the reader failed and gave none, or 67,108,864 bytes came and there are more
 abbrev pub MayFail : ℕ → Option (List ℕ) → Option (List ℕ) → Type 0
 MayFail came remaining_old remaining_new = Keeps remaining_old remaining_new ⊎ (came ≡ 67108864)
+
+-- why reading failed, by what the reads told: one of them failed, or a byte came after 67,108,864
+abbrev pub FailsReading : ReadSoFar → Type 0
+FailsReading reads = (reads.failed ≡ true) ⊎ (67108864 < reads.came)
 
 -- lines with their line feeds, joined
 abbrev pub with_feeds : List (List ℕ) → List ℕ

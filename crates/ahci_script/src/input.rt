@@ -1,11 +1,12 @@
-ghost use Rattle.std.specs.Prelude.{◌≡◌, ℕ, ◌+◌, ◌<◌, ◌≤◌, [], ◌∷◌, ◌++◌, drop, length, IfOk, OnErr, Some, None, MatchBool, vec_capacity, vec_len};
+ghost use Rattle.std.specs.Prelude.{◌≡◌, ℕ, ◌+◌, ◌<◌, ◌≤◌, [], ◌∷◌, ◌++◌, drop, length, IfOk, OnErr, OnOk, Some, None, MatchBool, vec_capacity, vec_len};
 ghost use Rattle.std.specs.Io.KnownBytes.{Consumes, IsAtEnd};
-ghost use Rattle.ahci_script.specs.Unread.{Grows, MayFail, found_of, line_end, shown};
+ghost use Rattle.ahci_script.specs.Unread.{FailsReading, Grows, MayFail, found_of, line_end, shown};
 
 use crate::takes_lines::TakesLines;
 use std::alloc::{AllocError, Allocator, Global};
 use std::io::Read;
 use std::marker::Model;
+use streams::{InputFailed, Reads};
 
 /// How many bytes a line has at most, without its line feed.
 pub const LINE_LIMIT: usize = 4096;
@@ -15,10 +16,6 @@ pub const INPUT_LIMIT: u64 = 67_108_864;
 
 /// How many bytes are asked for at once.
 const CHUNK: usize = 16384;
-
-/// A read failed, or the input is longer than its limit.
-#[derive(Clone, Copy, Debug, PartialEq, Eq)]
-pub struct InputFailed;
 
 /// What the unread bytes begin with.
 #[derive(Clone, Copy, Debug, PartialEq, Eq)]
@@ -97,11 +94,13 @@ impl<A: Allocator> Input<A> {
     pub fn fill<R: Read, T: TakesLines<O>, O>(
         &mut self,
         reader: &mut R,
+        reads: &mut Reads,
         taker: &T,
         output: &O,
     ) -> Result<bool, InputFailed>
         requires short { length self.old.bytes ≤ LINE_LIMIT }
         requires sent { T.IsSent (taker.now, output.now) }
+        requires counted { self.old.came ≤ reads.old.came }
         ensures ok { IfOk result (λ more. MatchBool more
             (Grows self.old self.new (R.remaining reader.old) (R.remaining reader.new))
             ((self.new ≡ self.old) × IsAtEnd (R.remaining reader.new)
@@ -110,12 +109,13 @@ impl<A: Allocator> Input<A> {
         ensures failed { OnErr result
             (MayFail self.old.came (R.remaining reader.old) (R.remaining reader.new)) }
         ensures err { OnErr result (self.new ≡ self.old) }
+        ensures counted { self.new.came ≤ reads.new.came }
+        ensures unfailed { OnOk result (reads.new.failed ≡ reads.old.failed) }
+        ensures why { OnErr result (FailsReading reads.new) }
     {
         let mut chunk = [0; CHUNK];
         let wanted = self.wanted();
-        let Ok(count) = reader.read(&mut chunk[..wanted]) else {
-            return Err(InputFailed);
-        };
+        let count = reads.read(reader, &mut chunk[..wanted])?;
         if count == 0 {
             return Ok(false);
         }

@@ -3,6 +3,7 @@ ghost use Rattle.std.specs.Io.KnownBytes.{Appends};
 ghost use Rattle.ahci_script.specs.Answers.{answer_text};
 ghost use Rattle.ahci_script.specs.Results.{told, told_text};
 ghost use Rattle.ahci_script.specs.Said.{said};
+ghost use Rattle.streams.specs.Ends.{with_failed_write, with_flush};
 
 use crate::answer::ScriptAnswer;
 use crate::result_line::ResultLine;
@@ -11,13 +12,10 @@ use crate::text::{push, push_line, room_for};
 use std::alloc::{AllocError, Allocator, Global};
 use std::io::Write;
 use std::marker::Model;
+use streams::{OutputFailed, Writes};
 
 /// How much text waits before it is worth a write.
 const FULL: usize = 16384;
-
-/// The output took no more bytes: a write or a flush failed, or a write took no byte of some.
-#[derive(Clone, Copy, Debug, PartialEq, Eq)]
-pub struct OutputFailed;
 
 /// The answers that wait for the output, as text. Each ends in a line feed.
 #[derive(Drop)]
@@ -105,31 +103,21 @@ impl<A: Allocator> Output<A> {
     }
 
     /// Writes all that waits, and flushes. After a failure some first part of it was written.
-    pub fn send<W: Write>(&mut self, writer: &mut W) -> Result<(), OutputFailed>
+    pub fn send<W: Write>(
+        &mut self,
+        writer: &mut W,
+        writes: &mut Writes,
+    ) -> Result<(), OutputFailed>
         ensures ok { OnOk result (self.new ≡ []) }
         ensures written { OnOk result (Appends (W.contents writer.old) (W.contents writer.new) self.old) }
         ensures err { OnErr result (self.new ≡ self.old) }
         ensures part { OnErr result
             ((n : ℕ) × Appends (W.contents writer.old) (W.contents writer.new) (take n self.old)) }
+        ensures flushed { OnOk result (writes.new ≡ with_flush writes.old) }
+        ensures failed { OnErr result (writes.new ≡ with_failed_write writes.old) }
     {
-        write_whole(writer, &self.waiting)?;
+        writes.write_whole(writer, &self.waiting)?;
         self.waiting.clear();
         Ok(())
     }
-}
-
-/// Writes all of the bytes, and flushes. After a failure some first part of them was written.
-fn write_whole<W: Write>(writer: &mut W, bytes: &[u8]) -> Result<(), OutputFailed>
-    ensures written { OnOk result (Appends (W.contents writer.old) (W.contents writer.new) bytes.now) }
-    ensures part { OnErr result
-        ((n : ℕ) × Appends (W.contents writer.old) (W.contents writer.new) (take n bytes.now)) }
-{
-    let mut sent = 0;
-    while sent < bytes.len() {
-        match writer.write(&bytes[sent..]) {
-            Ok(n) if n > 0 => sent += n,
-            _ => return Err(OutputFailed),
-        }
-    }
-    writer.flush().map_err(|_| OutputFailed)
 }

@@ -1,7 +1,7 @@
 //! The lines of an input, read as they come.
 
-ghost use Rattle.std.specs.Prelude.{◌≤◌, ◌+◌, length, IfErr, OnOk};
-ghost use Rattle.ahci_script.specs.Reading.{ReadsAll, StopsReading};
+ghost use Rattle.std.specs.Prelude.{◌≡◌, ◌≤◌, ◌+◌, length, IfErr, OnOk};
+ghost use Rattle.ahci_script.specs.Reading.{ReadsAll, ReadsAs, StopsReading};
 ghost use Rattle.ahci_script.specs.declared.input.TheConstants.{INPUT_LIMIT};
 
 use crate::input::{Found, INPUT_LIMIT, Input};
@@ -9,6 +9,7 @@ use crate::stopped::Stopped;
 use crate::takes_lines::TakesLines;
 use std::alloc::{AllocError, Allocator};
 use std::io::Read;
+use streams::Reads;
 
 /// An input that is read line by line: what came and is not yet taken, and how many lines were taken.
 #[derive(Drop)]
@@ -22,8 +23,8 @@ struct Reading<A: Allocator> {
 
 impl<A: Allocator> Reading<A> {
     ghost use Rattle.std.specs.Prelude.{◌≡◌, ◌<◌, ◌≤◌, [], length, false, true, IfErr, IfOk, OnOk};
-    ghost use Rattle.ahci_script.specs.Reading.{MayEnd, last_of};
-    ghost use Rattle.ahci_script.specs.Standing.{Ends, Halts, Reads, left_in, stand};
+    ghost use Rattle.ahci_script.specs.Reading.{MayEnd, ReadsAs, last_of};
+    ghost use Rattle.ahci_script.specs.Standing.{Ends, Halts, HasRead, left_in, stand};
     ghost use Rattle.ahci_script.specs.Unread.{found_of, shown, unfinished};
     ghost use Rattle.ahci_script.specs.declared.input.TheConstants.{LINE_LIMIT};
 
@@ -41,15 +42,20 @@ impl<A: Allocator> Reading<A> {
     fn take_all<T: TakesLines<O>, O, R: Read>(
         &mut self,
         reader: &mut R,
+        reads: &mut Reads,
         taker: &mut T,
         output: &mut O,
     ) -> Result<(), Stopped<T::Fault>>
+        requires counted { self.old.input.came ≤ reads.old.came }
         ensures ok { OnOk result (Ends T.Takes (stand (R.remaining reader.old) (taker.old, output.old) self.old)
             (stand (R.remaining reader.new) (taker.new, output.new) self.new)) }
         ensures err { IfErr result (Halts T.Takes T.Refuses (stand (R.remaining reader.old) (taker.old, output.old) self.old)
             (stand (R.remaining reader.new) (taker.new, output.new) self.new)) }
+        ensures counted { self.new.input.came ≤ reads.new.came }
+        ensures unfailed { OnOk result (reads.new.failed ≡ reads.old.failed) }
+        ensures why { IfErr result (ReadsAs reads.old reads.new) }
     {
-        while self.turn(reader, taker, output)? {}
+        while self.turn(reader, reads, taker, output)? {}
         match taker.take(self.line + 1, self.last(), output) {
             Ok(()) => Ok(()),
             Err(fault) => Err(Stopped::Taker(fault)),
@@ -71,19 +77,24 @@ impl<A: Allocator> Reading<A> {
     fn turn<T: TakesLines<O>, O, R: Read>(
         &mut self,
         reader: &mut R,
+        reads: &mut Reads,
         taker: &mut T,
         output: &mut O,
     ) -> Result<bool, Stopped<T::Fault>>
-        ensures ok { OnOk result (Reads T.Takes (stand (R.remaining reader.old) (taker.old, output.old) self.old)
+        requires counted { self.old.input.came ≤ reads.old.came }
+        ensures ok { OnOk result (HasRead T.Takes (stand (R.remaining reader.old) (taker.old, output.old) self.old)
             (stand (R.remaining reader.new) (taker.new, output.new) self.new)) }
         ensures err { IfErr result (Halts T.Takes T.Refuses (stand (R.remaining reader.old) (taker.old, output.old) self.old)
             (stand (R.remaining reader.new) (taker.new, output.new) self.new)) }
+        ensures counted { self.new.input.came ≤ reads.new.came }
+        ensures unfailed { OnOk result (reads.new.failed ≡ reads.old.failed) }
+        ensures why { IfErr result (ReadsAs reads.old reads.new) }
         ensures end { IfOk result (λ more. more ≡ false → MayEnd (R.remaining reader.new) self.new.input.bytes) }
         ensures less { IfOk result (λ more. more ≡ true → left_in self.new < left_in self.old) }
     {
         let length = match self.input.find_line() {
             Found::TooLong => return Ok(false),
-            Found::Unfinished => return self.more(reader, taker, output),
+            Found::Unfinished => return self.more(reader, reads, taker, output),
             Found::Line(line) => match taker.take(self.line + 1, Found::Line(line), output) {
                 Ok(()) => line.len(),
                 Err(fault) => return Err(Stopped::Taker(fault)),
@@ -98,20 +109,25 @@ impl<A: Allocator> Reading<A> {
     fn more<T: TakesLines<O>, O, R: Read>(
         &mut self,
         reader: &mut R,
+        reads: &mut Reads,
         taker: &mut T,
         output: &mut O,
     ) -> Result<bool, Stopped<T::Fault>>
+        requires counted { self.old.input.came ≤ reads.old.came }
         requires short { length self.old.input.bytes ≤ LINE_LIMIT }
         requires unfinished { found_of self.old.input.bytes ≡ unfinished }
-        ensures ok { OnOk result (Reads T.Takes (stand (R.remaining reader.old) (taker.old, output.old) self.old)
+        ensures ok { OnOk result (HasRead T.Takes (stand (R.remaining reader.old) (taker.old, output.old) self.old)
             (stand (R.remaining reader.new) (taker.new, output.new) self.new)) }
         ensures err { IfErr result (Halts T.Takes T.Refuses (stand (R.remaining reader.old) (taker.old, output.old) self.old)
             (stand (R.remaining reader.new) (taker.new, output.new) self.new)) }
+        ensures counted { self.new.input.came ≤ reads.new.came }
+        ensures unfailed { OnOk result (reads.new.failed ≡ reads.old.failed) }
+        ensures why { IfErr result (ReadsAs reads.old reads.new) }
         ensures end { IfOk result (λ more. more ≡ false → MayEnd (R.remaining reader.new) self.new.input.bytes) }
         ensures less { IfOk result (λ more. more ≡ true → left_in self.new < left_in self.old) }
     {
         match taker.take(self.line + 1, Found::Unfinished, output) {
-            Ok(()) => Ok(self.input.fill(reader, &*taker, &*output)?),
+            Ok(()) => Ok(self.input.fill(reader, reads, &*taker, &*output)?),
             Err(fault) => Err(Stopped::Taker(fault)),
         }
     }
@@ -121,20 +137,23 @@ impl<A: Allocator> Reading<A> {
 /// than 4,096 bytes is the last.
 ///
 /// # Errors
-/// `Read` where the input fails or has more than 67,108,864 bytes; `Taker` where a line is refused; `OutOfMemory`, before
+/// `Read` where a read failed, or the input has more than 67,108,864 bytes; `Taker` where a line is refused; `OutOfMemory`, before
 /// anything is read.
 pub fn take_lines<T: TakesLines<O>, O, R: Read, A: Allocator>(
     alloc: A,
     reader: &mut R,
+    reads: &mut Reads,
     taker: &mut T,
     output: &mut O,
 ) -> Result<(), Stopped<T::Fault>>
     ensures ok { OnOk result (ReadsAll T.Takes (R.remaining reader.old) (R.remaining reader.new) (taker.old, output.old) (taker.new, output.new)) }
     ensures err { IfErr result (StopsReading T.Takes T.Refuses (R.remaining reader.old) (R.remaining reader.new)
         (taker.old, output.old) (taker.new, output.new)) }
+    ensures unfailed { OnOk result (reads.new.failed ≡ reads.old.failed) }
+    ensures why { IfErr result (ReadsAs reads.old reads.new) }
 {
     let Ok(mut reading) = Reading::new(alloc) else {
         return Err(Stopped::OutOfMemory);
     };
-    reading.take_all(reader, taker, output)
+    reading.take_all(reader, reads, taker, output)
 }

@@ -1,4 +1,4 @@
-use crate::input::InputFailed;
+use streams::InputFailed;
 
 /// Why an input was not read to its end.
 #[derive(Clone, Copy, Debug, PartialEq, Eq)]

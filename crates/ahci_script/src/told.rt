@@ -5,6 +5,7 @@ ghost use Rattle.ahci_script.specs.Said.{said};
 use crate::answer::ScriptAnswer;
 use crate::output::Output;
 use std::alloc::{AllocError, Allocator};
+use streams::Writes;
 
 /// The text of an answer, without its line feed.
 ///
@@ -20,7 +21,7 @@ pub fn answer_bytes<A: Allocator + Copy, B: Allocator>(
     let mut line = Output::new(alloc);
     line.put(answer)?;
     let mut text = Vec::new(alloc);
-    if line.send(&mut text).is_err() {
+    if line.send(&mut text, &mut Writes::new()).is_err() {
         return Err(AllocError); // a `Vec` takes all bytes that it has room for
     }
     text.truncate(text.len().saturating_sub(1));

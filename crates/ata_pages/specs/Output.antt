@@ -1,10 +1,13 @@
 -- What is written of a page.
-use Rattle.std.specs.Prelude.{ℕ, Bool, if◌then◌else◌, List}
+use Rattle.std.specs.Prelude.{◌≡◌, ℕ, Bool, if◌then◌else◌, List}
+use Rattle.streams.specs.Ends.{WrittenSoFar, with_failed_write}
 use Rattle.ncq_core.specs.DiskState.{DiskError}
 use Rattle.ncq_core.specs.Identify.{identify_page}
 use Rattle.ncq_core.specs.Log.{log_page}
 use Rattle.ata_pages.specs.IdentifyText.{identify_text}
 use Rattle.ata_pages.specs.LogText.{log_text}
+use Rattle.ata_pages.specs.declared.page_fault.PageFault.{PageFault}
+use Rattle.ata_pages.specs.declared.page_fault.PageFault.TheVariants as fault
 
 -- the identify page of a disk of s sectors with d tags: its bytes, or its text
 abbrev pub identify_output : ℕ → ℕ → Bool → List ℕ
@@ -18,3 +21,8 @@ error_at tag error lba = record { tag = tag; error = error; lba = lba }
 abbrev pub log_output : ℕ → ℕ → ℕ → Bool → List ℕ
 log_output tag error lba raw =
     if raw then log_page (error_at tag error lba) else log_text (log_page (error_at tag error lba))
+
+-- how the writes went where a page is not written to its end: a write or a flush failed, and the fault is that; or none was tried
+abbrev pub WritesAs : WrittenSoFar → WrittenSoFar → PageFault → Type 0
+WritesAs old new fault.Write = new ≡ with_failed_write old
+WritesAs old new fault.OutOfMemory = new ≡ old

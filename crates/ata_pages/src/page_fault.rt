@@ -2,6 +2,7 @@ ghost use Rattle.ata_pages.specs.declared.page_fault.PageFault.TheVariants as th
 ghost use Rattle.std.specs.Prelude.{◌≡◌};
 
 use std::alloc::AllocError;
+use streams::OutputFailed;
 
 /// Why a page was not written to its end.
 #[derive(Clone, Copy, Debug, PartialEq, Eq)]
@@ -17,5 +18,13 @@ impl From<AllocError> for PageFault {
 
     fn from(_refused: AllocError) -> PageFault {
         PageFault::OutOfMemory
+    }
+}
+
+impl From<OutputFailed> for PageFault {
+    ghost from_gives = { λ _ fault. fault ≡ the-fault.Write };
+
+    fn from(_failed: OutputFailed) -> PageFault {
+        PageFault::Write
     }
 }

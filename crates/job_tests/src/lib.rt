@@ -5,6 +5,6 @@
 #[cfg(test)]
 mod common;
 #[cfg(test)]
-mod lists;
+mod failing;
 #[cfg(test)]
-mod streams;
+mod lists;

@@ -2,7 +2,7 @@ use Rattle.std.proofs.Common.{sym}
 use Rattle.ahci_script.specs.Standing.{Halts, stand}
 use Rattle.ahci_script.specs.declared.stopped.Stopped.TheVariants.{Read}
 use Rattle.ahci_script.proofs.FoundLemmas.{if_err_from}
-use Rattle.ahci_script.proofs.ReadingLemmas.{Reads-more, halts_at, halts_reading}
+use Rattle.ahci_script.proofs.ReadingLemmas.{HasRead-more, halts_at, halts_reading}
 use Rattle.ahci_script.specs.Unread.{unfinished}
 use Rattle.ahci_script.proofs.reading.Reading.more.Goals as goal
 
@@ -16,4 +16,4 @@ returns-in_err-fill-in-Ok-clause-err g c =
     (halts_reading g.T.TakesLines.Takes g.T.TakesLines.Refuses c.args.self.now.input c.fill.new.self _ _ _ _ _ c.in-Ok.ensures.ok c.requires.unfinished c.in_err-fill-in-Ok.ensures.failed c.in_err-fill-in-Ok.ensures.err)
 
 pub returns-in_ok-fill-in-Ok-clause-ok : goal.returns-in_ok-fill-in-Ok-clause-ok
-returns-in_ok-fill-in-Ok-clause-ok g c = Reads-more _ c.args.self.now.input c.fill.new.self _ _ _ _ _ c.in-Ok.ensures.ok c.in_ok-fill-in-Ok.ensures.ok
+returns-in_ok-fill-in-Ok-clause-ok g c = HasRead-more _ c.args.self.now.input c.fill.new.self _ _ _ _ _ c.in-Ok.ensures.ok c.in_ok-fill-in-Ok.ensures.ok

@@ -1,10 +1,10 @@
 use Rattle.ahci_script.specs.Standing.{stand}
 use Rattle.ahci_script.specs.Unread.{whole}
-use Rattle.ahci_script.proofs.ReadingLemmas.{Reads-line, Reads-refl, halts_at}
+use Rattle.ahci_script.proofs.ReadingLemmas.{HasRead-line, HasRead-refl, halts_at}
 use Rattle.ahci_script.proofs.reading.Reading.turn.Goals as goal
 
 pub returns-in-TooLong-clause-ok : goal.returns-in-TooLong-clause-ok
-returns-in-TooLong-clause-ok g c = Reads-refl _
+returns-in-TooLong-clause-ok g c = HasRead-refl _
 
 pub returns-in-Err-clause-err : goal.returns-in-Err-clause-err
 returns-in-Err-clause-err g c =
@@ -12,4 +12,4 @@ returns-in-Err-clause-err g c =
 
 pub returns-clause-ok : goal.returns-clause-ok
 returns-clause-ok g c =
-    Reads-line _ c.args.self.now.input.bytes c.in-Line.line.now _ _ _ _ _ _ c.in-Line.ensures c.in-Ok.ensures.ok c.skip.ensures.bytes c.skip.ensures.came
+    HasRead-line _ c.args.self.now.input.bytes c.in-Line.line.now _ _ _ _ _ _ c.in-Line.ensures c.in-Ok.ensures.ok c.skip.ensures.bytes c.skip.ensures.came
