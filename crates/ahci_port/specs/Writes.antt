@@ -1,7 +1,7 @@
 -- What a word does that a driver writes to a register (AHCI 1.3.1, section 3.3): PxSACT announces a command and PxCI issues it,
 -- ST of PxCMD off and on is the way back from a failure, and every other register takes the word as its table says.
-use Rattle.std.specs.Prelude.{◌≡◌, ◌≢◌, ℕ, ◌*◌, ◌/◌, ◌^◌, Bool, true, false, ◌&&◌, List, length, take, drop, Option, None, Some, Result, Ok, Err, nat_eq, find, IsSomeAnd}
-use Rattle.std.specs.List.{range_with_len}
+use Rattle.std.specs.Prelude.{◌≡◌, ◌≢◌, ℕ, zero, suc, ◌*◌, ◌/◌, Bool, true, false, ◌&&◌, if◌then◌else◌, List, length, take, drop, Result, Ok, Err}
+use Rattle.ahci_regs.specs.PortState.{PortState}
 use Rattle.ahci_regs.specs.Writing.{written}
 use Rattle.ahci_regs.specs.RegisterTable.{register_at}
 use Rattle.ahci_regs.specs.declared.fault.RegFault.{RegFault}
@@ -12,15 +12,17 @@ use Rattle.ahci_table.specs.Fit.{IsFit}
 use Rattle.ahci_table.specs.Window.{WindowState}
 use Rattle.ncq_journal.specs.Halted.{halted}
 use Rattle.ncq_journal.specs.Phase.{phase, is_failed}
-use Rattle.word_bits.specs.Places.{bits, has_place, minus, union, without_place, word_of}
+use Rattle.word_bits.specs.Places.{bits, has_place, minus, no_places, only_below, union, word_of}
 use Rattle.ahci_port.specs.Faults.{MayTake, RefusesIssue, is_held}
-use Rattle.ahci_port.specs.PortView.{PortView, next_number}
+use Rattle.ahci_port.specs.PortView.{PortView}
 use Rattle.ahci_port.specs.Steps.{IsIssued, IsRecovered, IsReissued}
+use Rattle.ahci_port.specs.declared.fault.IssueFault.{IssueFault}
+use Rattle.ahci_port.specs.declared.fault.IssueFault.TheVariants as issue
 use Rattle.ahci_port.specs.declared.fault.WriteFault.{WriteFault}
 use Rattle.ahci_port.specs.declared.fault.WriteFault.TheVariants as write_fault
 use Rattle.ahci_port.specs.declared.pending.Pending.{Pending}
 use Rattle.ahci_port.specs.declared.written.Written.{Written}
-use Rattle.ahci_port.specs.declared.written.Written.TheVariants.{Noted, Issued, Reissued, Recovered}
+use Rattle.ahci_port.specs.declared.written.Written.TheVariants.{Noted, Commanded, Recovered}
 
 -- before the first write nothing is pending
 abbrev pub nothing_pending : Pending
@@ -41,44 +43,64 @@ window_from list windows tag = record {
 abbrev pub IsSame : PortView → PortView → Written → Type 0
 IsSame old new did = (did ≡ Noted) × (new ≡ old)
 
--- PxSACT (section 3.3.13): a bit that is set there announces a command, and one that it has already changes nothing
+-- the registers as a driver sees them between its writes: PxSACT has what is announced, and once ST is off after a failure the
+-- port is stopped and has no command
+abbrev pub shown : PortView → Pending → PortState
+shown port pending =
+    if pending.stopped && halted port.past then record port.registers { st = false; sact = no_places; ci = no_places }
+    else record port.registers { sact = union port.registers.sact (bits pending.sact) }
+
+-- PxSACT (section 3.3.13): the bit of a slot that the port has announces a command, and one that is set already changes nothing
 pub record TakesSact (word : ℕ) (old new : PortView) (before after : Pending) (did : Written) : Type 0 where
   pub running : halted old.past ≡ false
   pub same : IsSame old new did
-  pub sact_is : bits after.sact ≡ union (bits before.sact) (minus (bits word) old.registers.sact)
+  pub sact_is : bits after.sact ≡ union (bits before.sact) (minus (only_below old.depth (bits word)) old.registers.sact)
   pub stopped_same : after.stopped ≡ before.stopped
 
--- PxCI (section 3.3.14): the word of the bits that are newly set
-abbrev pub newly_set : PortView → ℕ → ℕ
-newly_set port word = word_of (minus (bits word) port.registers.ci)
+-- the answer names these slots
+abbrev pub HasCommanded : List Bool → Written → Type 0
+HasCommanded slots (Commanded word) = bits word ≡ slots
+HasCommanded slots other = ⊥
 
--- the slot whose bit alone a word has
-abbrev pub slot_of : ℕ → Option ℕ
-slot_of word = find (λ tag. nat_eq (2 ^ tag) word) (range_with_len 0 32)
+-- PxCI (section 3.3.14): the slots whose bits are newly set
+abbrev pub newly_set : PortView → ℕ → List Bool
+newly_set port word = minus (bits word) port.registers.ci
+
+-- the word of those that were not announced
+abbrev pub unannounced : PortView → Pending → ℕ → ℕ
+unannounced port before word = word_of (minus (newly_set port word) (bits before.sact))
 
 -- a slot's command is issued, by the window that the memory has for it; a held one is issued again
-abbrev pub IsCommanded : List ℕ → List ℕ → ℕ → PortView → PortView → Written → Type 0
-IsCommanded list windows tag old new (Issued number) =
-    (is_held (phase old.past tag) ≡ false) × (number ≡ next_number old) × MayTake old tag × IsFit (window_from list windows tag)
-    × IsIssued (window_from list windows tag) old new
-IsCommanded list windows tag old new (Reissued held) = (held ≡ tag) × (is_held (phase old.past tag) ≡ true) × IsReissued tag old new
-IsCommanded list windows tag old new other = ⊥
+abbrev pub CommandsBy : (held : Bool) → List ℕ → List ℕ → ℕ → PortView → PortView → Type 0
+CommandsBy true list windows tag old new = IsReissued tag old new
+CommandsBy false list windows tag old new =
+    MayTake old tag × IsFit (window_from list windows tag) × IsIssued (window_from list windows tag) old new
 
--- the command of an announced slot is issued, and no longer announced
-pub record CommandsSlot (list windows : List ℕ) (old new : PortView) (before after : Pending) (did : Written) (tag : ℕ) : Type 0 where
-  pub announced : has_place (bits before.sact) tag ≡ true
-  pub commanded : IsCommanded list windows tag old new did
-  pub sact_is : bits after.sact ≡ without_place (bits before.sact) tag
+-- where its bit is newly set
+abbrev pub CommandsSlot : (set : Bool) → List ℕ → List ℕ → ℕ → PortView → PortView → Type 0
+CommandsSlot true list windows tag old new = CommandsBy (is_held (phase old.past tag)) list windows tag old new
+CommandsSlot false list windows tag old new = new ≡ old
+
+-- one thing happens, and then another
+pub record Follow (first second : PortView → Type 0) : Type 0 where
+  pub middle : PortView
+  pub one : first middle
+  pub other : second middle
+
+-- the commands of the slots below a place are issued, the lowest first
+unfoldable pub CommandsBelow : ℕ → List Bool → List ℕ → List ℕ → PortView → PortView → Type 0
+CommandsBelow zero slots list windows old new = new ≡ old
+CommandsBelow (suc n) slots list windows old new =
+    Follow (λ middle. CommandsBelow n slots list windows old middle) (λ middle. CommandsSlot (has_place slots n) list windows n middle new)
+
+-- those of all newly set bits are issued, and no longer announced
+pub record TakesCi (word : ℕ) (list windows : List ℕ) (old new : PortView) (before after : Pending) (did : Written) : Type 0 where
+  pub running : halted old.past ≡ false
+  pub announced : unannounced old before word ≡ 0
+  pub commanded : CommandsBelow 32 (newly_set old word) list windows old new
+  pub did_is : HasCommanded (newly_set old word) did
+  pub sact_is : bits after.sact ≡ minus (bits before.sact) (newly_set old word)
   pub stopped_same : after.stopped ≡ before.stopped
-
--- no bit is newly set, or that of one slot
-abbrev pub TakesNew : (none : Bool) → ℕ → List ℕ → List ℕ → PortView → PortView → Pending → Pending → Written → Type 0
-TakesNew true new_bits list windows old new before after did = IsSame old new did × (after ≡ before)
-TakesNew false new_bits list windows old new before after did = IsSomeAnd (slot_of new_bits) (CommandsSlot list windows old new before after did)
-
-abbrev pub TakesCi : ℕ → List ℕ → List ℕ → PortView → PortView → Pending → Pending → Written → Type 0
-TakesCi word list windows old new before after did =
-    (halted old.past ≡ false) × TakesNew (nat_eq (newly_set old word) 0) (newly_set old word) list windows old new before after did
 
 -- ST goes on: where it was off after a failure, the port recovers
 abbrev pub Starts : (back : Bool) → PortView → PortView → Written → Type 0
@@ -127,28 +149,27 @@ abbrev pub RefusesSact : PortView → WriteFault → Type 0
 RefusesSact port write_fault.Halted = halted port.past ≡ true
 RefusesSact port other = ⊥
 
--- why the command of an announced slot is not issued
-abbrev pub RefusesCommand : List ℕ → List ℕ → PortView → ℕ → WriteFault → Type 0
-RefusesCommand list windows port tag (write_fault.Issue refusal) =
-    (is_held (phase port.past tag) ≡ false) × RefusesIssue port (window_from list windows tag) refusal
-RefusesCommand list windows port tag write_fault.OutOfMemory = is_held (phase port.past tag) ≡ false
-RefusesCommand list windows port tag other = ⊥
+-- why the command of a slot is not issued
+abbrev pub RefusesSlot : List ℕ → List ℕ → ℕ → PortView → IssueFault → Type 0
+RefusesSlot list windows tag port issue.Halted = halted port.past ≡ true
+RefusesSlot list windows tag port issue.OutOfMemory = is_held (phase port.past tag) ≡ false
+RefusesSlot list windows tag port fault = (is_held (phase port.past tag) ≡ false) × RefusesIssue port (window_from list windows tag) fault
 
--- why that of a slot is not
-abbrev pub RefusesSlot : List ℕ → List ℕ → PortView → Pending → ℕ → WriteFault → Type 0
-RefusesSlot list windows port before tag write_fault.NotQueued = has_place (bits before.sact) tag ≡ false
-RefusesSlot list windows port before tag fault = (has_place (bits before.sact) tag ≡ true) × RefusesCommand list windows port tag fault
+-- why a write of PxCI is not taken, or not wholly
+abbrev pub RefusesCi : ℕ → List ℕ → List ℕ → PortView → PortView → Pending → WriteFault → Type 0
+RefusesCi word list windows old new before write_fault.Halted = halted old.past ≡ true
+RefusesCi word list windows old new before write_fault.NotQueued = (halted old.past ≡ false) × (unannounced old before word ≢ 0)
+RefusesCi word list windows old new before (write_fault.Issue slot fault) =
+    (halted old.past ≡ false) × (unannounced old before word ≡ 0) × (has_place (newly_set old word) slot ≡ true)
+    × RefusesSlot list windows slot new fault
+RefusesCi word list windows old new before other = ⊥
 
--- why those of newly set bits are not
-abbrev pub RefusesNew : ℕ → List ℕ → List ℕ → PortView → Pending → WriteFault → Type 0
-RefusesNew new_bits list windows port before write_fault.TooManySlots = slot_of new_bits ≡ None
-RefusesNew new_bits list windows port before fault = IsSomeAnd (slot_of new_bits) (λ tag. RefusesSlot list windows port before tag fault)
-
--- why a write of PxCI is not taken
-abbrev pub RefusesCi : ℕ → List ℕ → List ℕ → PortView → Pending → WriteFault → Type 0
-RefusesCi word list windows port before write_fault.Halted = halted port.past ≡ true
-RefusesCi word list windows port before fault =
-    (halted port.past ≡ false) × (newly_set port word ≢ 0) × RefusesNew (newly_set port word) list windows port before fault
+-- what a refused write leaves: all as it was, but for the commands of the slots below the one whose command is not issued
+abbrev pub Leaves : ℕ → List ℕ → List ℕ → PortView → PortView → Pending → Pending → WriteFault → Type 0
+Leaves word list windows old new before after (write_fault.Issue slot fault) =
+    CommandsBelow slot (newly_set old word) list windows old new
+    × (bits after.sact ≡ minus (bits before.sact) (only_below slot (newly_set old word))) × (after.stopped ≡ before.stopped)
+Leaves word list windows old new before after other = (new ≡ old) × (after ≡ before)
 
 -- why a write of PxCMD is not taken
 abbrev pub RefusesStart : ℕ → PortView → Pending → WriteFault → Type 0
@@ -165,12 +186,12 @@ RefusesWord register word port (write_fault.Register refusal) = written port.reg
 RefusesWord register word port other = ⊥
 
 -- a write that is not taken
-abbrev pub RefusesAt : Result Register RegFault → ℕ → List ℕ → List ℕ → PortView → Pending → WriteFault → Type 0
-RefusesAt (Err refusal) word list windows port before fault = fault ≡ write_fault.Register refusal
-RefusesAt (Ok PxSact) word list windows port before fault = RefusesSact port fault
-RefusesAt (Ok PxCi) word list windows port before fault = RefusesCi word list windows port before fault
-RefusesAt (Ok PxCmd) word list windows port before fault = RefusesStart word port before fault
-RefusesAt (Ok register) word list windows port before fault = RefusesWord register word port fault
+abbrev pub RefusesAt : Result Register RegFault → ℕ → List ℕ → List ℕ → PortView → PortView → Pending → WriteFault → Type 0
+RefusesAt (Err refusal) word list windows old new before fault = fault ≡ write_fault.Register refusal
+RefusesAt (Ok PxSact) word list windows old new before fault = RefusesSact old fault
+RefusesAt (Ok PxCi) word list windows old new before fault = RefusesCi word list windows old new before fault
+RefusesAt (Ok PxCmd) word list windows old new before fault = RefusesStart word old before fault
+RefusesAt (Ok register) word list windows old new before fault = RefusesWord register word old fault
 
-abbrev pub RefusesWrite : ℕ → ℕ → List ℕ → List ℕ → PortView → Pending → WriteFault → Type 0
-RefusesWrite off word list windows port before fault = RefusesAt (register_at off) word list windows port before fault
+abbrev pub RefusesWrite : ℕ → ℕ → List ℕ → List ℕ → PortView → PortView → Pending → WriteFault → Type 0
+RefusesWrite off word list windows old new before fault = RefusesAt (register_at off) word list windows old new before fault

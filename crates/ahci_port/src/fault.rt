@@ -105,12 +105,10 @@ pub enum WriteFault {
     Halted,
     /// PxCMD without ST, while no command has failed: the model's port stops on its way back alone.
     NotHalted,
-    /// PxCI, and the bits of two slots or more are newly set.
-    TooManySlots,
-    /// PxCI, and the slot's bit of PxSACT was not written before: a command that is not queued.
+    /// PxCI, and a newly set bit whose bit of PxSACT was not written before: a command that is not queued.
     NotQueued,
-    /// PxCI, and the slot's window is not issued.
-    Issue(IssueFault),
-    /// Room for the window, or for a recovery's entries, was refused.
+    /// PxCI, and the command of this slot is not issued. Those of the slots below it are.
+    Issue { slot: u8, fault: IssueFault },
+    /// Room for a recovery's entries was refused.
     OutOfMemory,
 }
