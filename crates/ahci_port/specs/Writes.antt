@@ -152,7 +152,7 @@ RefusesSact port other = ⊥
 -- why the command of a slot is not issued
 abbrev pub RefusesSlot : List ℕ → List ℕ → ℕ → PortView → IssueFault → Type 0
 RefusesSlot list windows tag port issue.Halted = halted port.past ≡ true
-RefusesSlot list windows tag port issue.OutOfMemory = is_held (phase port.past tag) ≡ false
+RefusesSlot list windows tag port issue.OutOfMemory = (is_held (phase port.past tag) ≡ false) × MayTake port tag
 RefusesSlot list windows tag port fault = (is_held (phase port.past tag) ≡ false) × RefusesIssue port (window_from list windows tag) fault
 
 -- why a write of PxCI is not taken, or not wholly

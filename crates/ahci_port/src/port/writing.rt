@@ -194,7 +194,9 @@ impl<A: Allocator + Clone> Port<A> {
         }
     }
 
-    /// Issues the command of a slot by the memory's window, or again where it is held.
+    /// Issues the command of a slot by the memory's window, or again where it is held. No window is copied for a slot that
+    /// takes none.
+    #[tactic(auto, using(crate::proofs::TakenLemmas::early_may))]
     fn command_slot(
         &mut self,
         slot: u8,
@@ -212,6 +214,9 @@ impl<A: Allocator + Clone> Port<A> {
                 Err(ReissueFault::Halted) => Err(IssueFault::Halted),
                 Err(ReissueFault::NotHeld) => unreachable!(),
             };
+        }
+        if let Some(fault) = self.early_fault(slot) {
+            return Err(fault);
         }
         let Ok(bytes) = Self::copy_of(&self.alloc, bytes_from(windows, slot)) else {
             return Err(IssueFault::OutOfMemory);
