@@ -187,7 +187,11 @@ fn a_driver_stops_and_starts_a_port_that_has_failed(rt: HostRuntime) -> Result<(
 
 static OTHERS: [Line; 10] = [
     Write(0x102, 0, Err(WriteFault::Register(RegFault::Unaligned))),
-    Write(0x11C, 0, Err(WriteFault::Register(RegFault::NoSuchRegister))),
+    Write(
+        0x11C,
+        0,
+        Err(WriteFault::Register(RegFault::NoSuchRegister)),
+    ),
     Read(0x11C, Err(RegFault::NoSuchRegister)),
     Write(0x118, 0x01, Err(WriteFault::Register(RegFault::Running))),
     Write(0x100, 0, Err(WriteFault::Register(RegFault::Running))),
