@@ -29,3 +29,4 @@ pub mod LookingLemmas
 pub mod TrimmingLemmas
 pub mod HistoryLemmas
 pub mod CarryingLemmas
+pub mod WritingLemmas

@@ -13,3 +13,4 @@ pub mod Standing
 pub mod Steps
 pub mod Tracking
 pub mod Unqueued
+pub mod Writes

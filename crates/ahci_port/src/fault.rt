@@ -1,3 +1,5 @@
+use ahci_regs::RegFault;
+
 /// Why a command was not issued. The cases are tested in this order.
 #[derive(Clone, Copy, Debug, PartialEq, Eq)]
 pub enum IssueFault {
@@ -91,5 +93,22 @@ pub enum PlainFault {
     /// A queued command waits for the device or is outstanding in it.
     QueueBusy,
     /// Room for the command's entry was refused.
+    OutOfMemory,
+}
+
+/// Why a write to a register was not taken. Of each register the cases are tested in this order.
+#[derive(Clone, Copy, Debug, PartialEq, Eq)]
+pub enum WriteFault {
+    /// By the register table: no register stands at the offset, or FRE would be cleared, or PxCLB or PxFB moved.
+    Register(RegFault),
+    /// PxSACT or PxCI, while a command has failed and the port has not recovered.
+    Halted,
+    /// PxCMD without ST, while no command has failed: the model's port stops on its way back alone.
+    NotHalted,
+    /// PxCI, and a newly set bit whose bit of PxSACT was not written before: a command that is not queued.
+    NotQueued,
+    /// PxCI, and the command of this slot is not issued. Those of the slots below it are.
+    Issue { slot: u8, fault: IssueFault },
+    /// Room for a recovery's entries was refused.
     OutOfMemory,
 }

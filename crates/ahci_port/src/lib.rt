@@ -5,6 +5,7 @@
 mod ended;
 mod fault;
 mod memory;
+mod pending;
 mod port;
 mod receiving;
 mod reply;
@@ -14,14 +15,17 @@ mod software;
 mod step;
 mod tag_sets;
 mod unqueued;
+mod written;
 
 pub use fault::{
     CollectFault, IssueFault, PlainFault, RecoverFault, ReissueFault, ResumeFault, StepFault,
-    TrimFault,
+    TrimFault, WriteFault,
 };
 pub use ncq_core::{DiskFault, Outcome};
+pub use pending::Pending;
 pub use port::{MOST_FIRST, Port};
 pub use reply::Reply;
 pub use sent::Sent;
 pub use step::{DeviceStep, Stepped};
 pub use tag_sets::TagSets;
+pub use written::Written;

@@ -5,6 +5,7 @@ mod recovering;
 mod serving;
 mod stepping;
 mod trimming;
+mod writing;
 
 ghost use Rattle.std.specs.Prelude.{◌≡◌, ◌<◌, ◌≤◌, [], None, length, replicate, IfOk, IfErr, MatchOption, if◌then◌else◌, slice_index_or};
 ghost use Rattle.std.specs.Option.{option_map};

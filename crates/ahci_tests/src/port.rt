@@ -6,6 +6,7 @@ mod lists;
 mod scattered;
 mod steps;
 mod telling;
+mod writing;
 
 use ahci_port::Stepped::{Accepted, Completed};
 use ahci_port::{Outcome, PlainFault};

@@ -59,7 +59,7 @@ fn op_of<A: Allocator + Clone>(
 
 impl<A: Allocator> Port<A> {
     /// Why a window of this tag is not looked at.
-    fn early_fault(&self, tag: u8) -> Option<IssueFault>
+    pub(super) fn early_fault(&self, tag: u8) -> Option<IssueFault>
         ensures { result ≡ early_refusal self.now tag }
     {
         if self.halted() {
