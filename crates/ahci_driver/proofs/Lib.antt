@@ -4,4 +4,5 @@ pub mod CollectingLemmas
 pub mod SubmittingLemmas
 pub mod SettlingLemmas
 pub mod RunningLemmas
+pub mod FinishingLemmas
 pub mod TrimmingLemmas

@@ -6,6 +6,7 @@ mod chooser;
 mod collecting;
 mod driver;
 mod fault;
+mod finishing;
 mod gate;
 mod plain;
 mod pumped;
@@ -16,6 +17,7 @@ mod running;
 mod settling;
 mod submitting;
 mod ticket;
+mod unfinished;
 mod worker;
 
 pub use chooser::{All, Chooser, High, Low};

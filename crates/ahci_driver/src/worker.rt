@@ -9,7 +9,8 @@ use crate::gate::Gate;
 use crate::pumped::Pumped;
 use crate::receipt::Receipt;
 use crate::ticket::Ticket;
-use ahci_port::{CollectFault, IssueFault, Reply};
+use crate::unfinished::Unfinished;
+use ahci_port::{IssueFault, Reply};
 use ahci_table::BuildFault;
 use ncq_core::{Bytes, Op};
 use std::alloc::Allocator;
@@ -133,7 +134,7 @@ impl<'a, A: Allocator + Clone, C: Chooser, G: Gate> Worker<'a, A, C, G> {
         unreachable!()
     }
 
-    /// Collects a job's answer once it is there, with one pump between two tries.
+    /// Collects a job's answer once it is there.
     fn answered<R: Wait>(
         &mut self,
         rt: &R,
@@ -147,12 +148,12 @@ impl<'a, A: Allocator + Clone, C: Chooser, G: Gate> Worker<'a, A, C, G> {
             if self.flag.load(SeqCst) {
                 return Err(Stop::Told);
             }
-            match self.driver.collect(rt, &mut self.seat, ticket) {
-                Ok(collected) => return Ok(collected),
-                Err((_, CollectFault::Stranger)) => return Err(Stop::Lost(job)),
-                Err((waiting, CollectFault::NotYet)) => ticket = waiting,
+            match self.driver.finish(rt, &mut self.seat, &mut self.chooser, ticket) {
+                Ok(finished) => return Ok(finished),
+                Err((_, Unfinished::Stranger)) => return Err(Stop::Lost(job)),
+                Err((_, Unfinished::OutOfMemory)) => return Err(Stop::OutOfMemory),
+                Err((waiting, Unfinished::NotYet)) => ticket = waiting,
             }
-            self.pump(rt)?;
         }
         unreachable!()
     }

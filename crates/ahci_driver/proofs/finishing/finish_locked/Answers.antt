@@ -1,0 +1,17 @@
+use Rattle.std.proofs.Common.{◌≡◌, ◌∙◌, refl, subst, sym}
+use Rattle.std.specs.Prelude.{IfErr}
+use Rattle.ahci_driver.specs.Finishing.{HasGotOn, at_once, one_more}
+use Rattle.ahci_driver.specs.Tickets.{ticket_refusal}
+use Rattle.ahci_driver.proofs.FinishingLemmas.{came_back}
+use Rattle.ahci_driver.proofs.finishing.finish_locked.Goals as goal
+
+pub loop-init : goal.loop-init
+loop-init g c = record { got_on = at_once c.args.port.now; same = refl }
+
+pub loop-preserved : goal.loop-preserved
+loop-preserved g c = record {
+  got_on = one_more c.args.port.now c.collect_locked.new.port c.pump_locked.new.port c.in-Ok-pump_locked.field-0
+      (subst (λ port. HasGotOn c.args.port.now port) (sym c.in-Err-default-NotYet.ensures.err) c.loop.invariant.got_on) c.in-Ok-pump_locked.ensures.ok;
+  same = subst (λ r. IfErr r (λ e. e.0 ≡ c.loop.ticket)) c.in-Err-default-NotYet.is
+      (came_back (ticket_refusal c.loop.port c.loop.ticket) c.collect_locked.result (λ e. e.0 ≡ c.loop.ticket) (λ f e. e.1 ≡ f) c.collect_locked.ensures.fault) ∙ c.loop.invariant.same;
+}
