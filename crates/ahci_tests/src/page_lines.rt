@@ -4,9 +4,8 @@ use crate::table::equal;
 use ahci_args::{Asked, asked};
 use ahci_cli::{CliFault, write_identify, write_log};
 use clap::error::ErrorKind;
-use std::io;
-use std::io::Write;
 use std::test::Fail;
+use test_helpers::Full;
 
 const THOUSAND_SECTORS: Asked = Asked::Identify {
     sectors: 1000,
@@ -207,24 +206,6 @@ fn help_of_a_page_has_its_options_its_text_and_its_statuses(rt: HostRuntime) -> 
         assert!(rt; text.as_str().contains(part), "{subcommand}: {part}");
     }
     Ok(())
-}
-
-/// A writer that takes so many bytes, and then none.
-#[derive(Drop)]
-struct Full {
-    room: usize,
-}
-
-impl Write for Full {
-    fn write(&mut self, buf: &[u8]) -> io::Result<usize> {
-        let count = self.room.min(buf.len());
-        self.room -= count;
-        Ok(count)
-    }
-
-    fn flush(&mut self) -> io::Result<()> {
-        Ok(())
-    }
 }
 
 #[test]

@@ -4,7 +4,6 @@ mod errors;
 mod hostile;
 mod lists;
 mod scattered;
-mod steps;
 mod telling;
 mod writing;
 

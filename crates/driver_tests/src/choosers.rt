@@ -1,6 +1,6 @@
 //! What `All` answers, by the words of the tags that wait for the device and of those that it has.
 use crate::steps::TableStep::{Accept, Serve};
-use crate::steps::{RISING, TableStep};
+use test_helpers::{RISING, TableStep};
 use ahci_driver::{All, Chooser};
 use std::process::Abort;
 

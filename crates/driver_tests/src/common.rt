@@ -1,7 +1,7 @@
 //! What the tests share: commands, ports and choosers.
 ghost use Rattle.std.specs.Prelude.{◌≡◌, ◌≤◌, vec_len, IfOk};
 
-use crate::steps::TableStep;
+use test_helpers::TableStep;
 use ahci_driver::{All, Chooser, High, Low, Receipt};
 use ahci_port::DeviceStep;
 use arrayvec::ArrayVec;

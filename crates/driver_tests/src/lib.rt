@@ -19,6 +19,5 @@ mod reading;
 #[cfg(test)]
 mod runs;
 #[cfg(test)]
-mod steps;
 #[cfg(test)]
 mod trimming;

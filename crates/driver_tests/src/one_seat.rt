@@ -3,7 +3,7 @@
 ghost use Rattle.std.specs.Prelude.{◌≡◌};
 
 use crate::common::{Job, Way, is_filled, op_of};
-use crate::steps::TableStep;
+use test_helpers::TableStep;
 use crate::steps::TableStep::Accept;
 use ahci_driver::{Driver, Pumped, SubmitFault, TagBoard, TagSeat, Ticket};
 use ahci_port::{CollectFault, IssueFault, Outcome, Port, Reply, Stepped};

@@ -4,7 +4,7 @@ ghost use Rattle.std.specs.Prelude.{◌≡◌, ◌≤◌, vec_len, IfOk};
 use crate::common::{Way, byte_of, crowd};
 use crate::jobs::{Jobs, commands};
 use crate::steps::TableStep::{Accept, Serve};
-use crate::steps::{RISING, TableStep};
+use test_helpers::{RISING, TableStep};
 use ahci_driver::{Open, Receipt, RunEnd, SettleFault, run, settle, settle_plainly};
 use ahci_port::{Outcome, Port, Reply};
 use ncq_core::{Bytes, Op};

@@ -3,7 +3,6 @@ mod boards;
 mod disks;
 mod drivers;
 mod moves;
-mod steps;
 mod stories;
 
 use crate::heap::{Asked, Heap, equal, growths_of};

@@ -7,6 +7,7 @@ use std::io;
 use std::io::{Read, Write};
 use std::process::Abort;
 use std::test::Fail;
+use test_helpers::Full;
 
 #[derive(Clone, Copy, Debug, PartialEq, Eq)]
 enum Tool {
@@ -123,24 +124,6 @@ fn each_read_may_fail(rt: HostRuntime) {
             };
             assert!(rt; how == wanted, "{tool:?}, {reads} reads: {how:?}");
         }
-    }
-}
-
-/// A writer that takes so many bytes, and then none.
-#[derive(Drop)]
-struct Full {
-    room: usize,
-}
-
-impl Write for Full {
-    fn write(&mut self, buf: &[u8]) -> io::Result<usize> {
-        let count = self.room.min(buf.len());
-        self.room -= count;
-        Ok(count)
-    }
-
-    fn flush(&mut self) -> io::Result<()> {
-        Ok(())
     }
 }
 

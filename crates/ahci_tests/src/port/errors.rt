@@ -1,5 +1,5 @@
 //! Errors in a queue, and what comes after them.
-use super::steps::TableStep;
+use test_helpers::TableStep;
 use super::steps::TableStep::{Accept, Serve};
 use super::telling::Row::{Collect, Flush, Issue, Recover, Register, Reissue, Sector, Step};
 use super::telling::{Row, plays};

@@ -1,5 +1,5 @@
 //! Lists of tags that are served by one call, with one Set Device Bits FIS; and lists that are refused whole.
-use super::steps::TableStep;
+use test_helpers::TableStep;
 use super::steps::TableStep::{Accept, Serve};
 use super::telling::Row::{
     Collect, Entries, Issue, Received, Recover, Register, Reissue, Sector, Step,

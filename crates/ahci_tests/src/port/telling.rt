@@ -1,7 +1,7 @@
 //! Calls of a port as the rows of a table.
 ghost use Rattle.std.specs.Prelude.{◌≤◌, ◌<◌};
 
-use super::steps::TableStep;
+use test_helpers::TableStep;
 use crate::table::equal;
 use ahci_port::{
     CollectFault, IssueFault, Outcome, PlainFault, Port, RecoverFault, ReissueFault, Reply,

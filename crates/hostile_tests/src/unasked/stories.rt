@@ -1,5 +1,5 @@
 //! Stories of a port, in which memory is there for commands that are issued and for recoveries alone.
-use super::steps::TableStep;
+use test_helpers::TableStep;
 use super::steps::TableStep::{Accept, Serve};
 use super::unasked;
 use crate::heap::{Heap, grant_all, refuse_from};

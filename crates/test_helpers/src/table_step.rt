@@ -1,18 +1,23 @@
-//! What a chooser answers, as a table says it.
+ghost use Rattle.test_helpers.specs.TableSteps.{IsAsTabled};
+ghost use Rattle.std.specs.Prelude.{◌≡◌, take};
+
 use ahci_port::DeviceStep;
 use arrayvec::ArrayVec;
 
-/// A step of the device, whose list of tags stands in the table.
+/// A step of the device that can stand in a `static`: its tags are lent.
 #[derive(Clone, Copy, Debug)]
 pub enum TableStep {
     Accept(u8),
-    /// At most 32 tags.
+    /// Those from the 33rd on are left out.
     Serve(&'static [u8]),
     Fail { tag: u8, error: u8, at: u64 },
 }
 
 impl TableStep {
-    pub fn of_device(self) -> DeviceStep {
+    /// The step, with its tags in a list of its own.
+    pub fn of_device(self) -> DeviceStep
+        ensures { IsAsTabled self result }
+    {
         match self {
             TableStep::Accept(tag) => DeviceStep::Accept(tag),
             TableStep::Serve(tags) => DeviceStep::Serve(list_of(tags)),
@@ -22,12 +27,15 @@ impl TableStep {
 }
 
 /// The first 32 of these tags.
-fn list_of(tags: &[u8]) -> ArrayVec<u8, 32> {
+fn list_of(tags: &[u8]) -> ArrayVec<u8, 32>
+    ensures { result.items ≡ take 32 tags.now }
+{
+    let first = if tags.len() < 32 { tags } else { &tags[..32] };
     let mut list = ArrayVec::new();
-    for tag in tags {
-        let _ = list.try_push(*tag);
+    match list.try_extend_from_slice(first) {
+        Ok(()) => list,
+        Err(_) => unreachable!(),
     }
-    list
 }
 
 /// Every tag, rising.
