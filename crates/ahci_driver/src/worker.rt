@@ -148,7 +148,10 @@ impl<'a, A: Allocator + Clone, C: Chooser, G: Gate> Worker<'a, A, C, G> {
             if self.flag.load(SeqCst) {
                 return Err(Stop::Told);
             }
-            match self.driver.finish(rt, &mut self.seat, &mut self.chooser, ticket) {
+            match self
+                .driver
+                .finish(rt, &mut self.seat, &mut self.chooser, ticket)
+            {
                 Ok(finished) => return Ok(finished),
                 Err((_, Unfinished::Stranger)) => return Err(Stop::Lost(job)),
                 Err((_, Unfinished::OutOfMemory)) => return Err(Stop::OutOfMemory),

@@ -11,11 +11,11 @@ use ahci_port::Stepped::{Accepted, Completed};
 use ahci_port::{Outcome, PlainFault};
 use ahci_regs::RegFault;
 use std::test::Fail;
-use steps::TableStep::{Accept, Serve};
 use telling::Row::{
     Acknowledge, Collect, Entries, Flush, Identify, Issue, Received, Register, Sector, Step,
 };
 use telling::{Row, plays};
+use test_helpers::TableStep::{Accept, Serve};
 
 static REGISTERS: [Row; 14] = [
     Issue(0, 1, Some(0xAA), Ok(0)),

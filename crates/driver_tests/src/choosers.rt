@@ -1,8 +1,8 @@
 //! What `All` answers, by the words of the tags that wait for the device and of those that it has.
-use crate::steps::TableStep::{Accept, Serve};
-use test_helpers::{RISING, TableStep};
 use ahci_driver::{All, Chooser};
 use std::process::Abort;
+use test_helpers::TableStep::{Accept, Serve};
+use test_helpers::{RISING, TableStep};
 
 static STEPS: [(u32, u32, TableStep); 7] = [
     (0b100, 0b11, Accept(2)),

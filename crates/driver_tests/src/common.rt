@@ -1,13 +1,13 @@
 //! What the tests share: commands, ports and choosers.
 ghost use Rattle.std.specs.Prelude.{◌≡◌, ◌≤◌, vec_len, IfOk};
 
-use test_helpers::TableStep;
 use ahci_driver::{All, Chooser, High, Low, Receipt};
 use ahci_port::DeviceStep;
 use arrayvec::ArrayVec;
 use ncq_core::{Bytes, Op};
 use std::alloc::{AllocError, Global};
 use std::process::Abort;
+use test_helpers::TableStep;
 
 /// A job of one sector: its LBA, and the byte of a write.
 #[derive(Clone, Copy, Debug)]

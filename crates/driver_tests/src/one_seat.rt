@@ -3,14 +3,14 @@
 ghost use Rattle.std.specs.Prelude.{◌≡◌};
 
 use crate::common::{Job, Way, is_filled, op_of};
-use test_helpers::TableStep;
-use crate::steps::TableStep::Accept;
 use ahci_driver::{Driver, Pumped, SubmitFault, TagBoard, TagSeat, Ticket};
 use ahci_port::{CollectFault, IssueFault, Outcome, Port, Reply, Stepped};
 use std::alloc::{AllocError, Global};
 use std::process::Abort;
 use std::sync::Wait;
 use std::test::Fail;
+use test_helpers::TableStep;
+use test_helpers::TableStep::Accept;
 use word_bits::is_set;
 
 const FAILED: TableStep = TableStep::Fail {

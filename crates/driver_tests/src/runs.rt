@@ -3,8 +3,6 @@ ghost use Rattle.std.specs.Prelude.{◌≡◌, ◌≤◌, vec_len, IfOk};
 
 use crate::common::{Way, byte_of, crowd};
 use crate::jobs::{Jobs, commands};
-use crate::steps::TableStep::{Accept, Serve};
-use test_helpers::{RISING, TableStep};
 use ahci_driver::{Open, Receipt, RunEnd, SettleFault, run, settle, settle_plainly};
 use ahci_port::{Outcome, Port, Reply};
 use ncq_core::{Bytes, Op};
@@ -13,6 +11,8 @@ use std::process::Abort;
 use std::sync::Wait;
 use std::test::Fail;
 use std::thread::Threads;
+use test_helpers::TableStep::{Accept, Serve};
+use test_helpers::{RISING, TableStep};
 
 /// How a run is set up.
 #[derive(Clone, Copy, Debug)]

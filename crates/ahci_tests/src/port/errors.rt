@@ -1,6 +1,4 @@
 //! Errors in a queue, and what comes after them.
-use test_helpers::TableStep;
-use super::steps::TableStep::{Accept, Serve};
 use super::telling::Row::{Collect, Flush, Issue, Recover, Register, Reissue, Sector, Step};
 use super::telling::{Row, plays};
 use ahci_port::Stepped::{Accepted, Completed, Failed};
@@ -8,6 +6,8 @@ use ahci_port::{
     CollectFault, IssueFault, Outcome, PlainFault, RecoverFault, ReissueFault, StepFault,
 };
 use std::test::Fail;
+use test_helpers::TableStep;
+use test_helpers::TableStep::{Accept, Serve};
 
 /// Tag 1 fails with error 40h at LBA 8, which its command hasn't.
 const FAIL_1_AT_8: TableStep = TableStep::Fail {

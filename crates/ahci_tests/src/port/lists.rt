@@ -1,6 +1,4 @@
 //! Lists of tags that are served by one call, with one Set Device Bits FIS; and lists that are refused whole.
-use test_helpers::TableStep;
-use super::steps::TableStep::{Accept, Serve};
 use super::telling::Row::{
     Collect, Entries, Issue, Received, Recover, Register, Reissue, Sector, Step,
 };
@@ -10,6 +8,8 @@ use ahci_port::{Outcome, Port, StepFault};
 use std::alloc::Global;
 use std::process::Abort;
 use std::test::Fail;
+use test_helpers::TableStep;
+use test_helpers::TableStep::{Accept, Serve};
 
 static IN_ITS_ORDER: [Row; 18] = [
     Issue(0, 3, Some(0xAA), Ok(0)),

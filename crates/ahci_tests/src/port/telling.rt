@@ -1,7 +1,6 @@
 //! Calls of a port as the rows of a table.
 ghost use Rattle.std.specs.Prelude.{◌≤◌, ◌<◌};
 
-use test_helpers::TableStep;
 use crate::table::equal;
 use ahci_port::{
     CollectFault, IssueFault, Outcome, PlainFault, Port, RecoverFault, ReissueFault, Reply,
@@ -13,6 +12,7 @@ use ncq_core::{Bytes, Op};
 use std::alloc::{AllocError, Global};
 use std::process::Abort;
 use std::test::Fail;
+use test_helpers::TableStep;
 
 /// A call of a port with its answer, or something that the port shows.
 #[derive(Clone, Copy)]

@@ -1,6 +1,4 @@
 //! What a driver writes to the registers, among the port's other calls.
-use super::steps::TableStep;
-use super::steps::TableStep::{Accept, Serve};
 use super::telling::Row::{Collect, Sector, Step};
 use super::telling::{Row, goes, port_of, window_of};
 use crate::table::equal;
@@ -11,6 +9,8 @@ use ahci_regs::RegFault;
 use std::alloc::Global;
 use std::process::Abort;
 use std::test::Fail;
+use test_helpers::TableStep;
+use test_helpers::TableStep::{Accept, Serve};
 
 /// A driver's access to a register with its answer, or another call of the port.
 #[derive(Clone, Copy)]
@@ -42,7 +42,7 @@ fn asked(slot: u8) -> Option<(u64, Option<u8>)> {
 }
 
 /// The guest's memory, with the windows of its commands.
-fn guest(rt: &impl Abort, alloc: Global) -> Result<Guest, Fail> {
+fn guest_memory(rt: &impl Abort, alloc: Global) -> Result<Guest, Fail> {
     let mut headers = Vec::new(alloc);
     let mut windows = Vec::new(alloc);
     for slot in 0..32u8 {
@@ -67,7 +67,7 @@ fn guest(rt: &impl Abort, alloc: Global) -> Result<Guest, Fail> {
 
 /// Goes through a table on a port with four slots over eight sectors of zeros.
 fn drives(rt: &impl Abort, alloc: Global, lines: &[Line]) -> Result<(), Fail> {
-    let Guest { list, windows } = guest(rt, alloc)?;
+    let Guest { list, windows } = guest_memory(rt, alloc)?;
     let mut port = port_of(alloc, 8, 4)?;
     let mut pending = Pending::nothing();
     for (number, line) in lines.iter().enumerate() {

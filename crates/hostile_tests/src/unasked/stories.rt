@@ -1,6 +1,4 @@
 //! Stories of a port, in which memory is there for commands that are issued and for recoveries alone.
-use test_helpers::TableStep;
-use super::steps::TableStep::{Accept, Serve};
 use super::unasked;
 use crate::heap::{Heap, grant_all, refuse_from};
 use crate::shown::look_at;
@@ -14,6 +12,8 @@ use ncq_core::{Bytes, Op};
 use refusing_allocator::Refusing;
 use std::process::Abort;
 use std::test::Fail;
+use test_helpers::TableStep;
+use test_helpers::TableStep::{Accept, Serve};
 
 /// A call of a port.
 #[derive(Clone, Copy, Debug)]
