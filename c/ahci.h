@@ -1,7 +1,8 @@
 /* One AHCI port with its NCQ disk, as C calls of the static library libahci.a or the shared one libahci.so.0: `make -C c` builds both.
 
    Every call answers a status, AHCI_OK or the one reason for which it was refused (ahci_status). A refused call has changed
-   nothing: neither the port nor what its pointers lead to. AHCI_OUT_OF_MEMORY stands for nothing but refused memory.
+   nothing: neither the port nor what its pointers lead to, but where ahci_port_write_register says so. AHCI_OUT_OF_MEMORY stands
+   for nothing but refused memory.
 
    What the caller owes, since nothing checks it: each pointer is valid for the bytes said, aligned for its type, and not null,
    also where 0 bytes are said; no two of one call overlap; an ahci_port is never copied and its fields are never read or
@@ -28,6 +29,7 @@ extern "C" {
 #define AHCI_MOST_TAGS 32
 #define AHCI_MOST_COUNT 65536      /* sectors of one command */
 #define AHCI_HEADER_BYTES 32       /* a command header (section 4.2.2) */
+#define AHCI_LIST_BYTES 1024       /* a command list of 32 headers (section 4.2.2) */
 #define AHCI_RECEIVED_BYTES 256    /* the received FIS area (section 4.2.1) */
 #define AHCI_MOST_FIS_BYTES 8196   /* a Data FIS with 8,192 bytes of payload */
 #define AHCI_PAGE_BYTES 512        /* the page of IDENTIFY DEVICE, and page 0 of log 10h */
@@ -36,8 +38,10 @@ extern "C" {
 typedef struct ahci_port {
     void *at;
     bool full;
+    bool stopped;
+    uint32_t announced;
 } ahci_port;
-#define AHCI_PORT_EMPTY { NULL, false }
+#define AHCI_PORT_EMPTY { NULL, false, false, 0 }
 
 /* What a call answers. Each stands for one thing. */
 typedef enum ahci_status {
@@ -60,9 +64,10 @@ typedef enum ahci_status {
     /* of registers */
     AHCI_UNALIGNED = 16,        /* the offset isn't a multiple of 4 */
     AHCI_NO_SUCH_REGISTER = 17, /* no register of this model stands at the offset */
-    AHCI_NOT_STARTED = 18,      /* a write of PxSACT or PxCI while ST is 0: no call answers it yet */
-    AHCI_NOT_RECEIVING = 19,    /* a write that sets ST while FRE is 0: no call answers it yet */
-    AHCI_RUNNING = 20,          /* a write that clears FRE or moves a base while ST is 1: no call answers it yet */
+    AHCI_NOT_STARTED = 18,      /* a write of PxSACT or PxCI while ST is 0: no call answers it, since a port here is started */
+    AHCI_NOT_RECEIVING = 19,    /* a write that sets ST while FRE is 0: no call answers it, since FRE is 1 here */
+    AHCI_RUNNING = 20,          /* a write that clears FRE, or moves PxCLB or PxFB */
+    AHCI_NOT_QUEUED = 21,       /* a write that sets a bit of PxCI whose bit of PxSACT was not written before */
     /* of the port */
     AHCI_HALTED = 32,           /* a command has failed, and the port has not recovered */
     AHCI_NO_SUCH_TAG = 33,      /* the tag is not below the depth */
@@ -180,6 +185,20 @@ typedef struct ahci_entry {
     uint32_t error;
 } ahci_entry;
 
+/* What a driver's write of a register did. */
+typedef enum ahci_wrote {
+    AHCI_WROTE_WORD = 0,    /* no command has moved */
+    AHCI_WROTE_COMMANDS = 1, /* PxCI: the commands of `slots` are issued, or issued again */
+    AHCI_WROTE_START = 2,   /* PxCMD: the port has recovered from the failure of `tag` */
+    AHCI_WROTE_SOME = 3     /* PxCI, refused: the command of slot `tag` is not issued, and those of the slots below it are */
+} ahci_wrote;
+
+typedef struct ahci_written {
+    uint32_t did;   /* ahci_wrote */
+    uint32_t slots; /* of AHCI_WROTE_COMMANDS: the slots, as the bits of a word; else 0 */
+    uint32_t tag;   /* of AHCI_WROTE_START and AHCI_WROTE_SOME; else 0 */
+} ahci_written;
+
 /* All that can be seen of a port at once, with no padding: two ports that have done the same are equal by memcmp. */
 typedef struct ahci_state {
     uint64_t first;         /* the number of the journal's first entry, and of the next one */
@@ -275,6 +294,24 @@ uint32_t ahci_port_register(ahci_port *port, uint32_t offset, uint32_t *word);
 /* Software writes a word to PxIS, in which a 1 clears (section 3.3.5). */
 uint32_t ahci_port_acknowledge(ahci_port *port, uint32_t mask);
 
+/* Takes a word that a driver writes to the register at an offset (section 3.3). *done tells what the write did.
+   PxSACT: a bit announces a command, of a slot that the port has and whose bit is not set already. AHCI_HALTED.
+   PxCI: each newly set bit issues the command of that slot, the lowest slot first. Its header stands in `list`, the 1,024 bytes
+   at PxCLB, and its window, from the tag's base on as of ahci_port_issue, in `windows`, of which slot s has the bytes from
+   s * (windows_bytes / 32) on. A held command is issued again as it stands in its slot. AHCI_HALTED, AHCI_NOT_QUEUED, and nothing
+   has changed; or what ahci_port_issue says against the first command that is not issued, with *done as AHCI_WROTE_SOME: the commands of
+   the slots below it are issued, and the others wait to be written again.
+   PxCMD, with FRE: without ST it stops a port whose command has failed, AHCI_NOT_HALTED else; with ST it starts the port again, which
+   recovers by it as by ahci_port_recover. AHCI_RUNNING without FRE; AHCI_OUT_OF_MEMORY.
+   PxIS: a 1 clears. PxIE keeps the interrupts that the port has. PxCLB and PxFB: AHCI_RUNNING where they would move. All others
+   ignore the word, as do the bits of a register that the port has not (CLO, SUD, POD of PxCMD): it reads as it did.
+   AHCI_WRONG_LENGTH where list_bytes is not 1,024, also where the register is another, AHCI_UNALIGNED, AHCI_NO_SUCH_REGISTER. */
+uint32_t ahci_port_write_register(ahci_port *port, uint32_t offset, uint32_t word, const uint8_t *list, size_t list_bytes, const uint8_t *windows, size_t windows_bytes, ahci_written *done);
+
+/* Reads a register as a driver finds it between its writes: PxSACT has the bits that are announced, and a port that was stopped
+   by PxCMD shows no ST and no command. Else as ahci_port_register. AHCI_UNALIGNED, AHCI_NO_SUCH_REGISTER. */
+uint32_t ahci_port_read_register(ahci_port *port, uint32_t offset, uint32_t *word);
+
 /* Copies the received FIS area (section 4.2.1): DMA Setup at 00h, PIO Setup at 20h, D2H Register at 40h, Set Device Bits at
    58h. AHCI_WRONG_LENGTH where out_bytes is not 256. */
 uint32_t ahci_port_received(ahci_port *port, uint8_t *out, size_t out_bytes);
@@ -367,6 +404,13 @@ uint32_t ahci_identify_page(uint32_t sectors, uint32_t depth, uint8_t *out, size
 /* Page 0 of log 10h (ACS-3, "NCQ Command Error log") after the error of a tag's command at a sector.
    AHCI_WRONG_LENGTH where out_bytes is not 512, AHCI_BAD_TAG, AHCI_BAD_LBA. */
 uint32_t ahci_log_page(uint32_t tag, uint8_t error, uint64_t lba, uint8_t *out, size_t out_bytes);
+
+/* Looks at `count` events, the oldest first, as the journal of a port of 1 to 32 slots over so many sectors, from its beginning
+   on: which may follow which, in a time that grows with their number. It takes no memory. AHCI_NOT_ALLOWED: the event at place
+   *first_bad, counted from 0, can't come after those before it, and these can. An event is read as ahci_port_entry fills it, and
+   what its kind doesn't name is not looked at; a write has 512 * sectors bytes, which say nothing of when it may come. One with
+   another kind, a tag that is not below 32 or an error over 255 can't come anywhere. AHCI_BAD_DEPTH. */
+uint32_t ahci_journal_check(uint32_t sectors, uint32_t depth, const ahci_entry *events, size_t count, size_t *first_bad);
 
 /* ---- the library ---- */
 

@@ -107,6 +107,78 @@ static void fises(void)
     CHECK(ahci_fis_decode(payload, 4, &fis) == AHCI_UNKNOWN_TYPE);
 }
 
+/* An event by its kind and its numbers. */
+static ahci_entry event(uint32_t kind, uint32_t tag, uint64_t lba, uint32_t sectors, uint32_t error)
+{
+    return (ahci_entry){ .kind = kind, .tag = tag, .lba = lba, .sectors = sectors, .error = error };
+}
+#define READ(tag, lba, sectors) event(AHCI_EVENT_READ, tag, lba, sectors, 0)
+#define WRITE(tag, lba, sectors) event(AHCI_EVENT_WRITE, tag, lba, sectors, 0)
+#define FAIL(tag, error, lba) event(AHCI_EVENT_FAIL, tag, lba, 0, error)
+#define OF(kind, tag) event(AHCI_EVENT_##kind, tag, 0, 0, 0)
+
+/* Some events are a journal on 16 sectors with 4 slots, and what comes last can't come there. */
+static void breaks(const ahci_entry *events, size_t count)
+{
+    size_t bad = 99;
+    CHECK(ahci_journal_check(16, 4, events, count - 1, &bad) == AHCI_OK && bad == 99);
+    CHECK(ahci_journal_check(16, 4, events, count, &bad) == AHCI_NOT_ALLOWED && bad == count - 1);
+}
+#define BREAKS(...) do { const ahci_entry events[] = { __VA_ARGS__ }; breaks(events, sizeof events / sizeof *events); } while (0)
+
+/* Which events may follow which: a story with a command past the disk's end, its recovery and what follows; and each reason
+   for which an event can't come. */
+static void journals(void)
+{
+    const ahci_entry story[] = {
+        READ(0, 3, 2), WRITE(1, 14, 3), OF(ACCEPT, 0), FAIL(1, 0x10, 16), OF(RECOVER, 1), OF(COLLECT, 1), OF(REISSUE, 0),
+        OF(ACCEPT, 0), OF(COMPLETE, 0), OF(COLLECT, 0), OF(IDENTIFY, 0), OF(FLUSH, 99), WRITE(3, 15, 1), OF(ACCEPT, 3), FAIL(3, 0xFF, 15),
+    };
+    const size_t count = sizeof story / sizeof *story;
+    size_t bad = 99;
+    CHECK(ahci_journal_check(16, 4, story, 0, &bad) == AHCI_OK);
+    CHECK(ahci_journal_check(16, 4, story, count, &bad) == AHCI_OK);
+    CHECK(ahci_journal_check(16, 0, story, count, &bad) == AHCI_BAD_DEPTH);
+    CHECK(ahci_journal_check(16, 33, story, count, &bad) == AHCI_BAD_DEPTH && bad == 99);
+    CHECK(ahci_journal_check(17, 4, story, count, &bad) == AHCI_NOT_ALLOWED && bad == 3); /* the write fits */
+    CHECK(ahci_journal_check(16, 1, story, count, &bad) == AHCI_NOT_ALLOWED && bad == 1);
+    /* an issue: the slots, the slot, the count, the LBA, an error that stands */
+    BREAKS(READ(4, 3, 2));
+    BREAKS(READ(32, 3, 2));
+    BREAKS(READ(0, 3, 2), WRITE(0, 3, 2));
+    BREAKS(READ(0, 3, 0));
+    BREAKS(WRITE(0, 3, 65537));
+    BREAKS(WRITE(0, (uint64_t)1 << 48, 1));
+    BREAKS(READ(0, 3, 2), OF(ACCEPT, 0), FAIL(0, 0x40, 4), READ(1, 3, 2));
+    /* an acceptance: a command that waits, within the disk */
+    BREAKS(OF(ACCEPT, 0));
+    BREAKS(READ(0, 3, 2), OF(ACCEPT, 0), OF(ACCEPT, 0));
+    BREAKS(READ(0, 15, 2), OF(ACCEPT, 0));
+    BREAKS(READ(0, UINT64_MAX >> 16, 1), OF(ACCEPT, 0));
+    /* a completion and a failure: an accepted command, one of its sectors; or the first sector past the disk, by error 10h */
+    BREAKS(READ(0, 3, 2), OF(COMPLETE, 0));
+    BREAKS(READ(0, 3, 2), FAIL(0, 0x40, 3));
+    BREAKS(READ(0, 3, 2), OF(ACCEPT, 0), FAIL(0, 0x40, 5));
+    BREAKS(READ(0, 3, 2), OF(ACCEPT, 0), FAIL(0, 0x140, 4));
+    BREAKS(READ(0, 15, 2), FAIL(0, 0x40, 16));
+    BREAKS(READ(0, 15, 2), FAIL(0, 0x10, 15));
+    BREAKS(READ(0, 20, 2), FAIL(0, 0x10, 16));
+    /* the way back: the failed tag alone, then those that are held */
+    BREAKS(OF(RECOVER, 0));
+    BREAKS(READ(0, 3, 2), READ(1, 3, 2), OF(ACCEPT, 0), FAIL(0, 0x40, 4), OF(RECOVER, 1));
+    BREAKS(READ(0, 3, 2), OF(REISSUE, 0));
+    BREAKS(READ(0, 3, 2), OF(ACCEPT, 0), FAIL(0, 0x40, 4), OF(RECOVER, 0), OF(REISSUE, 0));
+    /* an answer is taken once it is there */
+    BREAKS(READ(0, 3, 2), OF(ACCEPT, 0), OF(COLLECT, 0));
+    BREAKS(READ(0, 3, 2), OF(ACCEPT, 0), OF(COMPLETE, 0), OF(COLLECT, 0), OF(COLLECT, 0));
+    /* what is not queued waits for an idle port */
+    BREAKS(READ(0, 3, 2), OF(IDENTIFY, 0));
+    BREAKS(READ(0, 3, 2), OF(ACCEPT, 0), OF(FLUSH, 0));
+    BREAKS(READ(0, 3, 2), OF(ACCEPT, 0), FAIL(0, 0x40, 4), OF(FLUSH, 0));
+    BREAKS(OF(READ_LOG, 0));
+    BREAKS(event(11, 0, 0, 0, 0));
+}
+
 static void names(void)
 {
     char text[32] = "unchanged";
@@ -125,6 +197,7 @@ int main(void)
     pages();
     windows();
     fises();
+    journals();
     names();
     puts("the calls without a port: as the standards have it");
     return 0;

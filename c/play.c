@@ -1,6 +1,7 @@
 /* Plays the script language of `ahci replay` (docs/PROGRAM.md) through the library: a line of answer for each command. The
    exit status is 1 at a line that is not understood or stands where it may not, and 3 where memory is refused. After each
-   command the port's whole state is compared with what single calls tell of it: the exit status is 4 where they differ. */
+   command the port's whole state is compared with what single calls tell of it, and at the end its journal is looked at: the exit
+   status is 4 where they differ. */
 #include "ahci.h"
 #include <inttypes.h>
 #include <stdio.h>
@@ -316,6 +317,25 @@ static void compare(void)
         differs("the journal ends elsewhere");
 }
 
+/* The journal since the port was made or trimmed is one that can come about, and can't go on with an entry of no command. */
+static void judge(void)
+{
+    ahci_entry *events = malloc((size_t)(entries + 1) * sizeof *events);
+    uint32_t sectors, depth;
+    size_t bad = 0, count = (size_t)entries;
+    if (!events)
+        exit(3);
+    for (size_t i = 0; i < count; i++)
+        if (ahci_port_entry(&port, first + i, &events[i]) != AHCI_OK)
+            differs("no entry");
+    events[count] = (ahci_entry){ .kind = AHCI_EVENT_READ_LOG };
+    if (ahci_port_sectors(&port, &sectors) || ahci_port_depth(&port, &depth) || ahci_journal_check(sectors, depth, events, count, &bad) != AHCI_OK)
+        differs("a port's journal can't come about");
+    if (ahci_journal_check(sectors, depth, events, count + 1, &bad) != AHCI_NOT_ALLOWED || bad != count)
+        differs("a journal goes on with what no port does");
+    free(events);
+}
+
 static bool is(char **words, int n, const char *name, int wanted) { return !strcmp(words[0], name) && n == wanted; }
 
 static void run(char **words, int n)
@@ -342,7 +362,7 @@ static void run(char **words, int n)
     else if (is(words, n, "reissue", 2)) { tag = (uint32_t)number(words[1], 31); if (done(ahci_port_reissue(&port, tag))) { entries++; printf("reissued %u\n", (unsigned)tag); } }
     else if (is(words, n, "flush", 1)) { if (done(ahci_port_flush(&port))) { entries++; puts("flushed"); } }
     else if (is(words, n, "journal", 1)) printf("journal %" PRIu64 "\n", entries);
-    else if (is(words, n, "trim", 1)) { if (done(ahci_port_trim(&port, &count))) { if (count != entries) lost(); first += entries; entries = 0; printf("trimmed %" PRIu64 "\n", count); } }
+    else if (is(words, n, "trim", 1)) { judge(); if (done(ahci_port_trim(&port, &count))) { if (count != entries) lost(); first += entries; entries = 0; printf("trimmed %" PRIu64 "\n", count); } }
     else if (n == 2 && (!strcmp(words[0], "reg") || !strcmp(words[0], "ack") || !strcmp(words[0], "show") || !strcmp(words[0], "identify"))) look(words, n);
     else lost();
 }
@@ -386,6 +406,8 @@ int main(int count, char **arguments)
         if (made)
             compare();
     }
+    if (made)
+        judge();
     bool well = !image || write_image(image);
     ahci_port_free(&port);
     free(bytes);

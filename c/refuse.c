@@ -25,6 +25,40 @@ static void wrong(const char *what)
 /* Makes a call until memory is there: it is refused at most once, and has changed nothing then. */
 #define TRY(call) do { uint32_t s = (call); if (s == AHCI_OUT_OF_MEMORY) { lacking++; s = (call); } if (s != AHCI_OK) wrong(#call); } while (0)
 
+/* A read by PxSACT and PxCI, whose window is copied: where memory is refused, the slot is told and can be written again. */
+static int driven(ahci_port *port)
+{
+    static uint8_t list[AHCI_LIST_BYTES], windows[32 * 0x290], read[AHCI_SECTOR_BYTES];
+    const uint8_t fis[13] = { 0x27, 0x80, 0x60, 1, 3, 0, 0, 0x40, 0, 0, 0, 0, 0 }, tag = 0;
+    ahci_written written;
+    ahci_stepped done;
+    ahci_reply reply;
+    int lacking = 0;
+    list[0] = 5;
+    list[2] = 1;
+    list[11] = windows[0x83] = 0x10; /* the base of slot 0 */
+    memcpy(windows, fis, sizeof fis);
+    windows[0x80] = 0x90;
+    windows[0x8C] = 0xFF;
+    windows[0x8D] = 0x01;
+    TRY(ahci_port_write_register(port, 0x134, 1, list, sizeof list, windows, sizeof windows, &written));
+    uint32_t status = ahci_port_write_register(port, 0x138, 1, list, sizeof list, windows, sizeof windows, &written);
+    if (status == AHCI_OUT_OF_MEMORY && (written.did != AHCI_WROTE_SOME || written.tag != 0))
+        wrong("the slot is not told");
+    if (status == AHCI_OUT_OF_MEMORY) {
+        lacking++;
+        status = ahci_port_write_register(port, 0x138, 1, list, sizeof list, windows, sizeof windows, &written);
+    }
+    if (status != AHCI_OK || written.slots != 1)
+        wrong("a command is not issued");
+    ahci_slot slot;
+    TRY(ahci_port_slot(port, 0, &slot));
+    TRY(ahci_port_accept(port, 0, &done));
+    TRY(ahci_port_serve(port, &tag, 1, &done));
+    TRY(ahci_port_collect(port, 0, slot.number, &reply, read, sizeof read));
+    return lacking;
+}
+
 static int story(void)
 {
     static uint8_t image[8 * AHCI_SECTOR_BYTES], data[AHCI_SECTOR_BYTES], read[AHCI_SECTOR_BYTES], page[AHCI_PAGE_BYTES];
@@ -50,6 +84,7 @@ static int story(void)
     if (checked != AHCI_BAD_HEADER)
         wrong("a window of zeros has a header");
     TRY(ahci_port_identify(&port, page, sizeof page));
+    lacking += driven(&port);
     TRY(ahci_port_flush(&port));
     TRY(ahci_port_trim(&port, &entries));
     TRY(ahci_port_submit(&port, 0, AHCI_READ, 3, 1, read, 0, &number));

@@ -41,6 +41,7 @@ class Status(enum.IntEnum):
     NOT_STARTED = 18
     NOT_RECEIVING = 19
     RUNNING = 20
+    NOT_QUEUED = 21
     HALTED = 32
     NO_SUCH_TAG = 33
     SLOT_OWNED = 34
@@ -71,15 +72,16 @@ class Status(enum.IntEnum):
 
 
 class Refused(Exception):
-    """A call was refused, and nothing has changed."""
+    """A call was refused, and nothing has changed; but where `slot` is a number, the commands of the slots below it were issued."""
 
-    def __init__(self, status: int) -> None:
+    def __init__(self, status: int, slot: Optional[int] = None) -> None:
         self.status = Status(status)
+        self.slot = slot
         super().__init__(self.status.name)
 
 
 class _Place(ctypes.Structure):
-    _fields_ = [("at", ctypes.c_void_p), ("full", ctypes.c_bool)]
+    _fields_ = [("at", ctypes.c_void_p), ("full", ctypes.c_bool), ("stopped", ctypes.c_bool), ("announced", _u32)]
 
 
 class _Stepped(ctypes.Structure):
@@ -100,6 +102,10 @@ class _Sets(ctypes.Structure):
 
 class _Entry(ctypes.Structure):
     _fields_ = [("lba", _u64), ("sectors", _u32), ("kind", _u32), ("tag", _u32), ("error", _u32)]
+
+
+class _Written(ctypes.Structure):
+    _fields_ = [("did", _u32), ("slots", _u32), ("tag", _u32)]
 
 
 _REGISTERS = "cap ghc pi vs px_clb px_clbu px_fb px_fbu px_is px_ie px_cmd px_tfd px_sig px_ssts px_sctl px_serr px_sact px_ci".split()
@@ -151,6 +157,14 @@ class Slot(NamedTuple):
     bytes: int
     phase: int
     owned: int
+
+
+class Written(NamedTuple):
+    """What a driver's write of a register did: 0 no command has moved, 1 those of `slots` are issued, 2 the port has recovered."""
+
+    did: int
+    slots: int
+    tag: int
 
 
 class TagSets(NamedTuple):
@@ -249,6 +263,8 @@ _ARGUMENTS = {
     "sectors": [_port, ctypes.POINTER(_u32)],
     "register": [_port, _u32, ctypes.POINTER(_u32)],
     "acknowledge": [_port, _u32],
+    "write_register": [_port, _u32, _u32, ctypes.c_char_p, _size, ctypes.c_char_p, _size, ctypes.POINTER(_Written)],
+    "read_register": [_port, _u32, ctypes.POINTER(_u32)],
     "received": [_port, ctypes.c_char_p, _size],
     "issue": [_port, _u32, ctypes.c_char_p, _size, ctypes.c_char_p, _size, ctypes.POINTER(_u64)],
     "submit": [_port, _u32, _u32, _u64, _u32, ctypes.c_char_p, _size, ctypes.POINTER(_u64)],
@@ -274,6 +290,7 @@ _ALONE = {
     "window_check": [_u32, ctypes.c_char_p, _size, ctypes.c_char_p, _size, ctypes.POINTER(_Command)],
     "identify_page": [_u32, _u32, ctypes.c_char_p, _size],
     "log_page": [_u32, _u8, _u64, ctypes.c_char_p, _size],
+    "journal_check": [_u32, _u32, ctypes.POINTER(_Entry), _size, ctypes.POINTER(_size)],
     "status_text": [_u32, ctypes.c_char_p, _size, ctypes.POINTER(_size)],
     "version": [],
 }
@@ -358,6 +375,24 @@ class Port:
     def acknowledge(self, mask: int) -> None:
         """Writes a word to PxIS, in which a 1 clears."""
         self._call("acknowledge", _fits(mask, 32, "mask"))
+
+    def write_register(self, offset: int, word: int, headers: bytes = bytes(1024), windows: bytes = b"") -> Written:
+        """Takes a word that a driver writes to a register. A bit of PxCI issues the command of that slot: its header stands in
+        `headers`, the command list's 1,024 bytes, and its window in a 32nd part of `windows`. Where one is not issued, `Refused`
+        names its slot."""
+        done = _Written()
+        status = _loaded().ahci_port_write_register(
+            ctypes.byref(self._place), _fits(offset, 32, "offset"), _fits(word, 32, "word"), headers, len(headers), windows, len(windows),
+            ctypes.byref(done),
+        )
+        if status and status != Status.OUT_OF_MEMORY:
+            raise Refused(status, done.tag if done.did == 3 else None)
+        _done(status)
+        return Written(done.did, done.slots, done.tag)
+
+    def read_register(self, offset: int) -> int:
+        """The word of the register at an offset, as a driver finds it between its writes."""
+        return self._number("read_register", _u32, _fits(offset, 32, "offset"))
 
     def received(self) -> bytes:
         """The 256 bytes of the received FIS area."""
@@ -499,6 +534,20 @@ def identify_page(sectors: int, depth: int) -> bytes:
 def log_page(tag: int, error: int, lba: int) -> bytes:
     """Page 0 of log 10h after the error of a tag's command at a sector."""
     return _alone("log_page", 512, _fits(tag, 32, "tag"), _fits(error, 8, "error"), _fits(lba, 64, "lba"))
+
+
+def journal_check(sectors: int, depth: int, events: Sequence[Entry]) -> Optional[int]:
+    """The place of the first event that can't come after those before it, counted from 0, or None where all may."""
+    given = (_Entry * len(events))()
+    for place, event in enumerate(events):
+        for name, kind in _Entry._fields_:
+            setattr(given[place], name, _fits(getattr(event, name), 8 * ctypes.sizeof(kind), name))
+    bad = _size()
+    status = _loaded().ahci_journal_check(_fits(sectors, 32, "sectors"), _fits(depth, 32, "depth"), given, len(events), ctypes.byref(bad))
+    if status == Status.NOT_ALLOWED:
+        return int(bad.value)
+    _done(status)
+    return None
 
 
 def status_text(status: int) -> str:

@@ -119,7 +119,7 @@ class Builds(unittest.TestCase):
         self.assertNotIn("low", calls)
 
     def test_two_builds_at_once_prove_each_crate_once(self) -> None:
-        first, second = self.start(wait=0.3), self.start(wait=0.3)
+        first, second = self.start(wait=0.8), self.start(wait=0.8)
         said = first.communicate(timeout=60)[1] + second.communicate(timeout=60)[1]
         self.assertEqual((first.returncode, second.returncode), (0, 0), said)
         self.assertIn("waiting for another build", said)

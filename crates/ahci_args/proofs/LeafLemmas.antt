@@ -21,7 +21,7 @@ use Rattle.clap.specs.declared.error.kind.ErrorKind.TheVariants.{DisplayHelp}
 use Rattle.clap.specs.declared.builder.value_parser.ValueParser.TheVariants.{Signed, Unsigned}
 use Rattle.clap.proofs.ValueTestLemmas.{accepts-Accepts}
 use Rattle.clap.proofs.WalkLemmas.{list_any-map}
-use Rattle.ahci_args.specs.CommandLine.{PickWords, flag, index_option, number_option, pick_option}
+use Rattle.ahci_args.specs.CommandLine.{PickWords, bound_option, flag, index_option, number_option, pick_option}
 use Rattle.ahci_args.specs.Asking.{HasFlag, HasNumber, HasPick}
 use Rattle.ahci_args.specs.declared.pick.Pick.{Pick}
 use Rattle.ahci_args.specs.declared.pick.Pick.TheVariants.{Low, High, All}
@@ -208,19 +208,27 @@ number_of id rows last t =
     )
 
 -- from 0 on
-pub index_of : (id : Text) (rows : List Row) (last : ℕ) → TextOf (filled (index_option id last)) rows → (n : ℕ) × HasNumber rows id 0 last n
-index_of id rows last t =
-    let fine = accepts-Accepts false (Unsigned 0 last) t.text t.passed in (
-      digits_value 10 (without_leading_plus t.text),
+number_in : (id : Text) (rows : List Row) (last : ℕ) (text : Text) → one_of id rows ≡ Some text → accepts false (Unsigned 0 last) text ≡ true
+    → (n : ℕ) × HasNumber rows id 0 last n
+number_in id rows last text one passed =
+    let fine = accepts-Accepts false (Unsigned 0 last) text passed in (
+      digits_value 10 (without_leading_plus text),
       record {
-        text = t.text;
-        given = t.one;
+        text = text;
+        given = one;
         digits = fine.0;
         value = refl;
         least = fine.2;
         most = fine.3;
       },
     )
+
+pub index_of : (id : Text) (rows : List Row) (last : ℕ) → TextOf (filled (index_option id last)) rows → (n : ℕ) × HasNumber rows id 0 last n
+index_of id rows last t = number_in id rows last t.text t.one t.passed
+
+-- with a default
+pub bound_of : (id : Text) (rows : List Row) (last : ℕ) (default : Text) → TextOf (filled (bound_option id last default)) rows → (n : ℕ) × HasNumber rows id 0 last n
+bound_of id rows last default t = number_in id rows last t.text t.one t.passed
 
 -- ---- the pick and a flag
 

@@ -16,11 +16,11 @@ use Rattle.clap.specs.declared.parser.matches.ArgMatches.{ArgMatches}
 use Rattle.clap.specs.declared.parser.matches.ArgMatches.TheViews.{out-ArgMatches, out-SubCommand}
 use Rattle.clap.specs.declared.parser.matches.SubCommand.{SubCommand}
 use Rattle.ahci_args.specs.CommandLine.{PickWords, ahci}
-use Rattle.ahci_args.specs.Usage.{error_fault, usage_faults, value_fault}
-use Rattle.ahci_args.specs.Asking.{AsksFor, AsksReplay, Finds, IsIdentifyOf, IsLogOf, IsRunOf, IsTraceOf}
+use Rattle.ahci_args.specs.Usage.{error_fault, form_fault, is_given, is_yes, usage_faults, value_fault}
+use Rattle.ahci_args.specs.Asking.{AsksFor, AsksReplay, Finds, HasFlag, IsCheckOf, IsDrawOf, IsIdentifyOf, IsLogOf, IsRunOf, IsTraceOf}
 use Rattle.ahci_args.specs.declared.request.Asked.{Asked}
-use Rattle.ahci_args.specs.declared.request.Asked.TheVariants.{Run, Identify, Log, Trace}
-use Rattle.ahci_args.proofs.SubcommandLemmas.{Subcommand, Runs, Identifies, Logs, Traces, Takes, known_as, known_by_name, name_of}
+use Rattle.ahci_args.specs.declared.request.Asked.TheVariants.{Run, Identify, Log, Trace, Check, Draw}
+use Rattle.ahci_args.proofs.SubcommandLemmas.{Subcommand, Runs, Identifies, Logs, Traces, Checks, Draws, Takes, known_as, known_by_name, name_of}
 use Rattle.ahci_args.proofs.WordLemmas.{Found, HasFound, finds}
 
 -- the words of `--pick` at some place
@@ -135,19 +135,39 @@ value_faults : {s : Subcommand} {picks : PickWords} {words : List Text} {options
 value_faults {s} {picks} {words} is =
     ap (λ k. or_else k (value_fault (subcommand_of (ahci picks) words))) is.no_fault ∙ ap value_fault is.found
 
--- a subcommand without an error byte has no further fault
+-- a subcommand but `log` and `run` has no further fault
 pub no_value_fault : {s : Subcommand} {picks : PickWords} {words : List Text} {options : List Row} → IsMet s picks words options
-    → bytes_eq (name_of s) (codes "log") ≡ false → usage_faults picks words ≡ []
-no_value_fault {options = options} is other = value_faults is ∙ ap (λ b. cond b (error_fault options) []) other
+    → bytes_eq (name_of s) (codes "log") ≡ false → bytes_eq (name_of s) (codes "run") ≡ false → usage_faults picks words ≡ []
+no_value_fault {s} {options = options} is no_log no_run =
+    value_faults is ∙ (ap (λ b. cond b (error_fault options) (cond (bytes_eq (name_of s) (codes "run")) (form_fault options) [])) no_log
+    ∙ ap (λ b. cond b (form_fault options) []) no_run)
 
 -- `log` fails by its error byte
 pub log_fails : {T : Type 0} {picks : PickWords} {words : List Text} {options : List Row} (r : Result T Error) → IsMet Logs picks words options
     → FailsBy (error_fault options) r → FailsBy (usage_faults picks words) r
 log_fails r is fails = subst (λ (k : Kinds). FailsBy k r) (sym (value_faults is)) fails
 
-pub asks_run : {picks : PickWords} {words : List Text} {options : List Row} (asked : Asked) → IsMet Runs picks words options → IsRunOf options asked → AsksFor words asked
-asks_run {options = options} (Run w d s p) is_met is = record { options = options; finds = is_met.finds; has = is }
+-- `run` fails by its flags
+pub run_fails : {T : Type 0} {picks : PickWords} {words : List Text} {options : List Row} (r : Result T Error) → IsMet Runs picks words options
+    → FailsBy (form_fault options) r → FailsBy (usage_faults picks words) r
+run_fails r is fails = subst (λ (k : Kinds). FailsBy k r) (sym (value_faults is)) fails
+
+asks_run : {picks : PickWords} {words : List Text} {options : List Row} (asked : Asked) → IsMet Runs picks words options → IsRunOf options asked → AsksFor words asked
+asks_run {options = options} (Run w d s p f) is_met is = record { options = options; finds = is_met.finds; has = is }
 asks_run other is_met is = absurd is
+
+pub run_answers : {picks : PickWords} {words : List Text} {options : List Row} (r : Result Asked Error) → IsMet Runs picks words options
+    → IfOk r (λ asked. IsRunOf options asked) → IfOk r (λ asked. AsksFor words asked)
+run_answers (Ok asked) is_met is = asks_run asked is_met is
+run_answers (Err e) is_met is = tt
+
+pub asks_check : {picks : PickWords} {words : List Text} {options : List Row} (asked : Asked) → IsMet Checks picks words options → IsCheckOf options asked → AsksFor words asked
+asks_check {options = options} (Check s j) is_met is = record { options = options; finds = is_met.finds; has = is }
+asks_check other is_met is = absurd is
+
+pub asks_draw : {picks : PickWords} {words : List Text} {options : List Row} (asked : Asked) → IsMet Draws picks words options → IsDrawOf options asked → AsksFor words asked
+asks_draw {options = options} (Draw a b) is_met is = record { options = options; finds = is_met.finds; has = is }
+asks_draw other is_met is = absurd is
 
 pub asks_identify : {picks : PickWords} {words : List Text} {options : List Row} (asked : Asked) → IsMet Identifies picks words options → IsIdentifyOf options asked → AsksFor words asked
 asks_identify {options = options} (Identify s d r) is_met is = record { options = options; finds = is_met.finds; has = is }
@@ -171,6 +191,11 @@ pub flag_read : (o : Option Text) (given read : Bool) → o ≡ Some (cond given
     → (o ≡ Some (codes "true") → read ≡ true) → (o ≡ Some (codes "false") → read ≡ false) → o ≡ Some (cond read (codes "true") (codes "false"))
 flag_read o true read is on off = is ∙ ap (λ b. Some (cond b (codes "true") (codes "false"))) (sym (on is))
 flag_read o false read is on off = is ∙ ap (λ b. Some (cond b (codes "true") (codes "false"))) (sym (off is))
+
+-- a flag that has a value is given or not
+pub flag_given : (options : List Row) (name : Text) (given : Bool) → HasFlag options name given → is_given options name ≡ given
+flag_given options name true has = ap is_yes has
+flag_given options name false has = ap is_yes has
 
 pub same_text : (a b : Text) → Some a ≡ Some b → a ≡ b
 same_text a b e = cc

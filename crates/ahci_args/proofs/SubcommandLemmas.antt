@@ -9,10 +9,14 @@ use Rattle.clap.specs.Faults.{level_fault}
 use Rattle.ahci_args.specs.CommandLine.{
   PickWords,
   ahci,
+  bound_option,
+  check,
+  draw,
   error_option,
   flag,
   identify,
   index_option,
+  last_entry,
   last_lba,
   last_tag,
   log,
@@ -21,12 +25,11 @@ use Rattle.ahci_args.specs.CommandLine.{
   most_workers,
   number_option,
   pick_option,
-  plain,
   run,
   trace,
 }
-use Rattle.ahci_args.specs.Asking.{TakesForm, TakesOptions, TakesPlace, TakesSize}
-use Rattle.ahci_args.proofs.LeafLemmas.{default_text, fits_only, flag_of, help_fits, index_of, number_of, pick_of, required_text}
+use Rattle.ahci_args.specs.Asking.{TakesBounds, TakesForm, TakesKind, TakesOptions, TakesPlace, TakesSize}
+use Rattle.ahci_args.proofs.LeafLemmas.{bound_of, default_text, fits_only, flag_of, help_fits, index_of, number_of, pick_of, required_text}
 use Rattle.ahci_args.proofs.RowLemmas.{HasOptionsOnly, flag_fits, option_fits}
 
 -- ---- the subcommands but `replay`
@@ -72,12 +75,12 @@ no_name name r i l t k w Draws = w
 
 -- as they are built
 abbrev pub leaf_of : PickWords → Subcommand → Shape
-leaf_of picks Runs = slice_index_or (built (ahci picks)).subs 1 (run picks)
-leaf_of picks Identifies = slice_index_or (built (ahci picks)).subs 2 identify
-leaf_of picks Logs = slice_index_or (built (ahci picks)).subs 3 log
-leaf_of picks Traces = slice_index_or (built (ahci picks)).subs 4 trace
-leaf_of picks Checks = slice_index_or (built (ahci picks)).subs 5 (plain (codes "check"))
-leaf_of picks Draws = slice_index_or (built (ahci picks)).subs 6 (plain (codes "draw"))
+leaf_of picks Runs = slice_index_or (built (ahci picks)).subs 4 (run picks)
+leaf_of picks Identifies = slice_index_or (built (ahci picks)).subs 5 identify
+leaf_of picks Logs = slice_index_or (built (ahci picks)).subs 6 log
+leaf_of picks Traces = slice_index_or (built (ahci picks)).subs 1 trace
+leaf_of picks Checks = slice_index_or (built (ahci picks)).subs 2 check
+leaf_of picks Draws = slice_index_or (built (ahci picks)).subs 3 draw
 
 -- the options have their values
 abbrev pub Takes : Subcommand → List Row → Type 0
@@ -85,8 +88,8 @@ Takes Runs options = TakesOptions options
 Takes Identifies options = TakesSize options
 Takes Logs options = TakesPlace options
 Takes Traces options = TakesForm options
-Takes Checks options = Unit {0}
-Takes Draws options = Unit {0}
+Takes Checks options = TakesKind options
+Takes Draws options = TakesBounds options
 
 -- the words are no fault of a subcommand
 abbrev pub HasNoFault : Shape → List Text → Type 0
@@ -103,6 +106,15 @@ depth = filled (number_option (codes "depth") most_depth)
 abbrev sectors : Rule
 sectors = filled (number_option (codes "sectors") most_sectors)
 
+abbrev json : Rule
+json = filled (flag (codes "json"))
+
+abbrev journal : Rule
+journal = filled (flag (codes "journal"))
+
+abbrev image : Rule
+image = filled (flag (codes "image"))
+
 run_only : (picks : PickWords) → HasOptionsOnly (leaf_of picks Runs).rules
 run_only picks =
     let c = (leaf_of picks Runs).rules in
@@ -114,7 +126,16 @@ run_only picks =
           option_fits c sectors (inr (inr (inl refl))) refl refl,
           (
             option_fits c (filled (pick_option picks)) (inr (inr (inr (inl refl)))) refl refl,
-            (help_fits c, tt),
+            (
+              flag_fits c json (codes "true") [] (inr (inr (inr (inr (inl refl))))) refl refl,
+              (
+                flag_fits c journal (codes "true") [] (inr (inr (inr (inr (inr (inl refl)))))) refl refl,
+                (
+                  flag_fits c image (codes "true") [] (inr (inr (inr (inr (inr (inr (inl refl))))))) refl refl,
+                  (help_fits c, tt),
+                ),
+              ),
+            ),
           ),
         ),
       ),
@@ -129,12 +150,21 @@ run_options picks words e =
     let d = number_of (codes "depth") rows most_depth (required_text leaf only refl refl words e depth (inr (inl refl)) refl) in
     let s = number_of (codes "sectors") rows most_sectors (required_text leaf only refl refl words e sectors (inr (inr (inl refl))) refl) in
     let p = pick_of picks rows (default_text leaf only refl refl words e (filled (pick_option picks)) (codes "low") [] (inr (inr (inr (inl refl)))) refl) in
+    let j = flag_of (codes "json") rows (default_text leaf only refl refl words e json (codes "false") [] (inr (inr (inr (inr (inl refl))))) refl) in
+    let l = flag_of (codes "journal") rows (default_text leaf only refl refl words e journal (codes "false") [] (inr (inr (inr (inr (inr (inl refl)))))) refl) in
+    let i = flag_of (codes "image") rows (default_text leaf only refl refl words e image (codes "false") [] (inr (inr (inr (inr (inr (inr (inl refl))))))) refl) in
     record {
       workers = w.0;
       depth = d.0;
       sectors = s.0;
       pick = p.0;
       has = record { workers = w.1; depth = d.1; sectors = s.1; pick = p.1 };
+      json = j.0;
+      journal = l.0;
+      image = i.0;
+      has_json = j.1;
+      has_journal = l.1;
+      has_image = i.1;
     }
 
 -- ---- `identify`
@@ -216,9 +246,6 @@ log_options picks words e =
 
 -- ---- `trace`
 
-abbrev json : Rule
-json = filled (flag (codes "json"))
-
 trace_only : (picks : PickWords) → HasOptionsOnly (leaf_of picks Traces).rules
 trace_only picks =
     let c = (leaf_of picks Traces).rules in
@@ -230,6 +257,54 @@ trace_options picks words e =
     let j = flag_of (codes "json") (rows_after leaf.rules [] words) (default_text leaf (trace_only picks) refl refl words e json (codes "false") [] (inl refl) refl) in
     record { json = j.0; has = j.1 }
 
+-- ---- `check`
+
+abbrev jobs : Rule
+jobs = filled (flag (codes "jobs"))
+
+check_only : (picks : PickWords) → HasOptionsOnly (leaf_of picks Checks).rules
+check_only picks =
+    let c = (leaf_of picks Checks).rules in
+    fits_only c (
+      flag_fits c jobs (codes "true") [] (inl refl) refl refl,
+      (flag_fits c json (codes "true") [] (inr (inl refl)) refl refl, (help_fits c, tt)),
+    ) (λ i. refl)
+
+check_options : (picks : PickWords) (words : List Text) → HasNoFault (leaf_of picks Checks) words → TakesKind (rows_after (leaf_of picks Checks).rules [] words)
+check_options picks words e =
+    let leaf = leaf_of picks Checks in
+    let rows = rows_after leaf.rules [] words in
+    let only = check_only picks in
+    let s = flag_of (codes "jobs") rows (default_text leaf only refl refl words e jobs (codes "false") [] (inl refl) refl) in
+    let j = flag_of (codes "json") rows (default_text leaf only refl refl words e json (codes "false") [] (inr (inl refl)) refl) in
+    record { jobs = s.0; json = j.0; has = record { jobs_is = s.1; json_is = j.1 } }
+
+-- ---- `draw`
+
+abbrev from : Rule
+from = filled (bound_option (codes "from") last_entry (codes "0"))
+
+abbrev to : Rule
+to = filled (bound_option (codes "to") last_entry (codes "18446744073709551615"))
+
+draw_only : (picks : PickWords) → HasOptionsOnly (leaf_of picks Draws).rules
+draw_only picks =
+    let c = (leaf_of picks Draws).rules in
+    fits_only c (
+      option_fits c from (inl refl) refl refl,
+      (option_fits c to (inr (inl refl)) refl refl, (help_fits c, tt)),
+    ) (λ i. refl)
+
+draw_options : (picks : PickWords) (words : List Text) → HasNoFault (leaf_of picks Draws) words → TakesBounds (rows_after (leaf_of picks Draws).rules [] words)
+draw_options picks words e =
+    let leaf = leaf_of picks Draws in
+    let rows = rows_after leaf.rules [] words in
+    let only = draw_only picks in
+    let a = bound_of (codes "from") rows last_entry (codes "0") (default_text leaf only refl refl words e from (codes "0") [] (inl refl) refl) in
+    let b = bound_of (codes "to") rows last_entry (codes "18446744073709551615")
+    (default_text leaf only refl refl words e to (codes "18446744073709551615") [] (inr (inl refl)) refl) in
+    record { from = a.0; to = b.0; has = record { from = a.1; to = b.1 } }
+
 -- ---- each of them
 
 pub takes_options : (picks : PickWords) (s : Subcommand) (words : List Text) → HasNoFault (leaf_of picks s) words → Takes s (rows_after (leaf_of picks s).rules [] words)
@@ -237,5 +312,5 @@ takes_options picks Runs words e = run_options picks words e
 takes_options picks Identifies words e = identify_options picks words e
 takes_options picks Logs words e = log_options picks words e
 takes_options picks Traces words e = trace_options picks words e
-takes_options picks Checks words e = tt
-takes_options picks Draws words e = tt
+takes_options picks Checks words e = check_options picks words e
+takes_options picks Draws words e = draw_options picks words e

@@ -9,10 +9,6 @@ use Rattle.clap.specs.declared.builder.value_parser.ValueParser.TheVariants.{Nam
 abbrev pub replay : Shape
 replay = (new_app (codes "replay")).top
 
--- a subcommand of this name, which takes no arguments either
-abbrev pub plain : Text → Shape
-plain name = (new_app name).top
-
 -- an option that has to be given, with a number from 1 to `most`
 abbrev pub number_option : Text → ℕ → Rule
 number_option name most = record (new_rule name) {
@@ -28,6 +24,15 @@ index_option name last = record (new_rule name) {
   long = Some name;
   value_names = 1;
   required = true;
+  parser = Some (Unsigned 0 last);
+}
+
+-- an option with a number from 0 to `last`, which is `default` unless it is given
+abbrev pub bound_option : Text → ℕ → Text → Rule
+bound_option name last default = record (new_rule name) {
+  long = Some name;
+  value_names = 1;
+  defaults = default ∷ [];
   parser = Some (Unsigned 0 last);
 }
 
@@ -60,7 +65,8 @@ pick_option picks = record (new_rule (codes "pick")) {
   parser = Some (Names picks.words);
 }
 
--- the most workers of a run, slots of a port and sectors of a disk; the last tag, and the last LBA of 48 bits
+-- the most workers of a run, slots of a port and sectors of a disk; the last tag, the last LBA of 48 bits, and the last number
+-- of 64 bits
 abbrev pub most_workers : ℕ
 most_workers = 32
 
@@ -76,13 +82,23 @@ last_tag = 31
 abbrev pub last_lba : ℕ
 last_lba = 281474976710655
 
--- the subcommand `run` with its options
-abbrev pub run : PickWords → Shape
-run picks = (with_rule (with_rule (with_rule (with_rule (new_app (codes "run"))
+abbrev pub last_entry : ℕ
+last_entry = 18446744073709551615
+
+-- the options of `run`, and with its flags the whole
+abbrev pub run_options : PickWords → App
+run_options picks = with_rule (with_rule (with_rule (with_rule (new_app (codes "run"))
     (number_option (codes "workers") most_workers))
     (number_option (codes "depth") most_depth))
     (number_option (codes "sectors") most_sectors))
-    (pick_option picks)).top
+    (pick_option picks)
+
+-- the subcommand `run`
+abbrev pub run : PickWords → Shape
+run picks = (with_rule (with_rule (with_rule (run_options picks)
+    (flag (codes "json")))
+    (flag (codes "journal")))
+    (flag (codes "image"))).top
 
 -- the subcommand `identify` with its options
 abbrev pub identify : Shape
@@ -103,6 +119,16 @@ log = (with_rule (with_rule (with_rule (with_rule (new_app (codes "log"))
 abbrev pub trace : Shape
 trace = (with_rule (new_app (codes "trace")) (flag (codes "json"))).top
 
+-- the subcommand `check` with its flags
+abbrev pub check : Shape
+check = (with_rule (with_rule (new_app (codes "check")) (flag (codes "jobs"))) (flag (codes "json"))).top
+
+-- the subcommand `draw` with the numbers of its first and its last entry
+abbrev pub draw : Shape
+draw = (with_rule (with_rule (new_app (codes "draw"))
+    (bound_option (codes "from") last_entry (codes "0")))
+    (bound_option (codes "to") last_entry (codes "18446744073709551615"))).top
+
 -- `ahci` without its subcommands: it has a version, and wants a subcommand
 abbrev pub top : Shape
 top = record (new_app (codes "ahci")).top { has_version = true; subcommand_required = true }
@@ -111,16 +137,19 @@ abbrev pub ahci : PickWords → App
 ahci picks =
     with_subcommand (with_subcommand (with_subcommand (with_subcommand (with_subcommand (with_subcommand (with_subcommand (record { top = top; subs = [] })
     replay)
+    trace)
+    check)
+    draw)
     (run picks))
     identify)
-    log)
-    trace)
-    (plain (codes "check")))
-    (plain (codes "draw"))
+    log
 
 -- what the parser has been told
 abbrev pub IsPickOption : Rule → Type 0
 IsPickOption rule = (picks : PickWords) × (rule ≡ pick_option picks)
+
+abbrev pub IsRunOptions : App → Type 0
+IsRunOptions app = (picks : PickWords) × (app ≡ run_options picks)
 
 abbrev pub IsRun : Shape → Type 0
 IsRun shape = (picks : PickWords) × (shape ≡ run picks)

@@ -2,14 +2,16 @@
 ghost use Rattle.std.specs.Prelude.{◌≡◌, [], IfErr, IfOk, codes, false, pos};
 ghost use Rattle.clap.specs.Words.{app_of, kind_of, rule_of, shape_of};
 ghost use Rattle.clap.specs.declared.builder.command.Command.TheViews.{out-Command as fields_of};
-ghost use Rattle.ahci_args.specs.CommandLine.{IsAhci, IsPickOption, IsRun, error_option, flag, identify, index_option, log, number_option, plain, replay, top, trace};
+ghost use Rattle.ahci_args.specs.CommandLine.{IsAhci, IsPickOption, IsRun, IsRunOptions, bound_option, check, draw, error_option, flag, identify, index_option, log, number_option, replay, top, trace};
 
 use crate::help::{
-    ABOUT, CHECK_ABOUT, CHECK_HELP, CHECK_LONG_ABOUT, DEPTH_HELP, DRAW_ABOUT, DRAW_HELP,
-    DRAW_LONG_ABOUT, ERROR_HELP, EXAMPLES, IDENTIFY_ABOUT, IDENTIFY_DEPTH_HELP, IDENTIFY_HELP,
-    IDENTIFY_LONG_ABOUT, JSON_HELP, LBA_HELP, LOG_ABOUT, LOG_HELP, LOG_LONG_ABOUT, PICK_HELP,
-    RAW_HELP, REPLAY_ABOUT, REPLAY_HELP, REPLAY_LONG_ABOUT, RUN_ABOUT, RUN_HELP, RUN_LONG_ABOUT,
-    SECTORS_HELP, TAG_HELP, TRACE_ABOUT, TRACE_HELP, TRACE_LONG_ABOUT, VERSION, WORKERS_HELP,
+    ABOUT, CHECK_ABOUT, CHECK_HELP, CHECK_JSON_HELP, CHECK_LONG_ABOUT, DEPTH_HELP, DRAW_ABOUT,
+    DRAW_HELP, DRAW_LONG_ABOUT, ERROR_HELP, EXAMPLES, FROM_HELP, IDENTIFY_ABOUT,
+    IDENTIFY_DEPTH_HELP, IDENTIFY_HELP, IDENTIFY_LONG_ABOUT, IMAGE_HELP, JOBS_HELP, JOURNAL_HELP,
+    JSON_HELP, LBA_HELP, LOG_ABOUT, LOG_HELP, LOG_LONG_ABOUT, PICK_HELP, RAW_HELP, REPLAY_ABOUT,
+    REPLAY_HELP, REPLAY_LONG_ABOUT, RUN_ABOUT, RUN_HELP, RUN_JSON_HELP, RUN_LONG_ABOUT,
+    SECTORS_HELP, TAG_HELP, TO_HELP, TRACE_ABOUT, TRACE_HELP, TRACE_LONG_ABOUT, VERSION,
+    WORKERS_HELP,
 };
 use clap::builder::ValueParser;
 use clap::error::ErrorKind;
@@ -31,6 +33,9 @@ pub const LAST_TAG: u64 = 31;
 /// The last LBA of 48 bits.
 pub const LAST_LBA: u64 = 281_474_976_710_655;
 
+/// The last number of 64 bits, which no entry of a journal has.
+pub const LAST_ENTRY: u64 = 18_446_744_073_709_551_615;
+
 /// The words that `--pick` takes.
 static PICKS: [&str; 3] = ["low", "high", "all"];
 
@@ -41,12 +46,12 @@ pub(crate) fn ahci_command<'a>(alloc: Global) -> Result<Command<'a>, Error>
 {
     let ahci = top_command(alloc)?
         .subcommand(replay_command(alloc))?
+        .subcommand(trace_command(alloc)?)?
+        .subcommand(check_command(alloc)?)?
+        .subcommand(draw_command(alloc)?)?
         .subcommand(run_command(alloc)?)?
         .subcommand(identify_command(alloc)?)?
-        .subcommand(log_command(alloc)?)?
-        .subcommand(trace_command(alloc)?)?
-        .subcommand(check_command(alloc))?
-        .subcommand(draw_command(alloc))?;
+        .subcommand(log_command(alloc)?)?;
     Ok(ahci)
 }
 
@@ -75,31 +80,49 @@ fn replay_command<'a>(alloc: Global) -> Command<'a>
         .after_help(REPLAY_HELP)
 }
 
-/// The subcommand `check`, which takes no arguments.
-fn check_command<'a>(alloc: Global) -> Command<'a>
-    ensures shape { shape_of result ≡ plain (codes "check") }
-    ensures local { (fields_of result).has_globals ≡ false }
+/// The subcommand `check` with its flags.
+fn check_command<'a>(alloc: Global) -> Result<Command<'a>, Error>
+    ensures ok { IfOk result (λ c. (shape_of c ≡ check) × ((fields_of c).has_globals ≡ false)) }
+    ensures err { IfErr result (λ e. kind_of e ≡ ErrorKind.OutOfMemory) }
 {
-    Command::new(alloc, "check")
+    let check = Command::new(alloc, "check")
         .about(CHECK_ABOUT)
         .long_about(CHECK_LONG_ABOUT)
         .after_help(CHECK_HELP)
+        .arg(flag(alloc, "jobs", JOBS_HELP))?
+        .arg(flag(alloc, "json", CHECK_JSON_HELP))?;
+    Ok(check)
 }
 
-/// The subcommand `draw`, which takes no arguments.
-fn draw_command<'a>(alloc: Global) -> Command<'a>
-    ensures shape { shape_of result ≡ plain (codes "draw") }
-    ensures local { (fields_of result).has_globals ≡ false }
+/// The subcommand `draw` with its options.
+fn draw_command<'a>(alloc: Global) -> Result<Command<'a>, Error>
+    ensures ok { IfOk result (λ c. (shape_of c ≡ draw) × ((fields_of c).has_globals ≡ false)) }
+    ensures err { IfErr result (λ e. kind_of e ≡ ErrorKind.OutOfMemory) }
 {
-    Command::new(alloc, "draw")
+    let draw = Command::new(alloc, "draw")
         .about(DRAW_ABOUT)
         .long_about(DRAW_LONG_ABOUT)
         .after_help(DRAW_HELP)
+        .arg(bound_option(alloc, "from", "0").help(FROM_HELP))?
+        .arg(bound_option(alloc, "to", "18446744073709551615").help(TO_HELP))?;
+    Ok(draw)
 }
 
-/// The subcommand `run` with its options.
-fn run_command<'a>(alloc: Global) -> Result<Command<'a>, Error>
+/// The subcommand `run` with its options, and with its flags.
+pub(crate) fn run_command<'a>(alloc: Global) -> Result<Command<'a>, Error>
     ensures ok { IfOk result (λ c. IsRun (shape_of c) × ((fields_of c).has_globals ≡ false)) }
+    ensures err { IfErr result (λ e. kind_of e ≡ ErrorKind.OutOfMemory) }
+{
+    let run = run_options(alloc)?
+        .arg(flag(alloc, "json", RUN_JSON_HELP))?
+        .arg(flag(alloc, "journal", JOURNAL_HELP))?
+        .arg(flag(alloc, "image", IMAGE_HELP))?;
+    Ok(run)
+}
+
+/// The subcommand `run` with the options that have values.
+fn run_options<'a>(alloc: Global) -> Result<Command<'a>, Error>
+    ensures ok { IfOk result (λ c. IsRunOptions (app_of c) × ((fields_of c).has_globals ≡ false)) }
     ensures err { IfErr result (λ e. kind_of e ≡ ErrorKind.OutOfMemory) }
 {
     let run = Command::new(alloc, "run")
@@ -186,6 +209,19 @@ fn index_option<'a>(alloc: Global, name: &'a str, last: u64) -> Arg<'a>
         .value_name("NUMBER")
         .required(true)
         .value_parser(ValueParser::unsigned(0, last))
+}
+
+/// An option with a number from 0 to `LAST_ENTRY`, which is `default` unless it is given; help doesn't show it.
+fn bound_option<'a>(alloc: Global, name: &'a str, default: &'a str) -> Arg<'a>
+    ensures rule { rule_of result ≡ bound_option name.entry.now LAST_ENTRY default.entry.now }
+    ensures local { result.global ≡ false }
+{
+    Arg::new(alloc, name)
+        .long(name)
+        .value_name("NUMBER")
+        .default_value(default)
+        .hide_default_value(true)
+        .value_parser(ValueParser::unsigned(0, LAST_ENTRY))
 }
 
 /// The option `--error`, whose text is looked at once the words are parsed.

@@ -43,7 +43,8 @@ S, D, F, T, LBA, N, K and W are decimal numbers. BB and EE are two hexadecimal d
 OFF and MASK one to eight, H 64, and B two for each byte. An empty line, and a line that
 begins with #, is skipped.
 A command that the port refuses changes nothing: its answer is 'refused' and a name,
-and the script goes on.
+and the script goes on. Where a line is not understood, 'ahci check' tells its column and why.
+A script in a file is given by the shell, '< script.ahci': the program opens no files.
 
 Exit status:
   0  the input ended
@@ -71,8 +72,17 @@ pub(crate) const SECTORS_HELP: &str = "How many sectors of 512 bytes the disk ha
 pub(crate) const PICK_HELP: &str =
     "The tag whose command the device goes on with: the lowest, the highest, or all at once";
 
+pub(crate) const RUN_JSON_HELP: &str =
+    "Write one JSON object a line, for tools: each job with its worker, number, entry and answer";
+
+pub(crate) const JOURNAL_HELP: &str =
+    "Write the port's journal as a script, which replay, trace and draw take";
+
+pub(crate) const IMAGE_HELP: &str = "Write the disk's bytes at the end, as they are";
+
 pub(crate) const RUN_HELP: &str =
-    "The options --workers, --depth and --sectors have no default. Each option is given once.
+    "The options --workers, --depth and --sectors have no default. Each option is given once, and of
+--json, --journal and --image one at most.
 
 Jobs, one a line, numbered from 0:
   write LBA N BB   write N sectors of the byte BB, from the sector LBA on
@@ -82,11 +92,11 @@ LBA and N are decimal numbers, N from 0 to 131072; a job may have 1 to 65536 sec
 an LBA below 2^48. BB is two hexadecimal digits. An empty line, and a line that begins with #,
 is skipped and is no job. Nothing is written before all jobs are read and done.
 
-Written then, a line for each job in the order of the jobs:
+Written then, unless another form is asked for, a line for each job in the order of the jobs:
   wrote            the sectors are written
   read BB ..       the first byte of each sector that was read
   failed EE LBA    the disk failed the job with the error EE, at a sector that it lacks
-and behind them, rising:
+and after them, rising:
   sector LBA BB    a sector that is not all zero, by its first byte
 
 Exit status:
@@ -98,7 +108,8 @@ Exit status:
 
 Examples:
   printf 'write 0 2 11\\nread 1 1\\n' | ahci run --workers 2 --depth 2 --sectors 8
-  ahci run --workers 8 --depth 32 --sectors 131072 --pick high < jobs.txt";
+  ahci run --workers 8 --depth 32 --sectors 131072 --pick high < jobs.txt
+  ahci run --workers 8 --depth 32 --sectors 1000 --journal < jobs.txt | ahci draw > run.svg";
 
 pub(crate) const IDENTIFY_ABOUT: &str =
     "Write the page that IDENTIFY DEVICE reads of a disk, as text or as it is";
@@ -172,14 +183,22 @@ pub(crate) const TRACE_ABOUT: &str =
 
 pub(crate) const TRACE_LONG_ABOUT: &str =
     "Read a script on standard input, as replay does, and answer it on standard output.
-Behind each answer stands, in lines that are indented by two spaces, what the command did to the
+After each answer stands, in lines that are indented by two spaces, what the command did to the
 port: the journal's new entries, the bytes that were sent and received, registers that changed,
 and the slots that are owned.";
 
 pub(crate) const JSON_HELP: &str = "Write one JSON object a line, for tools, in place of the text";
 
-pub(crate) const TRACE_HELP: &str =
-    "The commands of a script, its faults and the statuses are those of replay.
+pub(crate) const TRACE_HELP: &str = "Lines after an answer:
+  entry E: ..            a new entry of the journal, which has the number E
+  sent command header .. the 32 bytes of the header of a command that was issued
+  sent CFIS ..           the 20 bytes of its Register FIS, from the host to the device
+  sent PRDT entry ..     the 16 bytes of each entry of its PRDT
+  received NAME FIS ..   a FIS that came into the received FIS area, byte by byte
+  NAME WORD  BIT, ..     a register that has changed, in hexadecimal, and its bits that are 1
+  slot T PHASE           each slot that is owned: issued, accepted, rejected, broken, held or done
+
+The commands of a script, its faults and the statuses are those of replay.
 
 Examples:
   printf 'disk 8 4\\nwrite 0 3 1 aa\\naccept 0\\nserve 0\\n' | ahci trace
@@ -190,30 +209,50 @@ pub(crate) const CHECK_ABOUT: &str =
 
 pub(crate) const CHECK_LONG_ABOUT: &str =
     "Read a script on standard input, and judge it line by line. Nothing is run.
-Each line that replay would not understand, or that stands where it may not, and each one that
-every port refuses, is told by its number, the column and the rule.";
+Each line at which replay would end, and each one that every port with so many sectors and slots
+refuses, is told by its number, the column and what is wrong: one line on standard output, before
+more of the input is read.";
 
-pub(crate) const CHECK_HELP: &str = "Exit status:
+pub(crate) const JOBS_HELP: &str = "Judge a list of jobs, as run takes it, and not a script";
+
+pub(crate) const CHECK_JSON_HELP: &str =
+    "Write one JSON object for each faulty line, for tools, in place of the text";
+
+pub(crate) const CHECK_HELP: &str =
+    "A column counts bytes from 1. Each line is told once at most: by the first word that is wrong, from
+the left. From the first good 'disk S D' on it is known how many sectors and slots there are. What
+a port refuses by what it has done before, as a tag that is not free, is not told.
+
+Exit status:
   0  no line is faulty
-  1  some line was told, or input or output failed
+  1  some line is faulty
   2  the command line was wrong
   3  the system gave no memory
+  4  input or output failed
 
-Example:
-  printf 'write 0 3 1 aa\\ndisk 8 40\\n' | ahci check";
+Examples:
+  printf 'write 0 3 1 aa\\ndisk 8 40\\n' | ahci check
+  printf 'write 0 0 11\\n' | ahci check --jobs --json";
 
 pub(crate) const DRAW_ABOUT: &str =
     "Read a script on standard input, and draw what the port did, as SVG";
 
 pub(crate) const DRAW_LONG_ABOUT: &str =
     "Read a script on standard input, run it as replay does, and draw the port's journal as SVG on
-standard output: entries from left to right, a lane for each tag with its phases in colour,
-failures and recoveries as dashed lines, and below them how many tags the device has. A pointer
-shows each entry with its answer.";
+standard output: entries from left to right, in rows of a hundred, with a lane for each tag that is
+used. A bar is a phase of the tag, a letter what an entry did to it: R and W issued, N issued
+again, A accepted, C completed, X failed, V recovered, E collected. Lines across all lanes are
+failures and recoveries; below them stands how many tags the device has. A pointer on a letter
+shows the entry in words.";
+
+pub(crate) const FROM_HELP: &str = "The number of the first entry that is drawn, where not all are";
+
+pub(crate) const TO_HELP: &str = "The number of the last entry that is drawn";
 
 pub(crate) const DRAW_HELP: &str =
     "The commands of a script, its faults and the statuses are those of replay. At a fault the picture
 shows what was done before it.
 
-Example:
-  printf 'disk 8 4\\nwrite 0 3 1 aa\\naccept 0\\nserve 0\\n' | ahci draw > picture.svg";
+Examples:
+  printf 'disk 8 4\\nwrite 0 3 1 aa\\naccept 0\\nserve 0\\n' | ahci draw > picture.svg
+  ahci draw --from 1000 --to 1199 < script.ahci > part.svg";

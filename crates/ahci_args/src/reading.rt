@@ -1,14 +1,16 @@
 ghost use Rattle.std.specs.Prelude.{◌≡◌, ℕ, Bool, IfErr, IfOk, map};
 ghost use Rattle.std.specs.String.{string_bytes};
 ghost use Rattle.clap.specs.Words.{FailsBy, found_of, kind_of, rows_of};
-ghost use Rattle.ahci_args.specs.Asking.{AsksFor, AsksReplay, FailsByUsage, HasFlag, HasNumber, HasPick, IsIdentifyOf, IsLogOf, IsRunOf, IsTraceOf, TakesForm, TakesOptions, TakesPlace, TakesSize};
-ghost use Rattle.ahci_args.specs.Usage.{error_byte, error_fault};
+ghost use Rattle.ahci_args.specs.Asking.{AsksFor, AsksReplay, FailsByUsage, HasFlag, HasNumber, HasPick, IsCheckOf, IsDrawOf, IsIdentifyOf, IsLogOf, IsRunOf, IsTraceOf, TakesBounds, TakesForm, TakesKind, TakesOptions, TakesPlace, TakesSize};
+ghost use Rattle.ahci_args.specs.Usage.{error_byte, error_fault, form_fault, form_in};
 ghost use Rattle.ahci_args.specs.declared.pick.Pick.{Pick};
 
 use crate::command::ahci_command;
 use crate::error_byte::{hex_byte, not_a_byte};
+use crate::forms::{form_by, two_forms};
 use crate::pick::Pick;
 use crate::request::Asked;
+use crate::run_form::RunForm;
 use clap::error::ErrorKind;
 use clap::{ArgMatches, Error};
 use std::alloc::Global;
@@ -22,27 +24,44 @@ pub fn asked<'a>(alloc: Global, words: &'a [String]) -> Result<Asked, Error>
 {
     let matches = ahci_command(alloc)?.try_get_matches_from(words)?;
     match matches.subcommand() {
-        Some(("run", options)) => Ok(run_asked(options)),
+        Some(("run", options)) => run_asked(alloc, options),
         Some(("identify", options)) => Ok(identify_asked(options)),
         Some(("log", options)) => log_asked(alloc, options),
         Some(("trace", options)) => Ok(trace_asked(options)),
-        Some(("check", _)) => Ok(Asked::Check),
-        Some(("draw", _)) => Ok(Asked::Draw),
+        Some(("check", options)) => Ok(check_asked(options)),
+        Some(("draw", options)) => Ok(draw_asked(options)),
         _ => Ok(Asked::Replay),
     }
 }
 
-/// The run that its options ask for.
-fn run_asked(options: &ArgMatches<'_>) -> Asked
+/// The run that its options ask for. That at most one of its flags is given is left to this call.
+fn run_asked(alloc: Global, options: &ArgMatches<'_>) -> Result<Asked, Error>
     requires { TakesOptions (rows_of (found_of options.now)) }
-    ensures { IsRunOf (rows_of (found_of options.now)) result }
+    ensures ok { IfOk result (λ asked. IsRunOf (rows_of (found_of options.now)) asked) }
+    ensures faults { FailsBy (form_fault (rows_of (found_of options.now))) result }
 {
-    Asked::Run {
+    let Some(form) = form_of(options) else {
+        return Err(two_forms(alloc)?);
+    };
+    Ok(Asked::Run {
         workers: number(options, "workers") as u32,
         depth: number(options, "depth") as u32,
         sectors: number(options, "sectors") as u32,
         pick: pick(options),
-    }
+        form,
+    })
+}
+
+/// The form that the flags of a run ask for, or none where they are in conflict.
+fn form_of(options: &ArgMatches<'_>) -> Option<RunForm>
+    requires { TakesOptions (rows_of (found_of options.now)) }
+    ensures { result ≡ form_in (rows_of (found_of options.now)) }
+{
+    form_by(
+        flag(options, "json"),
+        flag(options, "journal"),
+        flag(options, "image"),
+    )
 }
 
 /// The identify page that its options ask for.
@@ -81,6 +100,29 @@ fn trace_asked(options: &ArgMatches<'_>) -> Asked
 {
     Asked::Trace {
         json: flag(options, "json"),
+    }
+}
+
+/// The check that its flags ask for.
+fn check_asked(options: &ArgMatches<'_>) -> Asked
+    requires { TakesKind (rows_of (found_of options.now)) }
+    ensures { IsCheckOf (rows_of (found_of options.now)) result }
+{
+    let json = flag(options, "json");
+    Asked::Check {
+        jobs: flag(options, "jobs"),
+        json,
+    }
+}
+
+/// The picture that its options ask for.
+fn draw_asked(options: &ArgMatches<'_>) -> Asked
+    requires { TakesBounds (rows_of (found_of options.now)) }
+    ensures { IsDrawOf (rows_of (found_of options.now)) result }
+{
+    Asked::Draw {
+        from: number(options, "from"),
+        to: number(options, "to"),
     }
 }
 

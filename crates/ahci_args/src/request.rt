@@ -1,4 +1,5 @@
 use crate::pick::Pick;
+use crate::run_form::RunForm;
 
 /// What a command line asks for.
 #[derive(Clone, Copy, Debug, PartialEq, Eq)]
@@ -10,10 +11,20 @@ pub enum Asked {
         /// One JSON object a line, and not the text.
         json: bool,
     },
-    /// `ahci check`: judge its lines, with nothing run.
-    Check,
+    /// `ahci check`: judge the lines on standard input, with nothing run.
+    Check {
+        /// The lines are jobs, and not a script.
+        jobs: bool,
+        /// One JSON object a line, and not the text.
+        json: bool,
+    },
     /// `ahci draw`: run it, and draw what the port did.
-    Draw,
+    Draw {
+        /// The number of the first entry that is drawn.
+        from: u64,
+        /// The number of the last one, at most `LAST_ENTRY`.
+        to: u64,
+    },
     /// `ahci run`: let workers do the jobs on standard input.
     Run {
         /// Threads that do the jobs, 1 to `MAX_WORKERS`.
@@ -23,6 +34,8 @@ pub enum Asked {
         /// Sectors of the disk, 1 to `MAX_SECTORS`.
         sectors: u32,
         pick: Pick,
+        /// What is written.
+        form: RunForm,
     },
     /// `ahci identify`: write the page that IDENTIFY DEVICE reads of a disk.
     Identify {

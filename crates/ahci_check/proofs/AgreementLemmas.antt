@@ -1,18 +1,32 @@
 -- A line that replay takes stands for the check too, and both have a disk after it or neither.
-use Rattle.std.proofs.Common.{◌≡◌, ℕ, suc, ◌+◌, ◌==◌, ◌||◌, Bool, true, false, cond, not, nat_lt, List, [], ◌∷◌, ◌++◌, Option, Some, None, Result, Ok, Err, is_none, is_some, length, option_and_then, refl, sym, ap, ◌∙◌, append-nil, arith}
+use Rattle.std.proofs.Common.{◌≡◌, ℕ, suc, ◌+◌, ◌*◌, ◌/◌, ◌==◌, ◌||◌, Bool, true, false, cond, not, nat_lt, List, [], ◌∷◌, ◌++◌, Option, Some, None, Result, Ok, Err, is_none, is_some, length, option_and_then, refl, sym, ap, ◌∙◌, append-nil, arith}
 use Rattle.std.proofs.lemmas.Bool.{cond-false, cond-true}
-use Rattle.std.specs.Option.{unwrap_or}
+use Rattle.std.proofs.lemmas.List.{length-replicate}
+use Rattle.std.specs.Option.{IsSomeAnd, unwrap_or}
+use Rattle.std.specs.Prelude.{replicate}
 use Rattle.std.specs.Result.{result_ok}
 use Rattle.ncq_core.specs.DiskState.{most_depth, most_disk_sectors}
 use Rattle.ahci_port.specs.Faults.{most_first}
 use Rattle.ahci_check.proofs.ComplaintLemmas.{complaint_agrees}
-use Rattle.ahci_check.specs.Complaints.{complaint_in, disk_excess, ends_replay, first_wrong, is_in_place, place_after, place_by, stands_at}
-use Rattle.ahci_check.specs.Sheets.{Sheet, judged, judged_from}
+use Rattle.ahci_check.specs.Limits.{disk_excess}
+use Rattle.ahci_check.specs.Complaints.{complaint_in, ends_replay, first_wrong, is_in_place, place_after, place_by, stands_at}
+use Rattle.ahci_check.specs.Judges.{judge_after}
+use Rattle.ahci_check.specs.Sheets.{Sheet, judged_from, with_next}
+use Rattle.ahci_check.specs.declared.judge.Judge.TheVariants.{OfScript}
+use Rattle.ahci_script.specs.Unread.{whole}
 use Rattle.ahci_check.specs.declared.place.Place.TheVariants.{BeforeDisk, BehindDisk}
-use Rattle.ahci_port.specs.PortView.{PortView}
-use Rattle.ahci_replay.specs.Commands.{MakesDisk, Runs}
+use Rattle.ahci_port.specs.PortView.{PortView, port_from, sectors_in}
+use Rattle.ahci_port.specs.Steps.{Appends, IsStepped, IsTaken, TakenBy, passes_end}
+use Rattle.ahci_port.specs.declared.step.DeviceStep.{DeviceStep}
+use Rattle.ahci_port.specs.declared.step.DeviceStep.TheVariants as device
+use Rattle.ahci_port.specs.declared.step.Stepped.{Stepped}
+use Rattle.ahci_replay.specs.Commands.{AnswersWindow, Does, MakesDisk, RefusedOr, Runs, RunsOn}
 use Rattle.ahci_replay.specs.Commands as replay
-use Rattle.ahci_replay.specs.Refusals.{disk_refusal}
+use Rattle.ahci_replay.specs.Refusals.{disk_refusal, refusal_on}
+use Rattle.ahci_table.specs.Window.{WindowState}
+use Rattle.ncq_journal.specs.Entry.{Entry}
+use Rattle.ncq_journal.specs.Request.{Request, request}
+use Rattle.ncq_journal.specs.Work.{Work}
 use Rattle.ahci_replay.specs.Transcript.{Adds, RunsLine, Telling, no_line, one_more, placed, placed_by}
 use Rattle.ahci_script.specs.Lines.{line_of, reading}
 use Rattle.ahci_script.specs.Words.{after_first}
@@ -46,7 +60,7 @@ before (command.Show lba) = refl
 before command.Journal = refl
 before command.Trim = refl
 
-later : (port : PortView) (c : ScriptCommand) → is_in_place BehindDisk c ≡ replay.is_in_place (Some port) c
+later : (port : PortView) (c : ScriptCommand) → is_in_place (place_of (Some port)) c ≡ replay.is_in_place (Some port) c
 later port (command.Disk sectors depth first) = refl
 later port (command.Write tag lba sectors fill) = refl
 later port (command.Read tag lba sectors) = refl
@@ -98,14 +112,21 @@ none_alike false false false true e v w x y z p q r hv hw hx hy hz = hy
 none_alike false false false false true v w x y z p q r hv hw hx hy hz = hz
 none_alike false false false false false v w x y z p q r hv hw hx hy hz = refl
 
-disk_alike : (words : List ℕ) (sectors depth : ℕ) (first : Option ℕ) → is_none (disk_excess words sectors depth first) ≡ is_none (disk_refusal sectors depth first)
+pub disk_alike : (words : List ℕ) (sectors depth : ℕ) (first : Option ℕ) → is_none (disk_excess words sectors depth first) ≡ is_none (disk_refusal sectors depth first)
 disk_alike words sectors depth first =
     none_alike (sectors == 0) (nat_lt most_disk_sectors sectors) (depth == 0) (nat_lt most_depth depth) (nat_lt most_first (unwrap_or first 0)) _ _ _ _ _ _ _ _ refl refl refl refl refl
 
+-- a disk of so many sectors has them
+sized : (sectors depth : ℕ) (first : Option ℕ) → BehindDisk sectors depth ≡ place_of (Some (port_from (unwrap_or first 0) (replicate (sectors * 512) 0) depth))
+sized sectors depth first =
+    let count : sectors * 512 / 512 ≡ sectors = omega arith in
+    ap (λ n. BehindDisk n depth) (sym (ap (λ n. n / 512) (length-replicate (sectors * 512) 0) ∙ count))
+
 made : (refusal : Option Refusal) (b : Bool) (sectors depth : ℕ) (first : Option ℕ) (next : Option PortView) (said : Said) → b ≡ is_none refusal
-    → MakesDisk refusal sectors depth first next said → cond b BehindDisk BeforeDisk ≡ place_of next
-made (Some refusal) b sectors depth first next said is does = ap (λ t. cond t BehindDisk BeforeDisk) is ∙ sym (ap place_of does.0)
-made None b sectors depth first next said is does = ap (λ t. cond t BehindDisk BeforeDisk) is ∙ sym (ap place_of does.0)
+    → MakesDisk refusal sectors depth first next said → cond b (BehindDisk sectors depth) BeforeDisk ≡ place_of next
+made (Some refusal) b sectors depth first next said is does = ap (λ t. cond t (BehindDisk sectors depth) BeforeDisk) is ∙ sym (ap place_of does.0)
+made None b sectors depth first next said is does =
+    ap (λ t. cond t (BehindDisk sectors depth) BeforeDisk) is ∙ sized sectors depth first ∙ sym (ap place_of does.0)
 
 first_run : (line : List ℕ) (c : ScriptCommand) (next : Option PortView) (said : Said) → Runs None c next said → place_by BeforeDisk line (Ok (Run c)) ≡ place_of next
 first_run line (command.Disk sectors depth first) next said ran =
@@ -127,38 +148,81 @@ first_run line (command.Show lba) next said ran = absurd ran
 first_run line command.Journal next said ran = absurd ran
 first_run line command.Trim next said ran = absurd ran
 
-same : (b : Bool) → cond b BehindDisk BehindDisk ≡ BehindDisk
-same true = refl
-same false = refl
+-- ---- no command adds a sector or a slot, or takes one
 
-stays_after : (line : List ℕ) (c : ScriptCommand) → place_by BehindDisk line (Ok (Run c)) ≡ BehindDisk
-stays_after line (command.Disk sectors depth first) = same (is_none (disk_excess (after_first line) sectors depth first))
-stays_after line (command.Write tag lba sectors fill) = refl
-stays_after line (command.Read tag lba sectors) = refl
-stays_after line (command.Raw tag header bytes) = refl
-stays_after line (command.Accept tag) = refl
-stays_after line (command.Serve tags) = refl
-stays_after line (command.Fail tag error lba) = refl
-stays_after line (command.Collect tag number) = refl
-stays_after line command.Recover = refl
-stays_after line (command.Reissue tag) = refl
-stays_after line (command.Reg off) = refl
-stays_after line (command.Ack mask) = refl
-stays_after line (command.Identify word) = refl
-stays_after line command.Flush = refl
-stays_after line (command.Show lba) = refl
-stays_after line command.Journal = refl
-stays_after line command.Trim = refl
+record SameSize (old new : PortView) : Type 0 where
+  sectors : length new.starting ≡ length old.starting
+  depth : new.depth ≡ old.depth
+
+place_stays : (old new : PortView) → SameSize old new → place_of (Some old) ≡ place_of (Some new)
+place_stays old new same = ap (λ n. BehindDisk (n / 512) old.depth) (sym same.sectors) ∙ ap (λ d. BehindDisk (sectors_in new) d) (sym same.depth)
+
+unchanged : (old new : PortView) → new ≡ old → SameSize old new
+unchanged old new same = record { sectors = ap (λ (p : PortView). length p.starting) same; depth = ap (λ (p : PortView). p.depth) same }
+
+grown : (old new : PortView) (entry : Entry) → Appends old new entry → SameSize old new
+grown old new entry h = record { sectors = ap length h.starting_same; depth = h.depth_same }
+
+-- a refusal changes nothing
+refused_or : (o : Option Refusal) (old new : PortView) (said : Said) (Done : Type 0) → (Done → SameSize old new) → RefusedOr o old new said Done → SameSize old new
+refused_or None old new said Done does ran = does ran
+refused_or (Some refusal) old new said Done does ran = unchanged old new ran.0
+
+taken_size : (b : Bool) (tag : ℕ) (work : Work) (old new : PortView) (done : Stepped) → TakenBy b tag work old new done → SameSize old new
+taken_size true tag work old new done h = grown old new _ h.appended
+taken_size false tag work old new done h = grown old new _ h.appended
+
+accepted_size : (o : Option Request) (tag : ℕ) (old new : PortView) (done : Stepped) → IsSomeAnd o (λ r. IsTaken tag r.work old new done) → SameSize old new
+accepted_size None tag old new done h = absurd h
+accepted_size (Some r) tag old new done h = taken_size (passes_end old r.work) tag r.work old new done h
+
+stepped_size : (step : DeviceStep) (old new : PortView) (done : Stepped) → IsStepped step old new done → SameSize old new
+stepped_size (device.Accept tag) old new done h = accepted_size (request old.past tag) tag old new done h
+stepped_size (device.Serve tags) old new done h = record { sectors = ap length h.appended.starting_same; depth = h.appended.depth_same }
+stepped_size (device.Fail tag error lba) old new done h = grown old new _ h.appended
+
+does_size : (old new : PortView) (c : ScriptCommand) (said : Said) → Does old c new said → SameSize old new
+does_size old new (command.Write tag lba count fill) said h = grown old new _ h.issued.appended
+does_size old new (command.Read tag lba count) said h = grown old new _ h.issued.appended
+does_size old new (command.Accept tag) said h = stepped_size (device.Accept tag) old new h.done h.stepped
+does_size old new (command.Serve tags) said h = stepped_size (device.Serve tags) old new h.done h.stepped
+does_size old new (command.Fail tag error lba) said h = stepped_size (device.Fail tag error lba) old new h.done h.stepped
+does_size old new (command.Collect tag number) said h = grown old new _ h.collected.appended
+does_size old new command.Recover said h = grown old new _ h.recovered.appended
+does_size old new (command.Reissue tag) said h = grown old new _ h.0.appended
+does_size old new (command.Identify w) said h = grown old new _ h.0.appended
+does_size old new command.Flush said h = grown old new _ h.0.appended
+does_size old new (command.Reg off) said h = unchanged old new h.0
+does_size old new (command.Ack mask) said h =
+    record { sectors = ap (λ (p : PortView). length p.starting) h.0; depth = ap (λ (p : PortView). p.depth) h.0 }
+does_size old new (command.Show lba) said h = unchanged old new h.0
+does_size old new command.Journal said h = unchanged old new h.0
+does_size old new command.Trim said h =
+    record { sectors = ap (λ (p : PortView). length p.starting) h.0 ∙ h.1; depth = ap (λ (p : PortView). p.depth) h.0 }
+does_size old new (command.Raw tag header bytes) said h = absurd h
+does_size old new (command.Disk sectors depth first) said h = absurd h
+
+window_size : (w : WindowState) (old new : PortView) (said : Said) → AnswersWindow w old new said → SameSize old new
+window_size w old new said (replay.is_issued may fit issued told) = grown old new _ issued.appended
+window_size w old new said (replay.is_refused fault name refuses named same told) = unchanged old new same
+
+run_size : (old new : PortView) (c : ScriptCommand) (said : Said) → RunsOn old c new said → SameSize old new
+run_size old new (command.Raw tag header bytes) said ran = window_size _ old new said ran
+run_size old new c said ran = refused_or (refusal_on old c) old new said (Does old c new said) (does_size old new c said) ran
 
 run_alike : (line : List ℕ) (port : Option PortView) (c : ScriptCommand) (next : Option PortView) (said : Said) → Runs port c next said
     → place_by (place_of port) line (Ok (Run c)) ≡ place_of next
 run_alike line None c next said ran = first_run line c next said ran
-run_alike line (Some port) c (Some next) said ran = stays_after line c
+run_alike line (Some port) c (Some next) said ran = place_stays port next (run_size port next c said ran)
 run_alike line (Some port) c None said ran = absurd ran
+
+skipped : (line : List ℕ) (port : Option PortView) → place_by (place_of port) line (Ok Skip) ≡ place_of port
+skipped line None = refl
+skipped line (Some port) = refl
 
 line_alike : (telling : Telling) (line : List ℕ) (port : Option PortView) (l : Line) (next : Option PortView) (added : List ℕ) → RunsLine telling port l next added
     → place_by (place_of port) line (Ok l) ≡ place_of next
-line_alike telling line port Skip next added ran = sym (ap place_of ran.0)
+line_alike telling line port Skip next added ran = skipped line port ∙ sym (ap place_of ran.0)
 line_alike telling line port (Run c) next added ran = run_alike line port c next ran.said ran.ran
 
 -- what was taken is the line itself
@@ -179,11 +243,11 @@ after_alike : (telling : Telling) (line : List ℕ) (port : Option PortView) (l 
 after_alike telling line port l next added is ran = spelled_alike telling line port (reading line) l next added is ran
 
 stand_alike : (telling : Telling) (port last : Option PortView) (lines : List (List ℕ)) (text : List ℕ) (sheet : Sheet) (number : ℕ) → Adds telling port lines text last
-    → sheet.place ≡ place_of port → (judged_from number sheet lines).place ≡ place_of last
+    → sheet.judge ≡ OfScript (place_of port) → (judged_from number sheet lines).judge ≡ OfScript (place_of last)
 stand_alike telling port last lines text sheet number (no_line same) is = is
 stand_alike telling port last lines text sheet number (one_more same first l next added more rest end own spelled ran others) is =
-    stand_alike telling next last more rest (judged sheet number first) (number + 1) others
-    (ap (λ p. place_after p first) is ∙ after_alike telling first port l next added spelled ran)
+    stand_alike telling next last more rest (with_next sheet number (whole first)) (number + 1) others
+    (ap (λ j. judge_after j first) is ∙ ap OfScript (after_alike telling first port l next added spelled ran))
 
 -- ---- the first line at which replay ends
 

@@ -6,7 +6,8 @@ use Rattle.ahci_script.specs.declared.breach.Breach.{Breach}
 use Rattle.ahci_script.specs.declared.line.Line.{Line}
 use Rattle.ahci_script.specs.declared.line.Line.TheVariants.{Skip, Run}
 use Rattle.ahci_script.specs.declared.line.ScriptCommand.{ScriptCommand}
-use Rattle.ahci_check.specs.Complaints.{IsColumn, complaint_at, complaint_in, ends_replay, excess_in, is_in_place, is_language, misplaced, of_reading, stands, stands_at}
+use Rattle.ahci_check.specs.Complaints.{IsColumn, complaint_at, complaint_in, ends_replay, is_in_place, is_language, misplaced, of_reading, stands, stands_at}
+use Rattle.ahci_check.specs.Limits.{excess_in}
 use Rattle.ahci_check.specs.declared.complaint.Complaint.{Complaint}
 use Rattle.ahci_check.specs.declared.excess.Excess.{Excess}
 use Rattle.ahci_check.specs.declared.place.Place.{Place}
@@ -15,7 +16,7 @@ use Rattle.ahci_check.specs.declared.rule.Rule.TheVariants.{Language, Port}
 -- what there is to say of a command that is in its place, or isn't
 abbrev of_placed : Place → ℕ → List ℕ → ScriptCommand → Bool → Option Complaint
 of_placed place number line c b =
-    cond b (option_map (λ (e : Excess). complaint_at number line e.left (Port e.limit)) (excess_in line c))
+    cond b (option_map (λ (e : Excess). complaint_at number line e.left (Port e.limit)) (excess_in place line c))
     (Some (record { line = number; column = None; rule = Language (misplaced place) }))
 
 -- a complaint of the language stands exactly where the line may not stand
@@ -27,7 +28,7 @@ complaint_agrees place number line = by (reading line)
     limits (Some e) f is = is e
 
     placed : (c : ScriptCommand) (b : Bool) → ends_replay (of_placed place number line c b) ≡ not b
-    placed c true = limits (excess_in line c) _ (λ e. refl)
+    placed c true = limits (excess_in place line c) _ (λ e. refl)
     placed c false = refl
 
     by : (r : Result Line Breach) → ends_replay (of_reading place number line r) ≡ not (stands_at place (result_ok r))
@@ -47,7 +48,7 @@ complaint_column place number line = by (reading line)
     limits (Some e) f is = is e
 
     placed : (c : ScriptCommand) (b : Bool) → IfSome (of_placed place number line c b) (λ c. IfSome c.column (IsColumn line))
-    placed c true = limits (excess_in line c) _ (λ e. column e.left)
+    placed c true = limits (excess_in place line c) _ (λ e. column e.left)
     placed c false = tt
 
     by : (r : Result Line Breach) → IfSome (of_reading place number line r) (λ c. IfSome c.column (IsColumn line))

@@ -1,3 +1,8 @@
 pub mod AgreementLemmas
 pub mod ComplaintLemmas
+pub mod JobLemmas
+pub mod JsonLemmas
+pub mod RefusedLemmas
 pub mod SheetLemmas
+pub mod TagLemmas
+pub mod WindowLemmas

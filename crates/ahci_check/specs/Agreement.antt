@@ -2,15 +2,16 @@
 use Rattle.std.specs.Prelude.{◌≡◌, ℕ, ◌+◌, List, ◌∷◌, ◌++◌, Option, None, Some, is_none, length}
 use Rattle.ahci_check.specs.Complaints.{complaint_in, ends_replay, first_wrong}
 use Rattle.ahci_check.specs.Sheets.{Sheet, judged_from}
+use Rattle.ahci_check.specs.declared.judge.Judge.TheVariants.{OfScript}
 use Rattle.ahci_check.specs.declared.place.Place.{Place}
 use Rattle.ahci_check.specs.declared.place.Place.TheVariants.{BeforeDisk, BehindDisk}
-use Rattle.ahci_port.specs.PortView.{PortView}
+use Rattle.ahci_port.specs.PortView.{PortView, sectors_in}
 use Rattle.ahci_replay.specs.Transcript.{Adds, Telling, placed}
 
--- where a line stands that finds this port, or none
+-- where a line stands that finds this port, or none: the port says how many sectors and slots there are
 abbrev pub place_of : Option PortView → Place
 place_of None = BeforeDisk
-place_of (Some port) = BehindDisk
+place_of (Some port) = BehindDisk (sectors_in port) port.depth
 
 -- a line's complaint is one of the language exactly where replay has no such line on the port
 abbrev pub StopAlike : Type 0
@@ -19,7 +20,7 @@ StopAlike = (port : Option PortView) (number : ℕ) (line : List ℕ) → ends_r
 -- after lines that replay has answered, the check's next line stands where replay's does
 abbrev pub StandAlike : Type 0
 StandAlike = (telling : Telling) (port last : Option PortView) (lines : List (List ℕ)) (text : List ℕ) (sheet : Sheet) (number : ℕ)
-    → Adds telling port lines text last → sheet.place ≡ place_of port → (judged_from number sheet lines).place ≡ place_of last
+    → Adds telling port lines text last → sheet.judge ≡ OfScript (place_of port) → (judged_from number sheet lines).judge ≡ OfScript (place_of last)
 
 -- replay has answered all lines: none has such a complaint
 abbrev pub NoneEnds : Type 0

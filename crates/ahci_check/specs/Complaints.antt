@@ -1,9 +1,5 @@
--- What there is to say of a line, and whether a disk stands before the next.
-use Rattle.std.specs.Prelude.{ℕ, ◌+◌, ◌-◌, ◌^◌, ◌≤◌, ◌==◌, Bool, true, false, List, [], ◌∷◌, Option, Some, None, Result, Ok, Err, option_map, is_none, length, nat_le, nat_lt, if◌then◌else◌}
-use Rattle.std.specs.Option.{unwrap_or}
-use Rattle.ncq_core.specs.DiskState.{most_depth, most_disk_sectors}
-use Rattle.ncq_journal.specs.Lawful.{most_sectors}
-use Rattle.ahci_port.specs.Faults.{most_first}
+-- What there is to say of a line, and which disk stands before the next.
+use Rattle.std.specs.Prelude.{ℕ, ◌+◌, ◌-◌, ◌≤◌, Bool, true, false, List, [], ◌∷◌, Option, Some, None, Result, Ok, Err, option_map, is_none, length, if◌then◌else◌}
 use Rattle.ahci_script.specs.Lines.{line_of, reading}
 use Rattle.ahci_script.specs.Words.{after_first}
 use Rattle.ahci_script.specs.declared.breach.Breach.{Breach}
@@ -13,10 +9,9 @@ use Rattle.ahci_script.specs.declared.line.Line.{Line}
 use Rattle.ahci_script.specs.declared.line.Line.TheVariants.{Skip, Run}
 use Rattle.ahci_script.specs.declared.line.ScriptCommand.{ScriptCommand}
 use Rattle.ahci_script.specs.declared.line.ScriptCommand.TheVariants as command
+use Rattle.ahci_check.specs.Limits.{disk_excess, excess_in}
 use Rattle.ahci_check.specs.declared.complaint.Complaint.{Complaint}
 use Rattle.ahci_check.specs.declared.excess.Excess.{Excess}
-use Rattle.ahci_check.specs.declared.limit.Limit.{Limit}
-use Rattle.ahci_check.specs.declared.limit.Limit.TheVariants as limit
 use Rattle.ahci_check.specs.declared.place.Place.{Place}
 use Rattle.ahci_check.specs.declared.place.Place.TheVariants.{BeforeDisk, BehindDisk}
 use Rattle.ahci_check.specs.declared.rule.Rule.{Rule}
@@ -26,13 +21,13 @@ use Rattle.ahci_check.specs.declared.rule.Rule.TheVariants.{Language, Port}
 abbrev pub is_in_place : Place → ScriptCommand → Bool
 is_in_place BeforeDisk (command.Disk sectors depth first) = true
 is_in_place BeforeDisk c = false
-is_in_place BehindDisk (command.Disk sectors depth first) = false
-is_in_place BehindDisk c = true
+is_in_place (BehindDisk s d) (command.Disk sectors depth first) = false
+is_in_place (BehindDisk s d) c = true
 
 -- the rule that a command breaks which isn't in place
 abbrev pub misplaced : Place → Fault
 misplaced BeforeDisk = fault.BeforeDisk
-misplaced BehindDisk = fault.SecondDisk
+misplaced (BehindDisk sectors depth) = fault.SecondDisk
 
 -- the line is one of the language, and a command of it is in place
 abbrev pub stands_at : Place → Option Line → Bool
@@ -43,35 +38,6 @@ stands_at place (Some (Run c)) = is_in_place place c
 abbrev pub stands : Place → List ℕ → Bool
 stands place line = stands_at place (line_of line)
 
--- a number passes a limit where this end of a line begins
-abbrev pub excess_at : List ℕ → Limit → Option Excess
-excess_at end limit = Some (record { left = length end; limit = limit })
-
--- LBA N: 1 to 65,536 sectors, from an LBA below 2^48; the number of sectors comes first
-abbrev pub transfer_excess : List ℕ → ℕ → ℕ → Option Excess
-transfer_excess words lba sectors =
-    if sectors == 0 then excess_at (after_first words) limit.NoSectors
-    else if nat_lt most_sectors sectors then excess_at (after_first words) (limit.ManySectors sectors)
-    else if nat_le (2 ^ 48) lba then excess_at words (limit.FarSector lba)
-    else None
-
--- S D F: 1 to 131,072 sectors, 1 to 32 slots, and a first number of at most 2^63
-abbrev pub disk_excess : List ℕ → ℕ → ℕ → Option ℕ → Option Excess
-disk_excess words sectors depth first =
-    if sectors == 0 then excess_at words limit.EmptyDisk
-    else if nat_lt most_disk_sectors sectors then excess_at words (limit.LargeDisk sectors)
-    else if depth == 0 then excess_at (after_first words) limit.NoSlots
-    else if nat_lt most_depth depth then excess_at (after_first words) (limit.ManySlots depth)
-    else if nat_lt most_first (unwrap_or first 0) then excess_at (after_first (after_first words)) (limit.LargeFirst (unwrap_or first 0))
-    else None
-
--- the first limit that a line's numbers pass, in the order of the port's refusals
-abbrev pub excess_in : List ℕ → ScriptCommand → Option Excess
-excess_in line (command.Disk sectors depth first) = disk_excess (after_first line) sectors depth first
-excess_in line (command.Write tag lba sectors fill) = transfer_excess (after_first (after_first line)) lba sectors
-excess_in line (command.Read tag lba sectors) = transfer_excess (after_first (after_first line)) lba sectors
-excess_in line c = None
-
 -- the column of an end of a line
 abbrev pub column_of : List ℕ → ℕ → ℕ
 column_of line left = length line - left + 1
@@ -80,10 +46,14 @@ column_of line left = length line - left + 1
 abbrev pub complaint_at : ℕ → List ℕ → ℕ → Rule → Complaint
 complaint_at number line left rule = record { line = number; column = Some (column_of line left); rule = rule }
 
+-- and one where a limit is passed
+abbrev pub of_excess : ℕ → List ℕ → Option Excess → Option Complaint
+of_excess number line excess = option_map (λ (e : Excess). complaint_at number line e.left (Port e.limit)) excess
+
 -- what there is to say of a command
 abbrev pub of_command : Place → ℕ → List ℕ → ScriptCommand → Option Complaint
 of_command place number line c =
-    if is_in_place place c then option_map (λ (e : Excess). complaint_at number line e.left (Port e.limit)) (excess_in line c)
+    if is_in_place place c then of_excess number line (excess_in place line c)
     else Some (record { line = number; column = None; rule = Language (misplaced place) })
 
 -- what there is to say of a line that was read: the rule of the language that it breaks first; else that it is out of place;
@@ -110,10 +80,10 @@ ends_replay (Some c) = is_language c.rule
 abbrev pub IsColumn : List ℕ → ℕ → Type 0
 IsColumn line column = (1 ≤ column) × (column ≤ length line + 1)
 
--- the place after a line that was read: a disk whose numbers pass no limit opens it
+-- the place after a line that was read: the first disk whose numbers pass no limit opens it
 abbrev pub place_by : Place → List ℕ → Result Line Breach → Place
-place_by place line (Ok (Run (command.Disk sectors depth first))) =
-    if is_none (disk_excess (after_first line) sectors depth first) then BehindDisk else place
+place_by BeforeDisk line (Ok (Run (command.Disk sectors depth first))) =
+    if is_none (disk_excess (after_first line) sectors depth first) then BehindDisk sectors depth else BeforeDisk
 place_by place line read = place
 
 abbrev pub place_after : Place → List ℕ → Place

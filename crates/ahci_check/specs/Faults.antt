@@ -1,5 +1,5 @@
 -- Why a script was not judged to its end.
-use Rattle.std.specs.Prelude.{◌≡◌, ⊤}
+use Rattle.std.specs.Prelude.{◌≡◌, Bool, true, false, ⊤}
 use Rattle.streams.specs.Ends.{ReadSoFar, WrittenSoFar, with_failed_write, with_flush}
 use Rattle.ahci_script.specs.Unread.{FailsReading}
 use Rattle.ahci_script.specs.declared.stopped.Stopped.{Stopped}
@@ -7,10 +7,15 @@ use Rattle.ahci_script.specs.declared.stopped.Stopped.TheVariants as stopped
 use Rattle.ahci_check.specs.declared.check_fault.CheckFault.{CheckFault}
 use Rattle.ahci_check.specs.declared.check_fault.CheckFault.TheVariants as fault
 
+-- the output takes no more
+abbrev pub is_of_output : CheckFault → Bool
+is_of_output fault.Write = true
+is_of_output _ = false
+
 -- the fault where the reading stopped
-abbrev pub fault_of : {F : Type 0} → Stopped F → CheckFault
+abbrev pub fault_of : Stopped CheckFault → CheckFault
 fault_of stopped.Read = fault.Read
-fault_of (stopped.Taker refused) = fault.OutOfMemory
+fault_of (stopped.Taker f) = f
 fault_of stopped.OutOfMemory = fault.OutOfMemory
 
 -- how the writes went then: one failed, and the fault is that; or none did, and after a failed read what was written is flushed

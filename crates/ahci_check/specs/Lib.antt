@@ -1,5 +1,10 @@
 pub mod Agreement
 pub mod Complaints
 pub mod Faults
+pub mod Json
+pub mod Judges
+pub mod Limits
+pub mod Refused
 pub mod Sheets
 pub mod Texts
+pub mod Windows

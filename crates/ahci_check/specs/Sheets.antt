@@ -1,79 +1,86 @@
--- The complaints about the lines of a script, from the first line on.
-use Rattle.std.specs.Prelude.{◌≡◌, ℕ, ◌+◌, Bool, false, ◌||◌, List, [], ◌∷◌, ◌++◌, Option, Some, None, is_some, length, take, ◌⊎◌}
+-- The complaints about the lines of a script or a job list, from the first line on, and how they are written.
+use Rattle.std.specs.Prelude.{◌≡◌, ℕ, ◌+◌, Bool, false, ◌||◌, List, [], ◌∷◌, ◌++◌, Option, Some, None, is_some, length, ◌⊎◌}
 use Rattle.std.specs.Io.KnownBytes.{Appends, Consumes}
-use Rattle.ahci_script.specs.Reading.{MayEnd, Step, last_of}
+use Rattle.streams.specs.Ends.{WrittenSoFar, with_failed_write}
+use Rattle.ahci_replay.specs.Transcript.{Sends, WritesPart}
+use Rattle.ahci_script.specs.Reading.{Comes, MayEnd, last_of}
 use Rattle.ahci_script.specs.Unread.{Begins, MayFail, found_of, line_limit, too_long, unfinished, whole, with_feeds}
-use Rattle.ahci_check.specs.Complaints.{complaint_in, place_after}
+use Rattle.ahci_script.specs.declared.fault.Fault.TheVariants.{LongLine}
+use Rattle.ahci_check.specs.Json.{complaint_json}
+use Rattle.ahci_check.specs.Judges.{complaint_by, judge_after}
 use Rattle.ahci_check.specs.Texts.{complaint_text}
 use Rattle.ahci_check.specs.declared.check_fault.CheckFault.{CheckFault}
 use Rattle.ahci_check.specs.declared.check_fault.CheckFault.TheVariants as fault
 use Rattle.ahci_check.specs.declared.complaint.Complaint.{Complaint}
-use Rattle.ahci_script.specs.declared.fault.Fault.TheVariants.{LongLine}
-use Rattle.ahci_check.specs.declared.place.Place.{Place}
-use Rattle.ahci_check.specs.declared.place.Place.TheVariants.{BeforeDisk}
+use Rattle.ahci_check.specs.declared.form.Form.{Form}
+use Rattle.ahci_check.specs.declared.form.Form.TheVariants as form
+use Rattle.ahci_check.specs.declared.judge.Judge.{Judge}
 use Rattle.ahci_check.specs.declared.rule.Rule.TheVariants.{Language}
 
--- where the next line stands, whether there was a complaint, and the text of all complaints
+-- the form of complaints, how the next line is judged, whether there was a complaint, and the text of all complaints
 pub record Sheet : Type 0 where
-  pub place : Place
+  pub form : Form
+  pub judge : Judge
   pub found : Bool
   pub text : List ℕ
 
--- before the first line
-abbrev pub blank : Sheet
-blank = record { place = BeforeDisk; found = false; text = [] }
+-- before the first line, which is judged so
+abbrev pub blank : Form → Judge → Sheet
+blank form judge = record { form = form; judge = judge; found = false; text = [] }
+
+-- a complaint in a form, without a line feed
+abbrev pub complaint_as : Form → Complaint → List ℕ
+complaint_as form.Text complaint = complaint_text complaint
+complaint_as form.Json complaint = complaint_json complaint
 
 -- what a complaint adds to the text: a line
-abbrev pub told : Option Complaint → List ℕ
-told None = []
-told (Some c) = complaint_text c ++ 10 ∷ []
+abbrev pub told : Form → Option Complaint → List ℕ
+told form None = []
+told form (Some c) = complaint_as form c ++ 10 ∷ []
 
 -- what there is to say of a line is put down
-abbrev pub with_complaint : Sheet → Option Complaint → Place → Sheet
-with_complaint sheet complaint place =
-    record { place = place; found = sheet.found || is_some complaint; text = sheet.text ++ told complaint }
-
--- the line of the given number is judged
-abbrev pub judged : Sheet → ℕ → List ℕ → Sheet
-judged sheet number line = with_complaint sheet (complaint_in sheet.place number line) (place_after sheet.place line)
+abbrev pub with_complaint : Sheet → Option Complaint → Judge → Sheet
+with_complaint sheet complaint judge =
+    record { form = sheet.form; judge = judge; found = sheet.found || is_some complaint; text = sheet.text ++ told sheet.form complaint }
 
 -- the complaint about a line of more than 4,096 bytes, at the first byte after these
 abbrev pub long_line : ℕ → Complaint
 long_line number = record { line = number; column = Some (line_limit + 1); rule = Language LongLine }
 
-abbrev pub judged_long : Sheet → ℕ → Sheet
-judged_long sheet number = with_complaint sheet (Some (long_line number)) sheet.place
+-- what there is to say of what comes: a line, one that is too long, or more input
+abbrev pub said_of : Judge → ℕ → Begins → Option Complaint
+said_of judge number (whole line) = complaint_by judge number line
+said_of judge number too_long = Some (long_line number)
+said_of judge number unfinished = None
 
--- what comes is judged: a line, or one that is too long; or more input is read
+-- and how the next line is judged
+abbrev pub next_judge : Judge → Begins → Judge
+next_judge judge (whole line) = judge_after judge line
+next_judge judge found = judge
+
+-- what comes is judged
 abbrev pub with_next : Sheet → ℕ → Begins → Sheet
-with_next sheet number (whole line) = judged sheet number line
-with_next sheet number too_long = judged_long sheet number
-with_next sheet number unfinished = sheet
-
-abbrev pub Judges : Step (Sheet × Unit {0})
-Judges old number found new = new.0 ≡ with_next old.0 number found
-
--- there was no memory for a complaint
-abbrev pub Keeps : {F : Type 0} → Sheet × Unit {0} → ℕ → Begins → F → Sheet × Unit {0} → Type 0
-Keeps old number found fault new = new.0 ≡ old.0
+with_next sheet number found = with_complaint sheet (said_of sheet.judge number found) (next_judge sheet.judge found)
 
 -- lines are judged, the first of which has the given number
 abbrev pub judged_from : ℕ → Sheet → List (List ℕ) → Sheet
 judged_from number sheet [] = sheet
-judged_from number sheet (line ∷ more) = judged_from (number + 1) (judged sheet number line) more
+judged_from number sheet (line ∷ more) = judged_from (number + 1) (with_next sheet number (whole line)) more
 
--- the sheet of the first lines of a script
-abbrev pub sheet_of : List (List ℕ) → Sheet
-sheet_of lines = judged_from 1 blank lines
+-- the sheet of the first lines of an input
+abbrev pub sheet_of : Form → Judge → List (List ℕ) → Sheet
+sheet_of form judge lines = judged_from 1 (blank form judge) lines
+
+-- and with what comes after them
+abbrev pub with_found : Form → Judge → List (List ℕ) → Begins → Sheet
+with_found form judge lines found = with_next (sheet_of form judge lines) (length lines + 1) found
+
+-- ---- a whole input
 
 -- lines of their own, none of which holds a line feed or is too long
 pub data AreLines : List (List ℕ) → Type 0 where
   no_line : AreLines []
   one_more : (first : List ℕ) (more : List (List ℕ)) → found_of (first ++ 10 ∷ []) ≡ whole first → AreLines more → AreLines (first ∷ more)
-
--- the sheet with the last line after these lines
-abbrev pub with_last : List (List ℕ) → List ℕ → Sheet
-with_last lines rest = with_next (sheet_of lines) (length lines + 1) (last_of rest)
 
 -- lines at the front of an input, and what holds of them, of what the reader has left then, and of the bytes after them
 pub record Judged (remaining_old : Option (List ℕ)) (P : List (List ℕ) → Option (List ℕ) → List ℕ → Type 0) : Type 0 where
@@ -84,22 +91,65 @@ pub record Judged (remaining_old : Option (List ℕ)) (P : List (List ℕ) → O
   pub consumed : Consumes remaining_old remaining (with_feeds lines ++ rest)
   pub holds : P lines remaining rest
 
--- a whole script was judged: the text of all complaints is written, and the answer is whether there was one
-abbrev pub IsChecked : Option (List ℕ) → Option (List ℕ) → Option (List ℕ) → Option (List ℕ) → Bool → Type 0
-IsChecked r s c d found =
-    Judged r (λ lines remaining rest. (remaining ≡ s) × MayEnd s rest × (found ≡ (with_last lines rest).found)
-    × Appends c d (with_last lines rest).text)
+-- a whole input was judged: the text of all complaints is written, and the answer is whether there was one
+abbrev pub IsChecked : Form → Judge → Option (List ℕ) → Option (List ℕ) → Option (List ℕ) → Option (List ℕ) → Bool → Type 0
+IsChecked form judge r s c d found =
+    Judged r (λ lines remaining rest. (remaining ≡ s) × MayEnd s rest × (found ≡ (with_found form judge lines (last_of rest)).found)
+    × Appends c d (with_found form judge lines (last_of rest)).text)
 
--- some first part of a text is written
-abbrev pub IsPart : Option (List ℕ) → Option (List ℕ) → List ℕ → Type 0
-IsPart c d text = (n : ℕ) × Appends c d (take n text)
-
--- why it isn't judged to its end: the text of the lines before is written, and a failed write leaves a first part of it
-abbrev pub EndsCheck : Option (List ℕ) → Option (List ℕ) → Option (List ℕ) → Option (List ℕ) → CheckFault → Type 0
-EndsCheck r s c d fault.Read =
+-- why it isn't judged to its end: the text of the lines before is written; a failed write leaves a first part of it, and of what
+-- there is to say of the next line
+abbrev pub EndsCheck : Form → Judge → Option (List ℕ) → Option (List ℕ) → Option (List ℕ) → Option (List ℕ) → CheckFault → Type 0
+EndsCheck form judge r s c d fault.Read =
     Judged r (λ lines remaining rest. (found_of rest ≡ unfinished) × MayFail (length (with_feeds lines ++ rest)) remaining s
-    × Appends c d (sheet_of lines).text)
-EndsCheck r s c d fault.OutOfMemory = Judged r (λ lines remaining rest. Appends c d (sheet_of lines).text)
-EndsCheck r s c d fault.Write =
-    Judged r (λ lines remaining rest. IsPart c d (sheet_of lines).text
-    ⊎ (MayEnd remaining rest × IsPart c d (with_last lines rest).text))
+    × Appends c d (sheet_of form judge lines).text)
+EndsCheck form judge r s c d fault.OutOfMemory = Judged r (λ lines remaining rest. Appends c d (sheet_of form judge lines).text)
+EndsCheck form judge r s c d fault.Write =
+    Judged r (λ lines remaining rest. WritesPart c d (sheet_of form judge lines).text
+    ⊎ ((found : Begins) × Comes remaining rest found × WritesPart c d (with_found form judge lines found).text))
+
+-- ---- as the lines come
+
+-- the form of complaints, how the next line is judged, whether there was a complaint, the text that waits, and how the writes went
+pub record Desk : Type 0 where
+  pub form : Form
+  pub judge : Judge
+  pub found : Bool
+  pub waiting : List ℕ
+  pub writes : WrittenSoFar
+
+-- a desk, and what the writer holds, where that is known
+pub record Stand : Type 0 where
+  pub contents : Option (List ℕ)
+  pub desk : Desk
+
+abbrev pub stand : Option (List ℕ) → Desk → Stand
+stand contents desk = record { contents = contents; desk = desk }
+
+-- a complaint, or none, is put down
+abbrev pub with_put : Desk → Option Complaint → Judge → Desk
+with_put desk complaint judge =
+    record desk { judge = judge; found = desk.found || is_some complaint; waiting = desk.waiting ++ told desk.form complaint }
+
+-- so it is, and what waits then may be written
+pub record Tells (from : Stand) (complaint : Option Complaint) (judge : Judge) (to : Stand) : Type 0 where
+  pub sends : Sends from.contents to.contents (from.desk.waiting ++ told from.desk.form complaint) to.desk.waiting
+  pub form_same : to.desk.form ≡ from.desk.form
+  pub judge_is : to.desk.judge ≡ judge
+  pub found_is : to.desk.found ≡ (from.desk.found || is_some complaint)
+  pub unfailed : to.desk.writes.failed ≡ from.desk.writes.failed
+
+-- what comes is judged
+abbrev pub Judges : Stand → ℕ → Begins → Stand → Type 0
+Judges from number found to = Tells from (said_of from.desk.judge number found) (next_judge from.desk.judge found) to
+
+-- nothing was put down or written for want of memory; or the output failed
+abbrev pub FailsTelling : Stand → Option Complaint → CheckFault → Stand → Type 0
+FailsTelling from complaint fault.OutOfMemory to =
+    (to.contents ≡ from.contents) × (to.desk.waiting ≡ from.desk.waiting) × (to.desk.writes ≡ from.desk.writes)
+FailsTelling from complaint fault.Write to =
+    WritesPart from.contents to.contents (from.desk.waiting ++ told from.desk.form complaint) × (to.desk.writes ≡ with_failed_write from.desk.writes)
+FailsTelling from complaint fault.Read to = ⊥
+
+abbrev pub FailsJudging : Stand → ℕ → Begins → CheckFault → Stand → Type 0
+FailsJudging from number found fault to = FailsTelling from (said_of from.desk.judge number found) fault to

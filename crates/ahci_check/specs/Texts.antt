@@ -2,6 +2,7 @@
 use Rattle.std.specs.Prelude.{ℕ, List, ◌++◌, Option, Some, None, codes}
 use Rattle.std.specs.Fmt.{decimal}
 use Rattle.ahci_script.specs.Faults.{fault_text}
+use Rattle.ahci_table.specs.declared.fault.TableFault.TheVariants as table
 use Rattle.ahci_check.specs.declared.complaint.Complaint.{Complaint}
 use Rattle.ahci_check.specs.declared.limit.Limit.{Limit}
 use Rattle.ahci_check.specs.declared.limit.Limit.TheVariants as limit
@@ -18,6 +19,15 @@ limit_text limit.NoSlots = codes "0 slots, at least 1"
 limit_text (limit.ManySlots depth) = decimal depth ++ codes " slots, at most 32"
 limit_text (limit.LargeFirst first) =
     codes "first number " ++ (decimal first ++ codes ", at most 9223372036854775808")
+limit_text (limit.FarTag tag depth) = codes "tag " ++ (decimal tag ++ (codes " of " ++ (decimal depth ++ codes " slots")))
+limit_text (limit.TagTwice tag) = codes "tag " ++ (decimal tag ++ codes " twice")
+limit_text (limit.NoSuchSector lba sectors) = codes "LBA " ++ (decimal lba ++ (codes " of " ++ (decimal sectors ++ codes " sectors")))
+limit_text (limit.Window table.BadHeader) = codes "a bad command header"
+limit_text (limit.Window table.BadCommand) = codes "a bad command FIS"
+limit_text (limit.Window table.WrongTag) = codes "another tag in the command FIS"
+limit_text (limit.Window table.BadList) = codes "a bad PRDT"
+limit_text limit.Unaligned = codes "an offset that is no multiple of 4"
+limit_text limit.NoSuchRegister = codes "no register at this offset"
 
 abbrev pub rule_text : Rule → List ℕ
 rule_text (Language fault) = fault_text fault

@@ -17,13 +17,26 @@ pub enum CheckFault {
     OutOfMemory,
 }
 
-impl From<Stopped<AllocError>> for CheckFault {
+impl CheckFault {
+    ghost use Rattle.std.specs.Prelude.{◌≡◌};
+    ghost use Rattle.ahci_check.specs.Faults.{is_of_output};
+
+    /// Whether the output takes no more bytes.
+    pub(crate) fn is_of_output(self) -> bool
+        ensures { result ≡ is_of_output self }
+    {
+        matches!(self, CheckFault::Write)
+    }
+}
+
+impl From<Stopped<CheckFault>> for CheckFault {
     ghost from_gives = { λ stopped fault. fault ≡ fault_of stopped };
 
-    fn from(stopped: Stopped<AllocError>) -> CheckFault {
+    fn from(stopped: Stopped<CheckFault>) -> CheckFault {
         match stopped {
             Stopped::Read => CheckFault::Read,
-            Stopped::Taker(_) | Stopped::OutOfMemory => CheckFault::OutOfMemory,
+            Stopped::Taker(fault) => fault,
+            Stopped::OutOfMemory => CheckFault::OutOfMemory,
         }
     }
 }

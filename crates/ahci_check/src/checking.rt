@@ -1,50 +1,106 @@
-ghost use Rattle.std.specs.Prelude.{◌≡◌, IfErr, IfOk, OnOk};
+ghost use Rattle.std.specs.Prelude.{◌≡◌, [], false, IfErr, IfOk, OnOk};
 ghost use Rattle.streams.specs.Ends.{with_flush};
 ghost use Rattle.ahci_check.specs.Sheets.{EndsCheck, IsChecked};
 ghost use Rattle.ahci_check.specs.Faults.{ReadsTo, WritesTo};
 
 use crate::check_fault::CheckFault;
+use crate::form::Form;
+use crate::judge::Judge;
+use crate::place::Place;
 use crate::sheet::Sheet;
 use ahci_script::take_lines;
 use std::alloc::Allocator;
 use std::io::{Read, Write};
-use streams::{Reads, Writes};
+use streams::Reads;
 
-/// Judges each line of the script that the reader gives, runs nothing, and writes a line of text for each complaint, in the
-/// order of the lines. `true` where there was any. A line of more than 4,096 bytes is the last that is judged.
+/// Judges each line of the script that the reader gives, runs nothing, and writes a line for each complaint in this form, in the
+/// order of the lines. `true` where there was any. A line of more than 4,096 bytes is the last that is judged. What was told is
+/// written before more of the script is read.
 ///
 /// # Errors
 /// `Read` where the input fails or has more than 67,108,864 bytes, and `OutOfMemory`: the complaints about the lines before
 /// are written first. `Write` where the output fails: a first part of them is written.
 pub fn check<R: Read, W: Write, A: Allocator + Clone>(
     alloc: A,
+    form: Form,
     reader: &mut R,
     writer: &mut W,
 ) -> Result<bool, CheckFault>
-    ensures ok { IfOk result (IsChecked (R.remaining reader.old) (R.remaining reader.new) (W.contents writer.old) (W.contents writer.new)) }
-    ensures err { IfErr result (EndsCheck (R.remaining reader.old) (R.remaining reader.new) (W.contents writer.old) (W.contents writer.new)) }
+    ensures ok { IfOk result (IsChecked form (Judge.OfScript Place.BeforeDisk) (R.remaining reader.old) (R.remaining reader.new)
+        (W.contents writer.old) (W.contents writer.new)) }
+    ensures err { IfErr result (EndsCheck form (Judge.OfScript Place.BeforeDisk) (R.remaining reader.old) (R.remaining reader.new)
+        (W.contents writer.old) (W.contents writer.new)) }
 {
-    checked(alloc, reader, &mut Reads::new(), writer, &mut Writes::new())
+    checked(
+        alloc,
+        form,
+        Judge::OfScript(Place::BeforeDisk),
+        reader,
+        writer,
+    )
 }
 
-/// The same, and tells how the reads and writes went.
+/// The same of a job list.
+///
+/// # Errors
+/// Those of `check`.
+pub fn check_jobs<R: Read, W: Write, A: Allocator + Clone>(
+    alloc: A,
+    form: Form,
+    reader: &mut R,
+    writer: &mut W,
+) -> Result<bool, CheckFault>
+    ensures ok { IfOk result (IsChecked form Judge.OfJobs (R.remaining reader.old) (R.remaining reader.new)
+        (W.contents writer.old) (W.contents writer.new)) }
+    ensures err { IfErr result (EndsCheck form Judge.OfJobs (R.remaining reader.old) (R.remaining reader.new)
+        (W.contents writer.old) (W.contents writer.new)) }
+{
+    checked(alloc, form, Judge::OfJobs, reader, writer)
+}
+
+/// Judges all lines, the first of them so.
 fn checked<R: Read, W: Write, A: Allocator + Clone>(
     alloc: A,
+    form: Form,
+    judge: Judge,
+    reader: &mut R,
+    writer: &mut W,
+) -> Result<bool, CheckFault>
+    ensures ok { IfOk result (IsChecked form judge (R.remaining reader.old) (R.remaining reader.new) (W.contents writer.old) (W.contents writer.new)) }
+    ensures err { IfErr result (EndsCheck form judge (R.remaining reader.old) (R.remaining reader.new) (W.contents writer.old) (W.contents writer.new)) }
+{
+    let mut sheet = Sheet::new(alloc.clone()?, form, judge)?;
+    fill_sheet(alloc, &mut sheet, reader, &mut Reads::new(), writer)?;
+    Ok(sheet.found())
+}
+
+/// Judges all lines on a sheet that has none yet, and tells how the reads and writes went.
+fn fill_sheet<R: Read, W: Write, A: Allocator + Clone>(
+    alloc: A,
+    sheet: &mut Sheet<A>,
     reader: &mut R,
     reads: &mut Reads,
     writer: &mut W,
-    writes: &mut Writes,
-) -> Result<bool, CheckFault>
-    ensures ok { IfOk result (IsChecked (R.remaining reader.old) (R.remaining reader.new) (W.contents writer.old) (W.contents writer.new)) }
-    ensures err { IfErr result (EndsCheck (R.remaining reader.old) (R.remaining reader.new) (W.contents writer.old) (W.contents writer.new)) }
-    ensures flushed { OnOk result (writes.new ≡ with_flush writes.old) }
-    ensures writes { IfErr result (WritesTo writes.old writes.new) }
+) -> Result<(), CheckFault>
+    requires new { (sheet.old.found ≡ false) × (sheet.old.waiting ≡ []) }
+    ensures ok { OnOk result (IsChecked sheet.old.form sheet.old.judge (R.remaining reader.old) (R.remaining reader.new)
+        (W.contents writer.old) (W.contents writer.new) sheet.new.found) }
+    ensures err { IfErr result (EndsCheck sheet.old.form sheet.old.judge (R.remaining reader.old) (R.remaining reader.new)
+        (W.contents writer.old) (W.contents writer.new)) }
+    ensures flushed { OnOk result (sheet.new.writes ≡ with_flush sheet.old.writes) }
+    ensures writes { IfErr result (WritesTo sheet.old.writes sheet.new.writes) }
     ensures unfailed { OnOk result (reads.new.failed ≡ reads.old.failed) }
     ensures reads { IfErr result (ReadsTo reads.old reads.new) }
 {
-    let mut sheet = Sheet::new(alloc.clone()?)?;
-    let judged = take_lines(alloc, reader, reads, &mut sheet, &mut ());
-    sheet.send(writer, writes)?;
-    judged?;
-    Ok(sheet.found())
+    match take_lines(alloc, reader, reads, sheet, writer) {
+        Ok(()) => Ok(sheet.send(writer)?),
+        Err(stopped) => {
+            let fault = CheckFault::from(stopped);
+            if fault.is_of_output() {
+                return Err(fault);
+            }
+            sheet.send(writer)?;
+            Err(fault)
+        }
+    }
 }

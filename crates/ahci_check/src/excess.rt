@@ -1,13 +1,22 @@
-ghost use Rattle.std.specs.Prelude.{◌≡◌};
-ghost use Rattle.ahci_check.specs.Complaints.{disk_excess, excess_at, excess_in, transfer_excess};
+//! The limits of the port that a line passes: the first one, in the order of the port's refusals.
+
+ghost use Rattle.std.specs.Prelude.{◌≡◌, IfOk};
+ghost use Rattle.ahci_regs.specs.RegisterTable.{register_at};
+ghost use Rattle.ahci_script.specs.Lines.{HasSmallTag};
+ghost use Rattle.ahci_check.specs.Limits.{count_excess, disk_excess, excess_at, excess_before, excess_behind, excess_in, fail_excess, register_excess, sector_excess, tag_excess, transfer_excess};
 
 use crate::limit::Limit;
+use crate::place::Place;
+use crate::tags::tags_excess;
+use crate::windows::raw_excess;
 use ahci_port::MOST_FIRST;
+use ahci_regs::{RegFault, Register};
 use ahci_script::{ScriptCommand, after_first};
 use ncq_core::{MAX_DEPTH, MAX_SECTORS};
 use ncq_journal::{LBA_LIMIT, MAX_COUNT};
+use std::alloc::{AllocError, Allocator};
 
-/// Where a number passes a limit of the port: how many bytes of the line there are from there on, and the limit.
+/// Where a line passes a limit of the port: how many bytes of the line there are from there on, and the limit.
 #[derive(Clone, Copy, Debug, PartialEq, Eq)]
 pub(crate) struct Excess {
     pub left: usize,
@@ -15,7 +24,7 @@ pub(crate) struct Excess {
 }
 
 /// A limit is passed where this end of a line begins.
-fn excess_at(end: &[u8], limit: Limit) -> Option<Excess>
+pub(crate) fn excess_at(end: &[u8], limit: Limit) -> Option<Excess>
     ensures { result ≡ excess_at end.now limit }
 {
     Some(Excess {
@@ -24,20 +33,75 @@ fn excess_at(end: &[u8], limit: Limit) -> Option<Excess>
     })
 }
 
-/// The first limit that a line's numbers pass, in the order of the port's refusals.
-pub(crate) fn excess_of(line: &[u8], command: &ScriptCommand<'_>) -> Option<Excess>
-    ensures { result ≡ excess_in line.now command.now }
+/// The first limit that a line passes. Memory is taken for the bytes of a window alone.
+pub(crate) fn excess_of<A: Allocator>(
+    alloc: A,
+    place: Place,
+    line: &[u8],
+    command: &ScriptCommand<'_>,
+) -> Result<Option<Excess>, AllocError>
+    requires { HasSmallTag command.now }
+    ensures { IfOk result (λ excess. excess ≡ excess_in place line.now command.now) }
+{
+    let words = after_first(line);
+    match place {
+        Place::BeforeDisk => Ok(excess_before(words, command)),
+        Place::BehindDisk { sectors, depth } => {
+            excess_behind(alloc, sectors, depth, words, command)
+        }
+    }
+}
+
+/// The first limit that a line passes before the disk.
+fn excess_before(words: &[u8], command: &ScriptCommand<'_>) -> Option<Excess>
+    ensures { result ≡ excess_before words.now command.now }
 {
     match command {
         ScriptCommand::Disk {
             sectors,
             depth,
             first,
-        } => disk_excess(after_first(line), *sectors, *depth, *first),
-        ScriptCommand::Write { lba, sectors, .. } | ScriptCommand::Read { lba, sectors, .. } => {
-            transfer_excess(after_first(after_first(line)), *lba, *sectors)
-        }
+        } => disk_excess(words, *sectors, *depth, *first),
         _ => None,
+    }
+}
+
+/// The first limit that a line passes behind a disk of so many sectors and slots.
+fn excess_behind<A: Allocator>(
+    alloc: A,
+    sectors: u64,
+    depth: u64,
+    words: &[u8],
+    command: &ScriptCommand<'_>,
+) -> Result<Option<Excess>, AllocError>
+    requires { HasSmallTag command.now }
+    ensures { IfOk result (λ excess. excess ≡ excess_behind sectors depth words.now command.now) }
+{
+    match command {
+        ScriptCommand::Write {
+            tag,
+            lba,
+            sectors: count,
+            ..
+        }
+        | ScriptCommand::Read {
+            tag,
+            lba,
+            sectors: count,
+        } => Ok(transfer_excess(depth, words, *tag, *lba, *count)),
+        ScriptCommand::Raw { tag, header, bytes } => {
+            raw_excess(alloc, depth, words, *tag, *header, bytes)
+        }
+        ScriptCommand::Accept { tag }
+        | ScriptCommand::Collect { tag, .. }
+        | ScriptCommand::Reissue { tag } => Ok(tag_excess(depth, words, *tag)),
+        ScriptCommand::Serve { tags } => Ok(tags_excess(depth, words, tags)),
+        ScriptCommand::Fail { tag, lba, .. } => {
+            Ok(fail_excess(sectors, depth, words, *tag, *lba))
+        }
+        ScriptCommand::Reg { off } => Ok(register_excess(words, *off)),
+        ScriptCommand::Show { lba } => Ok(sector_excess(sectors, words, *lba)),
+        _ => Ok(None),
     }
 }
 
@@ -66,17 +130,65 @@ pub(crate) fn disk_excess(
     }
 }
 
-/// The first limit that the numbers of a read or a write pass: the words begin with the LBA.
-fn transfer_excess(words: &[u8], lba: u64, sectors: u32) -> Option<Excess>
-    ensures { result ≡ transfer_excess words.now lba sectors }
+/// The port has no slot for a tag, with which the words begin.
+pub(crate) fn tag_excess(depth: u64, words: &[u8], tag: u8) -> Option<Excess>
+    ensures { result ≡ tag_excess depth words.now tag }
 {
-    if sectors == 0 {
+    if u64::from(tag) >= depth {
+        excess_at(words, Limit::FarTag(tag, depth))
+    } else {
+        None
+    }
+}
+
+/// The disk lacks a sector, with whose LBA the words begin.
+fn sector_excess(sectors: u64, words: &[u8], lba: u64) -> Option<Excess>
+    ensures { result ≡ sector_excess sectors words.now lba }
+{
+    if lba >= sectors {
+        excess_at(words, Limit::NoSuchSector(lba, sectors))
+    } else {
+        None
+    }
+}
+
+/// The first limit that the count and the LBA of a read or a write pass: the words begin with the LBA.
+pub(crate) fn count_excess(words: &[u8], lba: u64, count: u32) -> Option<Excess>
+    ensures { result ≡ count_excess words.now lba count }
+{
+    if count == 0 {
         excess_at(after_first(words), Limit::NoSectors)
-    } else if sectors > MAX_COUNT {
-        excess_at(after_first(words), Limit::ManySectors(u64::from(sectors)))
+    } else if count > MAX_COUNT {
+        excess_at(after_first(words), Limit::ManySectors(u64::from(count)))
     } else if lba >= LBA_LIMIT {
         excess_at(words, Limit::FarSector(lba))
     } else {
         None
+    }
+}
+
+/// The first limit that a read or a write passes: the words begin with the tag.
+fn transfer_excess(depth: u64, words: &[u8], tag: u8, lba: u64, count: u32) -> Option<Excess>
+    ensures { result ≡ transfer_excess depth words.now tag lba count }
+{
+    count_excess(after_first(words), lba, count).or(tag_excess(depth, words, tag))
+}
+
+/// The first limit that a failure passes: the words begin with the tag, and end with the LBA.
+fn fail_excess(sectors: u64, depth: u64, words: &[u8], tag: u8, lba: u64) -> Option<Excess>
+    ensures { result ≡ fail_excess sectors depth words.now tag lba }
+{
+    let last = after_first(after_first(words));
+    tag_excess(depth, words, tag).or(sector_excess(sectors, last, lba))
+}
+
+/// No register stands at an offset, with which the words begin.
+fn register_excess(words: &[u8], off: u32) -> Option<Excess>
+    ensures { result ≡ register_excess words.now (register_at off) }
+{
+    match Register::at(off) {
+        Ok(_) => None,
+        Err(RegFault::Unaligned) => excess_at(words, Limit::Unaligned),
+        Err(_) => excess_at(words, Limit::NoSuchRegister),
     }
 }

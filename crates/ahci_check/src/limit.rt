@@ -1,6 +1,7 @@
+use ahci_table::TableFault;
 use std::fmt;
 
-/// A limit of the port that a number of a line passes. The port refuses the line whatever its state, and `replay` goes on.
+/// A limit of the port that a line passes. Every port on which the line may stand refuses it, and `replay` goes on.
 #[derive(Clone, Copy, Debug, PartialEq, Eq)]
 pub enum Limit {
     /// A `write` or `read` of 0 sectors.
@@ -19,6 +20,18 @@ pub enum Limit {
     ManySlots(u64),
     /// A `disk` whose first number is over 2^63.
     LargeFirst(u64),
+    /// A tag for which the port has no slot, and how many it has.
+    FarTag(u8, u64),
+    /// A `serve` that names a tag twice.
+    TagTwice(u8),
+    /// A `show` or `fail` at a sector that the disk lacks, and how many it has.
+    NoSuchSector(u64, u64),
+    /// A `raw` whose window the port doesn't take: the first rule that it breaks.
+    Window(TableFault),
+    /// A `reg` whose offset is no multiple of 4.
+    Unaligned,
+    /// A `reg` whose offset is no register's.
+    NoSuchRegister,
 }
 
 impl fmt::Display for Limit {
@@ -39,6 +52,15 @@ impl fmt::Display for Limit {
             Limit::LargeFirst(first) => {
                 write!(f, "first number {first}, at most 9223372036854775808")
             }
+            Limit::FarTag(tag, depth) => write!(f, "tag {tag} of {depth} slots"),
+            Limit::TagTwice(tag) => write!(f, "tag {tag} twice"),
+            Limit::NoSuchSector(lba, sectors) => write!(f, "LBA {lba} of {sectors} sectors"),
+            Limit::Window(TableFault::BadHeader) => write!(f, "a bad command header"),
+            Limit::Window(TableFault::BadCommand) => write!(f, "a bad command FIS"),
+            Limit::Window(TableFault::WrongTag) => write!(f, "another tag in the command FIS"),
+            Limit::Window(TableFault::BadList) => write!(f, "a bad PRDT"),
+            Limit::Unaligned => write!(f, "an offset that is no multiple of 4"),
+            Limit::NoSuchRegister => write!(f, "no register at this offset"),
         }
     }
 }

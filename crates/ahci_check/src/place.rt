@@ -4,11 +4,12 @@ ghost use Rattle.ahci_check.specs.Complaints.{is_in_place, misplaced, place_afte
 use crate::excess::disk_excess;
 use ahci_script::{Breach, Fault, Line, ScriptCommand, after_first, read_line};
 
-/// Where a line of a script stands: a `disk` whose numbers are in the port's limits opens what stands after it.
+/// Where a line of a script stands: the first `disk` whose numbers are in the port's limits opens what stands after it.
 #[derive(Clone, Copy, Debug, PartialEq, Eq)]
 pub enum Place {
     BeforeDisk,
-    BehindDisk,
+    /// Behind a disk of so many sectors, on a port of so many slots.
+    BehindDisk { sectors: u64, depth: u64 },
 }
 
 impl Place {
@@ -23,17 +24,23 @@ impl Place {
     pub(crate) fn after_reading(self, line: &[u8], read: &Result<Line<'_>, Breach>) -> Place
         ensures { result ≡ place_by self line.now read.now }
     {
-        match read {
-            Ok(
-                Line::Run(
-                    ScriptCommand::Disk {
-                        sectors,
-                        depth,
-                        first,
-                    },
+        match (self, read) {
+            (
+                Place::BeforeDisk,
+                Ok(
+                    Line::Run(
+                        ScriptCommand::Disk {
+                            sectors,
+                            depth,
+                            first,
+                        },
+                    ),
                 ),
             ) if disk_excess(after_first(line), *sectors, *depth, *first).is_none() =>
-                Place::BehindDisk,
+                Place::BehindDisk {
+                    sectors: *sectors,
+                    depth: *depth,
+                },
             _ => self,
         }
     }
@@ -44,7 +51,7 @@ impl Place {
     {
         match self {
             Place::BeforeDisk => matches!(command, ScriptCommand::Disk { .. }),
-            Place::BehindDisk => !matches!(command, ScriptCommand::Disk { .. }),
+            Place::BehindDisk { .. } => !matches!(command, ScriptCommand::Disk { .. }),
         }
     }
 
@@ -54,7 +61,7 @@ impl Place {
     {
         match self {
             Place::BeforeDisk => Fault::BeforeDisk,
-            Place::BehindDisk => Fault::SecondDisk,
+            Place::BehindDisk { .. } => Fault::SecondDisk,
         }
     }
 }

@@ -1,45 +1,57 @@
+ghost use Rattle.std.specs.Prelude.{◌≡◌};
+ghost use Rattle.ahci_check.specs.Sheets.{long_line};
+
+use crate::as_json::json_text;
+use crate::check_fault::CheckFault;
 use crate::complaint::Complaint;
-use crate::judging::judged;
-use crate::place::Place;
+use crate::form::Form;
+use crate::judge::Judge;
 use crate::rule::Rule;
-use ahci_script::{Fault, Found, LINE_LIMIT, Output, TakesLines, read_line};
+use ahci_script::{Fault, Found, LINE_LIMIT, Output, TakesLines};
 use std::alloc::{AllocError, Allocator};
 use std::io::Write;
 use std::marker::Model;
 use streams::{OutputFailed, Writes};
 
-/// The complaints about the lines so far, which wait for the output as text.
+/// The complaints about the lines so far: those that wait for the output, how the writes went, and how the next line is judged.
 #[derive(Drop)]
 pub(crate) struct Sheet<A: Allocator> {
     alloc: A,
-    place: Place,
+    form: Form,
+    judge: Judge,
     found: bool,
     text: Output<A>,
+    writes: Writes,
 }
 
 impl<A: Allocator> Model for Sheet<A> {
-    ghost use Rattle.ahci_check.specs.Sheets.{Sheet as Judged};
+    ghost use Rattle.ahci_check.specs.Sheets.{Desk};
 
-    ghost Value = { Judged };
+    ghost Value = { Desk };
 
-    ghost view = { λ s. record { place = s.place; found = s.found; text = s.text } };
+    ghost view = { λ s. record { form = s.form; judge = s.judge; found = s.found; waiting = s.text; writes = s.writes } };
 }
 
 impl<A: Allocator + Clone> Sheet<A> {
-    ghost use Rattle.std.specs.Prelude.{◌≡◌, IfOk, OnErr, OnOk};
+    ghost use Rattle.std.specs.Prelude.{◌≡◌, ◌≤◌, ◌↔◌, ◌++◌, false, [], length, IfErr, IfOk, IsTrue, None, OnErr, OnOk, Some};
     ghost use Rattle.std.specs.Io.KnownBytes.{Appends};
     ghost use Rattle.streams.specs.Ends.{with_failed_write, with_flush};
-    ghost use Rattle.ahci_check.specs.Sheets.{IsPart, blank, judged, judged_long, with_complaint};
+    ghost use Rattle.ahci_replay.specs.Transcript.{WritesPart};
+    ghost use Rattle.ahci_script.specs.Unread.{too_long, whole};
+    ghost use Rattle.ahci_check.specs.Judges.{complaint_by, judge_after};
+    ghost use Rattle.ahci_check.specs.Sheets.{FailsJudging, FailsTelling, Judges, Tells, stand, told, with_put};
 
-    /// No line was judged.
-    pub(crate) fn new(alloc: A) -> Result<Self, AllocError>
-        ensures { IfOk result (λ sheet. sheet ≡ blank) }
+    /// No line was judged, and nothing written.
+    pub(crate) fn new(alloc: A, form: Form, judge: Judge) -> Result<Self, AllocError>
+        ensures { IfOk result (λ s. (s.form ≡ form) × (s.judge ≡ judge) × (s.found ≡ false) × (s.waiting ≡ [])) }
     {
         Ok(Sheet {
             text: Output::new(alloc.clone()?),
             alloc,
-            place: Place::BeforeDisk,
+            form,
+            judge,
             found: false,
+            writes: Writes::new(),
         })
     }
 
@@ -50,74 +62,150 @@ impl<A: Allocator + Clone> Sheet<A> {
         self.found
     }
 
-    /// Judges the line of the given number.
-    fn judge(&mut self, number: u64, line: &[u8]) -> Result<(), AllocError>
-        ensures ok { OnOk result (self.new ≡ judged self.old number line.now) }
-        ensures err { OnErr result (self.new ≡ self.old) }
+    /// What there is to say of the line of the given number, and how the next one is judged.
+    fn judged(&self, number: u64, line: &[u8]) -> Result<(Option<Complaint>, Judge), AllocError>
+        ensures complaint { IfOk result (λ r. r.0 ≡ complaint_by self.now.judge number line.now) }
+        ensures next { IfOk result (λ r. r.1 ≡ judge_after self.now.judge line.now) }
     {
-        let read = read_line(line);
-        let complaint = judged(self.place, number, line, &read);
-        let place = self.place.after_reading(line, &read);
-        self.put(complaint, place)
+        self.judge.judge(self.alloc.clone()?, number, line)
+    }
+
+    /// Judges the line of the given number.
+    fn take_line<W: Write>(
+        &mut self,
+        number: u64,
+        line: &[u8],
+        writer: &mut W,
+    ) -> Result<(), CheckFault>
+        ensures ok { OnOk result (Judges (stand (W.contents writer.old) self.old) number (whole line.now) (stand (W.contents writer.new) self.new)) }
+        ensures err { IfErr result (λ fault. FailsJudging (stand (W.contents writer.old) self.old) number (whole line.now) fault (stand (W.contents writer.new) self.new)) }
+    {
+        let (complaint, next) = self.judged(number, line)?;
+        self.tell(complaint, next, writer)
     }
 
     /// Complains that the line of the given number is too long.
-    fn judge_long(&mut self, number: u64) -> Result<(), AllocError>
-        ensures ok { OnOk result (self.new ≡ judged_long self.old number) }
-        ensures err { OnErr result (self.new ≡ self.old) }
+    fn take_long<W: Write>(&mut self, number: u64, writer: &mut W) -> Result<(), CheckFault>
+        ensures ok { OnOk result (Judges (stand (W.contents writer.old) self.old) number too_long (stand (W.contents writer.new) self.new)) }
+        ensures err { IfErr result (λ fault. FailsJudging (stand (W.contents writer.old) self.old) number too_long fault (stand (W.contents writer.new) self.new)) }
     {
-        let complaint = Complaint {
-            line: number,
-            column: Some(LINE_LIMIT as u64 + 1),
-            rule: Rule::Language(Fault::LongLine),
-        };
-        self.put(Some(complaint), self.place)
+        let next = self.judge();
+        self.tell(Some(long_line(number)), next, writer)
     }
 
-    /// Puts down what there is to say of a line, and the place after it.
-    fn put(&mut self, complaint: Option<Complaint>, place: Place) -> Result<(), AllocError>
-        ensures ok { OnOk result (self.new ≡ with_complaint self.old complaint place) }
+    /// How the next line is judged.
+    fn judge(&self) -> Judge
+        ensures { result ≡ self.now.judge }
+    {
+        self.judge
+    }
+
+    /// Puts down what there is to say of a line, and how the next one is judged; writes what waits once it is enough.
+    fn tell<W: Write>(
+        &mut self,
+        complaint: Option<Complaint>,
+        next: Judge,
+        writer: &mut W,
+    ) -> Result<(), CheckFault>
+        ensures ok { OnOk result (Tells (stand (W.contents writer.old) self.old) complaint next (stand (W.contents writer.new) self.new)) }
+        ensures err { IfErr result (λ fault. FailsTelling (stand (W.contents writer.old) self.old) complaint fault (stand (W.contents writer.new) self.new)) }
+    {
+        self.put(complaint, next)?;
+        if !self.is_full() {
+            return Ok(());
+        }
+        Ok(self.send(writer)?)
+    }
+
+    /// Whether enough text waits to be written.
+    fn is_full(&self) -> bool
+        ensures { IsTrue result ↔ (16384 ≤ length self.now.waiting) }
+    {
+        self.text.is_full()
+    }
+
+    /// Writes what waits, and flushes. After a failure some first part of it was written.
+    pub(crate) fn send<W: Write>(&mut self, writer: &mut W) -> Result<(), OutputFailed>
+        ensures written { OnOk result (Appends (W.contents writer.old) (W.contents writer.new) self.old.waiting) }
+        ensures part { OnErr result (WritesPart (W.contents writer.old) (W.contents writer.new) self.old.waiting) }
+        ensures sent { OnOk result (self.new.waiting ≡ []) }
+        ensures flushed { OnOk result (self.new.writes ≡ with_flush self.old.writes) }
+        ensures failed { OnErr result (self.new.writes ≡ with_failed_write self.old.writes) }
+        ensures form { self.new.form ≡ self.old.form }
+        ensures judge { self.new.judge ≡ self.old.judge }
+        ensures found { self.new.found ≡ self.old.found }
+    {
+        self.text.send(writer, &mut self.writes)
+    }
+
+    /// Writes what waits before more of the input is read, which may wait for whoever writes it.
+    fn send_before_read<W: Write>(&mut self, writer: &mut W) -> Result<(), CheckFault>
+        ensures ok { OnOk result (Tells (stand (W.contents writer.old) self.old) None self.old.judge (stand (W.contents writer.new) self.new)) }
+        ensures err { IfErr result (λ fault. FailsTelling (stand (W.contents writer.old) self.old) None fault (stand (W.contents writer.new) self.new)) }
+        ensures sent { OnOk result (self.new.waiting ≡ []) }
+    {
+        Ok(self.send(writer)?)
+    }
+
+    /// Puts a complaint down, where there is one, and how the next line is judged.
+    fn put(&mut self, complaint: Option<Complaint>, next: Judge) -> Result<(), AllocError>
+        ensures ok { OnOk result (self.new ≡ with_put self.old complaint next) }
         ensures err { OnErr result (self.new ≡ self.old) }
     {
         if let Some(complaint) = complaint {
-            let text = format!(in self.alloc.clone()?; "{complaint}")?;
-            self.text.put_text(text.as_bytes())?;
+            self.put_text(&complaint)?;
             self.found = true;
         }
-        self.place = place;
+        self.judge = next;
         Ok(())
     }
 
-    /// Writes the text, and flushes. After a failure some first part of it was written.
-    pub(crate) fn send<W: Write>(
-        &mut self,
-        writer: &mut W,
-        writes: &mut Writes,
-    ) -> Result<(), OutputFailed>
-        ensures written { OnOk result (Appends (W.contents writer.old) (W.contents writer.new) self.old.text) }
-        ensures part { OnErr result (IsPart (W.contents writer.old) (W.contents writer.new) self.old.text) }
-        ensures found { self.new.found ≡ self.old.found }
-        ensures flushed { OnOk result (writes.new ≡ with_flush writes.old) }
-        ensures failed { OnErr result (writes.new ≡ with_failed_write writes.old) }
+    /// Puts the text of a complaint down, in its form.
+    fn put_text(&mut self, complaint: &Complaint) -> Result<(), AllocError>
+        ensures ok { OnOk result (self.new ≡ record self.old { waiting = self.old.waiting ++ told self.old.form (Some complaint.now) }) }
+        ensures err { OnErr result (self.new ≡ self.old) }
     {
-        self.text.send(writer, writes)
+        match self.form {
+            Form::Text => {
+                let text = format!(in self.alloc.clone()?; "{complaint}")?;
+                self.text.put_text(text.as_bytes())
+            }
+            Form::Json => {
+                let text = json_text(&self.alloc, complaint)?;
+                self.text.put_text(&text)
+            }
+        }
     }
 }
 
-impl<A: Allocator + Clone> TakesLines<()> for Sheet<A> {
-    ghost use Rattle.ahci_check.specs.Sheets.{Judges, Keeps};
+/// The complaint about the line of the given number, which is too long.
+fn long_line(number: u64) -> Complaint
+    ensures { result ≡ long_line number }
+{
+    Complaint {
+        line: number,
+        column: Some(LINE_LIMIT as u64 + 1),
+        rule: Rule::Language(Fault::LongLine),
+    }
+}
 
-    type Fault = AllocError;
+impl<A: Allocator + Clone, W: Write> TakesLines<W> for Sheet<A> {
+    ghost use Rattle.std.specs.Prelude.{◌≡◌, []};
+    ghost use Rattle.ahci_check.specs.Sheets.{FailsJudging, Judges, stand};
 
-    ghost Takes = { Judges };
+    type Fault = CheckFault;
 
-    ghost Refuses = { Keeps };
+    ghost Takes = { λ old number found new. Judges (stand (W.contents old.1) old.0) number found (stand (W.contents new.1) new.0) };
 
-    fn take(&mut self, number: u64, found: Found<'_>, _output: &mut ()) -> Result<(), AllocError> {
+    ghost IsSent = { λ s. s.0.waiting ≡ [] };
+
+    ghost Refuses = { λ old number found fault new. FailsJudging (stand (W.contents old.1) old.0) number found fault (stand (W.contents new.1) new.0) };
+
+    fn take(&mut self, number: u64, found: Found<'_>, writer: &mut W) -> Result<(), CheckFault> {
         match found {
-            Found::Line(line) => self.judge(number, line),
-            Found::TooLong => self.judge_long(number),
-            Found::Unfinished => Ok(()),
+            Found::Line(line) => self.take_line(number, line, writer),
+            Found::TooLong => self.take_long(number, writer),
+            Found::Unfinished => self.send_before_read(writer),
         }
     }
 }

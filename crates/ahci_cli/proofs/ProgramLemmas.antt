@@ -27,11 +27,12 @@ told before after text (Err failed) ok err = err
 -- what words ask for has its numbers in their ranges
 pub has_ranges : (words : List (List ℕ)) (asked : Asked) → AsksFor words asked → HasRanges asked
 has_ranges words Replay asks = tt
-has_ranges words Check asks = tt
-has_ranges words Draw asks = tt
+has_ranges words (Check jobs json) asks = tt
+has_ranges words (Draw from to) asks = tt
 has_ranges words (Trace json) asks = tt
-has_ranges words (Run workers depth sectors pick) asks =
-    (asks.has.workers.least, asks.has.workers.most, asks.has.depth.least, asks.has.depth.most, asks.has.sectors.least, asks.has.sectors.most)
+has_ranges words (Run workers depth sectors pick form) asks =
+    let has = asks.has.numbers in
+    (has.workers.least, has.workers.most, has.depth.least, has.depth.most, has.sectors.least, has.sectors.most)
 has_ranges words (Identify sectors depth raw) asks = (asks.has.depth.least, asks.has.depth.most)
 has_ranges words (Log tag error lba raw) asks =
     let tag_most = asks.has.place.tag.most in

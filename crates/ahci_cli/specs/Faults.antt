@@ -4,7 +4,7 @@ use Rattle.std.specs.Io.KnownBytes.{Appends, Keeps}
 use Rattle.ahci_check.specs.declared.check_fault.CheckFault.{CheckFault}
 use Rattle.ahci_check.specs.declared.check_fault.CheckFault.TheVariants as check
 use Rattle.ahci_cli.specs.declared.fault.CliFault.{CliFault}
-use Rattle.ahci_cli.specs.declared.fault.CliFault.TheVariants.{Line, Job, Read, Write, Unsettled, Lost, OutOfMemory}
+use Rattle.ahci_cli.specs.declared.fault.CliFault.TheVariants.{Line, Job, Read, Write, CheckRead, CheckWrite, Unsettled, Lost, OutOfMemory}
 use Rattle.ahci_jobs.specs.declared.jobs_fault.JobsFault.{JobsFault}
 use Rattle.ahci_jobs.specs.declared.jobs_fault.JobsFault.TheVariants as jobs
 use Rattle.ahci_replay.specs.declared.script_fault.ScriptFault.{ScriptFault}
@@ -19,8 +19,8 @@ of_script script.Write = Write
 of_script script.OutOfMemory = OutOfMemory
 
 abbrev pub of_check : CheckFault → CliFault
-of_check check.Read = Read
-of_check check.Write = Write
+of_check check.Read = CheckRead
+of_check check.Write = CheckWrite
 of_check check.OutOfMemory = OutOfMemory
 
 abbrev pub of_jobs : JobsFault → CliFault

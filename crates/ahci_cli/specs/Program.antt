@@ -10,7 +10,14 @@ use Rattle.ahci_args.specs.CommandLine.{PickWords}
 use Rattle.ahci_args.specs.Usage.{usage_faults}
 use Rattle.ahci_args.specs.declared.request.Asked.{Asked}
 use Rattle.ahci_args.specs.declared.request.Asked.TheVariants.{Replay, Run, Identify, Log, Trace, Check, Draw}
+use Rattle.ahci_args.specs.declared.run_form.RunForm.{RunForm}
+use Rattle.ahci_args.specs.declared.run_form.RunForm.TheVariants as asked_form
 use Rattle.ahci_check.specs.Sheets.{EndsCheck, IsChecked}
+use Rattle.ahci_check.specs.declared.form.Form as check
+use Rattle.ahci_check.specs.declared.form.Form.TheVariants as told
+use Rattle.ahci_check.specs.declared.judge.Judge.{Judge}
+use Rattle.ahci_check.specs.declared.judge.Judge.TheVariants.{OfJobs, OfScript}
+use Rattle.ahci_check.specs.declared.place.Place.TheVariants.{BeforeDisk}
 use Rattle.ahci_cli.specs.Fault.{status_of}
 use Rattle.ahci_cli.specs.Faults.{EndsPage, IsFaultOf, of_check, of_jobs, of_page, of_script}
 use Rattle.ahci_cli.specs.declared.fault.CliFault.{CliFault}
@@ -19,6 +26,8 @@ use Rattle.ahci_cli.specs.declared.words_fault.WordsFault.{WordsFault}
 use Rattle.ahci_cli.specs.declared.words_fault.WordsFault.TheVariants.{NotText, OutOfMemory}
 use Rattle.ahci_draw.specs.Drawn.{Drawn, DrawnTo}
 use Rattle.ahci_jobs.specs.RunJobs.{EndsRun, RunsJobs}
+use Rattle.ahci_jobs.specs.declared.form.Form.{Form}
+use Rattle.ahci_jobs.specs.declared.form.Form.TheVariants as form
 use Rattle.ahci_replay.specs.Transcript.{Replayed, ReplayedTo, answers_alone}
 use Rattle.ahci_trace.specs.Json.{json_line}
 use Rattle.ahci_trace.specs.Text.{trace_text}
@@ -43,7 +52,9 @@ abbrev pub fault_text : CliFault → List ℕ
 fault_text (fault.Line line) = codes "ahci: line " ++ (decimal line ++ codes ": not understood\n")
 fault_text (fault.Job job) = codes "ahci: job " ++ (decimal job ++ codes ": bad count or address\n")
 fault_text fault.Read = codes "ahci: input failed\n"
+fault_text fault.CheckRead = codes "ahci: input failed\n"
 fault_text fault.Write = codes "ahci: output failed\n"
+fault_text fault.CheckWrite = codes "ahci: output failed\n"
 fault_text fault.Unsettled = codes "ahci: run not settled\n"
 fault_text (fault.Lost job) = codes "ahci: run not settled\n"
 fault_text fault.OutOfMemory = codes "ahci: out of memory\n"
@@ -61,10 +72,27 @@ abbrev pub DidPage : List ℕ → Bool → Streams → Result Bool CliFault → 
 DidPage text raw s outcome =
     (s.left ≡ s.had) × Did (Appends s.held s.holds text) of_page (EndsPage text raw s.held s.holds) outcome
 
+-- the form of complaints that was asked for
+abbrev pub form_of_check : Bool → check.Form
+form_of_check false = told.Text
+form_of_check true = told.Json
+
+-- the first line is this to judge: a job's, or a script's before its disk
+abbrev pub judge_of : Bool → Judge
+judge_of false = OfScript BeforeDisk
+judge_of true = OfJobs
+
 -- lines were judged
-abbrev pub DidCheck : Streams → Result Bool CliFault → Type 0
-DidCheck s (Ok faulty) = IsChecked s.had s.left s.held s.holds faulty
-DidCheck s (Err fault) = IsFaultOf of_check (EndsCheck s.had s.left s.held s.holds) fault
+abbrev pub DidCheck : check.Form → Judge → Streams → Result Bool CliFault → Type 0
+DidCheck shape judge s (Ok faulty) = IsChecked shape judge s.had s.left s.held s.holds faulty
+DidCheck shape judge s (Err fault) = IsFaultOf of_check (EndsCheck shape judge s.had s.left s.held s.holds) fault
+
+-- the form of a run that was asked for
+abbrev pub form_of : RunForm → Form
+form_of asked_form.Text = form.Text
+form_of asked_form.Json = form.Json
+form_of asked_form.Journal = form.Journal
+form_of asked_form.Image = form.Image
 
 abbrev pub Does : Asked → Streams → Result Bool CliFault → Type 0
 Does Replay s outcome =
@@ -73,10 +101,12 @@ Does (Trace false) s outcome =
     Did (Replayed trace_text s.had s.left s.held s.holds) of_script (ReplayedTo trace_text s.had s.left s.held s.holds) outcome
 Does (Trace true) s outcome =
     Did (Replayed json_line s.had s.left s.held s.holds) of_script (ReplayedTo json_line s.had s.left s.held s.holds) outcome
-Does Check s outcome = DidCheck s outcome
-Does Draw s outcome = Did (Drawn s.had s.left s.held s.holds) of_script (DrawnTo s.had s.left s.held s.holds) outcome
-Does (Run workers depth sectors pick) s outcome =
-    Did (RunsJobs workers depth sectors s.had s.left s.held s.holds) of_jobs (EndsRun workers depth sectors s.had s.left s.held s.holds) outcome
+Does (Check jobs json) s outcome = DidCheck (form_of_check json) (judge_of jobs) s outcome
+Does (Draw from to) s outcome =
+    Did (Drawn from to s.had s.left s.held s.holds) of_script (DrawnTo from to s.had s.left s.held s.holds) outcome
+Does (Run workers depth sectors pick wanted) s outcome =
+    Did (RunsJobs (form_of wanted) workers depth sectors s.had s.left s.held s.holds) of_jobs
+    (EndsRun (form_of wanted) workers depth sectors s.had s.left s.held s.holds) outcome
 Does (Identify sectors depth raw) s outcome = DidPage (identify_output sectors depth raw) raw s outcome
 Does (Log tag error lba raw) s outcome = DidPage (log_output tag error lba raw) raw s outcome
 
@@ -161,7 +191,7 @@ RunsWithout OutOfMemory held holds before after status = Says wrong.OutOfMemory 
 
 -- the numbers of what is asked for are in their ranges
 abbrev pub HasRanges : Asked → Type 0
-HasRanges (Run workers depth sectors pick) =
+HasRanges (Run workers depth sectors pick wanted) =
     (1 ≤ workers) × (workers ≤ 32) × (1 ≤ depth) × (depth ≤ 32) × (1 ≤ sectors) × (sectors ≤ 131072)
 HasRanges (Identify sectors depth raw) = (1 ≤ depth) × (depth ≤ 32)
 HasRanges (Log tag error lba raw) = (tag < 32) × (lba < 2 ^ 48)

@@ -22,6 +22,12 @@ pub enum CliFault {
     /// A write or a flush failed, or a write took no byte.
     #[error("ahci: output failed")]
     Write,
+    /// A check that could not read its lines, as `Read` says.
+    #[error("ahci: input failed")]
+    CheckRead,
+    /// A check that could not write what it found, as `Write` says.
+    #[error("ahci: output failed")]
+    CheckWrite,
     /// A run whose answers its journal doesn't bear out.
     #[error("ahci: run not settled")]
     Unsettled,
@@ -37,12 +43,14 @@ impl CliFault {
     ghost use Rattle.std.specs.Prelude.{◌≡◌};
     ghost use Rattle.ahci_cli.specs.Fault.{status_of};
 
-    /// The program's exit status: 3 for want of memory, else 1.
+    /// The program's exit status: 3 for want of memory, 4 where a check could not read or write (its 1 is that of a faulty line),
+    /// else 1.
     pub fn status(self) -> u8
         ensures { result ≡ status_of self }
     {
         match self {
             CliFault::OutOfMemory => 3,
+            CliFault::CheckRead | CliFault::CheckWrite => 4,
             _ => 1,
         }
     }
@@ -66,8 +74,8 @@ impl From<CheckFault> for CliFault {
 
     fn from(check: CheckFault) -> CliFault {
         match check {
-            CheckFault::Read => CliFault::Read,
-            CheckFault::Write => CliFault::Write,
+            CheckFault::Read => CliFault::CheckRead,
+            CheckFault::Write => CliFault::CheckWrite,
             CheckFault::OutOfMemory => CliFault::OutOfMemory,
         }
     }

@@ -17,8 +17,8 @@ pub(crate) fn text_of(fault: CliFault) -> ArrayString<LONGEST>
     match fault {
         CliFault::Line(line) => numbered("ahci: line ", line, ": not understood\n"),
         CliFault::Job(job) => numbered("ahci: job ", job, ": bad count or address\n"),
-        CliFault::Read => plain("ahci: input failed\n"),
-        CliFault::Write => plain("ahci: output failed\n"),
+        CliFault::Read | CliFault::CheckRead => plain("ahci: input failed\n"),
+        CliFault::Write | CliFault::CheckWrite => plain("ahci: output failed\n"),
         CliFault::Unsettled | CliFault::Lost(_) => plain("ahci: run not settled\n"),
         CliFault::OutOfMemory => plain("ahci: out of memory\n"),
     }

@@ -1,17 +1,19 @@
-ghost use Rattle.std.specs.Prelude.{◌≤◌, IfErr, OnOk};
+ghost use Rattle.std.specs.Prelude.{◌≡◌, ◌≤◌, IfErr, OnOk};
 ghost use Rattle.ahci_cli.specs.Faults.{IsFaultOf, of_jobs};
+ghost use Rattle.ahci_cli.specs.Program.{form_of};
 ghost use Rattle.ahci_jobs.specs.RunJobs.{EndsRun, RunsJobs};
 
 use crate::fault::CliFault;
-use ahci_args::Pick;
+use ahci_args::{Pick, RunForm};
 use ahci_driver::{All, High, Low};
-use ahci_jobs::JobsFault;
+use ahci_jobs::{Form, JobsFault};
 use std::alloc::Allocator;
 use std::io::{Read, Write};
 use std::sync::Wait;
 use std::thread::Threads;
 
-/// Does the jobs that the reader gives, as `ahci_jobs::run_jobs` does, with the chooser that is picked.
+/// Does the jobs that the reader gives, as `ahci_jobs::run_jobs` does, with the chooser that is picked, and writes the text of the
+/// run.
 pub fn run_jobs<H, R, W, A>(
     rt: &H,
     alloc: A,
@@ -33,12 +35,68 @@ where
     requires deep { depth ≤ 32 }
     requires room { 1 ≤ sectors }
     requires limit { sectors ≤ 131072 }
-    ensures ok { OnOk result (RunsJobs workers depth sectors (R.remaining reader.old) (R.remaining reader.new)
+    ensures ok { OnOk result (RunsJobs (form_of RunForm.Text) workers depth sectors (R.remaining reader.old) (R.remaining reader.new)
         (W.contents writer.old) (W.contents writer.new)) }
-    ensures err { IfErr result (IsFaultOf of_jobs (EndsRun workers depth sectors (R.remaining reader.old) (R.remaining reader.new)
+    ensures err { IfErr result (IsFaultOf of_jobs (EndsRun (form_of RunForm.Text) workers depth sectors (R.remaining reader.old) (R.remaining reader.new)
         (W.contents writer.old) (W.contents writer.new))) }
 {
-    Ok(picked(rt, alloc, workers, depth, sectors, pick, reader, writer)?)
+    run_jobs_as(
+        rt,
+        alloc,
+        workers,
+        depth,
+        sectors,
+        pick,
+        RunForm::Text,
+        reader,
+        writer,
+    )
+}
+
+/// The same, and writes the run in this form.
+pub fn run_jobs_as<H, R, W, A>(
+    rt: &H,
+    alloc: A,
+    workers: u32,
+    depth: u32,
+    sectors: u32,
+    pick: Pick,
+    form: RunForm,
+    reader: &mut R,
+    writer: &mut W,
+) -> Result<(), CliFault>
+where
+    H: Threads + Wait + Sync,
+    R: Read,
+    W: Write,
+    A: Allocator + Clone + Send + Sync,
+    requires some { 1 ≤ workers }
+    requires most { workers ≤ 32 }
+    requires slots { 1 ≤ depth }
+    requires deep { depth ≤ 32 }
+    requires room { 1 ≤ sectors }
+    requires limit { sectors ≤ 131072 }
+    ensures ok { OnOk result (RunsJobs (form_of form) workers depth sectors (R.remaining reader.old) (R.remaining reader.new)
+        (W.contents writer.old) (W.contents writer.new)) }
+    ensures err { IfErr result (IsFaultOf of_jobs (EndsRun (form_of form) workers depth sectors (R.remaining reader.old) (R.remaining reader.new)
+        (W.contents writer.old) (W.contents writer.new))) }
+{
+    let form = form_of(form);
+    Ok(picked(
+        rt, alloc, workers, depth, sectors, pick, form, reader, writer,
+    )?)
+}
+
+/// The form of `ahci_jobs` that a command line asks for.
+fn form_of(form: RunForm) -> Form
+    ensures { result ≡ form_of form }
+{
+    match form {
+        RunForm::Text => Form::Text,
+        RunForm::Json => Form::Json,
+        RunForm::Journal => Form::Journal,
+        RunForm::Image => Form::Image,
+    }
 }
 
 /// The same, with the faults of a job list.
@@ -49,6 +107,7 @@ fn picked<H, R, W, A>(
     depth: u32,
     sectors: u32,
     pick: Pick,
+    form: Form,
     reader: &mut R,
     writer: &mut W,
 ) -> Result<(), JobsFault>
@@ -63,14 +122,20 @@ where
     requires deep { depth ≤ 32 }
     requires room { 1 ≤ sectors }
     requires limit { sectors ≤ 131072 }
-    ensures ok { OnOk result (RunsJobs workers depth sectors (R.remaining reader.old) (R.remaining reader.new)
+    ensures ok { OnOk result (RunsJobs form workers depth sectors (R.remaining reader.old) (R.remaining reader.new)
         (W.contents writer.old) (W.contents writer.new)) }
-    ensures err { IfErr result (EndsRun workers depth sectors (R.remaining reader.old) (R.remaining reader.new)
+    ensures err { IfErr result (EndsRun form workers depth sectors (R.remaining reader.old) (R.remaining reader.new)
         (W.contents writer.old) (W.contents writer.new)) }
 {
     match pick {
-        Pick::Low => ahci_jobs::run_jobs(rt, alloc, workers, depth, sectors, Low, reader, writer),
-        Pick::High => ahci_jobs::run_jobs(rt, alloc, workers, depth, sectors, High, reader, writer),
-        Pick::All => ahci_jobs::run_jobs(rt, alloc, workers, depth, sectors, All, reader, writer),
+        Pick::Low => ahci_jobs::run_jobs(
+            rt, alloc, workers, depth, sectors, Low, form, reader, writer,
+        ),
+        Pick::High => ahci_jobs::run_jobs(
+            rt, alloc, workers, depth, sectors, High, form, reader, writer,
+        ),
+        Pick::All => ahci_jobs::run_jobs(
+            rt, alloc, workers, depth, sectors, All, form, reader, writer,
+        ),
     }
 }

@@ -11,10 +11,11 @@ mod running;
 mod scripts;
 mod words_fault;
 
-pub use ahci_args::{Asked, Pick, asked, not_text};
+pub use ahci_args::{Asked, Pick, RunForm, asked, not_text};
+pub use ahci_check::Form;
 pub use fault::CliFault;
-pub use jobs::run_jobs;
+pub use jobs::{run_jobs, run_jobs_as};
 pub use pages::{write_identify, write_log};
 pub use running::{program, program_without_words};
-pub use scripts::{check, draw, replay, trace, trace_json};
+pub use scripts::{check, check_jobs, draw, replay, trace, trace_json};
 pub use words_fault::WordsFault;

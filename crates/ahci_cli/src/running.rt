@@ -2,15 +2,16 @@
 
 ghost use Rattle.std.specs.Prelude.{map, MatchResult, ◌≡◌, Ok, Err, false};
 ghost use Rattle.std.specs.String.{string_bytes};
-ghost use Rattle.ahci_cli.specs.Program.{Does, HasRanges, Runs, RunsWithout, streams};
+ghost use Rattle.ahci_cli.specs.Program.{Does, HasRanges, Runs, RunsWithout, form_of_check, streams};
 
 use crate::ending::{end, explain};
 use crate::fault::CliFault;
-use crate::jobs::run_jobs;
+use crate::jobs::run_jobs_as;
 use crate::pages::{write_identify, write_log};
-use crate::scripts::{check, draw, replay, trace, trace_json};
+use crate::scripts::{check, check_jobs, draw, replay, trace, trace_json};
 use crate::words_fault::WordsFault;
 use ahci_args::{Asked, asked, not_text};
+use ahci_check::Form;
 use std::alloc::Global;
 use std::io::{Read, Write};
 use std::sync::Wait;
@@ -18,7 +19,7 @@ use std::thread::Threads;
 
 /// The whole program: does what the words ask for, of which the first is the program's name, with standard input, output and
 /// error. The exit status: 0; 1 for a fault, or where a line that was checked is faulty; 2 for a wrong command line; 3 for want of
-/// memory.
+/// memory; 4 where lines were checked and input or output failed.
 pub fn program<H, R, W, E>(
     rt: &H,
     alloc: Global,
@@ -81,14 +82,18 @@ where
         Asked::Replay => whole(replay(alloc, reader, writer)),
         Asked::Trace { json: false } => whole(trace(alloc, reader, writer)),
         Asked::Trace { json: true } => whole(trace_json(alloc, reader, writer)),
-        Asked::Check => check(alloc, reader, writer),
-        Asked::Draw => whole(draw(alloc, reader, writer)),
+        Asked::Check { jobs: false, json } => check(alloc, form_of_check(json), reader, writer),
+        Asked::Check { jobs: true, json } => check_jobs(alloc, form_of_check(json), reader, writer),
+        Asked::Draw { from, to } => whole(draw(alloc, from, to, reader, writer)),
         Asked::Run {
             workers,
             depth,
             sectors,
             pick,
-        } => whole(run_jobs(rt, alloc, workers, depth, sectors, pick, reader, writer)),
+            form,
+        } => whole(run_jobs_as(
+            rt, alloc, workers, depth, sectors, pick, form, reader, writer,
+        )),
         Asked::Identify {
             sectors,
             depth,
@@ -101,6 +106,13 @@ where
             raw,
         } => whole(write_log(alloc, tag, error, lba, raw, writer)),
     }
+}
+
+/// The form of complaints that is asked for.
+fn form_of_check(json: bool) -> Form
+    ensures { result ≡ form_of_check json }
+{
+    if json { Form::Json } else { Form::Text }
 }
 
 /// A call that judges no line.

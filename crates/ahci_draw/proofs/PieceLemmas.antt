@@ -1,30 +1,47 @@
 -- Texts that grow by a piece at a time.
-use Rattle.std.proofs.Common.{◌≡◌, ℕ, ◌+◌, ◌-◌, ◌<◌, ◌≤◌, suc, List, [], ◌∷◌, ◌++◌, length, drop, get_or, Option, ap, sym, ◌∙◌, append_assoc, append-nil, arith, refl, zero-add}
-use Rattle.std.specs.List.{flat_map, range_with_len}
+use Rattle.std.proofs.Common.{◌≡◌, ℕ, ◌+◌, ◌-◌, ◌<◌, suc, List, [], ◌∷◌, ◌++◌, Option, Bool, ◌||◌, map, ap, sym, ◌∙◌, append_assoc, append-nil, arith, refl, zero-add}
+use Rattle.std.specs.List.{flat_map, list_any, range_with_len}
 use Rattle.std.proofs.lemmas.Grind.{flat_map-append}
-use Rattle.std.proofs.Math.ListN.{drop_of_length-le}
-use Rattle.std.proofs.lemmas.List.{drop_more}
 use Rattle.ncq_journal.proofs.TagLemmas.{range_more}
 use Rattle.ncq_journal.specs.Entry.{Entry}
 use Rattle.ncq_journal.specs.Numbering.{entry_numbered}
 use Rattle.ncq_journal.specs.declared.phase.Phase.{Phase}
-use Rattle.ahci_draw.specs.Column.{column_of, columns_text, moved_by}
-use Rattle.ahci_draw.specs.Picture.{filled, filling, starts}
+use Rattle.ahci_draw.specs.Entries.{entries_text, line_of, moved_by, turned_behind}
 
--- two, three and four pieces, one behind the other
+-- pieces, one behind the other
 pub two : {X : Type 0} (old one new a a' b b' : List X) → one ≡ old ++ a → new ≡ one ++ b → a ≡ a' → b ≡ b' → new ≡ old ++ (a' ++ b')
 two old one new a a' b b' first second p q =
     second ∙ ap (λ t. one ++ t) q ∙ ap (λ t. t ++ b') (first ∙ ap (λ t. old ++ t) p) ∙ append_assoc old a' b'
 
-pub three : {X : Type 0} (old one more new a a' b b' c c' : List X) → one ≡ old ++ a → more ≡ one ++ b → new ≡ more ++ c → a ≡ a' → b ≡ b' → c ≡ c'
-    → new ≡ old ++ (a' ++ (b' ++ c'))
-three old one more new a a' b b' c c' first second third p q r =
-    two old one new a a' (b' ++ c') (b' ++ c') first (two one more new b b' c c' second third q r) p refl
+pub three : {X : Type 0} (old t1 t2 new a a' b b' c c' : List X) → t1 ≡ old ++ a → t2 ≡ t1 ++ b → new ≡ t2 ++ c
+    → a ≡ a' → b ≡ b' → c ≡ c' → new ≡ old ++ (a' ++ (b' ++ c'))
+three old t1 t2 new a a' b b' c c' p1 p2 p3 q1 q2 q3 =
+    two old t1 new a a' (b' ++ c') (b' ++ c') p1 (two t1 t2 new b b' c c' p2 p3 q2 q3) q1 refl
 
-pub four : {X : Type 0} (old one more most new a a' b b' c c' d d' : List X) → one ≡ old ++ a → more ≡ one ++ b → most ≡ more ++ c → new ≡ most ++ d
+pub four : {X : Type 0} (old t1 t2 t3 new a a' b b' c c' d d' : List X) → t1 ≡ old ++ a → t2 ≡ t1 ++ b → t3 ≡ t2 ++ c → new ≡ t3 ++ d
     → a ≡ a' → b ≡ b' → c ≡ c' → d ≡ d' → new ≡ old ++ (a' ++ (b' ++ (c' ++ d')))
-four old one more most new a a' b b' c c' d d' first second third fourth p q r s =
-    two old one new a a' (b' ++ (c' ++ d')) (b' ++ (c' ++ d')) first (three one more most new b b' c c' d d' second third fourth q r s) p refl
+four old t1 t2 t3 new a a' b b' c c' d d' p1 p2 p3 p4 q1 q2 q3 q4 =
+    two old t1 new a a' (b' ++ (c' ++ d')) (b' ++ (c' ++ d')) p1 (three t1 t2 t3 new b b' c c' d d' p2 p3 p4 q2 q3 q4) q1 refl
+
+pub five : {X : Type 0} (old t1 t2 t3 t4 new a a' b b' c c' d d' e e' : List X) → t1 ≡ old ++ a → t2 ≡ t1 ++ b → t3 ≡ t2 ++ c → t4 ≡ t3 ++ d → new ≡ t4 ++ e
+    → a ≡ a' → b ≡ b' → c ≡ c' → d ≡ d' → e ≡ e' → new ≡ old ++ (a' ++ (b' ++ (c' ++ (d' ++ e'))))
+five old t1 t2 t3 t4 new a a' b b' c c' d d' e e' p1 p2 p3 p4 p5 q1 q2 q3 q4 q5 =
+    two old t1 new a a' (b' ++ (c' ++ (d' ++ e'))) (b' ++ (c' ++ (d' ++ e'))) p1 (four t1 t2 t3 t4 new b b' c c' d d' e e' p2 p3 p4 p5 q2 q3 q4 q5) q1 refl
+
+pub six : {X : Type 0} (old t1 t2 t3 t4 t5 new a a' b b' c c' d d' e e' f f' : List X) → t1 ≡ old ++ a → t2 ≡ t1 ++ b → t3 ≡ t2 ++ c → t4 ≡ t3 ++ d → t5 ≡ t4 ++ e → new ≡ t5 ++ f
+    → a ≡ a' → b ≡ b' → c ≡ c' → d ≡ d' → e ≡ e' → f ≡ f' → new ≡ old ++ (a' ++ (b' ++ (c' ++ (d' ++ (e' ++ f')))))
+six old t1 t2 t3 t4 t5 new a a' b b' c c' d d' e e' f f' p1 p2 p3 p4 p5 p6 q1 q2 q3 q4 q5 q6 =
+    two old t1 new a a' (b' ++ (c' ++ (d' ++ (e' ++ f')))) (b' ++ (c' ++ (d' ++ (e' ++ f')))) p1 (five t1 t2 t3 t4 t5 new b b' c c' d d' e e' f f' p2 p3 p4 p5 p6 q2 q3 q4 q5 q6) q1 refl
+
+pub seven : {X : Type 0} (old t1 t2 t3 t4 t5 t6 new a a' b b' c c' d d' e e' f f' g g' : List X) → t1 ≡ old ++ a → t2 ≡ t1 ++ b → t3 ≡ t2 ++ c → t4 ≡ t3 ++ d → t5 ≡ t4 ++ e → t6 ≡ t5 ++ f → new ≡ t6 ++ g
+    → a ≡ a' → b ≡ b' → c ≡ c' → d ≡ d' → e ≡ e' → f ≡ f' → g ≡ g' → new ≡ old ++ (a' ++ (b' ++ (c' ++ (d' ++ (e' ++ (f' ++ g'))))))
+seven old t1 t2 t3 t4 t5 t6 new a a' b b' c c' d d' e e' f f' g g' p1 p2 p3 p4 p5 p6 p7 q1 q2 q3 q4 q5 q6 q7 =
+    two old t1 new a a' (b' ++ (c' ++ (d' ++ (e' ++ (f' ++ g'))))) (b' ++ (c' ++ (d' ++ (e' ++ (f' ++ g'))))) p1
+    (six t1 t2 t3 t4 t5 t6 new b b' c c' d d' e e' f f' g g' p2 p3 p4 p5 p6 p7 q2 q3 q4 q5 q6 q7) q1 refl
+
+-- a piece that is another
+pub is_then : {X : Type 0} (old new a b : List X) → new ≡ old ++ a → a ≡ b → new ≡ old ++ b
+is_then old new a b grown is = grown ∙ ap (λ t. old ++ t) is
 
 -- a piece for each number so far, and one more
 pub more_range : {Y : Type 0} (f : ℕ → List Y) (old text new : List Y) (n : ℕ) → text ≡ old ++ flat_map f (range_with_len 0 n) → new ≡ text ++ f n
@@ -36,42 +53,35 @@ more_range f old text new n so_far grown =
     (ap (flat_map f) (range_more 0 n ∙ ap (λ k. range_with_len 0 n ++ k ∷ []) (zero-add n))
     ∙ flat_map-append f (range_with_len 0 n) (n ∷ []) ∙ ap (λ t. flat_map f (range_with_len 0 n) ++ t) (append-nil (f n))))
 
--- where the text so far and the columns that are left are the whole, they are so behind the next one
-pub next_column : (answer : List ℕ) (depth first : ℕ) (past : List Entry) (text new whole : List ℕ) (phases after : List Phase) (n end : ℕ) (found : Option Entry)
-    → n < end → entry_numbered first past n ≡ found → text ++ columns_text answer depth first past phases n (end - n) ≡ whole
-    → new ≡ text ++ column_of answer depth n phases found → after ≡ moved_by phases found
-    → new ++ columns_text answer depth first past after (n + 1) (end - (n + 1)) ≡ whole
-unfolding columns_text
-next_column answer depth first past text new whole phases after n end found low is so_far grown moves =
-    ap (λ p. new ++ columns_text answer depth first past p (n + 1) (end - (n + 1))) moves
-    ∙ ap (λ t. t ++ columns_text answer depth first past (moved_by phases found) (n + 1) (end - (n + 1))) grown
-    ∙ append_assoc text (column_of answer depth n phases found) (columns_text answer depth first past (moved_by phases found) (n + 1) (end - (n + 1)))
-    ∙ ap (λ e. text ++ (column_of answer depth n phases e ++ columns_text answer depth first past (moved_by phases e) (n + 1) (end - (n + 1)))) (sym is)
-    ∙ ap (λ k. text ++ columns_text answer depth first past phases n k) (sym one_more) ∙ so_far
+-- a piece for each number, where there are so many
+pub all_range : {Y : Type 0} (f : ℕ → List Y) (old text : List Y) (n m : ℕ) → n ≡ m → text ≡ old ++ flat_map f (range_with_len 0 n)
+    → text ≡ old ++ flat_map f (range_with_len 0 m)
+all_range f old text n m same so_far = so_far ∙ ap (λ k. old ++ flat_map f (range_with_len 0 k)) same
+
+-- a test of what is mapped
+pub any_mapped : {X Y : Type 0} (p : Y → Bool) (f : X → Y) (xs : List X) → list_any p (map f xs) ≡ list_any (λ x. p (f x)) xs
+any_mapped p f [] = refl
+any_mapped p f (x ∷ xs) = ap (λ b. p (f x) || b) (any_mapped p f xs)
+
+-- where the text so far and the lines that are left are the whole, they are so behind the next one
+pub next_line : (first : ℕ) (past : List Entry) (text new whole : List ℕ) (phases after : List Phase) (writes turned : List Bool) (n end : ℕ) (found : Option Entry)
+    → n < end → entry_numbered first past n ≡ found → text ++ entries_text first past phases writes n (end - n) ≡ whole
+    → new ≡ text ++ line_of n phases writes found → after ≡ moved_by phases found → turned ≡ turned_behind writes found
+    → new ++ entries_text first past after turned (n + 1) (end - (n + 1)) ≡ whole
+unfolding entries_text
+next_line first past text new whole phases after writes turned n end found low is so_far grown moves turns =
+    ap (λ p. new ++ entries_text first past p turned (n + 1) (end - (n + 1))) moves
+    ∙ ap (λ w. new ++ entries_text first past (moved_by phases found) w (n + 1) (end - (n + 1))) turns
+    ∙ ap (λ t. t ++ entries_text first past (moved_by phases found) (turned_behind writes found) (n + 1) (end - (n + 1))) grown
+    ∙ append_assoc text (line_of n phases writes found) (entries_text first past (moved_by phases found) (turned_behind writes found) (n + 1) (end - (n + 1)))
+    ∙ ap (λ e. text ++ (line_of n phases writes e ++ entries_text first past (moved_by phases e) (turned_behind writes e) (n + 1) (end - (n + 1)))) (sym is)
+    ∙ ap (λ k. text ++ entries_text first past phases writes n k) (sym one_more) ∙ so_far
   where
     one_more : end - n ≡ suc (end - (n + 1))
     one_more = omega (arith, low)
 
--- the same of the bytes of a sheet
-pub next_filling : (right column after : ℕ) (text new whole : List ℕ) (sheet : List ℕ) (i : ℕ) → i < length sheet
-    → text ++ filled right column (drop i sheet) ≡ whole → new ≡ text ++ filling right column (get_or sheet i 0) → after ≡ column + starts (get_or sheet i 0)
-    → new ++ filled right after (drop (i + 1) sheet) ≡ whole
-unfolding filled
-next_filling right column after text new whole sheet i low so_far grown moves =
-    let b = get_or sheet i 0 in
-    ap (λ a. new ++ filled right a (drop (i + 1) sheet)) moves ∙ ap (λ t. t ++ filled right (column + starts b) (drop (i + 1) sheet)) grown
-    ∙ append_assoc text (filling right column b) (filled right (column + starts b) (drop (i + 1) sheet))
-    ∙ ap (λ l. text ++ filled right column l) (sym (drop_more sheet i 0 low)) ∙ so_far
-
--- where nothing is left, the text so far is the whole
-pub all_filled : (right column : ℕ) (text whole : List ℕ) (sheet : List ℕ) (i : ℕ) → length sheet ≤ i
-    → text ++ filled right column (drop i sheet) ≡ whole → text ≡ whole
-unfolding filled
-all_filled right column text whole sheet i high so_far =
-    sym (append-nil text) ∙ ap (λ l. text ++ filled right column l) (sym (drop_of_length-le sheet high)) ∙ so_far
-
-pub all_columns : (answer : List ℕ) (depth first : ℕ) (past : List Entry) (text whole : List ℕ) (phases : List Phase) (n left : ℕ) → left ≡ 0
-    → text ++ columns_text answer depth first past phases n left ≡ whole → text ≡ whole
-unfolding columns_text
-all_columns answer depth first past text whole phases n left none so_far =
-    sym (append-nil text) ∙ ap (λ k. text ++ columns_text answer depth first past phases n k) (sym none) ∙ so_far
+pub all_lines : (first : ℕ) (past : List Entry) (text whole : List ℕ) (phases : List Phase) (writes : List Bool) (n left : ℕ) → left ≡ 0
+    → text ++ entries_text first past phases writes n left ≡ whole → text ≡ whole
+unfolding entries_text
+all_lines first past text whole phases writes n left none so_far =
+    sym (append-nil text) ∙ ap (λ k. text ++ entries_text first past phases writes n k) (sym none) ∙ so_far

@@ -9,8 +9,8 @@ use Rattle.ahci_draw.specs.Picture.{picture_text}
 use Rattle.ahci_draw.specs.Sheet.{sheet_text}
 
 -- the whole picture is a text of lines
-abbrev pub picture_lines : List ℕ → List ℕ
-picture_lines sheet = picture_text sheet ++ 10 ∷ []
+abbrev pub picture_lines : (from to : ℕ) → List ℕ → List ℕ
+picture_lines from to sheet = picture_text from to sheet ++ 10 ∷ []
 
 -- the sheet of a script that was replayed to its end
 abbrev pub IsSheet : Option (List ℕ) → Option (List ℕ) → List ℕ → Type 0
@@ -23,40 +23,40 @@ IsSheetTo r s fault.Read sheet = ReplayedTo sheet_text r s (Some []) (Some sheet
 IsSheetTo r s _ sheet = ⊥
 
 -- the script was replayed to its end, and the picture is written
-pub record Drawn (r s c d : Option (List ℕ)) : Type 0 where
+pub record Drawn (from to : ℕ) (r s c d : Option (List ℕ)) : Type 0 where
   pub sheet : List ℕ
   pub replayed : IsSheet r s sheet
-  pub written : Appends c d (picture_lines sheet)
+  pub written : Appends c d (picture_lines from to sheet)
 
 -- a fault has ended the script, and the picture of what was done before it is written
-pub record DrawnBefore (r s c d : Option (List ℕ)) (f : ScriptFault) : Type 0 where
+pub record DrawnBefore (from to : ℕ) (r s c d : Option (List ℕ)) (f : ScriptFault) : Type 0 where
   pub sheet : List ℕ
   pub replayed : IsSheetTo r s f sheet
-  pub written : Appends c d (picture_lines sheet)
+  pub written : Appends c d (picture_lines from to sheet)
 
 -- how the picture of a sheet fails to be written: in part, or not at all where memory was refused
-abbrev pub IsSentTo : List ℕ → Option (List ℕ) → Option (List ℕ) → ScriptFault → Type 0
-IsSentTo sheet c d fault.OutOfMemory = d ≡ c
-IsSentTo sheet c d fault.Write = (count : ℕ) × Appends c d (take count (picture_lines sheet))
-IsSentTo sheet c d _ = ⊥
+abbrev pub IsSentTo : (from to : ℕ) → List ℕ → Option (List ℕ) → Option (List ℕ) → ScriptFault → Type 0
+IsSentTo from to sheet c d fault.OutOfMemory = d ≡ c
+IsSentTo from to sheet c d fault.Write = (count : ℕ) × Appends c d (take count (picture_lines from to sheet))
+IsSentTo from to sheet c d _ = ⊥
 
 -- the picture is written, and the fault of the script is told; or that of the writing is
-abbrev pub IsSentAt : ScriptFault → List ℕ → Option (List ℕ) → Option (List ℕ) → ScriptFault → Type 0
-IsSentAt f sheet c d told = ((told ≡ f) × Appends c d (picture_lines sheet)) ⊎ IsSentTo sheet c d told
+abbrev pub IsSentAt : (from to : ℕ) → ScriptFault → List ℕ → Option (List ℕ) → Option (List ℕ) → ScriptFault → Type 0
+IsSentAt from to f sheet c d told = ((told ≡ f) × Appends c d (picture_lines from to sheet)) ⊎ IsSentTo from to sheet c d told
 
 -- a first part of the picture is written
-pub record DrawnPart (r s c d : Option (List ℕ)) : Type 0 where
+pub record DrawnPart (from to : ℕ) (r s c d : Option (List ℕ)) : Type 0 where
   pub sheet : List ℕ
   pub replayed : IsSheet r s sheet ⊎ ((f : ScriptFault) × IsSheetTo r s f sheet)
   pub count : ℕ
-  pub written : Appends c d (take count (picture_lines sheet))
+  pub written : Appends c d (take count (picture_lines from to sheet))
 
 -- how a fault ends it: where memory was refused nothing is written
-abbrev pub DrawnTo : Option (List ℕ) → Option (List ℕ) → Option (List ℕ) → Option (List ℕ) → ScriptFault → Type 0
-DrawnTo r s c d (fault.Line n) = DrawnBefore r s c d (fault.Line n)
-DrawnTo r s c d fault.Read = DrawnBefore r s c d fault.Read
-DrawnTo r s c d fault.OutOfMemory = d ≡ c
-DrawnTo r s c d fault.Write = DrawnPart r s c d
+abbrev pub DrawnTo : (from to : ℕ) → Option (List ℕ) → Option (List ℕ) → Option (List ℕ) → Option (List ℕ) → ScriptFault → Type 0
+DrawnTo from to r s c d (fault.Line n) = DrawnBefore from to r s c d (fault.Line n)
+DrawnTo from to r s c d fault.Read = DrawnBefore from to r s c d fault.Read
+DrawnTo from to r s c d fault.OutOfMemory = d ≡ c
+DrawnTo from to r s c d fault.Write = DrawnPart from to r s c d
 
 -- ---- how the writes went
 

@@ -1,6 +1,7 @@
 -- What is kept of the port that a command finds.
-use Rattle.std.specs.Prelude.{ℕ, Option, None, Some, is_some}
+use Rattle.std.specs.Prelude.{ℕ, Option, None, Some}
 use Rattle.ahci_port.specs.PortView.{PortView, next_number}
+use Rattle.ahci_draw.specs.Directions.{directions_of}
 use Rattle.ahci_draw.specs.Phases.{phases_of}
 use Rattle.ahci_draw.specs.declared.mark.Mark.{Mark}
 
@@ -10,4 +11,4 @@ end_of None = 0
 end_of (Some port) = next_number port
 
 abbrev pub mark_of : Option PortView → Mark
-mark_of port = record { has_port = is_some port; end = end_of port; phases = phases_of port }
+mark_of port = record { end = end_of port; phases = phases_of port; writes = directions_of port }

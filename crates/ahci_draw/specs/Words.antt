@@ -1,5 +1,6 @@
--- An entry of the journal in words.
+-- An entry of the journal in words. No byte of them is one that XML reads as more than itself.
 use Rattle.std.specs.Prelude.{ℕ, List, ◌∷◌, ◌++◌, codes}
+use Rattle.std.specs.Fmt.{decimal}
 use Rattle.ahci_script.specs.Answers.{hex_of}
 use Rattle.ncq_journal.specs.Entry.{Entry, Issue, Accept, Complete, Fail, Recover, Reissue, Collect, Unqueued}
 use Rattle.ncq_journal.specs.Work.{Work, Read, Write, lba_of, sectors_of}
@@ -8,31 +9,33 @@ use Rattle.ncq_journal.specs.declared.plain.Plain.TheVariants.{Identify, Flush, 
 use Rattle.ahci_draw.specs.Text.{numbered}
 
 abbrev pub direction : Work → List ℕ
-direction (Read lba sectors) = codes "a read is issued with tag "
-direction (Write lba bytes) = codes "a write is issued with tag "
+direction (Read lba sectors) = codes ": read, tag "
+direction (Write lba bytes) = codes ": write, tag "
 
 -- the titles of ACS-3
 abbrev pub plain_words : Plain → List ℕ
-plain_words Identify = codes "IDENTIFY DEVICE"
-plain_words Flush = codes "FLUSH CACHE EXT"
-plain_words ReadLog = codes "READ LOG EXT"
+plain_words Identify = codes ": IDENTIFY DEVICE"
+plain_words Flush = codes ": FLUSH CACHE EXT"
+plain_words ReadLog = codes ": READ LOG EXT"
 
 -- a queued command: its tag, its first sector and how many there are
 unfoldable pub issue_words : ℕ → Work → List ℕ
-issue_words tag work =
-    numbered (direction work) tag ++ (numbered (codes ", from LBA ") (lba_of work) ++ numbered (codes ", sectors: ") (sectors_of work))
+issue_words tag work = numbered (direction work) tag ++ (numbered (codes ", LBA ") (lba_of work) ++ numbered (codes ", sectors ") (sectors_of work))
 
--- a failure: the tag, the error register's byte and the failing sector
+-- a failure: the error register's byte, the tag and the failing sector
 unfoldable pub failure_words : ℕ → ℕ → ℕ → List ℕ
-failure_words tag error lba =
-    numbered (codes "an error fails tag ") tag ++ (codes ", error" ++ ((32 ∷ hex_of 2 error) ++ numbered (codes "h at LBA ") lba))
+failure_words tag error lba = codes ": error" ++ ((32 ∷ hex_of 2 error) ++ (numbered (codes "h, tag ") tag ++ numbered (codes ", LBA ") lba))
 
 abbrev pub entry_words : Entry → List ℕ
 entry_words (Issue tag work) = issue_words tag work
-entry_words (Accept tag) = numbered (codes "the device accepts tag ") tag
-entry_words (Complete tag) = numbered (codes "the device completes tag ") tag
+entry_words (Accept tag) = numbered (codes ": accept, tag ") tag
+entry_words (Complete tag) = numbered (codes ": complete, tag ") tag
 entry_words (Fail tag error lba) = failure_words tag error lba
-entry_words (Recover tag) = numbered (codes "the port recovers from the failure of tag ") tag
-entry_words (Reissue tag) = numbered (codes "issued again is tag ") tag
-entry_words (Collect tag) = numbered (codes "collected is tag ") tag
+entry_words (Recover tag) = numbered (codes ": recover, tag ") tag
+entry_words (Reissue tag) = numbered (codes ": issue again, tag ") tag
+entry_words (Collect tag) = numbered (codes ": collect, tag ") tag
 entry_words (Unqueued command) = plain_words command
+
+-- the entry's number, and the entry
+unfoldable pub title_text : ℕ → Entry → List ℕ
+title_text number entry = decimal number ++ entry_words entry

@@ -4,52 +4,67 @@ ghost use Rattle.std.specs.Io.KnownBytes.{Appends};
 ghost use Rattle.ahci_draw.specs.Drawn.{DrawWrites, Drawn, DrawnTo, IsSentAt, IsSentTo, SendWrites, SendWritesAt, picture_lines};
 
 use crate::drawer::Drawer;
-use crate::picture::picture_of;
+use crate::picture::picture_text;
 use ahci_replay::{ScriptFault, replay_with};
 use ahci_script::Output;
 use std::alloc::Allocator;
 use std::io::{Read, Write};
 use streams::Writes;
 
-/// Runs the script that the reader gives as `replay` does, and writes a picture of what the port did, as SVG. At a fault of the
-/// script the picture shows what was done before it.
+/// Runs the script that the reader gives as `replay` does, and writes a picture of what the port did, as SVG: the entries of its
+/// journal from one number to another, both of them too. All are drawn from 0 to `u64::MAX`, and none where `from` is past `to` or
+/// past the last entry. At a fault of the script the picture shows what was done before it.
 ///
 /// # Errors
 /// Those of `replay`. Where memory was refused nothing is written.
 pub fn draw<R: Read, W: Write, A: Allocator + Copy>(
     alloc: A,
+    from: u64,
+    to: u64,
     reader: &mut R,
     writer: &mut W,
 ) -> Result<(), ScriptFault>
-    ensures ok { OnOk result (Drawn (R.remaining reader.old) (R.remaining reader.new) (W.contents writer.old) (W.contents writer.new)) }
-    ensures err { IfErr result (DrawnTo (R.remaining reader.old) (R.remaining reader.new) (W.contents writer.old) (W.contents writer.new)) }
+    ensures ok { OnOk result (Drawn from to (R.remaining reader.old) (R.remaining reader.new) (W.contents writer.old) (W.contents writer.new)) }
+    ensures err { IfErr result (DrawnTo from to (R.remaining reader.old) (R.remaining reader.new) (W.contents writer.old) (W.contents writer.new)) }
 {
-    drawn(alloc, reader, writer, &mut Writes::new())
+    drawn(alloc, from, to, reader, writer, &mut Writes::new())
 }
 
 /// The same, and tells how the writes went.
 fn drawn<R: Read, W: Write, A: Allocator + Copy>(
     alloc: A,
+    from: u64,
+    to: u64,
     reader: &mut R,
     writer: &mut W,
     writes: &mut Writes,
 ) -> Result<(), ScriptFault>
-    ensures ok { OnOk result (Drawn (R.remaining reader.old) (R.remaining reader.new) (W.contents writer.old) (W.contents writer.new)) }
-    ensures err { IfErr result (DrawnTo (R.remaining reader.old) (R.remaining reader.new) (W.contents writer.old) (W.contents writer.new)) }
+    ensures ok { OnOk result (Drawn from to (R.remaining reader.old) (R.remaining reader.new) (W.contents writer.old) (W.contents writer.new)) }
+    ensures err { IfErr result (DrawnTo from to (R.remaining reader.old) (R.remaining reader.new) (W.contents writer.old) (W.contents writer.new)) }
     ensures flushed { OnOk result (writes.new ≡ with_flush writes.old) }
     ensures writes { IfErr result (DrawWrites writes.old writes.new) }
 {
     let mut sheet = Vec::new(alloc);
     match replay_with(alloc, &Drawer::new(alloc), reader, &mut sheet) {
-        Ok(()) => send(alloc, &sheet, writer, writes),
+        Ok(()) => send(alloc, from, to, &sheet, writer, writes),
         Err(ScriptFault::Line(line)) => Err(send_at(
             ScriptFault::Line(line),
             alloc,
+            from,
+            to,
             &sheet,
             writer,
             writes,
         )),
-        Err(ScriptFault::Read) => Err(send_at(ScriptFault::Read, alloc, &sheet, writer, writes)),
+        Err(ScriptFault::Read) => Err(send_at(
+            ScriptFault::Read,
+            alloc,
+            from,
+            to,
+            &sheet,
+            writer,
+            writes,
+        )),
         Err(_) => Err(ScriptFault::OutOfMemory), // a sheet takes all that it has room for
     }
 }
@@ -58,14 +73,16 @@ fn drawn<R: Read, W: Write, A: Allocator + Copy>(
 fn send_at<W: Write, A: Allocator + Copy>(
     fault: ScriptFault,
     alloc: A,
+    from: u64,
+    to: u64,
     sheet: &[u8],
     writer: &mut W,
     writes: &mut Writes,
 ) -> ScriptFault
-    ensures sent { IsSentAt fault sheet.now (W.contents writer.old) (W.contents writer.new) result }
+    ensures sent { IsSentAt from to fault sheet.now (W.contents writer.old) (W.contents writer.new) result }
     ensures writes { SendWritesAt fault writes.old writes.new result }
 {
-    match send(alloc, sheet, writer, writes) {
+    match send(alloc, from, to, sheet, writer, writes) {
         Ok(()) => fault,
         Err(failed) => failed,
     }
@@ -74,17 +91,19 @@ fn send_at<W: Write, A: Allocator + Copy>(
 /// Writes the picture that a sheet gives.
 fn send<W: Write, A: Allocator + Copy>(
     alloc: A,
+    from: u64,
+    to: u64,
     sheet: &[u8],
     writer: &mut W,
     writes: &mut Writes,
 ) -> Result<(), ScriptFault>
-    ensures ok { OnOk result (Appends (W.contents writer.old) (W.contents writer.new) (picture_lines sheet.now)) }
-    ensures err { IfErr result (IsSentTo sheet.now (W.contents writer.old) (W.contents writer.new)) }
+    ensures ok { OnOk result (Appends (W.contents writer.old) (W.contents writer.new) (picture_lines from to sheet.now)) }
+    ensures err { IfErr result (IsSentTo from to sheet.now (W.contents writer.old) (W.contents writer.new)) }
     ensures flushed { OnOk result (writes.new ≡ with_flush writes.old) }
     ensures writes { IfErr result (SendWrites writes.old writes.new) }
 {
     let mut output = Output::new(alloc);
-    output.put_text(&picture_of(alloc, sheet)?)?;
+    output.put_text(&picture_text(alloc, from, to, sheet)?)?;
     output.send(writer, writes)?;
     Ok(())
 }

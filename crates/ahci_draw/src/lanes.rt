@@ -1,79 +1,121 @@
-//! The lanes of the tags, and the row of the device below them.
+//! The lanes of a row.
 
-ghost use Rattle.std.specs.Prelude.{◌≡◌, ◌++◌, OnOk, flat_map};
-ghost use Rattle.std.specs.List.{range_with_len};
-ghost use Rattle.ahci_draw.specs.Lanes.{below, lane_text, lanes_text, name_text, rule_text};
-ghost use Rattle.ahci_draw.specs.Sheet.{new_lanes};
+ghost use Rattle.std.specs.Prelude.{◌≡◌, ◌++◌, ◌≤◌, IfOk, OnOk, length, map, slice_index};
+ghost use Rattle.std.specs.List.{list_any};
+ghost use Rattle.ahci_draw.specs.Lanes.{cells_in, device_text, has_lane, is_told, lane_text, lanes_text, name_shape, tags_in};
+ghost use Rattle.ahci_draw.specs.Lines.{texts};
 
-use crate::text::push_number;
+use crate::sheet::{DEVICE, LANE, byte_at};
+use crate::signs::push_signs;
+use crate::strip::{Strip, push_runs};
+use crate::text::{letter, push_number};
 use ahci_script::growing::push;
 use std::alloc::{AllocError, Allocator};
 
-/// So many units below the top of a tag's lane: lanes are 16 units high.
-#[tactic(auto, unfolding(crate::specs::Lanes::below))]
-pub(crate) fn below(tag: u32, units: u8) -> u128
-    ensures { result ≡ below tag units }
+/// Whether an entry tells of a tag: the tag is not free behind it, or it is the entry's own.
+fn is_told(line: &[u8], tag: usize) -> bool
+    ensures { result ≡ is_told line.now tag }
 {
-    16 * u128::from(tag) + 100 + u128::from(units)
+    byte_at(line, tag) != b'.' || byte_at(line, LANE) == letter(tag)
 }
 
-#[tactic(auto, unfolding(crate::specs::Lanes::name_text))]
-fn push_name<A: Allocator>(text: &mut Vec<u8, A>, tag: u32) -> Result<(), AllocError>
-    ensures { OnOk result (text.new.items ≡ text.old.items ++ name_text tag) }
+/// Whether some entry tells of a tag.
+fn some_tells(lines: &[&[u8]], tag: usize) -> bool
+    ensures { result ≡ list_any (λ line. is_told line.now tag) lines.now }
 {
-    push_number(text, b"\n<text x='8' y='", below(tag, 12))?;
-    push_number(text, b"'>tag ", u128::from(tag))?;
+    lines.iter().any(|line| is_told(line, tag))
+}
+
+/// Whether a tag has a lane: some entry tells of it.
+fn has_lane(lines: &[&[u8]], tag: usize) -> bool
+    ensures { result ≡ has_lane (texts lines.now) tag }
+{
+    some_tells(lines, tag)
+}
+
+/// The tags that have a lane.
+#[tactic(auto, unfolding(crate::specs::Lanes::tags_in))]
+pub(crate) fn tags_in<A: Allocator>(alloc: A, lines: &[&[u8]]) -> Result<Vec<usize, A>, AllocError>
+    ensures tags { IfOk result (λ tags. tags.items ≡ tags_in (texts lines.now)) }
+    ensures most { IfOk result (λ tags. length tags.items ≤ 32) }
+{
+    (0..32usize)
+        .filter(|tag| has_lane(lines, *tag))
+        .collect(alloc)
+}
+
+/// The byte that each line has at a place.
+fn bytes_at<A: Allocator>(alloc: A, lines: &[&[u8]], place: usize) -> Result<Vec<u8, A>, AllocError>
+    ensures { IfOk result (λ cells. cells.items ≡ map (λ line. slice_index line.now place) lines.now) }
+{
+    lines.iter().map(|line| byte_at(line, place)).collect(alloc)
+}
+
+/// The letter that each column has at a place.
+fn cells_in<A: Allocator>(alloc: A, lines: &[&[u8]], place: usize) -> Result<Vec<u8, A>, AllocError>
+    ensures { IfOk result (λ cells. cells.items ≡ cells_in (texts lines.now) place) }
+{
+    bytes_at(alloc, lines, place)
+}
+
+/// Appends the name of a lane.
+#[tactic(auto, unfolding(crate::specs::Lanes::name_shape))]
+fn push_name<A: Allocator>(text: &mut Vec<u8, A>, lane: usize, tag: usize) -> Result<(), AllocError>
+    ensures { OnOk result (text.new.items ≡ text.old.items ++ name_shape lane tag) }
+{
+    push_number(text, b"\n<text x='36' y='", 16 * (lane as u128) + 35)?;
+    push_number(text, b"'>tag ", tag as u128)?;
     push(text, b"</text>")
 }
 
-/// The line below a lane, whose right end is left open as a byte 2.
-#[tactic(auto, unfolding(crate::specs::Lanes::rule_text))]
-fn push_rule<A: Allocator>(text: &mut Vec<u8, A>, tag: u32) -> Result<(), AllocError>
-    ensures { OnOk result (text.new.items ≡ text.old.items ++ rule_text tag) }
-{
-    push_number(text, b"<line x1='72' y1='", below(tag, 16))?;
-    push(text, b"' x2='\x02")?;
-    push_number(text, b"' y2='", below(tag, 16))?;
-    push(text, b"' stroke='#e4e4e4'/>")
-}
-
+/// Appends the lane of a tag, behind so many others.
 #[tactic(auto, unfolding(crate::specs::Lanes::lane_text))]
-fn push_lane<A: Allocator>(text: &mut Vec<u8, A>, tag: u32) -> Result<(), AllocError>
-    ensures { OnOk result (text.new.items ≡ text.old.items ++ lane_text tag) }
+fn push_lane<A: Allocator + Copy>(
+    alloc: A,
+    text: &mut Vec<u8, A>,
+    lines: &[&[u8]],
+    lane: usize,
+    tag: usize,
+) -> Result<(), AllocError>
+    ensures { OnOk result (text.new.items ≡ text.old.items ++ lane_text (texts lines.now) lane tag) }
 {
-    push_name(text, tag)?;
-    push_rule(text, tag)
+    push_name(text, lane, tag)?;
+    push_runs(text, Strip::Lane(lane), &cells_in(alloc, lines, tag)?)?;
+    push_signs(text, letter(tag), 16 * (lane as u128) + 35, lines)
 }
 
-fn push_each<A: Allocator>(text: &mut Vec<u8, A>, depth: u32) -> Result<(), AllocError>
-    ensures { OnOk result (text.new.items ≡ text.old.items ++ flat_map lane_text (range_with_len 0 depth)) }
+/// Appends the lanes of these tags.
+#[tactic(auto, unfolding(crate::specs::Lanes::lanes_text))]
+pub(crate) fn push_lanes<A: Allocator + Copy>(
+    alloc: A,
+    text: &mut Vec<u8, A>,
+    tags: &[usize],
+    lines: &[&[u8]],
+) -> Result<(), AllocError>
+    ensures { OnOk result (text.new.items ≡ text.old.items ++ lanes_text tags.now (texts lines.now)) }
 {
-    for tag in 0..depth {
-        push_lane(text, tag)?;
+    for lane in 0..tags.len() {
+        push_lane(alloc, text, lines, lane, tags[lane])?;
     }
     Ok(())
 }
 
-/// The lanes of a port of so many slots, and the name of the row below them.
-#[tactic(auto, unfolding(crate::specs::Lanes::lanes_text))]
-fn push_lanes<A: Allocator>(text: &mut Vec<u8, A>, depth: u32) -> Result<(), AllocError>
-    ensures { OnOk result (text.new.items ≡ text.old.items ++ lanes_text depth) }
-{
-    push_each(text, depth)?;
-    push_number(text, b"\n<text x='8' y='", below(depth, 50))?;
-    push(text, b"'>in device</text>")
-}
-
-/// Appends the lanes where there was no port yet.
-pub(crate) fn push_new_lanes<A: Allocator>(
+/// Appends the row of the device, below so many lanes.
+#[tactic(auto, unfolding(crate::specs::Lanes::device_text))]
+pub(crate) fn push_device<A: Allocator + Copy>(
+    alloc: A,
     text: &mut Vec<u8, A>,
-    has_port: bool,
-    depth: u32,
+    lanes: usize,
+    lines: &[&[u8]],
 ) -> Result<(), AllocError>
-    ensures { OnOk result (text.new.items ≡ text.old.items ++ new_lanes has_port depth) }
+    ensures { OnOk result (text.new.items ≡ text.old.items ++ device_text lanes (texts lines.now)) }
 {
-    if has_port {
-        return Ok(());
-    }
-    push_lanes(text, depth)
+    push_number(
+        text,
+        b"\n<g fill='#579'><text x='36' y='",
+        19 * (lanes as u128) + 30,
+    )?;
+    push(text, b"'>in device</text>")?;
+    push_runs(text, Strip::Device(lanes), &cells_in(alloc, lines, DEVICE)?)?;
+    push(text, b"</g>")
 }

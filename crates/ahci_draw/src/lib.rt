@@ -1,20 +1,26 @@
-//! A picture of what a script's port did: its journal from left to right, with a lane for each tag, as SVG (Scalable Vector
-//! Graphics 1.1).
+//! A picture of what a script's port did: its journal in rows of a hundred entries, with a lane for each tag that is used, as SVG
+//! (Scalable Vector Graphics 1.1).
 //!
-//! A teller writes a *sheet* while the script runs: the picture's lines in their order, with a byte for each place that only the
-//! whole picture gives. The picture is the sheet with these places filled in, behind a heading.
+//! A teller writes a *sheet* while the script runs, in which each entry has a line: a letter for each thing that is drawn of it. The
+//! picture is made of these lines once the script has ended, when it is known which tags have a lane and how long each run is.
 #![tactic(auto)]
 
-mod column;
-mod columns;
+mod directions;
 mod drawer;
 mod drawing;
+mod entries;
+mod grid;
 mod heading;
 mod lanes;
+pub mod laws;
+mod line;
 mod mark;
 mod phases;
 mod picture;
-mod shapes;
+mod row;
+mod sheet;
+mod signs;
+mod strip;
 mod text;
 mod words;
 

@@ -1,75 +1,49 @@
 //! The picture that a sheet gives.
 
-ghost use Rattle.std.specs.Prelude.{◌≡◌, ◌≤◌, ◌++◌, IfOk, OnOk};
-ghost use Rattle.ahci_draw.specs.Picture.{count_of, filled, filling, picture_text, starts};
+ghost use Rattle.std.specs.Prelude.{◌≡◌, ◌≤◌, IfOk, length};
+ghost use Rattle.ahci_draw.specs.Lines.{texts};
+ghost use Rattle.ahci_draw.specs.Picture.{picture_of, picture_text, picture_with};
 
-use crate::heading::{column_left, push_heading};
-use crate::text::push_number;
+use crate::heading::push_heading;
+use crate::lanes::tags_in;
+use crate::row::push_rows;
+use crate::sheet::{lines_of, within};
 use ahci_script::growing::push;
 use std::alloc::{AllocError, Allocator};
 
-/// The byte that stands for where a column begins, and the one for where the lanes end.
-const COLUMN: u8 = 1;
-
-const END: u8 = 2;
-
-/// How often a byte stands in a sheet.
-#[tactic(auto, unfolding(crate::specs::Picture::count_of))]
-fn count_of(byte: u8, sheet: &[u8]) -> usize
-    ensures { result ≡ count_of byte sheet.now }
-{
-    sheet.iter().filter(|other| **other == byte).count()
-}
-
-/// How many columns begin at a byte.
-fn starts(byte: u8) -> usize
-    ensures count { result ≡ starts byte }
-    ensures most { result ≤ 1 }
-{
-    if byte == COLUMN { 1 } else { 0 }
-}
-
-/// Appends the text for a byte of the sheet.
-#[tactic(auto, unfolding(crate::specs::Text::numbered))]
-fn push_filling<A: Allocator>(
-    text: &mut Vec<u8, A>,
-    right: u128,
-    column: usize,
-    byte: u8,
-) -> Result<(), AllocError>
-    ensures { OnOk result (text.new.items ≡ text.old.items ++ filling right column byte) }
-{
-    match byte {
-        COLUMN => push_number(text, b"", column_left(column)),
-        END => push_number(text, b"", right),
-        _ => push(text, &[byte]),
-    }
-}
-
-/// Appends the sheet with its places filled in.
-fn push_filled<A: Allocator>(
-    text: &mut Vec<u8, A>,
-    right: u128,
-    sheet: &[u8],
-) -> Result<(), AllocError>
-    ensures { OnOk result (text.new.items ≡ text.old.items ++ filled right 0 sheet.now) }
-{
-    let mut column: usize = 0;
-    for byte in sheet {
-        push_filling(text, right, column, *byte)?;
-        column += starts(*byte);
-    }
-    Ok(())
-}
-
-/// The whole picture, without its last line feed.
-pub(crate) fn picture_of<A: Allocator>(alloc: A, sheet: &[u8]) -> Result<Vec<u8, A>, AllocError>
-    ensures { IfOk result (λ text. text.items ≡ picture_text sheet.now) }
+/// The picture of these lines with lanes for these tags.
+fn picture_with<A: Allocator + Copy>(
+    alloc: A,
+    tags: &[usize],
+    lines: &[&[u8]],
+) -> Result<Vec<u8, A>, AllocError>
+    requires { length tags.now ≤ 32 }
+    ensures { IfOk result (λ text. text.items ≡ picture_with tags.now (texts lines.now)) }
 {
     let mut text = Vec::new(alloc);
-    let columns = count_of(COLUMN, sheet);
-    push_heading(&mut text, columns, count_of(END, sheet))?;
-    push_filled(&mut text, column_left(columns), sheet)?;
-    push(&mut text, b"</svg>")?;
+    push_heading(&mut text, lines.len(), tags.len())?;
+    push_rows(alloc, &mut text, tags, lines)?;
+    push(&mut text, b"\n</svg>")?;
     Ok(text)
+}
+
+/// The picture of these lines, each of which is an entry.
+fn picture_of<A: Allocator + Copy>(alloc: A, lines: &[&[u8]]) -> Result<Vec<u8, A>, AllocError>
+    ensures { IfOk result (λ text. text.items ≡ picture_of (texts lines.now)) }
+{
+    let tags = tags_in(alloc, lines)?;
+    picture_with(alloc, &tags, lines)
+}
+
+/// The picture of a sheet's entries from one to another, without its last line feed.
+pub(crate) fn picture_text<A: Allocator + Copy>(
+    alloc: A,
+    from: u64,
+    to: u64,
+    sheet: &[u8],
+) -> Result<Vec<u8, A>, AllocError>
+    ensures { IfOk result (λ text. text.items ≡ picture_text from to sheet.now) }
+{
+    let lines = lines_of(alloc, sheet)?;
+    picture_of(alloc, within(&lines, from, to))
 }

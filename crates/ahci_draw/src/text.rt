@@ -1,5 +1,5 @@
 ghost use Rattle.std.specs.Prelude.{◌≡◌, ◌++◌, OnOk};
-ghost use Rattle.ahci_draw.specs.Text.{numbered};
+ghost use Rattle.ahci_draw.specs.Text.{letter, numbered};
 
 use ahci_script::growing::push;
 use itoa::Buffer;
@@ -16,4 +16,11 @@ pub(crate) fn push_number<A: Allocator>(
 {
     push(text, word)?;
     push(text, Buffer::new().format(number).as_bytes())
+}
+
+/// A count or a tag as a letter, from `A` on.
+pub(crate) fn letter(count: usize) -> u8
+    ensures { result ≡ letter count }
+{
+    65 + (count % 58) as u8
 }

@@ -3,7 +3,7 @@
 ghost use Rattle.std.specs.Prelude.{◌≡◌, ◌++◌, OnOk};
 ghost use Rattle.ncq_journal.specs.Entry.{entry_of};
 ghost use Rattle.ncq_journal.specs.Work.{work_of};
-ghost use Rattle.ahci_draw.specs.Words.{direction, entry_words, issue_words, failure_words, plain_words};
+ghost use Rattle.ahci_draw.specs.Words.{direction, entry_words, failure_words, issue_words, plain_words, title_text};
 
 use crate::text::push_number;
 use ahci_script::growing::push;
@@ -16,8 +16,8 @@ fn direction<A: Allocator>(op: &Op<A>) -> &'static [u8]
     ensures { result.now ≡ direction (work_of op.now) }
 {
     match op {
-        Op::Read { .. } => b"a read is issued with tag ",
-        Op::Write { .. } => b"a write is issued with tag ",
+        Op::Read { .. } => b": read, tag ",
+        Op::Write { .. } => b": write, tag ",
     }
 }
 
@@ -26,9 +26,9 @@ fn plain_words(command: Plain) -> &'static [u8]
     ensures { result.now ≡ plain_words command }
 {
     match command {
-        Plain::Identify => b"IDENTIFY DEVICE",
-        Plain::Flush => b"FLUSH CACHE EXT",
-        Plain::ReadLog => b"READ LOG EXT",
+        Plain::Identify => b": IDENTIFY DEVICE",
+        Plain::Flush => b": FLUSH CACHE EXT",
+        Plain::ReadLog => b": READ LOG EXT",
     }
 }
 
@@ -40,9 +40,9 @@ fn push_issue<A: Allocator, B: Allocator>(
 ) -> Result<(), AllocError>
     ensures { OnOk result (text.new.items ≡ text.old.items ++ issue_words tag (work_of op.now)) }
 {
-    push_number(text, direction(op), u128::from(tag))?;
-    push_number(text, b", from LBA ", u128::from(op.lba()))?;
-    push_number(text, b", sectors: ", u128::from(op.sectors()))
+    push_number(text, direction(op), tag as u128)?;
+    push_number(text, b", LBA ", op.lba() as u128)?;
+    push_number(text, b", sectors ", op.sectors() as u128)
 }
 
 #[tactic(auto, unfolding(crate::specs::Words::failure_words))]
@@ -54,13 +54,13 @@ fn push_failure<A: Allocator>(
 ) -> Result<(), AllocError>
     ensures { OnOk result (text.new.items ≡ text.old.items ++ failure_words tag error lba) }
 {
-    push_number(text, b"an error fails tag ", u128::from(tag))?;
-    push(text, b", error")?;
+    push(text, b": error")?;
     push(text, &spaced_byte(error))?;
-    push_number(text, b"h at LBA ", u128::from(lba))
+    push_number(text, b"h, tag ", tag as u128)?;
+    push_number(text, b", LBA ", lba as u128)
 }
 
-/// Appends an entry in words.
+/// Appends an entry in words, behind its number.
 pub(crate) fn push_words<A: Allocator, B: Allocator>(
     text: &mut Vec<u8, A>,
     event: &Event<B>,
@@ -69,16 +69,25 @@ pub(crate) fn push_words<A: Allocator, B: Allocator>(
 {
     match event {
         Event::Issue(tag, op) => push_issue(text, *tag, op),
-        Event::Accept(tag) => push_number(text, b"the device accepts tag ", u128::from(*tag)),
-        Event::Complete(tag) => push_number(text, b"the device completes tag ", u128::from(*tag)),
+        Event::Accept(tag) => push_number(text, b": accept, tag ", *tag as u128),
+        Event::Complete(tag) => push_number(text, b": complete, tag ", *tag as u128),
         Event::Fail { tag, error, lba } => push_failure(text, *tag, *error, *lba),
-        Event::Recover(tag) => push_number(
-            text,
-            b"the port recovers from the failure of tag ",
-            u128::from(*tag),
-        ),
-        Event::Reissue(tag) => push_number(text, b"issued again is tag ", u128::from(*tag)),
-        Event::Collect(tag) => push_number(text, b"collected is tag ", u128::from(*tag)),
+        Event::Recover(tag) => push_number(text, b": recover, tag ", *tag as u128),
+        Event::Reissue(tag) => push_number(text, b": issue again, tag ", *tag as u128),
+        Event::Collect(tag) => push_number(text, b": collect, tag ", *tag as u128),
         Event::Plain(command) => push(text, plain_words(*command)),
     }
+}
+
+/// Appends an entry's number, and the entry in words.
+#[tactic(auto, unfolding(crate::specs::Words::title_text, crate::specs::Text::numbered))]
+pub(crate) fn push_title<A: Allocator, B: Allocator>(
+    text: &mut Vec<u8, A>,
+    number: u64,
+    event: &Event<B>,
+) -> Result<(), AllocError>
+    ensures { OnOk result (text.new.items ≡ text.old.items ++ title_text number (entry_of event.now)) }
+{
+    push_number(text, b"", number as u128)?;
+    push_words(text, event)
 }

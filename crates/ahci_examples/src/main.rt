@@ -5,7 +5,8 @@
 ghost use Rattle.std.specs.Prelude.{◌≤◌};
 
 use ahci_cli::{
-    CliFault, Pick, check, draw, replay, run_jobs, trace, trace_json, write_identify, write_log,
+    CliFault, Form, Pick, check, draw, replay, run_jobs, trace, trace_json, write_identify,
+    write_log,
 };
 use std::fs;
 use std::rt::Files;
@@ -170,7 +171,7 @@ fn is_picture_as_expected(rt: &HostRuntime, name: &str) -> anyhow::Result<bool> 
     let expected = fs::read(rt, format!(in alloc; "{name}.svg")?)?;
     let mut reader = script.as_slice();
     let mut written = Vec::new(alloc);
-    let outcome = draw(alloc, &mut reader, &mut written);
+    let outcome = draw(alloc, 0, u64::MAX, &mut reader, &mut written);
     Ok(outcome == Ok(()) && written.as_slice() == expected.as_slice())
 }
 
@@ -181,7 +182,7 @@ fn is_judged(rt: &HostRuntime, name: &str, script: &[u8]) -> anyhow::Result<bool
     let expected = expected.unwrap_or(String::new(alloc));
     let mut reader = script;
     let mut written = Vec::new(alloc);
-    let any = check(alloc, &mut reader, &mut written)?;
+    let any = check(alloc, Form::Text, &mut reader, &mut written)?;
     Ok(written.as_slice() == expected.as_bytes() && any != expected.is_empty())
 }
 

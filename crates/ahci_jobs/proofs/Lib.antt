@@ -1,3 +1,5 @@
 pub mod ListLemmas
 pub mod RunningLemmas
 pub mod TellingLemmas
+mod FormLemmas
+mod NotedLemmas

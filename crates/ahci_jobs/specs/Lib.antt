@@ -1,4 +1,8 @@
 pub mod Faults
+pub mod Forms
 pub mod JobList
+pub mod Noted
+pub mod Objects
 pub mod Results
 pub mod RunJobs
+pub mod Scripts

@@ -1,12 +1,18 @@
 //! Job lists: read from any reader, done by workers on threads, and told to any writer.
 #![tactic(auto)]
 
+mod form;
+mod image;
+mod issued;
 mod job_list;
 mod jobs_fault;
 mod list_fault;
 mod making;
+mod objects;
 mod running;
+mod script;
 mod telling;
 
+pub use form::Form;
 pub use jobs_fault::JobsFault;
 pub use running::run_jobs;

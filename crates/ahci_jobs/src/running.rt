@@ -6,6 +6,7 @@ ghost use Rattle.streams.specs.Ends.{with_flush};
 ghost use Rattle.ahci_jobs.specs.Faults.{RunReads, RunWrites};
 ghost use Rattle.ahci_jobs.specs.RunJobs.{EndsRun, RunsJobs, blank_port, fault_of};
 
+use crate::form::Form;
 use crate::job_list::listed;
 use crate::jobs_fault::JobsFault;
 use crate::making::SECTOR;
@@ -101,9 +102,9 @@ where
     run(rt, alloc, port, jobs, workers, choosers, &Open)
 }
 
-/// Does the jobs that the reader gives on a disk of zeros, by workers on threads, and writes a line for each job, in the
-/// order of the jobs, and then one for each sector that isn't all zero, rising. All jobs are read and judged before the
-/// first is done. Workers and depth are 1 to 32, sectors 1 to 131,072; the chooser decides what the device does next.
+/// Does the jobs that the reader gives on a disk of zeros, by workers on threads, and writes the run in this form: as text, a
+/// line for each job, in the order of the jobs, and then one for each sector that isn't all zero, rising. All jobs are read and
+/// judged before the first is done. Workers and depth are 1 to 32, sectors 1 to 131,072; the chooser decides what the device does next.
 ///
 /// # Errors
 /// `Line` for the first line that is not understood or too long, `Job` for the first job with a bad count or address,
@@ -116,6 +117,7 @@ pub fn run_jobs<H, R, W, C, A>(
     depth: u32,
     sectors: u32,
     chooser: C,
+    form: Form,
     reader: &mut R,
     writer: &mut W,
 ) -> Result<(), JobsFault>
@@ -131,9 +133,9 @@ where
     requires deep { depth ≤ 32 }
     requires room { 1 ≤ sectors }
     requires limit { sectors ≤ MAX_SECTORS }
-    ensures ok { OnOk result (RunsJobs workers depth sectors (R.remaining reader.old) (R.remaining reader.new)
+    ensures ok { OnOk result (RunsJobs form workers depth sectors (R.remaining reader.old) (R.remaining reader.new)
         (W.contents writer.old) (W.contents writer.new)) }
-    ensures err { IfErr result (EndsRun workers depth sectors (R.remaining reader.old) (R.remaining reader.new)
+    ensures err { IfErr result (EndsRun form workers depth sectors (R.remaining reader.old) (R.remaining reader.new)
         (W.contents writer.old) (W.contents writer.new)) }
 {
     run_list(
@@ -143,6 +145,7 @@ where
         depth,
         sectors,
         chooser,
+        form,
         reader,
         &mut Reads::new(),
         writer,
@@ -158,6 +161,7 @@ fn run_list<H, R, W, C, A>(
     depth: u32,
     sectors: u32,
     chooser: C,
+    form: Form,
     reader: &mut R,
     reads: &mut Reads,
     writer: &mut W,
@@ -175,9 +179,9 @@ where
     requires deep { depth ≤ 32 }
     requires room { 1 ≤ sectors }
     requires limit { sectors ≤ MAX_SECTORS }
-    ensures ok { OnOk result (RunsJobs workers depth sectors (R.remaining reader.old) (R.remaining reader.new)
+    ensures ok { OnOk result (RunsJobs form workers depth sectors (R.remaining reader.old) (R.remaining reader.new)
         (W.contents writer.old) (W.contents writer.new)) }
-    ensures err { IfErr result (EndsRun workers depth sectors (R.remaining reader.old) (R.remaining reader.new)
+    ensures err { IfErr result (EndsRun form workers depth sectors (R.remaining reader.old) (R.remaining reader.new)
         (W.contents writer.old) (W.contents writer.new)) }
     ensures flushed { OnOk result (writes.new ≡ with_flush writes.old) }
     ensures writes { IfErr result (RunWrites writes.old writes.new) }
@@ -186,7 +190,7 @@ where
 {
     let jobs = listed(alloc.clone()?, reader, reads)?;
     match done(rt, alloc.clone()?, workers, depth, sectors, chooser, &jobs) {
-        Ok(end) => tell_run(alloc, writer, writes, &end),
+        Ok(end) => tell_run(alloc, form, workers, writer, writes, &end),
         Err(fault) => Err(given_up(fault)),
     }
 }

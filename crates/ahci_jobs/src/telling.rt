@@ -1,16 +1,21 @@
-//! The text of a run: a line for each job, and one for each sector that isn't all zero.
+//! What is written of a run: as text a line for each job and one for each sector that isn't all zero, or another form as a whole.
 
-ghost use Rattle.std.specs.Prelude.{◌≡◌, [], ◌<◌, map, IfErr, OnErr, OnOk};
+ghost use Rattle.std.specs.Prelude.{◌≡◌, [], ◌<◌, ◌≤◌, map, IfErr, OnErr, OnOk};
 ghost use Rattle.std.specs.Io.KnownBytes.{Appends};
 ghost use Rattle.ncq_journal.specs.Sector.{sector};
 ghost use Rattle.ahci_port.specs.PortView.{sectors_in};
 ghost use Rattle.ahci_script.specs.Results.{told};
 ghost use Rattle.ahci_driver.specs.Received.{received_of};
 ghost use Rattle.streams.specs.Ends.{with_flush};
+ghost use Rattle.ahci_jobs.specs.Forms.{written_of};
 ghost use Rattle.ahci_jobs.specs.Results.{IsTold, TellsAs, Says, SaysPart, fed, is_blank, line_for, replies_text, run_text, sector_text, sectors_text};
 
+use crate::form::Form;
+use crate::image::image;
 use crate::jobs_fault::JobsFault;
 use crate::making::SECTOR;
+use crate::objects::objects;
+use crate::script::script;
 use ahci_driver::{Receipt, RunEnd};
 use ahci_port::{Outcome, Port};
 use ahci_script::{Output, ResultLine};
@@ -40,7 +45,7 @@ fn tell<W: Write, A: Allocator>(
 }
 
 /// The line of a job's receipt.
-fn line_of<A: Allocator>(receipt: &Receipt<A>) -> ResultLine<'_>
+pub(crate) fn line_of<A: Allocator>(receipt: &Receipt<A>) -> ResultLine<'_>
     ensures { told result ≡ line_for (received_of receipt.now).answer }
 {
     match receipt.reply.outcome {
@@ -70,7 +75,7 @@ fn tell_replies<W: Write, A: Allocator>(
 }
 
 /// Whether each byte is 0.
-fn is_all_zero(bytes: &[u8]) -> bool
+pub(crate) fn is_all_zero(bytes: &[u8]) -> bool
     ensures { result ≡ is_blank bytes.now }
 {
     bytes.iter().all(|b| *b == 0)
@@ -129,8 +134,8 @@ fn tell_sectors<W: Write, A: Allocator>(
     Ok(())
 }
 
-/// Writes all that there is to tell of a run.
-pub(crate) fn tell_run<W: Write, A: Allocator>(
+/// Writes the text of a run.
+fn tell_text<W: Write, A: Allocator>(
     alloc: A,
     writer: &mut W,
     writes: &mut Writes,
@@ -147,4 +152,42 @@ pub(crate) fn tell_run<W: Write, A: Allocator>(
     tell_sectors(&mut output, writer, writes, &end.port)?;
     output.send(writer, writes)?;
     Ok(())
+}
+
+/// Writes a whole form.
+fn tell_whole<W: Write>(writer: &mut W, writes: &mut Writes, text: &[u8]) -> Result<(), JobsFault>
+    ensures ok { OnOk result (Appends (W.contents writer.old) (W.contents writer.new) text.now) }
+    ensures err { OnErr result (SaysPart (W.contents writer.old) [] (W.contents writer.new) text.now) }
+    ensures fault { IfErr result IsTold }
+    ensures flushed { OnOk result (writes.new ≡ with_flush writes.old) }
+    ensures writes { IfErr result (TellsAs writes.old writes.new) }
+{
+    writes.write_whole(writer, text)?;
+    Ok(())
+}
+
+/// Writes all that there is to tell of a run by so many workers, in this form. What is not the text is made as a whole first.
+pub(crate) fn tell_run<W: Write, A: Allocator + Clone>(
+    alloc: A,
+    form: Form,
+    workers: u32,
+    writer: &mut W,
+    writes: &mut Writes,
+    end: &RunEnd<A>,
+) -> Result<(), JobsFault>
+    requires { 1 ≤ workers }
+    ensures ok { OnOk result (Appends (W.contents writer.old) (W.contents writer.new)
+        (written_of form workers end.now.port (map received_of end.now.replies.items))) }
+    ensures err { OnErr result (SaysPart (W.contents writer.old) [] (W.contents writer.new)
+        (written_of form workers end.now.port (map received_of end.now.replies.items))) }
+    ensures fault { IfErr result IsTold }
+    ensures flushed { OnOk result (writes.new ≡ with_flush writes.old) }
+    ensures writes { IfErr result (TellsAs writes.old writes.new) }
+{
+    match form {
+        Form::Text => tell_text(alloc, writer, writes, end),
+        Form::Json => tell_whole(writer, writes, &objects(&alloc, workers, end)?),
+        Form::Journal => tell_whole(writer, writes, &script(alloc, &end.port)?),
+        Form::Image => tell_whole(writer, writes, &image(alloc, &end.port)?),
+    }
 }

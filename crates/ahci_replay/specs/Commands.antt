@@ -101,7 +101,7 @@ Does old (command.Reg off) new said = (new ≡ old) × IsOkAnd (read_of old.regi
 Does old (command.Ack mask) new said = (new ≡ record old { registers = acknowledged old.registers mask }) × (said ≡ says.Acked)
 Does old (command.Show lba) new said = (new ≡ old) × (said ≡ says.Sector lba (slice_index (sector old.starting old.past lba) 0))
 Does old command.Journal new said = (new ≡ old) × (said ≡ says.Journal (length old.past))
-Does old command.Trim new said = (new ≡ trimmed old) × (said ≡ says.Trimmed (length old.past))
+Does old command.Trim new said = (new ≡ trimmed old) × (length old.image ≡ length old.starting) × (said ≡ says.Trimmed (length old.past))
 Does old (command.Raw tag header bytes) new said = ⊥
 Does old (command.Disk sectors depth first) new said = ⊥
 

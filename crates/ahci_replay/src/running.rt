@@ -169,6 +169,8 @@ fn flush<A: Allocator + Copy>(port: &mut Port<A>) -> Result<ScriptAnswer<A>, All
 fn trim<A: Allocator + Copy>(port: &mut Port<A>) -> ScriptAnswer<A>
     ensures { RunsOn port.old ScriptCommand.Trim port.new (said result) }
 {
+    // What is handed on is an image of as many sectors.
+    port.shape();
     match port.trim() {
         Ok(journal) => ScriptAnswer::Trimmed(journal.len()),
         Err(fault) => ScriptAnswer::Refused(trim_refusal(fault)),

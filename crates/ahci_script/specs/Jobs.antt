@@ -1,4 +1,4 @@
--- The lines of a job list: what each of them spells. A job's words are those of a script.
+-- The lines of a job list: what each of them spells, or the first rule that it breaks. A job's words are those of a script.
 use Rattle.std.specs.Prelude.{ℕ, ◌==◌, List, [], ◌∷◌, Option, Result, Ok, Err, codes, if◌then◌else◌}
 use Rattle.std.specs.Result.{result_ok}
 use Rattle.std.specs.Str.{bytes_eq}
@@ -7,7 +7,7 @@ use Rattle.ahci_script.specs.declared.job.Job.{Job}
 use Rattle.ahci_script.specs.declared.job.Job.TheVariants.{Write, Read}
 use Rattle.ahci_script.specs.declared.job.JobLine.{JobLine}
 use Rattle.ahci_script.specs.declared.job.JobLine.TheVariants.{Skip, Do}
-use Rattle.ahci_script.specs.Breaches.{◌>>=◌, comment_of}
+use Rattle.ahci_script.specs.Breaches.{◌>>=◌, comment_of, seen_in}
 use Rattle.ahci_script.specs.Lines.{unnamed}
 use Rattle.ahci_script.specs.Number.{byte_of, decimal_of, sectors_of}
 use Rattle.ahci_script.specs.Words.{Rest, ends, first_of, word_of}
@@ -43,7 +43,7 @@ job_of line = named_job line (first_of line).0 (first_of line).1
 abbrev pub job_reading : List ℕ → Result JobLine Breach
 job_reading [] = Ok Skip
 job_reading (b ∷ bs) =
-    if b == 35 then (comment_of (b ∷ bs) >>= λ end. Ok Skip) else (job_of (b ∷ bs) >>= λ j. Ok (Do j))
+    if b == 35 then (comment_of (b ∷ bs) >>= λ end. Ok Skip) else seen_in (b ∷ bs) (job_of (b ∷ bs) >>= λ j. Ok (Do j))
 
 -- what a line spells, none where it breaks a rule
 abbrev pub job_line_of : List ℕ → Option JobLine

@@ -29,11 +29,10 @@ after_cut (Some c) = c.1
 abbrev pub after_first : List ℕ → List ℕ
 after_first words = after_cut (cut_of words)
 
--- a word that isn't empty, the text that begins with it, and what is left after it. An empty one is a space too many, or
--- missing where it is the last
+-- a word that isn't empty, the text that begins with it, and what is left after it. An empty one is a space too many, at the
+-- end of the line too
 abbrev pub next_at : List ℕ → List ℕ → Rest → Result (List ℕ × List ℕ × Rest) Breach
-next_at text [] None = Err (breach_at text MissingWord)
-next_at text [] (Some others) = Err (breach_at text SpareSpace)
+next_at text [] rest = Err (breach_at text SpareSpace)
 next_at text (b ∷ bs) rest = Ok (text, b ∷ bs, rest)
 
 unfoldable pub next_of : Rest → Result (List ℕ × List ℕ × Rest) Breach

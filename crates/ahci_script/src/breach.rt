@@ -1,5 +1,5 @@
 ghost use Rattle.std.specs.Prelude.{◌≡◌};
-ghost use Rattle.ahci_script.specs.Breaches.{breach_at, high_byte, seen};
+ghost use Rattle.ahci_script.specs.Breaches.{begins_with_mark, breach_at, high_byte, odd_byte, odd_fault, seen};
 
 use crate::fault::Fault;
 
@@ -21,14 +21,43 @@ impl Breach {
         }
     }
 
-    /// The first byte over 127 of a line, where it has one; else the breach that was found.
+    /// The first byte of a line that no command has, where there is one; else the breach that was found.
     pub(crate) fn seen_in(self, line: &[u8]) -> Self
         ensures { result ≡ seen line.now self }
     {
-        match high_byte(line) {
-            Some(at) => Breach::at(&line[at..], Fault::HighByte),
+        if begins_with_mark(line) {
+            return Breach::at(line, Fault::ByteOrderMark);
+        }
+        match odd_byte(line) {
+            Some(at) => Breach::at(&line[at..], odd_fault(line[at])),
             None => self,
         }
+    }
+}
+
+/// Whether a line begins with a byte order mark in UTF-8.
+fn begins_with_mark(line: &[u8]) -> bool
+    ensures { result ≡ begins_with_mark line.now }
+{
+    matches!(line, [0xef, 0xbb, 0xbf, ..])
+}
+
+/// Where the first byte stands that no command has: a control byte, or one over 127.
+fn odd_byte(text: &[u8]) -> Option<usize>
+    ensures { result ≡ odd_byte text.now }
+{
+    text.iter().position(|b| *b < 32 || *b >= 127)
+}
+
+/// What a byte is called that no command has.
+fn odd_fault(byte: u8) -> Fault
+    ensures { result ≡ odd_fault byte }
+{
+    match byte {
+        b'\t' => Fault::Tab,
+        b'\r' => Fault::CarriageReturn,
+        128..=255 => Fault::HighByte,
+        _ => Fault::ControlByte(byte),
     }
 }
 

@@ -37,6 +37,14 @@ pub enum Fault {
     ManyTags,
     /// A byte over 127, in a comment too.
     HighByte,
+    /// The bytes EF BB BF at the beginning of a line.
+    ByteOrderMark,
+    /// A carriage return in a line that is no comment.
+    CarriageReturn,
+    /// A tab in a line that is no comment.
+    Tab,
+    /// Another byte below 32, or byte 127, in a line that is no comment.
+    ControlByte(u8),
     /// More than 4,096 bytes.
     LongLine,
     /// A command other than `disk`, where no disk was accepted yet.
@@ -70,6 +78,10 @@ impl fmt::Display for Fault {
             Fault::LongRegister => write!(f, "more than 8 digits"),
             Fault::ManyTags => write!(f, "more than 32 tags"),
             Fault::HighByte => write!(f, "a byte over 127"),
+            Fault::ByteOrderMark => write!(f, "a byte order mark"),
+            Fault::CarriageReturn => write!(f, "a carriage return"),
+            Fault::Tab => write!(f, "a tab"),
+            Fault::ControlByte(byte) => write!(f, "control byte {byte}"),
             Fault::LongLine => write!(f, "more than 4096 bytes"),
             Fault::BeforeDisk => write!(f, "a command before the disk"),
             Fault::SecondDisk => write!(f, "a second disk"),

@@ -11,7 +11,7 @@ use crate::tags::tags;
 use crate::words::{Words, first};
 
 /// Reads a line, without its line feed: what it spells; else the first rule of the language that it breaks, from the left. A
-/// byte over 127 is told before all else.
+/// byte that no command has, and in a comment one over 127, is told before all else.
 pub fn read_line(line: &[u8]) -> Result<Line<'_>, Breach>
     ensures line { result ≡ reading line.now }
     ensures tags { IfOk result (λ line. HasSmallTags line) }

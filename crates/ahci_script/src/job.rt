@@ -30,8 +30,9 @@ pub fn parse_job(line: &[u8]) -> Option<JobLine>
     read_job(line).ok()
 }
 
-/// What a line spells; else a rule of the language that it breaks.
-fn read_job(line: &[u8]) -> Result<JobLine, Breach>
+/// Reads a line of a job list, without its line feed: what it spells; else the first rule of the language that it breaks, from
+/// the left. A byte that no job has is told before all else.
+pub fn read_job(line: &[u8]) -> Result<JobLine, Breach>
     ensures { result ≡ job_reading line.now }
 {
     match line {
@@ -40,7 +41,10 @@ fn read_job(line: &[u8]) -> Result<JobLine, Breach>
             comment(line)?;
             Ok(JobLine::Skip)
         }
-        _ => Ok(JobLine::Do(spelled(line)?)),
+        _ => match spelled(line) {
+            Ok(job) => Ok(JobLine::Do(job)),
+            Err(breach) => Err(breach.seen_in(line)),
+        },
     }
 }
 

@@ -30,7 +30,7 @@ pub use fault::Fault;
 pub use grammar::{parse, read_line};
 pub use hex_bytes::HexBytes;
 pub use input::{Found, INPUT_LIMIT, Input, LINE_LIMIT};
-pub use job::{Job, JobLine, parse_job};
+pub use job::{Job, JobLine, parse_job, read_job};
 pub use line::{Line, ScriptCommand};
 pub use output::Output;
 pub use reading::take_lines;

@@ -36,8 +36,8 @@ impl<'a> Words<'a> {
         self.rest
     }
 
-    /// The next word, the text that begins with it, and the words after it. A word is missing where nothing is left, or
-    /// nothing but an empty last word; any other empty word is a space too many.
+    /// The next word, the text that begins with it, and the words after it. A word is missing where nothing is left; an empty
+    /// word is a space too many, at the end of the line too.
     #[tactic(auto, unfolding(crate::specs::Words::next_of))]
     fn next(self) -> Result<(&'a [u8], &'a [u8], Words<'a>), Breach>
         ensures ok { IfOk result (λ w. next_of self.entry ≡ Ok (w.0.now, w.1.now, w.2)) }
@@ -47,13 +47,10 @@ impl<'a> Words<'a> {
             return Err(Breach::at(&[], Fault::MissingWord));
         };
         let (word, others) = first(text);
-        if !word.is_empty() {
-            return Ok((text, word, others));
+        if word.is_empty() {
+            return Err(Breach::at(text, Fault::SpareSpace));
         }
-        match others.rest {
-            None => Err(Breach::at(text, Fault::MissingWord)),
-            Some(_) => Err(Breach::at(text, Fault::SpareSpace)),
-        }
+        Ok((text, word, others))
     }
 
     /// Nothing is left.

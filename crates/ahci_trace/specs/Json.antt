@@ -90,10 +90,19 @@ received_object r =
 abbrev pub bit_value : List Bool → Named → List Token
 bit_value set n = if has_place set n.place then string n.name ∷ [] else []
 
--- a register's word, and the names of its bits
+-- the word of a register before; null where the command made the disk
+abbrev pub before_member : Option ℕ → List Token
+before_member None = key (codes "before") ∷ null ∷ []
+before_member (Some word) = text_member (codes "before") (hex_of 8 word)
+
+-- both words of a register
+unfoldable pub word_members : Change → List Token
+word_members c = before_member c.before ++ text_member (codes "word") (hex_of 8 c.word)
+
+-- a register's words, and the names of its bits
 unfoldable pub change_object : Change → List Token
 change_object c =
-    object (text_member (codes "name") (name_of c.register) ++ (text_member (codes "word") (hex_of 8 c.word)
+    object (text_member (codes "name") (name_of c.register) ++ (word_members c
     ++ list_member (codes "bits") (flat_map (bit_value (bits c.word)) (bits_of c.register))))
 
 -- an owned slot

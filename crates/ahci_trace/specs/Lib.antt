@@ -1,3 +1,4 @@
+pub mod Area
 pub mod Mark
 pub mod Entries
 pub mod Sent

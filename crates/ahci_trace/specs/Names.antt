@@ -45,11 +45,12 @@ interrupt_bits = bit 0 (codes "DHRS") ∷ bit 1 (codes "PSS") ∷ bit 2 (codes "
 abbrev pub command_bits : List Named
 command_bits = bit 0 (codes "ST") ∷ bit 4 (codes "FRE") ∷ bit 14 (codes "FR") ∷ bit 15 (codes "CR") ∷ []
 
--- PxTFD: status in bits 7:0, error in bits 15:8
+-- PxTFD: status in bits 7:0, error in bits 15:8, of which those without a name in the standard have their number
 abbrev pub task_file_bits : List Named
 task_file_bits =
     bit 0 (codes "ERR") ∷ bit 3 (codes "DRQ") ∷ bit 6 (codes "DRDY") ∷ bit 7 (codes "BSY")
-    ∷ bit 10 (codes "error ABRT") ∷ bit 12 (codes "error IDNF") ∷ bit 14 (codes "error UNC") ∷ []
+    ∷ bit 8 (codes "error bit 0") ∷ bit 9 (codes "error bit 1") ∷ bit 10 (codes "error ABRT") ∷ bit 11 (codes "error bit 3")
+    ∷ bit 12 (codes "error IDNF") ∷ bit 13 (codes "error bit 5") ∷ bit 14 (codes "error UNC") ∷ bit 15 (codes "error ICRC") ∷ []
 
 -- the bits that have names
 abbrev pub bits_of : Register → List Named

@@ -1,4 +1,5 @@
 //! Laws: each function is empty, and its clause holds of all scripts.
+ghost use Rattle.ahci_trace.specs.Area.{TellsReceived};
 ghost use Rattle.ahci_trace.specs.Lines.{HasObjects, KeepsAnswers};
 
 /// The lines of a trace that aren't indented are the answers of the script alone: what any lines of a script add to a trace is
@@ -11,4 +12,10 @@ pub fn a_trace_without_its_notes_is_the_answers()
 /// object on a line for each answer, which is its first member.
 pub fn each_object_has_its_answer()
     ensures { HasObjects }
+{}
+
+/// What is told as received is all that has changed in the received FIS area: each byte that a command has changed there is one
+/// of a FIS that is told of it.
+pub fn all_that_changed_in_the_area_is_told()
+    ensures { TellsReceived }
 {}

@@ -59,15 +59,21 @@ static COMMAND: [NamedBit; 4] = [
     NamedBit(15, "CR"),
 ];
 
-/// The bits of PxTFD: the status, and the error behind it.
-static TASK_FILE: [NamedBit; 7] = [
+/// The bits of PxTFD: the status, and above it the error, whose bits without a name in the standard (ACS-3, "Error field") have
+/// their number.
+static TASK_FILE: [NamedBit; 12] = [
     NamedBit(0, "ERR"),
     NamedBit(3, "DRQ"),
     NamedBit(6, "DRDY"),
     NamedBit(7, "BSY"),
+    NamedBit(8, "error bit 0"),
+    NamedBit(9, "error bit 1"),
     NamedBit(10, "error ABRT"),
+    NamedBit(11, "error bit 3"),
     NamedBit(12, "error IDNF"),
+    NamedBit(13, "error bit 5"),
     NamedBit(14, "error UNC"),
+    NamedBit(15, "error ICRC"),
 ];
 
 /// The bits of a register that have names, rising.

@@ -2,7 +2,7 @@
 ghost use Rattle.std.specs.Prelude.{◌≤◌};
 
 use ahci_driver::Chooser;
-use ahci_jobs::{JobsFault, run_jobs};
+use ahci_jobs::{Form, JobsFault, run_jobs};
 use std::alloc::Global;
 use std::io::{Read, Write};
 use std::sync::Wait;
@@ -34,7 +34,10 @@ where
         && 1 <= sectors
         && sectors <= 131_072
     {
-        Some(run_jobs(rt, alloc, workers, depth, sectors, chooser, reader, writer))
+        let form = Form::Text;
+        Some(run_jobs(
+            rt, alloc, workers, depth, sectors, chooser, form, reader, writer,
+        ))
     } else {
         None
     }

@@ -1,6 +1,6 @@
 //! A reader that fails after every number of bytes, and a writer that takes any number of bytes and no more.
 use ahci_driver::Low;
-use ahci_jobs::{JobsFault, run_jobs};
+use ahci_jobs::{Form, JobsFault, run_jobs};
 use std::alloc::AllocError;
 use std::io;
 use std::io::{Read, Write};
@@ -56,7 +56,17 @@ fn a_reader_may_fail_after_any_byte(rt: HostRuntime) {
             bytes: &LIST[..count],
         };
         let mut written = Vec::new(rt.alloc());
-        let ended = run_jobs(&rt, rt.alloc(), 2, 2, 8, Low, &mut reader, &mut written);
+        let ended = run_jobs(
+            &rt,
+            rt.alloc(),
+            2,
+            2,
+            8,
+            Low,
+            Form::Text,
+            &mut reader,
+            &mut written,
+        );
         assert!(rt;
             ended == Err(JobsFault::Read) && written.is_empty(),
             "after {count} bytes: {ended:?}"
@@ -72,7 +82,17 @@ fn a_writer_may_take_any_number_of_bytes(rt: HostRuntime) {
             written: Vec::new(rt.alloc()),
             room,
         };
-        let ended = run_jobs(&rt, rt.alloc(), 2, 2, 8, Low, &mut reader, &mut writer);
+        let ended = run_jobs(
+            &rt,
+            rt.alloc(),
+            2,
+            2,
+            8,
+            Low,
+            Form::Text,
+            &mut reader,
+            &mut writer,
+        );
         let expected = if room < TOLD.len() {
             Err(JobsFault::Write)
         } else {
@@ -105,7 +125,17 @@ fn a_writer_may_fail_before_all_results_are_made(rt: HostRuntime) -> Result<(), 
             written: Vec::new(rt.alloc()),
             room,
         };
-        let ended = run_jobs(&rt, rt.alloc(), 1, 1, 8192, Low, &mut reader, &mut writer);
+        let ended = run_jobs(
+            &rt,
+            rt.alloc(),
+            1,
+            1,
+            8192,
+            Low,
+            Form::Text,
+            &mut reader,
+            &mut writer,
+        );
         let taken = room.min(told.len());
         let expected = if taken < told.len() {
             Err(JobsFault::Write)

@@ -1,5 +1,9 @@
 //! The calls that need no port. Their values are those of the standards.
-use port_place::{Status, identify_page, log_page, status_text};
+use crate::guest::{HEADER, window};
+use port_place::{
+    FlatCommand, FlatFis, Status, fis_decode, fis_encode, identify_page, log_page, status_text,
+    window_check,
+};
 use std::test::Fail;
 
 #[test]
@@ -25,5 +29,70 @@ fn a_status_is_named_as_scripts_name_it(rt: HostRuntime) -> Result<(), Fail> {
     assert_eq!(rt; status_text(43, &mut text, &mut len), Status::Done);
     assert!(rt; len == 14 && &text[..15] == b"OutsideCommand\0".as_slice() && text[15] == 0xEE);
     assert_eq!(rt; status_text(14, &mut text, &mut len), Status::BadKind);
+    Ok(())
+}
+
+#[test]
+fn a_fit_window_asks_for_its_command(rt: HostRuntime) -> Result<(), Fail> {
+    let mut command = FlatCommand {
+        lba: 0,
+        sectors: 0,
+        kind: 9,
+        tag: 0,
+        pieces: 0,
+    };
+    let answer = window_check(rt.alloc(), 1, &HEADER, &window(), &mut command);
+    let wanted = FlatCommand {
+        lba: 3,
+        sectors: 1,
+        kind: 0,
+        tag: 1,
+        pieces: 1,
+    };
+    assert_eq!(rt; (answer, command), (Status::Done, wanted));
+    Ok(())
+}
+
+/// DMA Activate, a FIS without a field.
+const ACTIVATE: FlatFis = FlatFis {
+    lba: 0,
+    sactive: 0,
+    offset: 0,
+    transfer: 0,
+    features: 0,
+    count: 0,
+    bytes: 0,
+    payload: 0,
+    kind: 0x39,
+    c: 0,
+    a: 0,
+    i: 0,
+    d: 0,
+    status: 0,
+    error: 0,
+    device: 0,
+    command: 0,
+    control: 0,
+    e_status: 0,
+    tag: 0,
+};
+
+#[test]
+fn the_bytes_of_a_set_device_bits_fis_are_read_and_written(rt: HostRuntime) -> Result<(), Fail> {
+    let bytes = [0xA1, 0x40, 0x41, 0x40, 0x08, 0, 0, 0x80];
+    let wanted = FlatFis {
+        kind: 0xA1,
+        i: 1,
+        status: 0x41,
+        error: 0x40,
+        sactive: 0x8000_0008,
+        ..ACTIVATE
+    };
+    let mut fis = ACTIVATE;
+    assert_eq!(rt; (fis_decode(&bytes, &mut fis), fis), (Status::Done, wanted));
+    let mut out = [0xEE; 8];
+    let mut len = 0;
+    assert_eq!(rt; fis_encode(&fis, &[], &mut out, &mut len), Status::Done);
+    assert_eq!(rt; (len, out), (8, bytes));
     Ok(())
 }

@@ -5,6 +5,8 @@
 #[cfg(test)]
 mod alone;
 #[cfg(test)]
+mod guest;
+#[cfg(test)]
 mod heap;
 #[cfg(test)]
 mod making;

@@ -1,10 +1,11 @@
 //! The calls that may want memory: what they answer where it is refused, and that the port is as it was then; and those that
 //! take none, over an allocator that has none left.
+use crate::guest::{HEADER, list, window, windows};
 use crate::heap::{Heap, look_at, port_of, refuse_from};
-use ahci_port::Port;
+use ahci_port::{Pending, Port};
 use port_place::{
-    FlatCommand, FlatReply, FlatStep, Status, accept, collect, entry_bytes, fail, flush, identify,
-    recover, serve, submit, window_check,
+    FlatCommand, FlatReply, FlatStep, FlatWritten, Status, accept, collect, entry_bytes, fail,
+    flush, identify, issue, recover, serve, submit, window_check, write_register,
 };
 use refusing_allocator::{Refusals, Refusing};
 use std::process::Abort;
@@ -15,16 +16,20 @@ use std::test::Fail;
 enum Call {
     Read,
     Write,
+    Issue,
+    Command,
     Identify,
     Flush,
     Check,
 }
 
 // How many requests each makes of a new port: a read its window and the journal's room; a write its bytes and the journal's
-// copy of them too; a check the window's copy.
-static CALLS: [(Call, u64); 5] = [
+// copy of them too; a window that is issued, also by a bit of PxCI, its copy and the journal's room; a check the window's copy.
+static CALLS: [(Call, u64); 7] = [
     (Call::Read, 2),
     (Call::Write, 4),
+    (Call::Issue, 2),
+    (Call::Command, 2),
     (Call::Identify, 1),
     (Call::Flush, 1),
     (Call::Check, 1),
@@ -34,6 +39,40 @@ static CALLS: [(Call, u64); 5] = [
 fn submits<'a>(heap: &'a Heap, port: &mut Port<&'a Heap>, kind: u32) -> Status {
     let mut number = 0;
     submit(port, heap, 1, kind, 3, 1, &[0xAB; 512], &mut number)
+}
+
+/// The window of tag 1.
+fn issues<'a>(heap: &'a Heap, port: &mut Port<&'a Heap>) -> Status {
+    issue(port, heap, 1, &HEADER, &window(), &mut 0)
+}
+
+/// A driver's write of a register, where the bit of tag 1 is announced or ST is off.
+fn writes(port: &mut Port<&Heap>, stopped: bool, offset: u32, word: u32) -> (Status, u32) {
+    let mut pending = Pending { sact: 2, stopped };
+    let mut done = FlatWritten {
+        did: 9,
+        slots: 0,
+        tag: 9,
+    };
+    let answer = write_register(
+        port,
+        &mut pending,
+        offset,
+        word,
+        &list(),
+        &windows(),
+        &mut done,
+    );
+    (answer, done.tag)
+}
+
+/// A write of PxCI. Where it is refused, the slot is told.
+fn commands(port: &mut Port<&Heap>) -> Status {
+    match writes(port, false, 0x138, 2) {
+        (Status::OutOfMemory, 1) => Status::OutOfMemory,
+        (Status::Done, _) => Status::Done,
+        _ => Status::BadKind,
+    }
 }
 
 /// Looks at a window whose header is of zeros.
@@ -55,6 +94,8 @@ fn goes<'a>(heap: &'a Heap, port: &mut Port<&'a Heap>, call: Call) -> Status {
     match call {
         Call::Read => submits(heap, port, 0),
         Call::Write => submits(heap, port, 1),
+        Call::Issue => issues(heap, port),
+        Call::Command => commands(port),
         Call::Identify => identify(port, &mut [0; 512]),
         Call::Flush => flush(port),
         Call::Check => checks(heap),
@@ -173,5 +214,22 @@ fn a_port_that_recovers_asks_for_room_first(rt: HostRuntime) -> Result<(), Fail>
     heap.refuse(Refusals::None);
     assert_eq!(rt; recover(&mut port, &mut tag), Status::Done);
     assert_eq!(rt; tag, 1);
+    Ok(())
+}
+
+#[test]
+fn a_driver_that_starts_a_failed_port_again_asks_for_room(rt: HostRuntime) -> Result<(), Fail> {
+    let heap = Refusing::new(rt.alloc());
+    let mut port = port_of(&heap)?;
+    assert_eq!(rt; halted(&heap, &mut port), [Status::Done; 3]);
+    let before = look_at(&port);
+    refuse_from(&heap, 0);
+    assert_eq!(rt;
+        writes(&mut port, true, 0x118, 0x11),
+        (Status::OutOfMemory, 9)
+    );
+    assert!(rt; look_at(&port) == before);
+    heap.refuse(Refusals::None);
+    assert_eq!(rt; writes(&mut port, true, 0x118, 0x11), (Status::Done, 1));
     Ok(())
 }

@@ -15,9 +15,13 @@ use Rattle.port_place.specs.declared.flat.FlatCommand.{FlatCommand}
 use Rattle.port_place.specs.declared.status.Status.{Status}
 use Rattle.port_place.specs.declared.status.Status.TheVariants as status
 
--- a page has 512 bytes, and a disk 1 to 32 tags
+-- a disk has 1 to 32 tags
+abbrev pub depth_refusal : (depth : ℕ) → Option Status
+depth_refusal depth = if nat_eq depth 0 || nat_lt most_depth depth then Some status.BadDepth else None
+
+-- a page has 512 bytes
 abbrev pub page_refusal : (depth len : ℕ) → Option Status
-page_refusal depth len = with_length 512 len (if nat_eq depth 0 || nat_lt most_depth depth then Some status.BadDepth else None)
+page_refusal depth len = with_length 512 len (depth_refusal depth)
 
 -- an error is one of a tag, at a 48-bit LBA
 abbrev pub log_refusal : (tag lba len : ℕ) → Option Status

@@ -4,10 +4,14 @@ pub mod Done
 pub mod Fises
 pub mod Flat
 pub mod Held
+pub mod Judging
+pub mod Knowing
 pub mod Making
 pub mod Names
 pub mod Over
+pub mod PlaceView
 pub mod Refusals
 pub mod Seen
 pub mod Status
 pub mod Told
+pub mod Writing

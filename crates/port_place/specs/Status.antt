@@ -16,6 +16,8 @@ use Rattle.ahci_port.specs.declared.fault.PlainFault.{PlainFault}
 use Rattle.ahci_port.specs.declared.fault.PlainFault.TheVariants as plain
 use Rattle.ahci_port.specs.declared.fault.TrimFault.{TrimFault}
 use Rattle.ahci_port.specs.declared.fault.TrimFault.TheVariants as trim
+use Rattle.ahci_port.specs.declared.fault.WriteFault.{WriteFault}
+use Rattle.ahci_port.specs.declared.fault.WriteFault.TheVariants as write
 use Rattle.ahci_table.specs.declared.fault.TableFault.{TableFault}
 use Rattle.ahci_table.specs.declared.fault.TableFault.TheVariants as table
 use Rattle.sata_fis.specs.declared.fault.FisFault.{FisFault}
@@ -45,6 +47,7 @@ code_of status.NoSuchRegister = 17
 code_of status.NotStarted = 18
 code_of status.NotReceiving = 19
 code_of status.Running = 20
+code_of status.NotQueued = 21
 code_of status.Halted = 32
 code_of status.NoSuchTag = 33
 code_of status.SlotOwned = 34
@@ -132,6 +135,15 @@ of_register reg.NoSuchRegister = status.NoSuchRegister
 of_register reg.NotStarted = status.NotStarted
 of_register reg.NotReceiving = status.NotReceiving
 of_register reg.Running = status.Running
+
+-- a driver's write of a register was not taken
+abbrev pub of_write : WriteFault → Status
+of_write (write.Register fault) = of_register fault
+of_write write.Halted = status.Halted
+of_write write.NotHalted = status.NotHalted
+of_write write.NotQueued = status.NotQueued
+of_write (write.Issue slot fault) = of_issue fault
+of_write write.OutOfMemory = status.OutOfMemory
 
 -- a port would not take a window
 abbrev pub of_table : TableFault → Status

@@ -1,12 +1,12 @@
 //! The status of each fault of the port.
 
 ghost use Rattle.std.specs.Prelude.{◌≡◌};
-ghost use Rattle.port_place.specs.Status.{of_collect, of_fis, of_issue, of_plain, of_recover, of_register, of_reissue, of_resume, of_step, of_table, of_trim};
+ghost use Rattle.port_place.specs.Status.{of_collect, of_fis, of_issue, of_plain, of_recover, of_register, of_reissue, of_resume, of_step, of_table, of_trim, of_write};
 
 use crate::status::Status;
 use ahci_port::{
     CollectFault, IssueFault, PlainFault, RecoverFault, ReissueFault, ResumeFault, StepFault,
-    TrimFault,
+    TrimFault, WriteFault,
 };
 use ahci_regs::RegFault;
 use ahci_table::TableFault;
@@ -114,6 +114,20 @@ pub(crate) fn register_status(fault: RegFault) -> Status
         RegFault::NotStarted => Status::NotStarted,
         RegFault::NotReceiving => Status::NotReceiving,
         RegFault::Running => Status::Running,
+    }
+}
+
+/// Why a driver's write of a register was not taken.
+pub(crate) fn write_status(fault: WriteFault) -> Status
+    ensures { result ≡ of_write fault }
+{
+    match fault {
+        WriteFault::Register(fault) => register_status(fault),
+        WriteFault::Halted => Status::Halted,
+        WriteFault::NotHalted => Status::NotHalted,
+        WriteFault::NotQueued => Status::NotQueued,
+        WriteFault::Issue { fault, .. } => issue_status(fault),
+        WriteFault::OutOfMemory => Status::OutOfMemory,
     }
 }
 

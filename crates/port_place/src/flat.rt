@@ -103,6 +103,18 @@ pub struct FlatState {
     pub phases: [u8; 32],
 }
 
+/// What a driver's write of a register did.
+#[repr(C)]
+#[derive(Clone, Copy, Debug, PartialEq, Eq)]
+pub struct FlatWritten {
+    /// 0 where no command has moved, 1 where commands are issued, 2 where the port has recovered, 3 where a command is not issued.
+    pub did: u32,
+    /// The slots whose commands are issued.
+    pub slots: u32,
+    /// The tag whose command had failed, or the slot whose command is not issued.
+    pub tag: u32,
+}
+
 /// What a window asks for.
 #[repr(C)]
 #[derive(Clone, Copy, Debug, PartialEq, Eq)]

@@ -9,8 +9,11 @@ mod fises;
 mod flat;
 mod held;
 mod issuing;
+mod judging;
+mod known;
 mod looking;
 mod making;
+mod named;
 mod naming;
 mod pages;
 mod place;
@@ -19,15 +22,18 @@ mod standing;
 mod status;
 mod stepping;
 mod windows;
+mod writing;
 
 pub use collecting::collect;
 pub use entries::{entry, entry_bytes};
 pub use fises::{fis_decode, fis_encode};
 pub use flat::{
     FlatCommand, FlatEntry, FlatFis, FlatReply, FlatSets, FlatSlot, FlatState, FlatStep,
+    FlatWritten,
 };
 pub use held::Held;
 pub use issuing::{issue, submit};
+pub use judging::journal_check;
 pub use looking::{copy, depth, received, register, sectors, slot, tag_sets};
 pub use making::{make, make_zeros};
 pub use naming::status_text;
@@ -38,3 +44,4 @@ pub use standing::state;
 pub use status::Status;
 pub use stepping::{accept, fail, serve};
 pub use windows::window_check;
+pub use writing::{read_register, write_register};

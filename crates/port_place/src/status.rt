@@ -42,6 +42,8 @@ pub enum Status {
     NotReceiving,
     /// A write that would clear PxCMD.FRE, or move PxCLB or PxFB, while PxCMD.ST is 1.
     Running,
+    /// A write that sets a bit of PxCI whose bit of PxSACT was not written before.
+    NotQueued,
     /// A command has failed, and the port has not recovered.
     Halted,
     /// The tag is not below the depth.
@@ -123,6 +125,7 @@ impl Status {
             Status::NotStarted => 18,
             Status::NotReceiving => 19,
             Status::Running => 20,
+            Status::NotQueued => 21,
             Status::Halted => 32,
             Status::NoSuchTag => 33,
             Status::SlotOwned => 34,

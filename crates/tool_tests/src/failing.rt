@@ -1,5 +1,5 @@
 //! A trace, as text and as JSON, a picture and a check of one script where memory, the input or the output fails.
-use ahci_cli::{CliFault, check, draw, trace, trace_json};
+use ahci_cli::{CliFault, Form, check, check_jobs, draw, trace, trace_json};
 use json::{Scratch, is_valid};
 use refusing_allocator::{Refusals, Refusing};
 use std::alloc::Allocator;
@@ -15,15 +15,45 @@ enum Tool {
     Json,
     Draw,
     Check,
+    CheckJson,
+    CheckJobs,
 }
 
-static TOOLS: [Tool; 4] = [Tool::Trace, Tool::Json, Tool::Draw, Tool::Check];
+static TOOLS: [Tool; 6] = [
+    Tool::Trace,
+    Tool::Json,
+    Tool::Draw,
+    Tool::Check,
+    Tool::CheckJson,
+    Tool::CheckJobs,
+];
 
 /// The port refuses its last command, of which a check tells.
 static SCRIPT: &[u8] =
     b"disk 8 4\nwrite 0 3 1 aa\naccept 0\nserve 0\ncollect 0 0\nread 1 3 70000\n";
 
+/// The port refuses the last two commands: the first of them is a window, whose bytes a check reads into memory.
+static CHECKED: &[u8] =
+    b"disk 8 4\nread 0 3 1\nraw 1 0000000000000000000000000000000000000000000000000000000000000000 00\nshow 8\n";
+
 impl Tool {
+    fn script(self) -> &'static [u8] {
+        match self {
+            Tool::Trace | Tool::Json | Tool::Draw => SCRIPT,
+            Tool::Check | Tool::CheckJson | Tool::CheckJobs => CHECKED,
+        }
+    }
+
+    /// What it tells of a read that fails, and of a write.
+    fn faults(self) -> (CliFault, CliFault) {
+        match self {
+            Tool::Trace | Tool::Json | Tool::Draw => (CliFault::Read, CliFault::Write),
+            Tool::Check | Tool::CheckJson | Tool::CheckJobs => {
+                (CliFault::CheckRead, CliFault::CheckWrite)
+            }
+        }
+    }
+
     fn run<R: Read, W: Write, A: Allocator + Copy>(
         self,
         alloc: A,
@@ -33,9 +63,19 @@ impl Tool {
         match self {
             Tool::Trace => trace(alloc, reader, writer),
             Tool::Json => trace_json(alloc, reader, writer),
-            Tool::Draw => draw(alloc, reader, writer),
-            Tool::Check => check(alloc, reader, writer).map(|_| ()),
+            Tool::Draw => draw(alloc, 0, u64::MAX, reader, writer),
+            Tool::Check => found(check(alloc, Form::Text, reader, writer)),
+            Tool::CheckJson => found(check(alloc, Form::Json, reader, writer)),
+            Tool::CheckJobs => found(check_jobs(alloc, Form::Text, reader, writer)),
         }
+    }
+}
+
+/// A check that finds something.
+fn found(how: Result<bool, CliFault>) -> Result<(), CliFault> {
+    match how? {
+        true => Ok(()),
+        false => Err(CliFault::Unsettled),
     }
 }
 
@@ -65,12 +105,12 @@ fn each_growth_may_be_refused(rt: HostRuntime) -> Result<(), Fail> {
 /// Refuses each growth in turn, and all that follow, until none is refused. What is written then is a first part of the whole.
 fn each_growth_of<A: Allocator + Copy>(rt: &impl Abort, alloc: A, tool: Tool) -> Result<(), Fail> {
     let mut whole = Vec::new(alloc);
-    let mut reader = SCRIPT;
+    let mut reader = tool.script();
     assert!(rt; tool.run(alloc, &mut reader, &mut whole) == Ok(()));
     for growth in 0..1000u64 {
         let heap = Refusing::new(alloc);
         heap.refuse(Refusals::From(growth));
-        let mut reader = SCRIPT;
+        let mut reader = tool.script();
         let mut written = Vec::new(alloc);
         let how = tool.run(&heap, &mut reader, &mut written);
         assert!(rt; heap.out() == 0, "{tool:?}, growth {growth}");
@@ -110,15 +150,17 @@ impl Read for Failing {
 #[test]
 fn each_read_may_fail(rt: HostRuntime) {
     for tool in TOOLS {
-        for reads in 0..8u32 {
+        // One read for 16 bytes, and one at the end.
+        let all = tool.script().len() as u32 / 16 + 2;
+        for reads in 0..12u32 {
             let mut written = Vec::new(rt.alloc());
             let mut reader = Failing {
-                left: SCRIPT,
+                left: tool.script(),
                 reads,
             };
             let how = tool.run(rt.alloc(), &mut reader, &mut written);
-            let wanted = if reads < 6 {
-                Err(CliFault::Read)
+            let wanted = if reads < all {
+                Err(tool.faults().0)
             } else {
                 Ok(())
             };
@@ -131,17 +173,17 @@ fn each_read_may_fail(rt: HostRuntime) {
 fn each_byte_may_find_no_room(rt: HostRuntime) {
     for tool in TOOLS {
         let mut whole = Vec::new(rt.alloc());
-        let mut reader = SCRIPT;
+        let mut reader = tool.script();
         assert!(rt; tool.run(rt.alloc(), &mut reader, &mut whole) == Ok(()));
         for room in [0, 1, whole.len() / 2, whole.len().saturating_sub(1)] {
-            let mut reader = SCRIPT;
+            let mut reader = tool.script();
             let how = tool.run(rt.alloc(), &mut reader, &mut Full { room });
             assert!(rt;
-                how == Err(CliFault::Write),
+                how == Err(tool.faults().1),
                 "{tool:?}, room {room}: {how:?}"
             );
         }
-        let mut reader = SCRIPT;
+        let mut reader = tool.script();
         let mut writer = Full { room: whole.len() };
         let how = tool.run(rt.alloc(), &mut reader, &mut writer);
         assert!(rt; how == Ok(()) && writer.room == 0);

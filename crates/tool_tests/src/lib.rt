@@ -8,3 +8,5 @@ mod failing;
 mod lines;
 #[cfg(test)]
 mod scripts;
+#[cfg(test)]
+mod windows;

@@ -6,18 +6,36 @@ use std::test::Fail;
 /// A line, and the text of its complaint; empty where there is none.
 type Row = (&'static str, &'static str);
 
-/// Lines behind a disk, each as the third of its script.
-static BEHIND: [Row; 46] = [
+/// Lines behind a disk of 8 sectors and 4 slots, each as the third of its script.
+static BEHIND: [Row; 85] = [
     ("", ""),
     ("# Any comment.", ""),
     ("recover", ""),
-    ("write 31 281474976710655 65536 Ff", ""),
-    ("serve 0 1 0", ""),
+    ("write 3 281474976710655 65536 Ff", ""),
+    ("serve 3 1 0 2", ""),
     ("reg 118", ""),
+    ("show 7", ""),
+    ("fail 0 40 7", ""),
+    ("# A tab\tand a carriage return\r", ""),
     ("sleep", "line 3, column 1: no such command"),
     ("sleep 3", "line 3, column 1: no such command"),
     ("Write 0 0 1 11", "line 3, column 1: no such command"),
-    ("\twrite 0 0 1 11", "line 3, column 1: no such command"),
+    ("\twrite 0 0 1 11", "line 3, column 1: a tab"),
+    ("write\t0 0 1 11", "line 3, column 6: a tab"),
+    ("\r", "line 3, column 1: a carriage return"),
+    ("recover\r", "line 3, column 8: a carriage return"),
+    ("sleep\r", "line 3, column 6: a carriage return"),
+    ("read 0 0\r\t1", "line 3, column 9: a carriage return"),
+    ("show \0", "line 3, column 6: control byte 0"),
+    ("show 1\x1b", "line 3, column 7: control byte 27"),
+    ("show 1\x7f", "line 3, column 7: control byte 127"),
+    ("\u{feff}", "line 3, column 1: a byte order mark"),
+    (
+        "\u{feff}# A comment.",
+        "line 3, column 1: a byte order mark",
+    ),
+    ("show 1\u{feff}", "line 3, column 7: a byte over 127"),
+    ("\u{ff00}show 1", "line 3, column 1: a byte over 127"),
     (" read 0 0 1", "line 3, column 1: a space too many"),
     (" ", "line 3, column 1: a space too many"),
     ("read 0  0 1", "line 3, column 8: a space too many"),
@@ -27,11 +45,15 @@ static BEHIND: [Row; 46] = [
     ("accept 3 4", "line 3, column 10: a word too many"),
     ("write 0 0 1 11 22", "line 3, column 16: a word too many"),
     ("write", "line 3, column 6: a word is missing"),
-    ("write ", "line 3, column 7: a word is missing"),
+    ("write ", "line 3, column 7: a space too many"),
+    ("disk 8 4 ", "line 3, column 10: a space too many"),
+    ("disk 8 ", "line 3, column 8: a space too many"),
+    ("serve 0 ", "line 3, column 9: a space too many"),
+    ("write 0 0 1 ", "line 3, column 13: a space too many"),
     ("write 0 0 1", "line 3, column 12: a word is missing"),
     ("disk 8", "line 3, column 7: a word is missing"),
     ("read 0 0x10 1", "line 3, column 8: not a decimal number"),
-    ("accept 3\r", "line 3, column 8: not a decimal number"),
+    ("accept 3\r", "line 3, column 9: a carriage return"),
     (
         "show 000000000000000000001",
         "line 3, column 6: more than 20 digits",
@@ -89,7 +111,45 @@ static BEHIND: [Row; 46] = [
         "line 3, column 17: not hexadecimal digits",
     ),
     ("raw 0 x", "line 3, column 7: not hexadecimal digits"),
+    // A port of 4 slots has the tags 0 to 3.
+    ("accept 4", "line 3, column 8: tag 4 of 4 slots"),
+    ("collect 4 0", "line 3, column 9: tag 4 of 4 slots"),
+    ("reissue 31", "line 3, column 9: tag 31 of 4 slots"),
+    ("read 4 0 1", "line 3, column 6: tag 4 of 4 slots"),
+    ("write 4 0 1 11", "line 3, column 7: tag 4 of 4 slots"),
+    ("fail 4 40 8", "line 3, column 6: tag 4 of 4 slots"),
+    ("raw 4 x", "line 3, column 7: not hexadecimal digits"),
+    ("serve 0 4 5", "line 3, column 9: tag 4 of 4 slots"),
+    // The port asks for the count first, and for the tag last.
+    ("read 4 0 0", "line 3, column 10: 0 sectors, at least 1"),
+    // It looks at each tag of a list before it looks for one that is there twice.
+    ("serve 1 1", "line 3, column 9: tag 1 twice"),
+    ("serve 0 1 2 1 0", "line 3, column 13: tag 1 twice"),
+    ("serve 0 1 0", "line 3, column 11: tag 0 twice"),
+    ("serve 1 1 4", "line 3, column 11: tag 4 of 4 slots"),
+    ("show 8", "line 3, column 6: LBA 8 of 8 sectors"),
+    ("fail 0 40 8", "line 3, column 11: LBA 8 of 8 sectors"),
+    (
+        "reg 3",
+        "line 3, column 5: an offset that is no multiple of 4",
+    ),
+    ("reg 500", "line 3, column 5: no register at this offset"),
+    ("reg 8", "line 3, column 5: no register at this offset"),
+    (
+        "reg 13a",
+        "line 3, column 5: an offset that is no multiple of 4",
+    ),
+    (
+        "raw 0 0000000000000000000000000000000000000000000000000000000000000000 00",
+        "line 3, column 7: a bad command header",
+    ),
 ];
+
+/// Where they stand.
+const BEHIND_DISK: Place = Place::BehindDisk {
+    sectors: 8,
+    depth: 4,
+};
 
 /// First lines.
 static BEFORE: [Row; 11] = [
@@ -126,7 +186,7 @@ fn says<H: Abort>(
     rows: &[Row],
 ) -> Result<(), Fail> {
     for (line, expected) in rows {
-        let said = match complaint_of(place, 3, line.as_bytes()) {
+        let said = match complaint_of(alloc, place, 3, line.as_bytes())? {
             Some(complaint) => format!(in alloc; "{complaint}")?,
             None => String::new(alloc),
         };
@@ -137,6 +197,6 @@ fn says<H: Abort>(
 
 #[test]
 fn each_line_breaks_the_rule_beside_it(rt: HostRuntime) -> Result<(), Fail> {
-    says(&rt, rt.alloc(), Place::BehindDisk, BEHIND.as_slice())?;
+    says(&rt, rt.alloc(), BEHIND_DISK, BEHIND.as_slice())?;
     says(&rt, rt.alloc(), Place::BeforeDisk, BEFORE.as_slice())
 }

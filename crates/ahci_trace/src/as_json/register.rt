@@ -1,6 +1,6 @@
 ghost use Rattle.std.specs.Prelude.{◌≡◌, ◌++◌, codes, flat_map, OnOk};
 ghost use Rattle.word_bits.specs.Places.{bits};
-ghost use Rattle.ahci_trace.specs.Json.{bit_value, change_object, list_member};
+ghost use Rattle.ahci_trace.specs.Json.{before_member, bit_value, change_object, list_member, word_members};
 ghost use Rattle.ahci_trace.specs.Names.{bits_of, named};
 
 use super::hex::put_word;
@@ -52,7 +52,31 @@ fn put_bits<A: Allocator>(writer: &mut Writer<A>, change: Change) -> Result<(), 
     writer.end_array()
 }
 
-/// Adds a register's word, and the names of its bits.
+/// Adds the word of a register before, which is null where the command made the disk.
+fn put_before<A: Allocator>(writer: &mut Writer<A>, before: Option<u32>) -> Result<(), AllocError>
+    ensures tokens { OnOk result (writer.new.tokens ≡ writer.old.tokens ++ before_member before) }
+    ensures before { OnOk result (writer.new.before ≡ writer.old.before) }
+{
+    match before {
+        Some(word) => put_word(writer, "before", word),
+        None => {
+            writer.key("before")?;
+            writer.null()
+        }
+    }
+}
+
+/// Adds both words of a register.
+#[tactic(auto, unfolding(crate::specs::Json::word_members))]
+fn put_words<A: Allocator>(writer: &mut Writer<A>, change: Change) -> Result<(), AllocError>
+    ensures tokens { OnOk result (writer.new.tokens ≡ writer.old.tokens ++ word_members change) }
+    ensures before { OnOk result (writer.new.before ≡ writer.old.before) }
+{
+    put_before(writer, change.before)?;
+    put_word(writer, "word", change.word)
+}
+
+/// Adds a register's words, and the names of its bits.
 #[tactic(auto, unfolding(crate::specs::Json::change_object))]
 fn put_change<A: Allocator>(writer: &mut Writer<A>, change: Change) -> Result<(), AllocError>
     ensures tokens { OnOk result (writer.new.tokens ≡ writer.old.tokens ++ change_object change) }
@@ -60,7 +84,7 @@ fn put_change<A: Allocator>(writer: &mut Writer<A>, change: Change) -> Result<()
 {
     writer.begin_object()?;
     put_text(writer, "name", name_of(change.register))?;
-    put_word(writer, "word", change.word)?;
+    put_words(writer, change)?;
     put_bits(writer, change)?;
     writer.end_object()
 }

@@ -6,7 +6,7 @@ use Rattle.ahci_args.specs.Asking.{AsksReplay}
 use Rattle.ahci_args.specs.Usage.{usage_faults}
 use Rattle.ahci_args.proofs.SubcommandLemmas.{Runs, Identifies, Logs, Traces, Checks, Draws, name_of, no_name}
 use Rattle.ahci_args.proofs.WordLemmas.{asks_memory}
-use Rattle.ahci_args.proofs.MatchLemmas.{IsMet, asks_identify, asks_run, asks_trace, known_faults, log_answers, log_fails, met, met_other, no_text, no_value_fault, same_text, some_picks}
+use Rattle.ahci_args.proofs.MatchLemmas.{IsMet, asks_check, asks_draw, asks_identify, asks_trace, known_faults, log_answers, log_fails, met, met_other, no_text, no_value_fault, run_answers, run_fails, same_text, some_picks}
 use Rattle.ahci_args.proofs.reading.asked.Goals as goal
 use Rattle.ahci_args.proofs.reading.asked.Goals.{
   In-Some-check-default,
@@ -53,11 +53,16 @@ pub run_asked-requires : goal.run_asked-requires
 run_asked-requires c = (run_met c).takes
 
 pub returns-in-Some-run-default-clause-ok : goal.returns-in-Some-run-default-clause-ok
-returns-in-Some-run-default-clause-ok c = asks_run c.run_asked.result (run_met (goal.at.returns-in-Some-run-default-clause-ok c).In-Some-run-default) c.run_asked.ensures
+returns-in-Some-run-default-clause-ok c = run_answers c.run_asked.result (run_met (goal.at.returns-in-Some-run-default-clause-ok c).In-Some-run-default) c.run_asked.ensures.ok
+
+pub returns-in-Some-run-default-clause-memory : goal.returns-in-Some-run-default-clause-memory
+returns-in-Some-run-default-clause-memory c =
+    let fails = run_fails c.run_asked.result (run_met (goal.at.returns-in-Some-run-default-clause-memory c).In-Some-run-default) c.run_asked.ensures.faults in
+    asks_memory c.in_ok-ahci_command.ensures.ok.0 c.run_asked.result (map string_bytes c.args.words.now) fails
 
 pub returns-in-Some-run-default-clause-faults : goal.returns-in-Some-run-default-clause-faults
 returns-in-Some-run-default-clause-faults c =
-    (c.in_ok-ahci_command.ensures.ok.0, no_value_fault (run_met (goal.at.returns-in-Some-run-default-clause-faults c).In-Some-run-default) refl)
+    (c.in_ok-ahci_command.ensures.ok.0, run_fails c.run_asked.result (run_met (goal.at.returns-in-Some-run-default-clause-faults c).In-Some-run-default) c.run_asked.ensures.faults)
 
 -- where the subcommand is `identify`
 identify_met : (c : In-Some-identify-default) → IsMet Identifies c.in_ok-ahci_command.ensures.ok.0 (map string_bytes c.args.words.now) (rows_of (found_of c.in-Some-identify-default.options.now))
@@ -75,7 +80,7 @@ returns-in-Some-identify-default-clause-ok c =
 
 pub returns-in-Some-identify-default-clause-faults : goal.returns-in-Some-identify-default-clause-faults
 returns-in-Some-identify-default-clause-faults c =
-    (c.in_ok-ahci_command.ensures.ok.0, no_value_fault (identify_met (goal.at.returns-in-Some-identify-default-clause-faults c).In-Some-identify-default) refl)
+    (c.in_ok-ahci_command.ensures.ok.0, no_value_fault (identify_met (goal.at.returns-in-Some-identify-default-clause-faults c).In-Some-identify-default) refl refl)
 
 -- where the subcommand is `log`
 log_met : (c : In-Some-log-default) → IsMet Logs c.in_ok-ahci_command.ensures.ok.0 (map string_bytes c.args.words.now) (rows_of (found_of c.in-Some-log-default.options.now))
@@ -114,35 +119,41 @@ returns-in-Some-trace-default-clause-ok c = asks_trace c.trace_asked.result (tra
 
 pub returns-in-Some-trace-default-clause-faults : goal.returns-in-Some-trace-default-clause-faults
 returns-in-Some-trace-default-clause-faults c =
-    (c.in_ok-ahci_command.ensures.ok.0, no_value_fault (trace_met (goal.at.returns-in-Some-trace-default-clause-faults c).In-Some-trace-default) refl)
+    (c.in_ok-ahci_command.ensures.ok.0, no_value_fault (trace_met (goal.at.returns-in-Some-trace-default-clause-faults c).In-Some-trace-default) refl refl)
 
 -- where the subcommand is `check`
-check_met : (c : In-Some-check-default) → IsMet Checks c.in_ok-ahci_command.ensures.ok.0 (map string_bytes c.args.words.now) (rows_of (found_of c.in-Some-check-default.field-0-1.now))
+check_met : (c : In-Some-check-default) → IsMet Checks c.in_ok-ahci_command.ensures.ok.0 (map string_bytes c.args.words.now) (rows_of (found_of c.in-Some-check-default.options.now))
 check_met c =
     let arm = c.in-Some-check-default in
     met c.in_ok-matches.matches c.in_ok-ahci_command.ensures.ok.1 c.in_ok-matches.ensures.kinds c.in_ok-matches.ensures.matches
     (sym arm.ensures.name ∙ ap Some arm.is-check) (sym arm.ensures.rows)
 
+pub check_asked-requires : goal.check_asked-requires
+check_asked-requires c = (check_met c).takes
+
 pub returns-in-Some-check-default-clause-ok : goal.returns-in-Some-check-default-clause-ok
-returns-in-Some-check-default-clause-ok c = record { options = _; finds = (check_met (goal.at.returns-in-Some-check-default-clause-ok c).In-Some-check-default).finds }
+returns-in-Some-check-default-clause-ok c = asks_check c.check_asked.result (check_met (goal.at.returns-in-Some-check-default-clause-ok c).In-Some-check-default) c.check_asked.ensures
 
 pub returns-in-Some-check-default-clause-faults : goal.returns-in-Some-check-default-clause-faults
 returns-in-Some-check-default-clause-faults c =
-    (c.in_ok-ahci_command.ensures.ok.0, no_value_fault (check_met (goal.at.returns-in-Some-check-default-clause-faults c).In-Some-check-default) refl)
+    (c.in_ok-ahci_command.ensures.ok.0, no_value_fault (check_met (goal.at.returns-in-Some-check-default-clause-faults c).In-Some-check-default) refl refl)
 
 -- where the subcommand is `draw`
-draw_met : (c : In-Some-draw-default) → IsMet Draws c.in_ok-ahci_command.ensures.ok.0 (map string_bytes c.args.words.now) (rows_of (found_of c.in-Some-draw-default.field-0-1.now))
+draw_met : (c : In-Some-draw-default) → IsMet Draws c.in_ok-ahci_command.ensures.ok.0 (map string_bytes c.args.words.now) (rows_of (found_of c.in-Some-draw-default.options.now))
 draw_met c =
     let arm = c.in-Some-draw-default in
     met c.in_ok-matches.matches c.in_ok-ahci_command.ensures.ok.1 c.in_ok-matches.ensures.kinds c.in_ok-matches.ensures.matches
     (sym arm.ensures.name ∙ ap Some arm.is-draw) (sym arm.ensures.rows)
 
+pub draw_asked-requires : goal.draw_asked-requires
+draw_asked-requires c = (draw_met c).takes
+
 pub returns-in-Some-draw-default-clause-ok : goal.returns-in-Some-draw-default-clause-ok
-returns-in-Some-draw-default-clause-ok c = record { options = _; finds = (draw_met (goal.at.returns-in-Some-draw-default-clause-ok c).In-Some-draw-default).finds }
+returns-in-Some-draw-default-clause-ok c = asks_draw c.draw_asked.result (draw_met (goal.at.returns-in-Some-draw-default-clause-ok c).In-Some-draw-default) c.draw_asked.ensures
 
 pub returns-in-Some-draw-default-clause-faults : goal.returns-in-Some-draw-default-clause-faults
 returns-in-Some-draw-default-clause-faults c =
-    (c.in_ok-ahci_command.ensures.ok.0, no_value_fault (draw_met (goal.at.returns-in-Some-draw-default-clause-faults c).In-Some-draw-default) refl)
+    (c.in_ok-ahci_command.ensures.ok.0, no_value_fault (draw_met (goal.at.returns-in-Some-draw-default-clause-faults c).In-Some-draw-default) refl refl)
 
 -- where it is none of them
 replay_met : (c : goal.Joined-matches-7) → AsksReplay (map string_bytes c.args.words.now) × (usage_faults c.in_ok-ahci_command.ensures.ok.0 (map string_bytes c.args.words.now) ≡ [])

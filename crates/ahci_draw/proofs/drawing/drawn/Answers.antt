@@ -5,13 +5,13 @@ use Rattle.ahci_draw.proofs.drawing.drawn.Goals as goal
 
 pub returns-in-Err-Line-clause-err : goal.returns-in-Err-Line-clause-err
 returns-in-Err-Line-clause-err g c =
-    sent_at _ _ _ _ c.deref-in-Err-Line.result.now (Line c.in-Err-Line.line) c.send_at.result
+    sent_at _ _ _ _ _ _ c.deref-in-Err-Line.result.now (Line c.in-Err-Line.line) c.send_at.result
     (is_sheet _ _ _ _ _ c.in-Err-Line.field-0 (Line c.in-Err-Line.line) c.new-sheet.ensures.items c.deref-in-Err-Line.ensures.value
     c.in-Err-Line.field-0-is c.in-Err-Line.ensures.err) c.send_at.ensures.sent
 
 pub returns-in-Err-Read-clause-err : goal.returns-in-Err-Read-clause-err
 returns-in-Err-Read-clause-err g c =
-    sent_at _ _ _ _ c.deref-in-Err-Read.result.now Read c.send_at-in-Err-Read.result
+    sent_at _ _ _ _ _ _ c.deref-in-Err-Read.result.now Read c.send_at-in-Err-Read.result
     (is_sheet _ _ _ _ _ c.in-Err-Read.field-0 Read c.new-sheet.ensures.items c.deref-in-Err-Read.ensures.value c.in-Err-Read.field-0-is c.in-Err-Read.ensures.err) c.send_at-in-Err-Read.ensures.sent
 
 pub returns-in-Err-Line-clause-writes : goal.returns-in-Err-Line-clause-writes

@@ -1,12 +1,8 @@
-use Rattle.std.proofs.Common.{ap, refl, codes}
-use Rattle.ahci_script.proofs.FoundLemmas.{on_ok_from}
-use Rattle.ahci_draw.specs.Lanes.{lanes_text}
-use Rattle.ahci_draw.specs.Text.{numbered}
-use Rattle.ahci_draw.proofs.PieceLemmas.{three}
+-- One lane more.
+use Rattle.ahci_draw.specs.Lanes.{lane_at}
+use Rattle.ahci_draw.specs.Lines.{texts}
+use Rattle.ahci_draw.proofs.PieceLemmas.{more_range}
 use Rattle.ahci_draw.proofs.lanes.push_lanes.Goals as goal
 
-pub returns : goal.returns
-unfolding lanes_text
-returns g c =
-    on_ok_from c.push.result _ _ c.push.ensures
-    (λ last. three _ _ _ _ _ _ _ _ _ _ c.in_ok-push_each.ensures c.in_ok-push_number.ensures last refl (ap (numbered (codes "\n<text x='8' y='")) c.below.ensures) refl)
+pub loop-lane-preserved : goal.loop-lane-preserved
+loop-lane-preserved g c = more_range (lane_at c.args.tags.now (texts c.args.lines.now)) _ _ _ c.loop-lane.lane c.loop-lane.invariant c.in_ok-push_lane.ensures

@@ -1,13 +1,12 @@
-use Rattle.std.proofs.Common.{ap, refl, codes}
+use Rattle.std.proofs.Common.{refl}
+use Rattle.ahci_draw.specs.Lanes.{name_shape}
 use Rattle.ahci_script.proofs.FoundLemmas.{on_ok_from}
-use Rattle.ahci_draw.specs.Lanes.{name_text}
-use Rattle.ahci_draw.specs.Text.{numbered}
 use Rattle.ahci_draw.proofs.PieceLemmas.{three}
 use Rattle.ahci_draw.proofs.lanes.push_name.Goals as goal
 
 pub returns : goal.returns
-unfolding name_text
+unfolding name_shape
 returns g c =
     on_ok_from c.push.result _ _ c.push.ensures
     (λ last. three _ _ _ _ _ _ _ _ _ _ c.in_ok-push_number.ensures c.in_ok-push_number-2.ensures last
-    (ap (numbered (codes "\n<text x='8' y='")) c.below.ensures) (ap (numbered (codes "'>tag ")) c.from.ensures) refl)
+    refl refl refl)

@@ -30,8 +30,8 @@ given_up-requires g c =
 
 pub returns-in-Err-clause-err : goal.returns-in-Err-clause-err
 returns-in-Err-clause-err g c =
-    subst (EndsRun c.args.workers c.args.depth c.args.sectors _ _ _ _) (sym c.given_up.ensures)
-    (ends_running c.in-Err.fault (blank_port c.args.sectors c.args.depth) c.args.workers c.args.depth c.args.sectors (g.R.Read.remaining c.args.reader.now)
+    subst (EndsRun c.args.form c.args.workers c.args.depth c.args.sectors _ _ _ _) (sym c.given_up.ensures)
+    (ends_running c.in-Err.fault (blank_port c.args.sectors c.args.depth) c.args.form c.args.workers c.args.depth c.args.sectors (g.R.Read.remaining c.args.reader.now)
     (g.R.Read.remaining c.listed.new.reader) (g.W.Write.contents c.args.writer.now) (map work_of c.deref.result.now)
     (subst (λ js. IsListed (g.R.Read.remaining c.args.reader.now) (g.R.Read.remaining c.listed.new.reader) (map work_of js)) (sym c.deref.ensures.value) c.in_ok-jobs.ensures.ok)
     c.in-Err.ensures.fault)
@@ -49,7 +49,7 @@ returns-in-Ok-clause-ok g c =
 
 pub returns-in-Ok-clause-err : goal.returns-in-Ok-clause-err
 returns-in-Ok-clause-err g c =
-    ends_telling c.tell_run.result c.args.workers c.args.depth c.args.sectors _ _ _ _ (map work_of c.deref.result.now) c.in-Ok.end.port (map received_of c.in-Ok.end.replies.items)
+    ends_telling c.tell_run.result c.args.form c.args.workers c.args.depth c.args.sectors _ _ _ _ (map work_of c.deref.result.now) c.in-Ok.end.port (map received_of c.in-Ok.end.replies.items)
     (subst (λ js. IsListed (g.R.Read.remaining c.args.reader.now) (g.R.Read.remaining c.listed.new.reader) (map work_of js)) (sym c.deref.ensures.value) c.in_ok-jobs.ensures.ok)
     c.in-Ok.ensures.ok c.tell_run.ensures.err c.tell_run.ensures.fault
 

@@ -9,7 +9,7 @@ pub returns-in-Ok : goal.returns-in-Ok
 returns-in-Ok g c =
     let old = c.args.port.now in
     carried_out _ c.in-Ok.journal (trim_refusal old) of_trim old c.trim.new.self (says.Trimmed c.len.result) _ c.in-Ok.ensures.fault
-    (c.in-Ok.ensures.trimmed, ap says.Trimmed (c.len.ensures ∙ ap (λ j. length j.past) c.in-Ok.ensures.journal))
+    (c.in-Ok.ensures.trimmed, c.shape.ensures.size, ap says.Trimmed (c.len.ensures ∙ ap (λ j. length j.past) c.in-Ok.ensures.journal))
 
 pub returns-in-Err : goal.returns-in-Err
 returns-in-Err g c =

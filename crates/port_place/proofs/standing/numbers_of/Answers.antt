@@ -6,5 +6,5 @@ use Rattle.port_place.proofs.standing.numbers_of.Goals as goal
 
 pub loop-tag-preserved : goal.loop-tag-preserved
 loop-tag-preserved g c =
-    one_more (λ tag. unwrap_or (owner_of c.args.port.now tag) 0) c.loop-tag.numbers c.loop-tag.tag c.from.result c.unwrap_or.result c.from.ensures (omega arith) c.loop-tag.invariant
+    one_more 0 (λ tag. unwrap_or (owner_of c.args.port.now tag) 0) c.loop-tag.numbers c.loop-tag.tag c.from.result c.unwrap_or.result c.from.ensures (omega arith) c.loop-tag.invariant
     (c.unwrap_or.ensures ∙ ap (λ o. unwrap_or o 0) c.owner.ensures)

@@ -5,4 +5,4 @@ use Rattle.port_place.proofs.TagLemmas.{IsFilled}
 use Rattle.port_place.proofs.standing.numbers_of.Given as goal
 
 abbrev pub invariant-loop-tag : goal.invariant-loop-tag
-invariant-loop-tag g l = IsFilled (λ tag. unwrap_or (owner_of l.port tag) 0) l.numbers l.tag
+invariant-loop-tag g l = IsFilled 0 (λ tag. unwrap_or (owner_of l.port tag) 0) l.numbers l.tag

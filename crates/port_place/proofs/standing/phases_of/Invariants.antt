@@ -5,4 +5,4 @@ use Rattle.port_place.proofs.TagLemmas.{IsFilled}
 use Rattle.port_place.proofs.standing.phases_of.Given as goal
 
 abbrev pub invariant-loop-tag : goal.invariant-loop-tag
-invariant-loop-tag g l = IsFilled (λ tag. phase_number (phase l.port.past tag)) l.phases l.tag
+invariant-loop-tag g l = IsFilled 0 (λ tag. phase_number (phase l.port.past tag)) l.phases l.tag

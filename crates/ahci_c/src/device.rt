@@ -1,0 +1,68 @@
+//! What the device does.
+
+ghost use Rattle.std.specs.Prelude.{◌≡◌};
+ghost use Rattle.port_place.specs.Done.{HasStepped, Same};
+ghost use Rattle.port_place.specs.Over.{Changes};
+ghost use Rattle.port_place.specs.PlaceView.{view_of};
+ghost use Rattle.port_place.specs.Refusals.{accept_refusal, fail_refusal, serve_refusal};
+ghost use Rattle.port_place.specs.Told.{Told};
+
+use ahci_port::DeviceStep;
+use port_place::{FlatStep, Place, Status};
+use std::alloc::Global;
+
+/// The device takes a tag's command.
+#[unsafe(no_mangle)]
+pub extern "C" fn ahci_port_accept(
+    port: &mut Place,
+    heap: Global,
+    tag: u32,
+    done: &mut FlatStep,
+) -> u32
+    ensures { Changes result (view_of port.old) (view_of port.new) (done.new ≡ done.old)
+        (λ answer old new. Told answer (accept_refusal old tag) (HasStepped (DeviceStep.Accept tag) old new done.new) (Same old new done.old done.new)) }
+{
+    let Some(mut held) = port.take(heap) else {
+        return Status::NoPort.code();
+    };
+    let answer = port_place::accept(&mut held, tag, done);
+    port.back(held, answer)
+}
+
+/// The device serves the commands of some tags, in the list's order.
+#[unsafe(no_mangle)]
+pub extern "C" fn ahci_port_serve(
+    port: &mut Place,
+    heap: Global,
+    tags: &[u8],
+    done: &mut FlatStep,
+) -> u32
+    ensures { Changes result (view_of port.old) (view_of port.new) (done.new ≡ done.old)
+        (λ answer old new. Told answer (serve_refusal old tags.now) (HasStepped (DeviceStep.Serve (record { items = tags.now })) old new done.new) (Same old new done.old done.new)) }
+{
+    let Some(mut held) = port.take(heap) else {
+        return Status::NoPort.code();
+    };
+    let answer = port_place::serve(&mut held, tags, done);
+    port.back(held, answer)
+}
+
+/// The device fails a tag's accepted command.
+#[unsafe(no_mangle)]
+pub extern "C" fn ahci_port_fail(
+    port: &mut Place,
+    heap: Global,
+    tag: u32,
+    error: u8,
+    lba: u64,
+    done: &mut FlatStep,
+) -> u32
+    ensures { Changes result (view_of port.old) (view_of port.new) (done.new ≡ done.old)
+        (λ answer old new. Told answer (fail_refusal old tag error lba) (HasStepped (DeviceStep.Fail tag error lba) old new done.new) (Same old new done.old done.new)) }
+{
+    let Some(mut held) = port.take(heap) else {
+        return Status::NoPort.code();
+    };
+    let answer = port_place::fail(&mut held, tag, error, lba, done);
+    port.back(held, answer)
+}

@@ -1,0 +1,148 @@
+//! What can be seen of a port.
+
+ghost use Rattle.std.specs.Prelude.{◌≡◌, None, length};
+ghost use Rattle.ahci_port.specs.PortView.{sectors_in};
+ghost use Rattle.ncq_journal.specs.Numbering.{entry_numbered};
+ghost use Rattle.ncq_journal.specs.Sector.{sector};
+ghost use Rattle.port_place.specs.Done.{IsSets};
+ghost use Rattle.port_place.specs.Flat.{flat_slot};
+ghost use Rattle.port_place.specs.Over.{Reads};
+ghost use Rattle.port_place.specs.PlaceView.{view_of};
+ghost use Rattle.port_place.specs.Refusals.{copy_refusal, received_refusal, with_tag};
+ghost use Rattle.port_place.specs.Seen.{AnswersBytes, AnswersEntry, IsState, written_by};
+ghost use Rattle.port_place.specs.Told.{Told};
+
+use port_place::{FlatEntry, FlatSets, FlatSlot, FlatState, Place, Status};
+use std::alloc::Global;
+
+/// How many slots there are.
+#[unsafe(no_mangle)]
+pub extern "C" fn ahci_port_depth(port: &mut Place, heap: Global, depth: &mut u32) -> u32
+    ensures { Reads result (view_of port.old) (view_of port.new) (depth.new ≡ depth.old)
+        (λ answer port. (answer ≡ Status.Done) × (depth.new ≡ port.depth)) }
+{
+    let Some(held) = port.take(heap) else {
+        return Status::NoPort.code();
+    };
+    let answer = port_place::depth(&held, depth);
+    port.back(held, answer)
+}
+
+/// How many sectors the disk has.
+#[unsafe(no_mangle)]
+pub extern "C" fn ahci_port_sectors(port: &mut Place, heap: Global, sectors: &mut u32) -> u32
+    ensures { Reads result (view_of port.old) (view_of port.new) (sectors.new ≡ sectors.old)
+        (λ answer port. (answer ≡ Status.Done) × (sectors.new ≡ sectors_in port)) }
+{
+    let Some(held) = port.take(heap) else {
+        return Status::NoPort.code();
+    };
+    let answer = port_place::sectors(&held, sectors);
+    port.back(held, answer)
+}
+
+/// Copies the received FIS area.
+#[unsafe(no_mangle)]
+pub extern "C" fn ahci_port_received(port: &mut Place, heap: Global, out: &mut [u8]) -> u32
+    ensures { Reads result (view_of port.old) (view_of port.new) (out.new ≡ out.old)
+        (λ answer port. Told answer (received_refusal (length out.old)) (out.new ≡ port.area) (out.new ≡ out.old)) }
+{
+    let Some(held) = port.take(heap) else {
+        return Status::NoPort.code();
+    };
+    let answer = port_place::received(&held, out);
+    port.back(held, answer)
+}
+
+/// Which tags wait for what.
+#[unsafe(no_mangle)]
+pub extern "C" fn ahci_port_tag_sets(port: &mut Place, heap: Global, sets: &mut FlatSets) -> u32
+    ensures { Reads result (view_of port.old) (view_of port.new) (sets.new ≡ sets.old)
+        (λ answer port. (answer ≡ Status.Done) × IsSets port sets.new) }
+{
+    let Some(held) = port.take(heap) else {
+        return Status::NoPort.code();
+    };
+    let answer = port_place::tag_sets(&held, sets);
+    port.back(held, answer)
+}
+
+/// One slot.
+#[unsafe(no_mangle)]
+pub extern "C" fn ahci_port_slot(
+    port: &mut Place,
+    heap: Global,
+    tag: u32,
+    slot: &mut FlatSlot,
+) -> u32
+    ensures { Reads result (view_of port.old) (view_of port.new) (slot.new ≡ slot.old)
+        (λ answer port. Told answer (with_tag tag None) (slot.new ≡ flat_slot port tag) (slot.new ≡ slot.old)) }
+{
+    let Some(held) = port.take(heap) else {
+        return Status::NoPort.code();
+    };
+    let answer = port_place::slot(&held, tag, slot);
+    port.back(held, answer)
+}
+
+/// Copies a sector as it is now.
+#[unsafe(no_mangle)]
+pub extern "C" fn ahci_port_copy(port: &mut Place, heap: Global, lba: u64, out: &mut [u8]) -> u32
+    ensures { Reads result (view_of port.old) (view_of port.new) (out.new ≡ out.old)
+        (λ answer port. Told answer (copy_refusal port lba (length out.old)) (out.new ≡ sector port.starting port.past lba) (out.new ≡ out.old)) }
+{
+    let Some(held) = port.take(heap) else {
+        return Status::NoPort.code();
+    };
+    let answer = port_place::copy(&held, lba, out);
+    port.back(held, answer)
+}
+
+/// The entry of a number of the journal.
+#[unsafe(no_mangle)]
+pub extern "C" fn ahci_port_entry(
+    port: &mut Place,
+    heap: Global,
+    number: u64,
+    entry: &mut FlatEntry,
+) -> u32
+    ensures { Reads result (view_of port.old) (view_of port.new) (entry.new ≡ entry.old)
+        (λ answer port. AnswersEntry (entry_numbered port.first port.past number) answer entry.old entry.new) }
+{
+    let Some(held) = port.take(heap) else {
+        return Status::NoPort.code();
+    };
+    let answer = port_place::entry(&held, number, entry);
+    port.back(held, answer)
+}
+
+/// Copies the bytes of the write that the entry of a number has issued.
+#[unsafe(no_mangle)]
+pub extern "C" fn ahci_port_entry_bytes(
+    port: &mut Place,
+    heap: Global,
+    number: u64,
+    out: &mut [u8],
+) -> u32
+    ensures { Reads result (view_of port.old) (view_of port.new) (out.new ≡ out.old)
+        (λ answer port. AnswersBytes (written_by (entry_numbered port.first port.past number)) answer out.old out.new) }
+{
+    let Some(held) = port.take(heap) else {
+        return Status::NoPort.code();
+    };
+    let answer = port_place::entry_bytes(&held, number, out);
+    port.back(held, answer)
+}
+
+/// All that can be seen of a port at once.
+#[unsafe(no_mangle)]
+pub extern "C" fn ahci_port_state(port: &mut Place, heap: Global, state: &mut FlatState) -> u32
+    ensures { Reads result (view_of port.old) (view_of port.new) (state.new ≡ state.old)
+        (λ answer port. (answer ≡ Status.Done) × IsState port state.new) }
+{
+    let Some(held) = port.take(heap) else {
+        return Status::NoPort.code();
+    };
+    let answer = port_place::state(&held, state);
+    port.back(held, answer)
+}

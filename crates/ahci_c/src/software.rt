@@ -1,0 +1,142 @@
+//! What software does.
+
+ghost use Rattle.std.specs.Prelude.{◌≡◌, length, ⊤};
+ghost use Rattle.ahci_port.specs.PortView.{sectors_in};
+ghost use Rattle.ahci_port.specs.Steps.{IsFlushed, IsIdentified, IsReissued, trimmed};
+ghost use Rattle.ncq_core.specs.Identify.{identify_page};
+ghost use Rattle.port_place.specs.Asked.{AnswersIssue, AnswersSubmit};
+ghost use Rattle.port_place.specs.Done.{HasCollected, HasRecovered, Same};
+ghost use Rattle.port_place.specs.Over.{Changes};
+ghost use Rattle.port_place.specs.PlaceView.{view_of};
+ghost use Rattle.port_place.specs.Refusals.{collect_refused, flush_refusal, identify_refusal, recover_refused, reissue_refused, trim_refused};
+ghost use Rattle.port_place.specs.Told.{Told, ToldOr};
+
+use port_place::{FlatReply, Place, Status};
+use std::alloc::Global;
+
+/// Issues the command of a window as it lies in memory.
+#[unsafe(no_mangle)]
+pub extern "C" fn ahci_port_issue(
+    port: &mut Place,
+    heap: Global,
+    tag: u32,
+    header: &[u8],
+    memory: &[u8],
+    number: &mut u64,
+) -> u32
+    ensures { Changes result (view_of port.old) (view_of port.new) (number.new ≡ number.old)
+        (λ answer old new. AnswersIssue tag header.now memory.now answer old new number.old number.new) }
+{
+    let Some(mut held) = port.take(heap) else {
+        return Status::NoPort.code();
+    };
+    let answer = port_place::issue(&mut held, heap, tag, header, memory, number);
+    port.back(held, answer)
+}
+
+/// Issues a read or a write of whole sectors.
+#[unsafe(no_mangle)]
+pub extern "C" fn ahci_port_submit(
+    port: &mut Place,
+    heap: Global,
+    tag: u32,
+    kind: u32,
+    lba: u64,
+    sectors: u32,
+    data: &[u8],
+    number: &mut u64,
+) -> u32
+    ensures { Changes result (view_of port.old) (view_of port.new) (number.new ≡ number.old)
+        (λ answer old new. AnswersSubmit tag kind lba sectors data.now answer old new number.old number.new) }
+{
+    let Some(mut held) = port.take(heap) else {
+        return Status::NoPort.code();
+    };
+    let answer = port_place::submit(&mut held, heap, tag, kind, lba, sectors, data, number);
+    port.back(held, answer)
+}
+
+/// Software recovers from a failure.
+#[unsafe(no_mangle)]
+pub extern "C" fn ahci_port_recover(port: &mut Place, heap: Global, tag: &mut u32) -> u32
+    ensures { Changes result (view_of port.old) (view_of port.new) (tag.new ≡ tag.old)
+        (λ answer old new. ToldOr answer (recover_refused old) (HasRecovered old new tag.new) (Same old new tag.old tag.new)) }
+{
+    let Some(mut held) = port.take(heap) else {
+        return Status::NoPort.code();
+    };
+    let answer = port_place::recover(&mut held, tag);
+    port.back(held, answer)
+}
+
+/// Software issues a held command again.
+#[unsafe(no_mangle)]
+pub extern "C" fn ahci_port_reissue(port: &mut Place, heap: Global, tag: u32) -> u32
+    ensures { Changes result (view_of port.old) (view_of port.new) ⊤
+        (λ answer old new. Told answer (reissue_refused old tag) (IsReissued tag old new) (new ≡ old)) }
+{
+    let Some(mut held) = port.take(heap) else {
+        return Status::NoPort.code();
+    };
+    let answer = port_place::reissue(&mut held, tag);
+    port.back(held, answer)
+}
+
+/// Takes the answer of a request, and frees its slot.
+#[unsafe(no_mangle)]
+pub extern "C" fn ahci_port_collect(
+    port: &mut Place,
+    heap: Global,
+    tag: u32,
+    number: u64,
+    reply: &mut FlatReply,
+    out: &mut [u8],
+) -> u32
+    ensures { Changes result (view_of port.old) (view_of port.new) ((reply.new ≡ reply.old) × (out.new ≡ out.old))
+        (λ answer old new. Told answer (collect_refused old tag number (length out.old)) (HasCollected tag number old new reply.new out.old out.new) ((new ≡ old) × (reply.new ≡ reply.old) × (out.new ≡ out.old))) }
+{
+    let Some(mut held) = port.take(heap) else {
+        return Status::NoPort.code();
+    };
+    let answer = port_place::collect(&mut held, tag, number, reply, out);
+    port.back(held, answer)
+}
+
+/// Sends IDENTIFY DEVICE, and copies its page.
+#[unsafe(no_mangle)]
+pub extern "C" fn ahci_port_identify(port: &mut Place, heap: Global, out: &mut [u8]) -> u32
+    ensures { Changes result (view_of port.old) (view_of port.new) (out.new ≡ out.old)
+        (λ answer old new. ToldOr answer (identify_refusal old (length out.old)) (IsIdentified old new × (out.new ≡ identify_page (sectors_in old) old.depth)) (Same old new out.old out.new)) }
+{
+    let Some(mut held) = port.take(heap) else {
+        return Status::NoPort.code();
+    };
+    let answer = port_place::identify(&mut held, out);
+    port.back(held, answer)
+}
+
+/// Sends FLUSH CACHE EXT.
+#[unsafe(no_mangle)]
+pub extern "C" fn ahci_port_flush(port: &mut Place, heap: Global) -> u32
+    ensures { Changes result (view_of port.old) (view_of port.new) ⊤
+        (λ answer old new. ToldOr answer (flush_refusal old) (IsFlushed old new) (new ≡ old)) }
+{
+    let Some(mut held) = port.take(heap) else {
+        return Status::NoPort.code();
+    };
+    let answer = port_place::flush(&mut held);
+    port.back(held, answer)
+}
+
+/// Throws the journal away where every slot is free.
+#[unsafe(no_mangle)]
+pub extern "C" fn ahci_port_trim(port: &mut Place, heap: Global, entries: &mut u64) -> u32
+    ensures { Changes result (view_of port.old) (view_of port.new) (entries.new ≡ entries.old)
+        (λ answer old new. Told answer (trim_refused old) ((new ≡ trimmed old) × (entries.new ≡ length old.past)) (Same old new entries.old entries.new)) }
+{
+    let Some(mut held) = port.take(heap) else {
+        return Status::NoPort.code();
+    };
+    let answer = port_place::trim(&mut held, entries);
+    port.back(held, answer)
+}

@@ -1,0 +1,23 @@
+-- Laws of pictures.
+use Rattle.std.specs.Prelude.{◌≡◌, ℕ, true, List, Option, flat_map, length}
+use Rattle.std.specs.List.{list_all, range_with_len}
+use Rattle.ahci_replay.specs.declared.script_fault.ScriptFault.{ScriptFault}
+use Rattle.ahci_draw.specs.Drawn.{IsSheet, IsSheetTo, picture_lines}
+use Rattle.ahci_draw.specs.Markup.{IsClosed, is_character}
+use Rattle.ahci_draw.specs.Row.{row_of, rows_in}
+
+-- what `draw` writes of a script that was replayed to its end is closed
+abbrev pub AreClosed : Type 0
+AreClosed = (from to : ℕ) (r s : Option (List ℕ)) (sheet : List ℕ) → IsSheet r s sheet → IsClosed (picture_lines from to sheet)
+
+-- and so is what it writes at a fault of the script
+abbrev pub AreClosedBefore : Type 0
+AreClosedBefore = (from to : ℕ) (r s : Option (List ℕ)) (f : ScriptFault) (sheet : List ℕ) → IsSheetTo r s f sheet → IsClosed (picture_lines from to sheet)
+
+-- what is closed has the characters of XML alone
+abbrev pub HaveCharactersAlone : Type 0
+HaveCharactersAlone = (text : List ℕ) → IsClosed text → list_all is_character text ≡ true
+
+-- the lines of all rows, one row behind the other, are the lines that are drawn, whose count the heading tells
+abbrev pub HoldEachOnce : Type 0
+HoldEachOnce = (lines : List (List ℕ)) → flat_map (row_of lines) (range_with_len 0 (rows_in (length lines))) ≡ lines
