@@ -1,5 +1,6 @@
 //! What a command line of `run` is told where it is wrong, and its help.
 use crate::command_line::{MISSING, RANGE, TWICE, told};
+use crate::table::equal;
 use clap::error::ErrorKind;
 use std::test::Fail;
 

@@ -3,7 +3,11 @@ use crate::command_line::words;
 use crate::wanted::Wanted;
 use Wanted::{Page, Part, Text};
 use ahci_cli::{WordsFault, program, program_without_words};
+use std::alloc::Global;
+use std::process::Abort;
+use std::sync::Wait;
 use std::test::Fail;
+use std::thread::Threads;
 
 const NOTHING: Wanted = Text("");
 
@@ -99,7 +103,7 @@ static CASES: [Case; 44] = [
     (
         "ahci check --jobs",
         GOOD,
-        Text("line 1, column 1: no such command\nline 2, column 7: not a decimal number\n"),
+        Text("line 1, column 1: no such command\nline 2, column 11: not two hexadecimal digits\n"),
         NOTHING,
         1,
     ),
@@ -297,14 +301,17 @@ fn each_command_line_has_its_output_its_errors_and_its_status(rt: HostRuntime) -
 }
 
 /// What the program writes for a command line and an input.
-fn output_of(rt: &HostRuntime, line: &str, input: &[u8]) -> Result<Vec<u8>, Fail> {
-    let line = words(rt.alloc(), line)?;
+fn output_of<H>(rt: &H, alloc: Global, line: &str, input: &[u8]) -> Result<Vec<u8>, Fail>
+where
+    H: Threads + Wait + Sync + Abort,
+{
+    let line = words(alloc, line)?;
     let mut reader = input;
-    let mut written = Vec::new(rt.alloc());
-    let mut told = Vec::new(rt.alloc());
+    let mut written = Vec::new(alloc);
+    let mut told = Vec::new(alloc);
     let ended = program(
         rt,
-        rt.alloc(),
+        alloc,
         line.as_slice(),
         &mut reader,
         &mut written,
@@ -320,12 +327,15 @@ const SHARED: &[u8] = b"write 0 1 11\nwrite 1 1 22\nread 3 1\nread 1 1\nread 0 1
 #[test]
 fn replay_answers_the_journal_of_a_run_with_its_sectors(rt: HostRuntime) -> Result<(), Fail> {
     let line = "ahci run --workers 2 --depth 2 --sectors 3 --pick all --journal";
-    let mut script = output_of(&rt, line, SHARED)?;
+    let mut script = output_of(&rt, rt.alloc(), line, SHARED)?;
     script.extend_from_slice(b"show 0\nshow 1\nshow 2\n")?;
-    let answers = output_of(&rt, "ahci replay", script.as_slice())?;
+    let answers = output_of(&rt, rt.alloc(), "ahci replay", script.as_slice())?;
     let end = b"sector 0 11\nsector 1 33\nsector 2 00\n".as_slice();
     assert!(rt; answers.as_slice().ends_with(end));
-    let refused = answers.as_slice().windows(7).any(|part| part == b"refused");
+    let refused = answers
+        .as_slice()
+        .windows(7)
+        .any(|part| part == b"refused".as_slice());
     assert!(rt; !refused);
     Ok(())
 }
