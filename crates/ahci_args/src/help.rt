@@ -194,7 +194,8 @@ pub(crate) const TRACE_HELP: &str = "Lines after an answer:
   sent command header .. the 32 bytes of the header of a command that was issued
   sent CFIS ..           the 20 bytes of its Register FIS, from the host to the device
   sent PRDT entry ..     the 16 bytes of each entry of its PRDT
-  received NAME FIS ..   a FIS that came into the received FIS area, byte by byte
+  sent Data FIS ..       the first dword of the FIS that carried data, and how many bytes of data
+  received NAME FIS ..   a FIS that came, byte by byte; of a Data FIS what is told of one sent
   NAME WORD  BIT, ..     a register that has changed, in hexadecimal, and its bits that are 1
   slot T PHASE           each slot that is owned: issued, accepted, rejected, broken, held or done
 

@@ -29,6 +29,7 @@ use Rattle.ahci_jobs.specs.RunJobs.{EndsRun, RunsJobs}
 use Rattle.ahci_jobs.specs.declared.form.Form.{Form}
 use Rattle.ahci_jobs.specs.declared.form.Form.TheVariants as form
 use Rattle.ahci_replay.specs.Transcript.{Replayed, ReplayedTo, answers_alone}
+use Rattle.ahci_trace.specs.Closing.{TracedTo}
 use Rattle.ahci_trace.specs.Json.{json_line}
 use Rattle.ahci_trace.specs.Text.{trace_text}
 use Rattle.ata_pages.specs.Output.{identify_output, log_output}
@@ -100,7 +101,7 @@ Does Replay s outcome =
 Does (Trace false) s outcome =
     Did (Replayed trace_text s.had s.left s.held s.holds) of_script (ReplayedTo trace_text s.had s.left s.held s.holds) outcome
 Does (Trace true) s outcome =
-    Did (Replayed json_line s.had s.left s.held s.holds) of_script (ReplayedTo json_line s.had s.left s.held s.holds) outcome
+    Did (Replayed json_line s.had s.left s.held s.holds) of_script (TracedTo s.had s.left s.held s.holds) outcome
 Does (Check jobs json) s outcome = DidCheck (form_of_check json) (judge_of jobs) s outcome
 Does (Draw from to) s outcome =
     Did (Drawn from to s.had s.left s.held s.holds) of_script (DrawnTo from to s.had s.left s.held s.holds) outcome

@@ -6,6 +6,7 @@ ghost use Rattle.ahci_check.specs.declared.place.Place.TheVariants.{BeforeDisk};
 ghost use Rattle.ahci_cli.specs.Faults.{IsFaultOf, of_check, of_script};
 ghost use Rattle.ahci_draw.specs.Drawn.{Drawn, DrawnTo};
 ghost use Rattle.ahci_replay.specs.Transcript.{Replayed, ReplayedTo, answers_alone};
+ghost use Rattle.ahci_trace.specs.Closing.{TracedTo};
 ghost use Rattle.ahci_trace.specs.Json.{json_line};
 ghost use Rattle.ahci_trace.specs.Text.{trace_text};
 
@@ -47,7 +48,7 @@ pub fn trace_json<R: Read, W: Write, A: Allocator + Copy>(
     writer: &mut W,
 ) -> Result<(), CliFault>
     ensures ok { OnOk result (Replayed json_line (R.remaining reader.old) (R.remaining reader.new) (W.contents writer.old) (W.contents writer.new)) }
-    ensures err { IfErr result (IsFaultOf of_script (ReplayedTo json_line (R.remaining reader.old) (R.remaining reader.new)
+    ensures err { IfErr result (IsFaultOf of_script (TracedTo (R.remaining reader.old) (R.remaining reader.new)
         (W.contents writer.old) (W.contents writer.new))) }
 {
     Ok(ahci_trace::trace_json(alloc, reader, writer)?)

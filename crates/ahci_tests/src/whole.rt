@@ -19,6 +19,22 @@ const GOOD: &[u8] = b"disk 8 4\nwrite 0 3 1 aa\n";
 /// The entries 0 to 3: an issue, an acceptance, a completion and a collection.
 const STORY: &[u8] = b"disk 8 4\nwrite 0 3 1 aa\naccept 0\nserve 0\ncollect 0 0\n";
 
+/// A read of 17 sectors, whose data are 8,704 bytes and take two Data FISes, and a write of one, served in this order.
+const TOGETHER: &[u8] = b"disk 40 2\nwrite 0 20 1 aa\nread 1 0 17\naccept 1\naccept 0\nserve 1 0\n";
+
+const DATA_FISES: &str = "
+  received DMA Setup FIS 41 20 00 00 01 00 00 00 00 00 00 00 00 00 00 00 00 00 00 00 00 22 00 00 00 00 00 00
+  received Data FIS 46 00 00 00, 8192 bytes
+  received Data FIS 46 00 00 00, 512 bytes
+  received DMA Setup FIS 41 00 00 00 00 00 00 00 00 00 00 00 00 00 00 00 00 00 00 00 00 02 00 00 00 00 00 00
+  received DMA Activate FIS 39 00 00 00
+  sent Data FIS 46 00 00 00, 512 bytes
+  received Set Device Bits FIS a1 40 40 00 03 00 00 00
+";
+
+const TRANSFERS: &str =
+    "\"transfers\":[{\"tag\":1,\"write\":false,\"dma_setup\":\"41200000010000000000000000000000000000000022000000000000\",\"data\":[8192,512]},{\"tag\":0,\"write\":true,\"dma_setup\":\"41000000000000000000000000000000000000000002000000000000\",\"data\":[512]}],\"received\":{\"dma_setup\":\"41000000000000000000000000000000000000000002000000000000\",\"set_device_bits\":\"a140400003000000\"}";
+
 const BAD: &[u8] = b"disk 8 4\nnonsense\njournal\n";
 
 const JOBS: &[u8] = b"write 0 2 11\nread 9 1\n";
@@ -51,7 +67,7 @@ recover
 collect 0 8
 ";
 
-static CASES: [Case; 44] = [
+static CASES: [Case; 46] = [
     (
         "ahci replay",
         GOOD,
@@ -86,10 +102,12 @@ static CASES: [Case; 44] = [
     (
         "ahci trace --json",
         BAD,
-        Part("{\"answer\":\"disk 8 4\""),
+        Part("\n{\"fault\":\"not understood\",\"line\":2}\n"),
         BAD_LINE,
         1,
     ),
+    ("ahci trace", TOGETHER, Part(DATA_FISES), NOTHING, 0),
+    ("ahci trace --json", TOGETHER, Part(TRANSFERS), NOTHING, 0),
     ("ahci check", GOOD, NOTHING, NOTHING, 0),
     ("ahci check", BAD, Part("line 2, column 1: "), NOTHING, 1),
     (

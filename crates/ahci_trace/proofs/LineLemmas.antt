@@ -16,13 +16,17 @@ use Rattle.ncq_journal.specs.declared.phase.Phase.{Phase}
 use Rattle.ncq_journal.specs.declared.phase.Phase.TheVariants.{Free, Issued, Accepted, Rejected, Broken, Held, Done}
 use Rattle.ncq_journal.specs.declared.plain.Plain.{Plain}
 use Rattle.ncq_journal.specs.declared.plain.Plain.TheVariants.{Identify, Flush, ReadLog}
+use Rattle.ncq_core.specs.DiskFis.{activate_bytes, setup_bytes}
+use Rattle.sata_fis.specs.Encoding.{data_head_bytes}
+use Rattle.sata_fis.specs.Fields.{QueuedFields}
 use Rattle.word_bits.specs.Places.{bits, has_place}
 use Rattle.ahci_trace.specs.Lines.{AreNotes, KeepsAnswers, Noted, a_note, an_answer, is_line, no_answer, no_note}
 use Rattle.ahci_trace.specs.Mark.{mark_of}
 use Rattle.ahci_trace.specs.Names.{Named, bits_of, bits_text, name_of, name_text, names_text, separator}
 use Rattle.ahci_trace.specs.Sent.{SentBytes}
-use Rattle.ahci_trace.specs.Text.{bytes_text, change_text, details_text, direction, entry_text, fis_text, kind_name, named_text, phase_name, plain_name, prdt_text, received_text, sent_text, slot_text, told_text, trace_notes, what_text}
+use Rattle.ahci_trace.specs.Text.{bytes_text, change_text, data_line, data_text, details_text, direction, entry_text, fis_text, kind_name, named_text, page_text, phase_name, plain_name, prdt_text, received_text, sent_text, slot_text, told_text, trace_notes, transfer_text, what_text}
 use Rattle.ahci_trace.specs.Trace.{Told, told_of}
+use Rattle.ahci_trace.specs.Transfers.{payloads_of}
 use Rattle.ahci_trace.specs.declared.appended.Appended.{Appended}
 use Rattle.ahci_trace.specs.declared.appended.Happened.{Happened}
 use Rattle.ahci_trace.specs.declared.appended.Happened.TheVariants as what
@@ -218,12 +222,37 @@ fis_notes : (name : List ℕ) (fis : Option (List ℕ)) → is_line name ≡ tru
 fis_notes name None h = no_note
 fis_notes name (Some bytes) h = named_notes name bytes h
 
+-- a Data FIS
+data_notes : (name : List ℕ) (bytes : ℕ) → is_line name ≡ true → AreNotes (data_line (32 ∷ 32 ∷ name) bytes)
+data_notes name bytes h =
+    indented (name ++ (bytes_text data_head_bytes ++ (codes ", " ++ (decimal bytes ++ (codes " bytes" ++ 10 ∷ [])))))
+    (behind name _ h (behind (bytes_text data_head_bytes) _ (bytes-line data_head_bytes) (behind (codes ", ") _ refl
+    (behind (decimal bytes) _ (decimal-line bytes) (behind (codes " bytes") _ refl feed)))))
+
+moved_notes : (write : Bool) (bytes : ℕ) → AreNotes (data_text write bytes)
+moved_notes true bytes =
+    AreNotes-append (named_text (codes "  received DMA Activate FIS") activate_bytes) _ (named_notes (codes "received DMA Activate FIS") activate_bytes refl)
+    (data_notes (codes "sent Data FIS") bytes refl)
+moved_notes false bytes = data_notes (codes "received Data FIS") bytes refl
+
+transfer_notes : (command : QueuedFields) → AreNotes (transfer_text command)
+unfolding transfer_text
+transfer_notes command =
+    AreNotes-append (named_text (codes "  received DMA Setup FIS") (setup_bytes command)) _
+    (named_notes (codes "received DMA Setup FIS") (setup_bytes command) refl)
+    (flat_notes (data_text command.write) (moved_notes command.write) (payloads_of command))
+
+page_notes : (pio : Option (List ℕ)) → AreNotes (page_text pio)
+page_notes None = no_note
+page_notes (Some bytes) =
+    AreNotes-append (named_text (codes "  received PIO Setup FIS") bytes) _ (named_notes (codes "received PIO Setup FIS") bytes refl)
+    (data_notes (codes "received Data FIS") 512 refl)
+
 received_notes : (r : Received) → AreNotes (received_text r)
 received_notes r =
-    AreNotes-append (fis_text (codes "  received DMA Setup FIS") r.setup) _ (fis_notes (codes "received DMA Setup FIS") r.setup refl)
-    (AreNotes-append (fis_text (codes "  received PIO Setup FIS") r.pio) _ (fis_notes (codes "received PIO Setup FIS") r.pio refl)
+    AreNotes-append (page_text r.pio) _ (page_notes r.pio)
     (AreNotes-append (fis_text (codes "  received D2H Register FIS") r.register) _ (fis_notes (codes "received D2H Register FIS") r.register refl)
-    (fis_notes (codes "received Set Device Bits FIS") r.bits refl)))
+    (fis_notes (codes "received Set Device Bits FIS") r.bits refl))
 
 change_notes : (c : Change) → AreNotes (change_text c)
 change_notes c =
@@ -240,8 +269,9 @@ told_notes : (t : Told) → AreNotes (told_text t)
 told_notes t =
     AreNotes-append (flat_map entry_text t.entries) _ (flat_notes entry_text entry_notes t.entries)
     (AreNotes-append (sent_text t.sent) _ (sent_notes t.sent)
+    (AreNotes-append (flat_map transfer_text t.served) _ (flat_notes transfer_text transfer_notes t.served)
     (AreNotes-append (received_text t.received) _ (received_notes t.received)
-    (AreNotes-append (flat_map change_text t.changes) _ (flat_notes change_text change_notes t.changes) (flat_notes slot_text slot_notes t.slots))))
+    (AreNotes-append (flat_map change_text t.changes) _ (flat_notes change_text change_notes t.changes) (flat_notes slot_text slot_notes t.slots)))))
 
 notes_are : (before after : Option PortView) → AreNotes (trace_notes before after)
 notes_are before None = no_note

@@ -7,13 +7,16 @@ use Rattle.ahci_port.specs.PortView.{PortView}
 use Rattle.ahci_replay.specs.Transcript.{Telling}
 use Rattle.json.specs.Print.{print}
 use Rattle.json.specs.Token.{Token, begin_object, end_object, begin_array, end_array, key, string, number, boolean, null}
+use Rattle.ncq_core.specs.DiskFis.{setup_bytes}
 use Rattle.ncq_journal.specs.declared.plain.Plain.TheVariants.{ReadLog}
+use Rattle.sata_fis.specs.Fields.{QueuedFields}
 use Rattle.word_bits.specs.Places.{bits, has_place}
 use Rattle.ahci_trace.specs.Mark.{mark_of}
 use Rattle.ahci_trace.specs.Names.{Named, bits_of, name_of}
 use Rattle.ahci_trace.specs.Text.{kind_name, phase_name}
 use Rattle.ahci_trace.specs.Sent.{SentBytes}
 use Rattle.ahci_trace.specs.Trace.{Told, nothing_told, told_of}
+use Rattle.ahci_trace.specs.Transfers.{payloads_of}
 use Rattle.ahci_trace.specs.declared.appended.Appended.{Appended}
 use Rattle.ahci_trace.specs.declared.appended.Happened.{Happened}
 use Rattle.ahci_trace.specs.declared.appended.Happened.TheVariants as what
@@ -75,6 +78,16 @@ sent_value None = null ∷ []
 sent_value (Some sent) =
     object (text_member (codes "header") (hex_text sent.header) ++ (text_member (codes "cfis") (hex_text sent.cfis) ++ list_member (codes "prdt") (flat_map prdt_value sent.entries)))
 
+-- the number of the bytes of data in a Data FIS
+abbrev pub payload_value : ℕ → List Token
+payload_value bytes = number (decimal bytes) ∷ []
+
+-- how a command's data were carried; in a write a DMA Activate FIS came before each Data FIS
+unfoldable pub transfer_object : QueuedFields → List Token
+transfer_object command =
+    object (number_member (codes "tag") command.tag ++ (boolean_member (codes "write") command.write
+    ++ (text_member (codes "dma_setup") (hex_text (setup_bytes command)) ++ list_member (codes "data") (flat_map payload_value (payloads_of command)))))
+
 -- a FIS by its name, where one came
 abbrev pub fis_member : List ℕ → Option (List ℕ) → List Token
 fis_member name None = []
@@ -113,8 +126,8 @@ slot_object slot = object (number_member (codes "tag") slot.tag ++ text_member (
 unfoldable pub told_members : Told → List Token
 told_members t =
     list_member (codes "entries") (flat_map entry_object t.entries) ++ (key (codes "sent") ∷ sent_value t.sent
-    ++ (key (codes "received") ∷ received_object t.received ++ (list_member (codes "registers") (flat_map change_object t.changes)
-    ++ list_member (codes "slots") (flat_map slot_object t.slots))))
+    ++ (list_member (codes "transfers") (flat_map transfer_object t.served) ++ (key (codes "received") ∷ received_object t.received
+    ++ (list_member (codes "registers") (flat_map change_object t.changes) ++ list_member (codes "slots") (flat_map slot_object t.slots)))))
 
 -- a command's answer, and what it did
 unfoldable pub command_object : Said → Told → List Token

@@ -3,6 +3,7 @@ pub mod Mark
 pub mod Entries
 pub mod Sent
 pub mod Received
+pub mod Transfers
 pub mod Changes
 pub mod Owned
 pub mod Trace
@@ -10,3 +11,4 @@ pub mod Names
 pub mod Text
 pub mod Json
 pub mod Lines
+pub mod Closing

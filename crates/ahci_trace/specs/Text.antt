@@ -4,14 +4,18 @@ use Rattle.std.specs.Fmt.{decimal}
 use Rattle.ahci_port.specs.PortView.{PortView}
 use Rattle.ahci_replay.specs.Transcript.{Telling}
 use Rattle.ahci_script.specs.Answers.{answer_text, hex_of}
+use Rattle.ncq_core.specs.DiskFis.{activate_bytes, setup_bytes}
 use Rattle.ncq_journal.specs.declared.phase.Phase.{Phase}
 use Rattle.ncq_journal.specs.declared.phase.Phase.TheVariants.{Free, Issued, Accepted, Rejected, Broken, Held, Done}
 use Rattle.ncq_journal.specs.declared.plain.Plain.{Plain}
 use Rattle.ncq_journal.specs.declared.plain.Plain.TheVariants.{Identify, Flush, ReadLog}
+use Rattle.sata_fis.specs.Encoding.{data_head_bytes}
+use Rattle.sata_fis.specs.Fields.{QueuedFields}
 use Rattle.ahci_trace.specs.Mark.{mark_of}
 use Rattle.ahci_trace.specs.Names.{bits_text, name_of}
 use Rattle.ahci_trace.specs.Sent.{SentBytes}
 use Rattle.ahci_trace.specs.Trace.{Told, told_of}
+use Rattle.ahci_trace.specs.Transfers.{payloads_of}
 use Rattle.ahci_trace.specs.declared.appended.Appended.{Appended}
 use Rattle.ahci_trace.specs.declared.appended.Happened.{Happened}
 use Rattle.ahci_trace.specs.declared.appended.Happened.TheVariants as what
@@ -95,11 +99,29 @@ abbrev pub fis_text : List ℕ → Option (List ℕ) → List ℕ
 fis_text name None = []
 fis_text name (Some bytes) = named_text name bytes
 
--- the FISes that came, by the titles of Serial ATA
+-- a Data FIS: its first dword, and how many bytes of data follow it
+abbrev pub data_line : List ℕ → ℕ → List ℕ
+data_line name bytes = name ++ (bytes_text data_head_bytes ++ (codes ", " ++ (decimal bytes ++ (codes " bytes" ++ 10 ∷ []))))
+
+-- a Data FIS of a command: in a write the device asks for it first
+abbrev pub data_text : Bool → ℕ → List ℕ
+data_text true bytes = named_text (codes "  received DMA Activate FIS") activate_bytes ++ data_line (codes "  sent Data FIS") bytes
+data_text false bytes = data_line (codes "  received Data FIS") bytes
+
+-- the FISes that carry the data of a command
+unfoldable pub transfer_text : QueuedFields → List ℕ
+transfer_text command =
+    named_text (codes "  received DMA Setup FIS") (setup_bytes command) ++ flat_map (data_text command.write) (payloads_of command)
+
+-- a PIO Setup FIS, and the Data FIS with the page that it announces
+abbrev pub page_text : Option (List ℕ) → List ℕ
+page_text None = []
+page_text (Some bytes) = named_text (codes "  received PIO Setup FIS") bytes ++ data_line (codes "  received Data FIS") 512
+
+-- the other FISes that came, by the titles of Serial ATA
 abbrev pub received_text : Received → List ℕ
 received_text r =
-    fis_text (codes "  received DMA Setup FIS") r.setup ++ (fis_text (codes "  received PIO Setup FIS") r.pio
-    ++ (fis_text (codes "  received D2H Register FIS") r.register ++ fis_text (codes "  received Set Device Bits FIS") r.bits))
+    page_text r.pio ++ (fis_text (codes "  received D2H Register FIS") r.register ++ fis_text (codes "  received Set Device Bits FIS") r.bits)
 
 -- a register's word, and the names of its bits
 abbrev pub change_text : Change → List ℕ
@@ -113,7 +135,8 @@ slot_text slot = codes "  slot " ++ (decimal slot.tag ++ (codes " " ++ (phase_na
 -- the lines of a trace
 abbrev pub told_text : Told → List ℕ
 told_text t =
-    flat_map entry_text t.entries ++ (sent_text t.sent ++ (received_text t.received ++ (flat_map change_text t.changes ++ flat_map slot_text t.slots)))
+    flat_map entry_text t.entries ++ (sent_text t.sent ++ (flat_map transfer_text t.served
+    ++ (received_text t.received ++ (flat_map change_text t.changes ++ flat_map slot_text t.slots))))
 
 -- the notes behind the answer of a command that has found the first port, and has left the second; there are none before the disk
 abbrev pub trace_notes : Option PortView → Option PortView → List ℕ

@@ -2,11 +2,13 @@
 use Rattle.std.specs.Prelude.{List, [], None, Option}
 use Rattle.std.specs.Option.{option_map}
 use Rattle.ahci_port.specs.PortView.{PortView}
+use Rattle.sata_fis.specs.Fields.{QueuedFields}
 use Rattle.ahci_trace.specs.Changes.{changes}
 use Rattle.ahci_trace.specs.Entries.{new_entries, newest}
 use Rattle.ahci_trace.specs.Owned.{owned_slots}
 use Rattle.ahci_trace.specs.Received.{nothing_received, received_by}
 use Rattle.ahci_trace.specs.Sent.{SentBytes, sent_by, shown}
+use Rattle.ahci_trace.specs.Transfers.{served}
 use Rattle.ahci_trace.specs.declared.appended.Appended.{Appended}
 use Rattle.ahci_trace.specs.declared.change.Change.{Change}
 use Rattle.ahci_trace.specs.declared.mark.Mark.{Mark}
@@ -17,6 +19,7 @@ use Rattle.ahci_trace.specs.declared.command_trace.CommandTrace.{CommandTrace}
 pub record Told : Type 0 where
   pub entries : List Appended
   pub sent : Option SentBytes
+  pub served : List QueuedFields
   pub received : Received
   pub changes : List Change
   pub slots : List OwnedSlot
@@ -26,6 +29,7 @@ abbrev pub told : {A : _} → CommandTrace A → Told
 told trace = record {
   entries = trace.entries.items;
   sent = option_map shown trace.sent;
+  served = trace.served.items;
   received = trace.received;
   changes = trace.changes.items;
   slots = trace.slots.items;
@@ -36,6 +40,7 @@ abbrev pub told_of : Mark → PortView → Told
 told_of mark port = record {
   entries = new_entries mark port.first port.past;
   sent = sent_by (newest mark port.first port.past) port;
+  served = served port (new_entries mark port.first port.past);
   received = received_by (newest mark port.first port.past) port;
   changes = changes mark.words port.registers;
   slots = owned_slots port.past;
@@ -43,4 +48,4 @@ told_of mark port = record {
 
 -- nothing, before the disk
 abbrev pub nothing_told : Told
-nothing_told = record { entries = []; sent = None; received = nothing_received; changes = []; slots = [] }
+nothing_told = record { entries = []; sent = None; served = []; received = nothing_received; changes = []; slots = [] }

@@ -9,11 +9,12 @@ ghost use Rattle.ahci_trace.specs.Trace.{told};
 mod answer;
 mod entry;
 mod hex;
-mod member;
+pub(crate) mod member;
 mod received;
 mod register;
 mod sent;
 mod slot;
+mod transfer;
 
 use crate::command_trace::CommandTrace;
 use ahci_script::ScriptAnswer;
@@ -25,6 +26,7 @@ use register::put_registers;
 use sent::put_sent;
 use slot::put_slots;
 use std::alloc::{AllocError, Allocator};
+use transfer::put_transfers;
 
 /// The text of an object for an answer and what its command did.
 pub(crate) fn json_text<A: Allocator + Copy, B: Allocator>(
@@ -69,6 +71,7 @@ fn put_told<A: Allocator + Copy>(
     put_entries(writer, &trace.entries)?;
     writer.key("sent")?;
     put_sent(writer, alloc, &trace.sent)?;
+    put_transfers(writer, alloc, &trace.served)?;
     writer.key("received")?;
     put_received(writer, alloc, &trace.received)?;
     put_registers(writer, &trace.changes)?;

@@ -7,7 +7,9 @@ use crate::mark::Mark;
 use crate::owned::{OwnedSlot, owned_slots};
 use crate::received::{Received, nothing_received, received_by};
 use crate::sent::{SentCommand, sent_by};
+use crate::served::served;
 use ahci_port::Port;
+use sata_fis::Queued;
 use std::alloc::{AllocError, Allocator, Global};
 
 /// What one command did to a port.
@@ -18,7 +20,9 @@ pub struct CommandTrace<A: Allocator = Global> {
     pub entries: Vec<Appended, A>,
     /// The command that was sent to the device.
     pub sent: Option<SentCommand<A>>,
-    /// The FISes that came.
+    /// The commands whose data have moved, in the order in which they were served.
+    pub served: Vec<Queued, A>,
+    /// The other FISes that came, and the last DMA Setup FIS.
     pub received: Received,
     /// The registers that changed, in the order of their offsets.
     pub changes: Vec<Change, A>,
@@ -34,6 +38,7 @@ impl<A: Allocator + Copy> CommandTrace<A> {
         CommandTrace {
             entries: Vec::new(alloc),
             sent: None,
+            served: Vec::new(alloc),
             received: nothing_received(),
             changes: Vec::new(alloc),
             slots: Vec::new(alloc),
@@ -50,9 +55,12 @@ impl<A: Allocator + Copy> CommandTrace<A> {
     {
         let journal = port.journal();
         let newest = newest(mark, journal);
+        let entries = new_entries(alloc, mark, journal)?;
+        let served = served(alloc, &entries, port)?;
         Ok(CommandTrace {
-            entries: new_entries(alloc, mark, journal)?,
+            entries,
             sent: sent_by(alloc, newest, port)?,
+            served,
             received: received_by(newest, port),
             changes: changes(alloc, mark, port)?,
             slots: owned_slots(alloc, port)?,

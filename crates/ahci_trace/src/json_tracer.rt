@@ -1,8 +1,10 @@
 ghost use Rattle.std.specs.Prelude.{IfErr, OnOk};
-ghost use Rattle.ahci_replay.specs.Transcript.{Replayed, ReplayedTo};
+ghost use Rattle.ahci_replay.specs.Transcript.{Replayed};
+ghost use Rattle.ahci_trace.specs.Closing.{TracedTo};
 ghost use Rattle.ahci_trace.specs.Json.{json_line};
 
 use crate::as_json::json_text;
+use crate::closing::close;
 use crate::command_trace::CommandTrace;
 use crate::mark::Mark;
 use ahci_port::Port;
@@ -12,7 +14,7 @@ use std::alloc::{AllocError, Allocator};
 use std::io::{Read, Write};
 
 /// Runs the script that the reader gives as `replay` does, and for each command writes one JSON object on a line: its answer,
-/// and what it did to the port. Faults are those of `replay`.
+/// and what it did to the port. At a fault a last object tells it, where memory and output serve.
 ///
 /// # Errors
 /// Those of `replay`.
@@ -24,10 +26,13 @@ pub fn trace_json<R: Read, W: Write, A: Allocator + Copy>(
     ensures ok { OnOk result (Replayed json_line (R.remaining reader.old) (R.remaining reader.new)
         (W.contents writer.old) (W.contents writer.new)) }
     ensures err { IfErr result
-        (ReplayedTo json_line (R.remaining reader.old) (R.remaining reader.new)
+        (TracedTo (R.remaining reader.old) (R.remaining reader.new)
         (W.contents writer.old) (W.contents writer.new)) }
 {
-    replay_with(alloc, &JsonTracer { alloc }, reader, writer)
+    match replay_with(alloc, &JsonTracer { alloc }, reader, writer) {
+        Ok(()) => Ok(()),
+        Err(fault) => Err(close(alloc, fault, writer)),
+    }
 }
 
 /// Tells each answer, and what its command did, as one JSON object.

@@ -5,6 +5,7 @@
 mod appended;
 mod as_json;
 mod change;
+mod closing;
 mod command_trace;
 mod json_tracer;
 mod kinds;
@@ -15,9 +16,11 @@ mod names;
 mod owned;
 mod received;
 mod sent;
+mod served;
 mod shown;
 mod text;
 mod tracer;
+mod transfer;
 mod words;
 
 pub use appended::{Appended, Happened};

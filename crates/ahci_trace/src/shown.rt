@@ -4,7 +4,7 @@ ghost use Rattle.std.specs.Prelude.{◌≡◌, ◌++◌, OnOk, IfOk};
 ghost use Rattle.std.specs.List.{flat_map};
 ghost use Rattle.std.specs.Option.{option_map};
 ghost use Rattle.ahci_trace.specs.Sent.{shown};
-ghost use Rattle.ahci_trace.specs.Text.{change_text, command_text, details_text, direction, entry_text, fis_text, prdt_text, received_text, sent_text, slot_text, told_text, what_text};
+ghost use Rattle.ahci_trace.specs.Text.{change_text, command_text, details_text, direction, entry_text, fis_text, page_text, prdt_text, received_text, sent_text, slot_text, told_text, what_text};
 ghost use Rattle.ahci_trace.specs.Trace.{told};
 
 use crate::appended::{Appended, Happened};
@@ -16,6 +16,7 @@ use crate::owned::OwnedSlot;
 use crate::received::Received;
 use crate::sent::SentCommand;
 use crate::text::push_named;
+use crate::transfer::{push_data, push_transfers};
 use ahci_script::growing::{push, push_byte, push_number, push_word};
 use std::alloc::{AllocError, Allocator};
 
@@ -29,6 +30,7 @@ pub(crate) fn text_of<A: Allocator + Copy>(
     let mut text = Vec::new(alloc);
     push_entries(&mut text, &trace.entries)?;
     push_sent(&mut text, &trace.sent)?;
+    push_transfers(&mut text, alloc, &trace.served)?;
     push_received(&mut text, &trace.received)?;
     push_changes(&mut text, &trace.changes)?;
     push_slots(&mut text, &trace.slots)?;
@@ -141,11 +143,26 @@ fn push_fis<A: Allocator, const N: usize>(
     }
 }
 
+/// Appends a PIO Setup FIS and the Data FIS of a page, where they came.
+fn push_page<A: Allocator>(
+    text: &mut Vec<u8, A>,
+    setup: &Option<[u8; 20]>,
+) -> Result<(), AllocError>
+    ensures { OnOk result (text.new.items ≡ text.old.items ++ page_text setup.now) }
+{
+    match setup {
+        Some(bytes) => {
+            push_named(text, b"  received PIO Setup FIS", bytes)?;
+            push_data(text, b"  received Data FIS", 512)
+        }
+        None => Ok(()),
+    }
+}
+
 fn push_received<A: Allocator>(text: &mut Vec<u8, A>, received: &Received) -> Result<(), AllocError>
     ensures { OnOk result (text.new.items ≡ text.old.items ++ received_text received.now) }
 {
-    push_fis(text, b"  received DMA Setup FIS", &received.setup)?;
-    push_fis(text, b"  received PIO Setup FIS", &received.pio)?;
+    push_page(text, &received.pio)?;
     push_fis(text, b"  received D2H Register FIS", &received.register)?;
     push_fis(text, b"  received Set Device Bits FIS", &received.bits)
 }
