@@ -119,16 +119,38 @@ class TraceSchema(unittest.TestCase):
             return line
 
         for name, change in [
+            ("no line", lambda it: it.pop("line")),
+            ("line 0", lambda it: it.update(line=0)),
+            ("no command", lambda it: it.pop("command")),
             ("no answer", lambda it: it.pop("answer")),
+            ("no transfers", lambda it: it.pop("transfers")),
             ("a register without the word before", lambda it: it["registers"][0].pop("before")),
             ("a word of seven digits", lambda it: it["registers"][0].update(word="0000004")),
             ("a register that is none", lambda it: it["registers"][0].update(name="PxVS")),
             ("a failure without its error", lambda it: it["entries"][0].pop("error")),
             ("a tag of 32", lambda it: it["slots"][0].update(tag=32)),
             ("another FIS in the place of Set Device Bits", lambda it: it["received"].update(set_device_bits="34" + "0" * 14)),
-            ("a member that is none", lambda it: it.update(line=9)),
+            ("a member that is none", lambda it: it.update(fault="not understood")),
         ]:
             self.assertFalse(self.validator.is_valid(changed(change)), name)
+
+    def test_data_move_in_pieces_of_whole_sectors(self) -> None:
+        moved = next(it for it in self.trace if it["transfers"])
+        for data, fits in (([512], True), ([8192, 512], True), ([], False), ([8704], False), ([4], False)):
+            line = copy.deepcopy(moved)
+            line["transfers"][0]["data"] = data
+            self.assertEqual(fits, self.validator.is_valid(line), data)
+
+    def test_a_fault_may_be_the_last_line(self) -> None:
+        self.assertEqual([{"fault": "not understood", "line": 3}], shown("docs/PROGRAM.md", "fault"))
+        for line, fits in (
+            ({"fault": "not understood", "line": 3}, True),
+            ({"fault": "input failed"}, True),
+            ({"fault": "not understood"}, False),
+            ({"fault": "input failed", "line": 3}, False),
+            ({"fault": "output failed"}, False),
+        ):
+            self.assertEqual(fits, self.validator.is_valid(line), line)
 
 
 if __name__ == "__main__":

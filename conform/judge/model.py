@@ -51,21 +51,23 @@ def sent_of(told: Optional[Dict[str, Any]]) -> Optional[Sent]:
     return Sent(bytes.fromhex(told["header"]), bytes.fromhex(told["cfis"]), [bytes.fromhex(it) for it in told["prdt"]])
 
 
-def step_of(number: int, line: str, told: Dict[str, Any]) -> Step:
+def step_of(told: Dict[str, Any]) -> Step:
     return Step(
-        number, line, told["answer"], told["entries"], sent_of(told["sent"]),
+        told["line"], told["command"], told["answer"], told["entries"], sent_of(told["sent"]),
         {name: bytes.fromhex(text) for name, text in told["received"].items()},
         {it["name"]: int(it["word"], 16) for it in told["registers"]},
         {it["tag"]: it["phase"] for it in told["slots"]},
     )
 
 
-def steps_of(script: str, trace: str) -> List[Step]:
-    """A script's commands beside the objects of its trace, of which there are fewer where the script ends with a fault."""
+def steps_of(trace: str) -> List[Step]:
+    """The commands of a trace. The last object may be that of the fault at which the script ended, which is no command's."""
     steps = []
-    for (number, line), told in zip(commands_of(script), trace.splitlines()):
+    for number, text in enumerate(trace.splitlines(), 1):
         try:
-            steps.append(step_of(number, line, json.loads(told)))
+            told = json.loads(text)
+            if "fault" not in told:
+                steps.append(step_of(told))
         except (ValueError, KeyError, TypeError) as why:
             raise ModelFault(f"line {number} of the model's trace can't be read: {type(why).__name__} {why}") from why
     return steps
@@ -83,7 +85,7 @@ def trace_of(program: str, script: str, seconds: float = 600.0) -> Trace:
     faults = [line for line in said.splitlines() if ": line " in line]
     if ran.returncode != 0 and not (ran.returncode == 1 and faults):
         raise ModelFault(f"the model, {program}, ended with status {ran.returncode}: {(said.splitlines() or ['no text'])[-1]}")
-    steps = steps_of(script, ran.stdout.decode("ascii"))
+    steps = steps_of(ran.stdout.decode("ascii"))
     if not faults and len(steps) != len(commands_of(script)):
         raise ModelFault(f"the model, {program}, answered {len(steps)} of {len(commands_of(script))} lines")
     return Trace(steps, faults[0] if faults else "")

@@ -24,8 +24,7 @@ def text_of(*names: str) -> str:
 
 def stored() -> Trace:
     """The example whose trace is stored as JSON: an error in a queue of three, its recovery, and two reissues."""
-    script = text_of("examples", "error_in_a_queue.ahci")
-    return Trace(steps_of(script, text_of("examples", "error_in_a_queue.json")), "")
+    return Trace(steps_of(text_of("examples", "error_in_a_queue.json")), "")
 
 
 def trace_of(script: str) -> Trace:

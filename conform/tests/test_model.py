@@ -44,6 +44,13 @@ class Programs(unittest.TestCase):
         self.assertEqual(model.trace_of(self.program("echo ahci: line 1: not understood >&2; exit 1"), "hello\n").end, "ahci: line 1: not understood")
 
 
+    def test_the_object_of_a_fault_is_no_command(self) -> None:
+        disk = text_of("examples", "error_in_a_queue.json").splitlines()[0]
+        program = self.program(f"cat <<'END'\n{disk}\n{{\"fault\":\"not understood\",\"line\":6}}\nEND\necho ahci: line 6: not understood >&2; exit 1")
+        trace = model.trace_of(program, "disk 1000 32\nhello\n")
+        self.assertEqual(([(5, "disk 1000 32")], "ahci: line 6: not understood"), ([(it.number, it.line) for it in trace.steps], trace.end))
+
+
 class Traces(unittest.TestCase):
     def test_comments_and_empty_lines_count_as_lines(self) -> None:
         self.assertEqual(model.commands_of("# a\n\ndisk 1 1\njournal\n"), [(3, "disk 1 1"), (4, "journal")])

@@ -220,53 +220,53 @@ skipped : (line : List ℕ) (port : Option PortView) → place_by (place_of port
 skipped line None = refl
 skipped line (Some port) = refl
 
-line_alike : (telling : Telling) (line : List ℕ) (port : Option PortView) (l : Line) (next : Option PortView) (added : List ℕ) → RunsLine telling port l next added
+line_alike : (telling : Telling) (number : ℕ) (line : List ℕ) (port : Option PortView) (l : Line) (next : Option PortView) (added : List ℕ) → RunsLine telling number line port l next added
     → place_by (place_of port) line (Ok l) ≡ place_of next
-line_alike telling line port Skip next added ran = skipped line port ∙ sym (ap place_of ran.0)
-line_alike telling line port (Run c) next added ran = run_alike line port c next ran.said ran.ran
+line_alike telling number line port Skip next added ran = skipped line port ∙ sym (ap place_of ran.0)
+line_alike telling number line port (Run c) next added ran = run_alike line port c next ran.said ran.ran
 
 -- what was taken is the line itself
 is_taken : (b : Bool) (x l : Line) → cond b (Some x) None ≡ Some l → x ≡ l
 is_taken true x l is = ap (λ o. unwrap_or o x) is
 is_taken false x l is = cc
 
-spelled_alike : (telling : Telling) (line : List ℕ) (port : Option PortView) (read : Result Line Breach) (l : Line) (next : Option PortView) (added : List ℕ)
-    → option_and_then (placed_by port) (result_ok read) ≡ Some l → RunsLine telling port l next added → place_by (place_of port) line read ≡ place_of next
-spelled_alike telling line port (Err breach) l next added is ran = cc
-spelled_alike telling line port (Ok Skip) l next added is ran =
-    ap (λ x. place_by (place_of port) line (Ok x)) (is_taken true Skip l is) ∙ line_alike telling line port l next added ran
-spelled_alike telling line port (Ok (Run c)) l next added is ran =
-    ap (λ x. place_by (place_of port) line (Ok x)) (is_taken (replay.is_in_place port c) (Run c) l is) ∙ line_alike telling line port l next added ran
+spelled_alike : (telling : Telling) (number : ℕ) (line : List ℕ) (port : Option PortView) (read : Result Line Breach) (l : Line) (next : Option PortView) (added : List ℕ)
+    → option_and_then (placed_by port) (result_ok read) ≡ Some l → RunsLine telling number line port l next added → place_by (place_of port) line read ≡ place_of next
+spelled_alike telling number line port (Err breach) l next added is ran = cc
+spelled_alike telling number line port (Ok Skip) l next added is ran =
+    ap (λ x. place_by (place_of port) line (Ok x)) (is_taken true Skip l is) ∙ line_alike telling number line port l next added ran
+spelled_alike telling number line port (Ok (Run c)) l next added is ran =
+    ap (λ x. place_by (place_of port) line (Ok x)) (is_taken (replay.is_in_place port c) (Run c) l is) ∙ line_alike telling number line port l next added ran
 
-after_alike : (telling : Telling) (line : List ℕ) (port : Option PortView) (l : Line) (next : Option PortView) (added : List ℕ)
-    → placed port line ≡ Some l → RunsLine telling port l next added → place_after (place_of port) line ≡ place_of next
-after_alike telling line port l next added is ran = spelled_alike telling line port (reading line) l next added is ran
+after_alike : (telling : Telling) (number : ℕ) (line : List ℕ) (port : Option PortView) (l : Line) (next : Option PortView) (added : List ℕ)
+    → placed port line ≡ Some l → RunsLine telling number line port l next added → place_after (place_of port) line ≡ place_of next
+after_alike telling number line port l next added is ran = spelled_alike telling number line port (reading line) l next added is ran
 
-stand_alike : (telling : Telling) (port last : Option PortView) (lines : List (List ℕ)) (text : List ℕ) (sheet : Sheet) (number : ℕ) → Adds telling port lines text last
+stand_alike : (telling : Telling) (port last : Option PortView) (lines : List (List ℕ)) (text : List ℕ) (sheet : Sheet) (number : ℕ) → Adds telling number port lines text last
     → sheet.judge ≡ OfScript (place_of port) → (judged_from number sheet lines).judge ≡ OfScript (place_of last)
-stand_alike telling port last lines text sheet number (no_line same) is = is
-stand_alike telling port last lines text sheet number (one_more same first l next added more rest end own spelled ran others) is =
+stand_alike telling port last lines text sheet number (no_line n same) is = is
+stand_alike telling port last lines text sheet number (one_more n same first l next added more rest end own spelled ran others) is =
     stand_alike telling next last more rest (with_next sheet number (whole first)) (number + 1) others
-    (ap (λ j. judge_after j first) is ∙ ap OfScript (after_alike telling first port l next added spelled ran))
+    (ap (λ j. judge_after j first) is ∙ ap OfScript (after_alike telling number first port l next added spelled ran))
 
 -- ---- the first line at which replay ends
 
 -- lines that replay has answered have no complaint that ends it: the first such one stands after them
-passed : (telling : Telling) (port last : Option PortView) (lines : List (List ℕ)) (text : List ℕ) (number : ℕ) (tail : List (List ℕ)) → Adds telling port lines text last
+passed : (telling : Telling) (port last : Option PortView) (lines : List (List ℕ)) (text : List ℕ) (number : ℕ) (tail : List (List ℕ)) → Adds telling number port lines text last
     → first_wrong (place_of port) number (lines ++ tail) ≡ first_wrong (place_of last) (number + length lines) tail
-passed telling port last lines text number tail (no_line same) = ap (λ n. first_wrong (place_of port) n tail) (omega arith)
-passed telling port last lines text number tail (one_more same first l next added more rest end own spelled ran others) =
+passed telling port last lines text number tail (no_line n same) = ap (λ n. first_wrong (place_of port) n tail) (omega arith)
+passed telling port last lines text number tail (one_more n same first l next added more rest end own spelled ran others) =
     let stops = stop_alike port number first ∙ ap is_none spelled in
     cond-false (ends_replay (complaint_in (place_of port) number first)) (Some number) _ stops
-    ∙ ap (λ p. first_wrong p (number + 1) (more ++ tail)) (after_alike telling first port l next added spelled ran)
+    ∙ ap (λ p. first_wrong p (number + 1) (more ++ tail)) (after_alike telling number first port l next added spelled ran)
     ∙ passed telling next last more rest (number + 1) tail others
     ∙ ap (λ n. first_wrong (place_of last) n tail) (let e : number + 1 + length more ≡ number + suc (length more) = omega arith in e)
 
-none_ends : (telling : Telling) (last : Option PortView) (lines : List (List ℕ)) (text : List ℕ) → Adds telling None lines text last → first_wrong BeforeDisk 1 lines ≡ None
+none_ends : (telling : Telling) (last : Option PortView) (lines : List (List ℕ)) (text : List ℕ) → Adds telling 1 None lines text last → first_wrong BeforeDisk 1 lines ≡ None
 none_ends telling last lines text answered =
     ap (first_wrong BeforeDisk 1) (sym (append-nil lines)) ∙ passed telling None last lines text 1 [] answered
 
-first_ends : (telling : Telling) (last : Option PortView) (lines : List (List ℕ)) (text line : List ℕ) (more : List (List ℕ)) → Adds telling None lines text last → placed last line ≡ None
+first_ends : (telling : Telling) (last : Option PortView) (lines : List (List ℕ)) (text line : List ℕ) (more : List (List ℕ)) → Adds telling 1 None lines text last → placed last line ≡ None
     → first_wrong BeforeDisk 1 (lines ++ line ∷ more) ≡ Some (length lines + 1)
 first_ends telling last lines text line more answered wrong =
     let number = 1 + length lines in

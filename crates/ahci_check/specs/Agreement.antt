@@ -20,17 +20,17 @@ StopAlike = (port : Option PortView) (number : ℕ) (line : List ℕ) → ends_r
 -- after lines that replay has answered, the check's next line stands where replay's does
 abbrev pub StandAlike : Type 0
 StandAlike = (telling : Telling) (port last : Option PortView) (lines : List (List ℕ)) (text : List ℕ) (sheet : Sheet) (number : ℕ)
-    → Adds telling port lines text last → sheet.judge ≡ OfScript (place_of port) → (judged_from number sheet lines).judge ≡ OfScript (place_of last)
+    → Adds telling number port lines text last → sheet.judge ≡ OfScript (place_of port) → (judged_from number sheet lines).judge ≡ OfScript (place_of last)
 
 -- replay has answered all lines: none has such a complaint
 abbrev pub NoneEnds : Type 0
 NoneEnds = (telling : Telling) (last : Option PortView) (lines : List (List ℕ)) (text : List ℕ)
-    → Adds telling None lines text last → first_wrong BeforeDisk 1 lines ≡ None
+    → Adds telling 1 None lines text last → first_wrong BeforeDisk 1 lines ≡ None
 
 -- replay has answered lines, and ends at the next: it is the first line with such a complaint, whatever comes after it
 abbrev pub FirstEnds : Type 0
 FirstEnds = (telling : Telling) (last : Option PortView) (lines : List (List ℕ)) (text line : List ℕ) (more : List (List ℕ))
-    → Adds telling None lines text last → placed last line ≡ None → first_wrong BeforeDisk 1 (lines ++ line ∷ more) ≡ Some (length lines + 1)
+    → Adds telling 1 None lines text last → placed last line ≡ None → first_wrong BeforeDisk 1 (lines ++ line ∷ more) ≡ Some (length lines + 1)
 
 pub record CheckAgrees : Type 0 where
   pub stop : StopAlike

@@ -167,27 +167,27 @@ of_added before (Some port) =
     let mark = mark_of before in
     of_entries port.first port.past mark.phases mark.writes (max mark.end port.first) (next_number port - max mark.end port.first)
 
-of_answer : (said : Said) (before after : Option PortView) → OfSheet (sheet_text said before after)
-of_answer said before after = of_both (added_between before after) (10 ∷ []) (of_added before after) refl
+of_answer : (number : ℕ) (line : List ℕ) (said : Said) (before after : Option PortView) → OfSheet (sheet_text number line said before after)
+of_answer number line said before after = of_both (added_between before after) (10 ∷ []) (of_added before after) refl
 
-of_run : (port : Option PortView) (l : Line) (next : Option PortView) (added : List ℕ) → RunsLine sheet_text port l next added → OfSheet added
-of_run port line.Skip next added ran = subst OfSheet (sym ran.1) refl
-of_run port (line.Run command) next added ran = subst OfSheet (sym ran.spelled) (of_answer ran.said port next)
+of_run : (number : ℕ) (first : List ℕ) (port : Option PortView) (l : Line) (next : Option PortView) (added : List ℕ) → RunsLine sheet_text number first port l next added → OfSheet added
+of_run number first port line.Skip next added ran = subst OfSheet (sym ran.1) refl
+of_run number first port (line.Run command) next added ran = subst OfSheet (sym ran.spelled) (of_answer number first ran.said port next)
 
-of_lines : (port : Option PortView) (lines : List (List ℕ)) (text : List ℕ) (last : Option PortView) → Adds sheet_text port lines text last → OfSheet text
-of_lines _ _ _ _ (no_line port) = refl
-of_lines _ _ _ _ (one_more port first l next added more text last found is ran rest) =
-    of_both added text (of_run port l next added ran) (of_lines next more text last rest)
+of_lines : (number : ℕ) (port : Option PortView) (lines : List (List ℕ)) (text : List ℕ) (last : Option PortView) → Adds sheet_text number port lines text last → OfSheet text
+of_lines _ _ _ _ _ (no_line number port) = refl
+of_lines _ _ _ _ _ (one_more number port first l next added more text last found is ran rest) =
+    of_both added text (of_run number first port l next added ran) (of_lines (number + 1) next more text last rest)
 
 of_replayed : (r s : Option (List ℕ)) (sheet : List ℕ) → IsSheet r s sheet → OfSheet sheet
 of_replayed r s sheet h =
     let g = h.last in
     subst OfSheet (sym (h.written ∙ g.grown))
-    (of_both h.text g.added (of_lines None h.lines h.text h.port h.answered) (of_run h.port g.spelled h.last_port g.added g.ran))
+    (of_both h.text g.added (of_lines 1 None h.lines h.text h.port h.answered) (of_run (length h.lines + 1) h.rest h.port g.spelled h.last_port g.added g.ran))
 
 of_replayed_to : (r s : Option (List ℕ)) (f : ScriptFault) (sheet : List ℕ) → IsSheetTo r s f sheet → OfSheet sheet
-of_replayed_to r s (fault.Line n) sheet h = subst OfSheet (sym h.holds.0) (of_lines None h.lines h.text h.port h.answered)
-of_replayed_to r s fault.Read sheet h = subst OfSheet (sym h.holds.0) (of_lines None h.lines h.text h.port h.answered)
+of_replayed_to r s (fault.Line n) sheet h = subst OfSheet (sym h.holds.0) (of_lines 1 None h.lines h.text h.port h.answered)
+of_replayed_to r s fault.Read sheet h = subst OfSheet (sym h.holds.0) (of_lines 1 None h.lines h.text h.port h.answered)
 of_replayed_to r s fault.Write sheet h = absurd h
 of_replayed_to r s fault.OutOfMemory sheet h = absurd h
 

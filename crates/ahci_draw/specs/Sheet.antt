@@ -22,4 +22,4 @@ added_between before (Some port) = added_on (mark_of before) port
 
 -- the text for an answer: each line of an entry begins with a line feed, and one more stands behind them
 abbrev pub sheet_text : Telling
-sheet_text said before after = added_between before after ++ 10 ∷ []
+sheet_text number line said before after = added_between before after ++ 10 ∷ []

@@ -66,6 +66,8 @@ impl<A: Allocator + Copy> Teller<A> for Drawer<A> {
 
     fn tell(
         &self,
+        _number: u64,
+        _line: &[u8],
         before: Mark,
         _answer: &ScriptAnswer<A>,
         port: Option<&Port<A>>,

@@ -11,8 +11,8 @@ use Rattle.ahci_replay.specs.declared.script_fault.ScriptFault.{ScriptFault}
 use Rattle.ahci_replay.specs.declared.script_fault.ScriptFault.TheVariants.{Line, Read, Write, OutOfMemory}
 
 -- a skipped line adds nothing
-pub skip_grown : {telling : Telling} (port : Option PortView) (text old : List ℕ) → line_of text ≡ Some line.Skip → Grown telling port text port old old
-skip_grown port text old is = record {
+pub skip_grown : {telling : Telling} (number : ℕ) (port : Option PortView) (text old : List ℕ) → line_of text ≡ Some line.Skip → Grown telling number port text port old old
+skip_grown number port text old is = record {
   spelled = line.Skip;
   is = ap (option_and_then (placed_by port)) is;
   added = [];
@@ -26,9 +26,9 @@ command_placed : (port : Option PortView) (text : List ℕ) (command : ScriptCom
 command_placed port text command is = ap (option_and_then (placed_by port)) is
 
 -- a command adds its answer
-run_grown : {telling : Telling} (port port' : Option PortView) (text old new : List ℕ) (command : ScriptCommand) → line_of text ≡ Some (line.Run command)
-    → is_in_place port command ≡ true → (added : List ℕ) × HasRun telling port command port' added × (new ≡ old ++ added) → Grown telling port text port' old new
-run_grown port port' text old new command is may ran = record {
+run_grown : {telling : Telling} (number : ℕ) (port port' : Option PortView) (text old new : List ℕ) (command : ScriptCommand) → line_of text ≡ Some (line.Run command)
+    → is_in_place port command ≡ true → (added : List ℕ) × HasRun telling number text port command port' added × (new ≡ old ++ added) → Grown telling number port text port' old new
+run_grown number port port' text old new command is may ran = record {
   spelled = line.Run command;
   is = command_placed port text command is ∙ ap (λ b. cond b (Some (line.Run command)) None) may;
   added = ran.0;
@@ -45,12 +45,12 @@ in_place true x fault out = refl
 in_place false x fault out = let told : well x ≡ Err fault = out refl in cc
 
 -- the same of a result: where the command was out of place there is none
-pub ran_grown : (telling : Telling) (result : Result (Unit {0}) ScriptFault) (fault : ScriptFault) (port port' : Option PortView) (text old new : List ℕ) (command : ScriptCommand)
+pub ran_grown : (telling : Telling) (number : ℕ) (result : Result (Unit {0}) ScriptFault) (fault : ScriptFault) (port port' : Option PortView) (text old new : List ℕ) (command : ScriptCommand)
     → line_of text ≡ Some (line.Run command) → (is_in_place port command ≡ false → result ≡ Err fault)
-    → OnOk result ((added : List ℕ) × HasRun telling port command port' added × (new ≡ old ++ added)) → OnOk result (Grown telling port text port' old new)
-ran_grown telling (Err e) fault port port' text old new command is told ran = ran
-ran_grown telling (Ok x) fault port port' text old new command is told ran =
-    run_grown port port' text old new command is (in_place (is_in_place port command) x fault told) ran
+    → OnOk result ((added : List ℕ) × HasRun telling number text port command port' added × (new ≡ old ++ added)) → OnOk result (Grown telling number port text port' old new)
+ran_grown telling number (Err e) fault port port' text old new command is told ran = ran
+ran_grown telling number (Ok x) fault port port' text old new command is told ran =
+    run_grown number port port' text old new command is (in_place (is_in_place port command) x fault told) ran
 
 -- a fault of the command is one of the line
 pub fault_of_line : (result : Result (Unit {0}) ScriptFault) (port : Option PortView) (text : List ℕ) (command : ScriptCommand) (n : ℕ)

@@ -74,9 +74,9 @@ sent_part c d e waiting left p rest =
 -- ---- what lines add
 
 -- lines were answered
-record Answered (telling : Telling) (from : Place) (lines : List Text) (to : Place) : Type 0 where
+record Answered (telling : Telling) (number : ℕ) (from : Place) (lines : List Text) (to : Place) : Type 0 where
   pub text : Text
-  pub adds : Adds telling from.port lines text to.port
+  pub adds : Adds telling number from.port lines text to.port
   pub sends : Sends from.contents to.contents (from.waiting ++ text) to.waiting
 
 -- how whoever takes the lines goes on, whose places these are
@@ -86,33 +86,33 @@ Goes telling f old number found new = Takes telling (f old) number found (f new)
 abbrev Fails : {S : Type 0} → Telling → (S → Place) → S → ℕ → Begins → ScriptFault → S → Type 0
 Fails telling f old number found fault new = Refuses telling (f old) number found fault (f new)
 
-answered_line : {telling : Telling} (a b c : Place) (first : Text) (more : List Text) → found_of (first ++ 10 ∷ []) ≡ whole first → Answers telling a first b
-    → Answered telling b more c → Answered telling a (first ∷ more) c
-answered_line a b c first more own line rest =
+answered_line : {telling : Telling} (n : ℕ) (a b c : Place) (first : Text) (more : List Text) → found_of (first ++ 10 ∷ []) ≡ whole first → Answers telling n a first b
+    → Answered telling (n + 1) b more c → Answered telling n a (first ∷ more) c
+answered_line n a b c first more own line rest =
     let g = line.grown in
     record {
       text = g.added ++ rest.text;
-      adds = one_more a.port first g.spelled b.port g.added more rest.text c.port own g.is g.ran rest.adds;
+      adds = one_more n a.port first g.spelled b.port g.added more rest.text c.port own g.is g.ran rest.adds;
       sends = subst (λ w. Sends a.contents c.contents w c.waiting) (ap (λ w. w ++ rest.text) g.grown ∙ append_assoc a.waiting g.added rest.text)
           (sends_more a.contents b.contents c.contents line.waiting b.waiting rest.text c.waiting line.sends rest.sends);
     }
 
-answered_more : {telling : Telling} (a b c : Place) (lines : List Text) → b.port ≡ a.port → b.waiting ≡ [] → Appends a.contents b.contents a.waiting
-    → Answered telling b lines c → Answered telling a lines c
-answered_more {telling} a b c lines same none sent rest = record {
+answered_more : {telling : Telling} (n : ℕ) (a b c : Place) (lines : List Text) → b.port ≡ a.port → b.waiting ≡ [] → Appends a.contents b.contents a.waiting
+    → Answered telling n b lines c → Answered telling n a lines c
+answered_more {telling} n a b c lines same none sent rest = record {
   text = rest.text;
-  adds = subst (λ p. Adds telling p lines rest.text c.port) same rest.adds;
+  adds = subst (λ p. Adds telling n p lines rest.text c.port) same rest.adds;
   sends = sends_more a.contents b.contents c.contents a.waiting [] rest.text c.waiting (record { sent = a.waiting; written = sent; said = sym (append-nil a.waiting) })
       (subst (λ w. Sends b.contents c.contents (w ++ rest.text) c.waiting) none rest.sends);
 }
 
-answered : {S : Type 0} (telling : Telling) (f : S → Place) (a b : S) (n : ℕ) (lines : List Text) → Taken (Goes telling f) a n lines b → Answered telling (f a) lines (f b)
+answered : {S : Type 0} (telling : Telling) (f : S → Place) (a b : S) (n : ℕ) (lines : List Text) → Taken (Goes telling f) a n lines b → Answered telling n (f a) lines (f b)
 answered telling f _ _ n _ (reading.nothing s k) =
-    record { text = []; adds = no_line (f s).port; sends = record { sent = []; written = Appends-nil (f s).contents; said = append-nil (f s).waiting } }
+    record { text = []; adds = no_line k (f s).port; sends = record { sent = []; written = Appends-nil (f s).contents; said = append-nil (f s).waiting } }
 answered telling f _ b n _ (reading.one_more s k first t more u own takes others) =
-    answered_line (f s) (f t) (f b) first more own takes (answered telling f t b (k + 1) more others)
+    answered_line k (f s) (f t) (f b) first more own takes (answered telling f t b (k + 1) more others)
 answered telling f _ b n lines (reading.more_input s k t more u takes others) =
-    answered_more (f s) (f t) (f b) more takes.0 takes.1 takes.2 (answered telling f t b k more others)
+    answered_more k (f s) (f t) (f b) more takes.0 takes.1 takes.2 (answered telling f t b k more others)
 
 -- a script of which nothing was answered
 abbrev IsNew : Place → Type 0
@@ -132,7 +132,7 @@ first_answered telling f P Q r a new g h =
       remaining = h.remaining;
       text = so_far.text;
       port = (f h.to).port;
-      answered = subst (λ p. Adds telling p h.lines so_far.text (f h.to).port) new.1 so_far.adds;
+      answered = subst (λ p. Adds telling 1 p h.lines so_far.text (f h.to).port) new.1 so_far.adds;
       consumed = h.consumed;
       holds = g so_far.text h.lines h.remaining h.rest h.to (subst (λ w. Sends (f a).contents (f h.to).contents (w ++ so_far.text) (f h.to).waiting) new.0 so_far.sends) h.holds;
     }
@@ -141,18 +141,18 @@ first_answered telling f P Q r a new g h =
 
 -- what ends a script is a line at the end of its input
 last_answers : (telling : Telling) (s : Known) (rest : Text) (n : ℕ) (p q : Place) → MayEnd s rest → Takes telling p n (last_of rest) q
-    → IsAtEnd s × (found_of rest ≡ unfinished) × Answers telling p rest q
+    → IsAtEnd s × (found_of rest ≡ unfinished) × Answers telling n p rest q
 last_answers telling s rest n p q (inl long) takes = absurd (subst (λ k. Takes telling p n (last_by k rest) q) long takes)
 last_answers telling s rest n p q (inr end) takes = (end.0, end.1, subst (λ k. Takes telling p n (last_by k rest) q) end.1 takes)
 
 -- the same line behind other text
-rebased : {telling : Telling} (p q : Port) (line text waiting all : Text) (g : Grown telling p line q waiting all) → Grown telling p line q text (text ++ g.added)
-rebased p q line text waiting all g = record { spelled = g.spelled; is = g.is; added = g.added; ran = g.ran; grown = refl }
+rebased : {telling : Telling} (n : ℕ) (p q : Port) (line text waiting all : Text) (g : Grown telling n p line q waiting all) → Grown telling n p line q text (text ++ g.added)
+rebased n p q line text waiting all g = record { spelled = g.spelled; is = g.is; added = g.added; ran = g.ran; grown = refl }
 
 -- a last line behind the text
-with_answer : {telling : Telling} (c : Known) (p q : Place) (line text : Text) (h : Answers telling p line q) → Sends c p.contents text p.waiting
+with_answer : {telling : Telling} (n : ℕ) (c : Known) (p q : Place) (line text : Text) (h : Answers telling n p line q) → Sends c p.contents text p.waiting
     → Sends c q.contents (text ++ h.grown.added) q.waiting
-with_answer c p q line text h sends =
+with_answer n c p q line text h sends =
     sends_more c p.contents q.contents text p.waiting h.grown.added q.waiting sends (subst (λ w. Sends p.contents q.contents w q.waiting) h.grown.grown h.sends)
 
 pub all_replayed : {S : Type 0} (telling : Telling) (f : S → Place) (r s d : Known) (a b : S) → IsNew (f a) → ReadsAll (Goes telling f) r s a b
@@ -168,13 +168,13 @@ all_replayed telling f r s d a b new h sent =
       all = so_far.text ++ last.2.grown.added;
       port = (f h.to).port;
       last_port = (f b).port;
-      answered = subst (λ p. Adds telling p h.lines so_far.text (f h.to).port) new.1 so_far.adds;
+      answered = subst (λ p. Adds telling 1 p h.lines so_far.text (f h.to).port) new.1 so_far.adds;
       unended = last.1;
-      last = rebased (f h.to).port (f b).port h.rest so_far.text _ _ last.2.grown;
+      last = rebased (length h.lines + 1) (f h.to).port (f b).port h.rest so_far.text _ _ last.2.grown;
       consumed = subst (λ k. Consumes r k (with_feeds h.lines ++ h.rest)) h.holds.0 h.consumed;
       end = last.0;
       written = sent_all (f a).contents (f b).contents d (so_far.text ++ last.2.grown.added) (f b).waiting
-          (with_answer (f a).contents (f h.to) (f b) h.rest so_far.text last.2 sends) sent;
+          (with_answer (length h.lines + 1) (f a).contents (f h.to) (f b) h.rest so_far.text last.2 sends) sent;
     }
 
 -- the answers to a whole script are written in part
@@ -185,8 +185,8 @@ all_part_written telling f r s e d a b new h part =
     (λ text lines remaining rest to sends holds.
     let last = last_answers telling s rest (length lines + 1) (f to) (f b) holds.1 holds.2 in (
       text ++ last.2.grown.added,
-      inr (rest, (f b).port, subst (λ k. IsNext k rest rest) (sym holds.0) (inr (last.0, last.1, refl)), rebased (f to).port (f b).port rest text _ _ last.2.grown),
-      sent_part (f a).contents (f b).contents d (text ++ last.2.grown.added) (f b).waiting (with_answer (f a).contents (f to) (f b) rest text last.2 sends) part,
+      inr (rest, (f b).port, subst (λ k. IsNext k rest rest) (sym holds.0) (inr (last.0, last.1, refl)), rebased (length lines + 1) (f to).port (f b).port rest text _ _ last.2.grown),
+      sent_part (f a).contents (f b).contents d (text ++ last.2.grown.added) (f b).waiting (with_answer (length lines + 1) (f a).contents (f to) (f b) rest text last.2 sends) part,
     )) h
 
 -- ---- a fault
@@ -287,11 +287,11 @@ fault_part_written telling f stop r s e d a b new other h part =
 -- the output has failed on an answer, or on what waited
 cut_off : (telling : Telling) (c s remaining : Known) (found : Begins) (n : ℕ) (text rest : Text) (p q : Place) → remaining ≡ s → Comes s rest found
     → Refuses telling p n found Write q → Sends c p.contents text p.waiting
-    → (all : Text) × MayAnswer telling remaining p.port rest text all × WritesPart c q.contents all
+    → (all : Text) × MayAnswer telling n remaining p.port rest text all × WritesPart c q.contents all
 cut_off telling c s remaining (whole line) n text rest p q same comes h sends =
     let g = h.2 in (
       text ++ g.added,
-      inr (line, h.1, subst (λ k. IsNext k rest line) (sym same) comes, rebased p.port h.1 line text _ _ g),
+      inr (line, h.1, subst (λ k. IsNext k rest line) (sym same) comes, rebased n p.port h.1 line text _ _ g),
       sent_part c p.contents q.contents (text ++ g.added) (p.waiting ++ g.added) (sends_text c p.contents text p.waiting g.added sends)
           (subst (WritesPart p.contents q.contents) g.grown h.3),
     )

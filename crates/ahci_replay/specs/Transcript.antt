@@ -29,38 +29,40 @@ placed_by port l = if is_placed port l then Some l else None
 abbrev pub placed : Option PortView → List ℕ → Option Line
 placed port text = option_and_then (placed_by port) (line_of text)
 
--- the text that is written for an answer, whole lines, of a command that found this port and has left that one
+-- the text that is written for an answer, whole lines: by the number and the text of the line that has the command, by what the
+-- answer says, by the port that the command found and by the one that it has left
 abbrev pub Telling : Type 0
-Telling = Said → Option PortView → Option PortView → List ℕ
+Telling = ℕ → List ℕ → Said → Option PortView → Option PortView → List ℕ
 
 -- each answer is a line
 abbrev pub answers_alone : Telling
-answers_alone said old new = answer_text said ++ 10 ∷ []
+answers_alone number line said old new = answer_text said ++ 10 ∷ []
 
 -- a command was run, and this text tells its answer
-pub record HasRun (telling : Telling) (old : Option PortView) (command : ScriptCommand) (new : Option PortView) (text : List ℕ) : Type 0 where
+pub record HasRun (telling : Telling) (number : ℕ) (line : List ℕ) (old : Option PortView) (command : ScriptCommand) (new : Option PortView) (text : List ℕ) : Type 0 where
   pub said : Said
   pub ran : Runs old command new said
-  pub spelled : text ≡ telling said old new
+  pub spelled : text ≡ telling number line said old new
 
 -- the port behind a line, and what the line adds: nothing where it is skipped, an answer where it is a command
-abbrev pub RunsLine : Telling → Option PortView → Line → Option PortView → List ℕ → Type 0
-RunsLine telling old line.Skip new text = (new ≡ old) × (text ≡ [])
-RunsLine telling old (line.Run command) new text = HasRun telling old command new text
+abbrev pub RunsLine : Telling → ℕ → List ℕ → Option PortView → Line → Option PortView → List ℕ → Type 0
+RunsLine telling number first old line.Skip new text = (new ≡ old) × (text ≡ [])
+RunsLine telling number first old (line.Run command) new text = HasRun telling number first old command new text
 
--- lines, one after the other, none of which holds a line feed: the text that they add, and the port behind them
-pub data Adds (telling : Telling) : Option PortView → List (List ℕ) → List ℕ → Option PortView → Type 0 where
-  no_line : (port : Option PortView) → Adds telling port [] [] port
-  one_more : (port : Option PortView) (first : List ℕ) (l : Line) (next : Option PortView) (added : List ℕ) (more : List (List ℕ)) (text : List ℕ) (last : Option PortView)
-      → found_of (first ++ 10 ∷ []) ≡ whole first → placed port first ≡ Some l → RunsLine telling port l next added → Adds telling next more text last
-      → Adds telling port (first ∷ more) (added ++ text) last
+-- lines, one after the other, none of which holds a line feed, and the number of the first: the text that they add, and the port
+-- behind them
+pub data Adds (telling : Telling) : ℕ → Option PortView → List (List ℕ) → List ℕ → Option PortView → Type 0 where
+  no_line : (number : ℕ) (port : Option PortView) → Adds telling number port [] [] port
+  one_more : (number : ℕ) (port : Option PortView) (first : List ℕ) (l : Line) (next : Option PortView) (added : List ℕ) (more : List (List ℕ)) (text : List ℕ) (last : Option PortView)
+      → found_of (first ++ 10 ∷ []) ≡ whole first → placed port first ≡ Some l → RunsLine telling number first port l next added → Adds telling (number + 1) next more text last
+      → Adds telling number port (first ∷ more) (added ++ text) last
 
 -- the text grew by what a line adds
-pub record Grown (telling : Telling) (port_old : Option PortView) (text : List ℕ) (port_new : Option PortView) (old new : List ℕ) : Type 0 where
+pub record Grown (telling : Telling) (number : ℕ) (port_old : Option PortView) (text : List ℕ) (port_new : Option PortView) (old new : List ℕ) : Type 0 where
   pub spelled : Line
   pub is : placed port_old text ≡ Some spelled
   pub added : List ℕ
-  pub ran : RunsLine telling port_old spelled port_new added
+  pub ran : RunsLine telling number text port_old spelled port_new added
   pub grown : new ≡ old ++ added
 
 -- the faults of a command: it is out of place, or there is no memory for it
@@ -86,15 +88,15 @@ abbrev pub WritesPart : Option (List ℕ) → Option (List ℕ) → List ℕ →
 WritesPart contents_old contents_new text = (count : ℕ) × Appends contents_old contents_new (take count text)
 
 -- a line is answered, and what waits then may be written
-pub record Answers (telling : Telling) (from : Place) (line : List ℕ) (to : Place) : Type 0 where
+pub record Answers (telling : Telling) (number : ℕ) (from : Place) (line : List ℕ) (to : Place) : Type 0 where
   pub waiting : List ℕ
-  pub grown : Grown telling from.port line to.port from.waiting waiting
+  pub grown : Grown telling number from.port line to.port from.waiting waiting
   pub sends : Sends from.contents to.contents waiting to.waiting
   pub unfailed : to.failed ≡ from.failed
 
 -- a script goes on: a line is answered; or all that waits is written, before more of the script is read
 abbrev pub Takes : Telling → Place → ℕ → Begins → Place → Type 0
-Takes telling from number (whole line) to = Answers telling from line to
+Takes telling from number (whole line) to = Answers telling number from line to
 Takes telling from number too_long to = ⊥
 Takes telling from number unfinished to =
     (to.port ≡ from.port) × (to.waiting ≡ []) × Appends from.contents to.contents from.waiting × (to.failed ≡ from.failed)
@@ -108,7 +110,7 @@ abbrev pub RefusesLine : Telling → Place → ℕ → List ℕ → Place → Sc
 RefusesLine telling from number line to (fault.Line k) = (k ≡ number) × (placed from.port line ≡ None) × Stays from to
 RefusesLine telling from number line to fault.Read = ⊥
 RefusesLine telling from number line to fault.Write =
-    (waiting : List ℕ) × (port : Option PortView) × Grown telling from.port line port from.waiting waiting × WritesPart from.contents to.contents waiting
+    (waiting : List ℕ) × (port : Option PortView) × Grown telling number from.port line port from.waiting waiting × WritesPart from.contents to.contents waiting
     × (to.failed ≡ true)
 RefusesLine telling from number line to fault.OutOfMemory = Stays from to
 
@@ -126,9 +128,9 @@ pub record Replayed (telling : Telling) (remaining_old remaining_new contents_ol
   pub all : List ℕ
   pub port : Option PortView
   pub last_port : Option PortView
-  pub answered : Adds telling None lines text port
+  pub answered : Adds telling 1 None lines text port
   pub unended : found_of rest ≡ unfinished
-  pub last : Grown telling port rest last_port text all
+  pub last : Grown telling (length lines + 1) port rest last_port text all
   pub consumed : Consumes remaining_old remaining_new (with_feeds lines ++ rest)
   pub end : IsAtEnd remaining_new
   pub written : Appends contents_old contents_new all
@@ -142,7 +144,7 @@ pub record ReplayedFirst (telling : Telling) (remaining_old : Option (List ℕ))
   pub remaining : Option (List ℕ)
   pub text : List ℕ
   pub port : Option PortView
-  pub answered : Adds telling None lines text port
+  pub answered : Adds telling 1 None lines text port
   pub consumed : Consumes remaining_old remaining (with_feeds lines ++ rest)
   pub holds : P text remaining port rest lines
 
@@ -150,10 +152,10 @@ pub record ReplayedFirst (telling : Telling) (remaining_old : Option (List ℕ))
 abbrev pub IsFaulty : Option (List ℕ) → Option PortView → List ℕ → Type 0
 IsFaulty remaining port rest = (found_of rest ≡ too_long) ⊎ ((line : List ℕ) × IsNext remaining rest line × (placed port line ≡ None))
 
--- the next line may have been answered too
-abbrev pub MayAnswer : Telling → Option (List ℕ) → Option PortView → List ℕ → List ℕ → List ℕ → Type 0
-MayAnswer telling remaining port rest text all =
-    (all ≡ text) ⊎ ((line : List ℕ) × (last_port : Option PortView) × IsNext remaining rest line × Grown telling port line last_port text all)
+-- the next line, of this number, may have been answered too
+abbrev pub MayAnswer : Telling → ℕ → Option (List ℕ) → Option PortView → List ℕ → List ℕ → List ℕ → Type 0
+MayAnswer telling number remaining port rest text all =
+    (all ≡ text) ⊎ ((line : List ℕ) × (last_port : Option PortView) × IsNext remaining rest line × Grown telling number port line last_port text all)
 
 -- how a fault ends a script: the answers to the lines before it are written. Where a read failed, no whole line is left
 -- unanswered; a failed write leaves a first part of the answers
@@ -164,7 +166,7 @@ ReplayedTo telling r s c d fault.Read =
     ReplayedFirst telling r (λ text remaining port rest lines. Appends c d text × ((found_of rest ≡ unfinished) × MayFail (length (with_feeds lines ++ rest)) remaining s))
 ReplayedTo telling r s c d fault.OutOfMemory = ReplayedFirst telling r (λ text remaining port rest lines. Appends c d text)
 ReplayedTo telling r s c d fault.Write =
-    ReplayedFirst telling r (λ text remaining port rest lines. (all : List ℕ) × MayAnswer telling remaining port rest text all × WritesPart c d all)
+    ReplayedFirst telling r (λ text remaining port rest lines. (all : List ℕ) × MayAnswer telling (length lines + 1) remaining port rest text all × WritesPart c d all)
 
 -- ---- how the writes and reads went
 

@@ -20,7 +20,7 @@ pub(crate) fn answer_line<T: Teller<A>, A: Allocator + Copy>(
     number: u64,
     line: &[u8],
 ) -> Result<(), ScriptFault>
-    ensures ok { OnOk result (Grown T.telling session.old line.now session.new output.old output.new) }
+    ensures ok { OnOk result (Grown T.telling number session.old line.now session.new output.old output.new) }
     ensures err { OnErr result (output.new ≡ output.old) }
     ensures fault { IfErr result (IsLineFault session.old line.now number) }
     ensures wrong { placed session.old line.now ≡ None → result ≡ Err (ScriptFault.Line number) }
@@ -28,7 +28,9 @@ pub(crate) fn answer_line<T: Teller<A>, A: Allocator + Copy>(
     match parse(line) {
         None => Err(ScriptFault::Line(number)),
         Some(Line::Skip) => Ok(()),
-        Some(Line::Run(command)) => answer_command(session, output, teller, number, command),
+        Some(Line::Run(command)) => {
+            answer_command(session, output, teller, number, line, command)
+        }
     }
 }
 
@@ -38,10 +40,11 @@ fn answer_command<T: Teller<A>, A: Allocator + Copy>(
     output: &mut Output<A>,
     teller: &T,
     number: u64,
+    line: &[u8],
     command: ScriptCommand<'_>,
 ) -> Result<(), ScriptFault>
     requires { HasSmallTag command }
-    ensures ok { OnOk result ((text : List ℕ) × HasRun T.telling session.old command.entry session.new text
+    ensures ok { OnOk result ((text : List ℕ) × HasRun T.telling number line.now session.old command.entry session.new text
         × (output.new ≡ output.old ++ text)) }
     ensures err { OnErr result (output.new ≡ output.old) }
     ensures fault { IfErr result (IsCommandFault session.old command.entry number) }
@@ -49,7 +52,7 @@ fn answer_command<T: Teller<A>, A: Allocator + Copy>(
 {
     let before = teller.look(session.port());
     match session.run(command) {
-        Ok(answer) => Ok(teller.tell(before, &answer, session.port(), output)?),
+        Ok(answer) => Ok(teller.tell(number, line, before, &answer, session.port(), output)?),
         Err(Unanswered::OutOfPlace) => Err(ScriptFault::Line(number)),
         Err(Unanswered::OutOfMemory) => Err(ScriptFault::OutOfMemory),
     }

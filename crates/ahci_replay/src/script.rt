@@ -40,7 +40,7 @@ impl<'t, T: Teller<A>, A: Allocator + Copy> Script<'t, T, A> {
         line: &[u8],
         writer: &mut W,
     ) -> Result<(), ScriptFault>
-        ensures ok { OnOk result (Answers T.telling (place (W.contents writer.old) self.old.output self.old.session self.old.writes.failed) line.now
+        ensures ok { OnOk result (Answers T.telling number (place (W.contents writer.old) self.old.output self.old.session self.old.writes.failed) line.now
             (place (W.contents writer.new) self.new.output self.new.session self.new.writes.failed)) }
         ensures err { IfErr result (RefusesLine T.telling (place (W.contents writer.old) self.old.output self.old.session self.old.writes.failed) number line.now
             (place (W.contents writer.new) self.new.output self.new.session self.new.writes.failed)) }

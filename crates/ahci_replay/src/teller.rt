@@ -2,8 +2,8 @@ use ahci_port::Port;
 use ahci_script::{Output, ScriptAnswer};
 use std::alloc::{AllocError, Allocator};
 
-/// Who tells the answers of a script. Contracts see the text as a function of what an answer says, of the port that its
-/// command has found and of the one that it has left.
+/// Who tells the answers of a script. Contracts see the text as a function of the number and the text of the line that has the
+/// command, of what the answer says, of the port that the command has found and of the one that it has left.
 pub trait Teller<A: Allocator> {
     ghost use Rattle.std.specs.Prelude.{◌≡◌, ◌++◌, OnErr, OnOk, Option};
     ghost use Rattle.std.specs.Option.{option_copied};
@@ -24,19 +24,21 @@ pub trait Teller<A: Allocator> {
     fn look(&self, port: Option<&Port<A>>) -> Self::Before
         ensures { IsOf result (option_copied port.entry) };
 
-    /// Puts the text for the answer of a command that has left this port into the output.
+    /// Puts the text for the answer of a command, which stands in a line of this number and has left this port, into the output.
     ///
     /// # Errors
     /// Where a growth was refused. The output is then as it was.
     fn tell(
         &self,
+        number: u64,
+        line: &[u8],
         before: Self::Before,
         answer: &ScriptAnswer<A>,
         port: Option<&Port<A>>,
         output: &mut Output<A>,
     ) -> Result<(), AllocError>
         ensures ok { OnOk result ((found : Option PortView) → IsOf before found
-            → output.new ≡ output.old ++ telling (said answer.now) found (option_copied port.entry)) }
+            → output.new ≡ output.old ++ telling number line.now (said answer.now) found (option_copied port.entry)) }
         ensures err { OnErr result (output.new ≡ output.old) };
 }
 
@@ -57,6 +59,8 @@ impl<A: Allocator> Teller<A> for AnswersAlone {
 
     fn tell(
         &self,
+        _number: u64,
+        _line: &[u8],
         _before: (),
         answer: &ScriptAnswer<A>,
         _port: Option<&Port<A>>,

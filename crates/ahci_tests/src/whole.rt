@@ -95,7 +95,7 @@ static CASES: [Case; 46] = [
     (
         "ahci trace --json",
         GOOD,
-        Part("{\"answer\":\"issued 0\""),
+        Part("{\"line\":2,\"command\":\"write 0 3 1 aa\",\"answer\":\"issued 0\""),
         NOTHING,
         0,
     ),

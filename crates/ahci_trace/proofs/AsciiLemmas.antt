@@ -13,7 +13,7 @@ use Rattle.ahci_script.specs.Answers.{answer_text, entries_between, hex_of, name
 use Rattle.ahci_script.specs.Said.{Said, Disk, Issued, Accepted, Completed, FailedStep, Wrote, Read, Failed, Recovered, Reissued, Register, Acked, Word, Flushed, Sector, Journal, Trimmed, Refused}
 use Rattle.ahci_script.specs.declared.refusal.Refusal.{Refusal}
 use Rattle.ahci_script.specs.declared.refusal.Refusal.TheVariants as refusal
-use Rattle.ahci_trace.specs.Json.{hex_text}
+use Rattle.ahci_trace.specs.Json.{ascii_byte, ascii_of, hex_text}
 
 pub ascii_is_utf8 : (text : List ℕ) → IsAscii text → IsUtf8 text
 ascii_is_utf8 text h = IsUtf8-from_ascii text h
@@ -34,6 +34,15 @@ word_ascii (b ∷ more) h =
 
 behind : (word text : List ℕ) → is_ascii word ≡ true → IsAscii text → IsAscii (word ++ text)
 behind word text h q = IsAscii-append word text (word_ascii word h) q
+
+-- ---- the text of a line
+
+byte_below : (b : ℕ) → ascii_byte b < 128
+byte_below b = grind (arith, nat_tests)
+
+pub line_ascii : (line : List ℕ) → IsAscii (ascii_of line)
+line_ascii [] = IsAscii-nil
+line_ascii (b ∷ more) = IsAscii-cons (ascii_byte b) (ascii_of more) (byte_below b) (line_ascii more)
 
 -- ---- digits
 

@@ -1,5 +1,5 @@
 -- The lines of a trace: each note is indented, and has no line feed but its last byte.
-use Rattle.std.proofs.Common.{◌≡◌, ℕ, zero, suc, ◌/◌, ◌%◌, ◌==◌, Bool, true, false, not, ◌||◌, cond, List, [], ◌∷◌, ◌++◌, Option, None, Some, codes, ap, sym, refl, ◌∙◌, subst, append_assoc, arith}
+use Rattle.std.proofs.Common.{◌≡◌, ℕ, zero, suc, ◌+◌, ◌/◌, ◌%◌, ◌==◌, Bool, true, false, not, ◌||◌, cond, List, [], ◌∷◌, ◌++◌, Option, None, Some, codes, ap, sym, refl, ◌∙◌, subst, append_assoc, arith}
 use Rattle.std.specs.List.{flat_map, list_all}
 use Rattle.std.specs.Fmt.{decimal, digit_glyph, digits, digits_onto}
 use Rattle.std.proofs.lemmas.Bool.{and_from, and_parts}
@@ -285,14 +285,14 @@ noted answer notes text answers are so_far =
     (subst (λ t. Noted (answer ++ 10 ∷ (notes ++ text)) t) (sym (append_assoc answer (10 ∷ []) answers)) (an_answer answer notes text answers are so_far))
 
 pub keeps_answers : KeepsAnswers
-keeps_answers _ _ _ _ (no_line port) = ([], no_line port, no_answer)
-keeps_answers _ last _ _ (one_more port first line.Skip next added more text _ fed is ran others) =
-    let (answers, adds, so_far) = keeps_answers next last more text others in
-    (answers, one_more port first line.Skip next [] more answers last fed is (ran.0, refl) adds, subst (λ a. Noted (a ++ text) answers) (sym ran.1) so_far)
-keeps_answers _ last _ _ (one_more port first (line.Run command) next added more text _ fed is ran others) =
-    let (answers, adds, so_far) = keeps_answers next last more text others in
+keeps_answers _ _ _ _ _ (no_line number port) = ([], no_line number port, no_answer)
+keeps_answers _ _ last _ _ (one_more number port first line.Skip next added more text _ fed is ran others) =
+    let (answers, adds, so_far) = keeps_answers (number + 1) next last more text others in
+    (answers, one_more number port first line.Skip next [] more answers last fed is (ran.0, refl) adds, subst (λ a. Noted (a ++ text) answers) (sym ran.1) so_far)
+keeps_answers _ _ last _ _ (one_more number port first (line.Run command) next added more text _ fed is ran others) =
+    let (answers, adds, so_far) = keeps_answers (number + 1) next last more text others in
     let answer = answer_text ran.said in (
       (answer ++ 10 ∷ []) ++ answers,
-      one_more port first (line.Run command) next (answer ++ 10 ∷ []) more answers last fed is (record { said = ran.said; ran = ran.ran; spelled = refl }) adds,
+      one_more number port first (line.Run command) next (answer ++ 10 ∷ []) more answers last fed is (record { said = ran.said; ran = ran.ran; spelled = refl }) adds,
       subst (λ a. Noted (a ++ text) ((answer ++ 10 ∷ []) ++ answers)) (sym ran.spelled) (noted answer (trace_notes port next) text answers (notes_are port next) so_far),
     )

@@ -1,5 +1,5 @@
 -- What a command did as one JSON object (RFC 8259): its tokens, from the parts that the text of a trace has too.
-use Rattle.std.specs.Prelude.{ℕ, Bool, if◌then◌else◌, List, [], ◌∷◌, ◌++◌, codes, flat_map, Option, None, Some}
+use Rattle.std.specs.Prelude.{ℕ, Bool, if◌then◌else◌, List, [], ◌∷◌, ◌++◌, codes, flat_map, map, nat_lt, Option, None, Some}
 use Rattle.std.specs.Fmt.{decimal}
 use Rattle.ahci_script.specs.Answers.{answer_text, hex_of}
 use Rattle.ahci_script.specs.Said.{Said}
@@ -129,9 +129,21 @@ told_members t =
     ++ (list_member (codes "transfers") (flat_map transfer_object t.served) ++ (key (codes "received") ∷ received_object t.received
     ++ (list_member (codes "registers") (flat_map change_object t.changes) ++ list_member (codes "slots") (flat_map slot_object t.slots)))))
 
--- a command's answer, and what it did
-unfoldable pub command_object : Said → Told → List Token
-command_object said t = object (text_member (codes "answer") (answer_text said) ++ told_members t)
+-- a line's text: its bytes, which are ASCII where a line is understood; another byte would be shown as a question mark
+abbrev pub ascii_byte : ℕ → ℕ
+ascii_byte b = if nat_lt b 128 then b else 63
+
+abbrev pub ascii_of : List ℕ → List ℕ
+ascii_of line = map ascii_byte line
+
+-- the line of a command: its number and its text
+unfoldable pub line_members : ℕ → List ℕ → List Token
+line_members number line = number_member (codes "line") number ++ text_member (codes "command") (ascii_of line)
+
+-- a command's line, its answer, and what it did
+unfoldable pub command_object : ℕ → List ℕ → Said → Told → List Token
+command_object number line said t =
+    object (line_members number line ++ (text_member (codes "answer") (answer_text said) ++ told_members t))
 
 -- what a command did that has found the first port, and has left the second; nothing before the disk
 abbrev pub told_between : Option PortView → Option PortView → Told
@@ -140,4 +152,4 @@ told_between before (Some port) = told_of (mark_of before) port
 
 -- the text for an answer: one object, on a line
 abbrev pub json_line : Telling
-json_line said before after = print (command_object said (told_between before after)) ++ 10 ∷ []
+json_line number line said before after = print (command_object number line said (told_between before after)) ++ 10 ∷ []

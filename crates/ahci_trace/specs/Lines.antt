@@ -1,5 +1,5 @@
 -- Which lines of a trace are notes; the others are what the script alone answers.
-use Rattle.std.specs.Prelude.{◌≡◌, ℕ, ◌==◌, Bool, true, not, List, [], ◌∷◌, ◌++◌, Option}
+use Rattle.std.specs.Prelude.{◌≡◌, ℕ, ◌+◌, ◌==◌, Bool, true, not, List, [], ◌∷◌, ◌++◌, Option}
 use Rattle.std.specs.List.{list_all}
 use Rattle.ahci_port.specs.PortView.{PortView}
 use Rattle.ahci_replay.specs.Transcript.{Adds, answers_alone}
@@ -26,16 +26,18 @@ pub data Noted : List ℕ → List ℕ → Type 0 where
 
 -- what a script's lines add to a trace is what they add alone, with notes behind each answer
 abbrev pub KeepsAnswers : Type 0
-KeepsAnswers = (port last : Option PortView) (lines : List (List ℕ)) (text : List ℕ) → Adds trace_text port lines text last
-    → (answers : List ℕ) × Adds answers_alone port lines answers last × Noted text answers
+KeepsAnswers = (number : ℕ) (port last : Option PortView) (lines : List (List ℕ)) (text : List ℕ) → Adds trace_text number port lines text last
+    → (answers : List ℕ) × Adds answers_alone number port lines answers last × Noted text answers
 
--- objects, each on a line and with an answer as its first member, and the answers alone
-pub data Objects : List ℕ → List ℕ → Type 0 where
-  no_object : Objects [] []
-  an_object : (said : Said) (told : Told) (text answers : List ℕ) → Objects text answers
-      → Objects (print (command_object said told) ++ 10 ∷ text) (answer_text said ++ 10 ∷ answers)
+-- lines from a number on, the text of objects, and the answers alone: a line adds nothing, or one object with its number, its text and
+-- its answer
+pub data Objects : ℕ → List (List ℕ) → List ℕ → List ℕ → Type 0 where
+  no_object : (number : ℕ) → Objects number [] [] []
+  a_skipped : (number : ℕ) (line : List ℕ) (more : List (List ℕ)) (text answers : List ℕ) → Objects (number + 1) more text answers → Objects number (line ∷ more) text answers
+  an_object : (number : ℕ) (line : List ℕ) (more : List (List ℕ)) (said : Said) (told : Told) (text answers : List ℕ) → Objects (number + 1) more text answers
+      → Objects number (line ∷ more) (print (command_object number line said told) ++ 10 ∷ text) (answer_text said ++ 10 ∷ answers)
 
 -- what a script's lines add to a trace as JSON is an object for each answer that they add alone, in their order
 abbrev pub HasObjects : Type 0
-HasObjects = (port last : Option PortView) (lines : List (List ℕ)) (text : List ℕ) → Adds json_line port lines text last
-    → (answers : List ℕ) × Adds answers_alone port lines answers last × Objects text answers
+HasObjects = (number : ℕ) (port last : Option PortView) (lines : List (List ℕ)) (text : List ℕ) → Adds json_line number port lines text last
+    → (answers : List ℕ) × Adds answers_alone number port lines answers last × Objects number lines text answers

@@ -145,4 +145,4 @@ trace_notes before (Some port) = told_text (told_of (mark_of before) port)
 
 -- the text for an answer: its line, and the notes behind it
 abbrev pub trace_text : Telling
-trace_text said before after = answer_text said ++ 10 ∷ trace_notes before after
+trace_text number line said before after = answer_text said ++ 10 ∷ trace_notes before after

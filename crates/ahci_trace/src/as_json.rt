@@ -9,6 +9,7 @@ ghost use Rattle.ahci_trace.specs.Trace.{told};
 mod answer;
 mod entry;
 mod hex;
+mod line;
 pub(crate) mod member;
 mod received;
 mod register;
@@ -21,6 +22,7 @@ use ahci_script::ScriptAnswer;
 use answer::put_answer;
 use entry::put_entries;
 use json::Writer;
+use line::put_line;
 use received::put_received;
 use register::put_registers;
 use sent::put_sent;
@@ -28,31 +30,36 @@ use slot::put_slots;
 use std::alloc::{AllocError, Allocator};
 use transfer::put_transfers;
 
-/// The text of an object for an answer and what its command did.
+/// The text of an object for a command of a line, its answer and what it did.
 pub(crate) fn json_text<A: Allocator + Copy, B: Allocator>(
     alloc: A,
+    number: u64,
+    line: &[u8],
     answer: &ScriptAnswer<B>,
     trace: &CommandTrace<A>,
 ) -> Result<Vec<u8, A>, AllocError>
-    ensures { IfOk result (λ text. text.items ≡ print (command_object (said answer.now) (told trace.now))) }
+    ensures { IfOk result (λ text. text.items ≡ print (command_object number line.now (said answer.now) (told trace.now))) }
 {
     let mut writer = Writer::new(Vec::new(alloc));
-    put_command(&mut writer, alloc, answer, trace)?;
+    put_command(&mut writer, alloc, number, line, answer, trace)?;
     Ok(writer.into_inner())
 }
 
-/// Adds an object for an answer and what its command did.
+/// Adds an object for a command of a line, its answer and what it did.
 #[tactic(auto, unfolding(crate::specs::Json::command_object))]
 fn put_command<A: Allocator + Copy, B: Allocator>(
     writer: &mut Writer<A>,
     alloc: A,
+    number: u64,
+    line: &[u8],
     answer: &ScriptAnswer<B>,
     trace: &CommandTrace<A>,
 ) -> Result<(), AllocError>
-    ensures tokens { OnOk result (writer.new.tokens ≡ writer.old.tokens ++ command_object (said answer.now) (told trace.now)) }
+    ensures tokens { OnOk result (writer.new.tokens ≡ writer.old.tokens ++ command_object number line.now (said answer.now) (told trace.now)) }
     ensures before { OnOk result (writer.new.before ≡ writer.old.before) }
 {
     writer.begin_object()?;
+    put_line(writer, alloc, number, line)?;
     put_answer(writer, alloc, answer)?;
     put_told(writer, alloc, trace)?;
     writer.end_object()

@@ -62,17 +62,19 @@ impl<A: Allocator + Copy> JsonTracer<A> {
         }
     }
 
-    /// The object for an answer and what its command did, which found the port of the mark, and has left this one.
+    /// The object for a command of a line, its answer and what it did, which found the port of the mark, and has left this one.
     fn object(
         &self,
+        number: u64,
+        line: &[u8],
         mark: &Mark,
         answer: &ScriptAnswer<A>,
         port: Option<&Port<A>>,
     ) -> Result<Vec<u8, A>, AllocError>
         ensures { IfOk result (λ text. (before : Option PortView) → mark.now ≡ mark_of before
-            → text.items ≡ print (command_object (said answer.now) (told_between before (option_copied port.entry)))) }
+            → text.items ≡ print (command_object number line.now (said answer.now) (told_between before (option_copied port.entry)))) }
     {
-        json_text(self.alloc, answer, &self.trace(mark, port)?)
+        json_text(self.alloc, number, line, answer, &self.trace(mark, port)?)
     }
 }
 
@@ -93,12 +95,14 @@ impl<A: Allocator + Copy> Teller<A> for JsonTracer<A> {
 
     fn tell(
         &self,
+        number: u64,
+        line: &[u8],
         before: Mark,
         answer: &ScriptAnswer<A>,
         port: Option<&Port<A>>,
         output: &mut Output<A>,
     ) -> Result<(), AllocError> {
-        let text = self.object(&before, answer, port)?;
+        let text = self.object(number, line, &before, answer, port)?;
         output.put_text(&text)
     }
 }

@@ -9,7 +9,7 @@ pub fn a_trace_without_its_notes_is_the_answers()
 {}
 
 /// The objects of a trace as JSON have the answers of the script alone, in their order: what any lines of a script add is an
-/// object on a line for each answer, which is its first member.
+/// object on a line for each answer, with the number and the text of the script's line.
 pub fn each_object_has_its_answer()
     ensures { HasObjects }
 {}

@@ -74,6 +74,8 @@ impl<A: Allocator + Copy> Teller<A> for Tracer<A> {
 
     fn tell(
         &self,
+        _number: u64,
+        _line: &[u8],
         before: Mark,
         answer: &ScriptAnswer<A>,
         port: Option<&Port<A>>,

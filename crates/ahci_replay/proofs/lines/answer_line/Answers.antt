@@ -4,11 +4,11 @@ use Rattle.ahci_replay.proofs.LineLemmas.{fault_of_line, ran_grown, skip_grown, 
 use Rattle.ahci_replay.proofs.lines.answer_line.Goals as goal
 
 pub returns-in-Some-Skip-clause-ok : goal.returns-in-Some-Skip-clause-ok
-returns-in-Some-Skip-clause-ok g c = skip_grown c.args.session.now c.args.line.now c.args.output.now (search rules)
+returns-in-Some-Skip-clause-ok g c = skip_grown c.args.number c.args.session.now c.args.line.now c.args.output.now (search rules)
 
 pub returns-in-Some-Run-clause-ok : goal.returns-in-Some-Run-clause-ok
 returns-in-Some-Run-clause-ok g c =
-    ran_grown g.T.Teller.telling c.answer_command.result (Line c.args.number) c.args.session.now c.answer_command.new.session c.args.line.now c.args.output.now c.answer_command.new.output
+    ran_grown g.T.Teller.telling c.args.number c.answer_command.result (Line c.args.number) c.args.session.now c.answer_command.new.session c.args.line.now c.args.output.now c.answer_command.new.output
     c.in-Some-Run.command
     (search rules) c.answer_command.ensures.wrong c.answer_command.ensures.ok
 
