@@ -1,5 +1,5 @@
 -- What a script's commands do: the port that each of them leaves, and its answer. Want of memory is left aside.
-use Rattle.std.specs.Prelude.{ℕ, ◌+◌, ◌*◌, ◌^◌, ◌<◌, ◌≤◌, Bool, true, false, List, length, replicate, slice_index, Option, Some, None, IsOkAnd, ◌≡◌, ◌⊎◌}
+use Rattle.std.specs.Prelude.{ℕ, ◌+◌, ◌*◌, Bool, true, false, List, length, replicate, slice_index, Option, Some, None, IsOkAnd, ◌≡◌, ◌⊎◌}
 use Rattle.std.specs.Option.{unwrap_or}
 use Rattle.ahci_port.specs.Faults.{MayTake, RefusesIssue}
 use Rattle.ahci_port.specs.PortView.{PortView, next_number, port_from, sectors_in}
@@ -22,7 +22,6 @@ use Rattle.ahci_table.specs.Fit.{IsFit}
 use Rattle.ahci_table.specs.Window.{WindowState}
 use Rattle.ncq_core.specs.Identify.{identify_page}
 use Rattle.ncq_journal.specs.Answer.{Answer}
-use Rattle.ncq_journal.specs.Lawful.{most_sectors}
 use Rattle.ncq_journal.specs.Phase.{is_failed, phase}
 use Rattle.ncq_journal.specs.Sector.{sector}
 use Rattle.ncq_journal.specs.Work.{Work, sectors_of}

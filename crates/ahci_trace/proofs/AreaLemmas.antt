@@ -1,5 +1,5 @@
 -- The received FIS area changes at the places of the FISes that are told.
-use Rattle.std.proofs.Common.{◌≡◌, ◌⊎◌, ◌∙◌, ℕ, zero, suc, ◌+◌, ◌-◌, ◌<◌, ◌≤◌, Bool, true, false, cond, List, [], ◌∷◌, ◌++◌, Option, None, Some, length, take, drop, get_or, refl, inl, inr, ap, sym, subst, length-append, arith}
+use Rattle.std.proofs.Common.{◌≡◌, ◌⊎◌, ◌∙◌, ℕ, ◌+◌, ◌-◌, ◌<◌, ◌≤◌, Bool, true, false, cond, List, [], ◌∷◌, ◌++◌, Option, None, Some, length, take, drop, get_or, refl, inl, inr, ap, subst, length-append, arith}
 use Rattle.std.specs.Prelude.{◌==◌, IsSomeAnd, nat_le, option_map}
 use Rattle.std.specs.List.{fold}
 use Rattle.std.specs.Option.{option_and_then}

@@ -1,5 +1,5 @@
 -- A trace as JSON has an object for each answer.
-use Rattle.std.proofs.Common.{◌≡◌, ℕ, ◌+◌, List, [], ◌∷◌, ◌++◌, sym, refl, subst, append_assoc}
+use Rattle.std.proofs.Common.{ℕ, ◌+◌, List, [], ◌∷◌, ◌++◌, sym, refl, subst, append_assoc}
 use Rattle.ahci_replay.specs.Transcript.{no_line, one_more}
 use Rattle.ahci_script.specs.Answers.{answer_text}
 use Rattle.ahci_script.specs.Said.{Said}

@@ -82,11 +82,15 @@ sent_value (Some sent) =
 abbrev pub payload_value : ℕ → List Token
 payload_value bytes = number (decimal bytes) ∷ []
 
--- how a command's data were carried; in a write a DMA Activate FIS came before each Data FIS
+-- the FISes that carried a command's data; in a write a DMA Activate FIS came before each Data FIS
+unfoldable pub carried_members : QueuedFields → List Token
+carried_members command =
+    text_member (codes "dma_setup") (hex_text (setup_bytes command)) ++ list_member (codes "data") (flat_map payload_value (payloads_of command))
+
+-- a command whose data moved
 unfoldable pub transfer_object : QueuedFields → List Token
 transfer_object command =
-    object (number_member (codes "tag") command.tag ++ (boolean_member (codes "write") command.write
-    ++ (text_member (codes "dma_setup") (hex_text (setup_bytes command)) ++ list_member (codes "data") (flat_map payload_value (payloads_of command)))))
+    object (number_member (codes "tag") command.tag ++ (boolean_member (codes "write") command.write ++ carried_members command))
 
 -- a FIS by its name, where one came
 abbrev pub fis_member : List ℕ → Option (List ℕ) → List Token
@@ -122,12 +126,17 @@ change_object c =
 unfoldable pub slot_object : OwnedSlot → List Token
 slot_object slot = object (number_member (codes "tag") slot.tag ++ text_member (codes "phase") (phase_name slot.phase))
 
+-- what passed between port and device
+unfoldable pub passed_members : Told → List Token
+passed_members t =
+    key (codes "sent") ∷ sent_value t.sent ++ (list_member (codes "transfers") (flat_map transfer_object t.served)
+    ++ key (codes "received") ∷ received_object t.received)
+
 -- what a command did
 unfoldable pub told_members : Told → List Token
 told_members t =
-    list_member (codes "entries") (flat_map entry_object t.entries) ++ (key (codes "sent") ∷ sent_value t.sent
-    ++ (list_member (codes "transfers") (flat_map transfer_object t.served) ++ (key (codes "received") ∷ received_object t.received
-    ++ (list_member (codes "registers") (flat_map change_object t.changes) ++ list_member (codes "slots") (flat_map slot_object t.slots)))))
+    list_member (codes "entries") (flat_map entry_object t.entries) ++ (passed_members t
+    ++ (list_member (codes "registers") (flat_map change_object t.changes) ++ list_member (codes "slots") (flat_map slot_object t.slots)))
 
 -- a line's text: its bytes, which are ASCII where a line is understood; another byte would be shown as a question mark
 abbrev pub ascii_byte : ℕ → ℕ
@@ -138,12 +147,12 @@ ascii_of line = map ascii_byte line
 
 -- the line of a command: its number and its text
 unfoldable pub line_members : ℕ → List ℕ → List Token
-line_members number line = number_member (codes "line") number ++ text_member (codes "command") (ascii_of line)
+line_members n line = number_member (codes "line") n ++ text_member (codes "command") (ascii_of line)
 
 -- a command's line, its answer, and what it did
 unfoldable pub command_object : ℕ → List ℕ → Said → Told → List Token
-command_object number line said t =
-    object (line_members number line ++ (text_member (codes "answer") (answer_text said) ++ told_members t))
+command_object n line said t =
+    object (line_members n line ++ (text_member (codes "answer") (answer_text said) ++ told_members t))
 
 -- what a command did that has found the first port, and has left the second; nothing before the disk
 abbrev pub told_between : Option PortView → Option PortView → Told
@@ -152,4 +161,4 @@ told_between before (Some port) = told_of (mark_of before) port
 
 -- the text for an answer: one object, on a line
 abbrev pub json_line : Telling
-json_line number line said before after = print (command_object number line said (told_between before after)) ++ 10 ∷ []
+json_line n line said before after = print (command_object n line said (told_between before after)) ++ 10 ∷ []

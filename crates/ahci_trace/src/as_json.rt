@@ -3,7 +3,7 @@
 ghost use Rattle.std.specs.Prelude.{◌≡◌, ◌++◌, IfOk, OnOk};
 ghost use Rattle.ahci_script.specs.Said.{said};
 ghost use Rattle.json.specs.Print.{print};
-ghost use Rattle.ahci_trace.specs.Json.{command_object, told_members};
+ghost use Rattle.ahci_trace.specs.Json.{command_object, passed_members, told_members};
 ghost use Rattle.ahci_trace.specs.Trace.{told};
 
 mod answer;
@@ -65,6 +65,23 @@ fn put_command<A: Allocator + Copy, B: Allocator>(
     writer.end_object()
 }
 
+/// Adds what passed between port and device.
+#[tactic(auto, unfolding(crate::specs::Json::passed_members))]
+fn put_passed<A: Allocator + Copy>(
+    writer: &mut Writer<A>,
+    alloc: A,
+    trace: &CommandTrace<A>,
+) -> Result<(), AllocError>
+    ensures tokens { OnOk result (writer.new.tokens ≡ writer.old.tokens ++ passed_members (told trace.now)) }
+    ensures before { OnOk result (writer.new.before ≡ writer.old.before) }
+{
+    writer.key("sent")?;
+    put_sent(writer, alloc, &trace.sent)?;
+    put_transfers(writer, alloc, &trace.served)?;
+    writer.key("received")?;
+    put_received(writer, alloc, &trace.received)
+}
+
 /// Adds what a command did.
 #[tactic(auto, unfolding(crate::specs::Json::told_members))]
 fn put_told<A: Allocator + Copy>(
@@ -76,11 +93,7 @@ fn put_told<A: Allocator + Copy>(
     ensures before { OnOk result (writer.new.before ≡ writer.old.before) }
 {
     put_entries(writer, &trace.entries)?;
-    writer.key("sent")?;
-    put_sent(writer, alloc, &trace.sent)?;
-    put_transfers(writer, alloc, &trace.served)?;
-    writer.key("received")?;
-    put_received(writer, alloc, &trace.received)?;
+    put_passed(writer, alloc, trace)?;
     put_registers(writer, &trace.changes)?;
     put_slots(writer, &trace.slots)
 }

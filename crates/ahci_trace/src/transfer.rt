@@ -1,8 +1,9 @@
 //! The text of the FISes that carry data.
 
-ghost use Rattle.std.specs.Prelude.{◌≡◌, ◌++◌, OnOk};
+ghost use Rattle.std.specs.Prelude.{◌≡◌, ◌++◌, codes, true, OnOk};
 ghost use Rattle.std.specs.List.{flat_map};
-ghost use Rattle.ahci_trace.specs.Text.{data_line, data_text, transfer_text};
+ghost use Rattle.ncq_core.specs.DiskFis.{activate_bytes, setup_bytes};
+ghost use Rattle.ahci_trace.specs.Text.{data_line, data_text, named_text, transfer_text};
 ghost use Rattle.ahci_trace.specs.Transfers.{payloads_of};
 
 use crate::served::{payloads, setup};
@@ -25,7 +26,26 @@ pub(crate) fn push_data<A: Allocator>(
     push(text, b" bytes\n")
 }
 
-/// Appends a Data FIS of a command, which in a write the device asks for first.
+/// Appends a DMA Activate FIS.
+fn push_activate<A: Allocator>(text: &mut Vec<u8, A>) -> Result<(), AllocError>
+    ensures { OnOk result (text.new.items ≡ text.old.items ++ named_text (codes "  received DMA Activate FIS") activate_bytes) }
+{
+    push_named(
+        text,
+        b"  received DMA Activate FIS",
+        Fis::DmaActivate.encode().as_slice(),
+    )
+}
+
+/// Appends a Data FIS of a write, which the device asks for first.
+fn push_written<A: Allocator>(text: &mut Vec<u8, A>, bytes: u32) -> Result<(), AllocError>
+    ensures { OnOk result (text.new.items ≡ text.old.items ++ data_text true bytes) }
+{
+    push_activate(text)?;
+    push_data(text, b"  sent Data FIS", bytes)
+}
+
+/// Appends a Data FIS of a command.
 fn push_moved<A: Allocator>(
     text: &mut Vec<u8, A>,
     write: bool,
@@ -33,15 +53,14 @@ fn push_moved<A: Allocator>(
 ) -> Result<(), AllocError>
     ensures { OnOk result (text.new.items ≡ text.old.items ++ data_text write bytes) }
 {
-    if !write {
-        return push_data(text, b"  received Data FIS", bytes);
+    if write {
+        push_written(text, bytes)
+    } else {
+        push_data(text, b"  received Data FIS", bytes)
     }
-    let activate = Fis::DmaActivate.encode();
-    push_named(text, b"  received DMA Activate FIS", activate.as_slice())?;
-    push_data(text, b"  sent Data FIS", bytes)
 }
 
-/// Appends the Data FISes of a command.
+/// Appends Data FISes of a command, one after the other.
 fn push_each<A: Allocator>(
     text: &mut Vec<u8, A>,
     write: bool,
@@ -55,6 +74,24 @@ fn push_each<A: Allocator>(
     Ok(())
 }
 
+/// Appends the DMA Setup FIS of a command.
+fn push_setup<A: Allocator>(text: &mut Vec<u8, A>, command: &Queued) -> Result<(), AllocError>
+    ensures { OnOk result (text.new.items ≡ text.old.items ++ named_text (codes "  received DMA Setup FIS") (setup_bytes command.now)) }
+{
+    push_named(text, b"  received DMA Setup FIS", setup(command).as_slice())
+}
+
+/// Appends the Data FISes of a command.
+fn push_all_data<A: Allocator + Copy>(
+    text: &mut Vec<u8, A>,
+    alloc: A,
+    command: &Queued,
+) -> Result<(), AllocError>
+    ensures { OnOk result (text.new.items ≡ text.old.items ++ flat_map (data_text command.now.write) (payloads_of command.now)) }
+{
+    push_each(text, command.write, &payloads(alloc, command)?)
+}
+
 /// Appends the FISes that carry the data of a command.
 #[tactic(auto, unfolding(crate::specs::Text::transfer_text))]
 fn push_transfer<A: Allocator + Copy>(
@@ -64,9 +101,8 @@ fn push_transfer<A: Allocator + Copy>(
 ) -> Result<(), AllocError>
     ensures { OnOk result (text.new.items ≡ text.old.items ++ transfer_text command.now) }
 {
-    let payloads = payloads(alloc, command)?;
-    push_named(text, b"  received DMA Setup FIS", setup(command).as_slice())?;
-    push_each(text, command.write, &payloads)
+    push_setup(text, command)?;
+    push_all_data(text, alloc, command)
 }
 
 /// Appends those of some commands, one after the other.

@@ -1,5 +1,6 @@
 ghost use Rattle.std.specs.Prelude.{◌≡◌, ◌++◌, codes, flat_map, OnOk};
-ghost use Rattle.ahci_trace.specs.Json.{list_member, payload_value, transfer_object};
+ghost use Rattle.ncq_core.specs.DiskFis.{setup_bytes};
+ghost use Rattle.ahci_trace.specs.Json.{carried_members, hex_text, list_member, payload_value, text_member, transfer_object};
 ghost use Rattle.ahci_trace.specs.Transfers.{payloads_of};
 
 use super::hex::put_hex;
@@ -8,6 +9,14 @@ use crate::served::{payloads, setup};
 use json::Writer;
 use sata_fis::Queued;
 use std::alloc::{AllocError, Allocator};
+
+/// Adds the number of bytes in a Data FIS.
+fn put_payload<A: Allocator>(writer: &mut Writer<A>, bytes: u32) -> Result<(), AllocError>
+    ensures tokens { OnOk result (writer.new.tokens ≡ writer.old.tokens ++ payload_value bytes) }
+    ensures before { OnOk result (writer.new.before ≡ writer.old.before) }
+{
+    writer.u64(u64::from(bytes))
+}
 
 /// Adds the numbers of bytes, one after the other.
 fn put_each_payload<A: Allocator>(
@@ -18,7 +27,7 @@ fn put_each_payload<A: Allocator>(
     ensures before { OnOk result (writer.new.before ≡ writer.old.before) }
 {
     for bytes in payloads {
-        writer.u64(u64::from(*bytes))?;
+        put_payload(writer, *bytes)?;
     }
     Ok(())
 }
@@ -39,7 +48,33 @@ fn put_data<A: Allocator + Copy>(
     writer.end_array()
 }
 
-/// Adds how a command's data were carried.
+/// Adds a member with the DMA Setup FIS of a command.
+fn put_setup<A: Allocator + Copy>(
+    writer: &mut Writer<A>,
+    alloc: A,
+    command: &Queued,
+) -> Result<(), AllocError>
+    ensures tokens { OnOk result (writer.new.tokens ≡ writer.old.tokens ++ text_member (codes "dma_setup") (hex_text (setup_bytes command.now))) }
+    ensures before { OnOk result (writer.new.before ≡ writer.old.before) }
+{
+    put_hex(writer, alloc, "dma_setup", setup(command).as_slice())
+}
+
+/// Adds the FISes that carried a command's data.
+#[tactic(auto, unfolding(crate::specs::Json::carried_members))]
+fn put_carried<A: Allocator + Copy>(
+    writer: &mut Writer<A>,
+    alloc: A,
+    command: &Queued,
+) -> Result<(), AllocError>
+    ensures tokens { OnOk result (writer.new.tokens ≡ writer.old.tokens ++ carried_members command.now) }
+    ensures before { OnOk result (writer.new.before ≡ writer.old.before) }
+{
+    put_setup(writer, alloc, command)?;
+    put_data(writer, alloc, command)
+}
+
+/// Adds a command whose data moved.
 #[tactic(auto, unfolding(crate::specs::Json::transfer_object))]
 fn put_transfer<A: Allocator + Copy>(
     writer: &mut Writer<A>,
@@ -52,8 +87,7 @@ fn put_transfer<A: Allocator + Copy>(
     writer.begin_object()?;
     put_tag(writer, command.tag)?;
     put_boolean(writer, "write", command.write)?;
-    put_hex(writer, alloc, "dma_setup", setup(command).as_slice())?;
-    put_data(writer, alloc, command)?;
+    put_carried(writer, alloc, command)?;
     writer.end_object()
 }
 
