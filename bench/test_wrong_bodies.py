@@ -1,0 +1,147 @@
+#!/usr/bin/env python3
+"""Sees that bench/wrong_bodies tells what refused an edit, and notes it, with a small program in the place of `rt`.
+
+    bench/test_wrong_bodies.py
+
+Of that program a body `{ 0 }` is refused by a clause of its own function, `{ 2 }` by a stored proof, `{ 3 }` by a name in a stored proof, and
+`{ 4 }` by a clause of a caller; any other is proved.
+"""
+from __future__ import annotations
+
+import os
+import shutil
+import subprocess
+import sys
+import tempfile
+import textwrap
+import unittest
+from typing import Dict, List
+
+TOP = os.path.dirname(os.path.dirname(os.path.realpath(__file__)))
+SOURCE = "fn one() -> u8\n    ensures { result }\n{ 1 }\n\nfn two() -> u8\n    ensures { result }\n{ 9 }\n"
+RT = '''\
+    #!/usr/bin/env python3
+    import os
+    name = os.path.basename(os.getcwd())
+    text = open("src/lib.rt", encoding="utf-8").read()
+    refused = False
+    for function, body in (("one", text.split("{")[2].split("}")[0].strip()), ("two", text.split("{")[4].split("}")[0].strip())):
+        line = 1 if function == "one" else 5
+        refused |= body in "0234"
+        if body == "0":
+            print(f"note: src/lib.rt:{line}:1: it is not proved that what the function ensures holds")
+            print(f"fn {name}::{function}: no proof: `search` did not prove `returns`")
+        elif body in "23":
+            print(f"./proofs/{function}/Answers.antt:3:5: error: " + ("`returns`: the goal does not follow" if body == "2" else "`returns`: `gone` is not in scope"))
+            print(f"fn {name}::{function}: not proved")
+        elif body == "4":
+            print("note: src/lib.rt:99:1: it is not proved that what the function ensures holds")
+            print(f"fn {name}::caller: no proof: `search` did not prove `returns`")
+        else:
+            print(f"fn {name}::{function}: proved")
+    raise SystemExit(1 if refused else 0)
+'''
+
+
+class WrongBodies(unittest.TestCase):
+    def setUp(self) -> None:
+        self.room = tempfile.mkdtemp(prefix="test-wrong-bodies-")
+        self.addCleanup(shutil.rmtree, self.room)
+        self.top = os.path.join(self.room, "top")
+        os.makedirs(os.path.join(self.top, "bench"))
+        shutil.copy(os.path.join(TOP, "bench/wrong_bodies"), os.path.join(self.top, "bench/wrong_bodies"))
+        self.write("crates/low/src/lib.rt", SOURCE)
+        os.makedirs(os.path.join(self.room, "bin"))
+        with open(os.path.join(self.room, "bin/rt"), "w", encoding="utf-8") as rt:
+            rt.write(textwrap.dedent(RT))
+        os.chmod(os.path.join(self.room, "bin/rt"), 0o755)
+
+    def write(self, path: str, text: str) -> None:
+        at = os.path.join(self.top, path)
+        os.makedirs(os.path.dirname(at), exist_ok=True)
+        with open(at, "w", encoding="utf-8") as it:
+            it.write(text)
+
+    def edit(self, name: str, old: str, new: str, folder: str = "wrong-bodies") -> None:
+        self.write(f"crates/low/{folder}/{name}.edit", f"file: src/lib.rt\nold: {old}\nnew: {new}\n")
+
+    def run_with(self, *words: str) -> "subprocess.CompletedProcess[str]":
+        found = {**os.environ, "PATH": f"{self.room}/bin:{os.environ['PATH']}"}
+        return subprocess.run([sys.executable, os.path.join(self.top, "bench/wrong_bodies"), *words], env=found, capture_output=True, text=True, check=False)
+
+    def said_of(self, ran: "subprocess.CompletedProcess[str]") -> List[str]:
+        """What is said behind the table."""
+        return [it for it in ran.stdout.splitlines() if not it.startswith("|") and it]
+
+    def tried(self) -> Dict[str, List[str]]:
+        with open(os.path.join(self.top, "bench/wrong_bodies.tried"), encoding="utf-8") as text:
+            rows = [line.rstrip("\n").split("\t") for line in text if not line.startswith("#")]
+        return {row[0]: row[3:] for row in rows}
+
+    def test_a_clause_refuses_many_in_one_check(self) -> None:
+        self.edit("one_is_0", "{ 1 }", "{ 0 }")
+        self.edit("two_is_0", "{ 9 }", "{ 0 }")
+        ran = self.run_with()
+        self.assertEqual((0, ["2 refused, 0 not refused"]), (ran.returncode, self.said_of(ran)))
+        self.assertRegex(ran.stdout, r"\| low \| 2 \| 1 \| 0 \| [\d.]+ \| 2 \| 0 \| 0 \|")
+        with open(os.path.join(self.top, "crates/low/src/lib.rt"), encoding="utf-8") as text:
+            self.assertEqual(SOURCE, text.read())
+
+    def test_an_edit_that_passes_is_told(self) -> None:
+        self.edit("one_is_0", "{ 1 }", "{ 0 }")
+        self.edit("one_is_7", "{ 1 }", "{ 7 }")
+        ran = self.run_with()
+        self.assertEqual((1, ["low/one_is_7: NOT REFUSED: the crate is still proved", "1 refused, 1 not refused"]), (ran.returncode, self.said_of(ran)))
+
+    def test_a_clause_of_a_caller_refuses_too(self) -> None:
+        self.edit("one_is_4", "{ 1 }", "{ 4 }")
+        ran = self.run_with()
+        self.assertEqual((0, ["1 refused, 0 not refused"]), (ran.returncode, self.said_of(ran)))
+        self.assertRegex(ran.stdout, r"\| low \| 1 \| 1 \| 1 \| ")
+
+    def test_stored_proofs_and_names_alone_are_hollow(self) -> None:
+        self.edit("one_is_2", "{ 1 }", "{ 2 }")
+        self.edit("two_is_3", "{ 9 }", "{ 3 }")
+        ran = self.run_with()
+        self.assertEqual((0, ["low/one_is_2: refused by a stored proof alone", "low/two_is_3: refused by a name alone", "2 refused, 0 not refused"]),
+                         (ran.returncode, self.said_of(ran)))
+
+    def test_an_edit_that_does_not_fit_is_told(self) -> None:
+        self.edit("one_is_lost", "{ 11 }", "{ 0 }")
+        ran = self.run_with()
+        self.assertEqual((1, ["low/one_is_lost: NOT REFUSED: its old text doesn't stand once in its file", "0 refused, 1 not refused"]), (ran.returncode, self.said_of(ran)))
+
+    def test_a_crate_that_is_not_proved_is_told(self) -> None:
+        self.write("crates/low/src/lib.rt", SOURCE.replace("{ 9 }", "{ 0 }"))
+        self.edit("one_is_0", "{ 1 }", "{ 0 }")
+        ran = self.run_with()
+        self.assertEqual(1, ran.returncode)
+        self.assertIn("wrong_bodies: low itself is not proved", ran.stderr)
+
+    def test_only_the_whole_list_is_noted_and_an_edit_makes_it_stale(self) -> None:
+        self.edit("one_is_0", "{ 1 }", "{ 0 }", "must-fail")
+        self.edit("two_is_2", "{ 9 }", "{ 2 }")
+        self.run_with("low")
+        self.assertFalse(os.path.exists(os.path.join(self.top, "bench/wrong_bodies.tried")))
+        self.run_with("--all", "low")
+        self.assertEqual({"low": ["2", "1", "two_is_2", "-"]}, self.tried())
+        ran = self.run_with("--stale")
+        self.assertEqual((0, ["wrong_bodies: no crate has changed since its edits were tried"]), (ran.returncode, self.said_of(ran)))
+        self.edit("two_is_7", "{ 9 }", "{ 7 }")
+        ran = self.run_with("--stale")
+        self.assertEqual((1, "changed since their edits were tried: low"), (ran.returncode, self.said_of(ran)[0]))
+        self.assertEqual({"low": ["3", "1", "two_is_2", "two_is_7"]}, self.tried())
+
+    def test_a_word_chooses_edits(self) -> None:
+        self.edit("one_is_0", "{ 1 }", "{ 0 }")
+        self.edit("two_is_7", "{ 9 }", "{ 7 }")
+        ran = self.run_with("--only", "one")
+        self.assertEqual((0, ["1 refused, 0 not refused"]), (ran.returncode, self.said_of(ran)))
+        self.assertEqual(1, self.run_with("--only", "three").returncode)
+
+    def test_a_crate_that_is_missing_is_told(self) -> None:
+        self.assertIn("wrong_bodies: there is no crate high", self.run_with("high").stderr)
+
+
+if __name__ == "__main__":
+    unittest.main()
