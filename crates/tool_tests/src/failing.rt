@@ -151,7 +151,7 @@ impl Read for Failing {
 fn each_read_may_fail(rt: HostRuntime) {
     for tool in TOOLS {
         // One read for 16 bytes, and one at the end.
-        let all = tool.script().len() as u32 / 16 + 2;
+        let all = tool.script().len() / 16 + 2;
         for reads in 0..12u32 {
             let mut written = Vec::new(rt.alloc());
             let mut reader = Failing {
@@ -159,7 +159,7 @@ fn each_read_may_fail(rt: HostRuntime) {
                 reads,
             };
             let how = tool.run(rt.alloc(), &mut reader, &mut written);
-            let wanted = if reads < all {
+            let wanted = if (reads as usize) < all {
                 Err(tool.faults().0)
             } else {
                 Ok(())
