@@ -84,6 +84,21 @@ class Manual(unittest.TestCase):
         self.assertEqual(self.completed("ahci", "one", "-n", "--"), "")
         self.assertEqual(self.completed("ahci", "help", ""), "one")
 
+    def test_a_program_whose_help_or_version_fails_is_told(self) -> None:
+        for words in ("--version", "--help", '"one --help"'):
+            with open(self.program, "w", encoding="utf-8") as text:
+                text.write(PROGRAM.replace('case "$*" in\n', f'case "$*" in\n{words}) exit 1 ;;\n'))
+            ran = subprocess.run([f"{HERE}/manual", self.program], capture_output=True, text=True, check=False)
+            self.assertEqual((ran.returncode, ran.stdout), (1, ""), words)
+            self.assertIn("does not tell its help", ran.stderr)
+
+    def test_files_are_completed_where_the_usage_has_one(self) -> None:
+        script = run(f"{HERE}/manual", "--completion", self.program)
+        for words, said in ((("ahci", "one", "x"), "-o default"), (("ahci", "one", "--p"), ""), (("ahci", "help", "x"), "")):
+            given = " ".join(f"'{it}'" for it in words)
+            asked = f'COMP_WORDS=({given}); COMP_CWORD=2; compopt() {{ echo "$*"; }}; _ahci || :'
+            self.assertEqual(run("bash", "-uc", f"{script}\n{asked}").strip(), said, words)
+
     def test_a_program_without_help_is_told(self) -> None:
         ran = subprocess.run([f"{HERE}/manual", "/nowhere"], capture_output=True, text=True, check=False)
         self.assertEqual((ran.returncode, ran.stdout), (1, ""))
