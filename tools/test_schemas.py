@@ -124,6 +124,8 @@ class TraceSchema(unittest.TestCase):
             ("no command", lambda it: it.pop("command")),
             ("no answer", lambda it: it.pop("answer")),
             ("no transfers", lambda it: it.pop("transfers")),
+            ("no writes", lambda it: it.pop("writes")),
+            ("a write without its word", lambda it: it.update(writes=[{"name": "PxCI"}])),
             ("a register without the word before", lambda it: it["registers"][0].pop("before")),
             ("a word of seven digits", lambda it: it["registers"][0].update(word="0000004")),
             ("a register that is none", lambda it: it["registers"][0].update(name="PxVS")),

@@ -184,13 +184,14 @@ pub(crate) const TRACE_ABOUT: &str =
 pub(crate) const TRACE_LONG_ABOUT: &str =
     "Read a script on standard input, as replay does, and answer it on standard output.
 After each answer stands, in lines that are indented by two spaces, what the command did to the
-port: the journal's new entries, the bytes that were sent and received, registers that changed,
-and the slots that are owned.";
+port: the journal's new entries, what was written to registers, the bytes that were sent and
+received, registers that changed, and the slots that are owned.";
 
 pub(crate) const JSON_HELP: &str = "Write one JSON object a line, for tools, in place of the text";
 
 pub(crate) const TRACE_HELP: &str = "Lines after an answer:
   entry E: ..            a new entry of the journal, which has the number E
+  wrote NAME WORD        a register that software wrote to issue or send a command, or to recover
   sent command header .. the 32 bytes of the header of a command that was issued
   sent CFIS ..           the 20 bytes of its Register FIS, from the host to the device
   sent PRDT entry ..     the 16 bytes of each entry of its PRDT

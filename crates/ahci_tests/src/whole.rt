@@ -35,6 +35,21 @@ const DATA_FISES: &str = "
 const TRANSFERS: &str =
     "\"transfers\":[{\"tag\":1,\"write\":false,\"dma_setup\":\"41200000010000000000000000000000000000000022000000000000\",\"data\":[8192,512]},{\"tag\":0,\"write\":true,\"dma_setup\":\"41000000000000000000000000000000000000000002000000000000\",\"data\":[512]}],\"received\":{\"dma_setup\":\"41000000000000000000000000000000000000000002000000000000\",\"set_device_bits\":\"a140400003000000\"}";
 
+/// A read that passes the last sector, and the way back from its failure.
+const RECOVERY: &[u8] = b"disk 8 4\nread 2 8 1\naccept 2\nrecover\n";
+
+const STEPS: &str = "recovered 2
+  entry 2: recover 2
+  wrote PxCMD 00000010
+  wrote PxSERR ffffffff
+  wrote PxIS ffffffff
+  wrote PxCMD 00000011
+  wrote PxCI 00000001
+  sent command header 05 00 01 00 ";
+
+const WRITES: &str =
+    "\"writes\":[{\"name\":\"PxSACT\",\"word\":\"00000004\"},{\"name\":\"PxCI\",\"word\":\"00000004\"}],\"sent\":{";
+
 const BAD: &[u8] = b"disk 8 4\nnonsense\njournal\n";
 
 const JOBS: &[u8] = b"write 0 2 11\nread 9 1\n";
@@ -67,7 +82,7 @@ recover
 collect 0 8
 ";
 
-static CASES: [Case; 46] = [
+static CASES: [Case; 48] = [
     (
         "ahci replay",
         GOOD,
@@ -108,6 +123,8 @@ static CASES: [Case; 46] = [
     ),
     ("ahci trace", TOGETHER, Part(DATA_FISES), NOTHING, 0),
     ("ahci trace --json", TOGETHER, Part(TRANSFERS), NOTHING, 0),
+    ("ahci trace", RECOVERY, Part(STEPS), NOTHING, 0),
+    ("ahci trace --json", RECOVERY, Part(WRITES), NOTHING, 0),
     ("ahci check", GOOD, NOTHING, NOTHING, 0),
     ("ahci check", BAD, Part("line 2, column 1: "), NOTHING, 1),
     (

@@ -1,8 +1,7 @@
 -- The received FIS area changes at the places of the FISes that are told.
 use Rattle.std.proofs.Common.{◌≡◌, ◌⊎◌, ◌∙◌, ℕ, ◌+◌, ◌-◌, ◌<◌, ◌≤◌, Bool, true, false, cond, List, [], ◌∷◌, ◌++◌, Option, None, Some, length, take, drop, get_or, refl, inl, inr, ap, subst, length-append, arith}
-use Rattle.std.specs.Prelude.{◌==◌, IsSomeAnd, nat_le, option_map}
+use Rattle.std.specs.Prelude.{◌==◌, IsSomeAnd, option_map}
 use Rattle.std.specs.List.{fold}
-use Rattle.std.specs.Option.{option_and_then}
 use Rattle.std.proofs.Math.ListN.{get_or-append}
 use Rattle.std.proofs.lemmas.List.{get_or-append_right, get_or-drop, get_or-take, length-drop, length-take-le}
 use Rattle.std.proofs.lemmas.Bool.{cases_lt}
@@ -10,7 +9,7 @@ use Rattle.std.proofs.lemmas.Bool.Decides.{nat_tests}
 use Rattle.ahci_port.specs.Faults.{are_accepted, is_accepted, is_bad_list, is_issued, is_of_request}
 use Rattle.ahci_port.specs.PortView.{PortView, put_at, setup_place, pio_place, register_place, bits_place, window_at}
 use Rattle.ahci_port.specs.Registers.{word_of_tags}
-use Rattle.ahci_port.specs.Steps.{IsAccepted, IsFailed, IsFlushed, IsIdentified, IsRecovered, IsRejected, IsServed, IsTaken, TakenBy, completes, first_lacking, passes_end, with_setup}
+use Rattle.ahci_port.specs.Steps.{IsAccepted, IsFailed, IsFlushed, IsIdentified, IsRecovered, IsRejected, IsServed, IsTaken, TakenBy, first_lacking, passes_end, with_setup}
 use Rattle.ahci_port.specs.declared.fault.StepFault.TheVariants as step_fault
 use Rattle.ahci_port.specs.declared.step.Stepped.{Stepped}
 use Rattle.ahci_replay.specs.Commands.{AnswersWindow, RefusedOr}
@@ -22,22 +21,18 @@ use Rattle.ahci_script.specs.declared.refusal.Refusal.{Refusal}
 use Rattle.ahci_table.specs.Command.{queued_of}
 use Rattle.ahci_table.specs.Window.{WindowState}
 use Rattle.ncq_core.specs.DiskFis.{accepted_bytes, completed_bytes, failed_bytes, flushed_bytes, not_found_bytes, pio_bytes, setup_bytes}
-use Rattle.ncq_journal.proofs.EntryLemmas.{entry_at-newest}
-use Rattle.ncq_journal.proofs.NumberLemmas.{place_from}
 use Rattle.ncq_journal.specs.Entry.{Entry, Accept, Complete, Fail, Recover, Unqueued}
 use Rattle.ncq_journal.specs.Halted.{halted}
-use Rattle.ncq_journal.specs.History.{entry_at}
-use Rattle.ncq_journal.specs.Numbering.{entry_numbered}
 use Rattle.ncq_journal.specs.Phase.{failed, phase}
 use Rattle.ncq_journal.specs.Request.{Request, request}
 use Rattle.ncq_journal.specs.Work.{Work}
 use Rattle.ncq_journal.specs.declared.phase.Phase.{Phase}
 use Rattle.ncq_journal.specs.declared.phase.Phase.TheVariants as phases
 use Rattle.ncq_journal.specs.declared.plain.Plain.TheVariants as plain
+use Rattle.ahci_trace.proofs.NewestLemmas.{last_completed, told_by, unrefused_serve}
 use Rattle.ahci_trace.specs.Area.{IsOfTold, TellsReceived}
-use Rattle.ahci_trace.specs.Entries.{newest, what_of}
+use Rattle.ahci_trace.specs.Entries.{what_of}
 use Rattle.ahci_trace.specs.Json.{told_between}
-use Rattle.ahci_trace.specs.Mark.{mark_of}
 use Rattle.ahci_trace.specs.Received.{failed_in, received_by}
 
 -- ---- the area
@@ -92,26 +87,6 @@ all_setups old (tag ∷ tags) area i size outside =
     let more = all_setups old tags (with_setup (window_at old tag) area) i one.0 outside in
     (more.0, more.1 ∙ one.1)
 
--- ---- the newest entry
-
-newest_of : (end first : ℕ) (words : List (Option ℕ)) (entry : Entry) (more : List Entry) → end ≤ first + length more
-    → newest (record { end = end; words = words }) first (entry ∷ more) ≡ Some (what_of entry)
-newest_of end first words entry more below =
-    ap (λ b. cond b None (option_map what_of (entry_numbered first (entry ∷ more) (first + length (entry ∷ more) - 1)))) is_more
-    ∙ ap (λ n. option_map what_of (entry_numbered first (entry ∷ more) n)) (let e : first + length (entry ∷ more) - 1 ≡ first + length more = omega arith in e)
-    ∙ ap (λ p. option_map what_of (option_and_then (entry_at (entry ∷ more)) p)) (place_from first (first + length more) (length more) refl)
-    ∙ ap (option_map what_of) (entry_at-newest more entry)
-  where
-    is_more : nat_le (first + length (entry ∷ more)) end ≡ false
-    is_more = grind (arith, nat_tests)
-
--- what is received is told by the entry that was appended last
-told_by : (old new : PortView) (entry : Entry) (more : List Entry) → new.first ≡ old.first → new.past ≡ entry ∷ more → length old.past ≤ length more
-    → newest (mark_of (Some old)) new.first new.past ≡ Some (what_of entry)
-told_by old new entry more first past grown =
-    ap (λ f. newest (mark_of (Some old)) f new.past) first ∙ ap (newest (mark_of (Some old)) old.first) past
-    ∙ newest_of (old.first + length old.past) old.first (mark_of (Some old)).words entry more (omega (arith, grown))
-
 -- ---- phases and refusals
 
 same_tag : (tag : ℕ) (x y : Phase) → cond (tag == tag) x y ≡ x
@@ -146,26 +121,6 @@ unrefused_fail : (h b q : Bool)
 unrefused_fail true b q none = cc
 unrefused_fail false true q none = refl
 unrefused_fail false false q none = cc
-
-unrefused_serve : (h b q : Bool) → option_map of_step (cond h (Some step_fault.Halted) (cond b (cond q (Some step_fault.BadTags) None) (Some step_fault.NotAccepted))) ≡ None → q ≡ false
-unrefused_serve true b q none = cc
-unrefused_serve false false q none = cc
-unrefused_serve false true true none = cc
-unrefused_serve false true false none = refl
-
--- the entry that a service appends last
-abbrev Last : List Entry → List Entry → Type 0
-Last past all = (tag : ℕ) × (more : List Entry) × (all ≡ Complete tag ∷ more) × (length past ≤ length more)
-
-last_of : (tags : List ℕ) (past : List Entry) (tag : ℕ) → Last past (completes (Complete tag ∷ past) tags)
-last_of [] past tag = (tag, past, refl, omega arith)
-last_of (next ∷ tags) past tag =
-    let more = last_of tags (Complete tag ∷ past) next in
-    (more.0, more.1, more.2, omega (arith, more.3))
-
-last_completed : (past : List Entry) (tags : List ℕ) → is_bad_list tags ≡ false → Last past (completes past tags)
-last_completed past [] good = cc
-last_completed past (tag ∷ tags) good = last_of tags past tag
 
 -- ---- one command
 

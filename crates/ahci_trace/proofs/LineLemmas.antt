@@ -24,7 +24,7 @@ use Rattle.ahci_trace.specs.Lines.{AreNotes, KeepsAnswers, Noted, a_note, an_ans
 use Rattle.ahci_trace.specs.Mark.{mark_of}
 use Rattle.ahci_trace.specs.Names.{Named, bits_of, bits_text, name_of, name_text, names_text, separator}
 use Rattle.ahci_trace.specs.Sent.{SentBytes}
-use Rattle.ahci_trace.specs.Text.{bytes_text, change_text, data_line, data_text, details_text, direction, entry_text, fis_text, kind_name, named_text, page_text, phase_name, plain_name, prdt_text, received_text, sent_text, slot_text, told_text, trace_notes, transfer_text, what_text}
+use Rattle.ahci_trace.specs.Text.{bytes_text, change_text, data_line, data_text, details_text, direction, entry_text, fis_text, kind_name, named_text, page_text, phase_name, plain_name, prdt_text, received_text, sent_text, slot_text, told_text, trace_notes, transfer_text, what_text, write_text}
 use Rattle.ahci_trace.specs.Trace.{Told, told_of}
 use Rattle.ahci_trace.specs.Transfers.{payloads_of}
 use Rattle.ahci_trace.specs.declared.appended.Appended.{Appended}
@@ -33,6 +33,7 @@ use Rattle.ahci_trace.specs.declared.appended.Happened.TheVariants as what
 use Rattle.ahci_trace.specs.declared.change.Change.{Change}
 use Rattle.ahci_trace.specs.declared.owned.OwnedSlot.{OwnedSlot}
 use Rattle.ahci_trace.specs.declared.received.Received.{Received}
+use Rattle.ahci_trace.specs.declared.register_write.RegisterWrite.{RegisterWrite}
 
 -- ---- text without a line feed
 
@@ -207,6 +208,11 @@ entry_notes e =
     indented (codes "entry " ++ (decimal e.number ++ (codes ": " ++ (what_text e.what ++ 10 ∷ []))))
     (behind (codes "entry ") _ refl (behind (decimal e.number) _ (decimal-line e.number) (behind (codes ": ") _ refl (behind (what_text e.what) _ (what-line e.what) feed))))
 
+write_notes : (w : RegisterWrite) → AreNotes (write_text w)
+write_notes w =
+    indented (codes "wrote " ++ (name_of w.register ++ (codes " " ++ (hex_of 8 w.word ++ 10 ∷ []))))
+    (behind (codes "wrote ") _ refl (behind (name_of w.register) _ (name-line w.register) (behind (codes " ") _ refl (behind (hex_of 8 w.word) _ (hex-line 8 w.word) feed))))
+
 named_notes : (name bytes : List ℕ) → is_line name ≡ true → AreNotes (named_text (32 ∷ 32 ∷ name) bytes)
 unfolding named_text
 named_notes name bytes h = indented (name ++ (bytes_text bytes ++ 10 ∷ [])) (behind name _ h (behind (bytes_text bytes) _ (bytes-line bytes) feed))
@@ -268,10 +274,11 @@ slot_notes s =
 told_notes : (t : Told) → AreNotes (told_text t)
 told_notes t =
     AreNotes-append (flat_map entry_text t.entries) _ (flat_notes entry_text entry_notes t.entries)
+    (AreNotes-append (flat_map write_text t.writes) _ (flat_notes write_text write_notes t.writes)
     (AreNotes-append (sent_text t.sent) _ (sent_notes t.sent)
     (AreNotes-append (flat_map transfer_text t.served) _ (flat_notes transfer_text transfer_notes t.served)
     (AreNotes-append (received_text t.received) _ (received_notes t.received)
-    (AreNotes-append (flat_map change_text t.changes) _ (flat_notes change_text change_notes t.changes) (flat_notes slot_text slot_notes t.slots)))))
+    (AreNotes-append (flat_map change_text t.changes) _ (flat_notes change_text change_notes t.changes) (flat_notes slot_text slot_notes t.slots))))))
 
 notes_are : (before after : Option PortView) → AreNotes (trace_notes before after)
 notes_are before None = no_note

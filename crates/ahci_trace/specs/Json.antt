@@ -23,6 +23,7 @@ use Rattle.ahci_trace.specs.declared.appended.Happened.TheVariants as what
 use Rattle.ahci_trace.specs.declared.change.Change.{Change}
 use Rattle.ahci_trace.specs.declared.owned.OwnedSlot.{OwnedSlot}
 use Rattle.ahci_trace.specs.declared.received.Received.{Received}
+use Rattle.ahci_trace.specs.declared.register_write.RegisterWrite.{RegisterWrite}
 
 -- bytes by their hexadecimal digits, two for each
 abbrev pub hex_text : List ℕ → List ℕ
@@ -122,6 +123,13 @@ change_object c =
     object (text_member (codes "name") (name_of c.register) ++ (word_members c
     ++ list_member (codes "bits") (flat_map (bit_value (bits c.word)) (bits_of c.register))))
 
+-- a register that was written, and the word
+unfoldable pub write_members : RegisterWrite → List Token
+write_members w = text_member (codes "name") (name_of w.register) ++ text_member (codes "word") (hex_of 8 w.word)
+
+unfoldable pub write_object : RegisterWrite → List Token
+write_object w = object (write_members w)
+
 -- an owned slot
 unfoldable pub slot_object : OwnedSlot → List Token
 slot_object slot = object (number_member (codes "tag") slot.tag ++ text_member (codes "phase") (phase_name slot.phase))
@@ -135,8 +143,9 @@ passed_members t =
 -- what a command did
 unfoldable pub told_members : Told → List Token
 told_members t =
-    list_member (codes "entries") (flat_map entry_object t.entries) ++ (passed_members t
-    ++ (list_member (codes "registers") (flat_map change_object t.changes) ++ list_member (codes "slots") (flat_map slot_object t.slots)))
+    list_member (codes "entries") (flat_map entry_object t.entries) ++ (list_member (codes "writes") (flat_map write_object t.writes)
+    ++ (passed_members t ++ (list_member (codes "registers") (flat_map change_object t.changes)
+    ++ list_member (codes "slots") (flat_map slot_object t.slots))))
 
 -- a line's text: its bytes, which are ASCII where a line is understood; another byte would be shown as a question mark
 abbrev pub ascii_byte : ℕ → ℕ

@@ -1,6 +1,7 @@
 pub mod Area
 pub mod Mark
 pub mod Entries
+pub mod Writes
 pub mod Sent
 pub mod Received
 pub mod Transfers
@@ -10,5 +11,6 @@ pub mod Trace
 pub mod Names
 pub mod Text
 pub mod Json
+pub mod Moves
 pub mod Lines
 pub mod Closing

@@ -22,6 +22,7 @@ use Rattle.ahci_trace.specs.declared.appended.Happened.TheVariants as what
 use Rattle.ahci_trace.specs.declared.change.Change.{Change}
 use Rattle.ahci_trace.specs.declared.owned.OwnedSlot.{OwnedSlot}
 use Rattle.ahci_trace.specs.declared.received.Received.{Received}
+use Rattle.ahci_trace.specs.declared.register_write.RegisterWrite.{RegisterWrite}
 
 -- bytes by their hexadecimal digits, each behind a space
 abbrev pub bytes_text : List ℕ → List ℕ
@@ -80,6 +81,10 @@ what_text happened = kind_name happened ++ details_text happened
 abbrev pub entry_text : Appended → List ℕ
 entry_text entry = codes "  entry " ++ (decimal entry.number ++ (codes ": " ++ (what_text entry.what ++ 10 ∷ [])))
 
+-- a register that was written, and the word
+abbrev pub write_text : RegisterWrite → List ℕ
+write_text w = codes "  wrote " ++ (name_of w.register ++ (codes " " ++ (hex_of 8 w.word ++ 10 ∷ [])))
+
 -- an entry of a PRDT
 abbrev pub prdt_text : List ℕ → List ℕ
 prdt_text entry = named_text (codes "  sent PRDT entry") entry
@@ -135,8 +140,8 @@ slot_text slot = codes "  slot " ++ (decimal slot.tag ++ (codes " " ++ (phase_na
 -- the lines of a trace
 abbrev pub told_text : Told → List ℕ
 told_text t =
-    flat_map entry_text t.entries ++ (sent_text t.sent ++ (flat_map transfer_text t.served
-    ++ (received_text t.received ++ (flat_map change_text t.changes ++ flat_map slot_text t.slots))))
+    flat_map entry_text t.entries ++ (flat_map write_text t.writes ++ (sent_text t.sent ++ (flat_map transfer_text t.served
+    ++ (received_text t.received ++ (flat_map change_text t.changes ++ flat_map slot_text t.slots)))))
 
 -- the notes behind the answer of a command that has found the first port, and has left the second; there are none before the disk
 abbrev pub trace_notes : Option PortView → Option PortView → List ℕ

@@ -9,15 +9,18 @@ use Rattle.ahci_trace.specs.Owned.{owned_slots}
 use Rattle.ahci_trace.specs.Received.{nothing_received, received_by}
 use Rattle.ahci_trace.specs.Sent.{SentBytes, sent_by, shown}
 use Rattle.ahci_trace.specs.Transfers.{served}
+use Rattle.ahci_trace.specs.Writes.{writes_by}
 use Rattle.ahci_trace.specs.declared.appended.Appended.{Appended}
 use Rattle.ahci_trace.specs.declared.change.Change.{Change}
 use Rattle.ahci_trace.specs.declared.mark.Mark.{Mark}
 use Rattle.ahci_trace.specs.declared.owned.OwnedSlot.{OwnedSlot}
 use Rattle.ahci_trace.specs.declared.received.Received.{Received}
+use Rattle.ahci_trace.specs.declared.register_write.RegisterWrite.{RegisterWrite}
 use Rattle.ahci_trace.specs.declared.command_trace.CommandTrace.{CommandTrace}
 
 pub record Told : Type 0 where
   pub entries : List Appended
+  pub writes : List RegisterWrite
   pub sent : Option SentBytes
   pub served : List QueuedFields
   pub received : Received
@@ -28,6 +31,7 @@ pub record Told : Type 0 where
 abbrev pub told : {A : _} → CommandTrace A → Told
 told trace = record {
   entries = trace.entries.items;
+  writes = trace.writes.items;
   sent = option_map shown trace.sent;
   served = trace.served.items;
   received = trace.received;
@@ -39,6 +43,7 @@ told trace = record {
 abbrev pub told_of : Mark → PortView → Told
 told_of mark port = record {
   entries = new_entries mark port.first port.past;
+  writes = writes_by (newest mark port.first port.past);
   sent = sent_by (newest mark port.first port.past) port;
   served = served port (new_entries mark port.first port.past);
   received = received_by (newest mark port.first port.past) port;
@@ -48,4 +53,4 @@ told_of mark port = record {
 
 -- nothing, before the disk
 abbrev pub nothing_told : Told
-nothing_told = record { entries = []; sent = None; served = []; received = nothing_received; changes = []; slots = [] }
+nothing_told = record { entries = []; writes = []; sent = None; served = []; received = nothing_received; changes = []; slots = [] }

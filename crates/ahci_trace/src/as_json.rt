@@ -16,6 +16,7 @@ mod register;
 mod sent;
 mod slot;
 mod transfer;
+mod write;
 
 use crate::command_trace::CommandTrace;
 use ahci_script::ScriptAnswer;
@@ -29,6 +30,7 @@ use sent::put_sent;
 use slot::put_slots;
 use std::alloc::{AllocError, Allocator};
 use transfer::put_transfers;
+use write::put_writes;
 
 /// The text of an object for a command of a line, its answer and what it did.
 pub(crate) fn json_text<A: Allocator + Copy, B: Allocator>(
@@ -93,6 +95,7 @@ fn put_told<A: Allocator + Copy>(
     ensures before { OnOk result (writer.new.before ≡ writer.old.before) }
 {
     put_entries(writer, &trace.entries)?;
+    put_writes(writer, &trace.writes)?;
     put_passed(writer, alloc, trace)?;
     put_registers(writer, &trace.changes)?;
     put_slots(writer, &trace.slots)

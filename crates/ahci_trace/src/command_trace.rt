@@ -6,6 +6,7 @@ use crate::change::{Change, changes};
 use crate::mark::Mark;
 use crate::owned::{OwnedSlot, owned_slots};
 use crate::received::{Received, nothing_received, received_by};
+use crate::register_write::{RegisterWrite, writes_by};
 use crate::sent::{SentCommand, sent_by};
 use crate::served::served;
 use ahci_port::Port;
@@ -18,6 +19,8 @@ use std::alloc::{AllocError, Allocator, Global};
 pub struct CommandTrace<A: Allocator = Global> {
     /// The journal's new entries, the oldest first.
     pub entries: Vec<Appended, A>,
+    /// What software has written to the registers, one after the other.
+    pub writes: Vec<RegisterWrite, A>,
     /// The command that was sent to the device.
     pub sent: Option<SentCommand<A>>,
     /// The commands whose data have moved, in the order in which they were served.
@@ -37,6 +40,7 @@ impl<A: Allocator + Copy> CommandTrace<A> {
     {
         CommandTrace {
             entries: Vec::new(alloc),
+            writes: Vec::new(alloc),
             sent: None,
             served: Vec::new(alloc),
             received: nothing_received(),
@@ -59,6 +63,7 @@ impl<A: Allocator + Copy> CommandTrace<A> {
         let served = served(alloc, &entries, port)?;
         Ok(CommandTrace {
             entries,
+            writes: writes_by(alloc, newest)?,
             sent: sent_by(alloc, newest, port)?,
             served,
             received: received_by(newest, port),

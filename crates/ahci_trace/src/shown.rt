@@ -4,7 +4,7 @@ ghost use Rattle.std.specs.Prelude.{◌≡◌, ◌++◌, OnOk, IfOk};
 ghost use Rattle.std.specs.List.{flat_map};
 ghost use Rattle.std.specs.Option.{option_map};
 ghost use Rattle.ahci_trace.specs.Sent.{shown};
-ghost use Rattle.ahci_trace.specs.Text.{change_text, command_text, details_text, direction, entry_text, fis_text, page_text, prdt_text, received_text, sent_text, slot_text, told_text, what_text};
+ghost use Rattle.ahci_trace.specs.Text.{change_text, command_text, details_text, direction, entry_text, fis_text, page_text, prdt_text, received_text, sent_text, slot_text, told_text, what_text, write_text};
 ghost use Rattle.ahci_trace.specs.Trace.{told};
 
 use crate::appended::{Appended, Happened};
@@ -14,6 +14,7 @@ use crate::kinds::{kind_name, phase_name};
 use crate::names::{name_of, push_bits};
 use crate::owned::OwnedSlot;
 use crate::received::Received;
+use crate::register_write::RegisterWrite;
 use crate::sent::SentCommand;
 use crate::text::push_named;
 use crate::transfer::{push_data, push_transfers};
@@ -29,6 +30,7 @@ pub(crate) fn text_of<A: Allocator + Copy>(
 {
     let mut text = Vec::new(alloc);
     push_entries(&mut text, &trace.entries)?;
+    push_writes(&mut text, &trace.writes)?;
     push_sent(&mut text, &trace.sent)?;
     push_transfers(&mut text, alloc, &trace.served)?;
     push_received(&mut text, &trace.received)?;
@@ -93,6 +95,28 @@ fn push_entries<A: Allocator>(text: &mut Vec<u8, A>, entries: &[Appended]) -> Re
 {
     for entry in entries {
         push_entry(text, *entry)?;
+    }
+    Ok(())
+}
+
+fn push_write<A: Allocator>(text: &mut Vec<u8, A>, write: RegisterWrite) -> Result<(), AllocError>
+    ensures { OnOk result (text.new.items ≡ text.old.items ++ write_text write) }
+{
+    push(text, b"  wrote ")?;
+    push(text, name_of(write.register).as_bytes())?;
+    push(text, b" ")?;
+    push_word(text, write.word)?;
+    push(text, b"\n")
+}
+
+fn push_writes<A: Allocator>(
+    text: &mut Vec<u8, A>,
+    writes: &[RegisterWrite],
+) -> Result<(), AllocError>
+    ensures { OnOk result (text.new.items ≡ text.old.items ++ flat_map write_text writes.now) }
+{
+    for write in writes {
+        push_write(text, *write)?;
     }
     Ok(())
 }
