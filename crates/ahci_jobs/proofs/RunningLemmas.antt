@@ -23,6 +23,7 @@ use Rattle.ahci_jobs.specs.Faults.{ListReads, RunReads, RunWrites, jobs_fault_of
 use Rattle.ahci_jobs.specs.JobList.{AreGood, IsGood, IsListFault, IsListed, asked_in, command_for, commands_of, no_line, one_more}
 use Rattle.ahci_jobs.specs.Forms.{written_of}
 use Rattle.ahci_jobs.specs.Results.{IsTold, SaysPart, TellsAs}
+use Rattle.ahci_jobs.specs.Size.{Size}
 use Rattle.ahci_jobs.specs.RunJobs.{EndsRun, blank_port, fault_of}
 use Rattle.ahci_jobs.specs.declared.form.Form.{Form}
 
@@ -65,49 +66,49 @@ not_both None h bad = h
 not_both (Some work) h bad = bad h
 
 -- on a new port such jobs are given up for a late reason alone
-pub is_late : (port : PortView) (jobs : List Work) (sectors depth : ℕ) (fault : RunFault) → port ≡ blank_port sectors depth → IsFirstBad jobs None → IsGivenUp port jobs fault → IsLate fault
-is_late port jobs sectors depth of_run.NotFresh is all h = absurd (h (ap (λ p. p.past) is))
-is_late port jobs sectors depth (of_run.BadJob i) is all h =
+pub is_late : (port : PortView) (jobs : List Work) (size : Size) (fault : RunFault) → port ≡ blank_port size → IsFirstBad jobs None → IsGivenUp port jobs fault → IsLate fault
+is_late port jobs size of_run.NotFresh is all h = absurd (h (ap (λ p. p.past) is))
+is_late port jobs size (of_run.BadJob i) is all h =
     absurd (not_both (slice_get jobs i) (all i (within (λ work. ¬ (IsProper work)) jobs i h.1.1)) h.1.1)
-is_late port jobs sectors depth of_run.OutOfMemory is all h = tt
-is_late port jobs sectors depth (of_run.Lost i) is all h = tt
-is_late port jobs sectors depth of_run.Foreign is all h = tt
-is_late port jobs sectors depth (of_run.Unsettled settle.OutOfMemory) is all h = absurd h
-is_late port jobs sectors depth (of_run.Unsettled settle.Count) is all h = tt
-is_late port jobs sectors depth (of_run.Unsettled (settle.Wrong i)) is all h = tt
-is_late port jobs sectors depth (of_run.Unsettled (settle.Extra n)) is all h = tt
+is_late port jobs size of_run.OutOfMemory is all h = tt
+is_late port jobs size (of_run.Lost i) is all h = tt
+is_late port jobs size of_run.Foreign is all h = tt
+is_late port jobs size (of_run.Unsettled settle.OutOfMemory) is all h = absurd h
+is_late port jobs size (of_run.Unsettled settle.Count) is all h = tt
+is_late port jobs size (of_run.Unsettled (settle.Wrong i)) is all h = tt
+is_late port jobs size (of_run.Unsettled (settle.Extra n)) is all h = tt
 
 -- the list ended early
-pub ends_listing : (f : ListFault) (form : Form) (workers depth sectors : ℕ) (r s c : Known) → IsListFault r s f → EndsRun form workers depth sectors r s c c (jobs_fault_of f)
-ends_listing (list.Line n) form workers depth sectors r s c h = (h, refl)
-ends_listing (list.Job i) form workers depth sectors r s c h = (h, refl)
-ends_listing list.Read form workers depth sectors r s c h = (h, refl)
-ends_listing list.OutOfMemory form workers depth sectors r s c h = inl refl
+pub ends_listing : (f : ListFault) (form : Form) (size : Size) (r s c : Known) → IsListFault r s f → EndsRun form size r s c c (jobs_fault_of f)
+ends_listing (list.Line n) form size r s c h = (h, refl)
+ends_listing (list.Job i) form size r s c h = (h, refl)
+ends_listing list.Read form size r s c h = (h, refl)
+ends_listing list.OutOfMemory form size r s c h = inl refl
 
 -- the run was given up
-pub ends_running : (f : RunFault) (port : PortView) (form : Form) (workers depth sectors : ℕ) (r s c : Known) (jobs : List Work) → IsListed r s jobs → IsGivenUp port jobs f
-    → EndsRun form workers depth sectors r s c c (fault_of f)
-ends_running of_run.NotFresh port form workers depth sectors r s c jobs listed h = ((jobs, listed), refl)
-ends_running (of_run.BadJob i) port form workers depth sectors r s c jobs listed h = ((jobs, listed), refl)
-ends_running of_run.OutOfMemory port form workers depth sectors r s c jobs listed h = inl refl
-ends_running (of_run.Lost i) port form workers depth sectors r s c jobs listed h = ((jobs, listed, h.1), refl)
-ends_running of_run.Foreign port form workers depth sectors r s c jobs listed h = ((jobs, listed), refl)
-ends_running (of_run.Unsettled settled) port form workers depth sectors r s c jobs listed h = ((jobs, listed), refl)
+pub ends_running : (f : RunFault) (port : PortView) (form : Form) (size : Size) (r s c : Known) (jobs : List Work) → IsListed r s jobs → IsGivenUp port jobs f
+    → EndsRun form size r s c c (fault_of f)
+ends_running of_run.NotFresh port form size r s c jobs listed h = ((jobs, listed), refl)
+ends_running (of_run.BadJob i) port form size r s c jobs listed h = ((jobs, listed), refl)
+ends_running of_run.OutOfMemory port form size r s c jobs listed h = inl refl
+ends_running (of_run.Lost i) port form size r s c jobs listed h = ((jobs, listed, h.1), refl)
+ends_running of_run.Foreign port form size r s c jobs listed h = ((jobs, listed), refl)
+ends_running (of_run.Unsettled settled) port form size r s c jobs listed h = ((jobs, listed), refl)
 
 -- the output took no more
-pub ends_telling : {T : Type 0} (result : Result T JobsFault) (form : Form) (workers depth sectors : ℕ) (r s c d : Known) (jobs : List Work) (port : PortView) (replies : List Received)
-    → IsListed r s jobs → HasRun (blank_port sectors depth) port jobs replies workers → OnErr result (SaysPart c [] d (written_of form workers port replies)) → IfErr result IsTold
-    → IfErr result (EndsRun form workers depth sectors r s c d)
-ends_telling (Ok x) form workers depth sectors r s c d jobs port replies listed ran part told = told
-ends_telling (Err Write) form workers depth sectors r s c d jobs port replies listed ran part told =
+pub ends_telling : {T : Type 0} (result : Result T JobsFault) (form : Form) (size : Size) (r s c d : Known) (jobs : List Work) (port : PortView) (replies : List Received)
+    → IsListed r s jobs → HasRun (blank_port size) port jobs replies size.workers → OnErr result (SaysPart c [] d (written_of form size.workers port replies)) → IfErr result IsTold
+    → IfErr result (EndsRun form size r s c d)
+ends_telling (Ok x) form size r s c d jobs port replies listed ran part told = told
+ends_telling (Err Write) form size r s c d jobs port replies listed ran part told =
     record { jobs = jobs; port = port; replies = replies; listed = listed; ran = ran; told = part }
-ends_telling (Err OutOfMemory) form workers depth sectors r s c d jobs port replies listed ran part told =
+ends_telling (Err OutOfMemory) form size r s c d jobs port replies listed ran part told =
     inr (record { jobs = jobs; port = port; replies = replies; listed = listed; ran = ran; told = part })
-ends_telling (Err (Line n)) form workers depth sectors r s c d jobs port replies listed ran part told = absurd told
-ends_telling (Err (Job i)) form workers depth sectors r s c d jobs port replies listed ran part told = absurd told
-ends_telling (Err Read) form workers depth sectors r s c d jobs port replies listed ran part told = absurd told
-ends_telling (Err Unsettled) form workers depth sectors r s c d jobs port replies listed ran part told = absurd told
-ends_telling (Err (Lost i)) form workers depth sectors r s c d jobs port replies listed ran part told = absurd told
+ends_telling (Err (Line n)) form size r s c d jobs port replies listed ran part told = absurd told
+ends_telling (Err (Job i)) form size r s c d jobs port replies listed ran part told = absurd told
+ends_telling (Err Read) form size r s c d jobs port replies listed ran part told = absurd told
+ends_telling (Err Unsettled) form size r s c d jobs port replies listed ran part told = absurd told
+ends_telling (Err (Lost i)) form size r s c d jobs port replies listed ran part told = absurd told
 
 -- ---- how the reads and writes went
 

@@ -4,5 +4,6 @@ pub mod JobList
 pub mod Noted
 pub mod Objects
 pub mod Results
+pub mod Size
 pub mod RunJobs
 pub mod Scripts

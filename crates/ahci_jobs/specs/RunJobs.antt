@@ -10,28 +10,29 @@ use Rattle.ncq_journal.specs.Work.{Work}
 use Rattle.ahci_jobs.specs.JobList.{IsListFault, IsListed}
 use Rattle.ahci_jobs.specs.Forms.{written_of}
 use Rattle.ahci_jobs.specs.Results.{SaysPart}
+use Rattle.ahci_jobs.specs.Size.{Size}
 use Rattle.ahci_jobs.specs.declared.form.Form.{Form}
 use Rattle.ahci_jobs.specs.declared.jobs_fault.JobsFault.{JobsFault}
 use Rattle.ahci_jobs.specs.declared.jobs_fault.JobsFault.TheVariants as fault
 use Rattle.ahci_jobs.specs.declared.list_fault.ListFault.TheVariants as list
 
 -- a new port over a disk of zeros
-abbrev pub blank_port : ℕ → ℕ → PortView
-blank_port sectors depth = new_port (replicate (sectors * 512) 0) depth
+abbrev pub blank_port : Size → PortView
+blank_port size = new_port (replicate (size.sectors * 512) 0) size.depth
 
--- the jobs of an input were done by so many workers, in a settled run on a disk of zeros; what holds is said of what is written of
+-- the jobs of an input were done in a settled run of this size on a disk of zeros; what holds is said of what is written of
 -- the run in this form
-pub record HasDone (form : Form) (workers depth sectors : ℕ) (remaining_old remaining_new : Option (List ℕ)) (P : List ℕ → Type 0) : Type 0 where
+pub record HasDone (form : Form) (size : Size) (remaining_old remaining_new : Option (List ℕ)) (P : List ℕ → Type 0) : Type 0 where
   pub jobs : List Work
   pub port : PortView
   pub replies : List Received
   pub listed : IsListed remaining_old remaining_new jobs
-  pub ran : HasRun (blank_port sectors depth) port jobs replies workers
-  pub told : P (written_of form workers port replies)
+  pub ran : HasRun (blank_port size) port jobs replies size.workers
+  pub told : P (written_of form size.workers port replies)
 
 -- the whole text is written
-abbrev pub RunsJobs : Form → ℕ → ℕ → ℕ → Option (List ℕ) → Option (List ℕ) → Option (List ℕ) → Option (List ℕ) → Type 0
-RunsJobs form workers depth sectors r s c d = HasDone form workers depth sectors r s (Appends c d)
+abbrev pub RunsJobs : Form → Size → Option (List ℕ) → Option (List ℕ) → Option (List ℕ) → Option (List ℕ) → Type 0
+RunsJobs form size r s c d = HasDone form size r s (Appends c d)
 
 -- the fault, where a run that has begun was given up
 abbrev pub fault_of : RunFault → JobsFault
@@ -41,11 +42,11 @@ fault_of given_up = fault.Unsettled
 
 -- why it isn't. A fault of the input, and a run that isn't settled, come before any text, and a job that is lost is one of the list; where the output takes no more, or
 -- memory is wanted, some first part of the text may be written
-abbrev pub EndsRun : Form → ℕ → ℕ → ℕ → Option (List ℕ) → Option (List ℕ) → Option (List ℕ) → Option (List ℕ) → JobsFault → Type 0
-EndsRun form workers depth sectors r s c d (fault.Line n) = IsListFault r s (list.Line n) × (d ≡ c)
-EndsRun form workers depth sectors r s c d (fault.Job i) = IsListFault r s (list.Job i) × (d ≡ c)
-EndsRun form workers depth sectors r s c d fault.Read = IsListFault r s list.Read × (d ≡ c)
-EndsRun form workers depth sectors r s c d fault.Write = HasDone form workers depth sectors r s (SaysPart c [] d)
-EndsRun form workers depth sectors r s c d fault.OutOfMemory = (d ≡ c) ⊎ HasDone form workers depth sectors r s (SaysPart c [] d)
-EndsRun form workers depth sectors r s c d fault.Unsettled = ((jobs : List Work) × IsListed r s jobs) × (d ≡ c)
-EndsRun form workers depth sectors r s c d (fault.Lost i) = ((jobs : List Work) × IsListed r s jobs × (i < length jobs)) × (d ≡ c)
+abbrev pub EndsRun : Form → Size → Option (List ℕ) → Option (List ℕ) → Option (List ℕ) → Option (List ℕ) → JobsFault → Type 0
+EndsRun form size r s c d (fault.Line n) = IsListFault r s (list.Line n) × (d ≡ c)
+EndsRun form size r s c d (fault.Job i) = IsListFault r s (list.Job i) × (d ≡ c)
+EndsRun form size r s c d fault.Read = IsListFault r s list.Read × (d ≡ c)
+EndsRun form size r s c d fault.Write = HasDone form size r s (SaysPart c [] d)
+EndsRun form size r s c d fault.OutOfMemory = (d ≡ c) ⊎ HasDone form size r s (SaysPart c [] d)
+EndsRun form size r s c d fault.Unsettled = ((jobs : List Work) × IsListed r s jobs) × (d ≡ c)
+EndsRun form size r s c d (fault.Lost i) = ((jobs : List Work) × IsListed r s jobs × (i < length jobs)) × (d ≡ c)

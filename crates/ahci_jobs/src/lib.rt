@@ -9,10 +9,12 @@ mod jobs_fault;
 mod list_fault;
 mod making;
 mod objects;
+mod run_size;
 mod running;
 mod script;
 mod telling;
 
 pub use form::Form;
 pub use jobs_fault::JobsFault;
+pub use run_size::RunSize;
 pub use running::run_jobs;

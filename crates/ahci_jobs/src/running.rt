@@ -1,4 +1,4 @@
-ghost use Rattle.std.specs.Prelude.{◌≡◌, ◌≤◌, None, map, vec_len, IfErr, IfOk, OnOk};
+ghost use Rattle.std.specs.Prelude.{◌≡◌, None, map, vec_len, IfErr, IfOk, OnOk};
 ghost use Rattle.ncq_journal.specs.Work.{work_of};
 ghost use Rattle.ahci_driver.specs.Received.{received_of};
 ghost use Rattle.ahci_driver.specs.Running.{HasRun, IsFirstBad, IsGivenUp, IsLate};
@@ -10,10 +10,11 @@ use crate::form::Form;
 use crate::job_list::listed;
 use crate::jobs_fault::JobsFault;
 use crate::making::SECTOR;
+use crate::run_size::RunSize;
 use crate::telling::tell_run;
 use ahci_driver::{Chooser, Open, RunEnd, RunFault, run};
 use ahci_port::Port;
-use ncq_core::{MAX_SECTORS, Op};
+use ncq_core::Op;
 use std::alloc::{AllocError, Allocator};
 use std::io::{Read, Write};
 use std::sync::Wait;
@@ -35,40 +36,26 @@ fn given_up(fault: RunFault) -> JobsFault
 }
 
 /// A new port over a disk of zeros.
-fn blank<A: Allocator + Clone>(alloc: A, sectors: u32, depth: u32) -> Result<Port<A>, AllocError>
-    requires some { 1 ≤ sectors }
-    requires most { sectors ≤ MAX_SECTORS }
-    requires slots { 1 ≤ depth }
-    requires deep { depth ≤ 32 }
-    ensures { IfOk result (λ port. port ≡ blank_port sectors depth) }
+fn blank<A: Allocator + Clone>(alloc: A, size: RunSize) -> Result<Port<A>, AllocError>
+    ensures { IfOk result (λ port. port ≡ blank_port size) }
 {
-    let image = vec![in alloc.clone()?; 0; sectors as usize * SECTOR]?;
-    match Port::new(alloc, image, depth) {
+    let image = vec![in alloc.clone()?; 0; size.sectors() as usize * SECTOR]?;
+    match Port::new(alloc, image, size.depth()) {
         Ok(port) => Ok(port),
         Err(_) => Err(AllocError),
     }
 }
 
 /// A new port, and a chooser for each worker.
-fn crew<C, A>(
-    alloc: &A,
-    workers: u32,
-    depth: u32,
-    sectors: u32,
-    chooser: C,
-) -> Result<(Port<A>, Vec<C, A>), AllocError>
+fn crew<C, A>(alloc: &A, size: RunSize, chooser: C) -> Result<(Port<A>, Vec<C, A>), AllocError>
 where
     C: Copy + Drop,
     A: Allocator + Clone,
-    requires slots { 1 ≤ depth }
-    requires deep { depth ≤ 32 }
-    requires room { 1 ≤ sectors }
-    requires limit { sectors ≤ MAX_SECTORS }
-    ensures port { IfOk result (λ crew. crew.0 ≡ blank_port sectors depth) }
-    ensures choosers { IfOk result (λ crew. vec_len crew.1 ≡ workers) }
+    ensures port { IfOk result (λ crew. crew.0 ≡ blank_port size) }
+    ensures choosers { IfOk result (λ crew. vec_len crew.1 ≡ size.workers) }
 {
-    let port = blank(alloc.clone()?, sectors, depth)?;
-    let choosers = vec![in alloc.clone()?; chooser; workers as usize]?;
+    let port = blank(alloc.clone()?, size)?;
+    let choosers = vec![in alloc.clone()?; chooser; size.workers() as usize]?;
     Ok((port, choosers))
 }
 
@@ -76,9 +63,7 @@ where
 fn done<H, C, A>(
     rt: &H,
     alloc: A,
-    workers: u32,
-    depth: u32,
-    sectors: u32,
+    size: RunSize,
     chooser: C,
     jobs: &[Op<A>],
 ) -> Result<RunEnd<A>, RunFault>
@@ -86,25 +71,19 @@ where
     H: Threads + Wait + Sync,
     C: Chooser + Copy + Send + Drop,
     A: Allocator + Clone + Send + Sync,
-    requires some { 1 ≤ workers }
-    requires most { workers ≤ 32 }
-    requires slots { 1 ≤ depth }
-    requires deep { depth ≤ 32 }
-    requires room { 1 ≤ sectors }
-    requires limit { sectors ≤ MAX_SECTORS }
     requires jobs { IsFirstBad (map work_of jobs.now) None }
-    ensures ok { IfOk result (λ end. HasRun (blank_port sectors depth) end.port (map work_of jobs.now) (map received_of end.replies.items) workers) }
-    ensures fault { IfErr result (IsGivenUp (blank_port sectors depth) (map work_of jobs.now)) }
+    ensures ok { IfOk result (λ end. HasRun (blank_port size) end.port (map work_of jobs.now) (map received_of end.replies.items) size.workers) }
+    ensures fault { IfErr result (IsGivenUp (blank_port size) (map work_of jobs.now)) }
 {
-    let Ok((port, choosers)) = crew(&alloc, workers, depth, sectors, chooser) else {
+    let Ok((port, choosers)) = crew(&alloc, size, chooser) else {
         return Err(RunFault::OutOfMemory);
     };
-    run(rt, alloc, port, jobs, workers, choosers, &Open)
+    run(rt, alloc, port, jobs, size.workers(), choosers, &Open)
 }
 
 /// Does the jobs that the reader gives on a disk of zeros, by workers on threads, and writes the run in this form: as text, a
 /// line for each job, in the order of the jobs, and then one for each sector that isn't all zero, rising. All jobs are read and
-/// judged before the first is done. Workers and depth are 1 to 32, sectors 1 to 131,072; the chooser decides what the device does next.
+/// judged before the first is done. The chooser decides what the device does next.
 ///
 /// # Errors
 /// `Line` for the first line that is not understood or too long, `Job` for the first job with a bad count or address,
@@ -113,9 +92,7 @@ where
 pub fn run_jobs<H, R, W, C, A>(
     rt: &H,
     alloc: A,
-    workers: u32,
-    depth: u32,
-    sectors: u32,
+    size: RunSize,
     chooser: C,
     form: Form,
     reader: &mut R,
@@ -127,23 +104,15 @@ where
     W: Write,
     C: Chooser + Copy + Send + Drop,
     A: Allocator + Clone + Send + Sync,
-    requires some { 1 ≤ workers }
-    requires most { workers ≤ 32 }
-    requires slots { 1 ≤ depth }
-    requires deep { depth ≤ 32 }
-    requires room { 1 ≤ sectors }
-    requires limit { sectors ≤ MAX_SECTORS }
-    ensures ok { OnOk result (RunsJobs form workers depth sectors (R.remaining reader.old) (R.remaining reader.new)
+    ensures ok { OnOk result (RunsJobs form size (R.remaining reader.old) (R.remaining reader.new)
         (W.contents writer.old) (W.contents writer.new)) }
-    ensures err { IfErr result (EndsRun form workers depth sectors (R.remaining reader.old) (R.remaining reader.new)
+    ensures err { IfErr result (EndsRun form size (R.remaining reader.old) (R.remaining reader.new)
         (W.contents writer.old) (W.contents writer.new)) }
 {
     run_list(
         rt,
         alloc,
-        workers,
-        depth,
-        sectors,
+        size,
         chooser,
         form,
         reader,
@@ -157,9 +126,7 @@ where
 fn run_list<H, R, W, C, A>(
     rt: &H,
     alloc: A,
-    workers: u32,
-    depth: u32,
-    sectors: u32,
+    size: RunSize,
     chooser: C,
     form: Form,
     reader: &mut R,
@@ -173,15 +140,9 @@ where
     W: Write,
     C: Chooser + Copy + Send + Drop,
     A: Allocator + Clone + Send + Sync,
-    requires some { 1 ≤ workers }
-    requires most { workers ≤ 32 }
-    requires slots { 1 ≤ depth }
-    requires deep { depth ≤ 32 }
-    requires room { 1 ≤ sectors }
-    requires limit { sectors ≤ MAX_SECTORS }
-    ensures ok { OnOk result (RunsJobs form workers depth sectors (R.remaining reader.old) (R.remaining reader.new)
+    ensures ok { OnOk result (RunsJobs form size (R.remaining reader.old) (R.remaining reader.new)
         (W.contents writer.old) (W.contents writer.new)) }
-    ensures err { IfErr result (EndsRun form workers depth sectors (R.remaining reader.old) (R.remaining reader.new)
+    ensures err { IfErr result (EndsRun form size (R.remaining reader.old) (R.remaining reader.new)
         (W.contents writer.old) (W.contents writer.new)) }
     ensures flushed { OnOk result (writes.new ≡ with_flush writes.old) }
     ensures writes { IfErr result (RunWrites writes.old writes.new) }
@@ -189,8 +150,8 @@ where
     ensures reads { IfErr result (RunReads reads.old reads.new) }
 {
     let jobs = listed(alloc.clone()?, reader, reads)?;
-    match done(rt, alloc.clone()?, workers, depth, sectors, chooser, &jobs) {
-        Ok(end) => tell_run(alloc, form, workers, writer, writes, &end),
+    match done(rt, alloc.clone()?, size, chooser, &jobs) {
+        Ok(end) => tell_run(alloc, form, size.workers(), writer, writes, &end),
         Err(fault) => Err(given_up(fault)),
     }
 }

@@ -1,9 +1,12 @@
-use Rattle.std.proofs.Common.{map, refl, subst, sym}
+use Rattle.std.proofs.Common.{ℕ, List, [], OnErr, OnOk, map, refl, subst, sym}
+use Rattle.std.specs.Io.KnownBytes.{Appends}
 use Rattle.ncq_journal.specs.Work.{work_of}
 use Rattle.ahci_driver.specs.Received.{received_of}
 use Rattle.ahci_script.proofs.FoundLemmas.{if_err_from, on_ok_from}
 use Rattle.ahci_jobs.specs.Faults.{RunReads, RunWrites, jobs_fault_of}
 use Rattle.ahci_jobs.specs.JobList.{IsListed}
+use Rattle.ahci_jobs.specs.Forms.{written_of}
+use Rattle.ahci_jobs.specs.Results.{SaysPart}
 use Rattle.ahci_jobs.specs.RunJobs.{EndsRun, blank_port}
 use Rattle.ahci_jobs.proofs.RunningLemmas.{
   AllProper,
@@ -25,20 +28,23 @@ done-requires-clause-jobs g c κs within = subst (λ js. AllProper (map work_of 
 
 pub given_up-requires : goal.given_up-requires
 given_up-requires g c =
-    is_late (blank_port c.args.sectors c.args.depth) (map work_of c.deref.result.now) c.args.sectors c.args.depth c.in-Err.fault refl
+    is_late (blank_port c.args.size) (map work_of c.deref.result.now) c.args.size c.in-Err.fault refl
     (subst (λ js. AllProper (map work_of js)) (sym c.deref.ensures.value) (listed_proper _ _ _ c.in_ok-jobs.ensures.ok)) c.in-Err.ensures.fault
 
 pub returns-in-Err-clause-err : goal.returns-in-Err-clause-err
 returns-in-Err-clause-err g c =
-    subst (EndsRun c.args.form c.args.workers c.args.depth c.args.sectors _ _ _ _) (sym c.given_up.ensures)
-    (ends_running c.in-Err.fault (blank_port c.args.sectors c.args.depth) c.args.form c.args.workers c.args.depth c.args.sectors (g.R.Read.remaining c.args.reader.now)
+    subst (EndsRun c.args.form c.args.size _ _ _ _) (sym c.given_up.ensures)
+    (ends_running c.in-Err.fault (blank_port c.args.size) c.args.form c.args.size (g.R.Read.remaining c.args.reader.now)
     (g.R.Read.remaining c.listed.new.reader) (g.W.Write.contents c.args.writer.now) (map work_of c.deref.result.now)
     (subst (λ js. IsListed (g.R.Read.remaining c.args.reader.now) (g.R.Read.remaining c.listed.new.reader) (map work_of js)) (sym c.deref.ensures.value) c.in_ok-jobs.ensures.ok)
     c.in-Err.ensures.fault)
 
 pub returns-in-Ok-clause-ok : goal.returns-in-Ok-clause-ok
 returns-in-Ok-clause-ok g c =
-    on_ok_from c.tell_run.result _ _ c.tell_run.ensures.ok (λ told. record {
+    let text : ℕ → List ℕ = λ workers. written_of c.args.form workers c.in-Ok.end.port (map received_of c.in-Ok.end.replies.items) in
+    let told_ok = subst (λ workers. OnOk c.tell_run.result (Appends (g.W.Write.contents c.args.writer.now) (g.W.Write.contents c.tell_run.new.writer) (text workers)))
+    c.workers.ensures.is c.tell_run.ensures.ok in
+    on_ok_from c.tell_run.result _ _ told_ok (λ told. record {
       jobs = map work_of c.deref.result.now;
       port = c.in-Ok.end.port;
       replies = map received_of c.in-Ok.end.replies.items;
@@ -49,9 +55,12 @@ returns-in-Ok-clause-ok g c =
 
 pub returns-in-Ok-clause-err : goal.returns-in-Ok-clause-err
 returns-in-Ok-clause-err g c =
-    ends_telling c.tell_run.result c.args.form c.args.workers c.args.depth c.args.sectors _ _ _ _ (map work_of c.deref.result.now) c.in-Ok.end.port (map received_of c.in-Ok.end.replies.items)
+    let text : ℕ → List ℕ = λ workers. written_of c.args.form workers c.in-Ok.end.port (map received_of c.in-Ok.end.replies.items) in
+    let part = subst (λ workers. OnErr c.tell_run.result (SaysPart (g.W.Write.contents c.args.writer.now) [] (g.W.Write.contents c.tell_run.new.writer) (text workers)))
+    c.workers.ensures.is c.tell_run.ensures.err in
+    ends_telling c.tell_run.result c.args.form c.args.size _ _ _ _ (map work_of c.deref.result.now) c.in-Ok.end.port (map received_of c.in-Ok.end.replies.items)
     (subst (λ js. IsListed (g.R.Read.remaining c.args.reader.now) (g.R.Read.remaining c.listed.new.reader) (map work_of js)) (sym c.deref.ensures.value) c.in_ok-jobs.ensures.ok)
-    c.in-Ok.ensures.ok c.tell_run.ensures.err c.tell_run.ensures.fault
+    c.in-Ok.ensures.ok part c.tell_run.ensures.fault
 
 pub returns-in-Err-clause-writes : goal.returns-in-Err-clause-writes
 returns-in-Err-clause-writes g c = subst (RunWrites c.args.writes.now c.args.writes.now) (sym c.given_up.ensures) (writes_running c.in-Err.fault c.args.writes.now)
