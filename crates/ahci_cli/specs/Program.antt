@@ -26,6 +26,7 @@ use Rattle.ahci_cli.specs.declared.words_fault.WordsFault.{WordsFault}
 use Rattle.ahci_cli.specs.declared.words_fault.WordsFault.TheVariants.{NotText, OutOfMemory}
 use Rattle.ahci_draw.specs.Drawn.{Drawn, DrawnTo}
 use Rattle.ahci_jobs.specs.RunJobs.{EndsRun, RunsJobs}
+use Rattle.ahci_jobs.specs.Size.{size_of}
 use Rattle.ahci_jobs.specs.declared.form.Form.{Form}
 use Rattle.ahci_jobs.specs.declared.form.Form.TheVariants as form
 use Rattle.ahci_replay.specs.Transcript.{Replayed, ReplayedTo, answers_alone}
@@ -106,8 +107,8 @@ Does (Check jobs json) s outcome = DidCheck (form_of_check json) (judge_of jobs)
 Does (Draw from to) s outcome =
     Did (Drawn from to s.had s.left s.held s.holds) of_script (DrawnTo from to s.had s.left s.held s.holds) outcome
 Does (Run workers depth sectors pick wanted) s outcome =
-    Did (RunsJobs (form_of wanted) workers depth sectors s.had s.left s.held s.holds) of_jobs
-    (EndsRun (form_of wanted) workers depth sectors s.had s.left s.held s.holds) outcome
+    Did (RunsJobs (form_of wanted) (size_of workers depth sectors) s.had s.left s.held s.holds) of_jobs
+    (EndsRun (form_of wanted) (size_of workers depth sectors) s.had s.left s.held s.holds) outcome
 Does (Identify sectors depth raw) s outcome = DidPage (identify_output sectors depth raw) raw s outcome
 Does (Log tag error lba raw) s outcome = DidPage (log_output tag error lba raw) raw s outcome
 

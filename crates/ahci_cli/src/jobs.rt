@@ -2,11 +2,12 @@ ghost use Rattle.std.specs.Prelude.{◌≡◌, ◌≤◌, IfErr, OnOk};
 ghost use Rattle.ahci_cli.specs.Faults.{IsFaultOf, of_jobs};
 ghost use Rattle.ahci_cli.specs.Program.{form_of};
 ghost use Rattle.ahci_jobs.specs.RunJobs.{EndsRun, RunsJobs};
+ghost use Rattle.ahci_jobs.specs.Size.{size_of};
 
 use crate::fault::CliFault;
 use ahci_args::{Pick, RunForm};
 use ahci_driver::{All, High, Low};
-use ahci_jobs::{Form, JobsFault};
+use ahci_jobs::{Form, JobsFault, RunSize};
 use std::alloc::Allocator;
 use std::io::{Read, Write};
 use std::sync::Wait;
@@ -35,9 +36,9 @@ where
     requires deep { depth ≤ 32 }
     requires room { 1 ≤ sectors }
     requires limit { sectors ≤ 131072 }
-    ensures ok { OnOk result (RunsJobs (form_of RunForm.Text) workers depth sectors (R.remaining reader.old) (R.remaining reader.new)
+    ensures ok { OnOk result (RunsJobs (form_of RunForm.Text) (size_of workers depth sectors) (R.remaining reader.old) (R.remaining reader.new)
         (W.contents writer.old) (W.contents writer.new)) }
-    ensures err { IfErr result (IsFaultOf of_jobs (EndsRun (form_of RunForm.Text) workers depth sectors (R.remaining reader.old) (R.remaining reader.new)
+    ensures err { IfErr result (IsFaultOf of_jobs (EndsRun (form_of RunForm.Text) (size_of workers depth sectors) (R.remaining reader.old) (R.remaining reader.new)
         (W.contents writer.old) (W.contents writer.new))) }
 {
     run_jobs_as(
@@ -76,15 +77,14 @@ where
     requires deep { depth ≤ 32 }
     requires room { 1 ≤ sectors }
     requires limit { sectors ≤ 131072 }
-    ensures ok { OnOk result (RunsJobs (form_of form) workers depth sectors (R.remaining reader.old) (R.remaining reader.new)
+    ensures ok { OnOk result (RunsJobs (form_of form) (size_of workers depth sectors) (R.remaining reader.old) (R.remaining reader.new)
         (W.contents writer.old) (W.contents writer.new)) }
-    ensures err { IfErr result (IsFaultOf of_jobs (EndsRun (form_of form) workers depth sectors (R.remaining reader.old) (R.remaining reader.new)
+    ensures err { IfErr result (IsFaultOf of_jobs (EndsRun (form_of form) (size_of workers depth sectors) (R.remaining reader.old) (R.remaining reader.new)
         (W.contents writer.old) (W.contents writer.new))) }
 {
+    let size = RunSize::new(workers, depth, sectors);
     let form = form_of(form);
-    Ok(picked(
-        rt, alloc, workers, depth, sectors, pick, form, reader, writer,
-    )?)
+    Ok(picked(rt, alloc, size, pick, form, reader, writer)?)
 }
 
 /// The form of `ahci_jobs` that a command line asks for.
@@ -103,9 +103,7 @@ fn form_of(form: RunForm) -> Form
 fn picked<H, R, W, A>(
     rt: &H,
     alloc: A,
-    workers: u32,
-    depth: u32,
-    sectors: u32,
+    size: RunSize,
     pick: Pick,
     form: Form,
     reader: &mut R,
@@ -116,26 +114,14 @@ where
     R: Read,
     W: Write,
     A: Allocator + Clone + Send + Sync,
-    requires some { 1 ≤ workers }
-    requires most { workers ≤ 32 }
-    requires slots { 1 ≤ depth }
-    requires deep { depth ≤ 32 }
-    requires room { 1 ≤ sectors }
-    requires limit { sectors ≤ 131072 }
-    ensures ok { OnOk result (RunsJobs form workers depth sectors (R.remaining reader.old) (R.remaining reader.new)
+    ensures ok { OnOk result (RunsJobs form size (R.remaining reader.old) (R.remaining reader.new)
         (W.contents writer.old) (W.contents writer.new)) }
-    ensures err { IfErr result (EndsRun form workers depth sectors (R.remaining reader.old) (R.remaining reader.new)
+    ensures err { IfErr result (EndsRun form size (R.remaining reader.old) (R.remaining reader.new)
         (W.contents writer.old) (W.contents writer.new)) }
 {
     match pick {
-        Pick::Low => ahci_jobs::run_jobs(
-            rt, alloc, workers, depth, sectors, Low, form, reader, writer,
-        ),
-        Pick::High => ahci_jobs::run_jobs(
-            rt, alloc, workers, depth, sectors, High, form, reader, writer,
-        ),
-        Pick::All => ahci_jobs::run_jobs(
-            rt, alloc, workers, depth, sectors, All, form, reader, writer,
-        ),
+        Pick::Low => ahci_jobs::run_jobs(rt, alloc, size, Low, form, reader, writer),
+        Pick::High => ahci_jobs::run_jobs(rt, alloc, size, High, form, reader, writer),
+        Pick::All => ahci_jobs::run_jobs(rt, alloc, size, All, form, reader, writer),
     }
 }

@@ -2,7 +2,7 @@
 ghost use Rattle.std.specs.Prelude.{◌≤◌};
 
 use ahci_driver::Chooser;
-use ahci_jobs::{Form, JobsFault, run_jobs};
+use ahci_jobs::{Form, JobsFault, RunSize, run_jobs};
 use std::alloc::Global;
 use std::io::{Read, Write};
 use std::sync::Wait;
@@ -34,10 +34,8 @@ where
         && 1 <= sectors
         && sectors <= 131_072
     {
-        let form = Form::Text;
-        Some(run_jobs(
-            rt, alloc, workers, depth, sectors, chooser, form, reader, writer,
-        ))
+        let size = RunSize::new(workers, depth, sectors);
+        Some(run_jobs(rt, alloc, size, chooser, Form::Text, reader, writer))
     } else {
         None
     }

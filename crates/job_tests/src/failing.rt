@@ -1,6 +1,6 @@
 //! A reader that fails after every number of bytes, and a writer that takes any number of bytes and no more.
 use ahci_driver::Low;
-use ahci_jobs::{Form, JobsFault, run_jobs};
+use ahci_jobs::{Form, JobsFault, RunSize, run_jobs};
 use std::alloc::AllocError;
 use std::io;
 use std::io::{Read, Write};
@@ -59,9 +59,7 @@ fn a_reader_may_fail_after_any_byte(rt: HostRuntime) {
         let ended = run_jobs(
             &rt,
             rt.alloc(),
-            2,
-            2,
-            8,
+            RunSize::new(2, 2, 8),
             Low,
             Form::Text,
             &mut reader,
@@ -85,9 +83,7 @@ fn a_writer_may_take_any_number_of_bytes(rt: HostRuntime) {
         let ended = run_jobs(
             &rt,
             rt.alloc(),
-            2,
-            2,
-            8,
+            RunSize::new(2, 2, 8),
             Low,
             Form::Text,
             &mut reader,
@@ -128,9 +124,7 @@ fn a_writer_may_fail_before_all_results_are_made(rt: HostRuntime) -> Result<(), 
         let ended = run_jobs(
             &rt,
             rt.alloc(),
-            1,
-            1,
-            8192,
+            RunSize::new(1, 1, 8192),
             Low,
             Form::Text,
             &mut reader,
