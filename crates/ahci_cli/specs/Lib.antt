@@ -1,3 +1,4 @@
 pub mod Fault
 pub mod Faults
+pub mod Picking
 pub mod Program

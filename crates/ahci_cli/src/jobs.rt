@@ -5,8 +5,8 @@ ghost use Rattle.ahci_jobs.specs.RunJobs.{EndsRun, RunsJobs};
 ghost use Rattle.ahci_jobs.specs.Size.{size_of};
 
 use crate::fault::CliFault;
+use crate::picked::Picked;
 use ahci_args::{Pick, RunForm};
-use ahci_driver::{All, High, Low};
 use ahci_jobs::{Form, JobsFault, RunSize};
 use std::alloc::Allocator;
 use std::io::{Read, Write};
@@ -119,9 +119,6 @@ where
     ensures err { IfErr result (EndsRun form size (R.remaining reader.old) (R.remaining reader.new)
         (W.contents writer.old) (W.contents writer.new)) }
 {
-    match pick {
-        Pick::Low => ahci_jobs::run_jobs(rt, alloc, size, Low, form, reader, writer),
-        Pick::High => ahci_jobs::run_jobs(rt, alloc, size, High, form, reader, writer),
-        Pick::All => ahci_jobs::run_jobs(rt, alloc, size, All, form, reader, writer),
-    }
+    let chooser = Picked { pick };
+    ahci_jobs::run_jobs(rt, alloc, size, chooser, form, reader, writer)
 }

@@ -7,6 +7,7 @@ mod fault;
 mod fault_text;
 mod jobs;
 mod pages;
+mod picked;
 mod running;
 mod scripts;
 mod words_fault;

@@ -1,12 +1,12 @@
 //! Runs each script and each job list of the examples, traces and checks each script, and compares what is written with the
-//! text that stands beside it. So it does with a picture, and with two of the disk's pages.
+//! text that stands beside it. So it does with a picture, with two of the disk's pages, and with each page of help.
 #![tactic(auto)]
 
 ghost use Rattle.std.specs.Prelude.{◌≤◌};
 
 use ahci_cli::{
-    CliFault, Form, Pick, check, draw, replay, run_jobs, trace, trace_json, write_identify,
-    write_log,
+    CliFault, Form, Pick, check, draw, program, replay, run_jobs, trace, trace_json,
+    write_identify, write_log,
 };
 use std::fs;
 use std::rt::Files;
@@ -40,6 +40,26 @@ static LISTED: [&str; 1] = ["error_in_a_queue"];
 
 /// The scripts whose picture is in `NAME.svg`.
 static DRAWN: [&str; 1] = ["error_in_a_queue"];
+
+/// Command lines that read nothing: what is written or told is in `NAME.out`, and the exit status. The program is called `ahci`
+/// whatever its own file is.
+static LINES: [(&str, &str, u8); 11] = [
+    ("help", "ahci --help", 0),
+    ("help", "/usr/bin/port --help", 0),
+    ("help_replay", "ahci replay --help", 0),
+    ("help_trace", "ahci trace --help", 0),
+    ("help_check", "ahci check --help", 0),
+    ("help_draw", "ahci draw --help", 0),
+    ("help_run", "port run --help", 0),
+    ("help_identify", "ahci identify --help", 0),
+    ("help_log", "ahci log --help", 0),
+    ("wrong_words", "ahci runs", 2),
+    (
+        "two_forms",
+        "port run --workers 1 --depth 1 --sectors 1 --json --image",
+        2,
+    ),
+];
 
 /// A job list by its name: `NAME.jobs` is the list and `NAME.out` what it writes. Workers and depth are 1 to 32, sectors 1
 /// to 131,072.
@@ -99,6 +119,13 @@ fn main(rt: HostRuntime) -> anyhow::Result<()> {
     }
     tell(&rt, "identify_page", is_identify_page_as_expected(&rt)?)?;
     tell(&rt, "error_log", is_error_log_as_expected(&rt)?)?;
+    for (name, line, status) in LINES {
+        tell(
+            &rt,
+            line,
+            is_line_as_expected(&rt, &rt, name, line, status)?,
+        )?;
+    }
     Ok(())
 }
 
@@ -222,6 +249,35 @@ fn is_error_log_as_expected(rt: &HostRuntime) -> anyhow::Result<bool> {
     let mut written = Vec::new(rt.alloc());
     let outcome = write_log(rt.alloc(), 3, 0x40, 7, false, &mut written);
     is_page_told(rt, "error_log", outcome, written.as_slice())
+}
+
+/// Whether a command line ends with this status, and writes and tells the text of `NAME.out`.
+fn is_line_as_expected<T: Threads + Wait + Sync>(
+    rt: &HostRuntime,
+    threads: &T,
+    name: &str,
+    line: &str,
+    status: u8,
+) -> anyhow::Result<bool> {
+    let alloc = rt.alloc();
+    let expected = fs::read(rt, format!(in alloc; "{name}.out")?)?;
+    let mut words = Vec::new(alloc);
+    for word in line.split_whitespace() {
+        words.push(String::from_str(alloc, word)?)?;
+    }
+    let mut reader = b"".as_slice();
+    let mut written = Vec::new(alloc);
+    let mut told = Vec::new(alloc);
+    let ended = program(
+        threads,
+        alloc,
+        words.as_slice(),
+        &mut reader,
+        &mut written,
+        &mut told,
+    );
+    written.extend_from_slice(told.as_slice())?;
+    Ok(ended == status && written.as_slice() == expected.as_slice())
 }
 
 /// Whether a page was written, and is the text of `NAME.out`.

@@ -208,11 +208,13 @@ fn each_line_has_its_answer(rt: HostRuntime) -> Result<(), Fail> {
     Ok(())
 }
 
-static FAULTS: [(CliFault, &str, u8); 7] = [
+static FAULTS: [(CliFault, &str, u8); 9] = [
     (CliFault::Line(3), "ahci: line 3: not understood", 1),
     (CliFault::Job(0), "ahci: job 0: bad count or address", 1),
     (CliFault::Read, "ahci: input failed", 1),
     (CliFault::Write, "ahci: output failed", 1),
+    (CliFault::CheckRead, "ahci: input failed", 4),
+    (CliFault::CheckWrite, "ahci: output failed", 4),
     (CliFault::Unsettled, "ahci: run not settled", 1),
     (CliFault::Lost(7), "ahci: run not settled", 1),
     (CliFault::OutOfMemory, "ahci: out of memory", 3),

@@ -82,7 +82,7 @@ recover
 collect 0 8
 ";
 
-static CASES: [Case; 48] = [
+static CASES: [Case; 49] = [
     (
         "ahci replay",
         GOOD,
@@ -255,6 +255,13 @@ static CASES: [Case; 48] = [
         GOOD,
         NOTHING,
         Part("unrecognized subcommand 'runs'"),
+        2,
+    ),
+    (
+        "ahci runs",
+        GOOD,
+        NOTHING,
+        Part("\n\nFor more information, try '--help'.\n"),
         2,
     ),
     ("ahci run --workers 33", GOOD, NOTHING, Part("33"), 2),

@@ -11,7 +11,7 @@ use std::thread::Threads;
 /// A job list, its crew, what it writes, and how it ends.
 type List = (&'static str, Crew, &'static str, Result<(), JobsFault>);
 
-static LISTS: [List; 19] = [
+static LISTS: [List; 20] = [
     (
         "write 0 2 11\nwrite 4 1 22\nread 1 1\nread 4 2\n",
         (2, 2, 8),
@@ -19,6 +19,8 @@ static LISTS: [List; 19] = [
         Ok(()),
     ),
     ("", (2, 2, 8), "", Ok(())),
+    // The largest disk.
+    ("", (1, 1, 131_072), "", Ok(())),
     ("# no job\n\n#", (1, 1, 1), "", Ok(())),
     ("read 0 0\n", (2, 2, 8), "", Err(JobsFault::Job(0))),
     (

@@ -104,4 +104,6 @@ fn a_text_wants_memory_and_raw_bytes_want_none(rt: HostRuntime) {
     heap.refuse(Refusals::From(0));
     assert_eq!(rt; write_log(&heap, 0, 0x04, 0, true, &mut told), Ok(()));
     assert!(rt; told.len() == 512 && heap.requests() == 0);
+    assert_eq!(rt; write_identify(&heap, 8, 4, true, &mut told), Ok(()));
+    assert!(rt; told.len() == 1024 && heap.requests() == 0);
 }

@@ -1,5 +1,6 @@
 //! Windows of any bytes in a line: which rule they break first.
 use ahci_check::{Place, complaint_of};
+use refusing_allocator::{Refusals, Refusing};
 use std::alloc::Global;
 use std::test::Fail;
 
@@ -73,6 +74,36 @@ fn each_window_breaks_the_rule_beside_it(rt: HostRuntime) -> Result<(), Fail> {
             None => String::new(rt.alloc()),
         };
         assert!(rt; said.as_str() == *expected, "{line}: {said}");
+    }
+    Ok(())
+}
+
+/// A line whose tag is past the slots, or that has no window, wants no memory: it is judged before a byte of one is read.
+#[test]
+fn a_line_that_is_judged_by_its_numbers_wants_no_memory(rt: HostRuntime) -> Result<(), Fail> {
+    let place = Place::BehindDisk {
+        sectors: 8,
+        depth: 4,
+    };
+    let heap = Refusing::new(rt.alloc());
+    for (line, expected) in [
+        (
+            format!(in rt.alloc(); "raw 4 {HEADER} 27")?,
+            "line 3, column 5: tag 4 of 4 slots",
+        ),
+        (
+            format!(in rt.alloc(); "serve 0 4")?,
+            "line 3, column 9: tag 4 of 4 slots",
+        ),
+        (format!(in rt.alloc(); "serve 0 1")?, ""),
+    ] {
+        heap.refuse(Refusals::From(0));
+        let said = match complaint_of(&heap, place, 3, line.as_bytes())? {
+            Some(complaint) => format!(in rt.alloc(); "{complaint}")?,
+            None => String::new(rt.alloc()),
+        };
+        assert!(rt; said.as_str() == expected, "{line}: {said}");
+        assert_eq!(rt; heap.requests(), 0);
     }
     Ok(())
 }
