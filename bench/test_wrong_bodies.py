@@ -70,7 +70,7 @@ class WrongBodies(unittest.TestCase):
         return subprocess.run([sys.executable, os.path.join(self.top, "bench/wrong_bodies"), *words], env=found, capture_output=True, text=True, check=False)
 
     def said_of(self, ran: "subprocess.CompletedProcess[str]") -> List[str]:
-        """What is said behind the table."""
+        """What is said after the table."""
         return [it for it in ran.stdout.splitlines() if not it.startswith("|") and it]
 
     def tried(self) -> Dict[str, List[str]]:
