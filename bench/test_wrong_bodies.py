@@ -70,7 +70,7 @@ class WrongBodies(unittest.TestCase):
         return subprocess.run([sys.executable, os.path.join(self.top, "bench/wrong_bodies"), *words], env=found, capture_output=True, text=True, check=False)
 
     def said_of(self, ran: "subprocess.CompletedProcess[str]") -> List[str]:
-        """What is said behind the table."""
+        """What is said after the table."""
         return [it for it in ran.stdout.splitlines() if not it.startswith("|") and it]
 
     def tried(self) -> Dict[str, List[str]]:
@@ -131,6 +131,20 @@ class WrongBodies(unittest.TestCase):
         ran = self.run_with("--stale")
         self.assertEqual((1, "changed since their edits were tried: low"), (ran.returncode, self.said_of(ran)[0]))
         self.assertEqual({"low": ["3", "1", "two_is_2", "two_is_7"]}, self.tried())
+
+    def test_a_changed_comment_leaves_a_crate_fresh_and_changed_code_does_not(self) -> None:
+        self.edit("one_is_0", "{ 1 }", "{ 0 }")
+        self.write("crates/low/specs/Low.antt", "-- one\none = 1\n")
+        self.run_with("--all", "low")
+        fresh = ["wrong_bodies: no crate has changed since its edits were tried"]
+        self.write("crates/low/src/lib.rt", "//! other words\n\n" + SOURCE + "    // more\n")
+        self.write("crates/low/specs/Low.antt", "-- other words\n\none = 1\n  -- more\n")
+        self.assertEqual(fresh, self.said_of(self.run_with("--stale")))
+        self.write("crates/low/specs/Low.antt", "-- one\none = 2\n")
+        self.assertEqual("changed since their edits were tried: low", self.said_of(self.run_with("--stale"))[0])
+        self.assertEqual(fresh, self.said_of(self.run_with("--stale")))
+        self.write("crates/low/src/lib.rt", SOURCE.replace("{ 9 }", "{ 8 }"))
+        self.assertEqual("changed since their edits were tried: low", self.said_of(self.run_with("--stale"))[0])
 
     def test_a_word_chooses_edits(self) -> None:
         self.edit("one_is_0", "{ 1 }", "{ 0 }")

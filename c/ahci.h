@@ -275,7 +275,7 @@ uint32_t ahci_port_new(ahci_port *port, const uint8_t *image, size_t image_bytes
 uint32_t ahci_port_new_zeros(ahci_port *port, uint32_t sectors, uint32_t depth);
 
 /* As ahci_port_new, where the journal goes on from an earlier one: its first entry has the number `first`, at most 2^63.
-   AHCI_BAD_FIRST behind AHCI_BAD_DEPTH. */
+   AHCI_BAD_FIRST after AHCI_BAD_DEPTH. */
 uint32_t ahci_port_resume(ahci_port *port, const uint8_t *image, size_t image_bytes, uint32_t depth, uint64_t first);
 
 /* Frees a port, and leaves its place empty. AHCI_NO_PORT, as of every call from here on to ahci_port_state. */
@@ -383,7 +383,7 @@ uint32_t ahci_port_state(ahci_port *port, ahci_state *state);
 
 /* ---- the layers alone, with no port ---- */
 
-/* Reads a FIS, which takes all of the bytes. Reserved bits are ignored. The payload of a Data FIS stands behind its first four
+/* Reads a FIS, which takes all of the bytes. Reserved bits are ignored. The payload of a Data FIS stands after its first four
    bytes. AHCI_EMPTY_FIS, AHCI_UNKNOWN_TYPE, AHCI_WRONG_FIS_LENGTH. */
 uint32_t ahci_fis_decode(const uint8_t *bytes, size_t count, ahci_fis *fis);
 
@@ -415,7 +415,7 @@ uint32_t ahci_journal_check(uint32_t sectors, uint32_t depth, const ahci_entry *
 /* ---- the library ---- */
 
 /* The name of a status as `ahci replay` writes it, as "OutsideCommand", or as here for one that it has not, as "NoPort"; "Ok" of
-   AHCI_OK. It is copied to the beginning of `out` with a 0 byte behind it, and *length is the name's, without the 0.
+   AHCI_OK. It is copied to the beginning of `out` with a 0 byte after it, and *length is the name's, without the 0.
    AHCI_BAD_KIND for a number that is no status, AHCI_BUFFER_TOO_SMALL: 32 bytes are enough. */
 uint32_t ahci_status_text(uint32_t status, uint8_t *out, size_t out_bytes, size_t *length);
 

@@ -22,7 +22,7 @@ static void ask(uint32_t slot, bool is_write, uint8_t lba, uint8_t fill)
     header[11] = (uint8_t)(base >> 24);       /* CTBA: the low 24 bits are 0 */
     const uint8_t fis[13] = { 0x27, 0x80, is_write ? 0x61 : 0x60, 1, lba, 0, 0, 0x40, 0, 0, 0, 0, (uint8_t)(slot << 3) };
     memcpy(table, fis, sizeof fis);
-    table[0x80] = 0x90;                       /* DBA: behind the table */
+    table[0x80] = 0x90;                       /* DBA: after the table */
     table[0x83] = (uint8_t)(base >> 24);
     table[0x8C] = 0xFF;                       /* DBC: 512 bytes less one */
     table[0x8D] = 0x01;

@@ -37,7 +37,7 @@ static void pages(void)
     CHECK(ahci_log_page(0, 0, 0, page, 0) == AHCI_WRONG_LENGTH);
 }
 
-/* READ FPDMA QUEUED of sector 9 with tag 1, into one piece behind its table. */
+/* READ FPDMA QUEUED of sector 9 with tag 1, into one piece after its table. */
 static void windows(void)
 {
     static uint8_t memory[0x90 + 512];

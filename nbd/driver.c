@@ -122,7 +122,7 @@ static void end_drain(struct driver *driver) {
     pthread_cond_broadcast(&driver->room);
 }
 
-/* Throws the journal away once it holds much. Who comes while slots drain waits for its slot behind the trim. */
+/* Throws the journal away once it holds much. Who comes while slots drain waits for its slot after the trim. */
 static void trim_if_long(struct driver *driver) {
     if (driver->journal < driver->settings->most_journal || driver->drains)
         return;

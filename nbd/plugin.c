@@ -40,7 +40,7 @@ static int ahci_get_ready(void) {
     return has_port ? 0 : -1;
 }
 
-/* Threads begin behind the fork into the background. */
+/* Threads begin after the fork into the background. */
 static int ahci_after_fork(void) {
     has_device = !device_begin(&device, &driver);
     if (!has_device)

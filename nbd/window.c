@@ -3,7 +3,7 @@
 #include <string.h>
 
 #define BASE 0x10000000u    /* the window of tag 0 in the model's memory */
-#define EACH 0x04000000u    /* and those of the others behind it */
+#define EACH 0x04000000u    /* and those of the others after it */
 #define SECTOR 512u
 
 static void put_word(uint8_t *to, uint32_t word) {

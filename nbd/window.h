@@ -9,7 +9,7 @@
 /* Sectors of one piece: its byte count has 22 bits. */
 #define WINDOW_SECTORS 8192
 
-/* Where the data stand, behind CFIS, ACMD and a PRDT of one entry. */
+/* Where the data stand, after CFIS, ACMD and a PRDT of one entry. */
 #define WINDOW_DATA 0x90
 
 /* How many bytes the window of so many sectors has. */

@@ -58,7 +58,7 @@ class Comparer:
         return bytes(a & ~b for a, b in zip(now.mask, same))
 
     def area(self, step: Step) -> List[Difference]:
-        """The FISes of this line alone: the area is cleared behind each line."""
+        """The FISes of this line alone: the area is cleared after each line."""
         area, found = bytearray(self.driver.area()), []
         if not any(area) and not step.received:
             return []

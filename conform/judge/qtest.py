@@ -144,7 +144,7 @@ class Qtest:
             raise EmulatorFault(self.death()) from why
 
     def ask(self, *commands: str) -> List[str]:
-        """Gives commands of the qtest protocol, and answers what stands behind each OK."""
+        """Gives commands of the qtest protocol, and answers what stands after each OK."""
         self.give(self.qtest, "".join(f"{it}\n" for it in commands))
         answers = [self.line(self.qtest) for _ in commands]
         for command, answer in zip(commands, answers):

@@ -4,7 +4,7 @@ from typing import List, NamedTuple, Tuple
 from . import layout
 from .model import Sent
 
-UNTOUCHED = 0xC5  # what stands where a read's data shall come, and behind the last piece
+UNTOUCHED = 0xC5  # what stands where a read's data shall come, and after the last piece
 GUARD = 64
 
 

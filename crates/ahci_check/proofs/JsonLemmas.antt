@@ -1,4 +1,4 @@
--- An object's tokens, one behind the other.
+-- An object's tokens, one after the other.
 use Rattle.std.proofs.Common.{◌≡◌, List, [], ◌∷◌, ◌++◌, ap, ◌∙◌}
 
 -- one more than those that are known, which is known itself

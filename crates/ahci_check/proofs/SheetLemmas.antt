@@ -33,7 +33,7 @@ made form judge found text = record { form = form; judge = judge; found = found;
 abbrev begun : Desk → Sheet
 begun desk = made desk.form desk.judge desk.found desk.waiting
 
--- a sheet behind other text
+-- a sheet after other text
 abbrev behind : List ℕ → Sheet → Sheet
 behind text sheet = made sheet.form sheet.judge sheet.found (text ++ sheet.text)
 
@@ -44,7 +44,7 @@ record Told (p : Stand) (sheet : Sheet) (q : Stand) : Type 0 where
   judge_is : q.desk.judge ≡ sheet.judge
   found_is : q.desk.found ≡ sheet.found
 
--- such a sheet is the one that begins with what waits then, behind what was written
+-- such a sheet is the one that begins with what waits then, after what was written
 split : (p q : Stand) (sheet : Sheet) (h : Told p sheet q) → sheet ≡ behind h.sends.sent (begun q.desk)
 split p q sheet h =
     ap (λ x. made x sheet.judge sheet.found sheet.text) (sym h.form_is) ∙ ap (λ x. made q.desk.form x sheet.found sheet.text) (sym h.judge_is)
@@ -238,7 +238,7 @@ stays_part : (p q z : Stand) (d : Known) (sheet : Sheet) → Told p sheet q → 
 stays_part p q z d sheet told same part =
     sent_part p.contents q.contents d sheet.text q.desk.waiting told.sends (subst (λ k. WritesPart k d q.desk.waiting) same.0 (subst (WritesPart z.contents d) same.1 part))
 
--- why a check ends behind lines that were judged
+-- why a check ends after lines that were judged
 abbrev Why : CheckFault → Known → Lines → Known → List ℕ → Type 0
 Why Read s lines remaining rest = (found_of rest ≡ unfinished) × MayFail (length (with_feeds lines ++ rest)) remaining s
 Why OutOfMemory s lines remaining rest = Unit {0}
@@ -340,7 +340,7 @@ stopped_unfailed f stop r s a b other h =
     let before = stopped_before f stop r s a b other h in
     ap (λ (w : WrittenSoFar). w.failed) before.holds.0.2 ∙ unfailed f a before.to 1 before.lines before.taken
 
--- the writes, where what waits was written behind a fault
+-- the writes, where what waits was written after a fault
 pub writes_to : (fault : CheckFault) (old mid new : WrittenSoFar) → is_of_output fault ≡ false → mid.failed ≡ old.failed → new ≡ with_flush mid → WritesTo old new fault
 writes_to Read old mid new other is sent = sent ∙ with_flush_same old mid is
 writes_to OutOfMemory old mid new other is sent = ap (λ (w : WrittenSoFar). w.failed) sent ∙ is

@@ -96,7 +96,7 @@ register_excess words (Ok register) = None
 register_excess words (Err reg.Unaligned) = excess_at words limit.Unaligned
 register_excess words (Err fault) = excess_at words limit.NoSuchRegister
 
--- the first limit that a line's words pass, behind a disk of so many sectors and slots
+-- the first limit that a line's words pass, after a disk of so many sectors and slots
 abbrev pub excess_behind : ℕ → ℕ → List ℕ → ScriptCommand → Option Excess
 excess_behind sectors depth words (command.Write tag lba count fill) = transfer_excess depth words tag lba count
 excess_behind sectors depth words (command.Read tag lba count) = transfer_excess depth words tag lba count

@@ -66,7 +66,7 @@ fn excess_before(words: &[u8], command: &ScriptCommand<'_>) -> Option<Excess>
     }
 }
 
-/// The first limit that a line passes behind a disk of so many sectors and slots.
+/// The first limit that a line passes after a disk of so many sectors and slots.
 fn excess_behind<A: Allocator>(
     alloc: A,
     sectors: u64,

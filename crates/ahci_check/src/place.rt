@@ -8,7 +8,7 @@ use ahci_script::{Breach, Fault, Line, ScriptCommand, after_first, read_line};
 #[derive(Clone, Copy, Debug, PartialEq, Eq)]
 pub enum Place {
     BeforeDisk,
-    /// Behind a disk of so many sectors, on a port of so many slots.
+    /// After a disk of so many sectors, on a port of so many slots.
     BehindDisk { sectors: u64, depth: u64 },
 }
 

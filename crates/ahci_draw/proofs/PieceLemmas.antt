@@ -8,7 +8,7 @@ use Rattle.ncq_journal.specs.Numbering.{entry_numbered}
 use Rattle.ncq_journal.specs.declared.phase.Phase.{Phase}
 use Rattle.ahci_draw.specs.Entries.{entries_text, line_of, moved_by, turned_behind}
 
--- pieces, one behind the other
+-- pieces, one after the other
 pub two : {X : Type 0} (old one new a a' b b' : List X) → one ≡ old ++ a → new ≡ one ++ b → a ≡ a' → b ≡ b' → new ≡ old ++ (a' ++ b')
 two old one new a a' b b' first second p q =
     second ∙ ap (λ t. one ++ t) q ∙ ap (λ t. t ++ b') (first ∙ ap (λ t. old ++ t) p) ∙ append_assoc old a' b'
@@ -63,7 +63,7 @@ pub any_mapped : {X Y : Type 0} (p : Y → Bool) (f : X → Y) (xs : List X) →
 any_mapped p f [] = refl
 any_mapped p f (x ∷ xs) = ap (λ b. p (f x) || b) (any_mapped p f xs)
 
--- where the text so far and the lines that are left are the whole, they are so behind the next one
+-- where the text so far and the lines that are left are the whole, they are so after the next one
 pub next_line : (first : ℕ) (past : List Entry) (text new whole : List ℕ) (phases after : List Phase) (writes turned : List Bool) (n end : ℕ) (found : Option Entry)
     → n < end → entry_numbered first past n ≡ found → text ++ entries_text first past phases writes n (end - n) ≡ whole
     → new ≡ text ++ line_of n phases writes found → after ≡ moved_by phases found → turned ≡ turned_behind writes found

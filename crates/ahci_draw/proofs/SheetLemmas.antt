@@ -42,7 +42,7 @@ pub draws_sent : {T : Type 0} (result : Result T ScriptFault) (old new : Written
 draws_sent (Ok x) old new sent = sent
 draws_sent (Err f) old new sent = draws_as old new f sent
 
--- behind a line that is faulty, and behind a failed read
+-- after a line that is faulty, and after a failed read
 pub draws_line : (n : ℕ) (told : ScriptFault) (old new : WrittenSoFar) → SendWritesAt (fault.Line n) old new told → DrawWrites old new told
 draws_line n told old new (inl (same, is)) = subst (DrawWrites old new) (sym same) is
 draws_line n told old new (inr sent) = draws_as old new told sent

@@ -66,7 +66,7 @@ SendWrites old new fault.Write = new ≡ with_failed_write old
 SendWrites old new fault.OutOfMemory = new ≡ old
 SendWrites old new _ = ⊥
 
--- behind a fault of the script: the picture was written and flushed, and that fault is told; or it was not
+-- after a fault of the script: the picture was written and flushed, and that fault is told; or it was not
 abbrev pub SendWritesAt : ScriptFault → WrittenSoFar → WrittenSoFar → ScriptFault → Type 0
 SendWritesAt f old new told = ((told ≡ f) × (new ≡ with_flush old)) ⊎ SendWrites old new told
 

@@ -7,7 +7,7 @@ use Rattle.ahci_draw.specs.Directions.{turned}
 use Rattle.ahci_draw.specs.Line.{entry_line}
 use Rattle.ahci_draw.specs.Phases.{moved}
 
--- phases and directions behind an entry, where there is one
+-- phases and directions after an entry, where there is one
 abbrev pub moved_by : List Phase → Option Entry → List Phase
 moved_by phases None = phases
 moved_by phases (Some entry) = moved phases entry

@@ -7,7 +7,7 @@ use Rattle.ahci_draw.specs.Strip.{runs_text}
 use Rattle.ahci_draw.specs.declared.strip.Strip.TheVariants.{Lane, Device}
 use Rattle.ahci_draw.specs.Text.{letter, numbered}
 
--- an entry tells of a tag: the tag is not free behind it, or it is the entry's own
+-- an entry tells of a tag: the tag is not free after it, or it is the entry's own
 abbrev pub is_told : List ℕ → ℕ → Bool
 is_told line tag = not (slice_index line tag == 46) || (slice_index line lane_place == letter tag)
 
@@ -26,7 +26,7 @@ cells_in lines place = map (λ line. slice_index line place) lines
 unfoldable pub name_shape : (lane tag : ℕ) → List ℕ
 name_shape lane tag = numbered (codes "\n<text x='36' y='") (16 * lane + 35) ++ (numbered (codes "'>tag ") tag ++ codes "</text>")
 
--- the lane of a tag, behind so many others: its name, the runs of its phases, and the signs of its entries
+-- the lane of a tag, after so many others: its name, the runs of its phases, and the signs of its entries
 unfoldable pub lane_text : List (List ℕ) → (lane tag : ℕ) → List ℕ
 lane_text lines lane tag = name_shape lane tag ++ (runs_text (Lane lane) (cells_in lines tag) ++ signs_text (letter tag) (16 * lane + 35) lines)
 

@@ -61,7 +61,7 @@ lane_of (Reissue tag) = letter tag
 lane_of (Collect tag) = letter tag
 lane_of (Unqueued command) = 46
 
--- the line of an entry, behind which the tags stand so
+-- the line of an entry, after which the tags stand so
 unfoldable pub entry_line : ℕ → List Phase → List Bool → Entry → List ℕ
 entry_line number phases writes entry =
     (10 ∷ []) ++ (cells phases writes ++ ((letter (in_device phases) ∷ sign_of entry ∷ lane_of entry ∷ []) ++ title_text number entry))

@@ -15,7 +15,7 @@ lines_of sheet = filter (λ line. nat_lt 0 (length line)) (slice_split (λ byte.
 abbrev pub within : ℕ → ℕ → List (List ℕ) → List (List ℕ)
 within from to lines = drop from (take (to + 1) lines)
 
--- the places in a line behind the letters of the 32 tags
+-- the places in a line after the letters of the 32 tags
 abbrev pub device_place : ℕ
 device_place = 32
 
@@ -25,7 +25,7 @@ sign_place = 33
 abbrev pub lane_place : ℕ
 lane_place = 34
 
--- the entry in words, behind its number
+-- the entry in words, after its number
 abbrev pub title_of : List ℕ → List ℕ
 title_of line = drop 35 line
 

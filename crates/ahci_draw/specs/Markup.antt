@@ -18,17 +18,17 @@ is_name byte = (nat_le 97 byte && nat_le byte 122) || ((nat_le 65 byte && nat_le
 pub data Place : Type 0 where
   -- between tags
   Text : Place
-  -- behind the < of a tag
+  -- after the < of a tag
   Begun : Place
-  -- in the name of a start tag, and behind the space after it
+  -- in the name of a start tag, and after the space that follows it
   Named : (name : List ℕ) → Place
   Spaced : (name : List ℕ) → Place
-  -- in the name of an attribute, behind its =, in its value, and behind that
+  -- in the name of an attribute, after its =, in its value, and after that
   Keyed : (name : List ℕ) → Place
   Valued : (name : List ℕ) → Place
   Quoted : (name : List ℕ) → Place
   Unquoted : (name : List ℕ) → Place
-  -- behind the / of an empty element
+  -- after the / of an empty element
   Emptied : Place
   -- in the name of an end tag
   Ending : (name : List ℕ) → Place
@@ -57,12 +57,12 @@ abbrev pub closed : List ℕ → List (List ℕ) → Reader
 closed name [] = wrong
 closed name (innermost ∷ opened) = if same name innermost then at Text opened else wrong
 
--- behind the name or an attribute of a start tag
+-- after the name or an attribute of a start tag
 abbrev pub behind : List ℕ → List (List ℕ) → ℕ → Reader
 behind name opened byte =
     if byte == 32 then at (Spaced name) opened else (if byte == 47 then at Emptied opened else (if byte == 62 then at Text (name ∷ opened) else wrong))
 
--- where a reader stands behind one more byte
+-- where a reader stands after one more byte
 abbrev pub after : Place → List (List ℕ) → ℕ → Reader
 after Text opened byte = if byte == 60 then at Begun opened else (if is_plain byte || (byte == 10) then at Text opened else wrong)
 after Begun opened byte = if byte == 47 then at (Ending []) opened else (if is_name byte then at (Named (byte ∷ [])) opened else wrong)
@@ -80,7 +80,7 @@ abbrev pub reads : List ℕ → Reader → Reader
 reads [] reader = reader
 reads (byte ∷ more) reader = reads more (after reader.place reader.opened byte)
 
--- the text can be read, and behind it no tag and no element is open that wasn't before
+-- the text can be read, and after it no tag and no element is open that wasn't before
 abbrev pub IsClosed : List ℕ → Type 0
 IsClosed text = reads text (at Text []) ≡ at Text []
 

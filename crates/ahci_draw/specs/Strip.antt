@@ -19,7 +19,7 @@ colour_of cell =
     else (if cell == 102 then codes "fbb" else (if cell == 70 then codes "e55" else (if cell == 104 then codes "ddd" else (if cell == 72 then codes "aaa"
     else (if cell == 100 then codes "bea" else codes "5b6"))))))))
 
--- the bar of so many columns from one on, in the lane behind so many others
+-- the bar of so many columns from one on, in the lane after so many others
 unfoldable pub bar_shape : ℕ → ℕ → ℕ → ℕ → List ℕ
 bar_shape lane cell start count =
     codes "<path stroke='#" ++ (colour_of cell ++ (numbered (codes "' d='M") (left_of start) ++ (numbered (codes " ") (16 * lane + 32)

@@ -2,7 +2,7 @@
 use Rattle.std.specs.Prelude.{ℕ, ◌+◌, ◌%◌, List, ◌++◌}
 use Rattle.std.specs.Fmt.{decimal}
 
--- a word, and a number behind it
+-- a word, and a number after it
 unfoldable pub numbered : List ℕ → ℕ → List ℕ
 numbered word number = word ++ decimal number
 

@@ -10,7 +10,7 @@ use crate::phases::phases_after;
 use ncq_core::{Journal, Phase};
 use std::alloc::{AllocError, Allocator};
 
-/// Appends the line of the entry of a number, where there is one, and moves phases and directions behind it.
+/// Appends the line of the entry of a number, where there is one, and moves phases and directions after it.
 fn push_entry<A: Allocator, B: Allocator>(
     text: &mut Vec<u8, A>,
     journal: &Journal<B>,

@@ -12,7 +12,7 @@ use crate::text::{letter, push_number};
 use ahci_script::growing::push;
 use std::alloc::{AllocError, Allocator};
 
-/// Whether an entry tells of a tag: the tag is not free behind it, or it is the entry's own.
+/// Whether an entry tells of a tag: the tag is not free after it, or it is the entry's own.
 fn is_told(line: &[u8], tag: usize) -> bool
     ensures { result ≡ is_told line.now tag }
 {
@@ -68,7 +68,7 @@ fn push_name<A: Allocator>(text: &mut Vec<u8, A>, lane: usize, tag: usize) -> Re
     push(text, b"</text>")
 }
 
-/// Appends the lane of a tag, behind so many others.
+/// Appends the lane of a tag, after so many others.
 #[tactic(auto, unfolding(crate::specs::Lanes::lane_text))]
 fn push_lane<A: Allocator + Copy>(
     alloc: A,

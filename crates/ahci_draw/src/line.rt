@@ -97,7 +97,7 @@ fn lane_of<A: Allocator>(event: &Event<A>) -> u8
     }
 }
 
-/// Appends the line of an entry, behind which the tags stand so.
+/// Appends the line of an entry, after which the tags stand so.
 #[tactic(auto, unfolding(crate::specs::Line::entry_line))]
 pub(crate) fn push_line<A: Allocator, B: Allocator>(
     text: &mut Vec<u8, A>,

@@ -5,7 +5,7 @@ ghost use Rattle.ahci_draw.specs.Lines.{label_of, lines_of, texts, title_of, wit
 
 use std::alloc::{AllocError, Allocator};
 
-/// The places in a line behind the letters of the 32 tags.
+/// The places in a line after the letters of the 32 tags.
 pub(crate) const DEVICE: usize = 32;
 
 pub(crate) const SIGN: usize = 33;
@@ -45,7 +45,7 @@ pub(crate) fn within<'a, 'b>(lines: &'b [&'a [u8]], from: u64, to: u64) -> &'b [
     &lines[first..]
 }
 
-/// The byte at a place of a line; 0 behind its end.
+/// The byte at a place of a line; 0 after its end.
 pub(crate) fn byte_at(line: &[u8], place: usize) -> u8
     ensures { result ≡ slice_index line.now place }
 {
@@ -55,7 +55,7 @@ pub(crate) fn byte_at(line: &[u8], place: usize) -> u8
     }
 }
 
-/// The entry in words, behind its number.
+/// The entry in words, after its number.
 pub(crate) fn title_of(line: &[u8]) -> &[u8]
     ensures { result.now ≡ title_of line.now }
 {

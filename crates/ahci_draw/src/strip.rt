@@ -12,9 +12,9 @@ use std::alloc::{AllocError, Allocator};
 /// Which strip of a row.
 #[derive(Clone, Copy, Debug)]
 pub(crate) enum Strip {
-    /// The lane behind so many others.
+    /// The lane after so many others.
     Lane(usize),
-    /// The row of the device, behind so many lanes.
+    /// The row of the device, after so many lanes.
     Device(usize),
 }
 

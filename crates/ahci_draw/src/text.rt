@@ -5,7 +5,7 @@ use ahci_script::growing::push;
 use itoa::Buffer;
 use std::alloc::{AllocError, Allocator};
 
-/// Appends a word, and a decimal number behind it: 128 bits hold each place of a picture.
+/// Appends a word, and a decimal number after it: 128 bits hold each place of a picture.
 #[tactic(auto, unfolding(crate::specs::Text::numbered))]
 pub(crate) fn push_number<A: Allocator>(
     text: &mut Vec<u8, A>,

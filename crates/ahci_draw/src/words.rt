@@ -60,7 +60,7 @@ fn push_failure<A: Allocator>(
     push_number(text, b", LBA ", lba as u128)
 }
 
-/// Appends an entry in words, behind its number.
+/// Appends an entry in words, after its number.
 pub(crate) fn push_words<A: Allocator, B: Allocator>(
     text: &mut Vec<u8, A>,
     event: &Event<B>,

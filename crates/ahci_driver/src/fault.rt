@@ -20,7 +20,7 @@ pub enum PumpFault {
 }
 
 /// Why a run is not settled. The cases are tested in this order, but that `OutOfMemory` may stand in place of those
-/// behind `Count`.
+/// after `Count`.
 #[derive(Clone, Copy, Debug, PartialEq, Eq)]
 pub enum SettleFault {
     /// There are not as many receipts as jobs.

@@ -114,7 +114,7 @@ abbrev pub MovesData : List ℕ → List Entry → Work → WindowState → Wind
 MovesData starting past (Write lba bytes) old new = new ≡ old
 MovesData starting past (Read lba sectors) old new = IsScattered old 0 (sectors_at starting past lba sectors) new
 
--- the window of the k-th tag of a list, whose command is completed behind those of the tags before it
+-- the window of the k-th tag of a list, whose command is completed after those of the tags before it
 abbrev pub HasMoved : List ℕ → PortView → PortView → ℕ → Type 0
 HasMoved tags old new k =
     IsSomeAnd (window_at old (slice_index tags k)) (λ w.

@@ -28,7 +28,7 @@ use Rattle.ahci_port.specs.declared.written.Written.TheVariants.{Noted, Commande
 abbrev pub nothing_pending : Pending
 nothing_pending = record { sact = 0; stopped = false }
 
--- a guest's memory has the headers of the 32 slots one behind the other, and each slot's window in a 32nd part of the rest
+-- a guest's memory has the headers of the 32 slots one after the other, and each slot's window in a 32nd part of the rest
 abbrev pub share : List ℕ → ℕ
 share windows = length windows / 32
 

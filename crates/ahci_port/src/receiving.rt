@@ -82,7 +82,7 @@ pub(crate) fn receive_bits(registers: &mut PortRegs, area: &mut [u8; 256], fis: 
     }
 }
 
-/// A PIO Setup FIS for slot 0, with its data behind it.
+/// A PIO Setup FIS for slot 0, with its data after it.
 pub(crate) fn receive_pio(registers: &mut PortRegs, area: &mut [u8; 256], fis: &[u8; 20])
     requires spells { Spells fis.now (fis_of.PioSetup (pio_setup_at fis.now)) }
     ensures area { area.new ≡ put_at pio_place fis.now area.old }

@@ -1,4 +1,4 @@
--- Where the journal ends behind a step of the device.
+-- Where the journal ends after a step of the device.
 use Rattle.std.proofs.Common.{◌≡◌, ℕ, ◌+◌, Bool, true, false, List, [], ◌∷◌, length, ap, sym, subst, Option, None, Some, IsSomeAnd, arith}
 use Rattle.ncq_journal.specs.Entry.{Entry, Complete}
 use Rattle.ncq_journal.specs.Request.{Request, request}

@@ -46,7 +46,7 @@ Port = Option PortView
 
 -- ---- what is written
 
--- more text comes behind what waits, and then more is written
+-- more text comes after what waits, and then more is written
 sends_more : (c d e : Known) (waiting between text left : Text) → Sends c d waiting between → Sends d e (between ++ text) left → Sends c e (waiting ++ text) left
 sends_more c d e waiting between text left p q = record {
   sent = p.sent ++ q.sent;
@@ -54,7 +54,7 @@ sends_more c d e waiting between text left p q = record {
   said = ap (λ l. l ++ text) p.said ∙ append_assoc p.sent between text ∙ ap (λ l. p.sent ++ l) q.said ∙ sym (append_assoc p.sent q.sent left);
 }
 
--- more text comes behind what waits
+-- more text comes after what waits
 sends_text : (c d : Known) (waiting left text : Text) → Sends c d waiting left → Sends c d (waiting ++ text) (left ++ text)
 sends_text c d waiting left text p =
     record { sent = p.sent; written = p.written; said = ap (λ l. l ++ text) p.said ∙ append_assoc p.sent left text }
@@ -145,11 +145,11 @@ last_answers : (telling : Telling) (s : Known) (rest : Text) (n : ℕ) (p q : Pl
 last_answers telling s rest n p q (inl long) takes = absurd (subst (λ k. Takes telling p n (last_by k rest) q) long takes)
 last_answers telling s rest n p q (inr end) takes = (end.0, end.1, subst (λ k. Takes telling p n (last_by k rest) q) end.1 takes)
 
--- the same line behind other text
+-- the same line after other text
 rebased : {telling : Telling} (n : ℕ) (p q : Port) (line text waiting all : Text) (g : Grown telling n p line q waiting all) → Grown telling n p line q text (text ++ g.added)
 rebased n p q line text waiting all g = record { spelled = g.spelled; is = g.is; added = g.added; ran = g.ran; grown = refl }
 
--- a last line behind the text
+-- a last line after the text
 with_answer : {telling : Telling} (n : ℕ) (c : Known) (p q : Place) (line text : Text) (h : Answers telling n p line q) → Sends c p.contents text p.waiting
     → Sends c q.contents (text ++ h.grown.added) q.waiting
 with_answer n c p q line text h sends =
@@ -191,7 +191,7 @@ all_part_written telling f r s e d a b new h part =
 
 -- ---- a fault
 
--- why a script ends behind lines that are answered
+-- why a script ends after lines that are answered
 abbrev Why : Known → ScriptFault → List Text → Known → Port → Text → Type 0
 Why s (Line n) lines remaining port rest = (n ≡ length lines + 1) × IsFaulty remaining port rest
 Why s Read lines remaining port rest = (found_of rest ≡ unfinished) × MayFail (length (with_feeds lines ++ rest)) remaining s
@@ -350,7 +350,7 @@ output_has_failed telling f stopped.OutOfMemory r s a b is h = absurd (cc)
 pub with_flush_same : (old mid : WrittenSoFar) → mid.failed ≡ old.failed → with_flush mid ≡ with_flush old
 with_flush_same old mid is = ap (λ f. with_flush (record { failed = f; flushed = true })) is
 
--- the writes, where what waits was written behind a fault
+-- the writes, where what waits was written after a fault
 pub writes_to : (fault : ScriptFault) (old mid new : WrittenSoFar) → is_of_output fault ≡ false → mid.failed ≡ old.failed → new ≡ with_flush mid → WritesTo old new fault
 writes_to (Line n) old mid new other is sent = sent ∙ with_flush_same old mid is
 writes_to Read old mid new other is sent = sent ∙ with_flush_same old mid is

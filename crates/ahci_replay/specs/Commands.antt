@@ -49,7 +49,7 @@ step_said (stepped.Accepted entry) = says.Accepted entry
 step_said (stepped.Completed first count) = says.Completed first (first + count)
 step_said (stepped.Failed entry) = says.FailedStep entry
 
--- where the journal ends behind a step that has completed some commands
+-- where the journal ends after a step that has completed some commands
 abbrev pub EndsAt : Stepped → ℕ → Type 0
 EndsAt (stepped.Completed first count) end = end ≡ first + count
 EndsAt done end = Unit {0}

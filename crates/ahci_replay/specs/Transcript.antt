@@ -44,13 +44,13 @@ pub record HasRun (telling : Telling) (number : ℕ) (line : List ℕ) (old : Op
   pub ran : Runs old command new said
   pub spelled : text ≡ telling number line said old new
 
--- the port behind a line, and what the line adds: nothing where it is skipped, an answer where it is a command
+-- the port after a line, and what the line adds: nothing where it is skipped, an answer where it is a command
 abbrev pub RunsLine : Telling → ℕ → List ℕ → Option PortView → Line → Option PortView → List ℕ → Type 0
 RunsLine telling number first old line.Skip new text = (new ≡ old) × (text ≡ [])
 RunsLine telling number first old (line.Run command) new text = HasRun telling number first old command new text
 
 -- lines, one after the other, none of which holds a line feed, and the number of the first: the text that they add, and the port
--- behind them
+-- after them
 pub data Adds (telling : Telling) : ℕ → Option PortView → List (List ℕ) → List ℕ → Option PortView → Type 0 where
   no_line : (number : ℕ) (port : Option PortView) → Adds telling number port [] [] port
   one_more : (number : ℕ) (port : Option PortView) (first : List ℕ) (l : Line) (next : Option PortView) (added : List ℕ) (more : List (List ℕ)) (text : List ℕ) (last : Option PortView)
@@ -135,8 +135,8 @@ pub record Replayed (telling : Telling) (remaining_old remaining_new contents_ol
   pub end : IsAtEnd remaining_new
   pub written : Appends contents_old contents_new all
 
--- lines at the front of an input, and the text that they add; what holds behind them is said of the text, of what the reader has
--- left, of the port, of the bytes behind the lines, and of the lines
+-- lines at the front of an input, and the text that they add; what holds after them is said of the text, of what the reader has
+-- left, of the port, of the bytes after the lines, and of the lines
 pub record ReplayedFirst (telling : Telling) (remaining_old : Option (List ℕ))
     (P : List ℕ → Option (List ℕ) → Option PortView → List ℕ → List (List ℕ) → Type 0) : Type 0 where
   pub lines : List (List ℕ)

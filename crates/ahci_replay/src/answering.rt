@@ -11,7 +11,7 @@ use ahci_script::ScriptAnswer;
 use ahci_table::Window;
 use std::alloc::{AllocError, Allocator};
 
-/// The answer of a device's step, behind which the next entry has the number `end`.
+/// The answer of a device's step, after which the next entry has the number `end`.
 pub(crate) fn stepped<A: Allocator>(done: Stepped, end: u64) -> ScriptAnswer<A>
     requires { EndsAt done end }
     ensures { said result ≡ step_said done }

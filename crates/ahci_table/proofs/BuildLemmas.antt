@@ -57,12 +57,12 @@ furthest_within n (p ∷ ps) h =
     let first : end_of p ≤ n = h 0 p (omega arith) in
     let rest : furthest ps ≤ n = furthest_within n ps (λ k d l. h (suc k) d (omega arith)) in omega arith
 
--- the end is behind the table
+-- the end is after the table
 pub table_fits : (t : ℕ) (ps : List Piece) → 1 ≤ length ps → All (λ p. t ≤ p.at) ps → t ≤ furthest ps
 table_fits t [] some h = absurd (omega arith)
 table_fits t (p ∷ ps) some h = let first : t ≤ p.at = h 0 p (omega arith) in omega arith
 
--- pieces behind the table hold zeros at first
+-- pieces after the table hold zeros at first
 pub joined-zeros : (front : List ℕ) (m : ℕ) (ps : List Piece) → All (λ p. length front ≤ p.at) ps
     → All (λ p. end_of p ≤ length front + m) ps → joined ps (front ++ replicate m 0) ≡ replicate (total ps) 0
 joined-zeros front m [] low high = refl

@@ -67,7 +67,7 @@ needed : (n k a : ℕ) → 1 ≤ n → n ≤ a * k → 0 < k
 needed n zero a some all = let none : a * 0 ≡ 0 = omega arith in absurd (omega (arith, some, all, none))
 needed n (suc k) a some all = omega arith
 
--- the piece of so many sectors behind those that other pieces have
+-- the piece of so many sectors after those that other pieces have
 abbrev piece_behind : ℕ → ℕ → ℕ → Piece
 piece_behind n a x = record { at = 0x1000 + 512 * x; len = 512 * min (n - x) a }
 
@@ -117,7 +117,7 @@ piece_fine n a x has small within =
     let most : nat_lt (2 ^ 22) p.len ≡ false = not_below (2 ^ 22) p.len (omega (arith, small)) in
     rw (at, even, some, most) refl
 
--- a piece lies behind a table of at most 32 entries and ends before the longest window's end
+-- a piece lies after a table of at most 32 entries and ends before the longest window's end
 piece_inside : (n a x k : ℕ) → n ≤ most_sectors → k ≤ 32 → x < n → is_outside k (piece_behind n a x) ≡ false
 piece_inside n a x k most few within =
     let p = piece_behind n a x in
@@ -125,7 +125,7 @@ piece_inside n a x k most few within =
     let inside : nat_lt 67108864 (end_of p) ≡ false = not_below 67108864 (end_of p) (omega (arith, most, within)) in
     rw (behind, inside) refl
 
--- a piece that begins behind so many sectors more shares no byte with the first
+-- a piece that begins after so many sectors more shares no byte with the first
 beside : (n a x y : ℕ) → x + a ≤ y → is_apart (piece_behind n a x) (piece_behind n a y) ≡ true
 beside n a x y behind =
     let before : nat_le (end_of (piece_behind n a x)) (0x1000 + 512 * y) ≡ true = is_le _ _ (omega (arith, behind)) in

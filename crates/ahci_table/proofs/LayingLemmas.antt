@@ -8,7 +8,7 @@ use Rattle.ahci_table.specs.Piece.{covers, end_of, furthest, total}
 use Rattle.ahci_table.specs.Scatter.{in_some}
 use Rattle.ahci_table.specs.Text.{bytes_of, joined}
 
--- pieces that rise: the first begins at the end or behind it
+-- pieces that rise: the first begins at the end or after it
 begins : (end : ℕ) (p : Piece) (ps : List Piece) → rises end (p ∷ ps) ≡ true → end ≤ p.at
 begins end p ps r = leb-true end p.at (and_parts (leb end p.at) (rises (end_of p) ps) r).0
 
@@ -91,7 +91,7 @@ zero_in m i = elim (cases_lt i m) [
   | inr h ↦ get_or_past (replicate m 0) i 0 (subst (λ n. n ≤ i) (sym (length-replicate m 0)) h)
 ]
 
--- a byte that no piece covers is zero, where it is behind what was there
+-- a byte that no piece covers is zero, where it is after what was there
 zero_behind : (front : List ℕ) (end : ℕ) (ps : List Piece) (text : List ℕ) (x : ℕ) → length front ≡ end → rises end ps ≡ true
     → total ps ≡ length text → in_some x ps ≡ false → end ≤ x → get_or (front ++ laid end ps text) x 0 ≡ 0
 zero_behind front end [] text x is r sum e behind = get_or_past (front ++ []) x 0 (let n = length-append front [] in omega arith)
@@ -120,7 +120,7 @@ others-laid front ps text x r sum e =
       | inr late ↦ zero_behind front (length front) ps text x refl r sum e late ∙ sym (get_or_past front x 0 late)
     ]
 
--- zeros behind a list are as nothing there
+-- zeros after a list are as nothing there
 pub zeros_behind : (front : List ℕ) (m x : ℕ) → get_or (front ++ replicate m 0) x 0 ≡ get_or front x 0
 zeros_behind front m x =
     elim (cases_lt x (length front)) [

@@ -27,7 +27,7 @@ pub inside_from : (n : ℕ) (ps : List Piece) → All (λ p. end_of p ≤ n) ps 
 inside_from n [] h = tt
 inside_from n (p ∷ ps) h = (h 0 p (omega arith), inside_from n ps (λ k d l. h (suc k) d (omega arith)))
 
--- a place that a piece doesn't cover is before or behind it
+-- a place that a piece doesn't cover is before or after it
 not_covered : (x : ℕ) (p : Piece) → covers x p ≡ false → (x < p.at) ⊎ (end_of p ≤ x)
 not_covered x p e =
     elim (cases_lt x p.at) [

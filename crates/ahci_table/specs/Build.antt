@@ -41,7 +41,7 @@ queued_for tag work = record {
 abbrev pub entry_for : ℕ → Piece → List ℕ
 entry_for start p = dword (start + p.at) ++ dword 0 ++ dword 0 ++ dword (p.len - 1)
 
--- the command FIS, the rest of CFIS with ACMD and what is reserved behind it, and the PRDT
+-- the command FIS, the rest of CFIS with ACMD and what is reserved after it, and the PRDT
 abbrev pub table_for : ℕ → Work → List Piece → List ℕ
 table_for tag work ps = h2d_bytes (h2d_for (queued_for tag work)) ++ replicate 108 0 ++ flat_map (entry_for (base tag)) ps
 

@@ -1,4 +1,4 @@
--- The pieces that a driver takes where nothing else is asked for (profile): one behind the other from 1000h on, each a page of
+-- The pieces that a driver takes where nothing else is asked for (profile): one after the other from 1000h on, each a page of
 -- 4,096 bytes where 32 pages hold the command, else 1 MiB; the last as long as it has to be.
 use Rattle.std.specs.Prelude.{ℕ, ◌+◌, ◌-◌, ◌*◌, min, nat_le, List, [], map, if◌then◌else◌}
 use Rattle.std.specs.Int.{div_ceil}

@@ -1,9 +1,9 @@
--- How data come behind what a new window has already: piece by piece, where the pieces rise.
+-- How data come after what a new window has already: piece by piece, where the pieces rise.
 use Rattle.std.specs.Prelude.{ℕ, ◌-◌, Bool, true, ◌&&◌, nat_le, List, [], ◌∷◌, ◌++◌, take, drop, replicate}
 use Rattle.ahci_table.specs.declared.piece.Piece.{Piece}
 use Rattle.ahci_table.specs.Piece.{end_of}
 
--- the first piece begins at a place or behind it, and each other one where the piece before it ends, or behind that
+-- the first piece begins at a place or after it, and each other one where the piece before it ends, or after that
 abbrev pub rises : ℕ → List Piece → Bool
 rises end [] = true
 rises end (p ∷ ps) = nat_le end p.at && rises (end_of p) ps

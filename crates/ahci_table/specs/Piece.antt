@@ -4,7 +4,7 @@ use Rattle.std.specs.Prelude.{ℕ, ◌+◌, max, Bool, true, ◌&&◌, ◌||◌,
 use Rattle.std.specs.List.{list_all}
 use Rattle.ahci_table.specs.declared.piece.Piece.{Piece}
 
--- the place behind the piece's last byte
+-- the place after the piece's last byte
 abbrev pub end_of : Piece → ℕ
 end_of p = p.at + p.len
 

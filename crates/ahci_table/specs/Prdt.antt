@@ -34,7 +34,7 @@ entry_of w i = entry_at (entry_place i) w.bytes
 abbrev pub piece_of : ℕ → EntryFields → Piece
 piece_of start e = record { at = e.dba - start; len = e.dbc + 1 }
 
--- the place behind the command table
+-- the place after the command table
 abbrev pub table_end : WindowState → ℕ
 table_end w = entry_place (header_of w).prdtl
 

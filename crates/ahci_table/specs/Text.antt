@@ -8,7 +8,7 @@ use Rattle.ahci_table.specs.Prdt.{pieces}
 abbrev pub bytes_of : Piece → List ℕ → List ℕ
 bytes_of p bytes = take p.len (drop p.at bytes)
 
--- the bytes of each piece, one piece behind the other
+-- the bytes of each piece, one piece after the other
 abbrev pub joined : List Piece → List ℕ → List ℕ
 joined [] bytes = []
 joined (p ∷ ps) bytes = bytes_of p bytes ++ joined ps bytes

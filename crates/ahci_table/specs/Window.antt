@@ -1,5 +1,5 @@
 -- One tag's window: the command header that stands in the command list (AHCI 1.3.1, section 4.2.2) and the bytes of
--- memory from a fixed base on, which begin with the command table (section 4.2.3) and hold the data behind it.
+-- memory from a fixed base on, which begin with the command table (section 4.2.3) and hold the data after it.
 use Rattle.std.specs.Prelude.{ℕ, ◌+◌, ◌*◌, List}
 
 -- the tag, the 32 bytes of the header, and the bytes from the base on

@@ -125,7 +125,7 @@ impl<A: Allocator> Window<A> {
     }
 }
 
-/// CFIS and what stands behind it up to the PRDT: the command FIS, and zeros.
+/// CFIS and what stands after it up to the PRDT: the command FIS, and zeros.
 fn table_head<A: Allocator>(mut bytes: Vec<u8, A>, fis: &[u8]) -> Result<Vec<u8, A>, AllocError>
     requires empty { bytes.items ≡ [] }
     requires len { length fis.now ≡ 20 }
@@ -160,7 +160,7 @@ fn table_for<A: Allocator, B: Allocator>(
     Ok(table)
 }
 
-/// Puts a command's data behind its table: a write's bytes into its pieces, and zeros elsewhere.
+/// Puts a command's data after its table: a write's bytes into its pieces, and zeros elsewhere.
 fn with_data<A: Allocator, B: Allocator>(
     table: Vec<u8, A>,
     op: &Op<B>,

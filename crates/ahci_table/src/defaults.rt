@@ -39,7 +39,7 @@ fn default_piece(sectors: u32, apiece: u32, index: u32) -> Piece
     }
 }
 
-/// The pieces of a command with so many sectors where nothing else is asked for: one behind the other from 1000h on, each of
+/// The pieces of a command with so many sectors where nothing else is asked for: one after the other from 1000h on, each of
 /// 4,096 bytes for up to 256 sectors and of 1,048,576 bytes for more, the last shorter. None for no sectors, and none for
 /// more than a command may have.
 pub fn default_pieces(sectors: u32) -> ArrayVec<Piece, 32>

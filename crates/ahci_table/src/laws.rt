@@ -13,7 +13,7 @@ pub fn texts_are_whole_sectors()
     ensures { HasWholeText }
 {}
 
-/// `gather` behind `scatter` gives the bytes back.
+/// `gather` after `scatter` gives the bytes back.
 pub fn scattered_bytes_come_back()
     ensures { GivesBack }
 {}

@@ -1,4 +1,4 @@
-//! Data behind what a new window has already. Where the pieces rise, a write's bytes are appended, and nothing is filled
+//! Data after what a new window has already. Where the pieces rise, a write's bytes are appended, and nothing is filled
 //! that they would cover.
 
 ghost use Rattle.std.specs.Prelude.{◌≡◌, ◌++◌, true, length, IfOk};
@@ -8,7 +8,7 @@ ghost use Rattle.ahci_table.specs.Piece.{total};
 use crate::piece::{Piece, end_of};
 use std::alloc::{AllocError, Allocator};
 
-/// Whether the first piece begins at a place or behind it, and each other one where the piece before it ends, or behind
+/// Whether the first piece begins at a place or after it, and each other one where the piece before it ends, or after
 /// that.
 pub(crate) fn rises(place: u64, pieces: &[Piece]) -> bool
     ensures { result ≡ rises place pieces.now }

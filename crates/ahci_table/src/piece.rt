@@ -9,7 +9,7 @@ pub struct Piece {
     pub len: u32,
 }
 
-/// The place behind the last byte, which may not fit 32 bits.
+/// The place after the last byte, which may not fit 32 bits.
 pub(crate) fn end_of(piece: &Piece) -> u64
     ensures { result ≡ end_of piece.now }
 {

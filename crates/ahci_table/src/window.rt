@@ -5,7 +5,7 @@ use std::marker::Model;
 pub const MAX_BYTES: u64 = 0x0400_0000;
 
 /// A tag, the 32 bytes of its command header, and the bytes of memory from the tag's base on: the command table, and the
-/// data behind it (AHCI 1.3.1, sections 4.2.2 and 4.2.3). The tag is below 32, and nothing else is known of it.
+/// data after it (AHCI 1.3.1, sections 4.2.2 and 4.2.3). The tag is below 32, and nothing else is known of it.
 #[derive(Drop)]
 #[derive_where(Debug)]
 pub struct Window<A: Allocator = Global> {

@@ -75,7 +75,7 @@ static REFUSED_REQUESTS: [Row; 8] = [
     ("journal", "journal 0"),
 ];
 
-/// A command far behind the last sector fails when it is accepted, with IDNF at its first sector.
+/// A command far past the last sector fails when it is accepted, with IDNF at its first sector.
 static FAR_BEHIND_THE_END: [Row; 5] = [
     ("disk 1000 32", "disk 1000 32"),
     ("read 5 78187493530 8", "issued 0"),

@@ -4,7 +4,7 @@ use crate::table::equal;
 use clap::error::ErrorKind;
 use std::test::Fail;
 
-/// Lines of `run` that are wrong in one place, behind `ahci run`.
+/// Lines of `run` that are wrong in one place, after `ahci run`.
 static WRONG_RUNS: [(&str, ErrorKind, &str); 24] = [
     ("", MISSING, "--workers <NUMBER>"),
     ("--depth 3 --sectors 4", MISSING, "--workers <NUMBER>"),

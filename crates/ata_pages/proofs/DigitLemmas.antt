@@ -27,7 +27,7 @@ module _ (base : ℕ) (some : 0 < base) where
   shorter : (count n : ℕ) → n < base ^ (suc count) → n / base < base ^ count
   shorter count n small = div_below n base (base ^ count) some (rw pow-suc at small)
 
-  -- digits behind zeros, up to the width
+  -- digits after zeros, up to the width
   abbrev behind_zeros : ℕ → List ℕ → List ℕ → List ℕ
   behind_zeros width rest ds = replicate (width + length rest - length ds) 48 ++ ds
 

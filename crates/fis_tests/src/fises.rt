@@ -137,7 +137,7 @@ fn is_read(bytes: &[u8]) -> bool {
     }
 }
 
-/// Reads the bytes with each byte changed to each value. Behind byte 0 no value is refused.
+/// Reads the bytes with each byte changed to each value. After byte 0 no value is refused.
 fn each_change_is_read(rt: &impl Abort, alloc: Global, bytes: &[u8]) -> Result<(), AllocError> {
     for place in 0..bytes.len() {
         let mut text = Vec::from_slice(alloc, bytes)?;

@@ -9,7 +9,7 @@ use std::test::Fail;
 /// Where a command's data stand.
 #[derive(Clone, Copy, Debug)]
 enum Places {
-    /// One piece behind the other.
+    /// One piece after the other.
     Rising,
     /// The last piece first.
     Falling,

@@ -19,7 +19,7 @@ sum_more bytes i total more so_far = let e = sum_by_more (λ x. x) bytes i 0 mor
 pub checksum_is : (total result : ℕ) (bytes : List ℕ) → total ≡ sum bytes % 256 → (result + total) % 256 ≡ 0 → result < 256 → result ≡ checksum bytes
 checksum_is total result bytes so_far zero small = omega arith
 
--- a head of a bytes, n zeros behind it, and room for one byte more
+-- a head of a bytes, n zeros after it, and room for one byte more
 headed : (head : List ℕ) (a n : ℕ) → head ++ drop a (replicate (a + n + 1) 0) ≡ (head ++ replicate n 0) ++ 0 ∷ []
 headed head a n =
     let left : a + n + 1 - a ≡ n + 1 = omega arith in
@@ -76,7 +76,7 @@ pub written_all : (s d n : ℕ) → n ≡ 256 → written_words s d n ≡ identi
 unfolding written_words words identify_page
 written_all s d n e = ap (λ k. words s d k ++ replicate (512 - 2 * k) 0) e ∙ append-nil (words s d 256)
 
--- two bytes in the place of the first zeros behind a front
+-- two bytes in the place of the first zeros after a front
 after_front : (front : List ℕ) (at n : ℕ) (bytes : List ℕ) → length front ≡ at → put_mid at 2 (front ++ replicate n 0) bytes ≡ (front ++ bytes) ++ replicate (n - 2) 0
 after_front front at n bytes len =
     ap (λ xs. xs ++ (bytes ++ drop 2 (drop at (front ++ replicate n 0)))) (take_at front (replicate n 0) at len)

@@ -116,7 +116,7 @@ impl<A: Allocator> Disk<A> {
         word
     }
 
-    /// The sectors as they are now, one behind the other.
+    /// The sectors as they are now, one after the other.
     pub fn image(&self) -> &[u8]
         ensures { result.now ≡ self.now.image }
     {

@@ -213,7 +213,7 @@ moving s d image past total tag r now requests answers size h accepted q p =
 pub accepted_taken : (past : List Entry) (tag : ℕ) → phase past tag ≡ Accepted → phase past tag ≢ Free
 accepted_taken past tag e f = let z : Accepted ≡ Free = sym e ∙ f in cc
 
--- an event that is to be taken next, behind those before it
+-- an event that is to be taken next, after those before it
 pub record IsNext {A : _} (s d : ℕ) (events : List (Event A)) (i : ℕ) (event : Event A) : Type 0 where
   pub before : IsLawful s d (history_of (take i events))
   pub allowed : IsAllowed s d (history_of (take i events)) (entry_of event)

@@ -102,7 +102,7 @@ fn completes<A: Allocator, B: Allocator>(
     }
 }
 
-/// The answer that an event gives, behind these events, to a request of this tag for this command, if it gives one.
+/// The answer that an event gives, after these events, to a request of this tag for this command, if it gives one.
 fn given_to<A: Allocator, B: Allocator>(
     alloc: B,
     image: &[u8],
@@ -128,7 +128,7 @@ fn given_to<A: Allocator, B: Allocator>(
     }
 }
 
-/// The answer that an event gives, behind these events, to the request whose Issue is `issue`, if it gives one.
+/// The answer that an event gives, after these events, to the request whose Issue is `issue`, if it gives one.
 fn given<A: Allocator, B: Allocator>(
     alloc: B,
     image: &[u8],
@@ -168,7 +168,7 @@ fn answer_after<A: Allocator, B: Allocator>(
 }
 
 /// What the request whose Issue stands at place `number` was answered after these events, the oldest first, over a starting
-/// image: the first Complete or Fail of its tag behind its Issue answers it. The bytes of an answered read take memory.
+/// image: the first Complete or Fail of its tag after its Issue answers it. The bytes of an answered read take memory.
 #[tactic(auto, using(crate::proofs::HistoryLemmas::history_more, crate::proofs::HistoryLemmas::history_all))]
 pub fn answer_of<A: Allocator, B: Allocator + Clone>(
     alloc: B,

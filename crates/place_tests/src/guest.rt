@@ -1,6 +1,6 @@
 //! A guest's memory in which slot 1 reads sector 3, laid out by hand (AHCI 1.3.1, "Building a Command").
 
-/// How many bytes a window has: a table with one entry, and one sector behind it.
+/// How many bytes a window has: a table with one entry, and one sector after it.
 pub const SHARE: usize = 0x290;
 
 /// A command header: CFL 5, one entry, and the table at the base of tag 1, 14000000h.
@@ -32,7 +32,7 @@ pub fn list() -> [u8; 1024] {
     list
 }
 
-/// The windows of 32 slots, one behind the other.
+/// The windows of 32 slots, one after the other.
 pub fn windows() -> [u8; 0x5200] {
     let mut windows = [0; 32 * SHARE];
     windows[SHARE..2 * SHARE].copy_from_slice(&window());

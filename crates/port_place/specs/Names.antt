@@ -55,11 +55,11 @@ name_of status.BadStatus = codes "BadStatus"
 name_of status.BadPayload = codes "BadPayload"
 name_of status.NotAllowed = codes "NotAllowed"
 
--- a buffer has room for a name and a byte behind it
+-- a buffer has room for a name and a byte after it
 abbrev pub text_refusal : (name : List ℕ) → (room : ℕ) → Option Status
 text_refusal name room = if nat_le room (length name) then Some status.BufferTooSmall else None
 
--- a name stands at the beginning of a buffer, with a 0 behind it, and its length is told
+-- a name stands at the beginning of a buffer, with a 0 after it, and its length is told
 abbrev pub AnswersName : List ℕ → Status → (old new : List ℕ) → (before after : ℕ) → Type 0
 AnswersName name answer old new before after =
     Told answer (text_refusal name (length old)) ((new ≡ begun_with (name ++ 0 ∷ []) old) × (after ≡ length name)) ((new ≡ old) × (after ≡ before))

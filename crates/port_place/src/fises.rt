@@ -12,7 +12,7 @@ use sata_fis::{
     is_set_bits_status, is_tag,
 };
 
-/// Reads a FIS. The payload of a Data FIS stands behind its first four bytes.
+/// Reads a FIS. The payload of a Data FIS stands after its first four bytes.
 pub fn fis_decode(bytes: &[u8], fis: &mut FlatFis) -> Status
     ensures { AnswersDecode bytes.now result fis.old fis.new }
 {
@@ -45,7 +45,7 @@ fn put_fis(fis: &Fis<'_>, out: &mut [u8], len: &mut usize) -> Status
     }
 }
 
-/// Writes some bytes, and more behind them.
+/// Writes some bytes, and more after them.
 fn put(head: &[u8], rest: &[u8], out: &mut [u8], len: &mut usize) -> Status
     ensures { PutsAll (head.now ++ rest.now) result out.old out.new len.old len.new }
 {

@@ -6,7 +6,7 @@ ghost use Rattle.port_place.specs.Status.{code_of};
 
 use crate::status::Status;
 
-/// Copies the name of the status of a number, with a 0 behind it. `len` is the name's length then.
+/// Copies the name of the status of a number, with a 0 after it. `len` is the name's length then.
 pub fn status_text(number: u32, out: &mut [u8], len: &mut usize) -> Status
     ensures { AnswersText number result out.old out.new len.old len.new }
 {
@@ -16,7 +16,7 @@ pub fn status_text(number: u32, out: &mut [u8], len: &mut usize) -> Status
     }
 }
 
-/// Copies a name, and a 0 behind it.
+/// Copies a name, and a 0 after it.
 fn put_name(name: &[u8], out: &mut [u8], len: &mut usize) -> Status
     ensures { AnswersName name.now result out.old out.new len.old len.new }
 {

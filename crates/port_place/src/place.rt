@@ -74,7 +74,7 @@ impl Place {
         }
     }
 
-    /// Puts a port back behind a call on it, and answers the call's number.
+    /// Puts a port back after a call on it, and answers the call's number.
     pub fn back(&mut self, port: Box<Port>, answer: Status) -> u32
         ensures place { view_of self.new ≡ record (view_of self.old) { port = Some port.value } }
         ensures headline { Headline port.value }
@@ -84,7 +84,7 @@ impl Place {
         self.back_with(port, pending, answer)
     }
 
-    /// The same behind a call after which this is half written.
+    /// The same after a call that leaves this half written.
     #[tactic(auto, unfolding(crate::specs::PlaceView::view_of))]
     pub fn back_with(&mut self, port: Box<Port>, pending: Pending, answer: Status) -> u32
         ensures place { view_of self.new ≡ record { port = Some port.value; pending = pending } }

@@ -6,7 +6,7 @@ use std::test::Fail;
 /// A line, and the text of its complaint; empty where there is none.
 type Row = (&'static str, &'static str);
 
-/// Lines behind a disk of 8 sectors and 4 slots, each as the third of its script.
+/// Lines after a disk of 8 sectors and 4 slots, each as the third of its script.
 static BEHIND: [Row; 85] = [
     ("", ""),
     ("# Any comment.", ""),

@@ -135,7 +135,7 @@ fn each_script_has_the_complaints_beside_it(rt: HostRuntime) {
     }
 }
 
-/// A comment of 4,097 bytes behind a line that is no command.
+/// A comment of 4,097 bytes after a line that is no command.
 #[test]
 fn a_line_that_is_too_long_is_the_last(rt: HostRuntime) -> Result<(), Fail> {
     let mut script = Vec::new(rt.alloc());

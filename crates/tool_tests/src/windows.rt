@@ -7,13 +7,13 @@ use std::test::Fail;
 /// The header of tag 0: a command FIS of 5 words, and a PRDT of one entry in the window's own table.
 const HEADER: &str = "0500010000000000000000100000000000000000000000000000000000000000";
 
-/// An entry of 512 bytes behind the table.
+/// An entry of 512 bytes after the table.
 const ENTRY: &str = "900000100000000000000000ff010000";
 
 /// READ FPDMA QUEUED of one sector, with the tag 0.
 const READ: &str = "2780600100000040000000000000000000000000";
 
-/// A line's command FIS and entry, how many bytes of data stand behind them, and what is said of it.
+/// A line's command FIS and entry, how many bytes of data stand after them, and what is said of it.
 type Row = (&'static str, &'static str, usize, &'static str);
 
 static ROWS: [Row; 6] = [

@@ -71,7 +71,7 @@ impl<A: Allocator> Port<A> {
         read_in(&self.slots, tag)
     }
 
-    /// The window of a tag's slot: its command header, and the command table with the data behind it. `None` where the slot
+    /// The window of a tag's slot: its command header, and the command table with the data after it. `None` where the slot
     /// is free.
     pub fn window(&self, tag: u8) -> Option<&Window<A>>
         ensures { option_copied result ≡ window_at self.now tag }
@@ -79,7 +79,7 @@ impl<A: Allocator> Port<A> {
         window_in(&self.slots, tag)
     }
 
-    /// The sectors as they were when the port was made or last trimmed, one behind the other.
+    /// The sectors as they were when the port was made or last trimmed, one after the other.
     pub fn starting_image(&self) -> &[u8]
         ensures { result.now ≡ self.now.starting }
     {

@@ -68,7 +68,7 @@ impl<A: Allocator> Port<A> {
     /// Lets the device take a step with a tag's command, or serve those of a list of tags, and answers the number of its
     /// entry. It takes no memory. A command that passes the last sector is refused when it is accepted, with error 10h and
     /// the first of its sectors that the disk lacks, which is answered as `Failed`. The commands of a list are served in its
-    /// order, each behind the Completes of those before it, and one Set Device Bits FIS names all their tags.
+    /// order, each after the Completes of those before it, and one Set Device Bits FIS names all their tags.
     ///
     /// # Errors
     /// `Halted` where a command has failed and the port has not recovered; `NotIssued` where an Accept's command does not

@@ -1,5 +1,5 @@
 //! Runs of calls that a generator picks, taken and refused ones. After each call the port is compared with the plain
-//! functions over the entries of its journal, and behind a trim over those that came since, from the image that it has left.
+//! functions over the entries of its journal, and after a trim over those that came since, from the image that it has left.
 mod calls;
 mod entries;
 

@@ -50,7 +50,7 @@ static ROWS: [(Before, Bytes, Result<u64, IssueFault>); 14] = [
     (Before::Halted, (0x05, 0x00, 0), Err(IssueFault::Halted)),
 ];
 
-/// A window of these bytes that is else fit for tag 0: a read of one sector to one piece behind a table of one entry.
+/// A window of these bytes that is else fit for tag 0: a read of one sector to one piece after a table of one entry.
 fn window(alloc: Global, (flags, count, tag): Bytes) -> Result<Window, AllocError> {
     let mut header = [0; 32];
     header[0] = flags;

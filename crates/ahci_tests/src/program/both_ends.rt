@@ -8,7 +8,7 @@ use std::io::{Read, Write};
 use std::process::Abort;
 use std::test::Fail;
 
-/// A reader that gives at most `step` bytes at once, and fails behind its bytes where it must.
+/// A reader that gives at most `step` bytes at once, and fails after its bytes where it must.
 #[derive(Drop)]
 struct Source<'a> {
     bytes: &'a [u8],
@@ -69,7 +69,7 @@ impl Write for Sink {
     }
 }
 
-/// What a script comes to that is given in steps, and behind which a read fails where it must.
+/// What a script comes to that is given in steps, and after which a read fails where it must.
 fn from_source(alloc: Global, bytes: &[u8], step: usize, fails: bool) -> Replayed {
     let mut reader = Source { bytes, step, fails };
     let mut written = Vec::new(alloc);
@@ -207,7 +207,7 @@ fn answers_are_written_before_more_is_asked_for(rt: HostRuntime) {
     ends(&rt, 0, (screen.text, outcome), Ok(()), answers);
 }
 
-/// Gives the first bytes of a script, behind which a read fails. The lines that came whole are answered.
+/// Gives the first bytes of a script, after which a read fails. The lines that came whole are answered.
 fn breaks_off(rt: &impl Abort, alloc: Global, given: &[u8], step: usize) -> Result<(), AllocError> {
     let mut whole = 0usize;
     for byte in given {

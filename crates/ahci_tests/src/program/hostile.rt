@@ -4,7 +4,7 @@ use std::alloc::{AllocError, Global};
 use std::process::Abort;
 use std::test::Fail;
 
-/// Lines that are not understood, behind an accepted disk.
+/// Lines that are not understood, after an accepted disk.
 static WRONG: [&[u8]; 56] = [
     b"journal\r",
     b"journal\t",
@@ -64,7 +64,7 @@ static WRONG: [&[u8]; 56] = [
     b"raw 0 00 00",
 ];
 
-/// Compares what a script with this line behind an accepted disk comes to, whatever follows the line.
+/// Compares what a script with this line after an accepted disk comes to, whatever follows the line.
 fn is_wrong(rt: &impl Abort, alloc: Global, row: usize, line: &[u8]) -> Result<(), AllocError> {
     let answers = joined(alloc, REFUSED_REQUESTS.as_slice(), true)?;
     for end in [b"".as_slice(), b"\n".as_slice(), b"\njournal\n".as_slice()] {

@@ -7,7 +7,7 @@ use std::test::Fail;
 /// The first byte of a header, byte 12 of CFIS, and how many bytes the window has.
 type Bytes = (u8, u8, usize);
 
-/// The window of a read of one sector at LBA 0 to one piece behind a table of one entry, but for these bytes.
+/// The window of a read of one sector at LBA 0 to one piece after a table of one entry, but for these bytes.
 fn window(alloc: Global, (flags, count, len): Bytes) -> Result<([u8; 32], Vec<u8>), AllocError> {
     let mut header = [0; 32];
     header[0] = flags;
@@ -111,7 +111,7 @@ fn bytes_that_are_no_window_are_refused(rt: HostRuntime) -> Result<(), Fail> {
     Ok(())
 }
 
-/// What stands in place of a header of 64 digits and bytes behind `raw`, and how the script ends: the tag is named before the
+/// What stands in place of a header of 64 digits and bytes after `raw`, and how the script ends: the tag is named before the
 /// bytes are looked at.
 static LINES: [(&[u8], usize, &[u8], Result<(), CliFault>); 12] = [
     (b"31 ", 64, b" 00\n", Ok(())),

@@ -97,7 +97,7 @@ fn data_move_in_pieces_of_8192_bytes(rt: HostRuntime) -> Result<(), Fail> {
     Ok(())
 }
 
-// One DMA Setup, and the data behind it, whatever FUA is.
+// One DMA Setup, and the data after it, whatever FUA is.
 #[test]
 fn fua_moves_the_same_data(rt: HostRuntime) -> Result<(), Fail> {
     for size in SIZES {

@@ -22,7 +22,7 @@ fn put(bytes: &mut [u8], changes: &[(usize, u8)]) {
     }
 }
 
-/// The bytes of a window that is fit, where they are not 0: a read of one sector to one piece behind a table of one
+/// The bytes of a window that is fit, where they are not 0: a read of one sector to one piece after a table of one
 /// entry.
 static FIT_HEADER: [(usize, u8); 3] = [(0, 0x05), (2, 0x01), (11, 0x10)];
 

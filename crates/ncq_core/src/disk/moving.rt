@@ -17,7 +17,7 @@ const MOST_PAYLOAD: usize = 8192;
 /// How many bytes the largest Data FIS has: its head, and the payload.
 pub(super) const DATA_FIS: usize = 4 + MOST_PAYLOAD;
 
-/// Puts a Data FIS together: its head, and the payload behind it.
+/// Puts a Data FIS together: its head, and the payload after it.
 fn put_data(fis: &mut [u8], payload: &[u8])
     requires { length fis.old ≡ 4 + length payload.now }
     ensures { fis.new ≡ data_head_bytes ++ payload.now }

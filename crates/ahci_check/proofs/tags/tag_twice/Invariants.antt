@@ -1,4 +1,4 @@
--- What there is to say of the tags that are left, behind those before them, is what there is to say of all.
+-- What there is to say of the tags that are left, after those before them, is what there is to say of all.
 use Rattle.std.proofs.Common.{◌≡◌, [], drop, take}
 use Rattle.ahci_check.specs.Limits.{twice_among}
 use Rattle.ahci_check.proofs.tags.tag_twice.Given as goal

@@ -1,4 +1,4 @@
--- A fault has ended the script, behind which the picture is written, or not.
+-- A fault has ended the script, after which the picture is written, or not.
 use Rattle.ahci_replay.specs.declared.script_fault.ScriptFault.TheVariants.{Line, Read}
 use Rattle.ahci_draw.proofs.SheetLemmas.{draws_line, draws_read, draws_sent, is_sheet, sent_at}
 use Rattle.ahci_draw.proofs.drawing.drawn.Goals as goal

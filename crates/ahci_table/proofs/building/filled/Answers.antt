@@ -1,4 +1,4 @@
--- The bytes behind the table are zeros until a write's data are copied in.
+-- The bytes after the table are zeros until a write's data are copied in.
 use Rattle.std.proofs.Common.{◌≡◌, ◌≤◌, ◌-◌, length, ap, ◌∙◌}
 use Rattle.std.proofs.lemmas.List.{with_items_is}
 use Rattle.ncq_journal.specs.Work.{work_of}

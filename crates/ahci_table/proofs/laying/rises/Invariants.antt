@@ -1,4 +1,4 @@
--- The pieces rise where those that are left do, behind the last.
+-- The pieces rise where those that are left do, after the last.
 use Rattle.std.proofs.Common.{◌≡◌, drop}
 use Rattle.ahci_table.specs.Laying.{rises}
 use Rattle.ahci_table.proofs.laying.rises.Given as goal

@@ -1,4 +1,4 @@
--- One dword more: its four bytes stand behind those so far.
+-- One dword more: its four bytes stand after those so far.
 use Rattle.std.proofs.Common.{◌≡◌, ℕ, ◌+◌, ◌<◌, List, [], ◌++◌, length, take, get_or, append-nil, refl, sym, ap, ◌∙◌, arith}
 use Rattle.std.specs.List.{concat}
 use Rattle.std.proofs.lemmas.List.{take_more}
