@@ -1,4 +1,4 @@
--- The first word behind a command's name, where each of its flags asks for help or the version and nothing is positional.
+-- The first word after a command's name, where each of its flags asks for help or the version and nothing is positional.
 use Rattle.std.proofs.Common.{◌≡◌, ◌⊎◌, ℕ, Bool, true, false, zero, suc, refl, inl, inr, List, [], ◌∷◌, Option, Some, None, length, codes, subst}
 use Rattle.std.specs.Prelude.{slice_get, find, drop, encode_utf8}
 use Rattle.std.specs.Option.{option_map_or}
@@ -113,7 +113,7 @@ module _ (s : Shape) (only : AsksOnly s.args_override_self s.rules) where
       → turn_fault s names (walk_from nothing_held) word ≡ [] → ⊥
   turn_stops names word none other e = word_stops word (long_of word) (rw (none, other) at e)
 
-  -- behind `--` no word is taken
+  -- after `--` no word is taken
   after_dashes : (more : List Text) → walk_fault s [] (walked s.rules [] (walk_from nothing_held) (codes "--")) more ≡ [] → more ≡ []
   unfolding walk_fault walked
   after_dashes [] e = refl

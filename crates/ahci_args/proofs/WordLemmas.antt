@@ -1,4 +1,4 @@
--- Which words are taken: `replay`, and behind it at most `--`; or another subcommand with options that have passed.
+-- Which words are taken: `replay`, and after it at most `--`; or another subcommand with options that have passed.
 use Rattle.std.proofs.Common.{◌≡◌, ◌⊎◌, ◌++◌, Bool, true, false, cond, refl, inl, inr, List, [], ◌∷◌, Option, Some, None, codes, ap, ◌∙◌, subst, sym, append_assoc, append-nil}
 use Rattle.std.specs.Prelude.{fold, drop, slice_get, Result, Ok, Err, IfErr}
 use Rattle.std.specs.List.{slice_index_or}
@@ -35,7 +35,7 @@ asks_of c a flag faulty = record {
   faulty = λ h e. faulty (settled c h).rows (second_none (settle_fault c false h) _ e);
 }
 
--- ---- the words behind a subcommand are its own
+-- ---- the words after a subcommand are its own
 
 stopped : (c : List Rule) (n : Names) (w : Walk) (name : Text) (before words : List Text) → w.stopped ≡ Some (name, before)
     → (fold (walked c n) w words).stopped ≡ Some (name, before ++ words)
@@ -70,7 +70,7 @@ module _ (picks : PickWords) where
     none = λ i. refl;
   }
 
-  -- ---- the words behind the program's name
+  -- ---- the words after the program's name
 
   -- the walk stops at a subcommand
   abbrev StopsAt : Text → Type 0
@@ -127,7 +127,7 @@ module _ (picks : PickWords) where
 
 -- ---- the words that are taken
 
--- what stands behind the program's name is `replay`
+-- what stands after the program's name is `replay`
 abbrev IsReplay : List Text → Type 0
 IsReplay words = (words ≡ codes "replay" ∷ []) ⊎ (words ≡ codes "replay" ∷ codes "--" ∷ [])
 

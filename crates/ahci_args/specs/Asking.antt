@@ -11,7 +11,7 @@ use Rattle.ahci_args.specs.declared.request.Asked.{Asked}
 use Rattle.ahci_args.specs.declared.request.Asked.TheVariants.{Replay, Run, Identify, Log, Trace, Check, Draw}
 use Rattle.ahci_args.specs.declared.run_form.RunForm.{RunForm}
 
--- behind the program's name stands `replay` alone, or with the `--` that ends the options
+-- after the program's name stands `replay` alone, or with the `--` that ends the options
 abbrev pub AsksReplay : List Text → Type 0
 AsksReplay words = (drop 1 words ≡ codes "replay" ∷ []) ⊎ (drop 1 words ≡ codes "replay" ∷ codes "--" ∷ [])
 
@@ -151,7 +151,7 @@ IsDrawOf options other = ⊥
 
 -- ---- the whole line
 
--- behind the program's name stands a subcommand, and the parser has found these options behind it
+-- after the program's name stands a subcommand, and the parser has found these options after it
 pub record Finds (name : Text) (words : List Text) (options : List Row) : Type 0 where
   pub picks : PickWords
   pub subcommand : slice_get words 1 ≡ Some name

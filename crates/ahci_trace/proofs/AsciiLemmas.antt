@@ -119,7 +119,7 @@ name_ascii refusal.NoSuchSector = refl
 name_ascii refusal.Busy = refl
 name_ascii refusal.Spent = refl
 
--- a number, and a text behind it
+-- a number, and a text after it
 number_then : (n : ℕ) (text : List ℕ) → IsAscii text → IsAscii (decimal n ++ text)
 number_then n text q = IsAscii-append (decimal n) text (decimal_ascii n) q
 

@@ -8,7 +8,7 @@ use Rattle.word_bits.specs.Places.{has_place}
 use Rattle.ahci_trace.specs.Names.{Named, name_text, named, names_text}
 use Rattle.ahci_trace.specs.declared.named_bit.NamedBit.{NamedBit}
 
--- where the text so far and the names that are left are the whole, they are so behind the next name
+-- where the text so far and the names that are left are the whole, they are so after the next name
 pub more_names : (text new whole : List ℕ) (set : List Bool) (any any' : Bool) (bits : List NamedBit) (i : ℕ) (d : NamedBit) → i < length bits
     → text ++ names_text any set (map named (drop i bits)) ≡ whole
     → new ≡ text ++ name_text any set (get_or bits i d).0 (get_or bits i d).1.now → any' ≡ (any || has_place set (get_or bits i d).0)

@@ -1,4 +1,4 @@
--- The newest entry that came behind a mark.
+-- The newest entry that came after a mark.
 use Rattle.std.proofs.Common.{◌≡◌, ◌∙◌, ℕ, ◌+◌, ◌-◌, ◌≤◌, Bool, true, false, cond, List, [], ◌∷◌, Option, None, Some, length, refl, ap, arith}
 use Rattle.std.specs.Prelude.{nat_le, option_map}
 use Rattle.std.specs.Option.{option_and_then}
@@ -54,7 +54,7 @@ pub last_completed : (past : List Entry) (tags : List ℕ) → is_bad_list tags 
 last_completed past [] good = cc
 last_completed past (tag ∷ tags) good = last_of tags past tag
 
--- no entry came behind the mark
+-- no entry came after the mark
 pub nothing_new : (old : PortView) (first : ℕ) (past : List Entry) → first + length past ≤ old.first + length old.past → newest (mark_of (Some old)) first past ≡ None
 nothing_new old first past before =
     ap (λ b. cond b None (option_map what_of (entry_numbered first past (first + length past - 1)))) is_before

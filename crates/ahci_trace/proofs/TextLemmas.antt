@@ -10,7 +10,7 @@ more_text f old text new xs i d low so_far grown =
     grown ∙ ap (λ t. t ++ f (get_or xs i d)) so_far ∙ append_assoc old (flat_map f (take i xs)) (f (get_or xs i d))
     ∙ ap (λ t. old ++ t) (sym (ap (flat_map f) (take_more xs i d low) ∙ flat_map-append f (take i xs) (get_or xs i d ∷ []) ∙ ap (λ t. flat_map f (take i xs) ++ t) (append-nil (f (get_or xs i d)))))
 
--- three parts, one behind the other
+-- three parts, one after the other
 pub three_parts : {X : Type 0} (old one two new a b c d : List X) → one ≡ old ++ a → two ≡ one ++ b → new ≡ two ++ c → c ≡ d → new ≡ old ++ (a ++ (b ++ d))
 three_parts old one two new a b c d first second third same =
     third ∙ ap (λ t. two ++ t) same ∙ ap (λ t. t ++ d) (second ∙ ap (λ t. t ++ b) first) ∙ append_assoc (old ++ a) b d ∙ append_assoc old a (b ++ d)

@@ -1,4 +1,4 @@
--- How a trace as JSON ends at a fault: behind the objects of the lines before it stands an object that tells the fault.
+-- How a trace as JSON ends at a fault: after the objects of the lines before it stands an object that tells the fault.
 use Rattle.std.specs.Prelude.{◌≡◌, ℕ, List, [], ◌∷◌, ◌++◌, codes, Option, ⊤}
 use Rattle.std.specs.Io.KnownBytes.{Appends}
 use Rattle.ahci_replay.specs.Transcript.{ReplayedTo, WritesPart}
@@ -40,7 +40,7 @@ TellsFault f before after fault.OutOfMemory = after ≡ before
 TellsFault f before after fault.Write = WritesPart before after (fault_line f)
 TellsFault f before after g = (g ≡ f) × Appends before after (fault_line f)
 
--- the end behind a fault, and how the trace ends then: where output or memory is wanting, nothing more is told
+-- the end after a fault, and how the trace ends then: where output or memory is wanting, nothing more is told
 abbrev pub Closes : ScriptFault → Option (List ℕ) → Option (List ℕ) → ScriptFault → Type 0
 Closes fault.Write before after g = (g ≡ fault.Write) × (after ≡ before)
 Closes fault.OutOfMemory before after g = (g ≡ fault.OutOfMemory) × (after ≡ before)

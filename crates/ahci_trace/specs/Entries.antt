@@ -33,7 +33,7 @@ abbrev pub entries_from : ℕ → ℕ → List Entry → List Appended
 entries_from start first past =
     filter_map (appended_at first past) (range_with_len start (number_of first (length past) - start))
 
--- the entries that came behind a mark; a journal that was trimmed has none before its first
+-- the entries that came after a mark; a journal that was trimmed has none before its first
 abbrev pub new_entries : Mark → ℕ → List Entry → List Appended
 new_entries mark first past = entries_from (max mark.end first) first past
 

@@ -19,12 +19,12 @@ pub data AreNotes : List ℕ → Type 0 where
   no_note : AreNotes []
   a_note : (line more : List ℕ) → is_line line ≡ true → AreNotes more → AreNotes (32 ∷ 32 ∷ (line ++ 10 ∷ more))
 
--- a text of answers, with notes behind each, and the answers alone
+-- a text of answers, with notes after each, and the answers alone
 pub data Noted : List ℕ → List ℕ → Type 0 where
   no_answer : Noted [] []
   an_answer : (answer notes text answers : List ℕ) → AreNotes notes → Noted text answers → Noted (answer ++ 10 ∷ (notes ++ text)) (answer ++ 10 ∷ answers)
 
--- what a script's lines add to a trace is what they add alone, with notes behind each answer
+-- what a script's lines add to a trace is what they add alone, with notes after each answer
 abbrev pub KeepsAnswers : Type 0
 KeepsAnswers = (number : ℕ) (port last : Option PortView) (lines : List (List ℕ)) (text : List ℕ) → Adds trace_text number port lines text last
     → (answers : List ℕ) × Adds answers_alone number port lines answers last × Noted text answers

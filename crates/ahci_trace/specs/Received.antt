@@ -22,7 +22,7 @@ register_came area = record { setup = None; pio = None; register = Some (bytes_a
 abbrev pub set_bits_came : List ℕ → Received
 set_bits_came area = record { setup = None; pio = None; register = None; bits = Some (bytes_at 8 area bits_place) }
 
--- a DMA Setup FIS, and a Set Device Bits FIS behind the data
+-- a DMA Setup FIS, and a Set Device Bits FIS after the data
 abbrev pub data_moved : List ℕ → Received
 data_moved area = record { setup = Some (bytes_at 28 area setup_place); pio = None; register = None; bits = Some (bytes_at 8 area bits_place) }
 

@@ -24,7 +24,7 @@ use Rattle.ahci_trace.specs.declared.owned.OwnedSlot.{OwnedSlot}
 use Rattle.ahci_trace.specs.declared.received.Received.{Received}
 use Rattle.ahci_trace.specs.declared.register_write.RegisterWrite.{RegisterWrite}
 
--- bytes by their hexadecimal digits, each behind a space
+-- bytes by their hexadecimal digits, each after a space
 abbrev pub bytes_text : List ℕ → List ℕ
 bytes_text bytes = flat_map (λ byte. 32 ∷ hex_of 2 byte) bytes
 
@@ -143,11 +143,11 @@ told_text t =
     flat_map entry_text t.entries ++ (flat_map write_text t.writes ++ (sent_text t.sent ++ (flat_map transfer_text t.served
     ++ (received_text t.received ++ (flat_map change_text t.changes ++ flat_map slot_text t.slots)))))
 
--- the notes behind the answer of a command that has found the first port, and has left the second; there are none before the disk
+-- the notes after the answer of a command that has found the first port, and has left the second; there are none before the disk
 abbrev pub trace_notes : Option PortView → Option PortView → List ℕ
 trace_notes before None = []
 trace_notes before (Some port) = told_text (told_of (mark_of before) port)
 
--- the text for an answer: its line, and the notes behind it
+-- the text for an answer: its line, and the notes after it
 abbrev pub trace_text : Telling
 trace_text number line said before after = answer_text said ++ 10 ∷ trace_notes before after

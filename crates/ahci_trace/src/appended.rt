@@ -92,7 +92,7 @@ pub(crate) fn new_entries<A: Allocator, B: Allocator>(
         .collect(alloc)
 }
 
-/// The newest entry, where it came behind the mark.
+/// The newest entry, where it came after the mark.
 pub(crate) fn newest<A: Allocator>(mark: &Mark, journal: &Journal<A>) -> Option<Happened>
     ensures { result ≡ newest mark.now journal.now.first journal.now.past }
 {

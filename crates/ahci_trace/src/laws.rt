@@ -4,7 +4,7 @@ ghost use Rattle.ahci_trace.specs.Lines.{HasObjects, KeepsAnswers};
 ghost use Rattle.ahci_trace.specs.Moves.{TellsWrites};
 
 /// The lines of a trace that aren't indented are the answers of the script alone: what any lines of a script add to a trace is
-/// what they add without it, and behind each answer lines that begin with two spaces.
+/// what they add without it, and after each answer lines that begin with two spaces.
 pub fn a_trace_without_its_notes_is_the_answers()
     ensures { KeepsAnswers }
 {}

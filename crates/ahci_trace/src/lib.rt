@@ -1,4 +1,4 @@
-//! What each command of a script did to the port, told behind its answer: the journal's new entries, the bytes that were sent
+//! What each command of a script did to the port, told after its answer: the journal's new entries, the bytes that were sent
 //! and received, the registers that changed, and where the owned slots stand. The same as one JSON object for each command.
 #![tactic(auto)]
 

@@ -90,7 +90,7 @@ pub(crate) fn bits_of(register: Register) -> &'static [NamedBit]
     }
 }
 
-/// Appends the name of a bit that is set, behind the names that came before it, if there were any. The answer says whether
+/// Appends the name of a bit that is set, after the names that came before it, if there were any. The answer says whether
 /// there are any now.
 fn push_name<A: Allocator>(
     text: &mut Vec<u8, A>,

@@ -57,7 +57,7 @@ fn set_bits_came(area: &[u8; 256]) -> Received
     }
 }
 
-/// A DMA Setup FIS, and a Set Device Bits FIS behind the data.
+/// A DMA Setup FIS, and a Set Device Bits FIS after the data.
 fn data_moved(area: &[u8; 256]) -> Received
     ensures { result ≡ data_moved area.now }
 {

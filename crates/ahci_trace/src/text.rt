@@ -6,7 +6,7 @@ ghost use Rattle.ahci_trace.specs.Text.{bytes_text, named_text};
 use ahci_script::growing::{push, push_byte};
 use std::alloc::{AllocError, Allocator};
 
-/// Appends bytes by their hexadecimal digits, each behind a space.
+/// Appends bytes by their hexadecimal digits, each after a space.
 pub(crate) fn push_bytes<A: Allocator>(
     text: &mut Vec<u8, A>,
     bytes: &[u8],

@@ -11,7 +11,7 @@ use ahci_script::{Output, ScriptAnswer};
 use std::alloc::{AllocError, Allocator};
 use std::io::{Read, Write};
 
-/// Runs the script that the reader gives as `replay` does, and behind each answer writes what the command did to the port, in
+/// Runs the script that the reader gives as `replay` does, and after each answer writes what the command did to the port, in
 /// lines that are indented by two spaces. Faults are those of `replay`.
 pub fn trace<R: Read, W: Write, A: Allocator + Copy>(
     alloc: A,

@@ -89,7 +89,7 @@ fn put_entry<A: Allocator>(writer: &mut Writer<A>, entry: Appended) -> Result<()
     writer.end_object()
 }
 
-/// Adds entries, one behind the other.
+/// Adds entries, one after the other.
 fn put_each<A: Allocator>(writer: &mut Writer<A>, entries: &[Appended]) -> Result<(), AllocError>
     ensures tokens { OnOk result (writer.new.tokens ≡ writer.old.tokens ++ flat_map entry_object entries.now) }
     ensures before { OnOk result (writer.new.before ≡ writer.old.before) }

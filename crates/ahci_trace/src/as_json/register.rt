@@ -89,7 +89,7 @@ fn put_change<A: Allocator>(writer: &mut Writer<A>, change: Change) -> Result<()
     writer.end_object()
 }
 
-/// Adds registers, one behind the other.
+/// Adds registers, one after the other.
 fn put_each<A: Allocator>(writer: &mut Writer<A>, changes: &[Change]) -> Result<(), AllocError>
     ensures tokens { OnOk result (writer.new.tokens ≡ writer.old.tokens ++ flat_map change_object changes.now) }
     ensures before { OnOk result (writer.new.before ≡ writer.old.before) }

@@ -8,7 +8,7 @@ use crate::sent::SentCommand;
 use json::Writer;
 use std::alloc::{AllocError, Allocator};
 
-/// Adds the entries of a PRDT, one behind the other.
+/// Adds the entries of a PRDT, one after the other.
 fn put_each<A: Allocator + Copy>(
     writer: &mut Writer<A>,
     alloc: A,

@@ -19,7 +19,7 @@ fn put_slot<A: Allocator>(writer: &mut Writer<A>, slot: OwnedSlot) -> Result<(),
     writer.end_object()
 }
 
-/// Adds slots, one behind the other.
+/// Adds slots, one after the other.
 fn put_each<A: Allocator>(writer: &mut Writer<A>, slots: &[OwnedSlot]) -> Result<(), AllocError>
     ensures tokens { OnOk result (writer.new.tokens ≡ writer.old.tokens ++ flat_map slot_object slots.now) }
     ensures before { OnOk result (writer.new.before ≡ writer.old.before) }
