@@ -42,4 +42,5 @@ def main():
     sys.stdout.writelines(line + "\n" for line in lines(asked.jobs, asked.sectors, asked.count))
 
 
-main()
+if __name__ == "__main__":
+    main()

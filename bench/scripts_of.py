@@ -1,15 +1,19 @@
 #!/usr/bin/env python3
 """Prints the script of one seed for `ahci replay`: some hundred lines, most of them lawful, no one a fault of the language.
 
-    bench/scripts_of.py SEED
+    bench/scripts_of.py [--raw] SEED
 
 The same seed has the same script with every version of Python: nothing is drawn but by `random()`, whose numbers are
 fixed. Each script has its own disk of 1 to 64 sectors, its own depth of 1 to 32, now and then a first number, and its own liking for
 each command. A
 line that the port has to refuse stands in it now and then. The last line is `journal`.
+
+With --raw the script is another one, in which `raw` lines stand too: windows of one or two sectors as docs/LAYOUTS.md has them, some with
+what the port ignores, and now and then one that breaks a rule.
 """
 import random
 import signal
+import struct
 import sys
 
 FREE, ISSUED, ACCEPTED, FAILED, DONE, HELD = "free", "issued", "accepted", "failed", "done", "held"
@@ -50,7 +54,7 @@ class Port:
             self.halted = False
         elif self.halted:
             return
-        elif word in ("write", "read"):
+        elif word in ("write", "read", "raw"):
             tag, lba, count = given
             if 1 <= count <= 65_536 and lba < 2**48 and tag in self.tags(FREE):
                 self.slots[tag] = Slot(ISSUED, self.entries, lba, count)
@@ -84,11 +88,12 @@ class Writer:
         "trim": (None, 6),
     }
 
-    def __init__(self, seed):
+    def __init__(self, seed, raw=False):
         self.random = random.Random(seed).random
+        self.commands = {**self.COMMANDS, "raw": (FREE, 6)} if raw else self.COMMANDS
         self.first = self.one_of(["", "", "", " 0", " 7", f" {2**63 - 40}", f" {2**63}"])
         self.port = Port(1 + self.below(64), 1 + self.below(32), int(self.first or 0))
-        self.likings = {word: 1 + self.below(most) for word, (_, most) in self.COMMANDS.items()}
+        self.likings = {word: 1 + self.below(most) for word, (_, most) in self.commands.items()}
 
     def below(self, end):
         return int(self.random() * end)
@@ -107,7 +112,7 @@ class Writer:
     def word(self):
         """A command by the likings: one that is of no use now is liked an eighth as much, and a halted port wants `recover`."""
         weights = []
-        for word, (phase, _) in self.COMMANDS.items():
+        for word, (phase, _) in self.commands.items():
             idle = phase and not self.port.tags(phase) or word == "recover" and not self.port.halted
             idle = idle or word in ("identify", "flush") and self.port.tags(ISSUED, ACCEPTED)
             idle = idle or word == "trim" and len(self.port.tags(FREE)) < len(self.port.slots)
@@ -128,16 +133,51 @@ class Writer:
         count = 1 + self.below(min(end, 8))
         return self.below(end - count + 1), count
 
+    def window(self, tag):
+        """The text of a window's header and bytes (docs/LAYOUTS.md, "Memory"), and the first sector and count of its command, a count of 0 where
+        it breaks a rule."""
+        base, count, is_write = 0x1000_0000 + tag * 0x0400_0000, 1 + self.below(min(self.port.sectors, 2)), self.below(2)
+        lba = self.below(2**48) if self.seldom() else self.below(self.port.sectors - count + 1)
+        sizes = [512 * count]
+        if self.below(2):
+            sizes = [2 + 2 * self.below(256 * count - 1)]
+            sizes.append(512 * count - sizes[0])
+        fault = self.one_of(["CFL", "A", "PRDTL", "CTBA", "short", "command", "W", "tag", "DBA", "DBC", "cut", "twice", "sum"]) if self.below(4) == 0 else ""
+        first = 0x80 + 16 * len(sizes)
+        places = [first + sum(sizes[:at]) for at in range(len(sizes))]
+        ignored = self.below(16) << 12 | self.below(2) << 7  # PMP, P
+        flags = (4 if fault == "CFL" else 5) | (fault == "A") << 5 | (is_write ^ (fault == "W")) << 6
+        entries = self.one_of([0, 33]) if fault == "PRDTL" else len(sizes)
+        header = struct.pack("<4I16x", flags | ignored | entries << 16, self.below(2**16), base + 0x80 * (fault == "CTBA"), 0)
+        code = 0xEC if fault == "command" else 0x60 + is_write
+        named, total = (tag + (fault == "tag")) % 32, count + (fault == "sum")
+        device = 0x40 | self.below(2) << 7  # FUA
+        cfis = struct.pack("<4B3sB3s4B", 0x27, 0x80, code, total & 0xFF, lba.to_bytes(6, "little")[:3], device, lba.to_bytes(6, "little")[3:], 0,
+                           named << 3, self.below(4) << 6, 0)
+        table = cfis.ljust(0x40, b"\0") + bytes(self.below(256) for _ in range(16))
+        table = table.ljust(0x80, b"\0")
+        for size, place in zip(sizes, [first] * 2 if fault == "twice" else places):
+            table += struct.pack("<4I", base + place + (fault == "DBA"), 0, 0, size - 1 - (fault == "DBC"))
+        if fault == "twice" and len(sizes) == 1:
+            fault = ""  # one piece alone shares no byte
+        data = bytes([self.below(256)]) * (512 * count) if is_write else bytes(512 * count)
+        memory = {"short": table[: 1 + self.below(first - 1)], "cut": table + data[:-2]}.get(fault, table + data)
+        return f"{header.hex()} {memory.hex()}", lba, 0 if fault else count
+
     def line(self):
         """One line, and what it does to the port."""
         word, port = self.word(), self.port
-        phase = self.COMMANDS[word][0]
+        phase = self.commands[word][0]
         tag = self.tag(phase) if phase else 0
         slot = port.slots[tag] if tag < len(port.slots) else Slot()
         byte, tail = f"{self.below(256):02x}", ""
         given = ()
         if word in ("write", "read"):
             given, tail = (tag, *self.span()), f" {byte}" if word == "write" else ""
+        elif word == "raw":
+            text, *given = self.window(tag)
+            port.takes(word, tag, *given)
+            return f"raw {tag} {text}"
         elif word in ("accept", "reissue"):
             given = (tag,)
         elif word == "serve":
@@ -160,9 +200,9 @@ class Writer:
         return " ".join([word, *map(str, given)]) + tail
 
 
-def script_of(seed):
-    """The lines of a seed's script."""
-    writer = Writer(seed)
+def script_of(seed, raw=False):
+    """The lines of a seed's script, with or without lines of `raw`."""
+    writer = Writer(seed, raw)
     lines = [writer.one_of(["disk 0 1", "disk 131073 1", "disk 1 0", "disk 1 33", f"disk 1 1 {2**63 + 1}"])] if writer.seldom() else []
     lines.append(f"disk {writer.port.sectors} {len(writer.port.slots)}{writer.first}")
     lines += [writer.line() for _ in range(200 + writer.below(300))]
@@ -170,7 +210,8 @@ def script_of(seed):
 
 
 if __name__ == "__main__":
-    if len(sys.argv) != 2 or not sys.argv[1].isdecimal():
+    WORDS = sys.argv[1:]
+    if len(WORDS) not in (1, 2) or WORDS[:-1] not in ([], ["--raw"]) or not WORDS[-1].isdecimal():
         sys.exit(__doc__)
     signal.signal(signal.SIGPIPE, signal.SIG_DFL)  # the script may go to a reader that ends early
-    print("\n".join(script_of(int(sys.argv[1]))))
+    print("\n".join(script_of(int(WORDS[-1]), len(WORDS) == 2)))

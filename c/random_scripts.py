@@ -1,5 +1,6 @@
 #!/usr/bin/env python3
-"""Plays the scripts of many seeds through the library and through `ahci replay`, and stops at the first difference.
+"""Plays the scripts of many seeds through the library and through `ahci replay`, and stops at the first difference; then those of a fifth
+as many with `raw` lines in them.
 
     random_scripts.py COUNT AHCI PLAY
 """
@@ -14,16 +15,24 @@ def said(words, script):
     return subprocess.run(words, input=script, stdout=subprocess.PIPE, stderr=subprocess.PIPE, check=False)
 
 
-def main():
-    count, ahci, play = int(sys.argv[1]), sys.argv[2], sys.argv[3]
+def compare(count, ahci, play, *words):
+    """Compares the scripts of the seeds below a count, which these words ask for, and answers how many answers they have."""
     lines = 0
     for seed in range(count):
-        script = subprocess.run([sys.executable, os.path.join(TOP, "bench", "scripts_of.py"), str(seed)], stdout=subprocess.PIPE, check=True).stdout
+        maker = [sys.executable, os.path.join(TOP, "bench", "scripts_of.py"), *words, str(seed)]
+        script = subprocess.run(maker, stdout=subprocess.PIPE, check=True).stdout
         model, library = said([ahci, "replay"], script), said([play], script)
         if (model.stdout, model.returncode) != (library.stdout, library.returncode):
-            sys.exit(f"seed {seed}: the library answers otherwise than ahci replay (status {library.returncode})\n{library.stderr.decode()[-2000:]}")
+            where = " ".join([*words, str(seed)])
+            sys.exit(f"seed {where}: the library answers otherwise than ahci replay (status {library.returncode})\n{library.stderr.decode()[-2000:]}")
         lines += model.stdout.count(b"\n")
-    print(f"{count} random scripts with {lines} answers: no difference")
+    return lines
+
+
+def main():
+    count, ahci, play = int(sys.argv[1]), sys.argv[2], sys.argv[3]
+    print(f"{count} random scripts with {compare(count, ahci, play)} answers: no difference", flush=True)
+    print(f"{count // 5} random scripts with windows of any bytes, with {compare(count // 5, ahci, play, '--raw')} answers: no difference")
 
 
 if __name__ == "__main__":

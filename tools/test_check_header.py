@@ -18,7 +18,9 @@ from typing import List, Tuple
 TOP = os.path.dirname(os.path.dirname(os.path.realpath(__file__)))
 HEADER = "c/ahci.h"
 STATUS = "crates/port_place/src/status.rt"
-READ = ["tools/check_header", HEADER, "crates/ahci_c/src", "crates/port_place/src"]
+PYTHON = "python/ahci.py"
+PLACE = "crates/port_place/src/place.rt"
+READ = ["tools/check_header", HEADER, PYTHON, "crates/ahci_c/src", "crates/port_place/src"]
 
 Change = Tuple[str, str, str]  # a file, an old text that stands there once, and the new one
 
@@ -72,10 +74,30 @@ class CheckHeader(unittest.TestCase):
         self.differs([(HEADER, "uint32_t ahci_version(void);", "uint32_t ahci_version(uint32_t which);")], "ahci_version: ")
 
     def test_the_number_of_a_status_is_compared(self) -> None:
-        self.differs([(HEADER, "AHCI_OUT_OF_MEMORY = ", "AHCI_OUT_OF_MEMORY = 9")], "AHCI_OUT_OF_MEMORY: ")
+        said = "AHCI_OUT_OF_MEMORY: the header has 93, "
+        self.differs([(HEADER, "AHCI_OUT_OF_MEMORY = ", "AHCI_OUT_OF_MEMORY = 9")], said + "Status::code has 3", said + "Status of python/ahci.py has 3")
 
     def test_a_status_that_no_call_has_is_told(self) -> None:
-        self.differs([(HEADER, "AHCI_OUT_OF_MEMORY = ", "AHCI_TIRED = 99,\n    AHCI_OUT_OF_MEMORY = ")], "AHCI_TIRED: ")
+        self.differs([(HEADER, "AHCI_OUT_OF_MEMORY = ", "AHCI_TIRED = 99,\n    AHCI_OUT_OF_MEMORY = ")], "AHCI_TIRED: the header has 99, Status::code", "AHCI_TIRED: the header has 99, Status of")
+
+    def test_the_numbers_of_python_are_compared(self) -> None:
+        self.differs([(PYTHON, "    OUT_OF_MEMORY = ", "    OUT_OF_MEMORY = 9")], "AHCI_OUT_OF_MEMORY: the header has 3, Status of python/ahci.py has 93")
+        self.setUp()
+        self.differs([(PYTHON, "    OUT_OF_MEMORY = 3\n", "")], "AHCI_OUT_OF_MEMORY: the header has 3, Status of python/ahci.py has None")
+        self.setUp()
+        self.differs([(PYTHON, "    OUT_OF_MEMORY = 3\n", "    OUT_OF_MEMORY = 3\n    TIRED = 99\n")], "AHCI_TIRED: the header has None, Status of python/ahci.py has 99")
+
+    def test_a_number_that_two_statuses_have_is_told(self) -> None:
+        self.differs([(HEADER, "AHCI_OUT_OF_MEMORY = 3", "AHCI_OUT_OF_MEMORY = 2"), (STATUS, "Status::OutOfMemory => 3,", "Status::OutOfMemory => 2,"),
+                      (PYTHON, "    OUT_OF_MEMORY = 3", "    OUT_OF_MEMORY = 2")], "two statuses have one number")
+
+    def test_the_place_of_a_port_is_compared(self) -> None:
+        changes = [(HEADER, "    bool full;\n    bool stopped;\n", "    bool stopped;\n    bool full;\n"), (HEADER, "    uint32_t announced;", "    uint64_t announced;"),
+                   (HEADER, "    void *at;\n", ""), (PLACE, "    announced: u32,", "    announced: u64,"), (PLACE, "    held: Held,", "    held: u64,"),
+                   (PLACE, "    stopped: bool,", "    stopped: bool,\n    more: bool,")]
+        for change in changes:
+            self.setUp()
+            self.differs([change], "ahci_port: the header has ")
 
     def test_the_version_is_compared(self) -> None:
         self.differs([(HEADER, "#define AHCI_VERSION 0x", "#define AHCI_VERSION 0x1")], "AHCI_VERSION is not")

@@ -12,7 +12,7 @@ case "$*" in
 --help) printf '%s\n' 'A small thing.' 'It does little.' '' 'Usage: ahci <COMMAND>' '' 'Commands:' '  one   Do one' '  help  Print help' ;;
 "one --help") printf '%s\n' 'Do one.' '' 'Usage: ahci one [OPTIONS] [FILE]' '' 'Options:' \
     '      --pick <PICK>' '          Which [possible values: low, high]' '  -n, --count <NUMBER>' '  -h, --help' '' \
-    "A back\\slash and a - and a '." '.a dot' '' 'Example:' '  ahci one' '' '  ahci one x' ;;
+    "A back\\slash and a - and a '." '.a dot' "'quoted \`so\`, with a ^ and a ~" '' 'Example:' '  ahci one' '' '  ahci one x' ;;
 esac
 """
 PAGE = r""".TH AHCI 1 "" "ahci 1.2" "User Commands"
@@ -43,6 +43,7 @@ Do one.
 .PP
 A back\eslash and a \- and a \(aq.
 \&.a dot
+\(aqquoted \(gaso\(ga, with a \(ha and a \(ti
 .SS "Example"
 .nf
 ahci one
@@ -83,6 +84,7 @@ class Manual(unittest.TestCase):
         self.assertEqual(self.completed("ahci", "one", "--pick", "h"), "high")
         self.assertEqual(self.completed("ahci", "one", "-n", "--"), "")
         self.assertEqual(self.completed("ahci", "help", ""), "one")
+        self.assertEqual(self.completed("ahci", "help", "one", ""), "")
 
     def test_a_program_whose_help_or_version_fails_is_told(self) -> None:
         for words in ("--version", "--help", '"one --help"'):
