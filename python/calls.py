@@ -1,7 +1,7 @@
 """Each method and function of ahci.py, its answers against values worked out by hand from docs/LAYOUTS.md and docs/PROGRAM.md:
 `make check` here and in ../c runs it, and it prints one line."""
 import resource
-from typing import Callable, Optional
+from typing import Callable, Dict, Optional, Tuple
 
 import ahci
 from ahci import Command, Entry, Event, Fis, Port, Reply, Slot, Status, Stepped, TagSets, Written
@@ -40,7 +40,7 @@ def looks() -> None:
     port.free()  # a second time
 
 
-def raw_read(tag: int, lba: int) -> "tuple[bytes, bytes]":
+def raw_read(tag: int, lba: int) -> Tuple[bytes, bytes]:
     """The header and the window of a read of one sector, whose data stand behind its table, from 90h on."""
     base = 0x10 + 4 * tag  # the high byte of the tag's base
     header, memory = bytearray(32), bytearray(0x290)
@@ -154,7 +154,7 @@ def layers() -> None:
 def wide_numbers() -> None:
     """No number is cut to its width: one that doesn't fit is told, with its name, and the largest that fits reaches the library."""
     with Port.zeros(sectors=8, depth=4) as port:
-        calls = {
+        calls: Dict[Tuple[str, int], Tuple[Callable[[int], object], ...]] = {
             ("depth", 32): (lambda it: Port(bytes(512), it), lambda it: Port.zeros(1, it), lambda it: ahci.identify_page(1, it), lambda it: ahci.journal_check(1, it, [])),
             ("first", 64): (lambda it: Port(bytes(512), 1, it),),
             ("sectors", 32): (lambda it: Port.zeros(it, 1), lambda it: port.read(0, 0, it), lambda it: ahci.identify_page(it, 0),
