@@ -66,7 +66,7 @@ def failing_queue() -> None:
         # the second sector of tag 2 can't be read: UNC
         assert port.fail(2, 0x40, 3) == Stepped(first=15, count=1, did=2)
         state = port.state()
-        assert (state.halted, state.issued, state.accepted, state.held) == (1, 0b1000, 0b0110, 0)
+        assert (state.halted, state.issued, state.accepted, state.held) == (1, 0b1000, 0b0010, 0)  # the failed one is in no set
         assert (state.registers["px_tfd"], state.registers["px_is"]) == (0x4041, 0x40000008)  # ERR; TFES and SDBS
         assert (state.registers["px_sact"], state.registers["px_ci"]) == (0b1110, 0b1000)
         assert state.received[0x58:0x60] == b"\xa1\x40\x41\x40" + bytes(4)
