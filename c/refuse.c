@@ -217,11 +217,27 @@ static int made(void)
     return lacking;
 }
 
+/* A flush and a recovery behind journals of each length, since memory for entries is asked for ahead. */
+static int behind_each_length(void)
+{
+    const uint8_t nothing = 0;
+    int lacking = 0;
+    for (int length = 0; length < 12; length++) {
+        ahci_port port = AHCI_PORT_EMPTY;
+        TRY(&port, nothing, ahci_port_new_zeros(&port, 8, 4));
+        for (int at = 0; at < length; at++)
+            TRY(&port, nothing, ahci_port_flush(&port));
+        lacking += failing(&port);
+        NONE(ahci_port_free(&port));
+    }
+    return lacking;
+}
+
 static int story(void)
 {
     ahci_port port = AHCI_PORT_EMPTY;
     uint64_t number = 99, entries;
-    int lacking = made() + alone();
+    int lacking = made() + alone() + behind_each_length();
     TRY(&port, image, ahci_port_new(&port, image, sizeof image, 32));
     TRY(&port, number, ahci_port_submit(&port, 0, AHCI_WRITE, 3, 1, data, sizeof data, &number));
     looks(&port);
@@ -231,6 +247,7 @@ static int story(void)
     lacking += driven(&port);
     TRY(&port, number, ahci_port_flush(&port));
     NONE(ahci_port_trim(&port, &entries));
+    number = 99;
     TRY(&port, number, ahci_port_issue(&port, 0, list, AHCI_HEADER_BYTES, windows, 0x290, &number));
     served(&port, number);
     if (memcmp(got, data, sizeof data) != 0)
