@@ -107,6 +107,31 @@ static void fises(void)
     CHECK(ahci_fis_decode(payload, 4, &fis) == AHCI_UNKNOWN_TYPE);
 }
 
+/* The header's sizes: what the standards say, and what the calls take. */
+static void sizes(void)
+{
+    static uint8_t payload[8196], out[8200];
+    static const ahci_state state;
+    ahci_fis carrier = { .kind = 0x46 }, fis;
+    size_t length, bad;
+    CHECK(AHCI_SECTOR_BYTES == 512 && AHCI_PAGE_BYTES == 512);
+    CHECK(AHCI_MOST_SECTORS == (64 << 20) / 512);
+    CHECK(AHCI_MOST_TAGS == 32 && sizeof state.phases == AHCI_MOST_TAGS && sizeof state.numbers / sizeof *state.numbers == AHCI_MOST_TAGS);
+    CHECK(AHCI_HEADER_BYTES == 0x20 && AHCI_LIST_BYTES == 0x400); /* AHCI 1.3.1, section 4.2.2 */
+    CHECK(AHCI_RECEIVED_BYTES == 0x100 && sizeof state.received == AHCI_RECEIVED_BYTES); /* section 4.2.1 */
+    CHECK(AHCI_MOST_COUNT == 0x10000); /* ACS-3, READ FPDMA QUEUED: features 0000h */
+    ahci_entry most = { .kind = AHCI_EVENT_READ, .sectors = AHCI_MOST_COUNT };
+    CHECK(ahci_journal_check(AHCI_MOST_SECTORS, 1, &most, 1, &bad) == AHCI_OK);
+    most.sectors++;
+    CHECK(ahci_journal_check(AHCI_MOST_SECTORS, 1, &most, 1, &bad) == AHCI_NOT_ALLOWED);
+    CHECK(AHCI_MOST_FIS_BYTES == 4 + 8192); /* Serial ATA, "Data FIS": its first dword and 2,048 more */
+    CHECK(ahci_fis_encode(&carrier, payload, 8192, out, AHCI_MOST_FIS_BYTES - 1, &length) == AHCI_BUFFER_TOO_SMALL);
+    CHECK(ahci_fis_encode(&carrier, payload, 8192, out, AHCI_MOST_FIS_BYTES, &length) == AHCI_OK && length == AHCI_MOST_FIS_BYTES);
+    CHECK(ahci_fis_decode(out, AHCI_MOST_FIS_BYTES, &fis) == AHCI_OK && fis.payload == 8192);
+    CHECK(ahci_fis_decode(out, AHCI_MOST_FIS_BYTES + 4, &fis) == AHCI_WRONG_FIS_LENGTH);
+    CHECK(ahci_fis_encode(&carrier, payload, 8196, out, sizeof out, &length) == AHCI_BAD_PAYLOAD);
+}
+
 /* An event by its kind and its numbers. */
 static ahci_entry event(uint32_t kind, uint32_t tag, uint64_t lba, uint32_t sectors, uint32_t error)
 {
@@ -197,6 +222,7 @@ int main(void)
     pages();
     windows();
     fises();
+    sizes();
     journals();
     names();
     puts("the calls without a port: as the standards have it");

@@ -1,5 +1,6 @@
-/* Each request for memory of a short story is refused in turn: each call answers, the port goes on, and what is left at the
-   end is freed. It is linked with --wrap=malloc and --wrap=realloc. */
+/* Each request for memory of a short story is refused in turn: each call that may want memory says so, has changed nothing, and
+   succeeds later; and what is left at the end is freed. A call that takes no memory succeeds while every request is refused, and
+   asks for none. It is linked with --wrap=malloc and --wrap=realloc. */
 #include "ahci.h"
 #include <stdio.h>
 #include <stdlib.h>
@@ -11,29 +12,71 @@ void *__wrap_malloc(size_t bytes);
 void *__wrap_realloc(void *block, size_t bytes);
 
 static long asked, refused_at = -1;
+static bool refuses_all, was_asked; /* while a call runs that takes no memory */
 
-static bool refuses(void) { return asked++ == refused_at; }
+static bool refuses(void)
+{
+    if (refuses_all)
+        was_asked = true;
+    return refuses_all || asked++ == refused_at;
+}
 void *__wrap_malloc(size_t bytes) { return refuses() ? NULL : __real_malloc(bytes); }
 void *__wrap_realloc(void *block, size_t bytes) { return refuses() ? NULL : __real_realloc(block, bytes); }
 
-static void wrong(const char *what)
+static void wrong(const char *call, const char *what)
 {
-    printf("request %ld refused: %s\n", refused_at, what);
+    printf("request %ld refused: %s: %s\n", refused_at, call, what);
     exit(1);
 }
 
-/* Makes a call until memory is there: it is refused at most once, and has changed nothing then. */
-#define TRY(call) do { uint32_t s = (call); if (s == AHCI_OUT_OF_MEMORY) { lacking++; s = (call); } if (s != AHCI_OK) wrong(#call); } while (0)
-
-/* A read by PxSACT and PxCI, whose window is copied: where memory is refused, the slot is told and can be written again. */
-static int driven(ahci_port *port)
+/* All that can be seen of a port, and zeros of an empty place. */
+static ahci_state seen(ahci_port *port)
 {
-    static uint8_t list[AHCI_LIST_BYTES], windows[32 * 0x290], read[AHCI_SECTOR_BYTES];
-    const uint8_t fis[13] = { 0x27, 0x80, 0x60, 1, 3, 0, 0, 0x40, 0, 0, 0, 0, 0 }, tag = 0;
-    ahci_written written;
-    ahci_stepped done;
-    ahci_reply reply;
-    int lacking = 0;
+    ahci_state state;
+    memset(&state, 0, sizeof state);
+    ahci_port_state(port, &state);
+    return state;
+}
+
+static bool differs(ahci_state before, ahci_state after) { return memcmp(&before, &after, sizeof before) != 0; }
+
+/* Makes a call of `port` that may want memory, until it is there: it is refused at most once, and has changed nothing then, neither the
+   port nor `out`. */
+#define TRY(port, out, call) do { \
+    ahci_state before = seen(port); \
+    uint8_t was[sizeof (out)]; \
+    memcpy(was, &(out), sizeof was); \
+    uint32_t s = (call); \
+    if (s == AHCI_OUT_OF_MEMORY) { \
+        lacking++; \
+        if (differs(before, seen(port)) || memcmp(was, &(out), sizeof was) != 0) \
+            wrong(#call, "something has changed"); \
+        s = (call); \
+    } \
+    if (s != AHCI_OK) \
+        wrong(#call, "it is not done"); \
+} while (0)
+
+/* Makes a call that takes no memory. */
+#define NONE(call) do { \
+    refuses_all = true; \
+    uint32_t s = (call); \
+    refuses_all = false; \
+    if (s != AHCI_OK) \
+        wrong(#call, "it is not done without memory"); \
+    if (was_asked) \
+        wrong(#call, "it asks for memory"); \
+} while (0)
+
+static uint8_t image[8 * AHCI_SECTOR_BYTES], data[AHCI_SECTOR_BYTES], got[AHCI_SECTOR_BYTES], page[AHCI_PAGE_BYTES];
+static uint8_t list[AHCI_LIST_BYTES], windows[32 * 0x290];
+static const uint8_t tags[] = { 0, 1 };
+
+/* A read of sector 3 by slot 0, in the command list and in slot 0's window. */
+static void lay_out(void)
+{
+    const uint8_t fis[13] = { 0x27, 0x80, 0x60, 1, 3, 0, 0, 0x40, 0, 0, 0, 0, 0 };
+    memset(data, 0xAB, sizeof data);
     list[0] = 5;
     list[2] = 1;
     list[11] = windows[0x83] = 0x10; /* the base of slot 0 */
@@ -41,76 +84,191 @@ static int driven(ahci_port *port)
     windows[0x80] = 0x90;
     windows[0x8C] = 0xFF;
     windows[0x8D] = 0x01;
-    TRY(ahci_port_write_register(port, 0x134, 1, list, sizeof list, windows, sizeof windows, &written));
+}
+
+static void collects(ahci_port *port, uint32_t tag, uint64_t number)
+{
+    ahci_reply reply;
+    NONE(ahci_port_collect(port, tag, number, &reply, got, sizeof got));
+}
+
+/* The device takes the command of slot 0, and serves it; its answer is taken. */
+static void served(ahci_port *port, uint64_t number)
+{
+    ahci_stepped done;
+    NONE(ahci_port_accept(port, 0, &done));
+    NONE(ahci_port_serve(port, tags, 1, &done));
+    collects(port, 0, number);
+}
+
+/* A read by PxSACT and PxCI, whose window is copied: where memory is refused, the slot is told and can be written again. It fails, and
+   the port recovers by PxCMD. */
+static int driven(ahci_port *port)
+{
+    ahci_written written = { 9, 9, 9 };
+    ahci_stepped done;
+    ahci_slot slot;
+    int lacking = 0;
+    NONE(ahci_port_write_register(port, 0x134, 1, list, sizeof list, windows, sizeof windows, &written));
+    ahci_state before = seen(port);
     uint32_t status = ahci_port_write_register(port, 0x138, 1, list, sizeof list, windows, sizeof windows, &written);
-    if (status == AHCI_OUT_OF_MEMORY && (written.did != AHCI_WROTE_SOME || written.tag != 0))
-        wrong("the slot is not told");
     if (status == AHCI_OUT_OF_MEMORY) {
         lacking++;
+        if (written.did != AHCI_WROTE_SOME || written.tag != 0 || differs(before, seen(port)))
+            wrong("PxCI", "the slot is not told");
         status = ahci_port_write_register(port, 0x138, 1, list, sizeof list, windows, sizeof windows, &written);
     }
     if (status != AHCI_OK || written.slots != 1)
-        wrong("a command is not issued");
-    ahci_slot slot;
-    TRY(ahci_port_slot(port, 0, &slot));
-    TRY(ahci_port_accept(port, 0, &done));
-    TRY(ahci_port_serve(port, &tag, 1, &done));
-    TRY(ahci_port_collect(port, 0, slot.number, &reply, read, sizeof read));
+        wrong("PxCI", "a command is not issued");
+    NONE(ahci_port_slot(port, 0, &slot));
+    NONE(ahci_port_accept(port, 0, &done));
+    NONE(ahci_port_fail(port, 0, 0x40, 3, &done));
+    NONE(ahci_port_write_register(port, 0x110, 8, list, sizeof list, windows, sizeof windows, &written));
+    NONE(ahci_port_write_register(port, 0x118, 0x10, list, sizeof list, windows, sizeof windows, &written));
+    TRY(port, written, ahci_port_write_register(port, 0x118, 0x11, list, sizeof list, windows, sizeof windows, &written));
+    if (written.did != AHCI_WROTE_START)
+        wrong("PxCMD", "the port has not recovered");
+    collects(port, 0, slot.number);
     return lacking;
 }
 
-static int story(void)
+/* One command or two, of which the first fails; the other is issued again. */
+static int failing(ahci_port *port, uint32_t count)
 {
-    static uint8_t image[8 * AHCI_SECTOR_BYTES], data[AHCI_SECTOR_BYTES], read[AHCI_SECTOR_BYTES], page[AHCI_PAGE_BYTES];
-    ahci_port port = AHCI_PORT_EMPTY;
-    const uint8_t list[] = { 0 }, header[AHCI_HEADER_BYTES] = { 0 };
-    ahci_command command;
-    uint64_t number, entries;
+    uint64_t numbers[2] = { 99, 99 };
     ahci_stepped done;
-    ahci_reply reply;
-    uint32_t tag;
+    uint32_t tag = 99;
     int lacking = 0;
-    memset(data, 0xAB, sizeof data);
-    TRY(ahci_port_new(&port, image, sizeof image, 32));
-    TRY(ahci_port_submit(&port, 0, AHCI_WRITE, 3, 1, data, sizeof data, &number));
-    TRY(ahci_port_accept(&port, 0, &done));
-    TRY(ahci_port_serve(&port, list, 1, &done));
-    TRY(ahci_port_collect(&port, 0, number, &reply, read, 0));
+    for (uint32_t at = 0; at < count; at++) {
+        TRY(port, numbers, ahci_port_submit(port, at, AHCI_READ, 3, 1, got, 0, &numbers[at]));
+        NONE(ahci_port_accept(port, at, &done));
+    }
+    NONE(ahci_port_fail(port, 0, 0x40, 3, &done));
+    TRY(port, tag, ahci_port_recover(port, &tag));
+    collects(port, 0, numbers[0]);
+    if (count == 1)
+        return lacking;
+    NONE(ahci_port_reissue(port, 1));
+    NONE(ahci_port_accept(port, 1, &done));
+    NONE(ahci_port_serve(port, tags + 1, 1, &done));
+    collects(port, 1, numbers[1]);
+    return lacking;
+}
+
+/* The calls that look, at a port whose first entry has issued a write. */
+static void looks(ahci_port *port)
+{
+    uint8_t area[AHCI_RECEIVED_BYTES];
+    ahci_tag_sets sets;
+    ahci_entry entry;
+    ahci_state state;
+    ahci_slot slot;
+    uint32_t word;
+    NONE(ahci_port_depth(port, &word));
+    NONE(ahci_port_sectors(port, &word));
+    NONE(ahci_port_register(port, 0x134, &word));
+    NONE(ahci_port_read_register(port, 0x134, &word));
+    NONE(ahci_port_acknowledge(port, 8));
+    NONE(ahci_port_received(port, area, sizeof area));
+    NONE(ahci_port_tag_sets(port, &sets));
+    NONE(ahci_port_slot(port, 0, &slot));
+    NONE(ahci_port_copy(port, 3, got, sizeof got));
+    NONE(ahci_port_entry(port, 0, &entry));
+    NONE(ahci_port_entry_bytes(port, 0, got, sizeof got));
+    NONE(ahci_port_state(port, &state));
+}
+
+/* The calls that need no port; of them the check of a window alone takes memory. */
+static int alone(void)
+{
+    const uint8_t header[AHCI_HEADER_BYTES] = { 0 }, bits[] = { 0xA1, 0x40, 0x40, 0, 1, 0, 0, 0 };
+    const ahci_entry event = { .kind = AHCI_EVENT_WRITE, .lba = 3, .sectors = 1 };
+    ahci_port none = AHCI_PORT_EMPTY;
+    ahci_command command = { 9, 9, 9, 9, 9 };
+    ahci_fis fis;
+    uint8_t out[32];
+    size_t length;
+    int lacking = 0;
+    NONE(ahci_fis_decode(bits, sizeof bits, &fis));
+    NONE(ahci_fis_encode(&fis, bits, 0, out, sizeof out, &length));
+    NONE(ahci_identify_page(8, 4, page, sizeof page));
+    NONE(ahci_log_page(3, 0x40, 7, page, sizeof page));
+    NONE(ahci_journal_check(8, 4, &event, 1, &length));
+    NONE(ahci_status_text(AHCI_HALTED, out, sizeof out, &length));
+    NONE(ahci_version() == AHCI_VERSION ? AHCI_OK : AHCI_BAD_KIND);
+    TRY(&none, command, ahci_window_check(0, list, AHCI_HEADER_BYTES, windows, 0x290, &command));
     uint32_t checked = ahci_window_check(0, header, sizeof header, image, sizeof image, &command);
     if (checked == AHCI_OUT_OF_MEMORY) {
         lacking++;
         checked = ahci_window_check(0, header, sizeof header, image, sizeof image, &command);
     }
     if (checked != AHCI_BAD_HEADER)
-        wrong("a window of zeros has a header");
-    TRY(ahci_port_identify(&port, page, sizeof page));
+        wrong("ahci_window_check", "a window of zeros has a header");
+    return lacking;
+}
+
+/* Ports that are made in the other two ways. */
+static int made(void)
+{
+    ahci_port port = AHCI_PORT_EMPTY;
+    int lacking = 0;
+    TRY(&port, image, ahci_port_new_zeros(&port, 8, 4));
+    NONE(ahci_port_free(&port));
+    TRY(&port, image, ahci_port_resume(&port, image, sizeof image, 4, 7));
+    NONE(ahci_port_free(&port));
+    return lacking;
+}
+
+/* A flush and a recovery behind some short journals: memory for entries is asked for ahead, and not by each call. */
+static int behind_some_entries(void)
+{
+    const uint8_t nothing = 0;
+    int lacking = 0;
+    for (uint32_t at = 0; at < 6; at++) {
+        ahci_port port = AHCI_PORT_EMPTY;
+        TRY(&port, nothing, ahci_port_new_zeros(&port, 8, 4));
+        for (uint32_t length = at / 2; length > 0; length--)
+            TRY(&port, nothing, ahci_port_flush(&port));
+        lacking += failing(&port, at % 2 + 1);
+        NONE(ahci_port_free(&port));
+    }
+    return lacking;
+}
+
+static int story(void)
+{
+    ahci_port port = AHCI_PORT_EMPTY;
+    uint64_t number = 99, entries;
+    int lacking = made() + alone() + behind_some_entries();
+    TRY(&port, image, ahci_port_new(&port, image, sizeof image, 32));
+    TRY(&port, number, ahci_port_submit(&port, 0, AHCI_WRITE, 3, 1, data, sizeof data, &number));
+    looks(&port);
+    served(&port, number);
+    memset(page, 0xEE, sizeof page);
+    TRY(&port, page, ahci_port_identify(&port, page, sizeof page));
     lacking += driven(&port);
-    TRY(ahci_port_flush(&port));
-    TRY(ahci_port_trim(&port, &entries));
-    TRY(ahci_port_submit(&port, 0, AHCI_READ, 3, 1, read, 0, &number));
-    TRY(ahci_port_accept(&port, 0, &done));
-    TRY(ahci_port_serve(&port, list, 1, &done));
-    TRY(ahci_port_collect(&port, 0, number, &reply, read, sizeof read));
-    if (memcmp(read, data, sizeof data) != 0)
-        wrong("a read has lost its bytes");
-    TRY(ahci_port_submit(&port, 0, AHCI_READ, 3, 1, read, 0, &number));
-    TRY(ahci_port_accept(&port, 0, &done));
-    TRY(ahci_port_fail(&port, 0, 0x40, 3, &done));
-    TRY(ahci_port_recover(&port, &tag));
-    TRY(ahci_port_collect(&port, 0, number, &reply, read, sizeof read));
-    TRY(ahci_port_free(&port));
+    TRY(&port, number, ahci_port_flush(&port));
+    NONE(ahci_port_trim(&port, &entries));
+    number = 99;
+    TRY(&port, number, ahci_port_issue(&port, 0, list, AHCI_HEADER_BYTES, windows, 0x290, &number));
+    served(&port, number);
+    if (memcmp(got, data, sizeof data) != 0)
+        wrong("ahci_port_collect", "a read has lost its bytes");
+    lacking += failing(&port, 2);
+    NONE(ahci_port_free(&port));
     return lacking;
 }
 
 int main(void)
 {
+    lay_out();
     if (story() != 0)
-        wrong("memory was refused that was there");
+        wrong("the story", "memory was refused that was there");
     long all = asked;
     for (refused_at = 0; refused_at < all; refused_at++) {
         asked = 0;
         if (story() != 1)
-            wrong("not one call lacked memory");
+            wrong("the story", "not one call lacked memory");
     }
     printf("%ld requests for memory, each refused in turn: nothing lost\n", all);
     return 0;

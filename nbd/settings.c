@@ -1,6 +1,7 @@
 #include "settings.h"
 
 #include <ahci.h>
+#include <ctype.h>
 #include <errno.h>
 #include <inttypes.h>
 #include <stdio.h>
@@ -67,23 +68,42 @@ static int take_pick(const char *text, enum pick *pick) {
     return -1;
 }
 
+/* A number of decimal digits alone; the answer is what stands behind it, or NULL. */
+static const char *take_digits(const char *text, uint64_t *number) {
+    char *end = NULL;
+    if (!isdigit((unsigned char)*text))
+        return NULL;
+    errno = 0;
+    *number = strtoull(text, &end, 10);
+    return errno ? NULL : end;
+}
+
+/* Two hexadecimal digits behind a colon, in the same way. */
+static const char *take_error(const char *text, uint8_t *error) {
+    if (*text != ':' || !isxdigit((unsigned char)text[1]) || !isxdigit((unsigned char)text[2]))
+        return NULL;
+    const char digits[] = {text[1], text[2], 0};
+    *error = (uint8_t)strtoul(digits, NULL, 16);
+    return text + 3;
+}
+
 /* LBA:EE or LBA:EE:COUNT. */
 static int take_failure(struct settings *settings, const char *text) {
-    unsigned long long lba = 0, count = 1;
-    unsigned error = 0;
-    int whole = -1, part = -1;
+    struct failure failure = {.left = 1};
     if (settings->failure_count == MOST_FAILURES) {
         nbdkit_error("fail=%s: one too many, since %d may be given", text, MOST_FAILURES);
         return -1;
     }
-    sscanf(text, "%llu:%2x%n:%llu%n", &lba, &error, &part, &count, &whole);
-    size_t length = strlen(text);
-    bool taken = text[0] >= '0' && text[0] <= '9' && ((part > 0 && (size_t)part == length) || (whole > 0 && (size_t)whole == length));
-    if (!taken || count == 0) {
+    const char *at = take_digits(text, &failure.lba);
+    if (at)
+        at = take_error(at, &failure.error);
+    if (at && *at == ':')
+        at = take_digits(at + 1, &failure.left);
+    if (!at || *at || failure.left == 0) {
         nbdkit_error("fail=%s: LBA:EE or LBA:EE:COUNT is wanted, with two hexadecimal digits and a count from 1 on", text);
         return -1;
     }
-    settings->failures[settings->failure_count++] = (struct failure){.lba = lba, .left = count, .error = (uint8_t)error};
+    settings->failures[settings->failure_count++] = failure;
     return 0;
 }
 

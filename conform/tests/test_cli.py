@@ -1,7 +1,9 @@
 """The command line: what is wrong is told in one line, with its own status."""
+import json
 import os
 import subprocess
 import sys
+import tempfile
 import unittest
 from typing import Tuple
 
@@ -60,6 +62,82 @@ class Runs(unittest.TestCase):
 
     def test_no_script_is_like_one_that_does_nothing(self) -> None:
         self.assertEqual(self.judge(script="")[0], 0)
+
+    def test_an_emulator_that_is_not_there_has_status_3(self) -> None:
+        assert MODEL
+        status, out, err = run("--model", MODEL, "--qemu", "/nowhere/qemu", "-", script="disk 1 1\n")
+        self.assertEqual((status, out, err.count("\n")), (3, "", 1))
+        self.assertIn("ahci_conform: standard input, line 1 (disk 1 1): there is no /nowhere/qemu", err)
+
+
+SILENT = {"title": "a silent one", "differences": [{"name": "silent", "title": "No SDBS", "section": "3.3.5", "choice": "standard", "emulator": "none",
+                                                    "model": "SDBS", "covers": [{"place": "PxIS", "bits": "00000008"}]}]}
+SERVED = "disk 1 1\nread 0 0 1\naccept 0\nserve 0\n"
+
+
+@needs_model
+class Known(unittest.TestCase):
+    """The stand-in that sets no SDBS, and a list that knows it."""
+
+    def setUp(self) -> None:
+        room = tempfile.TemporaryDirectory()
+        self.addCleanup(room.cleanup)
+        self.room = room.name
+        self.known = self.file("list.json", json.dumps(SILENT))
+
+    def file(self, name: str, text: str) -> str:
+        path = os.path.join(self.room, name)
+        os.makedirs(os.path.dirname(path), exist_ok=True)
+        with open(path, "w", encoding="ascii") as out:
+            out.write(text)
+        return path
+
+    def judge(self, *words: str) -> Tuple[int, str, str]:
+        assert MODEL
+        return run("--model", MODEL, "--emulator", "stand-in", "--fault", "no_sdbs", *words)
+
+    def test_a_known_difference_has_status_0_and_a_row(self) -> None:
+        status, out, _ = self.judge("--known", self.known, self.file("one", SERVED), self.file("two", SERVED))
+        self.assertEqual(status, 0)
+        self.assertIn("| silent | 2 | 2 | one, line 4 |", out)
+
+    def test_an_entry_that_is_left_out_is_a_new_difference(self) -> None:
+        status, out, _ = self.judge("--known", self.known, "--without", "silent", self.file("one", SERVED))
+        self.assertEqual(status, 1)
+        self.assertIn("one, line 4: serve 0 (PxIS)", out)
+        status, out, err = self.judge("--known", self.known, "--without", "loud", self.file("one", SERVED))
+        self.assertEqual((status, out, err), (2, "", "ahci_conform: the list has no entry 'loud': it has silent\n"))
+
+    def test_a_run_ends_at_a_new_difference_unless_it_is_to_go_on(self) -> None:
+        scripts = [self.file(name, SERVED) for name in ("one", "two")]
+        for words, judged in (((), 1), (("--go-on",), 2)):
+            status, out, _ = self.judge(*words, *scripts)
+            self.assertEqual(status, 1)
+            self.assertIn(f"| judged | {judged} |", out)
+            self.assertIn(f"| with a new difference | {judged} |", out)
+
+    def test_each_line_has_the_known_differences_that_it_shows(self) -> None:
+        status, out, err = self.judge("--known", self.known, "--each-line", self.file("one", SERVED))
+        self.assertEqual((status, out, err), (0, "1 same\n2 same\n3 same\n4 silent\n", ""))
+
+    def test_each_line_tells_a_new_difference_on_standard_error(self) -> None:
+        status, out, err = self.judge("--each-line", self.file("one", SERVED))
+        self.assertEqual((status, out), (1, "1 same\n2 same\n3 same\n4 same\n"))
+        self.assertIn("one, line 4: serve 0 (PxIS)", err)
+
+    def test_a_list_is_shown_by_its_scripts(self) -> None:
+        folder = os.path.dirname(self.file("scripts/silent.ahci", SERVED))
+        self.assertEqual(self.judge("--known", self.known, "--shown", folder)[:2], (0, "1 known differences, 0 faults\n"))
+
+    def test_a_list_that_is_not_shown_has_status_1(self) -> None:
+        for script, told in (
+            ("disk 1 1\nread 0 0 1\naccept 0\n", "silent: its script doesn't show it"),
+            (SERVED + "collect 0 0\n", "silent: line 4 of its script shows it before the last line does"),
+        ):
+            folder = os.path.dirname(self.file("scripts/silent.ahci", script))
+            self.assertEqual(self.judge("--known", self.known, "--shown", folder)[:2], (1, f"{told}\n1 known differences, 1 faults\n"))
+        status, out, _ = self.judge("--known", self.known, "--shown", os.path.join(self.room, "nowhere"))
+        self.assertEqual((status, out.splitlines()[-1]), (1, "1 known differences, 1 faults"))
 
 
 if __name__ == "__main__":

@@ -1,11 +1,12 @@
 """Whole scripts on the stand-in, over a stored trace."""
+import json
 import unittest
 from typing import List, Type
 
 from judge.adapter import EmulatorFault
 from judge.judge import Judged, judge
-from judge.known import NOTHING
-from judge.report import as_json, differences_text, table
+from judge.known import NOTHING, Known, known_of
+from judge.report import as_json, counts, differences_text, table
 from judge.window import memory_of, pieces_of, window_of
 from stand_in.faults import FAULTS, named
 from stand_in.port import StandIn
@@ -26,8 +27,15 @@ class Dies(Counted):
         raise EmulatorFault("it has ended by signal 9")
 
 
-def run(made: Type[StandIn]) -> Judged:
-    return judge("queue", stored(), made(), NOTHING)
+def run(made: Type[StandIn], known: Known = NOTHING) -> Judged:
+    return judge("queue", stored(), made(), known)
+
+
+# the lines of the stored script at which SDBS begins to be wanting: `recover` clears it, and `serve 2` finds it wanting already
+SHOWN = ["fail 1 40 7", "serve 0"]
+SILENT = known_of(json.dumps({"title": "a silent one", "differences": [{
+    "name": "silent", "title": "No SDBS", "section": "3.3.5", "choice": "standard", "emulator": "none", "model": "SDBS",
+    "covers": [{"place": "PxIS", "bits": "00000008"}]}]}), "list")
 
 
 class Whole(unittest.TestCase):
@@ -45,6 +53,19 @@ class Whole(unittest.TestCase):
         self.assertEqual(len(shown), 14)
         self.assertNotIn("lba_of_24_bits", shown)
 
+    def test_what_comes_elsewhere_in_the_received_area_is_told(self) -> None:
+        new = {it.place: it for it in run(named("set_device_bits_at_60h")).new}
+        self.assertEqual(sorted(new), ["Set Device Bits FIS", "received FIS area, elsewhere"])
+        elsewhere = new["received FIS area, elsewhere"]
+        self.assertEqual((elsewhere.expected, elsewhere.got), (bytes(256), bytes(0x60) + bytes.fromhex("a140414000000000") + bytes(0x98)))
+        self.assertEqual(elsewhere.mask, elsewhere.got)
+
+    def test_a_bit_that_differs_is_told_where_it_begins_to(self) -> None:
+        judged = run(named("no_sdbs"), SILENT)
+        shown = [step.line for step, names in zip(judged.trace.steps, judged.names) if names]
+        self.assertEqual((judged.new, shown), ([], SHOWN))
+        self.assertEqual(judged.known, {"silent": (len(SHOWN), 19)})
+
     def test_the_emulator_is_ended_whatever_happens(self) -> None:
         Counted.stops.clear()
         run(Counted)
@@ -59,6 +80,21 @@ class Reports(unittest.TestCase):
         for part in ("queue, line 19: fail 1 40 7 (PxIS)", "PxIS  (AHCI 1.3.1, section 3.3.5)", "expected  40000008  SDBS, TFES", "got       40000000  TFES",
                      "differs   SDBS", ">    19  fail 1 40 7"):
             self.assertIn(part, text)
+
+    def test_each_place_is_told_up_to_eight(self) -> None:
+        judged = run(named("goes_on_after_an_error"))
+        text = differences_text(judged, "the stand-in")
+        for place in ("DMA Setup FIS", "PxSACT", "PxTFD", "Set Device Bits FIS"):
+            self.assertEqual(sum(line.startswith(f"  {place}  (") for line in text), 1, place)
+        self.assertEqual(len(as_json(judged)["new"]["differences"]), 4)
+        many = differences_text(judged._replace(new=judged.new[:1] * 10), "the stand-in")
+        self.assertEqual((sum(line.startswith("    expected  ") for line in many), many.count("  and 2 more")), (8, 1))
+
+    def test_scripts_and_lines_of_a_known_difference_are_counted(self) -> None:
+        one = run(StandIn)
+        runs = [one._replace(name=name, known=known) for name, known in (("a", {}), ("b", {"silent": (3, 7)}), ("c", {"silent": (2, 4)}))]
+        self.assertEqual(counts(runs), {"silent": {"scripts": 2, "times": 5, "first": "b, line 7"}})
+        self.assertIn("| silent | 2 | 5 | b, line 7 |", table(runs, SILENT, 0.0))
 
     def test_the_same_run_is_told_in_the_same_words(self) -> None:
         once, again = (table([run(named("no_sdbs"))], NOTHING, 0.0) for _ in range(2))

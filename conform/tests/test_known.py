@@ -43,12 +43,18 @@ class Reading(unittest.TestCase):
             (text(choice="mine"), "'choice' is 'mine', and neither 'standard' nor 'model'"),
             (text(title=""), "list.json, difference 1: 'title' is empty"),
             (text(title=4), "list.json, difference 1: 'title' is no str"),
+            (text(covers=[]), "list.json, difference 1: 'covers' is empty"),
+            (text(covers=[{"place": "PxIS", "lines": []}]), "list.json, difference 1 (one), cover 1: 'lines' is empty"),
+            ('{"title": "it", "differences": [], "beside": []}', "list.json: 'beside' is empty"),
             (text(covers=[{}]), "list.json, difference 1 (one), cover 1 has no 'place'"),
             (text(covers=[{"place": "PxIS", "bits": "xy"}]), "cover 1: 'bits': 'xy' are no hexadecimal bytes"),
             (text(covers=[{"place": "PxIS", "bits": "0000"}]), "no bit of 'bits' is 1"),
             (json.dumps({"title": "it", "differences": [ENTRY, ENTRY]}), "two differences are named one"),
         ):
             self.assertIn(told, self.fault(given))
+
+    def test_a_list_may_have_no_differences(self) -> None:
+        self.assertEqual(known_of('{"title": "it", "differences": []}', "list.json").entries, [])
 
     def test_a_file_that_is_missing_is_told(self) -> None:
         with self.assertRaisesRegex(ListFault, "nowhere.json can't be read: No such file"):
