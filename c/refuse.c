@@ -219,7 +219,7 @@ static int made(void)
     return lacking;
 }
 
-/* A flush and a recovery behind some short journals: memory for entries is asked for ahead, and not by each call. */
+/* A flush and a recovery after some short journals: memory for entries is asked for ahead, and not by each call. */
 static int behind_some_entries(void)
 {
     const uint8_t nothing = 0;

@@ -68,7 +68,7 @@ static int take_pick(const char *text, enum pick *pick) {
     return -1;
 }
 
-/* A number of decimal digits alone; the answer is what stands behind it, or NULL. */
+/* A number of decimal digits alone; the answer is what stands after it, or NULL. */
 static const char *take_digits(const char *text, uint64_t *number) {
     char *end = NULL;
     if (!isdigit((unsigned char)*text))
@@ -78,7 +78,7 @@ static const char *take_digits(const char *text, uint64_t *number) {
     return errno ? NULL : end;
 }
 
-/* Two hexadecimal digits behind a colon, in the same way. */
+/* Two hexadecimal digits after a colon, in the same way. */
 static const char *take_error(const char *text, uint8_t *error) {
     if (*text != ':' || !isxdigit((unsigned char)text[1]) || !isxdigit((unsigned char)text[2]))
         return NULL;

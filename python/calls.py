@@ -41,7 +41,7 @@ def looks() -> None:
 
 
 def raw_read(tag: int, lba: int) -> Tuple[bytes, bytes]:
-    """The header and the window of a read of one sector, whose data stand behind its table, from 90h on."""
+    """The header and the window of a read of one sector, whose data stand after its table, from 90h on."""
     base = 0x10 + 4 * tag  # the high byte of the tag's base
     header, memory = bytearray(32), bytearray(0x290)
     header[0], header[2], header[11] = 5, 1, base

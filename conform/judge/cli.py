@@ -64,7 +64,7 @@ def words() -> Words:
     made.add_argument("--known", metavar="FILE", help="the list of known differences, or `none` (default: the emulator's own)")
     made.add_argument("--without", metavar="NAME", help="leave this entry out of the list, so that it is told as a new difference")
     made.add_argument("--fault", metavar="NAME", help="plant this fault in the stand-in; `list` names them")
-    made.add_argument("--go-on", action="store_true", help="judge the scripts behind one with a new difference too")
+    made.add_argument("--go-on", action="store_true", help="judge the scripts after one with a new difference too")
     made.add_argument("--json", action="store_true", help="an object a script, a line each, in the place of text and table")
     made.add_argument("--each-line", action="store_true", help="a line for each line of the scripts: its number, and the known differences that it shows; a new difference goes to standard error")
     made.add_argument("--shown", metavar="FOLDER", help="check that the list's entries are each shown by the script FOLDER/NAME.ahci")

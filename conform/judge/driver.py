@@ -157,7 +157,7 @@ class Driver:
         self.tell("command table", window.table, self.adapter.read_memory(window.base, len(window.table)))
         end, guard = memory_of(window)[1]
         if len(guard) == GUARD and guard[:1] == bytes([UNTOUCHED]):
-            self.tell(f"memory behind the data of tag {window.tag}", guard, self.adapter.read_memory(end, GUARD))
+            self.tell(f"memory after the data of tag {window.tag}", guard, self.adapter.read_memory(end, GUARD))
 
     def compare_sectors(self, sectors: Sequence[int]) -> None:
         for lba in sectors:

@@ -38,7 +38,7 @@ END = """\
 
 For the way of a command that succeeds, its order, its data and its layouts, {title} is as good a reference as the model. It is none
 for what follows an error: it goes on where the standard wants the port to stop, it has no log of the error, and its error is always
-ABRT. A driver that was tried on it alone has never seen a halted queue. The D bit that is missing, the D2H Register FIS behind
+ABRT. A driver that was tried on it alone has never seen a halted queue. The D bit that is missing, the D2H Register FIS after
 PIO data and the ABRT are {title}'s own: drivers take them, and none of them is one to follow.
 """
 
