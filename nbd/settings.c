@@ -36,16 +36,23 @@ void settings_end(struct settings *settings) {
     free(settings->record);
 }
 
-/* A number in decimal, or 0x.., of a range. */
-static int take_number(const char *key, const char *text, uint64_t least, uint64_t most, uint64_t *number) {
+/* A number of decimal digits alone; the answer is what stands after it, or NULL. */
+static const char *take_digits(const char *text, uint64_t *number) {
     char *end = NULL;
+    if (!isdigit((unsigned char)*text))
+        return NULL;
     errno = 0;
-    unsigned long long value = strtoull(text, &end, 0);
-    if (errno || end == text || *end || text[0] == '-' || value < least || value > most) {
-        nbdkit_error("%s=%s: a number from %" PRIu64 " to %" PRIu64 " is wanted", key, text, least, most);
+    *number = strtoull(text, &end, 10);
+    return errno ? NULL : end;
+}
+
+/* A decimal number of a range. */
+static int take_number(const char *key, const char *text, uint64_t least, uint64_t most, uint64_t *number) {
+    const char *end = take_digits(text, number);
+    if (!end || *end || *number < least || *number > most) {
+        nbdkit_error("%s=%s: a decimal number from %" PRIu64 " to %" PRIu64 " is wanted", key, text, least, most);
         return -1;
     }
-    *number = value;
     return 0;
 }
 
@@ -66,16 +73,6 @@ static int take_pick(const char *text, enum pick *pick) {
         }
     nbdkit_error("pick=%s: low, high, all or random is wanted", text);
     return -1;
-}
-
-/* A number of decimal digits alone; the answer is what stands after it, or NULL. */
-static const char *take_digits(const char *text, uint64_t *number) {
-    char *end = NULL;
-    if (!isdigit((unsigned char)*text))
-        return NULL;
-    errno = 0;
-    *number = strtoull(text, &end, 10);
-    return errno ? NULL : end;
 }
 
 /* Two hexadecimal digits after a colon, in the same way. */
