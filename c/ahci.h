@@ -157,7 +157,7 @@ typedef struct ahci_slot {
 /* Which tags wait for what, each set as the bits of a word. */
 typedef struct ahci_tag_sets {
     uint32_t issued;   /* their command waits for the device */
-    uint32_t accepted; /* the device has taken their command */
+    uint32_t accepted; /* the device has taken their command, and it has not failed */
     uint32_t held;     /* another command's error has ended theirs */
 } ahci_tag_sets;
 
