@@ -105,8 +105,8 @@ class GateTimes(unittest.TestCase):
         "12": ("11", "/kit/bin/rattle build --crate-name low src/lib.rt", "/top/crates/low"),
         "13": ("12", "rattle build --crate-name low src/lib.rt", "/top/crates/low"),
         "14": ("11", "rattle build --test --crate-name low_tests src/lib.rt", "/top/crates/low_tests"),
-        "15": ("11", "rattle build --crate-name low src/lib.rt", "/tmp/rt-edit-1/low"),
-        "16": ("11", "rattle build --crate-name low src/lib.rt", "/tmp/rt-edit-2/low"),
+        "15": ("11", "rattle build --crate-name low src/lib.rt", "/scratch/rt-edit-1/low"),
+        "16": ("11", "rattle build --crate-name low src/lib.rt", "/scratch/rt-edit-2/low"),
         "17": ("11", "rattle version", "/top"),
         "18": ("1", "rattle build --crate-name other src/lib.rt", "/beside"),
     }
@@ -133,8 +133,8 @@ class GateTimes(unittest.TestCase):
         with self.looking(2.5, "12", "16"):  # a process of a check goes on without the one that started it
             watch.look()
         found = {check: sum(it.values()) for check, it in watch.seconds.items()}
-        self.assertEqual({("low", "proof", ""): 4.0, ("low_tests", "tests", ""): 2.5, ("low", "edit", "/tmp/rt-edit-1/low"): 2.5,
-                          ("low", "edit", "/tmp/rt-edit-2/low"): 1.5}, found)
+        self.assertEqual({("low", "proof", ""): 4.0, ("low_tests", "tests", ""): 2.5, ("low", "edit", "/scratch/rt-edit-1/low"): 2.5,
+                          ("low", "edit", "/scratch/rt-edit-2/low"): 1.5}, found)
 
     def test_the_table_is_that_of_the_log(self) -> None:
         log = ["rt: must-fail low/one_is_0: refused", "rt: must-fail low/two_is_0: refused", "check low proof 90.0", "check low edit 30.0", "check low edit 60.0",
