@@ -6,10 +6,10 @@ mod moving;
 mod serving;
 mod taking;
 
-ghost use Rattle.std.specs.Prelude.{◌≡◌, ◌<◌, ◌^◌, None, Some, length, vec_capacity, IfOk, IfErr};
+ghost use Rattle.std.specs.Prelude.{◌≡◌, ◌/◌, ◌<◌, ◌≤◌, ◌^◌, None, Some, length, vec_capacity, IfOk, IfErr};
 ghost use Rattle.word_bits.specs.Places.{bits};
 ghost use Rattle.ncq_journal.specs.Image.{sector_at};
-ghost use Rattle.ncq_core.specs.DiskState.{IsDisk, disk_sectors, command_of, outstanding, is_stopped, new_disk, new_fault, no_commands};
+ghost use Rattle.ncq_core.specs.DiskState.{IsDisk, disk_sectors, command_of, outstanding, is_stopped, new_disk, new_fault, no_commands, most_depth, most_disk_sectors};
 ghost use Rattle.ncq_core.specs.DiskFis.{completed_bytes, pio_bytes, flushed_bytes};
 ghost use Rattle.ncq_core.specs.Verdict.{stopped_by};
 ghost use Rattle.ncq_core.specs.Identify.{identify_page};
@@ -39,19 +39,23 @@ pub struct Disk<A: Allocator = Global> {
     depth: u32,
     commands: [Option<Queued>; 32],
     error: Option<DiskError>,
+    /// What IDENTIFY DEVICE reads. It tells of the number of sectors and the depth alone, so it is made once.
+    page: [u8; 512],
     /// Room in which a Data FIS is put together.
     room: [u8; DATA_FIS],
 }
 
 impl<A: Allocator> Model for Disk<A> {
-    ghost use Rattle.std.specs.Prelude.{vec_capacity};
+    ghost use Rattle.std.specs.Prelude.{◌≡◌, ◌/◌, length, vec_capacity};
     ghost use Rattle.ncq_core.specs.DiskState.{DiskState, IsDisk};
+    ghost use Rattle.ncq_core.specs.Identify.{identify_page};
 
     ghost Value = { DiskState };
 
     ghost view = { λ d. record { image = d.image.items; held = vec_capacity d.image; depth = d.depth; commands = d.commands; error = d.error } };
 
-    ghost invariant = { λ d. IsDisk (record { image = d.image.items; held = vec_capacity d.image; depth = d.depth; commands = d.commands; error = d.error }) };
+    ghost invariant = { λ d. IsDisk (record { image = d.image.items; held = vec_capacity d.image; depth = d.depth; commands = d.commands; error = d.error })
+        × (d.page ≡ identify_page (length d.image.items / 512) d.depth) };
 }
 
 impl<A: Allocator> Disk<A> {
@@ -75,6 +79,7 @@ impl<A: Allocator> Disk<A> {
             depth,
             commands: no_commands(),
             error: None,
+            page: page_over(len, depth),
             room: [0; DATA_FIS],
         })
     }
@@ -136,7 +141,7 @@ impl<A: Allocator> Disk<A> {
     pub fn identify(&self) -> [u8; 512]
         ensures { result ≡ identify_page (disk_sectors self.now) self.now.depth }
     {
-        identify_page(self.sectors(), self.depth())
+        self.page
     }
 
     /// The command outstanding at a tag.
@@ -179,6 +184,16 @@ impl Disk {
     {
         answers::flushed()
     }
+}
+
+/// The page that IDENTIFY DEVICE reads of a disk over so many bytes.
+fn page_over(len: usize, depth: u32) -> [u8; 512]
+    requires size { len / 512 ≤ most_disk_sectors }
+    requires deep { 1 ≤ depth }
+    requires shallow { depth ≤ most_depth }
+    ensures { result ≡ identify_page (len / 512) depth }
+{
+    identify_page((len / 512) as u32, depth)
 }
 
 /// No command at any of the 32 tags.

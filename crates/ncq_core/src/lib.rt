@@ -13,8 +13,8 @@ pub use disk::{Disk, MAX_DEPTH, MAX_SECTORS, identify_page, log_page};
 pub use disk_fault::DiskFault;
 pub use host::Host;
 pub use ncq_journal::{
-    Answer, Bytes, Event, Journal, LBA_LIMIT, MAX_COUNT, Op, OutOfMemory, Outcome, Phase, Plain,
-    Request, answer_of, answers_of, ci_of, device_tags_of, entry_in, is_allowed, is_busy,
+    Answer, Bytes, Claim, Event, Journal, LBA_LIMIT, MAX_COUNT, Op, OutOfMemory, Outcome, Phase,
+    Plain, Request, answer_of, ci_of, claims_hold, device_tags_of, entry_in, is_allowed, is_busy,
     is_covered, is_halted, is_lawful, is_proper, owed_by, phase_after, phase_of, read_sectors,
     request_of, sact_of, sector_in, sector_of, write_sectors,
 };

@@ -10,4 +10,4 @@ returns g c =
     let commands = c.self.inside.commands in
     let p = λ (t : ℕ). is_some (get_or commands t None) in
     let all : c.loop-tag.tag ≡ 32 = omega arith in
-    c.loop-tag.invariant ∙ ap (among p) all ∙ among_all p ∙ places-commands commands c.self.invariant.count ∙ ap outstanding c.self.view_is
+    c.loop-tag.invariant ∙ ap (among p) all ∙ among_all p ∙ places-commands commands c.self.invariant.0.count ∙ ap outstanding c.self.view_is
