@@ -1,5 +1,5 @@
--- Where the registers stand (AHCI 1.3.1, sections 3.1 and 3.3). The registers of the port begin at 100h.
-use Rattle.std.specs.Prelude.{ℕ, ◌%◌, List, [], ◌∷◌, Result, Err, nat_eq, find, ok_or, if◌then◌else◌}
+-- Where the registers stand, and what they are called (AHCI 1.3.1, sections 3.1 and 3.3). The registers of the port begin at 100h.
+use Rattle.std.specs.Prelude.{ℕ, ◌%◌, List, [], ◌∷◌, Result, Err, nat_eq, find, ok_or, if◌then◌else◌, codes}
 use Rattle.ahci_regs.specs.declared.fault.RegFault.{RegFault}
 use Rattle.ahci_regs.specs.declared.fault.RegFault.TheVariants.{Unaligned, NoSuchRegister}
 use Rattle.ahci_regs.specs.declared.register.Register.{Register}
@@ -26,7 +26,28 @@ offset_of PxSerr = 0x130
 offset_of PxSact = 0x134
 offset_of PxCi = 0x138
 
--- all registers of this model
+-- the name of each register
+abbrev pub name_of : Register → List ℕ
+name_of Cap = codes "CAP"
+name_of Ghc = codes "GHC"
+name_of Pi = codes "PI"
+name_of Vs = codes "VS"
+name_of PxClb = codes "PxCLB"
+name_of PxClbu = codes "PxCLBU"
+name_of PxFb = codes "PxFB"
+name_of PxFbu = codes "PxFBU"
+name_of PxIs = codes "PxIS"
+name_of PxIe = codes "PxIE"
+name_of PxCmd = codes "PxCMD"
+name_of PxTfd = codes "PxTFD"
+name_of PxSig = codes "PxSIG"
+name_of PxSsts = codes "PxSSTS"
+name_of PxSctl = codes "PxSCTL"
+name_of PxSerr = codes "PxSERR"
+name_of PxSact = codes "PxSACT"
+name_of PxCi = codes "PxCI"
+
+-- all registers of this model, in the order of their offsets
 abbrev pub registers : List Register
 registers = Cap ∷ Ghc ∷ Pi ∷ Vs ∷ PxClb ∷ PxClbu ∷ PxFb ∷ PxFbu ∷ PxIs ∷ PxIe ∷ PxCmd ∷ PxTfd ∷ PxSig ∷ PxSsts ∷ PxSctl ∷ PxSerr ∷ PxSact ∷ PxCi ∷ []
 

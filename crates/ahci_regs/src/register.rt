@@ -1,5 +1,5 @@
 ghost use Rattle.std.specs.Prelude.{◌≡◌, IfOk};
-ghost use Rattle.ahci_regs.specs.RegisterTable.{offset_of, register_at};
+ghost use Rattle.ahci_regs.specs.RegisterTable.{name_of, offset_of, register_at, registers};
 
 use crate::fault::RegFault;
 
@@ -45,6 +45,58 @@ pub enum Register {
 }
 
 impl Register {
+    /// All registers, in the order of their offsets.
+    pub fn all() -> [Register; 18]
+        ensures { result ≡ registers }
+    {
+        [
+            Register::Cap,
+            Register::Ghc,
+            Register::Pi,
+            Register::Vs,
+            Register::PxClb,
+            Register::PxClbu,
+            Register::PxFb,
+            Register::PxFbu,
+            Register::PxIs,
+            Register::PxIe,
+            Register::PxCmd,
+            Register::PxTfd,
+            Register::PxSig,
+            Register::PxSsts,
+            Register::PxSctl,
+            Register::PxSerr,
+            Register::PxSact,
+            Register::PxCi,
+        ]
+    }
+
+    /// The standard's name.
+    pub fn name(self) -> &'static str
+        ensures { result.now ≡ name_of self }
+    {
+        match self {
+            Register::Cap => "CAP",
+            Register::Ghc => "GHC",
+            Register::Pi => "PI",
+            Register::Vs => "VS",
+            Register::PxClb => "PxCLB",
+            Register::PxClbu => "PxCLBU",
+            Register::PxFb => "PxFB",
+            Register::PxFbu => "PxFBU",
+            Register::PxIs => "PxIS",
+            Register::PxIe => "PxIE",
+            Register::PxCmd => "PxCMD",
+            Register::PxTfd => "PxTFD",
+            Register::PxSig => "PxSIG",
+            Register::PxSsts => "PxSSTS",
+            Register::PxSctl => "PxSCTL",
+            Register::PxSerr => "PxSERR",
+            Register::PxSact => "PxSACT",
+            Register::PxCi => "PxCI",
+        }
+    }
+
     /// The register's offset from the beginning of the HBA's registers, in bytes.
     #[tactic(auto, unfolding(crate::specs::RegisterTable::register_at))]
     pub fn offset(self) -> u32
