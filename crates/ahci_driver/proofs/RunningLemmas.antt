@@ -104,7 +104,7 @@ refused_late port handed jobs receipts workers (Lost i) h = absurd h
 refused_late port handed jobs receipts workers Foreign h = (tt, tt)
 refused_late port handed jobs receipts workers (Unsettled settle.OutOfMemory) h = absurd h
 refused_late port handed jobs receipts workers (Unsettled settle.Count) h = (tt, tt)
-refused_late port handed jobs receipts workers (Unsettled (settle.Wrong i)) h = (tt, h.1.1)
+refused_late port handed jobs receipts workers (Unsettled (settle.Wrong i)) h = (tt, h.1.1.0)
 refused_late port handed jobs receipts workers (Unsettled (settle.Extra n)) h = (tt, tt)
 
 pub all_late : {A : _} {T : Type 0} (port : PortView) (handed : Handed A) (jobs : List Work) (receipts : List Received) (workers : ℕ) (x : Result T RunFault)

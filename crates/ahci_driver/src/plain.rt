@@ -59,7 +59,7 @@ fn is_named<B: Allocator>(receipts: &[Receipt<B>], number: u64) -> bool
 }
 
 /// Whether the receipt has this answer, whose entry is a place, where entries are numbered from `first`.
-pub(crate) fn is_answer<B: Allocator, C: Allocator>(
+fn is_answer<B: Allocator, C: Allocator>(
     answer: &Answer<C>,
     first: u64,
     receipt: &Receipt<B>,

@@ -1,41 +1,42 @@
-//! Whether a run is settled, in one pass over the journal and one over the receipts.
+//! Whether a run is settled: one pass over the receipts, which notes what each claims to have been answered, and one over the
+//! journal, which holds each answer against the claim where it is given.
 
-ghost use Rattle.std.specs.Prelude.{◌≡◌, ◌↔◌, ◌<◌, ◌≤◌, ◌-◌, map, length, false, true, Some, None, IsTrue, IfErr, IfOk, OnOk, slice_index_or, slice_set};
-ghost use Rattle.std.specs.Option.{option_map};
-ghost use Rattle.ncq_journal.specs.History.{history_of};
-ghost use Rattle.ncq_journal.specs.Numbering.{answer_numbered};
-ghost use Rattle.ncq_journal.specs.Passing.{AreAnswers};
+ghost use Rattle.std.specs.Prelude.{◌≡◌, ◌↔◌, ◌<◌, ◌≤◌, ◌-◌, map, length, false, Some, None, is_some, IsTrue, IfErr, IfOk, OnOk, replicate, slice_index_or, slice_set};
+ghost use Rattle.ncq_journal.specs.Claims.{AreJudged};
 ghost use Rattle.ncq_journal.specs.Work.{work_of};
 ghost use Rattle.ahci_driver.specs.Received.{received_of};
-ghost use Rattle.ahci_driver.specs.Settled.{AreSeen, IsFirstUnnamed, IsOfJob, IsRight, IsSettled, IsUnsettled};
+ghost use Rattle.ahci_driver.specs.Settled.{AreClaimed, AreFit, Fits, IsFirstUnnamed, IsFirstWrong, IsFit, IsSettled, IsUnsettled, claim_of};
 
 use crate::fault::SettleFault;
-use crate::plain::{is_answer, is_in_turn, is_issued};
+use crate::plain::{is_in_turn, is_issued};
 use crate::receipt::Receipt;
 use ahci_port::Port;
-use ncq_core::{Answer, Event, Op, answers_of};
+use ncq_core::{Claim, Event, Op, claims_hold};
 use std::alloc::{AllocError, Allocator};
 
-/// Whether the receipt has the answer of its number, where the answers stand at their requests' places.
-fn has_answer<B: Allocator, C: Allocator>(
-    answers: &[Option<Answer<C>>],
-    first: u64,
-    receipt: &Receipt<B>,
-) -> bool
-    requires { first ≤ receipt.now.reply.number }
-    ensures { IsTrue result ↔ (option_map (answer_numbered first) (slice_index_or answers.now (receipt.now.reply.number - first) None) ≡ Some (received_of receipt.now).answer) }
+/// The claims of receipts, each at the place of its number, and of how many receipts they are.
+#[derive(Drop)]
+struct Claims<'r, C: Allocator> {
+    places: Vec<Option<Claim<'r>>, C>,
+    count: usize,
+}
+
+/// What the receipt claims of its request's answer, whose entry is a place, where entries are numbered from `first`.
+fn claim_of<B: Allocator>(receipt: &Receipt<B>, first: u64) -> Claim<'_>
+    requires { first ≤ receipt.now.reply.entry }
+    ensures { result ≡ claim_of first (received_of receipt.now) }
 {
-    match answers.get((receipt.reply.number - first) as usize) {
-        Some(Some(answer)) => is_answer(answer, first, receipt),
-        _ => false,
+    Claim {
+        entry: receipt.reply.entry - first,
+        outcome: receipt.reply.outcome,
+        bytes: receipt.bytes.as_slice(),
     }
 }
 
-/// Whether the receipt is that of this job, among all receipts, where the numbers of those before it are marked.
-fn is_of_job<A: Allocator, B: Allocator, C: Allocator>(
+/// Whether the receipt may be that of this job, among all receipts, where what those before it claim is noted.
+fn is_fit<A: Allocator, B: Allocator>(
     port: &Port<A>,
-    answers: &[Option<Answer<C>>],
-    seen: &[bool],
+    claims: &[Option<Claim>],
     job: &Op<B>,
     receipts: &[Receipt<B>],
     workers: u32,
@@ -43,29 +44,27 @@ fn is_of_job<A: Allocator, B: Allocator, C: Allocator>(
     receipt: &Receipt<B>,
 ) -> bool
     requires index { index < length receipts.now }
-    requires answers { AreAnswers port.now.starting port.now.past answers.now }
-    requires seen { AreSeen (map received_of receipts.now) port.now.first (length port.now.past) index seen.now }
-    ensures { IsTrue result ↔ IsOfJob port.now (map received_of receipts.now) workers index (work_of job.now) (received_of receipt.now) }
+    requires claims { AreClaimed (map received_of receipts.now) port.now.first (length port.now.past) index claims.now }
+    ensures { IsTrue result ↔ IsFit port.now (map received_of receipts.now) workers index (work_of job.now) (received_of receipt.now) }
 {
     let number = receipt.reply.number;
     if !is_issued(port, number, job) {
         return false;
     }
     let first = port.journal().first();
-    if seen[(number - first) as usize] {
+    if receipt.reply.entry < first {
         return false;
     }
-    if !is_in_turn(receipts, workers, index, number) {
+    if claims[(number - first) as usize].is_some() {
         return false;
     }
-    has_answer(answers, first, receipt)
+    is_in_turn(receipts, workers, index, number)
 }
 
-/// Whether the receipt at an index is that of its job.
-fn is_right<A: Allocator, B: Allocator, C: Allocator>(
+/// Whether the receipt at an index may be that of its job.
+fn fits<A: Allocator, B: Allocator>(
     port: &Port<A>,
-    answers: &[Option<Answer<C>>],
-    seen: &[bool],
+    claims: &[Option<Claim>],
     jobs: &[Op<B>],
     receipts: &[Receipt<B>],
     workers: u32,
@@ -73,29 +72,137 @@ fn is_right<A: Allocator, B: Allocator, C: Allocator>(
 ) -> bool
     requires job { index < length jobs.now }
     requires receipt { index < length receipts.now }
-    requires answers { AreAnswers port.now.starting port.now.past answers.now }
-    requires seen { AreSeen (map received_of receipts.now) port.now.first (length port.now.past) index seen.now }
-    ensures { IsTrue result ↔ IsRight port.now (map work_of jobs.now) (map received_of receipts.now) workers index }
+    requires claims { AreClaimed (map received_of receipts.now) port.now.first (length port.now.past) index claims.now }
+    ensures { IsTrue result ↔ Fits port.now (map work_of jobs.now) (map received_of receipts.now) workers index }
 {
     let job = &jobs[index];
     let receipt = &receipts[index];
-    is_of_job(port, answers, seen, job, receipts, workers, index, receipt)
+    is_fit(port, claims, job, receipts, workers, index, receipt)
 }
 
-/// The least entry that issues a command and isn't marked.
-fn unseen<A: Allocator, B: Allocator>(
+/// As many places at which nothing is claimed.
+fn no_claims<'r, C: Allocator>(
+    alloc: C,
+    count: usize,
+) -> Result<Vec<Option<Claim<'r>>, C>, AllocError>
+    ensures { IfOk result (λ v. v.items ≡ replicate count None) }
+{
+    let mut claims = Vec::with_capacity(alloc, count)?;
+    for _place in 0..count {
+        claims.push(None)?;
+    }
+    Ok(claims)
+}
+
+/// Notes what is claimed of a request.
+fn note<'r, C: Allocator>(claims: &mut Vec<Option<Claim<'r>>, C>, place: u64, claim: Claim<'r>)
+    requires { place < length claims.old.items }
+    ensures { claims.new.items ≡ slice_set claims.old.items place (Some claim.entry) }
+{
+    claims[place as usize] = Some(claim);
+}
+
+/// What the receipts claim, up to the first that can't be that of its job.
+fn claimed<'r, A: Allocator, B: Allocator, C: Allocator>(
+    alloc: C,
+    port: &Port<A>,
+    jobs: &[Op<B>],
+    receipts: &'r [Receipt<B>],
+    workers: u32,
+) -> Result<Claims<'r, C>, AllocError>
+    requires { length receipts.now ≡ length jobs.now }
+    ensures fit { IfOk result (λ c. AreFit port.now (map work_of jobs.now) (map received_of receipts.now) workers c.count c.places.items) }
+    ensures end { IfOk result (λ c. c.count < length jobs.now → ¬ (Fits port.now (map work_of jobs.now) (map received_of receipts.now) workers c.count)) }
+{
+    let journal = port.journal();
+    let first = journal.first();
+    let mut places = no_claims(alloc, journal.entries().len())?;
+    for index in 0..jobs.len() {
+        if !fits(port, &places, jobs, receipts, workers, index) {
+            return Ok(Claims {
+                places,
+                count: index,
+            });
+        }
+        let receipt = &receipts[index];
+        note(
+            &mut places,
+            receipt.reply.number - first,
+            claim_of(receipt, first),
+        );
+    }
+    Ok(Claims {
+        places,
+        count: jobs.len(),
+    })
+}
+
+/// Which claims the journal bears out.
+fn holding<A: Allocator, C: Allocator + Clone>(
+    alloc: C,
+    port: &Port<A>,
+    claims: &[Option<Claim>],
+) -> Result<Vec<bool, C>, AllocError>
+    ensures { IfOk result (λ v. AreJudged port.now.starting port.now.past claims.now v.items) }
+{
+    port.shape();
+    let depth = port.depth();
+    let events = port.journal().entries();
+    claims_hold(alloc, port.starting_image(), events, depth, claims)
+}
+
+/// Whether what the receipt claims is borne out.
+fn is_held<B: Allocator>(receipt: &Receipt<B>, first: u64, holding: &[bool]) -> bool
+    requires { first ≤ receipt.now.reply.number }
+    ensures { result ≡ slice_index_or holding.now (receipt.now.reply.number - first) false }
+{
+    match holding.get((receipt.reply.number - first) as usize) {
+        Some(holds) => *holds,
+        None => false,
+    }
+}
+
+/// The least receipt that is not that of its job, where what they claim was held against the journal.
+fn first_wrong<A: Allocator, B: Allocator, C: Allocator>(
+    port: &Port<A>,
+    jobs: &[Op<B>],
+    receipts: &[Receipt<B>],
+    workers: u32,
+    claims: &Claims<C>,
+    holding: &[bool],
+) -> Option<usize>
+    requires counted { length receipts.now ≡ length jobs.now }
+    requires fit { AreFit port.now (map work_of jobs.now) (map received_of receipts.now) workers claims.now.count claims.now.places.items }
+    requires end { claims.now.count < length jobs.now → ¬ (Fits port.now (map work_of jobs.now) (map received_of receipts.now) workers claims.now.count) }
+    requires held { AreJudged port.now.starting port.now.past claims.now.places.items holding.now }
+    ensures { IsFirstWrong port.now (map work_of jobs.now) (map received_of receipts.now) workers result }
+{
+    let first = port.journal().first();
+    for index in 0..claims.count {
+        if !is_held(&receipts[index], first, holding) {
+            return Some(index);
+        }
+    }
+    if claims.count < jobs.len() {
+        return Some(claims.count);
+    }
+    None
+}
+
+/// The least entry that issues a command of which there is no receipt.
+fn unclaimed<A: Allocator, B: Allocator>(
     port: &Port<A>,
     receipts: &[Receipt<B>],
-    seen: &[bool],
+    claims: &[Option<Claim>],
 ) -> Option<u64>
-    requires { AreSeen (map received_of receipts.now) port.now.first (length port.now.past) (length receipts.now) seen.now }
+    requires { AreClaimed (map received_of receipts.now) port.now.first (length port.now.past) (length receipts.now) claims.now }
     ensures { IsFirstUnnamed port.now (map received_of receipts.now) result }
 {
     let journal = port.journal();
     let first = journal.first();
     for number in first..journal.end() {
         if let Some(Event::Issue(..)) = journal.get(number) {
-            if !seen[(number - first) as usize] {
+            if claims[(number - first) as usize].is_none() {
                 return Some(number);
             }
         }
@@ -103,23 +210,9 @@ fn unseen<A: Allocator, B: Allocator>(
     None
 }
 
-/// The answers of all requests of a port.
-fn answers_in<A: Allocator, C: Allocator + Clone>(
-    alloc: C,
-    port: &Port<A>,
-) -> Result<Vec<Option<Answer<C>>, C>, AllocError>
-    ensures { IfOk result (λ v. AreAnswers port.now.starting port.now.past v.items) }
-{
-    port.shape();
-    let depth = port.depth();
-    let events = port.journal().entries();
-    answers_of(alloc, port.starting_image(), events, depth)
-}
-
 /// Whether the run with these jobs and receipts, by so many workers, is settled against the port's journal: each job
 /// was issued once, its receipt is the journal's answer, and it was answered before its worker's next job was issued;
-/// and nothing else was issued. It goes once over the journal and once over the receipts, and holds the answer of each
-/// read.
+/// and nothing else was issued. It goes once over the journal and twice over the receipts, and copies no byte of them.
 ///
 /// # Errors
 /// The first case of `SettleFault` that holds.
@@ -140,29 +233,17 @@ pub fn settle<A: Allocator, B: Allocator, C: Allocator + Clone>(
     let Ok(own) = alloc.clone() else {
         return Err(SettleFault::OutOfMemory);
     };
-    let Ok(answers) = answers_in(own, port) else {
+    let Ok(claims) = claimed(own, port, jobs, receipts, workers) else {
         return Err(SettleFault::OutOfMemory);
     };
-    let Ok(mut seen) = Vec::from_elem(alloc, false, answers.len()) else {
+    let Ok(holding) = holding(alloc, port, &claims.places) else {
         return Err(SettleFault::OutOfMemory);
     };
-    let first = port.journal().first();
-    for index in 0..jobs.len() {
-        if !is_right(port, &answers, &seen, jobs, receipts, workers, index) {
-            return Err(SettleFault::Wrong(index));
-        }
-        mark(&mut seen, receipts[index].reply.number - first);
+    if let Some(index) = first_wrong(port, jobs, receipts, workers, &claims, &holding) {
+        return Err(SettleFault::Wrong(index));
     }
-    match unseen(port, receipts, &seen) {
+    match unclaimed(port, receipts, &claims.places) {
         Some(number) => Err(SettleFault::Extra(number)),
         None => Ok(()),
     }
-}
-
-/// Marks a place.
-fn mark<C: Allocator>(seen: &mut Vec<bool, C>, place: u64)
-    requires { place < length seen.old.items }
-    ensures { seen.new.items ≡ slice_set seen.old.items place true }
-{
-    seen[place as usize] = true;
 }

@@ -3,7 +3,7 @@ ghost use Rattle.std.specs.Prelude.{◌≤◌};
 
 use crate::commands::port_of;
 use crate::heap::{Asked, Heap, Tried, equal, grant_all, growths_of, refuse_from};
-use crate::jobs::{Jobs, Way, crowd, ops_of};
+use crate::jobs::{Jobs, Way, crowd};
 use ahci_driver::{Open, RunEnd, SettleFault, run, settle, settle_plainly};
 use ncq_core::Op;
 use refusing_allocator::Refusing;
@@ -12,6 +12,7 @@ use std::process::Abort;
 use std::sync::Wait;
 use std::test::Fail;
 use std::thread::Threads;
+use test_helpers::ops_of;
 
 /// A run that has ended, with what it was asked.
 #[derive(Drop)]
@@ -78,12 +79,12 @@ fn wanted(growths: usize, growth: usize) -> Tried<Result<(), SettleFault>> {
 /// Jobs, workers, how many growths the one pass meets, and how many the plain program.
 type Row = (Jobs, u32, usize, usize);
 
-// One pass: the image, the requests, and, where there are entries, the answers, the bytes of each finished read, and the
-// marks. Plainly: the bytes of each finished read.
+// One pass: the image, the requests, and, where there are entries, the claims, and which of them hold. Plainly: the bytes of each
+// finished read.
 static ROWS: [Row; 3] = [
     (Jobs::None, 3, 2, 0),
-    (Jobs::Pair, 1, 4 + 1, 1),
-    (Jobs::Few, 4, 4 + 6, 6),
+    (Jobs::Pair, 1, 4, 1),
+    (Jobs::Few, 4, 4, 6),
 ];
 
 /// Settles a run with each growth refused in turn.

@@ -14,5 +14,6 @@ pub mod FailedLemmas
 pub mod OthersLemmas
 pub mod PassLemmas
 pub mod PassEventLemmas
+pub mod ClaimLemmas
 pub mod CutLemmas
 pub mod NumberLemmas

@@ -1,19 +1,18 @@
 -- The events of a pass over the journal, one after the other.
 use Rattle.std.proofs.Common.{◌≡◌, ◌≢◌, ℕ, ◌+◌, ◌*◌, ◌<◌, ◌≤◌, List, [], ◌∷◌, length, set, ◌/◌, take, ap, sym, refl, subst, ◌∙◌, Option, Some, get_or, arith}
 use Rattle.ncq_journal.specs.declared.outcome.Outcome.TheVariants as outcome
-use Rattle.ncq_journal.specs.Answer.{Answer, answer}
+use Rattle.ncq_journal.specs.Answer.{Answer}
 use Rattle.ncq_journal.specs.Entry.{Entry, entry_of, Issue, Complete, Fail}
 use Rattle.ncq_journal.specs.History.{history_of}
 use Rattle.ncq_journal.specs.Lawful.{IsAllowed, IsLawful}
 use Rattle.ncq_journal.specs.Phase.{phase}
 use Rattle.ncq_journal.specs.Request.{Request, request}
 use Rattle.ncq_journal.specs.Work.{Work, work_of}
-use Rattle.ncq_journal.proofs.HistoryLemmas.{history_all, length_history}
 use Rattle.ncq_journal.proofs.PhaseLemmas.{fails_not_free}
 use Rattle.ncq_journal.specs.declared.event.Event.{Event}
 use Rattle.ncq_journal.specs.declared.event.Event.TheVariants as code
 use Rattle.ncq_journal.specs.declared.op.Op.{Op}
-use Rattle.ncq_journal.specs.Passing.{AreAnswers, IsPassed, IsImageAfter, completed_over}
+use Rattle.ncq_journal.specs.Passing.{IsPassed, IsImageAfter, completed_over}
 use Rattle.ncq_journal.proofs.PassLemmas.{IsEnding, IsMoving, IsNext, accepted_taken, ending, moving, next_is, not_issue, passed_complete, passed_fail, passed_issue, passed_quiet}
 
 -- an event of a pass
@@ -142,18 +141,3 @@ quiet_next image events depth i event now requests answers a x y z p =
     let n = next_at image events depth i event a in
     subst (λ h. IsPassed image h (length events) depth now requests answers) (sym n.more)
     (passed_quiet image (history_of (take i events)) (length events) depth (entry_of event) now requests answers (quiet_entry event x) (not_complete event y) (not_fail event z) p)
-
--- the pass has gone over all events
-pub passed_all : {A : _} (image : List ℕ) (events : List (Event A)) (depth i : ℕ) (now : List ℕ) (requests : List (Option ℕ)) (answers : List (Option Answer)) → length events ≤ i
-    → IsPassed image (history_of (take i events)) (length events) depth now requests answers → AreAnswers image (history_of events) answers
-passed_all image events depth i now requests answers done p = record {
-  count = p.count ∙ sym (length_history events);
-  each = λ n low. p.each n (let l = length_history events in omega arith) ∙ ap (λ h. answer image h n) (history_all events i done);
-}
-
--- the same of equal states
-pub passed_same : (image : List ℕ) (past : List Entry) (total depth : ℕ) (now new : List ℕ) (requests asked : List (Option ℕ)) (answers found : List (Option Answer))
-    → new ≡ now → asked ≡ requests → found ≡ answers → IsPassed image past total depth now requests answers → IsPassed image past total depth new asked found
-passed_same image past total depth now new requests asked answers found a b e p =
-    subst (λ x. IsPassed image past total depth x asked found) (sym a)
-    (subst (λ x. IsPassed image past total depth now x found) (sym b) (subst (λ x. IsPassed image past total depth now requests x) (sym e) p))

@@ -1,4 +1,5 @@
 pub mod Answer
+pub mod Claims
 pub mod Entry
 pub mod Halted
 pub mod HeldBytes

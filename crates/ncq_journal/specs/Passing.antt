@@ -9,11 +9,6 @@ use Rattle.ncq_journal.specs.Request.{request}
 use Rattle.ncq_journal.specs.Sector.{sector}
 use Rattle.ncq_journal.specs.Work.{Work, Read, Write}
 
--- the answer of each request, by its number
-pub record AreAnswers (image : List ℕ) (past : List Entry) (answers : List (Option Answer)) : Type 0 where
-  pub count : length answers ≡ length past
-  pub each : (n : ℕ) → n < length past → slice_index_or answers n None ≡ answer image past n
-
 -- the image as it is then, the number of each tag's request, and the answers so far of a journal with so many entries
 pub record IsPassed (image : List ℕ) (past : List Entry) (total depth : ℕ) (now : List ℕ) (requests : List (Option ℕ)) (answers : List (Option Answer)) : Type 0 where
   pub size : length now ≡ length image

@@ -1,4 +1,4 @@
-mod all;
+mod claims;
 
 ghost use Rattle.std.specs.Prelude.{◌≡◌, ◌^◌, ◌<◌, IfOk, Some};
 ghost use Rattle.std.specs.Option.{option_or};
@@ -8,7 +8,7 @@ ghost use Rattle.ncq_journal.specs.History.{history_of, entry_at};
 ghost use Rattle.ncq_journal.specs.Lawful.{AllProper, IsProper, IsProperEntry};
 ghost use Rattle.ncq_journal.specs.Work.{work_of};
 
-pub use crate::answer::all::answers_of;
+pub use crate::answer::claims::claims_hold;
 use crate::event::Event;
 use crate::journal::entry_in;
 use crate::op::Op;

@@ -5,6 +5,7 @@
 
 mod answer;
 mod bytes;
+mod claim;
 mod event;
 mod halted;
 mod journal;
@@ -19,8 +20,9 @@ mod request;
 mod sector;
 mod tags;
 
-pub use answer::{Answer, answer_of, answers_of};
+pub use answer::{Answer, answer_of, claims_hold};
 pub use bytes::Bytes;
+pub use claim::Claim;
 pub use event::Event;
 pub use halted::{is_busy, is_halted};
 pub use journal::{Journal, entry_in};

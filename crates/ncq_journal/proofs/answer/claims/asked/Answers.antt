@@ -2,7 +2,7 @@ use Rattle.std.proofs.Common.{sym, ◌∙◌, ◌<◌, length, ap, arith}
 use Rattle.ncq_journal.specs.Entry.{entry_of}
 use Rattle.ncq_journal.specs.Work.{work_of}
 use Rattle.ncq_journal.proofs.PassLemmas.{asked_there, not_issue, same_request}
-use Rattle.ncq_journal.proofs.answer.all.asked.Goals as goal
+use Rattle.ncq_journal.proofs.answer.claims.asked.Goals as goal
 
 pub bounds-past-request : goal.bounds-past-request
 bounds-past-request g c = (asked_there c.args.past.now c.args.tag c.in-Some.request (sym c.in-Some.is ∙ c.requires.number)).within
