@@ -14,7 +14,8 @@ pub returns-in_err-take_lines-clause-err : goal.returns-in_err-take_lines-clause
 returns-in_err-take_lines-clause-err g c =
     let f = c.in_err-take_lines.field-0.0 in
     if_err_from _ (list_fault_of f) (IsListFault _ _) c.from_residual-in_err-take_lines.ensures.1
-    (list_fault (λ x. map work_of x.0.jobs.items) f _ _ (c.in_ok-list.list, tt) (c.take_lines.new.taker, c.take_lines.new.output) (ap (map work_of) c.in_ok-list.ensures) c.in_err-take_lines.ensures.err)
+    (list_fault (λ x. map work_of x.0.jobs.items) f _ _ (c.in_ok-list.list, tt) (c.take_lines.new.taker, c.take_lines.new.output)
+    (ap (map work_of) c.in_ok-list.ensures) c.in_err-take_lines.ensures.err)
 
 pub returns-clause-ok : goal.returns-clause-ok
 returns-clause-ok g c =

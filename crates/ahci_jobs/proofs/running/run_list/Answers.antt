@@ -66,7 +66,8 @@ pub returns-in-Err-clause-writes : goal.returns-in-Err-clause-writes
 returns-in-Err-clause-writes g c = subst (RunWrites c.args.writes.now c.args.writes.now) (sym c.given_up.ensures) (writes_running c.in-Err.fault c.args.writes.now)
 
 pub returns-in-Err-clause-reads : goal.returns-in-Err-clause-reads
-returns-in-Err-clause-reads g c = subst (RunReads c.args.reads.now c.listed.new.reads) (sym c.given_up.ensures) (reads_running c.in-Err.fault c.args.reads.now c.listed.new.reads c.in_ok-jobs.ensures.unfailed)
+returns-in-Err-clause-reads g c = subst (RunReads c.args.reads.now c.listed.new.reads) (sym c.given_up.ensures)
+    (reads_running c.in-Err.fault c.args.reads.now c.listed.new.reads c.in_ok-jobs.ensures.unfailed)
 
 pub returns-in-Ok-clause-writes : goal.returns-in-Ok-clause-writes
 returns-in-Ok-clause-writes g c = ends_writing c.tell_run.result c.args.writes.now c.tell_run.new.writes c.tell_run.ensures.writes
@@ -82,4 +83,5 @@ returns-in_err-jobs-clause-writes g c =
 pub returns-in_err-jobs-clause-reads : goal.returns-in_err-jobs-clause-reads
 returns-in_err-jobs-clause-reads g c =
     let f = c.in_err-jobs.field-0.0 in
-    if_err_from _ (jobs_fault_of f) (RunReads c.args.reads.now c.listed.new.reads) c.from_residual-in_err-jobs.ensures.1 (reads_listing f c.args.reads.now c.listed.new.reads c.in_err-jobs.ensures.reads)
+    if_err_from _ (jobs_fault_of f) (RunReads c.args.reads.now c.listed.new.reads) c.from_residual-in_err-jobs.ensures.1
+    (reads_listing f c.args.reads.now c.listed.new.reads c.in_err-jobs.ensures.reads)

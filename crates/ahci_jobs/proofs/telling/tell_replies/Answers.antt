@@ -26,4 +26,5 @@ loop-receipt-preserved g c =
 pub returns-in_err-tell-clause-writes : goal.returns-in_err-tell-clause-writes
 returns-in_err-tell-clause-writes g c =
     let f = c.in_err-tell.field-0.0 in
-    if_err_from _ f (TellsAs c.args.writes.now c.tell.new.writes) c.from_residual.ensures.1 (tells_after f c.args.writes.now c.loop-receipt.writes c.tell.new.writes c.loop-receipt.invariant.unfailed c.in_err-tell.ensures.writes)
+    if_err_from _ f (TellsAs c.args.writes.now c.tell.new.writes) c.from_residual.ensures.1
+    (tells_after f c.args.writes.now c.loop-receipt.writes c.tell.new.writes c.loop-receipt.invariant.unfailed c.in_err-tell.ensures.writes)

@@ -28,4 +28,5 @@ loop-lba-preserved g c =
 pub returns-in_err-tell_sector-clause-writes : goal.returns-in_err-tell_sector-clause-writes
 returns-in_err-tell_sector-clause-writes g c =
     let f = c.in_err-tell_sector.field-0.0 in
-    if_err_from _ f (TellsAs c.args.writes.now c.tell_sector.new.writes) c.from_residual.ensures.1 (tells_after f c.args.writes.now c.loop-lba.writes c.tell_sector.new.writes c.loop-lba.invariant.unfailed c.in_err-tell_sector.ensures.writes)
+    if_err_from _ f (TellsAs c.args.writes.now c.tell_sector.new.writes) c.from_residual.ensures.1
+    (tells_after f c.args.writes.now c.loop-lba.writes c.tell_sector.new.writes c.loop-lba.invariant.unfailed c.in_err-tell_sector.ensures.writes)

@@ -32,4 +32,5 @@ returns-clause-ok g c =
 pub returns-in_err-tell_sectors-clause-writes : goal.returns-in_err-tell_sectors-clause-writes
 returns-in_err-tell_sectors-clause-writes g c =
     let f = c.in_err-tell_sectors.field-0.0 in
-    if_err_from _ f (TellsAs c.args.writes.now c.tell_sectors.new.writes) c.from_residual-in_err-tell_sectors.ensures.1 (tells_after f c.args.writes.now c.tell_replies.new.writes c.tell_sectors.new.writes c.in_ok-tell_replies.ensures.unfailed c.in_err-tell_sectors.ensures.writes)
+    if_err_from _ f (TellsAs c.args.writes.now c.tell_sectors.new.writes) c.from_residual-in_err-tell_sectors.ensures.1
+    (tells_after f c.args.writes.now c.tell_replies.new.writes c.tell_sectors.new.writes c.in_ok-tell_replies.ensures.unfailed c.in_err-tell_sectors.ensures.writes)
