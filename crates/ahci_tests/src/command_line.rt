@@ -3,6 +3,7 @@ use crate::table::equal;
 use ahci_args::{Asked, Pick, RunForm, asked, not_text};
 use clap::error::ErrorKind;
 use std::alloc::Global;
+use std::process::Abort;
 use std::test::Fail;
 
 /// The words of a command line.
@@ -12,6 +13,56 @@ pub fn words(alloc: Global, line: &str) -> Result<Vec<String>, Fail> {
         all.push(String::from_str(alloc, word)?)?;
     }
     Ok(all)
+}
+
+/// Each line asks for what its row wants. Before its words stand the first ones.
+pub fn ask(
+    rt: &impl Abort,
+    alloc: Global,
+    first: &str,
+    rows: &[(&'static str, Asked)],
+) -> Result<(), Fail> {
+    for (row, (rest, wanted)) in rows.iter().enumerate() {
+        let line = format!(in alloc; "{first} {rest}")?;
+        let line = words(alloc, line.as_str())?;
+        equal(rt, row, &asked(alloc, line.as_slice()).ok(), &Some(*wanted));
+    }
+    Ok(())
+}
+
+/// Each line is told an error of the kind of its row, whose text has the part. Before its words stand the first ones.
+pub fn are_told(
+    rt: &impl Abort,
+    alloc: Global,
+    first: &str,
+    rows: &[(&'static str, ErrorKind, &'static str)],
+) -> Result<(), Fail> {
+    for (row, (rest, wanted, part)) in rows.iter().enumerate() {
+        let line = format!(in alloc; "{first} {rest}")?;
+        let (kind, text) = told(alloc, line.as_str())?;
+        equal(
+            rt,
+            row,
+            &(kind, text.as_str().contains(*part)),
+            &(*wanted, true),
+        );
+    }
+    Ok(())
+}
+
+/// A line is told help that has each of these parts.
+pub fn helps(
+    rt: &impl Abort,
+    alloc: Global,
+    line: &str,
+    parts: &[&'static str],
+) -> Result<(), Fail> {
+    let (kind, text) = told(alloc, line)?;
+    equal(rt, 0, &kind, &ErrorKind::DisplayHelp);
+    for part in parts {
+        assert!(rt; text.as_str().contains(*part), "{line}: {part}");
+    }
+    Ok(())
 }
 
 /// A run on few slots.
@@ -111,16 +162,7 @@ static RIGHT: [(&str, Asked); 18] = [
 
 #[test]
 fn a_line_asks_for_a_script_or_for_a_run_with_its_options(rt: HostRuntime) -> Result<(), Fail> {
-    for (row, (line, wanted)) in RIGHT.iter().enumerate() {
-        let line = words(rt.alloc(), line)?;
-        equal(
-            &rt,
-            row,
-            &asked(rt.alloc(), line.as_slice()).ok(),
-            &Some(*wanted),
-        );
-    }
-    Ok(())
+    ask(&rt, rt.alloc(), "", RIGHT.as_slice())
 }
 
 static WRONG: [(&str, ErrorKind, &str); 16] = [
@@ -262,11 +304,7 @@ static TRACE_HELP: [&str; 4] = [
 #[test]
 fn help_of_a_trace_has_its_flag_and_its_examples(rt: HostRuntime) -> Result<(), Fail> {
     for line in ["ahci trace --help", "ahci trace -h"] {
-        let (kind, text) = told(rt.alloc(), line)?;
-        equal(&rt, 0, &kind, &ErrorKind::DisplayHelp);
-        for part in TRACE_HELP {
-            assert!(rt; text.as_str().contains(part), "{line}: {part}");
-        }
+        helps(&rt, rt.alloc(), line, TRACE_HELP.as_slice())?;
     }
     Ok(())
 }

@@ -1,7 +1,6 @@
 //! The program as one function where its input, its output or its errors fail at once.
-use crate::command_line::words;
+use crate::status::status_of;
 use crate::wanted::Wanted;
-use ahci_cli::program;
 use std::io;
 use std::io::{Read, Write};
 use std::test::Fail;
@@ -47,21 +46,13 @@ static WRITING: [&str; 14] = [
 #[test]
 fn output_that_fails_is_told(rt: HostRuntime) -> Result<(), Fail> {
     for (row, line) in WRITING.iter().enumerate() {
-        let line = words(rt.alloc(), line)?;
         let mut reader: &[u8] = if row == 4 || (10..13).contains(&row) {
             b"read 0 1\n"
         } else {
             b"disk 8 4\n"
         };
         let mut told = Vec::new(rt.alloc());
-        let ended = program(
-            &rt,
-            rt.alloc(),
-            line.as_slice(),
-            &mut reader,
-            &mut Broken,
-            &mut told,
-        );
+        let ended = status_of(&rt, rt.alloc(), line, &mut reader, &mut Broken, &mut told)?;
         Wanted::Text("ahci: output failed\n").meets(&rt, row, told.as_slice());
         let wanted = if row == 13 { 4 } else { 1 };
         assert_eq!(rt; ended, wanted, "at row {row}");
@@ -83,28 +74,20 @@ static READING: [&str; 7] = [
 #[test]
 fn input_that_fails_is_told_also_where_nobody_can_be_told(rt: HostRuntime) -> Result<(), Fail> {
     for (row, line) in READING.iter().enumerate() {
-        let line = words(rt.alloc(), line)?;
         let mut written = Vec::new(rt.alloc());
         let mut told = Vec::new(rt.alloc());
-        let ended = program(
-            &rt,
-            rt.alloc(),
-            line.as_slice(),
-            &mut Broken,
-            &mut written,
-            &mut told,
-        );
+        let ended = status_of(&rt, rt.alloc(), line, &mut Broken, &mut written, &mut told)?;
         Wanted::Text("ahci: input failed\n").meets(&rt, row, told.as_slice());
         let wanted = if row == 3 || row >= 6 { 4 } else { 1 };
         assert_eq!(rt; ended, wanted, "at row {row}");
-        let ended = program(
+        let ended = status_of(
             &rt,
             rt.alloc(),
-            line.as_slice(),
+            line,
             &mut Broken,
             &mut written,
             &mut Broken,
-        );
+        )?;
         assert_eq!(rt; ended, wanted, "at row {row}");
     }
     Ok(())

@@ -3,6 +3,8 @@
 #![tactic(auto)]
 
 #[cfg(test)]
+mod any_window;
+#[cfg(test)]
 mod command_line;
 #[cfg(test)]
 mod failing_ends;
@@ -16,6 +18,8 @@ mod port;
 mod program;
 #[cfg(test)]
 mod run_lines;
+#[cfg(test)]
+mod status;
 #[cfg(test)]
 mod table;
 #[cfg(test)]

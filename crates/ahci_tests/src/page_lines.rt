@@ -1,7 +1,7 @@
 //! The command lines of `identify` and `log`, and the pages that `ahci_cli` writes.
-use crate::command_line::{MISSING, RANGE, TWICE, told, words};
+use crate::command_line::{MISSING, RANGE, TWICE, are_told, ask, helps};
 use crate::table::equal;
-use ahci_args::{Asked, asked};
+use ahci_args::Asked;
 use ahci_cli::{CliFault, write_identify, write_log};
 use clap::error::ErrorKind;
 use std::test::Fail;
@@ -61,17 +61,7 @@ static RIGHT: [(&str, Asked); 9] = [
 
 #[test]
 fn a_line_asks_for_a_page_with_its_options(rt: HostRuntime) -> Result<(), Fail> {
-    for (row, (options, wanted)) in RIGHT.iter().enumerate() {
-        let line = format!(in rt.alloc(); "ahci {options}")?;
-        let line = words(rt.alloc(), line.as_str())?;
-        equal(
-            &rt,
-            row,
-            &asked(rt.alloc(), line.as_slice()).ok(),
-            &Some(*wanted),
-        );
-    }
-    Ok(())
+    ask(&rt, rt.alloc(), "ahci", RIGHT.as_slice())
 }
 
 /// What an error byte that is none is told.
@@ -162,17 +152,7 @@ static WRONG: [(&str, ErrorKind, &str); 27] = [
 
 #[test]
 fn a_wrong_page_is_told_what_is_wrong(rt: HostRuntime) -> Result<(), Fail> {
-    for (row, (options, wanted, part)) in WRONG.iter().enumerate() {
-        let line = format!(in rt.alloc(); "ahci {options}")?;
-        let (kind, text) = told(rt.alloc(), line.as_str())?;
-        equal(
-            &rt,
-            row,
-            &(kind, text.as_str().contains(*part)),
-            &(*wanted, true),
-        );
-    }
-    Ok(())
+    are_told(&rt, rt.alloc(), "ahci", WRONG.as_slice())
 }
 
 /// What help says of the options, the text and the statuses of both.
@@ -201,9 +181,7 @@ static HELP: [(&str, &str); 15] = [
 fn help_of_a_page_has_its_options_its_text_and_its_statuses(rt: HostRuntime) -> Result<(), Fail> {
     for (subcommand, part) in HELP {
         let line = format!(in rt.alloc(); "ahci {subcommand} --help")?;
-        let (kind, text) = told(rt.alloc(), line.as_str())?;
-        equal(&rt, 0, &kind, &ErrorKind::DisplayHelp);
-        assert!(rt; text.as_str().contains(part), "{subcommand}: {part}");
+        helps(&rt, rt.alloc(), line.as_str(), &[part])?;
     }
     Ok(())
 }

@@ -1,6 +1,5 @@
 //! What a command line of `run` is told where it is wrong, and its help.
-use crate::command_line::{MISSING, RANGE, TWICE, told};
-use crate::table::equal;
+use crate::command_line::{MISSING, RANGE, TWICE, are_told, helps};
 use clap::error::ErrorKind;
 use std::test::Fail;
 
@@ -114,17 +113,7 @@ static WRONG_RUNS: [(&str, ErrorKind, &str); 24] = [
 
 #[test]
 fn a_wrong_run_is_told_what_is_wrong(rt: HostRuntime) -> Result<(), Fail> {
-    for (row, (options, wanted, part)) in WRONG_RUNS.iter().enumerate() {
-        let line = format!(in rt.alloc(); "ahci run {options}")?;
-        let (kind, text) = told(rt.alloc(), line.as_str())?;
-        equal(
-            &rt,
-            row,
-            &(kind, text.as_str().contains(*part)),
-            &(*wanted, true),
-        );
-    }
-    Ok(())
+    are_told(&rt, rt.alloc(), "ahci run", WRONG_RUNS.as_slice())
 }
 
 /// What the help of `run` says of each option, of jobs, of what is written and of the statuses.
@@ -154,11 +143,7 @@ static RUN_HELP: [&str; 20] = [
 #[test]
 fn help_of_a_run_has_its_options_its_jobs_and_its_statuses(rt: HostRuntime) -> Result<(), Fail> {
     for line in ["ahci run --help", "ahci run -h"] {
-        let (kind, text) = told(rt.alloc(), line)?;
-        equal(&rt, 0, &kind, &ErrorKind::DisplayHelp);
-        for part in RUN_HELP {
-            assert!(rt; text.as_str().contains(part), "{line}: {part}");
-        }
+        helps(&rt, rt.alloc(), line, RUN_HELP.as_slice())?;
     }
     Ok(())
 }

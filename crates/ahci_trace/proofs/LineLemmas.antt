@@ -7,6 +7,7 @@ use Rattle.std.proofs.lemmas.Bool.Decides.{nat_tests}
 use Rattle.std.proofs.lemmas.List.Folds.{list_all-append}
 use Rattle.std.proofs.lemmas.List.Concat.{flat_map-cons}
 use Rattle.ahci_port.specs.PortView.{PortView}
+use Rattle.ahci_regs.specs.RegisterTable.{name_of}
 use Rattle.ahci_regs.specs.declared.register.Register.{Register}
 use Rattle.ahci_regs.specs.declared.register.Register.TheVariants.{Cap, Ghc, Pi, Vs, PxClb, PxClbu, PxFb, PxFbu, PxIs, PxIe, PxCmd, PxTfd, PxSig, PxSsts, PxSctl, PxSerr, PxSact, PxCi}
 use Rattle.ahci_replay.specs.Transcript.{no_line, one_more}
@@ -22,7 +23,7 @@ use Rattle.sata_fis.specs.Fields.{QueuedFields}
 use Rattle.word_bits.specs.Places.{bits, has_place}
 use Rattle.ahci_trace.specs.Lines.{AreNotes, KeepsAnswers, Noted, a_note, an_answer, is_line, no_answer, no_note}
 use Rattle.ahci_trace.specs.Mark.{mark_of}
-use Rattle.ahci_trace.specs.Names.{Named, bits_of, bits_text, name_of, name_text, names_text, separator}
+use Rattle.ahci_trace.specs.Names.{Named, bits_of, bits_text, name_text, names_text, separator}
 use Rattle.ahci_trace.specs.Sent.{SentBytes}
 use Rattle.ahci_trace.specs.Text.{bytes_text, change_text, data_line, data_text, details_text, direction, entry_text, fis_text, kind_name, named_text, page_text, phase_name, plain_name, prdt_text, received_text, sent_text, slot_text, told_text, trace_notes, transfer_text, what_text, write_text}
 use Rattle.ahci_trace.specs.Trace.{Told, told_of}

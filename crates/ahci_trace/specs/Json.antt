@@ -4,6 +4,7 @@ use Rattle.std.specs.Fmt.{decimal}
 use Rattle.ahci_script.specs.Answers.{answer_text, hex_of}
 use Rattle.ahci_script.specs.Said.{Said}
 use Rattle.ahci_port.specs.PortView.{PortView}
+use Rattle.ahci_regs.specs.RegisterTable.{name_of}
 use Rattle.ahci_replay.specs.Transcript.{Telling}
 use Rattle.json.specs.Print.{print}
 use Rattle.json.specs.Token.{Token, begin_object, end_object, begin_array, end_array, key, string, number, boolean, null}
@@ -12,7 +13,7 @@ use Rattle.ncq_journal.specs.declared.plain.Plain.TheVariants.{ReadLog}
 use Rattle.sata_fis.specs.Fields.{QueuedFields}
 use Rattle.word_bits.specs.Places.{bits, has_place}
 use Rattle.ahci_trace.specs.Mark.{mark_of}
-use Rattle.ahci_trace.specs.Names.{Named, bits_of, name_of}
+use Rattle.ahci_trace.specs.Names.{Named, bits_of}
 use Rattle.ahci_trace.specs.Text.{kind_name, phase_name}
 use Rattle.ahci_trace.specs.Sent.{SentBytes}
 use Rattle.ahci_trace.specs.Trace.{Told, nothing_told, told_of}

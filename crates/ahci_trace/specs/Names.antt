@@ -1,29 +1,9 @@
--- The names of registers and of their bits (AHCI 1.3.1, sections 3.1 and 3.3; ACS-3 for the bits of status and error).
+-- The names of a register's bits (AHCI 1.3.1, sections 3.1 and 3.3; ACS-3 for the bits of status and error).
 use Rattle.std.specs.Prelude.{ℕ, Bool, true, false, ◌||◌, if◌then◌else◌, List, [], ◌∷◌, ◌++◌, codes}
 use Rattle.ahci_regs.specs.declared.register.Register.{Register}
-use Rattle.ahci_regs.specs.declared.register.Register.TheVariants.{Cap, Ghc, Pi, Vs, PxClb, PxClbu, PxFb, PxFbu, PxIs, PxIe, PxCmd, PxTfd, PxSig, PxSsts, PxSctl, PxSerr, PxSact, PxCi}
+use Rattle.ahci_regs.specs.declared.register.Register.TheVariants.{Cap, Ghc, PxIs, PxIe, PxCmd, PxTfd}
 use Rattle.word_bits.specs.Places.{bits, has_place}
 use Rattle.ahci_trace.specs.declared.named_bit.NamedBit.{NamedBit}
-
-abbrev pub name_of : Register → List ℕ
-name_of Cap = codes "CAP"
-name_of Ghc = codes "GHC"
-name_of Pi = codes "PI"
-name_of Vs = codes "VS"
-name_of PxClb = codes "PxCLB"
-name_of PxClbu = codes "PxCLBU"
-name_of PxFb = codes "PxFB"
-name_of PxFbu = codes "PxFBU"
-name_of PxIs = codes "PxIS"
-name_of PxIe = codes "PxIE"
-name_of PxCmd = codes "PxCMD"
-name_of PxTfd = codes "PxTFD"
-name_of PxSig = codes "PxSIG"
-name_of PxSsts = codes "PxSSTS"
-name_of PxSctl = codes "PxSCTL"
-name_of PxSerr = codes "PxSERR"
-name_of PxSact = codes "PxSACT"
-name_of PxCi = codes "PxCI"
 
 -- a bit by its place, and its name
 pub record Named : Type 0 where

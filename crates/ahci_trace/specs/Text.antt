@@ -2,6 +2,7 @@
 use Rattle.std.specs.Prelude.{ℕ, Bool, true, false, List, [], ◌∷◌, ◌++◌, codes, Option, None, Some, flat_map}
 use Rattle.std.specs.Fmt.{decimal}
 use Rattle.ahci_port.specs.PortView.{PortView}
+use Rattle.ahci_regs.specs.RegisterTable.{name_of}
 use Rattle.ahci_replay.specs.Transcript.{Telling}
 use Rattle.ahci_script.specs.Answers.{answer_text, hex_of}
 use Rattle.ncq_core.specs.DiskFis.{activate_bytes, setup_bytes}
@@ -12,7 +13,7 @@ use Rattle.ncq_journal.specs.declared.plain.Plain.TheVariants.{Identify, Flush, 
 use Rattle.sata_fis.specs.Encoding.{data_head_bytes}
 use Rattle.sata_fis.specs.Fields.{QueuedFields}
 use Rattle.ahci_trace.specs.Mark.{mark_of}
-use Rattle.ahci_trace.specs.Names.{bits_text, name_of}
+use Rattle.ahci_trace.specs.Names.{bits_text}
 use Rattle.ahci_trace.specs.Sent.{SentBytes}
 use Rattle.ahci_trace.specs.Trace.{Told, told_of}
 use Rattle.ahci_trace.specs.Transfers.{payloads_of}

@@ -9,7 +9,9 @@ ghost use Rattle.ahci_trace.specs.Trace.{told};
 mod answer;
 mod entry;
 mod hex;
+mod item;
 mod line;
+mod list;
 pub(crate) mod member;
 mod received;
 mod register;
@@ -21,16 +23,12 @@ mod write;
 use crate::command_trace::CommandTrace;
 use ahci_script::ScriptAnswer;
 use answer::put_answer;
-use entry::put_entries;
 use json::Writer;
 use line::put_line;
+use list::put_list;
 use received::put_received;
-use register::put_registers;
 use sent::put_sent;
-use slot::put_slots;
 use std::alloc::{AllocError, Allocator};
-use transfer::put_transfers;
-use write::put_writes;
 
 /// The text of an object for a command of a line, its answer and what it did.
 pub(crate) fn json_text<A: Allocator + Copy, B: Allocator>(
@@ -79,7 +77,7 @@ fn put_passed<A: Allocator + Copy>(
 {
     writer.key("sent")?;
     put_sent(writer, alloc, &trace.sent)?;
-    put_transfers(writer, alloc, &trace.served)?;
+    put_list(writer, alloc, "transfers", &trace.served)?;
     writer.key("received")?;
     put_received(writer, alloc, &trace.received)
 }
@@ -94,9 +92,9 @@ fn put_told<A: Allocator + Copy>(
     ensures tokens { OnOk result (writer.new.tokens ≡ writer.old.tokens ++ told_members (told trace.now)) }
     ensures before { OnOk result (writer.new.before ≡ writer.old.before) }
 {
-    put_entries(writer, &trace.entries)?;
-    put_writes(writer, &trace.writes)?;
+    put_list(writer, alloc, "entries", &trace.entries)?;
+    put_list(writer, alloc, "writes", &trace.writes)?;
     put_passed(writer, alloc, trace)?;
-    put_registers(writer, &trace.changes)?;
-    put_slots(writer, &trace.slots)
+    put_list(writer, alloc, "registers", &trace.changes)?;
+    put_list(writer, alloc, "slots", &trace.slots)
 }

@@ -2,7 +2,7 @@ ghost use Rattle.std.specs.Prelude.{◌≡◌, IfOk};
 ghost use Rattle.ahci_trace.specs.Changes.{change_of, changes, changes_among, is_word};
 
 use crate::mark::Mark;
-use crate::words::{registers, word};
+use crate::words::word;
 use ahci_port::Port;
 use ahci_regs::Register;
 use std::alloc::{AllocError, Allocator};
@@ -53,7 +53,7 @@ pub(crate) fn changes<A: Allocator, B: Allocator>(
 ) -> Result<Vec<Change, B>, AllocError>
     ensures { IfOk result (λ changed. changed.items ≡ changes mark.now.words port.now.registers) }
 {
-    changes_among(alloc, &registers(), &mark.words, port)
+    changes_among(alloc, &Register::all(), &mark.words, port)
 }
 
 /// Those of these registers whose words are not the ones before.

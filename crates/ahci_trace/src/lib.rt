@@ -13,6 +13,8 @@ pub mod laws;
 mod mark;
 mod named_bit;
 mod names;
+mod note;
+mod notes;
 mod owned;
 mod received;
 mod register_write;

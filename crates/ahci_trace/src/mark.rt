@@ -45,24 +45,5 @@ impl Mark {
 fn words<A: Allocator>(port: &Port<A>) -> [Option<u32>; 18]
     ensures { result ≡ words_of (Some port.now) }
 {
-    [
-        Some(word(port, Register::Cap)),
-        Some(word(port, Register::Ghc)),
-        Some(word(port, Register::Pi)),
-        Some(word(port, Register::Vs)),
-        Some(word(port, Register::PxClb)),
-        Some(word(port, Register::PxClbu)),
-        Some(word(port, Register::PxFb)),
-        Some(word(port, Register::PxFbu)),
-        Some(word(port, Register::PxIs)),
-        Some(word(port, Register::PxIe)),
-        Some(word(port, Register::PxCmd)),
-        Some(word(port, Register::PxTfd)),
-        Some(word(port, Register::PxSig)),
-        Some(word(port, Register::PxSsts)),
-        Some(word(port, Register::PxSctl)),
-        Some(word(port, Register::PxSerr)),
-        Some(word(port, Register::PxSact)),
-        Some(word(port, Register::PxCi)),
-    ]
+    Register::all().map(|register| Some(word(port, register)))
 }

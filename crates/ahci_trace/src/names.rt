@@ -2,39 +2,13 @@
 
 ghost use Rattle.std.specs.Prelude.{◌≡◌, ◌++◌, ◌||◌, false, map, IfOk, OnOk};
 ghost use Rattle.word_bits.specs.Places.{bits, has_place};
-ghost use Rattle.ahci_trace.specs.Names.{bits_of, bits_text, name_of, name_text, named, names_text};
+ghost use Rattle.ahci_trace.specs.Names.{bits_of, bits_text, name_text, named, names_text};
 
 use crate::named_bit::NamedBit;
 use ahci_regs::Register;
 use ahci_script::growing::push;
 use std::alloc::{AllocError, Allocator};
 use word_bits::is_set;
-
-/// A register's name.
-pub(crate) fn name_of(register: Register) -> &'static str
-    ensures { result.now ≡ name_of register }
-{
-    match register {
-        Register::Cap => "CAP",
-        Register::Ghc => "GHC",
-        Register::Pi => "PI",
-        Register::Vs => "VS",
-        Register::PxClb => "PxCLB",
-        Register::PxClbu => "PxCLBU",
-        Register::PxFb => "PxFB",
-        Register::PxFbu => "PxFBU",
-        Register::PxIs => "PxIS",
-        Register::PxIe => "PxIE",
-        Register::PxCmd => "PxCMD",
-        Register::PxTfd => "PxTFD",
-        Register::PxSig => "PxSIG",
-        Register::PxSsts => "PxSSTS",
-        Register::PxSctl => "PxSCTL",
-        Register::PxSerr => "PxSERR",
-        Register::PxSact => "PxSACT",
-        Register::PxCi => "PxCI",
-    }
-}
 
 /// The bit of CAP.
 static CAP: [NamedBit; 1] = [NamedBit(30, "SNCQ")];

@@ -1,7 +1,6 @@
 //! The text of a trace: indented lines.
 
 ghost use Rattle.std.specs.Prelude.{◌≡◌, ◌++◌, OnOk, IfOk};
-ghost use Rattle.std.specs.List.{flat_map};
 ghost use Rattle.std.specs.Option.{option_map};
 ghost use Rattle.ahci_trace.specs.Sent.{shown};
 ghost use Rattle.ahci_trace.specs.Text.{change_text, command_text, details_text, direction, entry_text, fis_text, page_text, prdt_text, received_text, sent_text, slot_text, told_text, what_text, write_text};
@@ -11,13 +10,15 @@ use crate::appended::{Appended, Happened};
 use crate::change::Change;
 use crate::command_trace::CommandTrace;
 use crate::kinds::{kind_name, phase_name};
-use crate::names::{name_of, push_bits};
+use crate::names::push_bits;
+use crate::note::Note;
+use crate::notes::push_notes;
 use crate::owned::OwnedSlot;
 use crate::received::Received;
 use crate::register_write::RegisterWrite;
 use crate::sent::SentCommand;
 use crate::text::push_named;
-use crate::transfer::{push_data, push_transfers};
+use crate::transfer::push_data;
 use ahci_script::growing::{push, push_byte, push_number, push_word};
 use std::alloc::{AllocError, Allocator};
 
@@ -29,13 +30,13 @@ pub(crate) fn text_of<A: Allocator + Copy>(
     ensures { IfOk result (λ text. text.items ≡ told_text (told trace.now)) }
 {
     let mut text = Vec::new(alloc);
-    push_entries(&mut text, &trace.entries)?;
-    push_writes(&mut text, &trace.writes)?;
-    push_sent(&mut text, &trace.sent)?;
-    push_transfers(&mut text, alloc, &trace.served)?;
+    push_notes(&mut text, alloc, &trace.entries)?;
+    push_notes(&mut text, alloc, &trace.writes)?;
+    push_sent(&mut text, alloc, &trace.sent)?;
+    push_notes(&mut text, alloc, &trace.served)?;
     push_received(&mut text, &trace.received)?;
-    push_changes(&mut text, &trace.changes)?;
-    push_slots(&mut text, &trace.slots)?;
+    push_notes(&mut text, alloc, &trace.changes)?;
+    push_notes(&mut text, alloc, &trace.slots)?;
     Ok(text)
 }
 
@@ -81,76 +82,73 @@ fn push_what<A: Allocator>(text: &mut Vec<u8, A>, what: Happened) -> Result<(), 
     push_details(text, what)
 }
 
-fn push_entry<A: Allocator>(text: &mut Vec<u8, A>, entry: Appended) -> Result<(), AllocError>
-    ensures { OnOk result (text.new.items ≡ text.old.items ++ entry_text entry) }
-{
-    push_number(text, b"  entry ", entry.number)?;
-    push(text, b": ")?;
-    push_what(text, entry.what)?;
-    push(text, b"\n")
-}
+impl Note for Appended {
+    ghost note = { entry_text };
 
-fn push_entries<A: Allocator>(text: &mut Vec<u8, A>, entries: &[Appended]) -> Result<(), AllocError>
-    ensures { OnOk result (text.new.items ≡ text.old.items ++ flat_map entry_text entries.now) }
-{
-    for entry in entries {
-        push_entry(text, *entry)?;
+    fn push_to<A: Allocator + Copy>(
+        &self,
+        text: &mut Vec<u8, A>,
+        _alloc: A,
+    ) -> Result<(), AllocError> {
+        push_number(text, b"  entry ", self.number)?;
+        push(text, b": ")?;
+        push_what(text, self.what)?;
+        push(text, b"\n")
     }
-    Ok(())
 }
 
-fn push_write<A: Allocator>(text: &mut Vec<u8, A>, write: RegisterWrite) -> Result<(), AllocError>
-    ensures { OnOk result (text.new.items ≡ text.old.items ++ write_text write) }
-{
-    push(text, b"  wrote ")?;
-    push(text, name_of(write.register).as_bytes())?;
-    push(text, b" ")?;
-    push_word(text, write.word)?;
-    push(text, b"\n")
+impl Note for RegisterWrite {
+    ghost note = { write_text };
+
+    fn push_to<A: Allocator + Copy>(
+        &self,
+        text: &mut Vec<u8, A>,
+        _alloc: A,
+    ) -> Result<(), AllocError> {
+        push(text, b"  wrote ")?;
+        push(text, self.register.name().as_bytes())?;
+        push(text, b" ")?;
+        push_word(text, self.word)?;
+        push(text, b"\n")
+    }
 }
 
-fn push_writes<A: Allocator>(
+/// An entry of a PRDT.
+impl Note for [u8; 16] {
+    ghost note = { prdt_text };
+
+    fn push_to<A: Allocator + Copy>(
+        &self,
+        text: &mut Vec<u8, A>,
+        _alloc: A,
+    ) -> Result<(), AllocError> {
+        push_named(text, b"  sent PRDT entry", self)
+    }
+}
+
+fn push_sent<A: Allocator + Copy, B: Allocator>(
     text: &mut Vec<u8, A>,
-    writes: &[RegisterWrite],
-) -> Result<(), AllocError>
-    ensures { OnOk result (text.new.items ≡ text.old.items ++ flat_map write_text writes.now) }
-{
-    for write in writes {
-        push_write(text, *write)?;
-    }
-    Ok(())
-}
-
-fn push_prdt<A: Allocator>(text: &mut Vec<u8, A>, entries: &[[u8; 16]]) -> Result<(), AllocError>
-    ensures { OnOk result (text.new.items ≡ text.old.items ++ flat_map prdt_text entries.now) }
-{
-    for entry in entries {
-        push_named(text, b"  sent PRDT entry", entry)?;
-    }
-    Ok(())
-}
-
-fn push_sent<A: Allocator, B: Allocator>(
-    text: &mut Vec<u8, A>,
+    alloc: A,
     sent: &Option<SentCommand<B>>,
 ) -> Result<(), AllocError>
     ensures { OnOk result (text.new.items ≡ text.old.items ++ sent_text (option_map shown sent.now)) }
 {
     match sent {
-        Some(command) => push_command(text, command),
+        Some(command) => push_command(text, alloc, command),
         None => Ok(()),
     }
 }
 
-fn push_command<A: Allocator, B: Allocator>(
+fn push_command<A: Allocator + Copy, B: Allocator>(
     text: &mut Vec<u8, A>,
+    alloc: A,
     command: &SentCommand<B>,
 ) -> Result<(), AllocError>
     ensures { OnOk result (text.new.items ≡ text.old.items ++ command_text (shown command.now)) }
 {
     push_named(text, b"  sent command header", &command.header)?;
     push_named(text, b"  sent CFIS", &command.cfis)?;
-    push_prdt(text, &command.entries)
+    push_notes(text, alloc, &command.entries)
 }
 
 /// Appends a FIS by the standard's name, where one came.
@@ -191,40 +189,34 @@ fn push_received<A: Allocator>(text: &mut Vec<u8, A>, received: &Received) -> Re
     push_fis(text, b"  received Set Device Bits FIS", &received.bits)
 }
 
-fn push_change<A: Allocator>(text: &mut Vec<u8, A>, change: Change) -> Result<(), AllocError>
-    ensures { OnOk result (text.new.items ≡ text.old.items ++ change_text change) }
-{
-    push(text, b"  ")?;
-    push(text, name_of(change.register).as_bytes())?;
-    push(text, b" ")?;
-    push_word(text, change.word)?;
-    push_bits(text, change.register, change.word)?;
-    push(text, b"\n")
-}
+impl Note for Change {
+    ghost note = { change_text };
 
-fn push_changes<A: Allocator>(text: &mut Vec<u8, A>, changes: &[Change]) -> Result<(), AllocError>
-    ensures { OnOk result (text.new.items ≡ text.old.items ++ flat_map change_text changes.now) }
-{
-    for change in changes {
-        push_change(text, *change)?;
+    fn push_to<A: Allocator + Copy>(
+        &self,
+        text: &mut Vec<u8, A>,
+        _alloc: A,
+    ) -> Result<(), AllocError> {
+        push(text, b"  ")?;
+        push(text, self.register.name().as_bytes())?;
+        push(text, b" ")?;
+        push_word(text, self.word)?;
+        push_bits(text, self.register, self.word)?;
+        push(text, b"\n")
     }
-    Ok(())
 }
 
-fn push_slot<A: Allocator>(text: &mut Vec<u8, A>, slot: OwnedSlot) -> Result<(), AllocError>
-    ensures { OnOk result (text.new.items ≡ text.old.items ++ slot_text slot) }
-{
-    push_number(text, b"  slot ", u64::from(slot.tag))?;
-    push(text, b" ")?;
-    push(text, phase_name(slot.phase).as_bytes())?;
-    push(text, b"\n")
-}
+impl Note for OwnedSlot {
+    ghost note = { slot_text };
 
-fn push_slots<A: Allocator>(text: &mut Vec<u8, A>, slots: &[OwnedSlot]) -> Result<(), AllocError>
-    ensures { OnOk result (text.new.items ≡ text.old.items ++ flat_map slot_text slots.now) }
-{
-    for slot in slots {
-        push_slot(text, *slot)?;
+    fn push_to<A: Allocator + Copy>(
+        &self,
+        text: &mut Vec<u8, A>,
+        _alloc: A,
+    ) -> Result<(), AllocError> {
+        push_number(text, b"  slot ", u64::from(self.tag))?;
+        push(text, b" ")?;
+        push(text, phase_name(self.phase).as_bytes())?;
+        push(text, b"\n")
     }
-    Ok(())
 }

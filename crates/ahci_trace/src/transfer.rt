@@ -6,6 +6,7 @@ ghost use Rattle.ncq_core.specs.DiskFis.{activate_bytes, setup_bytes};
 ghost use Rattle.ahci_trace.specs.Text.{data_line, data_text, named_text, transfer_text};
 ghost use Rattle.ahci_trace.specs.Transfers.{payloads_of};
 
+use crate::note::Note;
 use crate::served::{payloads, setup};
 use crate::text::{push_bytes, push_named};
 use ahci_script::growing::{push, push_number};
@@ -92,29 +93,17 @@ fn push_all_data<A: Allocator + Copy>(
     push_each(text, command.write, &payloads(alloc, command)?)
 }
 
-/// Appends the FISes that carry the data of a command.
-#[tactic(auto, unfolding(crate::specs::Text::transfer_text))]
-fn push_transfer<A: Allocator + Copy>(
-    text: &mut Vec<u8, A>,
-    alloc: A,
-    command: &Queued,
-) -> Result<(), AllocError>
-    ensures { OnOk result (text.new.items ≡ text.old.items ++ transfer_text command.now) }
-{
-    push_setup(text, command)?;
-    push_all_data(text, alloc, command)
-}
+/// A command, by the FISes that carry its data.
+impl Note for Queued {
+    ghost note = { transfer_text };
 
-/// Appends those of some commands, one after the other.
-pub(crate) fn push_transfers<A: Allocator + Copy>(
-    text: &mut Vec<u8, A>,
-    alloc: A,
-    commands: &[Queued],
-) -> Result<(), AllocError>
-    ensures { OnOk result (text.new.items ≡ text.old.items ++ flat_map transfer_text commands.now) }
-{
-    for command in commands {
-        push_transfer(text, alloc, command)?;
+    #[tactic(auto, unfolding(crate::specs::Text::transfer_text))]
+    fn push_to<A: Allocator + Copy>(
+        &self,
+        text: &mut Vec<u8, A>,
+        alloc: A,
+    ) -> Result<(), AllocError> {
+        push_setup(text, self)?;
+        push_all_data(text, alloc, self)
     }
-    Ok(())
 }

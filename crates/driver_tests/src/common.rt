@@ -1,40 +1,12 @@
-//! What the tests share: commands, ports and choosers.
+//! What the tests share: choosers, and what receipts hold.
 ghost use Rattle.std.specs.Prelude.{◌≡◌, ◌≤◌, vec_len, IfOk};
 
 use ahci_driver::{All, Chooser, High, Low, Receipt};
 use ahci_port::DeviceStep;
 use arrayvec::ArrayVec;
-use ncq_core::{Bytes, Op};
 use std::alloc::{AllocError, Global};
 use std::process::Abort;
-use test_helpers::TableStep;
-
-/// A job of one sector: its LBA, and the byte of a write.
-#[derive(Clone, Copy, Debug)]
-pub enum Job {
-    Read(u64),
-    Write(u64, u8),
-}
-
-/// The command of a job.
-pub fn op_of(alloc: Global, job: Job) -> Result<Op, AllocError> {
-    match job {
-        Job::Read(lba) => Ok(Op::Read { lba, sectors: 1 }),
-        Job::Write(lba, byte) => {
-            let bytes = Bytes::from_vec(vec![in alloc; byte; 512]?);
-            Ok(Op::Write { lba, bytes })
-        }
-    }
-}
-
-/// The commands of jobs.
-pub fn ops_of(alloc: Global, jobs: &[Job]) -> Result<Vec<Op>, AllocError> {
-    let mut ops = Vec::new(alloc);
-    for job in jobs {
-        ops.push(op_of(alloc, *job)?)?;
-    }
-    Ok(ops)
-}
+use test_helpers::{FAIL_0, TableStep};
 
 /// A chooser for each worker, all of one way.
 pub fn crowd(alloc: Global, one: Way, workers: u32) -> Result<Vec<Way>, AllocError>
@@ -81,11 +53,7 @@ impl Chooser for Way {
             Way::FailsSecond(calls) => {
                 *calls = calls.saturating_add(1);
                 if *calls == 2 {
-                    return DeviceStep::Fail {
-                        tag: 0,
-                        error: 0x40,
-                        at: 0,
-                    };
+                    return FAIL_0.of_device();
                 }
                 Low.next(issued, accepted)
             }

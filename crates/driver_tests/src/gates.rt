@@ -1,7 +1,7 @@
 //! When a run calls its gate: one that makes a job wait for another worker's, and one that notes what the device has done.
 ghost use Rattle.std.specs.Prelude.{◌≤◌};
 
-use crate::common::{Job, Way, crowd, ops_of};
+use crate::common::{Way, crowd};
 use crate::jobs::{Jobs, commands};
 use ahci_driver::{Chooser, Gate, Low, run};
 use ahci_port::{DeviceStep, Port};
@@ -13,6 +13,7 @@ use std::sync::atomic::{AtomicBool, AtomicU32};
 use std::test::Fail;
 use std::thread;
 use std::thread::Threads;
+use test_helpers::{Job, ops_of};
 
 /// Job `first` begins once job `other` is answered, or after so many turns.
 #[derive(Drop)]

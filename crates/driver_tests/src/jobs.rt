@@ -1,7 +1,7 @@
 //! The jobs of the runs.
-use crate::common::{Job, op_of};
 use ncq_core::Op;
 use std::alloc::{AllocError, Global};
+use test_helpers::{Job, TWELVE};
 
 /// The jobs of a run.
 #[derive(Clone, Copy, Debug)]
@@ -19,21 +19,6 @@ pub enum Jobs {
     Many,
 }
 
-static FEW: [Job; 12] = [
-    Job::Write(0, 0),
-    Job::Read(1),
-    Job::Write(1, 2),
-    Job::Read(0),
-    Job::Write(0, 4),
-    Job::Read(2),
-    Job::Write(1, 6),
-    Job::Read(1),
-    Job::Write(0, 8),
-    Job::Read(0),
-    Job::Write(1, 10),
-    Job::Read(2),
-];
-
 fn count_of(jobs: Jobs) -> u32 {
     match jobs {
         Jobs::None => 0,
@@ -48,7 +33,7 @@ fn count_of(jobs: Jobs) -> u32 {
 fn job_at(jobs: Jobs, index: u32) -> Job {
     let lba = u64::from(index % 64);
     match jobs {
-        Jobs::None | Jobs::Few | Jobs::Five => FEW[index as usize % 12],
+        Jobs::None | Jobs::Few | Jobs::Five => TWELVE[index as usize % 12],
         Jobs::Pair if index == 0 => Job::Write(0, 0x11),
         Jobs::Pair => Job::Read(0),
         Jobs::Crowd => Job::Write(if index == 17 { 64 } else { lba }, (index % 32) as u8),
@@ -61,7 +46,7 @@ fn job_at(jobs: Jobs, index: u32) -> Job {
 pub fn commands(alloc: Global, jobs: Jobs) -> Result<Vec<Op>, AllocError> {
     let mut ops = Vec::new(alloc);
     for index in 0..count_of(jobs) {
-        ops.push(op_of(alloc, job_at(jobs, index))?)?;
+        ops.push(job_at(jobs, index).op(alloc)?)?;
     }
     Ok(ops)
 }

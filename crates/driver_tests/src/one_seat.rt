@@ -2,15 +2,15 @@
 //! submitted while the port is halted.
 ghost use Rattle.std.specs.Prelude.{◌≡◌};
 
-use crate::common::{Job, Way, is_filled, op_of};
+use crate::common::{Way, is_filled};
 use ahci_driver::{Driver, Pumped, SubmitFault, TagBoard, TagSeat, Ticket};
 use ahci_port::{CollectFault, IssueFault, Outcome, Port, Reply, Stepped};
 use std::alloc::{AllocError, Global};
 use std::process::Abort;
 use std::sync::Wait;
 use std::test::Fail;
-use test_helpers::TableStep;
 use test_helpers::TableStep::Accept;
+use test_helpers::{Job, TableStep};
 use word_bits::is_set;
 
 const FAILED: TableStep = TableStep::Fail {
@@ -61,7 +61,7 @@ impl Story {
     fn goes<R: Wait>(&mut self, rt: &R, alloc: Global, call: Call) -> Result<Said, AllocError> {
         Ok(match call {
             Call::Submit(job) => {
-                let op = op_of(alloc, job)?;
+                let op = job.op(alloc)?;
                 match self.driver.submit(rt, alloc, &mut self.seat, &op) {
                     Ok(ticket) => {
                         let said = Said::Ticket(ticket.tag(), ticket.number());

@@ -2,7 +2,7 @@
 //! took.
 use crate::commands::port_of;
 use crate::heap::{Heap, equal, grant_all};
-use crate::jobs::{Jobs, Way, crowd, ops_of};
+use crate::jobs::{Jobs, Way, crowd};
 use ahci_driver::{Gate, Open, RunFault, run};
 use refusing_allocator::{Refusals, Refusing};
 use std::alloc::Global;
@@ -13,6 +13,7 @@ use std::sync::atomic::Ordering::SeqCst;
 use std::test::Fail;
 use std::thread;
 use std::thread::Threads;
+use test_helpers::ops_of;
 
 /// A run on four sectors.
 #[derive(Clone, Copy, Debug)]

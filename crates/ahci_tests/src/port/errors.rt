@@ -6,22 +6,8 @@ use ahci_port::{
     CollectFault, IssueFault, Outcome, PlainFault, RecoverFault, ReissueFault, StepFault,
 };
 use std::test::Fail;
-use test_helpers::TableStep;
 use test_helpers::TableStep::{Accept, Serve};
-
-/// Tag 1 fails with error 40h at LBA 8, which its command hasn't.
-const FAIL_1_AT_8: TableStep = TableStep::Fail {
-    tag: 1,
-    error: 0x40,
-    at: 8,
-};
-
-/// Tag 1 fails with error 40h at LBA 7.
-const FAIL_1_AT_7: TableStep = TableStep::Fail {
-    tag: 1,
-    error: 0x40,
-    at: 7,
-};
+use test_helpers::{FAIL_0, FAIL_1, FAIL_1_AT_7, FAIL_1_AT_8};
 
 const FAILED_AT_7: Outcome = Outcome::Failed {
     error: 0x40,
@@ -99,20 +85,6 @@ static LAST_SECTOR: [Row; 11] = [
 fn a_command_past_the_last_sector_is_refused(rt: HostRuntime) -> Result<(), Fail> {
     plays(&rt, rt.alloc(), 8, 2, LAST_SECTOR.as_slice())
 }
-
-/// Tag 0 fails with error 40h at LBA 0.
-const FAIL_0: TableStep = TableStep::Fail {
-    tag: 0,
-    error: 0x40,
-    at: 0,
-};
-
-/// Tag 1 fails with error 40h at LBA 0.
-const FAIL_1: TableStep = TableStep::Fail {
-    tag: 1,
-    error: 0x40,
-    at: 0,
-};
 
 static HELD: [Row; 16] = [
     Issue(0, 0, Some(0x11), Ok(0)),

@@ -1,5 +1,6 @@
 //! Windows of any bytes, issued.
 use super::telling::{port_of, window_of};
+use crate::any_window::any_window;
 use crate::table::equal;
 use ahci_port::{DeviceStep, IssueFault, Port, Stepped};
 use ahci_table::Window;
@@ -52,27 +53,7 @@ static ROWS: [(Before, Bytes, Result<u64, IssueFault>); 14] = [
 
 /// A window of these bytes that is else fit for tag 0: a read of one sector to one piece after a table of one entry.
 fn window(alloc: Global, (flags, count, tag): Bytes) -> Result<Window, AllocError> {
-    let mut header = [0; 32];
-    header[0] = flags;
-    header[2] = 1;
-    header[11] = 0x10;
-    let mut bytes = vec![in alloc; 0u8; 656]?;
-    for (place, byte) in [
-        (0, 0x27),
-        (1, 0x80),
-        (2, 0x60),
-        (3, 1),
-        (7, 0x40),
-        (12, count),
-        (0x80, 0x90),
-        (0x83, 0x10),
-        (0x8C, 0xFF),
-        (0x8D, 1),
-    ] {
-        if let Some(old) = bytes.get_mut(place) {
-            *old = byte;
-        }
-    }
+    let (header, bytes) = any_window(alloc, flags, count, 656)?;
     Ok(Window::from_parts(tag % 32, header, bytes))
 }
 

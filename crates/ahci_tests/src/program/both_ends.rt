@@ -238,8 +238,15 @@ fn a_failed_read_loses_no_answer_to_a_whole_line(rt: HostRuntime) -> Result<(), 
     Ok(())
 }
 
-/// What a script comes to over a writer that takes so many bytes at once, and fails after so many good writes.
-fn to_sink(alloc: Global, script: &[u8], step: usize, calls: u64, failure: Failure) -> Replayed {
+/// The writer that takes so many bytes at once and fails after so many good writes, once a script was replayed to it, and what
+/// the script comes to.
+fn to_sink(
+    alloc: Global,
+    script: &[u8],
+    step: usize,
+    calls: u64,
+    failure: Failure,
+) -> (Sink, Result<(), CliFault>) {
     let mut reader = Source {
         bytes: script,
         step: 40,
@@ -252,7 +259,7 @@ fn to_sink(alloc: Global, script: &[u8], step: usize, calls: u64, failure: Failu
         failure,
     };
     let outcome = replay(alloc, &mut reader, &mut writer);
-    (writer.written, outcome)
+    (writer, outcome)
 }
 
 /// A writer that never fails takes all answers, and the script's fault ends it. Any other fails, but for one that had
@@ -276,9 +283,10 @@ fn fails_after_each(
     step: usize,
 ) {
     for calls in 0..20 {
-        let (written, outcome) = to_sink(alloc, script, step, calls, failure);
-        let is_part = answers.starts_with(written.as_slice());
-        let ends = may_end(failure, step, outcome, written.as_slice() == answers);
+        let (writer, outcome) = to_sink(alloc, script, step, calls, failure);
+        let written = writer.written.as_slice();
+        let is_part = answers.starts_with(written);
+        let ends = may_end(failure, step, outcome, written == answers);
         equal(rt, step, &(calls, is_part, ends), &(calls, true, true));
     }
 }
@@ -304,18 +312,7 @@ fn a_failed_write_leaves_a_first_part_of_the_answers(rt: HostRuntime) -> Result<
 
 /// How many writes a script's answers take, at most `step` bytes at once.
 fn writes_of(alloc: Global, script: &[u8], step: usize) -> u64 {
-    let mut reader = Source {
-        bytes: script,
-        step: 40,
-        fails: false,
-    };
-    let mut writer = Sink {
-        written: Vec::new(alloc),
-        step,
-        calls: u64::MAX,
-        failure: Failure::Never,
-    };
-    let _outcome = replay(alloc, &mut reader, &mut writer);
+    let (writer, _outcome) = to_sink(alloc, script, step, u64::MAX, Failure::Never);
     u64::MAX.wrapping_sub(writer.calls)
 }
 
@@ -331,14 +328,15 @@ fn a_writer_may_fail_at_each_write(rt: HostRuntime) -> Result<(), Fail> {
             let mut more = 0;
             for calls in 0..=writes {
                 let found = to_sink(rt.alloc(), script.as_slice(), step, calls, failure);
-                let (written, outcome) = found;
+                let (writer, outcome) = found;
+                let written = writer.written.as_slice();
                 let is_whole = calls == writes;
                 let wanted = if is_whole {
                     Ok(())
                 } else {
                     Err(CliFault::Write)
                 };
-                let is_part = answers.as_slice().starts_with(written.as_slice());
+                let is_part = answers.as_slice().starts_with(written);
                 let len = written.len();
                 let is_right = (outcome, is_part, len >= more, len == answers.len());
                 equal(

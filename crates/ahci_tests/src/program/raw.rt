@@ -1,37 +1,12 @@
 //! Windows of any bytes, as lines of a script.
 use super::{CliFault, ends, replayed};
+use crate::any_window::any_window;
 use std::alloc::{AllocError, Global};
 use std::process::Abort;
 use std::test::Fail;
 
 /// The first byte of a header, byte 12 of CFIS, and how many bytes the window has.
 type Bytes = (u8, u8, usize);
-
-/// The window of a read of one sector at LBA 0 to one piece after a table of one entry, but for these bytes.
-fn window(alloc: Global, (flags, count, len): Bytes) -> Result<([u8; 32], Vec<u8>), AllocError> {
-    let mut header = [0; 32];
-    header[0] = flags;
-    header[2] = 1;
-    header[11] = 0x10;
-    let mut bytes = vec![in alloc; 0u8; len]?;
-    for (place, byte) in [
-        (0, 0x27),
-        (1, 0x80),
-        (2, 0x60),
-        (3, 1),
-        (7, 0x40),
-        (12, count),
-        (0x80, 0x90),
-        (0x83, 0x10),
-        (0x8C, 0xFF),
-        (0x8D, 1),
-    ] {
-        if let Some(old) = bytes.get_mut(place) {
-            *old = byte;
-        }
-    }
-    Ok((header, bytes))
-}
 
 /// Appends the two digits of each byte, the letters small or capital.
 fn push_digits(text: &mut Vec<u8>, bytes: &[u8], capital: bool) -> Result<(), AllocError> {
@@ -52,7 +27,8 @@ fn script_of(
     capital: bool,
     rest: &[u8],
 ) -> Result<Vec<u8>, AllocError> {
-    let (header, window) = window(alloc, bytes)?;
+    let (flags, count, len) = bytes;
+    let (header, window) = any_window(alloc, flags, count, len)?;
     let mut script = Vec::from_slice(alloc, b"disk 8 4\nraw 0 ")?;
     push_digits(&mut script, &header, capital)?;
     script.push(b' ')?;

@@ -1,7 +1,8 @@
-ghost use Rattle.std.specs.Prelude.{◌≡◌, ◌++◌, codes, flat_map, OnOk};
-ghost use Rattle.ahci_trace.specs.Json.{entry_object, kind_word, list_member, what_members};
+ghost use Rattle.std.specs.Prelude.{◌≡◌, ◌++◌, OnOk};
+ghost use Rattle.ahci_trace.specs.Json.{entry_object, kind_word, what_members};
 
 use super::hex::put_byte;
+use super::item::Item;
 use super::member::{put_boolean, put_number, put_tag, put_text};
 use crate::appended::{Appended, Happened};
 use crate::kinds::kind_name;
@@ -76,40 +77,19 @@ fn put_what<A: Allocator>(writer: &mut Writer<A>, what: Happened) -> Result<(), 
     }
 }
 
-/// Adds a new entry.
-#[tactic(auto, unfolding(crate::specs::Json::entry_object))]
-fn put_entry<A: Allocator>(writer: &mut Writer<A>, entry: Appended) -> Result<(), AllocError>
-    ensures tokens { OnOk result (writer.new.tokens ≡ writer.old.tokens ++ entry_object entry) }
-    ensures before { OnOk result (writer.new.before ≡ writer.old.before) }
-{
-    writer.begin_object()?;
-    put_number(writer, "number", entry.number)?;
-    put_text(writer, "entry", kind_word(entry.what))?;
-    put_what(writer, entry.what)?;
-    writer.end_object()
-}
+impl Item for Appended {
+    ghost value = { entry_object };
 
-/// Adds entries, one after the other.
-fn put_each<A: Allocator>(writer: &mut Writer<A>, entries: &[Appended]) -> Result<(), AllocError>
-    ensures tokens { OnOk result (writer.new.tokens ≡ writer.old.tokens ++ flat_map entry_object entries.now) }
-    ensures before { OnOk result (writer.new.before ≡ writer.old.before) }
-{
-    for entry in entries {
-        put_entry(writer, *entry)?;
+    #[tactic(auto, unfolding(crate::specs::Json::entry_object))]
+    fn put<A: Allocator + Copy>(
+        &self,
+        writer: &mut Writer<A>,
+        _alloc: A,
+    ) -> Result<(), AllocError> {
+        writer.begin_object()?;
+        put_number(writer, "number", self.number)?;
+        put_text(writer, "entry", kind_word(self.what))?;
+        put_what(writer, self.what)?;
+        writer.end_object()
     }
-    Ok(())
-}
-
-/// Adds a member with the new entries.
-pub(crate) fn put_entries<A: Allocator>(
-    writer: &mut Writer<A>,
-    entries: &[Appended],
-) -> Result<(), AllocError>
-    ensures tokens { OnOk result (writer.new.tokens ≡ writer.old.tokens ++ list_member (codes "entries") (flat_map entry_object entries.now)) }
-    ensures before { OnOk result (writer.new.before ≡ writer.old.before) }
-{
-    writer.key("entries")?;
-    writer.begin_array()?;
-    put_each(writer, entries)?;
-    writer.end_array()
 }

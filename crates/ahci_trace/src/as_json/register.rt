@@ -4,10 +4,11 @@ ghost use Rattle.ahci_trace.specs.Json.{before_member, bit_value, change_object,
 ghost use Rattle.ahci_trace.specs.Names.{bits_of, named};
 
 use super::hex::put_word;
+use super::item::Item;
 use super::member::put_text;
 use crate::change::Change;
 use crate::named_bit::NamedBit;
-use crate::names::{bits_of, name_of};
+use crate::names::bits_of;
 use json::Writer;
 use std::alloc::{AllocError, Allocator};
 use word_bits::is_set;
@@ -76,40 +77,19 @@ fn put_words<A: Allocator>(writer: &mut Writer<A>, change: Change) -> Result<(),
     put_word(writer, "word", change.word)
 }
 
-/// Adds a register's words, and the names of its bits.
-#[tactic(auto, unfolding(crate::specs::Json::change_object))]
-fn put_change<A: Allocator>(writer: &mut Writer<A>, change: Change) -> Result<(), AllocError>
-    ensures tokens { OnOk result (writer.new.tokens ≡ writer.old.tokens ++ change_object change) }
-    ensures before { OnOk result (writer.new.before ≡ writer.old.before) }
-{
-    writer.begin_object()?;
-    put_text(writer, "name", name_of(change.register))?;
-    put_words(writer, change)?;
-    put_bits(writer, change)?;
-    writer.end_object()
-}
+impl Item for Change {
+    ghost value = { change_object };
 
-/// Adds registers, one after the other.
-fn put_each<A: Allocator>(writer: &mut Writer<A>, changes: &[Change]) -> Result<(), AllocError>
-    ensures tokens { OnOk result (writer.new.tokens ≡ writer.old.tokens ++ flat_map change_object changes.now) }
-    ensures before { OnOk result (writer.new.before ≡ writer.old.before) }
-{
-    for change in changes {
-        put_change(writer, *change)?;
+    #[tactic(auto, unfolding(crate::specs::Json::change_object))]
+    fn put<A: Allocator + Copy>(
+        &self,
+        writer: &mut Writer<A>,
+        _alloc: A,
+    ) -> Result<(), AllocError> {
+        writer.begin_object()?;
+        put_text(writer, "name", self.register.name())?;
+        put_words(writer, *self)?;
+        put_bits(writer, *self)?;
+        writer.end_object()
     }
-    Ok(())
-}
-
-/// Adds a member with the registers that changed.
-pub(crate) fn put_registers<A: Allocator>(
-    writer: &mut Writer<A>,
-    changes: &[Change],
-) -> Result<(), AllocError>
-    ensures tokens { OnOk result (writer.new.tokens ≡ writer.old.tokens ++ list_member (codes "registers") (flat_map change_object changes.now)) }
-    ensures before { OnOk result (writer.new.before ≡ writer.old.before) }
-{
-    writer.key("registers")?;
-    writer.begin_array()?;
-    put_each(writer, changes)?;
-    writer.end_array()
 }

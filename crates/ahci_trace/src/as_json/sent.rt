@@ -1,41 +1,22 @@
-ghost use Rattle.std.specs.Prelude.{◌≡◌, ◌++◌, codes, flat_map, OnOk, Some};
+ghost use Rattle.std.specs.Prelude.{◌≡◌, ◌++◌, OnOk, Some};
 ghost use Rattle.std.specs.Option.{option_map};
-ghost use Rattle.ahci_trace.specs.Json.{list_member, prdt_value, sent_value};
+ghost use Rattle.ahci_trace.specs.Json.{prdt_value, sent_value};
 ghost use Rattle.ahci_trace.specs.Sent.{shown};
 
 use super::hex::{put_bytes, put_hex};
+use super::item::Item;
+use super::list::put_list;
 use crate::sent::SentCommand;
 use json::Writer;
 use std::alloc::{AllocError, Allocator};
 
-/// Adds the entries of a PRDT, one after the other.
-fn put_each<A: Allocator + Copy>(
-    writer: &mut Writer<A>,
-    alloc: A,
-    entries: &[[u8; 16]],
-) -> Result<(), AllocError>
-    ensures tokens { OnOk result (writer.new.tokens ≡ writer.old.tokens ++ flat_map prdt_value entries.now) }
-    ensures before { OnOk result (writer.new.before ≡ writer.old.before) }
-{
-    for entry in entries {
-        put_bytes(writer, alloc, entry)?;
-    }
-    Ok(())
-}
+/// An entry of a PRDT.
+impl Item for [u8; 16] {
+    ghost value = { prdt_value };
 
-/// Adds a member with the entries of a PRDT.
-fn put_prdt<A: Allocator + Copy>(
-    writer: &mut Writer<A>,
-    alloc: A,
-    entries: &[[u8; 16]],
-) -> Result<(), AllocError>
-    ensures tokens { OnOk result (writer.new.tokens ≡ writer.old.tokens ++ list_member (codes "prdt") (flat_map prdt_value entries.now)) }
-    ensures before { OnOk result (writer.new.before ≡ writer.old.before) }
-{
-    writer.key("prdt")?;
-    writer.begin_array()?;
-    put_each(writer, alloc, entries)?;
-    writer.end_array()
+    fn put<A: Allocator + Copy>(&self, writer: &mut Writer<A>, alloc: A) -> Result<(), AllocError> {
+        put_bytes(writer, alloc, self)
+    }
 }
 
 /// Adds a command that was sent.
@@ -51,7 +32,7 @@ fn put_command<A: Allocator + Copy, B: Allocator>(
     writer.begin_object()?;
     put_hex(writer, alloc, "header", &command.header)?;
     put_hex(writer, alloc, "cfis", &command.cfis)?;
-    put_prdt(writer, alloc, &command.entries)?;
+    put_list(writer, alloc, "prdt", &command.entries)?;
     writer.end_object()
 }
 

@@ -1,9 +1,9 @@
-ghost use Rattle.std.specs.Prelude.{◌≡◌, ◌++◌, codes, flat_map, OnOk};
-ghost use Rattle.ahci_trace.specs.Json.{list_member, write_members, write_object};
+ghost use Rattle.std.specs.Prelude.{◌≡◌, ◌++◌, OnOk};
+ghost use Rattle.ahci_trace.specs.Json.{write_members, write_object};
 
 use super::hex::put_word;
+use super::item::Item;
 use super::member::put_text;
-use crate::names::name_of;
 use crate::register_write::RegisterWrite;
 use json::Writer;
 use std::alloc::{AllocError, Allocator};
@@ -14,45 +14,21 @@ fn put_members<A: Allocator>(writer: &mut Writer<A>, write: RegisterWrite) -> Re
     ensures tokens { OnOk result (writer.new.tokens ≡ writer.old.tokens ++ write_members write) }
     ensures before { OnOk result (writer.new.before ≡ writer.old.before) }
 {
-    put_text(writer, "name", name_of(write.register))?;
+    put_text(writer, "name", write.register.name())?;
     put_word(writer, "word", write.word)
 }
 
-/// Adds a register that was written.
-#[tactic(auto, unfolding(crate::specs::Json::write_object))]
-fn put_write<A: Allocator>(writer: &mut Writer<A>, write: RegisterWrite) -> Result<(), AllocError>
-    ensures tokens { OnOk result (writer.new.tokens ≡ writer.old.tokens ++ write_object write) }
-    ensures before { OnOk result (writer.new.before ≡ writer.old.before) }
-{
-    writer.begin_object()?;
-    put_members(writer, write)?;
-    writer.end_object()
-}
+impl Item for RegisterWrite {
+    ghost value = { write_object };
 
-/// Adds registers that were written, one after the other.
-fn put_each<A: Allocator>(
-    writer: &mut Writer<A>,
-    writes: &[RegisterWrite],
-) -> Result<(), AllocError>
-    ensures tokens { OnOk result (writer.new.tokens ≡ writer.old.tokens ++ flat_map write_object writes.now) }
-    ensures before { OnOk result (writer.new.before ≡ writer.old.before) }
-{
-    for write in writes {
-        put_write(writer, *write)?;
+    #[tactic(auto, unfolding(crate::specs::Json::write_object))]
+    fn put<A: Allocator + Copy>(
+        &self,
+        writer: &mut Writer<A>,
+        _alloc: A,
+    ) -> Result<(), AllocError> {
+        writer.begin_object()?;
+        put_members(writer, *self)?;
+        writer.end_object()
     }
-    Ok(())
-}
-
-/// Adds a member with the registers that were written.
-pub(crate) fn put_writes<A: Allocator>(
-    writer: &mut Writer<A>,
-    writes: &[RegisterWrite],
-) -> Result<(), AllocError>
-    ensures tokens { OnOk result (writer.new.tokens ≡ writer.old.tokens ++ list_member (codes "writes") (flat_map write_object writes.now)) }
-    ensures before { OnOk result (writer.new.before ≡ writer.old.before) }
-{
-    writer.key("writes")?;
-    writer.begin_array()?;
-    put_each(writer, writes)?;
-    writer.end_array()
 }

@@ -12,8 +12,8 @@ use ncq_core::{Bytes, Op};
 use refusing_allocator::Refusing;
 use std::process::Abort;
 use std::test::Fail;
-use test_helpers::TableStep;
 use test_helpers::TableStep::{Accept, Serve};
+use test_helpers::{FAIL_1_AT_7, FAIL_1_AT_8, TableStep};
 
 /// A call of a port.
 #[derive(Clone, Copy, Debug)]
@@ -121,19 +121,6 @@ static STRANGERS: [Row; 18] = [
         ))),
     ),
 ];
-
-/// Tag 1 fails with error 40h at a sector.
-const FAIL_1_AT_8: TableStep = TableStep::Fail {
-    tag: 1,
-    error: 0x40,
-    at: 8,
-};
-
-const FAIL_1_AT_7: TableStep = TableStep::Fail {
-    tag: 1,
-    error: 0x40,
-    at: 7,
-};
 
 static ERROR_IN_A_QUEUE: [Row; 33] = [
     (Issue(0, 0, None), Number(0)),
