@@ -20,4 +20,5 @@ module _ {F A B : Type 0} (g : Mut F (A × Unit {0}) B) (h : A → B) (f : F) (s
   pub mapped : (n : ℕ) → length xs ≡ n → IsMapOf g f xs ys n → ys ≡ map h xs
   mapped n size made = same_lists ys (map h xs) (made.long ∙ sym size ∙ sym (length-map xs h)) (λ k e low.
       let small : k < n = omega (arith, low, made.long) in
-      at_each e n 0 k small made.each ∙ sym (get_or-map h xs k d e (omega (arith, small, size))))
+      let all : 0 + k ≡ k = omega arith in
+      ap (λ m. get_or ys m e) (sym all) ∙ at_each e n 0 k small made.each ∙ ap (λ m. h (get_or xs m d)) all ∙ sym (get_or-map h xs k d e (omega (arith, small, size))))

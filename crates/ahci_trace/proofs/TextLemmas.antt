@@ -27,8 +27,8 @@ five_parts old one two three four new a b c d e first second third fourth fifth 
     three_parts old one four new a (b ++ (c ++ d)) e e first (three_parts one two three four b c d d second third fourth refl) fifth refl
 
 -- a part by another name
-pub part_is : {X : Type 0} {new old a b : List X} → new ≡ old ++ a → a ≡ b → new ≡ old ++ b
-part_is {X} {new} {old} grown same = grown ∙ ap (λ t. old ++ t) same
+pub part_is : {X : Type 0} {new a b : List X} (old : List X) → new ≡ old ++ a → a ≡ b → new ≡ old ++ b
+part_is old grown same = grown ∙ ap (λ t. old ++ t) same
 
 -- five parts, one after the other
 pub five_in_turn : {X : Type 0} (old one two three four new a b c d e : List X) → one ≡ old ++ a → two ≡ one ++ b → three ≡ two ++ c → four ≡ three ++ d → new ≡ four ++ e

@@ -8,9 +8,9 @@ use Rattle.ahci_trace.proofs.as_json.put_told.Goals as goal
 pub returns-clause-tokens : goal.returns-clause-tokens
 unfolding told_members
 returns-clause-tokens g c =
-    let entries = part_is c.in_ok-put_list.ensures.tokens (ap (λ es. list_member (codes "entries") (flat_map entry_object es)) c.deref.ensures.value) in
-    let writes = part_is c.in_ok-put_list-2.ensures.tokens (ap (λ ws. list_member (codes "writes") (flat_map write_object ws)) c.deref-2.ensures.value) in
-    let changes = part_is c.in_ok-put_list-3.ensures.tokens (ap (λ cs. list_member (codes "registers") (flat_map change_object cs)) c.deref-3.ensures.value) in
+    let entries = part_is _ c.in_ok-put_list.ensures.tokens (ap (λ es. list_member (codes "entries") (flat_map entry_object es)) c.deref.ensures.value) in
+    let writes = part_is _ c.in_ok-put_list-2.ensures.tokens (ap (λ ws. list_member (codes "writes") (flat_map write_object ws)) c.deref-2.ensures.value) in
+    let changes = part_is _ c.in_ok-put_list-3.ensures.tokens (ap (λ cs. list_member (codes "registers") (flat_map change_object cs)) c.deref-3.ensures.value) in
     on_ok_from c.put_list-4.result _ _ c.put_list-4.ensures.tokens
     (λ last. five_in_turn c.args.writer.now.tokens _ _ _ _ _ _ _ _ _ _ entries writes c.in_ok-put_passed.ensures.tokens changes
-    (part_is last (ap (λ ss. list_member (codes "slots") (flat_map slot_object ss)) c.deref-4.ensures.value)))
+    (part_is _ last (ap (λ ss. list_member (codes "slots") (flat_map slot_object ss)) c.deref-4.ensures.value)))

@@ -8,6 +8,6 @@ use Rattle.ahci_trace.proofs.as_json.sent.put_command.Goals as goal
 pub returns-clause-tokens : goal.returns-clause-tokens
 unfolding sent_value
 returns-clause-tokens g c =
-    let entries = part_is c.in_ok-put_list.ensures.tokens (ap (λ es. list_member (codes "prdt") (flat_map prdt_value es)) c.deref.ensures.value) in
+    let entries = part_is _ c.in_ok-put_list.ensures.tokens (ap (λ es. list_member (codes "prdt") (flat_map prdt_value es)) c.deref.ensures.value) in
     on_ok_from c.end_object.result _ _ c.end_object.ensures.ok
     (λ last. five_parts c.args.writer.now.tokens _ _ _ _ _ _ _ _ _ _ c.in_ok-begin_object.ensures.ok c.in_ok-put_hex.ensures.tokens c.in_ok-put_hex-2.ensures.tokens entries last)
