@@ -13,7 +13,7 @@ use Rattle.ahci_check.specs.Complaints.{complaint_in, ends_replay, first_wrong, 
 use Rattle.ahci_check.specs.Judges.{judge_after}
 use Rattle.ahci_check.specs.Sheets.{Sheet, judged_from, with_next}
 use Rattle.ahci_check.specs.declared.judge.Judge.TheVariants.{OfScript}
-use Rattle.ahci_script.specs.Unread.{whole}
+use Rattle.streams.specs.Unread.{whole}
 use Rattle.ahci_check.specs.declared.place.Place.TheVariants.{BeforeDisk, BehindDisk}
 use Rattle.ahci_port.specs.PortView.{PortView, port_from, sectors_in}
 use Rattle.ahci_port.specs.Steps.{Appends, IsStepped, IsTaken, TakenBy, passes_end}

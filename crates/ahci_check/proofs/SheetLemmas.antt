@@ -5,11 +5,11 @@ use Rattle.std.specs.Io.KnownBytes.{Appends}
 use Rattle.streams.specs.Ends.{ReadSoFar, WrittenSoFar, with_failed_write, with_flush}
 use Rattle.ahci_replay.proofs.TranscriptLemmas.{sent_all, sent_part, with_flush_same}
 use Rattle.ahci_replay.specs.Transcript.{Sends, WritesPart}
-use Rattle.ahci_script.specs.Reading as reading
-use Rattle.ahci_script.specs.Reading.{Comes, MayEnd, ReadsAll, ReadsAs, Step, StopsReading, Taken, TakenFirst, last_by, last_of}
-use Rattle.ahci_script.specs.Unread.{Begins, MayFail, found_of, unfinished, whole, with_feeds}
-use Rattle.ahci_script.specs.declared.stopped.Stopped.{Stopped}
-use Rattle.ahci_script.specs.declared.stopped.Stopped.TheVariants as stopped
+use Rattle.streams.specs.Reading as reading
+use Rattle.streams.specs.Reading.{Comes, MayEnd, ReadsAll, ReadsAs, Step, StopsReading, Taken, TakenFirst, last_by, last_of}
+use Rattle.streams.specs.Unread.{Begins, MayFail, found_of, unfinished, whole, with_feeds}
+use Rattle.streams.specs.declared.stopped.Stopped.{Stopped}
+use Rattle.streams.specs.declared.stopped.Stopped.TheVariants as stopped
 use Rattle.ahci_check.specs.Faults.{ReadsTo, WritesTo, fault_of, is_of_output}
 use Rattle.ahci_check.specs.Sheets.{AreLines, Desk, EndsCheck, FailsJudging, FailsTelling, IsChecked, Judged, Judges, Sheet, Stand, Tells, blank, judged_from, next_judge, no_line, one_more, said_of, sheet_of, stand, told, with_found, with_next, with_put}
 use Rattle.ahci_check.specs.declared.check_fault.CheckFault.{CheckFault}

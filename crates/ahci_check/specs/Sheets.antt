@@ -3,8 +3,8 @@ use Rattle.std.specs.Prelude.{◌≡◌, ℕ, ◌+◌, Bool, false, ◌||◌, Li
 use Rattle.std.specs.Io.KnownBytes.{Appends, Consumes}
 use Rattle.streams.specs.Ends.{WrittenSoFar, with_failed_write}
 use Rattle.ahci_replay.specs.Transcript.{Sends, WritesPart}
-use Rattle.ahci_script.specs.Reading.{Comes, MayEnd, last_of}
-use Rattle.ahci_script.specs.Unread.{Begins, MayFail, found_of, line_limit, too_long, unfinished, whole, with_feeds}
+use Rattle.streams.specs.Reading.{Comes, MayEnd, last_of}
+use Rattle.streams.specs.Unread.{Begins, MayFail, found_of, line_limit, too_long, unfinished, whole, with_feeds}
 use Rattle.ahci_script.specs.declared.fault.Fault.TheVariants.{LongLine}
 use Rattle.ahci_check.specs.Json.{complaint_json}
 use Rattle.ahci_check.specs.Judges.{complaint_by, judge_after}

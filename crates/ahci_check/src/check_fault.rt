@@ -2,9 +2,8 @@ ghost use Rattle.std.specs.Prelude.{◌≡◌};
 ghost use Rattle.ahci_check.specs.declared.check_fault.CheckFault.TheVariants as the-fault;
 ghost use Rattle.ahci_check.specs.Faults.{fault_of};
 
-use ahci_script::Stopped;
 use std::alloc::AllocError;
-use streams::OutputFailed;
+use streams::{OutputFailed, Stopped};
 
 /// Why a script was not judged to its end.
 #[derive(Clone, Copy, Debug, PartialEq, Eq)]

@@ -8,10 +8,9 @@ use crate::form::Form;
 use crate::judge::Judge;
 use crate::place::Place;
 use crate::sheet::Sheet;
-use ahci_script::take_lines;
 use std::alloc::Allocator;
 use std::io::{Read, Write};
-use streams::Reads;
+use streams::{Reads, take_lines};
 
 /// Judges each line of the script that the reader gives, runs nothing, and writes a line for each complaint in this form, in the
 /// order of the lines. `true` where there was any. A line of more than 4,096 bytes is the last that is judged. What was told is

@@ -7,11 +7,11 @@ use crate::complaint::Complaint;
 use crate::form::Form;
 use crate::judge::Judge;
 use crate::rule::Rule;
-use ahci_script::{Fault, Found, LINE_LIMIT, Output, TakesLines};
+use ahci_script::{Fault, Output};
 use std::alloc::{AllocError, Allocator};
 use std::io::Write;
 use std::marker::Model;
-use streams::{OutputFailed, Writes};
+use streams::{Found, LINE_LIMIT, OutputFailed, TakesLines, Writes};
 
 /// The complaints about the lines so far: those that wait for the output, how the writes went, and how the next line is judged.
 #[derive(Drop)]
@@ -37,7 +37,7 @@ impl<A: Allocator + Clone> Sheet<A> {
     ghost use Rattle.std.specs.Io.KnownBytes.{Appends};
     ghost use Rattle.streams.specs.Ends.{with_failed_write, with_flush};
     ghost use Rattle.ahci_replay.specs.Transcript.{WritesPart};
-    ghost use Rattle.ahci_script.specs.Unread.{too_long, whole};
+    ghost use Rattle.streams.specs.Unread.{too_long, whole};
     ghost use Rattle.ahci_check.specs.Judges.{complaint_by, judge_after};
     ghost use Rattle.ahci_check.specs.Sheets.{FailsJudging, FailsTelling, Judges, Tells, stand, told, with_put};
 

@@ -3,11 +3,11 @@ use Rattle.std.proofs.Common.{◌≡◌, ℕ, ◌+◌, List, [], ◌++◌, Optio
 use Rattle.std.proofs.KnownBytes.{Consumes-nil}
 use Rattle.std.specs.Io.KnownBytes.{Consumes, IsAtEnd}
 use Rattle.ahci_script.specs.Jobs.{job_line_of}
-use Rattle.ahci_script.specs.Reading as reading
-use Rattle.ahci_script.specs.Reading.{Comes, MayEnd, ReadsAll, ReadsAs, Step, StopsReading, Taken, TakenFirst, last_by, last_of}
-use Rattle.ahci_script.specs.Unread.{Begins, found_of, too_long, unfinished, whole, with_feeds}
-use Rattle.ahci_script.specs.declared.stopped.Stopped.{Stopped}
-use Rattle.ahci_script.specs.declared.stopped.Stopped.TheVariants as stopped
+use Rattle.streams.specs.Reading as reading
+use Rattle.streams.specs.Reading.{Comes, MayEnd, ReadsAll, ReadsAs, Step, StopsReading, Taken, TakenFirst, last_by, last_of}
+use Rattle.streams.specs.Unread.{Begins, found_of, too_long, unfinished, whole, with_feeds}
+use Rattle.streams.specs.declared.stopped.Stopped.{Stopped}
+use Rattle.streams.specs.declared.stopped.Stopped.TheVariants as stopped
 use Rattle.ncq_journal.specs.Work.{Work}
 use Rattle.streams.specs.Ends.{ReadSoFar}
 use Rattle.ahci_jobs.specs.Faults.{ListReads, list_fault_of}

@@ -16,7 +16,7 @@ use Rattle.ahci_script.specs.declared.job.JobLine.{JobLine}
 use Rattle.ahci_script.specs.declared.job.JobLine.TheVariants.{Skip, Do}
 use Rattle.ncq_journal.specs.Lawful.{IsProper}
 use Rattle.ncq_journal.specs.Work.{Work}
-use Rattle.ahci_script.proofs.FoundLemmas.{Bytes}
+use Rattle.streams.proofs.FoundLemmas.{Bytes}
 use Rattle.ahci_jobs.proofs.ListLemmas.{Known}
 use Rattle.streams.specs.Ends.{ReadSoFar, WrittenSoFar}
 use Rattle.ahci_jobs.specs.Faults.{ListReads, RunReads, RunWrites, jobs_fault_of}

@@ -1,9 +1,9 @@
 -- Why a job list is not read, or not done, to its end.
 use Rattle.std.specs.Prelude.{◌≡◌}
 use Rattle.streams.specs.Ends.{ReadSoFar, WrittenSoFar, with_failed_write}
-use Rattle.ahci_script.specs.Unread.{FailsReading}
-use Rattle.ahci_script.specs.declared.stopped.Stopped.{Stopped}
-use Rattle.ahci_script.specs.declared.stopped.Stopped.TheVariants as stopped
+use Rattle.streams.specs.Unread.{FailsReading}
+use Rattle.streams.specs.declared.stopped.Stopped.{Stopped}
+use Rattle.streams.specs.declared.stopped.Stopped.TheVariants as stopped
 use Rattle.ahci_jobs.specs.declared.jobs_fault.JobsFault.{JobsFault}
 use Rattle.ahci_jobs.specs.declared.jobs_fault.JobsFault.TheVariants as jobs
 use Rattle.ahci_jobs.specs.declared.list_fault.ListFault.{ListFault}

@@ -2,8 +2,8 @@
 use Rattle.std.specs.Prelude.{◌≡◌, ℕ, ◌+◌, ◌*◌, List, [], ◌∷◌, ◌++◌, Option, Some, None, length, replicate, ◌⊎◌}
 use Rattle.std.specs.Io.KnownBytes.{Consumes, IsAtEnd}
 use Rattle.ahci_script.specs.Jobs.{job_line_of}
-use Rattle.ahci_script.specs.Reading.{IsNext}
-use Rattle.ahci_script.specs.Unread.{Begins, MayFail, found_of, too_long, unfinished, whole, with_feeds}
+use Rattle.streams.specs.Reading.{IsNext}
+use Rattle.streams.specs.Unread.{Begins, MayFail, found_of, too_long, unfinished, whole, with_feeds}
 use Rattle.ahci_script.specs.declared.job.Job.{Job}
 use Rattle.ahci_script.specs.declared.job.Job.TheVariants as job
 use Rattle.ahci_script.specs.declared.job.JobLine.{JobLine}

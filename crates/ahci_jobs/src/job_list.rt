@@ -5,11 +5,10 @@ ghost use Rattle.ahci_jobs.specs.JobList.{IsListFault, IsListed};
 
 use crate::list_fault::ListFault;
 use crate::making::add_line;
-use ahci_script::{Found, TakesLines, take_lines};
 use ncq_core::Op;
 use std::alloc::{AllocError, Allocator};
 use std::io::Read;
-use streams::Reads;
+use streams::{Found, Reads, TakesLines, take_lines};
 
 /// The commands of the jobs of a list, as far as it was read.
 #[derive(Drop)]

@@ -2,8 +2,8 @@ ghost use Rattle.std.specs.Prelude.{◌≡◌};
 ghost use Rattle.ahci_jobs.specs.Faults.{list_fault_of};
 ghost use Rattle.ahci_jobs.specs.declared.list_fault.ListFault.TheVariants as the-fault;
 
-use ahci_script::Stopped;
 use std::alloc::AllocError;
+use streams::Stopped;
 
 /// Why a job list is not read to its end.
 #[derive(Clone, Copy, Debug, PartialEq, Eq)]

@@ -3,11 +3,11 @@ use Rattle.std.proofs.Common.{◌≡◌, ℕ, ◌+◌, true, false, List, [], �
 use Rattle.std.proofs.KnownBytes.{Appends-nil, Appends-trans, Consumes-nil}
 use Rattle.std.proofs.Math.Seq.{take-append-add}
 use Rattle.std.specs.Io.KnownBytes.{Appends, Consumes, IsAtEnd}
-use Rattle.ahci_script.specs.Reading as reading
-use Rattle.ahci_script.specs.Reading.{Comes, IsNext, MayEnd, ReadsAll, Step, ReadsAs, StopsReading, Taken, TakenFirst, last_by, last_of}
-use Rattle.ahci_script.specs.Unread.{Begins, MayFail, found_of, too_long, unfinished, whole, with_feeds}
-use Rattle.ahci_script.specs.declared.stopped.Stopped.{Stopped}
-use Rattle.ahci_script.specs.declared.stopped.Stopped.TheVariants as stopped
+use Rattle.streams.specs.Reading as reading
+use Rattle.streams.specs.Reading.{Comes, IsNext, MayEnd, ReadsAll, Step, ReadsAs, StopsReading, Taken, TakenFirst, last_by, last_of}
+use Rattle.streams.specs.Unread.{Begins, MayFail, found_of, too_long, unfinished, whole, with_feeds}
+use Rattle.streams.specs.declared.stopped.Stopped.{Stopped}
+use Rattle.streams.specs.declared.stopped.Stopped.TheVariants as stopped
 use Rattle.ahci_port.specs.PortView.{PortView}
 use Rattle.streams.specs.Ends.{ReadSoFar, WrittenSoFar, with_flush}
 use Rattle.ahci_replay.specs.Fault.{fault_of, is_of_output}

@@ -8,9 +8,9 @@ use Rattle.ahci_replay.specs.declared.script_fault.ScriptFault.TheVariants as fa
 use Rattle.ahci_script.specs.Answers.{answer_text}
 use Rattle.ahci_script.specs.Lines.{line_of}
 use Rattle.ahci_script.specs.Said.{Said}
-use Rattle.ahci_script.specs.Reading.{IsNext}
+use Rattle.streams.specs.Reading.{IsNext}
 use Rattle.streams.specs.Ends.{ReadSoFar, WrittenSoFar, with_flush}
-use Rattle.ahci_script.specs.Unread.{Begins, FailsReading, MayFail, found_of, too_long, unfinished, whole, with_feeds}
+use Rattle.streams.specs.Unread.{Begins, FailsReading, MayFail, found_of, too_long, unfinished, whole, with_feeds}
 use Rattle.ahci_script.specs.declared.line.ScriptCommand.{ScriptCommand}
 use Rattle.ahci_script.specs.declared.line.Line.{Line}
 use Rattle.ahci_script.specs.declared.line.Line.TheVariants as line

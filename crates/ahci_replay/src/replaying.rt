@@ -5,10 +5,9 @@ ghost use Rattle.ahci_replay.specs.Transcript.{ReadsTo, Replayed, ReplayedTo, Wr
 use crate::script::Script;
 use crate::script_fault::ScriptFault;
 use crate::teller::{AnswersAlone, Teller};
-use ahci_script::take_lines;
 use std::alloc::Allocator;
 use std::io::{Read, Write};
-use streams::Reads;
+use streams::{Reads, take_lines};
 
 /// Runs the script that the reader gives, and writes an answer for each command. The first fault
 /// in the order of the input ends it, after the answers to the lines before.

@@ -2,10 +2,10 @@ use crate::lines::answer_line;
 use crate::script_fault::ScriptFault;
 use crate::session::Session;
 use crate::teller::Teller;
-use ahci_script::{Found, Output, TakesLines};
+use ahci_script::Output;
 use std::alloc::Allocator;
 use std::io::Write;
-use streams::Writes;
+use streams::{Found, TakesLines, Writes};
 
 /// A script that runs: what is answered and not yet written, how the writes went, the port, and who tells the answers.
 #[derive(Drop)]

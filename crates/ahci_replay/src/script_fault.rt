@@ -2,9 +2,8 @@ ghost use Rattle.std.specs.Prelude.{◌≡◌};
 ghost use Rattle.ahci_replay.specs.Fault.{fault_of};
 ghost use Rattle.ahci_replay.specs.declared.script_fault.ScriptFault.TheVariants as the-fault;
 
-use ahci_script::Stopped;
 use std::alloc::AllocError;
-use streams::OutputFailed;
+use streams::{OutputFailed, Stopped};
 
 /// Why a script ends before its last line.
 #[derive(Clone, Copy, Debug, PartialEq, Eq)]

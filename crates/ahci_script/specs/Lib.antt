@@ -8,7 +8,4 @@ pub mod Words
 pub mod Lines
 pub mod Said
 pub mod Answers
-pub mod Unread
 pub mod Printing
-pub mod Reading
-pub mod Standing

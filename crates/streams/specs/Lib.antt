@@ -1,1 +1,4 @@
 pub mod Ends
+pub mod Unread
+pub mod Reading
+pub mod Standing

@@ -1,12 +1,20 @@
-//! The ends of a program: bytes from a reader and to a writer, and how the reads and writes went.
+//! The ends of a program: bytes from a reader, and the lines in them, bytes to a writer, and how the reads and writes went.
 #![tactic(auto)]
 
+mod input;
 mod input_failed;
 mod output_failed;
+mod reading;
 mod reads;
+mod stopped;
+mod takes_lines;
 mod writes;
 
+pub use input::{Found, INPUT_LIMIT, Input, LINE_LIMIT};
 pub use input_failed::InputFailed;
 pub use output_failed::OutputFailed;
+pub use reading::take_lines;
 pub use reads::Reads;
+pub use stopped::Stopped;
+pub use takes_lines::TakesLines;
 pub use writes::Writes;

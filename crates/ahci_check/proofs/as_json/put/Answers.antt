@@ -1,6 +1,6 @@
 use Rattle.std.proofs.Common.{ap, refl}
 use Rattle.json.specs.Token.{string}
-use Rattle.ahci_script.proofs.FoundLemmas.{on_ok_from}
+use Rattle.streams.proofs.FoundLemmas.{on_ok_from}
 use Rattle.ahci_check.specs.Json.{complaint_object}
 use Rattle.ahci_check.proofs.JsonLemmas.{grown}
 use Rattle.ahci_check.proofs.as_json.put.Goals as goal

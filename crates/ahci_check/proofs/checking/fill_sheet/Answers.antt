@@ -1,5 +1,5 @@
 use Rattle.std.proofs.Common.{ap, subst, sym, ◌∙◌}
-use Rattle.ahci_script.proofs.FoundLemmas.{if_err_from}
+use Rattle.streams.proofs.FoundLemmas.{if_err_from}
 use Rattle.ahci_check.specs.Faults.{WritesTo, is_of_output}
 use Rattle.ahci_check.specs.Sheets.{EndsCheck, IsChecked, stand}
 use Rattle.ahci_check.specs.declared.check_fault.CheckFault.TheVariants.{Write}

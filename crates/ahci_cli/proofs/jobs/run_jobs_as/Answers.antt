@@ -1,5 +1,5 @@
 use Rattle.std.proofs.Common.{refl}
-use Rattle.ahci_script.proofs.FoundLemmas.{if_err_from}
+use Rattle.streams.proofs.FoundLemmas.{if_err_from}
 use Rattle.ahci_cli.specs.Faults.{IsFaultOf, of_jobs}
 use Rattle.ahci_cli.proofs.jobs.run_jobs_as.Goals as goal
 

@@ -1,5 +1,5 @@
 use Rattle.std.proofs.Common.{refl}
-use Rattle.ahci_script.proofs.FoundLemmas.{if_err_from}
+use Rattle.streams.proofs.FoundLemmas.{if_err_from}
 use Rattle.ahci_cli.specs.Faults.{IsFaultOf, of_check}
 use Rattle.ahci_cli.proofs.scripts.check_jobs.Goals as goal
 

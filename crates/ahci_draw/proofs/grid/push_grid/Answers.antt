@@ -1,6 +1,6 @@
 use Rattle.std.proofs.Common.{refl}
 use Rattle.ahci_draw.specs.Grid.{grid_text}
-use Rattle.ahci_script.proofs.FoundLemmas.{on_ok_from}
+use Rattle.streams.proofs.FoundLemmas.{on_ok_from}
 use Rattle.ahci_draw.proofs.PieceLemmas.{four}
 use Rattle.ahci_draw.proofs.grid.push_grid.Goals as goal
 

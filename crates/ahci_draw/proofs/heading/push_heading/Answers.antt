@@ -1,7 +1,7 @@
 use Rattle.std.proofs.Common.{◌∙◌, ap, refl}
 use Rattle.ahci_draw.specs.Heading.{frame_text, heading_text, width_of}
 use Rattle.ahci_draw.specs.Row.{row_top}
-use Rattle.ahci_script.proofs.FoundLemmas.{on_ok_from}
+use Rattle.streams.proofs.FoundLemmas.{on_ok_from}
 use Rattle.ahci_draw.proofs.PieceLemmas.{three}
 use Rattle.ahci_draw.proofs.heading.push_heading.Goals as goal
 

@@ -1,5 +1,5 @@
 use Rattle.std.proofs.Common.{◌∙◌, ap, refl}
-use Rattle.ahci_script.proofs.FoundLemmas.{on_ok_from}
+use Rattle.streams.proofs.FoundLemmas.{on_ok_from}
 use Rattle.ahci_draw.specs.Lanes.{device_text}
 use Rattle.ahci_draw.specs.Strip.{runs_text}
 use Rattle.ahci_draw.specs.declared.strip.Strip.TheVariants.{Device}

@@ -1,6 +1,6 @@
 use Rattle.std.proofs.Common.{refl}
 use Rattle.ahci_draw.specs.Lanes.{name_shape}
-use Rattle.ahci_script.proofs.FoundLemmas.{on_ok_from}
+use Rattle.streams.proofs.FoundLemmas.{on_ok_from}
 use Rattle.ahci_draw.proofs.PieceLemmas.{three}
 use Rattle.ahci_draw.proofs.lanes.push_name.Goals as goal
 

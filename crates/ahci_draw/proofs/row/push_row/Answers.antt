@@ -3,7 +3,7 @@ use Rattle.ahci_draw.specs.Grid.{grid_text}
 use Rattle.ahci_draw.specs.Row.{row_text}
 use Rattle.ahci_draw.specs.Text.{numbered}
 use Rattle.ahci_draw.proofs.LinesLemmas.{texts_count}
-use Rattle.ahci_script.proofs.FoundLemmas.{on_ok_from}
+use Rattle.streams.proofs.FoundLemmas.{on_ok_from}
 use Rattle.ahci_draw.proofs.PieceLemmas.{seven}
 use Rattle.ahci_draw.proofs.row.push_row.Goals as goal
 

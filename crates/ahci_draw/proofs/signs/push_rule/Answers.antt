@@ -1,6 +1,6 @@
 use Rattle.std.proofs.Common.{refl}
 use Rattle.ahci_draw.specs.Signs.{rule_shape}
-use Rattle.ahci_script.proofs.FoundLemmas.{on_ok_from}
+use Rattle.streams.proofs.FoundLemmas.{on_ok_from}
 use Rattle.ahci_draw.proofs.PieceLemmas.{five}
 use Rattle.ahci_draw.proofs.signs.push_rule.Goals as goal
 

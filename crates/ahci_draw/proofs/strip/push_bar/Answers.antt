@@ -1,6 +1,6 @@
 use Rattle.std.proofs.Common.{refl}
 use Rattle.ahci_draw.specs.Strip.{bar_shape}
-use Rattle.ahci_script.proofs.FoundLemmas.{on_ok_from}
+use Rattle.streams.proofs.FoundLemmas.{on_ok_from}
 use Rattle.ahci_draw.proofs.PieceLemmas.{six}
 use Rattle.ahci_draw.proofs.strip.push_bar.Goals as goal
 

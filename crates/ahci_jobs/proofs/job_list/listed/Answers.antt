@@ -1,5 +1,5 @@
 use Rattle.std.proofs.Common.{ap, map}
-use Rattle.ahci_script.proofs.FoundLemmas.{if_err_from}
+use Rattle.streams.proofs.FoundLemmas.{if_err_from}
 use Rattle.ncq_journal.specs.Work.{work_of}
 use Rattle.ahci_jobs.specs.Faults.{ListReads, list_fault_of}
 use Rattle.ahci_jobs.specs.JobList.{IsListFault}

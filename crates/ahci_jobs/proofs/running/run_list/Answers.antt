@@ -2,7 +2,7 @@ use Rattle.std.proofs.Common.{ℕ, List, [], OnErr, OnOk, map, refl, subst, sym}
 use Rattle.std.specs.Io.KnownBytes.{Appends}
 use Rattle.ncq_journal.specs.Work.{work_of}
 use Rattle.ahci_driver.specs.Received.{received_of}
-use Rattle.ahci_script.proofs.FoundLemmas.{if_err_from, on_ok_from}
+use Rattle.streams.proofs.FoundLemmas.{if_err_from, on_ok_from}
 use Rattle.ahci_jobs.specs.Faults.{RunReads, RunWrites, jobs_fault_of}
 use Rattle.ahci_jobs.specs.JobList.{IsListed}
 use Rattle.ahci_jobs.specs.Forms.{written_of}

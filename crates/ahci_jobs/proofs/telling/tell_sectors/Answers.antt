@@ -1,4 +1,4 @@
-use Rattle.ahci_script.proofs.FoundLemmas.{if_err_from}
+use Rattle.streams.proofs.FoundLemmas.{if_err_from}
 use Rattle.std.proofs.Common.{◌∙◌, arith, ◌+◌, subst}
 use Rattle.ncq_journal.specs.Sector.{sector}
 use Rattle.ahci_port.specs.PortView.{sectors_in}

@@ -1,4 +1,4 @@
-use Rattle.ahci_script.proofs.FoundLemmas.{if_err_from}
+use Rattle.streams.proofs.FoundLemmas.{if_err_from}
 use Rattle.std.proofs.Common.{[], map, ap}
 use Rattle.ahci_driver.specs.Received.{received_of}
 use Rattle.ahci_jobs.specs.declared.jobs_fault.JobsFault.TheVariants.{Write}

@@ -1,5 +1,5 @@
 use Rattle.std.proofs.Common.{ap, subst, sym, ◌∙◌}
-use Rattle.ahci_script.proofs.FoundLemmas.{if_err_from}
+use Rattle.streams.proofs.FoundLemmas.{if_err_from}
 use Rattle.ahci_replay.specs.Fault.{is_of_output}
 use Rattle.ahci_replay.specs.Place.{place}
 use Rattle.ahci_replay.specs.Transcript.{ReplayedTo}

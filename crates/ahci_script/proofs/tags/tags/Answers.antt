@@ -2,7 +2,7 @@ use Rattle.std.proofs.Common.{◌≡◌, Err, ◌-◌, ◌<◌, ◌≤◌, lengt
 use Rattle.std.proofs.lemmas.Bool.Decides.{nat_tests}
 use Rattle.std.proofs.lemmas.List.Elements.{All-push}
 use Rattle.ahci_script.specs.Lines.{more_tags, tags_of}
-use Rattle.ahci_script.proofs.FoundLemmas.{if_err_from}
+use Rattle.streams.proofs.FoundLemmas.{if_err_from}
 use Rattle.ahci_script.proofs.TagsLemmas.{tags-broken, tags-done, tags-full, tags-next, tags-so_far}
 use Rattle.ahci_script.proofs.tags.tags.Goals as goal
 

@@ -1,6 +1,6 @@
 use Rattle.std.proofs.Common.{codes, ap}
 use Rattle.std.specs.List.{flat_map}
-use Rattle.ahci_script.proofs.FoundLemmas.{on_ok_from}
+use Rattle.streams.proofs.FoundLemmas.{on_ok_from}
 use Rattle.ahci_trace.specs.Json.{list_member, passed_members, transfer_object}
 use Rattle.ahci_trace.proofs.TextLemmas.{five_in_turn, part_is}
 use Rattle.ahci_trace.proofs.as_json.put_passed.Goals as goal

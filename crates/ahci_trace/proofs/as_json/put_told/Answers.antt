@@ -1,6 +1,6 @@
 use Rattle.std.proofs.Common.{codes, ap}
 use Rattle.std.specs.List.{flat_map}
-use Rattle.ahci_script.proofs.FoundLemmas.{on_ok_from}
+use Rattle.streams.proofs.FoundLemmas.{on_ok_from}
 use Rattle.ahci_trace.specs.Json.{change_object, entry_object, list_member, slot_object, told_members, write_object}
 use Rattle.ahci_trace.proofs.TextLemmas.{five_in_turn, part_is}
 use Rattle.ahci_trace.proofs.as_json.put_told.Goals as goal

@@ -1,6 +1,6 @@
 use Rattle.std.proofs.Common.{ap}
 use Rattle.std.specs.List.{flat_map}
-use Rattle.ahci_script.proofs.FoundLemmas.{on_ok_from}
+use Rattle.streams.proofs.FoundLemmas.{on_ok_from}
 use Rattle.ahci_trace.specs.Text.{prdt_text}
 use Rattle.ahci_trace.proofs.TextLemmas.{three_parts}
 use Rattle.ahci_trace.proofs.shown.push_command.Goals as goal

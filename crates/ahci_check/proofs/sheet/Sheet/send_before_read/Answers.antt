@@ -1,4 +1,4 @@
-use Rattle.ahci_script.proofs.FoundLemmas.{if_err_from}
+use Rattle.streams.proofs.FoundLemmas.{if_err_from}
 use Rattle.ahci_check.specs.Sheets.{FailsTelling, stand}
 use Rattle.ahci_check.specs.declared.check_fault.CheckFault.TheVariants.{Write}
 use Rattle.std.proofs.Common.{None}

@@ -1,5 +1,5 @@
 use Rattle.std.proofs.Common.{ap, refl}
-use Rattle.ahci_script.proofs.FoundLemmas.{if_err_from}
+use Rattle.streams.proofs.FoundLemmas.{if_err_from}
 use Rattle.ahci_check.specs.Sheets.{Desk, FailsTelling, stand}
 use Rattle.ahci_check.specs.declared.check_fault.CheckFault.TheVariants.{OutOfMemory, Write}
 use Rattle.ahci_check.proofs.SheetLemmas.{put_failed, put_sent, waits}

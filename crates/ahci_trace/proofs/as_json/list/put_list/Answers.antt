@@ -1,4 +1,4 @@
-use Rattle.ahci_script.proofs.FoundLemmas.{on_ok_from}
+use Rattle.streams.proofs.FoundLemmas.{on_ok_from}
 use Rattle.ahci_trace.proofs.TextLemmas.{four_parts}
 use Rattle.ahci_trace.proofs.as_json.list.put_list.Goals as goal
 

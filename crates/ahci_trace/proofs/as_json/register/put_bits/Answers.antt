@@ -1,5 +1,5 @@
 use Rattle.std.proofs.Common.{◌++◌, ap, ◌∙◌}
-use Rattle.ahci_script.proofs.FoundLemmas.{on_ok_from}
+use Rattle.streams.proofs.FoundLemmas.{on_ok_from}
 use Rattle.word_bits.specs.Places.{bits}
 use Rattle.ahci_trace.specs.Json.{bit_value}
 use Rattle.ahci_trace.proofs.NameLemmas.{each_bit}

@@ -1,6 +1,6 @@
 use Rattle.std.proofs.Common.{codes, ap}
 use Rattle.std.specs.List.{flat_map}
-use Rattle.ahci_script.proofs.FoundLemmas.{on_ok_from}
+use Rattle.streams.proofs.FoundLemmas.{on_ok_from}
 use Rattle.ahci_trace.specs.Json.{list_member, prdt_value, sent_value}
 use Rattle.ahci_trace.proofs.TextLemmas.{five_parts, part_is}
 use Rattle.ahci_trace.proofs.as_json.sent.put_command.Goals as goal

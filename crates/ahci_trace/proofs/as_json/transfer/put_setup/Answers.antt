@@ -1,5 +1,5 @@
 use Rattle.std.proofs.Common.{◌++◌, ap, codes, ◌∙◌}
-use Rattle.ahci_script.proofs.FoundLemmas.{on_ok_from}
+use Rattle.streams.proofs.FoundLemmas.{on_ok_from}
 use Rattle.ahci_trace.specs.Json.{hex_text, text_member}
 use Rattle.ahci_trace.proofs.as_json.transfer.put_setup.Goals as goal
 

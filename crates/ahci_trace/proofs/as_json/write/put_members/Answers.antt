@@ -1,6 +1,6 @@
 use Rattle.std.proofs.Common.{◌++◌, codes, ap, ◌∙◌, append_assoc}
 use Rattle.ahci_regs.specs.RegisterTable.{name_of}
-use Rattle.ahci_script.proofs.FoundLemmas.{on_ok_from}
+use Rattle.streams.proofs.FoundLemmas.{on_ok_from}
 use Rattle.ahci_script.specs.Answers.{hex_of}
 use Rattle.ahci_trace.specs.Json.{text_member, write_members}
 use Rattle.ahci_trace.proofs.as_json.write.put_members.Goals as goal

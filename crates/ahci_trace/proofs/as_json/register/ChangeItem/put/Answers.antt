@@ -1,5 +1,5 @@
 use Rattle.std.proofs.Common.{◌++◌, codes, ap, ◌∙◌}
-use Rattle.ahci_script.proofs.FoundLemmas.{on_ok_from}
+use Rattle.streams.proofs.FoundLemmas.{on_ok_from}
 use Rattle.ahci_trace.specs.Json.{change_object, text_member}
 use Rattle.ahci_trace.proofs.TextLemmas.{five_parts}
 use Rattle.ahci_trace.proofs.as_json.register.ChangeItem.put.Goals as goal

@@ -1,7 +1,7 @@
--- What a script's reader holds: the bytes that came and were not yet taken as lines.
+-- What the reader of an input holds: the bytes that came and were not yet taken as lines.
 use Rattle.std.specs.Prelude.{◌≡◌, ℕ, ◌+◌, ◌<◌, List, [], ◌∷◌, ◌++◌, Option, Some, None, true, length, take, position, nat_le, ◌==◌, if◌then◌else◌, ◌⊎◌}
-use Rattle.ahci_script.specs.declared.input.Found.{Found}
-use Rattle.ahci_script.specs.declared.input.Found.TheVariants.{Line, TooLong, Unfinished}
+use Rattle.streams.specs.declared.input.Found.{Found}
+use Rattle.streams.specs.declared.input.Found.TheVariants.{Line, TooLong, Unfinished}
 use Rattle.std.specs.Io.KnownBytes.{Consumes, Keeps}
 use Rattle.streams.specs.Ends.{ReadSoFar}
 

@@ -1,7 +1,7 @@
-use Rattle.ahci_script.specs.Standing.{stand}
-use Rattle.ahci_script.specs.Unread.{whole}
-use Rattle.ahci_script.proofs.ReadingLemmas.{HasRead-line, HasRead-refl, halts_at}
-use Rattle.ahci_script.proofs.reading.Reading.turn.Goals as goal
+use Rattle.streams.specs.Standing.{stand}
+use Rattle.streams.specs.Unread.{whole}
+use Rattle.streams.proofs.ReadingLemmas.{HasRead-line, HasRead-refl, halts_at}
+use Rattle.streams.proofs.reading.Reading.turn.Goals as goal
 
 pub returns-in-TooLong-clause-ok : goal.returns-in-TooLong-clause-ok
 returns-in-TooLong-clause-ok g c = HasRead-refl _

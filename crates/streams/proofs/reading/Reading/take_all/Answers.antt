@@ -1,8 +1,8 @@
 use Rattle.std.proofs.Common.{◌∙◌, refl}
-use Rattle.ahci_script.specs.Standing.{Halts, stand}
-use Rattle.ahci_script.proofs.FoundLemmas.{if_err_from}
-use Rattle.ahci_script.proofs.ReadingLemmas.{HasRead-refl, HasRead-trans, ends_last, halts_after, halts_last}
-use Rattle.ahci_script.proofs.reading.Reading.take_all.Goals as goal
+use Rattle.streams.specs.Standing.{Halts, stand}
+use Rattle.streams.proofs.FoundLemmas.{if_err_from}
+use Rattle.streams.proofs.ReadingLemmas.{HasRead-refl, HasRead-trans, ends_last, halts_after, halts_last}
+use Rattle.streams.proofs.reading.Reading.take_all.Goals as goal
 
 pub loop-init : goal.loop-init
 loop-init g c = record { taken = HasRead-refl _; counted = c.requires.counted; unfailed = refl }

@@ -1,12 +1,12 @@
 -- Where the reading of an input stands, and how it goes on.
 use Rattle.std.specs.Prelude.{◌≡◌, ℕ, ◌+◌, ◌*◌, ◌-◌, List, ◌++◌, Option, length}
 use Rattle.std.specs.Io.KnownBytes.{Consumes}
-use Rattle.ahci_script.specs.Reading.{Comes, MayEnd, Step, Taken, last_of}
-use Rattle.ahci_script.specs.Unread.{Begins, MayFail, found_of, unfinished, with_feeds}
-use Rattle.ahci_script.specs.declared.input.TheConstants.{INPUT_LIMIT}
-use Rattle.ahci_script.specs.declared.reading.Reading.{Reading}
-use Rattle.ahci_script.specs.declared.stopped.Stopped.{Stopped}
-use Rattle.ahci_script.specs.declared.stopped.Stopped.TheVariants as stopped
+use Rattle.streams.specs.Reading.{Comes, MayEnd, Step, Taken, last_of}
+use Rattle.streams.specs.Unread.{Begins, MayFail, found_of, unfinished, with_feeds}
+use Rattle.streams.specs.declared.input.TheConstants.{INPUT_LIMIT}
+use Rattle.streams.specs.declared.reading.Reading.{Reading}
+use Rattle.streams.specs.declared.stopped.Stopped.{Stopped}
+use Rattle.streams.specs.declared.stopped.Stopped.TheVariants as stopped
 
 -- what the reader has left, where that is known, what came and was not taken, how many bytes came in all, how many lines were
 -- taken, and the state of whoever takes them

@@ -1,6 +1,6 @@
 use Rattle.std.proofs.Common.{◌≡◌, ◌≤◌}
-use Rattle.ahci_script.specs.Standing.{HasRead, left_in, stand}
-use Rattle.ahci_script.proofs.reading.Reading.take_all.Given as goal
+use Rattle.streams.specs.Standing.{HasRead, left_in, stand}
+use Rattle.streams.proofs.reading.Reading.take_all.Given as goal
 
 -- what was read so far is taken, and no read failed
 abbrev pub invariant-loop : goal.invariant-loop

@@ -3,7 +3,7 @@ use crate::input::Found;
 /// Whoever takes the lines of an input, one after another, with an output beside it.
 pub trait TakesLines<O> {
     ghost use Rattle.std.specs.Prelude.{◌≡◌, ℕ, IfErr, OnOk};
-    ghost use Rattle.ahci_script.specs.Unread.{Begins, shown, unfinished};
+    ghost use Rattle.streams.specs.Unread.{Begins, shown, unfinished};
 
     /// Why it takes no more.
     type Fault;

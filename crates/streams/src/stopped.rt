@@ -1,4 +1,4 @@
-use streams::InputFailed;
+use crate::input_failed::InputFailed;
 
 /// Why an input was not read to its end.
 #[derive(Clone, Copy, Debug, PartialEq, Eq)]
@@ -13,7 +13,7 @@ pub enum Stopped<F> {
 
 impl<F> From<InputFailed> for Stopped<F> {
     ghost use Rattle.std.specs.Prelude.{◌≡◌};
-    ghost use Rattle.ahci_script.specs.declared.stopped.Stopped.TheVariants as stopped;
+    ghost use Rattle.streams.specs.declared.stopped.Stopped.TheVariants as stopped;
 
     ghost from_gives = { λ _ fault. fault ≡ stopped.Read };
 

@@ -2,12 +2,12 @@
 use Rattle.std.proofs.Common.{◌≡◌, ℕ, ◌+◌, Bool, true, false, List, [], ◌∷◌, ◌++◌, Option, MatchBool, length, take, drop, refl, sym, ap, ◌∙◌, subst, inl, inr, append_assoc, append-nil, length-append, arith}
 use Rattle.std.proofs.KnownBytes.{Consumes-nil, Consumes-trans}
 use Rattle.std.specs.Io.KnownBytes.{Consumes, IsAtEnd}
-use Rattle.ahci_script.proofs.FoundLemmas.{Bytes, cut_at_feed, found_line, with_feeds-append}
-use Rattle.ahci_script.specs.Reading.{Comes, MayEnd, ReadsAll, Step, StopsReading, Taken, TakenFirst, last_by, last_of, more_input, nothing, one_more}
-use Rattle.ahci_script.specs.Standing.{Ends, Halts, HasRead, Stand}
-use Rattle.ahci_script.specs.Unread.{Begins, Grows, MayFail, Unread, found_of, too_long, unfinished, whole, with_feeds}
-use Rattle.ahci_script.specs.declared.stopped.Stopped.{Stopped}
-use Rattle.ahci_script.specs.declared.stopped.Stopped.TheVariants as stopped
+use Rattle.streams.proofs.FoundLemmas.{Bytes, cut_at_feed, found_line, with_feeds-append}
+use Rattle.streams.specs.Reading.{Comes, MayEnd, ReadsAll, Step, StopsReading, Taken, TakenFirst, last_by, last_of, more_input, nothing, one_more}
+use Rattle.streams.specs.Standing.{Ends, Halts, HasRead, Stand}
+use Rattle.streams.specs.Unread.{Begins, Grows, MayFail, Unread, found_of, too_long, unfinished, whole, with_feeds}
+use Rattle.streams.specs.declared.stopped.Stopped.{Stopped}
+use Rattle.streams.specs.declared.stopped.Stopped.TheVariants as stopped
 
 abbrev pub Known : Type 0
 Known = Option (List ℕ)

@@ -1,15 +1,15 @@
 //! The lines of an input, read as they come.
 
 ghost use Rattle.std.specs.Prelude.{◌≡◌, ◌≤◌, ◌+◌, length, IfErr, OnOk};
-ghost use Rattle.ahci_script.specs.Reading.{ReadsAll, ReadsAs, StopsReading};
-ghost use Rattle.ahci_script.specs.declared.input.TheConstants.{INPUT_LIMIT};
+ghost use Rattle.streams.specs.Reading.{ReadsAll, ReadsAs, StopsReading};
+ghost use Rattle.streams.specs.declared.input.TheConstants.{INPUT_LIMIT};
 
 use crate::input::{Found, INPUT_LIMIT, Input};
+use crate::reads::Reads;
 use crate::stopped::Stopped;
 use crate::takes_lines::TakesLines;
 use std::alloc::{AllocError, Allocator};
 use std::io::Read;
-use streams::Reads;
 
 /// An input that is read line by line: what came and is not yet taken, and how many lines were taken.
 #[derive(Drop)]
@@ -23,10 +23,10 @@ struct Reading<A: Allocator> {
 
 impl<A: Allocator> Reading<A> {
     ghost use Rattle.std.specs.Prelude.{◌≡◌, ◌<◌, ◌≤◌, [], length, false, true, IfErr, IfOk, OnOk};
-    ghost use Rattle.ahci_script.specs.Reading.{MayEnd, ReadsAs, last_of};
-    ghost use Rattle.ahci_script.specs.Standing.{Ends, Halts, HasRead, left_in, stand};
-    ghost use Rattle.ahci_script.specs.Unread.{found_of, shown, unfinished};
-    ghost use Rattle.ahci_script.specs.declared.input.TheConstants.{LINE_LIMIT};
+    ghost use Rattle.streams.specs.Reading.{MayEnd, ReadsAs, last_of};
+    ghost use Rattle.streams.specs.Standing.{Ends, Halts, HasRead, left_in, stand};
+    ghost use Rattle.streams.specs.Unread.{found_of, shown, unfinished};
+    ghost use Rattle.streams.specs.declared.input.TheConstants.{LINE_LIMIT};
 
     /// No byte came yet.
     fn new(alloc: A) -> Result<Self, AllocError>

@@ -1,7 +1,7 @@
-use Rattle.ahci_script.specs.Standing.{Ends, Halts, stand}
-use Rattle.ahci_script.proofs.FoundLemmas.{if_err_map, on_ok_from}
-use Rattle.ahci_script.proofs.ReadingLemmas.{from_start, reads_all, stops_reading}
-use Rattle.ahci_script.proofs.reading.take_lines.Goals as goal
+use Rattle.streams.specs.Standing.{Ends, Halts, stand}
+use Rattle.streams.proofs.FoundLemmas.{if_err_map, on_ok_from}
+use Rattle.streams.proofs.ReadingLemmas.{from_start, reads_all, stops_reading}
+use Rattle.streams.proofs.reading.take_lines.Goals as goal
 
 pub returns-clause-ok : goal.returns-clause-ok
 returns-clause-ok g c =

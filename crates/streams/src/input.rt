@@ -1,17 +1,18 @@
 ghost use Rattle.std.specs.Prelude.{◌≡◌, ℕ, ◌+◌, ◌<◌, ◌≤◌, [], ◌∷◌, ◌++◌, drop, length, IfOk, OnErr, OnOk, Some, None, MatchBool, vec_capacity, vec_len};
 ghost use Rattle.std.specs.Io.KnownBytes.{Consumes, IsAtEnd};
-ghost use Rattle.ahci_script.specs.Unread.{FailsReading, Grows, MayFail, found_of, line_end, shown};
+ghost use Rattle.streams.specs.Unread.{FailsReading, Grows, MayFail, found_of, line_end, shown};
 
+use crate::input_failed::InputFailed;
+use crate::reads::Reads;
 use crate::takes_lines::TakesLines;
 use std::alloc::{AllocError, Allocator, Global};
 use std::io::Read;
 use std::marker::Model;
-use streams::{InputFailed, Reads};
 
 /// How many bytes a line has at most, without its line feed.
 pub const LINE_LIMIT: usize = 4096;
 
-/// How many bytes of input a script has at most.
+/// How many bytes an input has at most.
 pub const INPUT_LIMIT: u64 = 67_108_864;
 
 /// How many bytes are asked for at once.
@@ -28,7 +29,7 @@ pub enum Found<'a> {
     Unfinished,
 }
 
-/// The input of a script as far as it came: the bytes that were not yet taken.
+/// An input as far as it came: the bytes that were not yet taken.
 #[derive(Drop)]
 pub struct Input<A: Allocator = Global> {
     bytes: Vec<u8, A>,
@@ -38,8 +39,8 @@ pub struct Input<A: Allocator = Global> {
 
 impl<A: Allocator> Model for Input<A> {
     ghost use Rattle.std.specs.Prelude.{◌≤◌, ◌+◌, drop, vec_len, vec_capacity};
-    ghost use Rattle.ahci_script.specs.declared.input.TheConstants.{CHUNK, INPUT_LIMIT, LINE_LIMIT};
-    ghost use Rattle.ahci_script.specs.Unread.{Unread};
+    ghost use Rattle.streams.specs.declared.input.TheConstants.{CHUNK, INPUT_LIMIT, LINE_LIMIT};
+    ghost use Rattle.streams.specs.Unread.{Unread};
 
     ghost Value = { Unread };
 

@@ -1,10 +1,10 @@
 use Rattle.std.proofs.Common.{sym}
-use Rattle.ahci_script.specs.Standing.{Halts, stand}
-use Rattle.ahci_script.specs.declared.stopped.Stopped.TheVariants.{Read}
-use Rattle.ahci_script.proofs.FoundLemmas.{if_err_from}
-use Rattle.ahci_script.proofs.ReadingLemmas.{HasRead-more, halts_at, halts_reading}
-use Rattle.ahci_script.specs.Unread.{unfinished}
-use Rattle.ahci_script.proofs.reading.Reading.more.Goals as goal
+use Rattle.streams.specs.Standing.{Halts, stand}
+use Rattle.streams.specs.declared.stopped.Stopped.TheVariants.{Read}
+use Rattle.streams.proofs.FoundLemmas.{if_err_from}
+use Rattle.streams.proofs.ReadingLemmas.{HasRead-more, halts_at, halts_reading}
+use Rattle.streams.specs.Unread.{unfinished}
+use Rattle.streams.proofs.reading.Reading.more.Goals as goal
 
 pub returns-in-Err-clause-err : goal.returns-in-Err-clause-err
 returns-in-Err-clause-err g c =

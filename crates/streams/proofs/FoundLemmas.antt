@@ -48,7 +48,7 @@ use Rattle.std.proofs.lemmas.List.Folds.{position_or_len_push}
 use Rattle.std.proofs.lemmas.List.Quantifiers.{position-Some}
 use Rattle.std.proofs.lemmas.List.Sums.{position_or_len_is}
 use Rattle.std.proofs.Math.Seq.{take-append_seam}
-use Rattle.ahci_script.specs.Unread.{found_at, found_of, line_end, too_long, unfinished, whole, with_feeds}
+use Rattle.streams.specs.Unread.{found_at, found_of, line_end, too_long, unfinished, whole, with_feeds}
 
 abbrev pub Bytes : Type 0
 Bytes = List ℕ
