@@ -1,5 +1,5 @@
 -- An array that a closure makes of another, whose state no call changes.
-use Rattle.std.proofs.Common.{◌≡◌, ℕ, zero, suc, ◌+◌, ◌<◌, List, length, map, get_or, ap, sym, ◌∙◌, subst, arith, absurd, ⊥, tt, Unit}
+use Rattle.std.proofs.Common.{◌≡◌, ℕ, zero, suc, ◌+◌, ◌<◌, List, length, map, get_or, ap, sym, ◌∙◌, subst, arith}
 use Rattle.std.specs.Array.{IsMapOf, MapsFrom}
 use Rattle.std.specs.Fn.{Called, Mut}
 use Rattle.std.proofs.lemmas.List.{get_or-map, length-map, same_lists}
