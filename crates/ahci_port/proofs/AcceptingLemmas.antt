@@ -1,5 +1,5 @@
 -- A port keeps what it keeps when the device accepts a command.
-use Rattle.std.proofs.Common.{◌≡◌, ℕ, ◌+◌, ◌/◌, false, cond, List, ◌∷◌, length, set, get_or, ap, sym, refl, subst, ◌∙◌, Option, None, Some, IsSomeAnd, arith}
+use Rattle.std.proofs.Common.{◌≡◌, ℕ, ◌+◌, ◌/◌, false, cond, List, ◌∷◌, length, set, get_or, ap, sym, refl, subst, ◌∙◌, Option, None, Some, IsSomeAnd, ltb, arith}
 use Rattle.std.proofs.lemmas.Bool.{ltb-false}
 use Rattle.std.proofs.lemmas.List.{length-set, get_or-set_same, get_or-set_other}
 use Rattle.ahci_regs.specs.PortState.{PortState}
@@ -11,7 +11,6 @@ use Rattle.ncq_journal.specs.Halted.{halted}
 use Rattle.ncq_journal.specs.Lawful.{IsAllowed, Fits, end_of}
 use Rattle.ncq_journal.specs.Phase.{phase, is_failed}
 use Rattle.ncq_journal.specs.Request.{Request, request}
-use Rattle.ncq_core.specs.Verdict.{is_past_end}
 use Rattle.ncq_core.specs.Verdict as verdict
 use Rattle.ncq_journal.proofs.OwedLemmas.{owed_moves}
 use Rattle.ncq_journal.proofs.PhaseLemmas.{below_depth}
@@ -24,7 +23,6 @@ use Rattle.ahci_port.proofs.IssuingLemmas.{headers_stay, slot_moves}
 use Rattle.ahci_port.proofs.KeepingLemmas.{keeps_step}
 use Rattle.ahci_port.proofs.RegisterLemmas.{tracks_accept}
 use Rattle.ahci_port.proofs.SetLemmas.{own, other}
-use Rattle.ahci_port.proofs.WorkLemmas.{IsSized, past_end}
 
 -- what holds of the request that a slot holds
 pub request_has : (starting : List ℕ) (past : List Entry) (tag : ℕ) (slot : SlotState) (P : Request → Type 0) → Holds starting past tag slot
@@ -38,23 +36,23 @@ disk_size k = ap (λ n. n / 512) k.same_size
 
 pub accept_allowed : (starting : List ℕ) (disk : DiskState) (regs : PortState) (slots : List (Option SlotState)) (headers : List (List ℕ)) (past : List Entry) (free tag : ℕ) (slot : SlotState)
     → Keeps starting disk regs slots headers past free → phase past tag ≡ Issued → halted past ≡ false
-    → slot_at slots tag ≡ Some slot → IsSized slot.window → is_past_end disk (queued_of slot.window) ≡ false
+    → slot_at slots tag ≡ Some slot → ltb (length starting / 512) (end_of (op slot.window)) ≡ false
     → IsAllowed (length starting / 512) disk.depth past (Accept tag)
-accept_allowed starting disk regs slots headers past free tag slot k issued running here sized within = (
+accept_allowed starting disk regs slots headers past free tag slot k issued running here within = (
   issued,
   running,
   request_has starting past tag slot (λ r. Fits (length starting / 512) r.work) (subst (HasSlot starting past tag) here (k.each tag))
-      (ltb-false (length starting / 512) (end_of (op slot.window)) (sym (past_end disk (length starting / 512) slot.window sized (disk_size k)) ∙ within)),
+      (ltb-false (length starting / 512) (end_of (op slot.window)) within),
 )
 
 pub keeps_accept : (starting : List ℕ) (disk : DiskState) (regs : PortState) (slots : List (Option SlotState)) (headers : List (List ℕ)) (past : List Entry) (free left tag : ℕ) (slot : SlotState)
     → Keeps starting disk regs slots headers past free → phase past tag ≡ Issued → halted past ≡ false → slot_at slots tag ≡ Some slot
-    → IsSized slot.window → (queued_of slot.window).tag ≡ tag → is_past_end disk (queued_of slot.window) ≡ false → left + 1 ≡ free
+    → (queued_of slot.window).tag ≡ tag → ltb (length starting / 512) (end_of (op slot.window)) ≡ false → left + 1 ≡ free
     → Keeps starting (verdict.accepted disk (queued_of slot.window)).state (registers.accepted regs tag) (set slots tag (Some (record slot { phase = Accepted }))) headers (Accept tag ∷ past) left
-keeps_accept starting disk regs slots headers past free left tag slot k issued running here sized its_tag within room =
+keeps_accept starting disk regs slots headers past free left tag slot k issued running here its_tag within room =
     let below = below_depth _ disk.depth past tag Issued k.lawful issued (λ e. absurd (cc)) in
     let own_slot : Holds starting past tag slot = subst (HasSlot starting past tag) here (k.each tag) in
-    let allowed = accept_allowed starting disk regs slots headers past free tag slot k issued running here sized within in
+    let allowed = accept_allowed starting disk regs slots headers past free tag slot k issued running here within in
     let moves = owed_moves _ disk.depth past (Accept tag) k.shallow (k.lawful, allowed) in
     let q = queued_of slot.window in
     let still = halted_same past (Accept tag) tag (ap is_failed issued) (ap is_failed (own tag Accepted (phase past tag))) (λ u apart. other tag u Accepted (phase past u) apart) in

@@ -1,5 +1,5 @@
 -- What the port's calls do with one slot.
-use Rattle.std.specs.Prelude.{◌≡◌, ℕ, Bool, true, false, if◌then◌else◌, List, Option, None, Some}
+use Rattle.std.specs.Prelude.{◌≡◌, ℕ, Bool, true, false, None, Some}
 use Rattle.ahci_table.specs.Command.{cfis, queued_of}
 use Rattle.ahci_table.specs.Fit.{IsFit}
 use Rattle.ahci_table.specs.Window.{WindowState}
@@ -8,17 +8,11 @@ use Rattle.ncq_journal.specs.declared.outcome.Outcome.TheVariants as outcome
 use Rattle.ncq_journal.specs.declared.phase.Phase.TheVariants as phase
 use Rattle.ncq_core.specs.declared.serve_fault.ServeFault.{ServeFault}
 use Rattle.ncq_core.specs.declared.serve_fault.ServeFault.TheVariants as serve_fault
-use Rattle.ncq_core.specs.declared.taken.Taken.{Taken}
-use Rattle.ncq_core.specs.declared.taken.Taken.TheVariants as taken
-use Rattle.ncq_journal.specs.Entry.{Entry, Accept, Fail}
 use Rattle.ahci_table.specs.declared.fault.TableFault.{TableFault}
 use Rattle.ahci_table.specs.declared.fault.TableFault.TheVariants as table
-use Rattle.sata_fis.specs.Fields.{D2hFields, QueuedFields}
+use Rattle.sata_fis.specs.Fields.{QueuedFields}
 use Rattle.ahci_port.specs.declared.fault.IssueFault.{IssueFault}
 use Rattle.ahci_port.specs.declared.fault.IssueFault.TheVariants as issue
-use Rattle.ahci_regs.specs.Receiving.{has_error}
-use Rattle.ahci_port.specs.declared.step.Stepped.{Stepped}
-use Rattle.ahci_port.specs.declared.step.Stepped.TheVariants.{Accepted, Failed}
 use Rattle.ncq_journal.specs.Phase.{failed, recovered}
 use Rattle.ahci_port.specs.declared.fault.StepFault.{StepFault}
 use Rattle.ahci_port.specs.declared.fault.StepFault.TheVariants.{Halted, NotAccepted, OutsideCommand}
@@ -61,26 +55,6 @@ abbrev pub step_fault_of : ServeFault → StepFault
 step_fault_of serve_fault.Stopped = Halted
 step_fault_of serve_fault.NotAccepted = NotAccepted
 step_fault_of serve_fault.OutsideCommand = OutsideCommand
-
--- the FIS by which the disk answers a queued command
-abbrev pub fis_of : Taken → Option (List ℕ)
-fis_of (taken.Accepted fis) = Some fis
-fis_of (taken.Refused fis) = Some fis
-fis_of (taken.Plain command) = None
-
--- ERR of the D2H Register FIS that answers a command
-abbrev pub refuses : D2hFields → Bool
-refuses answer = has_error answer.status
-
--- the entry, the port's answer and the slot once a command is answered by a D2H Register FIS
-abbrev pub taken_entry : ℕ → D2hFields → Entry
-taken_entry tag answer = if refuses answer then Fail tag answer.error answer.lba else Accept tag
-
-abbrev pub taken_step : ℕ → D2hFields → Stepped
-taken_step entry answer = if refuses answer then Failed entry else Accepted entry
-
-abbrev pub taken_slot : SlotState → ℕ → D2hFields → SlotState
-taken_slot slot entry answer = if refuses answer then failed_slot slot entry answer.error answer.lba else accepted_slot slot
 
 -- the slot of a command that is issued
 abbrev pub issued_slot : ℕ → QueuedFields → WindowState → SlotState

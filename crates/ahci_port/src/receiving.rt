@@ -7,11 +7,9 @@ ghost use Rattle.sata_fis.specs.declared.fis.Fis.TheVariants as fis_of;
 ghost use Rattle.sata_fis.specs.Layout.{d2h_at, set_bits_at, pio_setup_at};
 ghost use Rattle.sata_fis.specs.Spelling.{Spells};
 ghost use Rattle.ahci_port.specs.PortView.{put_at, setup_place, pio_place, register_place, bits_place};
-ghost use Rattle.ahci_port.specs.Moves.{refuses};
 
 use ahci_regs::PortRegs;
 use sata_fis::{D2h, Fis, decode};
-use word_bits::is_set;
 
 /// The places of the FISes.
 const SETUP: usize = 0x00;
@@ -35,13 +33,6 @@ pub(crate) fn receive_setup(area: &mut [u8; 256], fis: &[u8; 28])
     ensures { area.new ≡ put_at setup_place fis.now area.old }
 {
     put(area, SETUP, fis);
-}
-
-/// Whether a Register FIS - Device to Host refuses its command: ERR of its status is set.
-pub(crate) fn is_refusal(answer: &D2h) -> bool
-    ensures { result ≡ refuses answer.now }
-{
-    is_set(u32::from(answer.status), 0)
 }
 
 /// A Register FIS - Device to Host for a tag. The answer is what it says.

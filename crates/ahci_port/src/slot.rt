@@ -11,14 +11,12 @@ ghost use Rattle.ncq_core.specs.Serving.{HasMoved, serve_fault, served};
 ghost use Rattle.ahci_port.specs.Memory.{IsKept};
 ghost use Rattle.ahci_port.specs.Keeping.{slot_at};
 ghost use Rattle.ahci_port.specs.Slots.{phase_in, read_in, window_in};
-ghost use Rattle.ahci_port.specs.Moves.{issued_slot, outcome_of, served_slot, taken_slot, reissued_slot, accepted_slot, failed_slot, recovered_slot};
+ghost use Rattle.ahci_port.specs.Moves.{issued_slot, outcome_of, served_slot, reissued_slot, accepted_slot, failed_slot, recovered_slot};
 
 use crate::ended::Ended;
 use crate::memory::Memory;
-use crate::receiving::is_refusal;
 use ahci_table::{Command, Window};
 use ncq_core::{Disk, Outcome, Phase};
-use sata_fis::D2h;
 use std::alloc::{Allocator, Global};
 use std::marker::Model;
 
@@ -81,19 +79,8 @@ impl<A: Allocator> Slot<A> {
         self.phase = Phase::Issued;
     }
 
-    /// The device has answered the command, at an entry: it has accepted it, or, where ERR is set, refused it.
-    pub(crate) fn take(&mut self, entry: u64, answer: &D2h)
-        ensures { self.new ≡ taken_slot self.old entry answer.now }
-    {
-        if is_refusal(answer) {
-            self.fail(entry, answer.error, answer.lba);
-        } else {
-            self.accept();
-        }
-    }
-
     /// The device has accepted the command.
-    fn accept(&mut self)
+    pub(crate) fn accept(&mut self)
         ensures { self.new ≡ accepted_slot self.old }
     {
         self.phase = Phase::Accepted;

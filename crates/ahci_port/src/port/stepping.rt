@@ -1,18 +1,16 @@
 //! What the device does with a tag's command: it accepts or refuses it, serves it with others, or fails it.
 
-ghost use Rattle.std.specs.Prelude.{◌≡◌, IfOk, IsSome, OnErr, Some};
-ghost use Rattle.ncq_journal.specs.Entry.{entry_of};
+ghost use Rattle.std.specs.Prelude.{◌≡◌, IfOk, OnErr};
 ghost use Rattle.ahci_port.specs.Faults.{Answers, step_refusal};
-ghost use Rattle.ahci_port.specs.Moves.{step_fault_of, fis_of, taken_entry, taken_step};
+ghost use Rattle.ahci_port.specs.Moves.{step_fault_of};
 ghost use Rattle.ahci_port.specs.Steps.{IsStepped};
 
 use crate::fault::StepFault;
 use crate::port::Port;
-use crate::receiving::{is_refusal, receive_bits, receive_register, receive_setup};
+use crate::receiving::{receive_bits, receive_register, receive_setup};
 use crate::step::{DeviceStep, Stepped};
 use ncq_core::laws::the_disks_answers_are_these_bytes;
 use ncq_core::{Disk, Event, Phase, ServeFault, Taken};
-use sata_fis::D2h;
 use std::alloc::Allocator;
 use word_bits::place;
 
@@ -24,43 +22,6 @@ fn step_fault(fault: ServeFault) -> StepFault
         ServeFault::Stopped => StepFault::Halted,
         ServeFault::NotAccepted => StepFault::NotAccepted,
         ServeFault::OutsideCommand => StepFault::OutsideCommand,
-    }
-}
-
-/// The FIS by which the disk answers a queued command.
-fn answer_in(taken: Taken) -> [u8; 20]
-    requires { IsSome (fis_of taken) }
-    ensures { Some result ≡ fis_of taken }
-{
-    match taken {
-        Taken::Accepted(fis) | Taken::Refused(fis) => fis,
-        Taken::Plain(_) => unreachable!(),
-    }
-}
-
-/// The event of a command that the device has answered.
-fn taken_event<A: Allocator>(tag: u8, answer: &D2h) -> Event<A>
-    ensures { entry_of result ≡ taken_entry tag answer.now }
-{
-    if is_refusal(answer) {
-        Event::Fail {
-            tag,
-            error: answer.error,
-            lba: answer.lba,
-        }
-    } else {
-        Event::Accept(tag)
-    }
-}
-
-/// What the step answers then.
-fn taken_step(number: u64, answer: &D2h) -> Stepped
-    ensures { result ≡ taken_step number answer.now }
-{
-    if is_refusal(answer) {
-        Stepped::Failed(number)
-    } else {
-        Stepped::Accepted(number)
     }
 }
 
@@ -102,11 +63,25 @@ impl<A: Allocator> Port<A> {
         let Some(slot) = &mut self.slots[tag as usize] else {
             unreachable!();
         };
-        let fis = answer_in(self.disk.take(slot.cfis()));
-        let answer = receive_register(&mut self.registers, &mut self.area, &fis, tag);
-        slot.take(place, &answer);
-        self.journal.push_reserved(taken_event(tag, &answer));
-        Ok(taken_step(number, &answer))
+        match self.disk.take(slot.cfis()) {
+            Taken::Accepted(fis) => {
+                receive_register(&mut self.registers, &mut self.area, &fis, tag);
+                slot.accept();
+                self.journal.push_reserved(Event::Accept(tag));
+                Ok(Stepped::Accepted(number))
+            }
+            Taken::Refused(fis) => {
+                let answer = receive_register(&mut self.registers, &mut self.area, &fis, tag);
+                slot.fail(place, answer.error, answer.lba);
+                self.journal.push_reserved(Event::Fail {
+                    tag,
+                    error: answer.error,
+                    lba: answer.lba,
+                });
+                Ok(Stepped::Failed(number))
+            }
+            Taken::Plain(_) => unreachable!(),
+        }
     }
 
     /// Why the device does not take a tag's command.

@@ -1,134 +1,170 @@
-use Rattle.std.proofs.Common.{◌≡◌, ◌∙◌, ◌/◌, Some, ◌∷◌, length, set, ap, sym, refl, subst, IsSome, rules}
-use Rattle.std.proofs.lemmas.Option.{same_Some}
-use Rattle.ahci_table.specs.Command.{cfis, op, queued_of}
-use Rattle.ahci_table.specs.Fit.{IsFit}
+use Rattle.std.proofs.Common.{◌≡◌, ◌∙◌, ℕ, ◌/◌, max, ◌∷◌, length, ap, sym, refl, rules}
 use Rattle.ahci_regs.specs.Receiving.{after_register}
-use Rattle.ncq_core.specs.Verdict.{verdict, first_lacking, is_past_end}
-use Rattle.sata_fis.specs.declared.fis.Fis.TheVariants.{D2h}
+use Rattle.ahci_table.specs.Command.{op}
+use Rattle.ncq_journal.specs.Entry.{Fail}
+use Rattle.ncq_journal.specs.Work.{lba_of}
 use Rattle.sata_fis.specs.Layout.{d2h_at}
-use Rattle.sata_fis.specs.Spelling.{Spells}
-use Rattle.ahci_port.specs.Keeping.{Keeps}
-use Rattle.ahci_port.specs.Moves.{fis_of, taken_entry, taken_slot, taken_step}
-use Rattle.ahci_port.specs.PortView.{next_number}
-use Rattle.ahci_port.specs.Slots.{view_of}
-use Rattle.ahci_port.specs.Steps.{IsTaken}
-use Rattle.ahci_port.proofs.AcceptingLemmas.{disk_size, request_has}
-use Rattle.ahci_port.proofs.MemoryLemmas.{fit_sized}
-use Rattle.ahci_port.proofs.OwningLemmas.{owner_is, windows_same}
-use Rattle.ahci_port.proofs.TakingLemmas.{Taking, taking_now, answer_bytes, state_after, state_depth, state_image, keeps_taken, taken_as, taken_window, lacking_there, sends_nothing}
-use Rattle.ahci_port.proofs.WorkLemmas.{past_end}
+use Rattle.ahci_port.specs.Moves.{accepted_slot, failed_slot}
+use Rattle.ahci_port.specs.PortView.{put_at, register_place}
+use Rattle.ahci_port.specs.Registers as registers
+use Rattle.ahci_port.specs.declared.step.Stepped.TheVariants.{Accepted, Failed}
+use Rattle.ahci_port.proofs.AcceptingLemmas.{keeps_accept}
+use Rattle.ahci_port.proofs.OwningLemmas.{windows_same}
+use Rattle.ahci_port.proofs.TakingLemmas.{Taking, Accepts, Refuses, owned_now, taking_now, accepts, refuses, queues, keeps_refuse, steps_accepted, steps_refused}
+use Rattle.ahci_port.proofs.port.Port.accept.Goals.{In-Some-index_mut, In-Accepted, In-Refused, After-push_reserved, After-push_reserved-in-Refused}
 use Rattle.ahci_port.proofs.port.Port.accept.Goals as goal
 
 pub index_mut-requires : goal.index_mut-requires
 index_mut-requires g c =
-    let t = taking_now _ _ _ _ _ _ _ c.args.tag c.args.self.now c.self.invariant (ap (λ p. p.past) c.self.view_is)
-    (sym c.accept_fault.ensures ∙ c.in_default.is) c.the_disks_answers_are_these_bytes.ensures.spell in
-    let b = t.owner.below in search rules
+    let b = (owned_now _ _ _ _ _ _ _ c.args.tag c.args.self.now c.self.invariant (ap (λ p. p.past) c.self.view_is) (sym c.accept_fault.ensures ∙ c.in_default.is)).below in
+    search rules
+
+-- the slot that the call has found
+found : (g : _) (c : In-Some-index_mut g)
+    → Taking c.self.inside.starting.items c.self.inside.disk c.self.inside.journal.past c.self.inside.slots.items c.self.inside.journal.room c.args.tag c.in-Some-index_mut.slot
+found g c = taking_now _ _ _ _ _ _ _ c.args.tag c.args.self.now _ _ c.self.invariant (ap (λ p. p.past) c.self.view_is) (sym c.accept_fault.ensures ∙ c.in_default.is)
+    c.index_mut.ensures.value c.in-Some-index_mut.is
 
 pub cfis-requires : goal.cfis-requires
-cfis-requires g c =
-    let t = taking_now _ _ _ _ _ _ _ c.args.tag c.args.self.now c.self.invariant (ap (λ p. p.past) c.self.view_is)
-    (sym c.accept_fault.ensures ∙ c.in_default.is) c.the_disks_answers_are_these_bytes.ensures.spell in
-    let same = owner_is t.owner _ _ c.index_mut.ensures.value c.in-Some-index_mut.is in
-    subst (λ s. IsFit s.window) same t.owner.holds.fit
+cfis-requires g c = (found g (goal.at.cfis-requires g c).In-Some-index_mut).holds.fit
 
-pub answer_in-fis-requires : goal.answer_in-fis-requires
-answer_in-fis-requires g c =
-    let i = c.self.inside in
-    let t = taking_now _ _ _ _ _ _ _ c.args.tag c.args.self.now c.self.invariant (ap (λ p. p.past) c.self.view_is)
-    (sym c.accept_fault.ensures ∙ c.in_default.is) c.the_disks_answers_are_these_bytes.ensures.spell in
-    let same = owner_is t.owner _ _ c.index_mut.ensures.value c.in-Some-index_mut.is in
-    let cf : c.cfis.result.now ≡ cfis t.owner.slot.window = c.cfis.ensures ∙ ap (λ s. cfis s.window) (sym same) in
-    let took : fis_of c.take.result ≡ Some (answer_bytes i.disk (queued_of t.owner.slot.window)) = ap fis_of (c.take.ensures.answer ∙ ap (λ b. (verdict i.disk b).answer) cf) ∙ t.answer_of in
-    subst IsSome (sym took) refl
+pub unreachable-requires-in-Plain : goal.unreachable-requires-in-Plain
+unreachable-requires-in-Plain g c = queues (found g (goal.at.unreachable-requires-in-Plain g c).In-Some-index_mut) c.cfis.result.now c.in-Plain.field-0 c.cfis.ensures
+    (sym c.take.ensures.answer ∙ c.in-Plain.is)
 
-pub receive_register-answer-requires-clause-spells : goal.receive_register-answer-requires-clause-spells
-receive_register-answer-requires-clause-spells g c =
-    let i = c.self.inside in
-    let t = taking_now _ _ _ _ _ _ _ c.args.tag c.args.self.now c.self.invariant (ap (λ p. p.past) c.self.view_is)
-    (sym c.accept_fault.ensures ∙ c.in_default.is) c.the_disks_answers_are_these_bytes.ensures.spell in
-    let same = owner_is t.owner _ _ c.index_mut.ensures.value c.in-Some-index_mut.is in
-    let cf : c.cfis.result.now ≡ cfis t.owner.slot.window = c.cfis.ensures ∙ ap (λ s. cfis s.window) (sym same) in
-    let took : fis_of c.take.result ≡ Some (answer_bytes i.disk (queued_of t.owner.slot.window)) = ap fis_of (c.take.ensures.answer ∙ ap (λ b. (verdict i.disk b).answer) cf) ∙ t.answer_of in
-    let fis : c.answer_in-fis.result ≡ answer_bytes i.disk (queued_of t.owner.slot.window) = same_Some _ _ (c.answer_in-fis.ensures ∙ took) in
-    subst (λ b. Spells b (D2h (d2h_at b))) (sym fis) t.spells
+-- the disk has accepted the command
+accepted : (g : _) (c : In-Accepted g)
+    → Taking c.self.inside.starting.items c.self.inside.disk c.self.inside.journal.past c.self.inside.slots.items c.self.inside.journal.room c.args.tag c.in-Some-index_mut.slot
+    → Accepts c.self.inside.disk (length c.self.inside.starting.items / 512) c.in-Some-index_mut.slot.window c.in-Accepted.fis c.take.new.self
+accepted g c t = accepts t c.cfis.result.now c.in-Accepted.fis c.take.new.self c.the_disks_answers_are_these_bytes.ensures.spell c.cfis.ensures
+    (sym c.take.ensures.answer ∙ c.in-Accepted.is) c.take.ensures.state
+
+pub receive_register-requires-clause-tag : goal.receive_register-requires-clause-tag
+receive_register-requires-clause-tag g c = (found g (goal.at.receive_register-requires-clause-tag g c).In-Some-index_mut).low
+
+pub receive_register-requires-clause-spells : goal.receive_register-requires-clause-spells
+receive_register-requires-clause-spells g c =
+    let at = goal.at.receive_register-requires-clause-spells g c in
+    (accepted g at.In-Accepted (found g at.In-Some-index_mut)).spells
 
 pub push_reserved-requires : goal.push_reserved-requires
-push_reserved-requires g c =
-    let t = taking_now _ _ _ _ _ _ _ c.args.tag c.args.self.now c.self.invariant (ap (λ p. p.past) c.self.view_is)
-    (sym c.accept_fault.ensures ∙ c.in_default.is) c.the_disks_answers_are_these_bytes.ensures.spell in
-    t.room
+push_reserved-requires g c = (found g (goal.at.push_reserved-requires g c).In-Some-index_mut).room
 
--- what stands once the answer is in: the slot's request, the FIS, the disk, the slot and the journal
-here : (g : _) (c : goal.After-taken_step g) → Taking c.self.inside.starting.items c.self.inside.disk c.self.inside.journal.past c.self.inside.slots.items c.self.inside.journal.room c.args.tag
-here g c = taking_now _ _ _ _ _ _ _ c.args.tag c.args.self.now c.self.invariant (ap (λ p. p.past) c.self.view_is)
-    (sym c.accept_fault.ensures ∙ c.in_default.is) c.the_disks_answers_are_these_bytes.ensures.spell
+acceptance : (g : _) (c : After-push_reserved g)
+    → Accepts c.self.inside.disk (length c.self.inside.starting.items / 512) c.in-Some-index_mut.slot.window c.in-Accepted.fis c.take.new.self
+acceptance g c = let at = goal.at.invariant_of-self g c in accepted g at.In-Accepted (found g at.In-Some-index_mut)
 
-same : (g : _) (c : goal.After-taken_step g) → (here g c).owner.slot ≡ c.in-Some-index_mut.slot
-same g c = owner_is (here g c).owner _ _ c.index_mut.ensures.value c.in-Some-index_mut.is
-
-sent : (g : _) (c : goal.After-taken_step g) → c.cfis.result.now ≡ cfis (here g c).owner.slot.window
-sent g c = c.cfis.ensures ∙ ap (λ s. cfis s.window) (sym (same g c))
-
-fis : (g : _) (c : goal.After-taken_step g) → c.answer_in-fis.result ≡ answer_bytes c.self.inside.disk (queued_of (here g c).owner.slot.window)
-fis g c = same_Some _ _ (c.answer_in-fis.ensures ∙ ap fis_of (c.take.ensures.answer ∙ ap (λ b. (verdict c.self.inside.disk b).answer) (sent g c)) ∙ (here g c).answer_of)
-
-state : (g : _) (c : goal.After-taken_step g) → c.take.new.self ≡ state_after c.self.inside.disk (queued_of (here g c).owner.slot.window)
-state g c = c.take.ensures.state ∙ ap (λ b. (verdict c.self.inside.disk b).state) (sent g c) ∙ (here g c).state_of
-
-slot : (g : _) (c : goal.After-taken_step g)
-    → c.take-2.new.self ≡ taken_slot (here g c).owner.slot (length c.self.inside.journal.past) (d2h_at c.answer_in-fis.result)
-slot g c = c.take-2.ensures ∙ ap (taken_slot c.in-Some-index_mut.slot c.len-place.result) c.receive_register-answer.ensures.answer
-    ∙ ap (λ n. taken_slot c.in-Some-index_mut.slot n (d2h_at c.answer_in-fis.result)) c.len-place.ensures
-    ∙ ap (λ s. taken_slot s (length c.self.inside.journal.past) (d2h_at c.answer_in-fis.result)) (sym (same g c))
-
-pasts : (g : _) (c : goal.After-taken_step g)
-    → c.push_reserved.new.self.past ≡ taken_entry c.args.tag (d2h_at c.answer_in-fis.result) ∷ c.self.inside.journal.past
-pasts g c = c.push_reserved.ensures.past
-    ∙ ap (λ e. e ∷ c.self.inside.journal.past) (c.taken_event.ensures ∙ ap (taken_entry c.args.tag) c.receive_register-answer.ensures.answer)
+moved : (g : _) (c : After-push_reserved g) → c.receive_register.new.registers ≡ registers.accepted c.self.inside.registers c.args.tag
+moved g c = c.receive_register.ensures.registers
+    ∙ ap (λ b. after_register c.self.inside.registers (d2h_at b).status (d2h_at b).error (d2h_at b).i c.args.tag) (acceptance g c).fis_is
 
 pub invariant_of-self : goal.invariant_of-self
 invariant_of-self g c =
     let i = c.self.inside in
-    let t = here g c in
-    let answer = d2h_at c.answer_in-fis.result in
-    let regs = after_register i.registers answer.status answer.error answer.i c.args.tag in
-    let past = taken_entry c.args.tag answer ∷ i.journal.past in
-    let room = c.push_reserved.new.self.room in
-    let kept = keeps_taken _ _ _ _ _ _ _ room c.args.tag c.self.invariant c.the_disks_answers_are_these_bytes.ensures.spell t
-    c.push_reserved.ensures.room c.answer_in-fis.result (fis g c) in
-    rw (c.receive_register-answer.ensures.registers, pasts g c)
-    (subst (λ d. Keeps i.starting.items d regs (set i.slots.items c.args.tag (Some c.take-2.new.self)) i.headers past room) (sym (state g c))
-    (subst (λ s. Keeps i.starting.items (state_after i.disk (queued_of t.owner.slot.window)) regs (set i.slots.items c.args.tag (Some s)) i.headers past room)
-    (sym (slot g c)) kept))
+    let t = found g (goal.at.invariant_of-self g c).In-Some-index_mut in
+    let a = acceptance g c in
+    rw (moved g c, c.push_reserved.ensures.past, a.state_is, c.accept.ensures)
+    (keeps_accept i.starting.items i.disk i.registers i.slots.items i.headers i.journal.past i.journal.room c.push_reserved.new.self.room c.args.tag
+    c.in-Some-index_mut.slot c.self.invariant t.issued t.running t.here t.its_tag a.within c.push_reserved.ensures.room)
 
-pub returns-clause-ok : goal.returns-clause-ok
-returns-clause-ok g c =
+pub returns-in-Accepted-clause-ok : goal.returns-in-Accepted-clause-ok
+returns-in-Accepted-clause-ok g c =
     let i = c.self.inside in
-    let t = here g c in
-    let old = view_of i.starting.items i.disk i.registers i.unqueued.sent i.area i.slots.items i.journal in
-    let next = taken_slot t.owner.slot (length i.journal.past) (d2h_at c.answer_in-fis.result) in
-    let new = view_of i.starting.items c.take.new.self c.receive_register-answer.new.registers i.unqueued.sent c.receive_register-answer.new.area
-    (set i.slots.items c.args.tag (Some next)) c.push_reserved.new.self in
-    let w = t.owner.slot.window in
-    let size = disk_size c.self.invariant in
-    let step : c.taken_step.result ≡ taken_step (next_number old) (d2h_at c.answer_in-fis.result) =
-    c.taken_step.ensures ∙ ap (taken_step c.end-number.result) c.receive_register-answer.ensures.answer
-    ∙ ap (λ n. taken_step n (d2h_at c.answer_in-fis.result)) c.end-number.ensures in
-    rw (← c.self.view_is, slot g c)
-    (request_has i.starting.items i.journal.past c.args.tag t.owner.slot (λ r. IsTaken c.args.tag r.work old new c.taken_step.result) t.owner.holds
-    (taken_as old new c.args.tag (op w) c.taken_step.result (first_lacking i.disk (queued_of w)) (is_past_end i.disk (queued_of w)) c.answer_in-fis.result
-    (sym (past_end i.disk (length i.starting.items / 512) w (fit_sized w t.owner.holds.fit) size))
-    (lacking_there i.disk (length i.starting.items / 512) w size) c.the_disks_answers_are_these_bytes.ensures.spell t.lba_small (fis g c)
-    step
+    let t = found g (goal.at.returns-in-Accepted-clause-ok g c).In-Some-index_mut in
+    let a = acceptance g c in
+    let s = c.in-Some-index_mut.slot in
+    rw (← c.self.view_is, c.accept.ensures)
+    (steps_accepted _ _ c.args.tag s _ t.holds a.within
     (record {
-      starting_same = refl;
-      image_same = ap (λ d. d.image) (state g c) ∙ state_image i.disk (queued_of w);
-      first_same = c.push_reserved.ensures.first;
-      depth_same = ap (λ d. d.depth) (state g c) ∙ state_depth i.disk (queued_of w);
-      past_is = pasts g c;
-      sent_is = sym (sends_nothing c.args.tag (d2h_at c.answer_in-fis.result) i.unqueued.sent);
-    })
-    (record { room_is = c.push_reserved.ensures.room; held_same = c.push_reserved.ensures.held })
-    c.receive_register-answer.ensures.registers c.receive_register-answer.ensures.area
-    (windows_same i.slots.items c.args.tag t.owner.slot next t.owner.here (taken_window t.owner.slot (length i.journal.past) (d2h_at c.answer_in-fis.result)))))
+      answer_is = ap (λ n. Accepted n) c.end-number.ensures;
+      appended = record {
+        starting_same = refl;
+        image_same = ap (λ d. d.image) a.state_is;
+        first_same = c.push_reserved.ensures.first;
+        depth_same = ap (λ d. d.depth) a.state_is;
+        past_is = c.push_reserved.ensures.past;
+        sent_is = refl;
+      };
+      room = record { room_is = c.push_reserved.ensures.room; held_same = c.push_reserved.ensures.held };
+      registers_are = moved g c;
+      area_is = c.receive_register.ensures.area ∙ ap (λ b. put_at register_place b i.area) a.fis_is;
+      windows_same = windows_same i.slots.items c.args.tag s (accepted_slot s) t.here refl;
+    }))
+
+-- the disk has refused it
+refused : (g : _) (c : In-Refused g)
+    → Taking c.self.inside.starting.items c.self.inside.disk c.self.inside.journal.past c.self.inside.slots.items c.self.inside.journal.room c.args.tag c.in-Some-index_mut.slot
+    → Refuses c.self.inside.disk (length c.self.inside.starting.items / 512) c.args.tag c.in-Some-index_mut.slot.window c.in-Refused.fis c.take.new.self
+refused g c t = refuses t c.cfis.result.now c.in-Refused.fis c.take.new.self c.the_disks_answers_are_these_bytes.ensures.spell c.cfis.ensures
+    (sym c.take.ensures.answer ∙ c.in-Refused.is) c.take.ensures.state
+
+pub receive_register-answer-requires-clause-spells : goal.receive_register-answer-requires-clause-spells
+receive_register-answer-requires-clause-spells g c =
+    let at = goal.at.receive_register-answer-requires-clause-spells g c in
+    (refused g at.In-Refused (found g at.In-Some-index_mut)).spells
+
+pub push_reserved-requires-in-Refused : goal.push_reserved-requires-in-Refused
+push_reserved-requires-in-Refused g c = (found g (goal.at.push_reserved-requires-in-Refused g c).In-Some-index_mut).room
+
+refusal : (g : _) (c : After-push_reserved-in-Refused g)
+    → Refuses c.self.inside.disk (length c.self.inside.starting.items / 512) c.args.tag c.in-Some-index_mut.slot.window c.in-Refused.fis c.take.new.self
+refusal g c = let at = goal.at.invariant_of-self-in-Refused g c in refused g at.In-Refused (found g at.In-Some-index_mut)
+
+-- the first sector that the disk lacks
+abbrev lba : (g : _) (c : After-push_reserved-in-Refused g) → ℕ
+lba g c = max (lba_of (op c.in-Some-index_mut.slot.window)) (length c.self.inside.starting.items / 512)
+
+-- the answer, the slot, the entry and the registers then
+says : (g : _) (c : After-push_reserved-in-Refused g) → (c.answer.inside.error ≡ 0x10) × (c.answer.inside.lba ≡ lba g c)
+says g c =
+    let answer = c.answer.view_is ∙ c.receive_register-answer.ensures.answer in (
+      ap (λ f. f.error) answer ∙ ap (λ b. (d2h_at b).error) (refusal g c).fis_is,
+      ap (λ f. f.lba) answer ∙ (refusal g c).lba_is,
+    )
+
+slot : (g : _) (c : After-push_reserved-in-Refused g)
+    → c.fail.new.self ≡ failed_slot c.in-Some-index_mut.slot (length c.self.inside.journal.past) 0x10 (lba g c)
+slot g c = c.fail.ensures ∙ ap (λ n. failed_slot c.in-Some-index_mut.slot n c.answer.inside.error c.answer.inside.lba) c.len-place.ensures
+    ∙ ap (λ e. failed_slot c.in-Some-index_mut.slot (length c.self.inside.journal.past) e c.answer.inside.lba) (says g c).0
+    ∙ ap (failed_slot c.in-Some-index_mut.slot (length c.self.inside.journal.past) 0x10) (says g c).1
+
+pasts : (g : _) (c : After-push_reserved-in-Refused g) → c.push_reserved-in-Refused.new.self.past ≡ Fail c.args.tag 0x10 (lba g c) ∷ c.self.inside.journal.past
+pasts g c = c.push_reserved-in-Refused.ensures.past ∙ ap (λ e. Fail c.args.tag e c.answer.inside.lba ∷ c.self.inside.journal.past) (says g c).0
+    ∙ ap (λ n. Fail c.args.tag 0x10 n ∷ c.self.inside.journal.past) (says g c).1
+
+regs : (g : _) (c : After-push_reserved-in-Refused g) → c.receive_register-answer.new.registers ≡ registers.refused c.self.inside.registers c.args.tag
+regs g c = c.receive_register-answer.ensures.registers
+    ∙ ap (λ b. after_register c.self.inside.registers (d2h_at b).status (d2h_at b).error (d2h_at b).i c.args.tag) (refusal g c).fis_is
+
+pub invariant_of-self-in-Refused : goal.invariant_of-self-in-Refused
+invariant_of-self-in-Refused g c =
+    let i = c.self.inside in
+    let t = found g (goal.at.invariant_of-self-in-Refused g c).In-Some-index_mut in
+    let r = refusal g c in
+    rw (regs g c, pasts g c, r.state_is, slot g c)
+    (keeps_refuse i.starting.items i.disk i.registers i.slots.items i.headers i.journal.past i.journal.room c.push_reserved-in-Refused.new.self.room c.args.tag
+    c.in-Some-index_mut.slot c.self.invariant t r.passes c.push_reserved-in-Refused.ensures.room (lba g c) refl)
+
+pub returns-in-Refused-clause-ok : goal.returns-in-Refused-clause-ok
+returns-in-Refused-clause-ok g c =
+    let i = c.self.inside in
+    let t = found g (goal.at.returns-in-Refused-clause-ok g c).In-Some-index_mut in
+    let r = refusal g c in
+    let s = c.in-Some-index_mut.slot in
+    rw (← c.self.view_is, slot g c)
+    (steps_refused _ _ c.args.tag s _ t.holds r.passes
+    (record {
+      answer_is = ap (λ n. Failed n) c.end-number.ensures;
+      appended = record {
+        starting_same = refl;
+        image_same = ap (λ d. d.image) r.state_is;
+        first_same = c.push_reserved-in-Refused.ensures.first;
+        depth_same = ap (λ d. d.depth) r.state_is;
+        past_is = pasts g c;
+        sent_is = refl;
+      };
+      room = record { room_is = c.push_reserved-in-Refused.ensures.room; held_same = c.push_reserved-in-Refused.ensures.held };
+      registers_are = regs g c;
+      area_is = c.receive_register-answer.ensures.area ∙ ap (λ b. put_at register_place b i.area) r.fis_is;
+      windows_same = windows_same i.slots.items c.args.tag s (failed_slot s (length i.journal.past) 0x10 (lba g c)) t.here refl;
+    }))
