@@ -1,6 +1,7 @@
 -- What a request that can be collected has.
 use Rattle.std.proofs.Common.{◌≡◌, ℕ, ◌/◌, ◌<◌, Bool, true, false, cond, List, length, nat_eq, ap, sym, refl, ◌∙◌, Option, None, Some, is_some, arith, inl, inr}
 use Rattle.std.specs.Option.{option_and_then, option_map, IsSome}
+use Rattle.std.specs.Prelude.{Ok}
 use Rattle.std.proofs.lemmas.Bool.{eqb-true, false≢true, cases_lt}
 use Rattle.std.proofs.lemmas.List.{get_or_past}
 use Rattle.std.proofs.lemmas.Option.{same_Some}
@@ -19,7 +20,7 @@ use Rattle.ncq_journal.specs.Phase.{phase}
 use Rattle.ncq_journal.proofs.AnsweredLemmas.{answered_by_phase}
 use Rattle.ncq_journal.proofs.NumberLemmas.{place_from}
 use Rattle.ncq_journal.proofs.OwedLemmas.{owed_moves}
-use Rattle.ahci_port.specs.Faults.{collect_refusal, is_done, is_owner}
+use Rattle.ahci_port.specs.Faults.{Answers, collect_refusal, is_done, is_owner}
 use Rattle.ahci_port.specs.Keeping.{Keeps, HasSlot, slot_at}
 use Rattle.ahci_port.specs.PortView.{PortView, owner_of}
 use Rattle.ahci_port.specs.Slots.{SlotState, answer_in, bytes_in}
@@ -48,6 +49,11 @@ done_is Accepted e = absurd (false≢true e)
 done_is Rejected e = absurd (false≢true e)
 done_is Broken e = absurd (false≢true e)
 done_is Held e = absurd (false≢true e)
+
+-- a call that succeeded was not refused
+pub not_refused : {T E : Type 0} (x : T) (o : Option E) → Answers (Ok x) o → o ≡ None
+not_refused x None h = refl
+not_refused x (Some fault) h = absurd (cc)
 
 -- what no refusal of a collecting says
 pub none_left : (o : Option ℕ) (p : Phase) (number : ℕ) → cond (is_owner o number) (cond (is_done p) None (Some NotYet)) (Some Stranger) ≡ None → (o ≡ Some number) × (p ≡ Done)

@@ -14,6 +14,7 @@ pub mod RecoveringLemmas
 pub mod HeadlineLemmas
 pub mod ReadingLemmas
 pub mod CollectingLemmas
+pub mod TextLengthLemmas
 pub mod OwningLemmas
 pub mod StepLemmas
 pub mod TakingLemmas

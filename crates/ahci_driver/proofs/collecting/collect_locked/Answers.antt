@@ -1,6 +1,7 @@
 use Rattle.std.proofs.Common.{sym, ◌∙◌, ap, length}
 use Rattle.ahci_driver.specs.Tickets.{suits}
-use Rattle.ahci_driver.proofs.CollectingLemmas.{not_refused, text_length}
+use Rattle.ahci_port.proofs.CollectingLemmas.{not_refused}
+use Rattle.ahci_driver.proofs.CollectingLemmas.{text_length}
 use Rattle.ahci_driver.proofs.collecting.collect_locked.Goals as goal
 
 pub filled-requires-clause-len : goal.filled-requires-clause-len

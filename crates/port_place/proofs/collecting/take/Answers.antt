@@ -1,9 +1,10 @@
 use Rattle.std.proofs.Common.{◌∙◌, ap, length, subst, sym}
 use Rattle.std.specs.Option.{unwrap_or}
 use Rattle.ahci_port.specs.Slots.{bytes_in}
+use Rattle.ahci_port.proofs.CollectingLemmas.{not_refused}
 use Rattle.port_place.specs.Done.{HasLength}
 use Rattle.port_place.specs.Flat.{flat_reply}
-use Rattle.port_place.proofs.CollectingLemmas.{not_refused, text_read, told_done}
+use Rattle.port_place.proofs.CollectingLemmas.{text_read, told_done}
 use Rattle.port_place.proofs.collecting.take.Goals as goal
 
 pub copied-requires-clause-len : goal.copied-requires-clause-len
