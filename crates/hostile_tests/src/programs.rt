@@ -188,8 +188,8 @@ static LIST: [Line; 4] = [
 static TOLD: &[u8] = b"wrote\nwrote\nread 11\nread 22 00\nsector 0 11\nsector 1 11\nsector 4 22\n";
 
 // The input and the list's lines: 1 and 3. The disk, the port's copy of it, its slots and the choosers: 4. The run of four jobs
-// by two workers, as `runs` counts them: 6, 5, 8, 2, and 4 with two reads. The text, which is made longer once: 2.
-const LIST_GROWTHS: u64 = (1 + 3) + 4 + (6 + 5 + 8 + 2 + 6) + 2;
+// by two workers, as `runs` counts them: 6, 5, 8, 2 and 4. The text, which is made longer once: 2.
+const LIST_GROWTHS: u64 = (1 + 3) + 4 + (6 + 5 + 8 + 2 + 4) + 2;
 
 /// Does the list with a growth refused, and what is written.
 fn done<R: Threads + Wait + Sync>(rt: &R, alloc: Global, growth: u64) -> (Ended, Vec<u8>) {

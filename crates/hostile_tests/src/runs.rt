@@ -35,14 +35,14 @@ struct Setting {
 // - 3 for each worker less 1: its receipts, its end, and, but for one, a list of workers that is split off;
 // - 2 for each job: a read's window and its buffer, a write's window and its copy in the journal;
 // - 2 for the journal, whose room is made at its first entry and doubled at the next issue or recovery;
-// - 4 for `settle`, the image, the requests, the answers and the marks, and 1 for the bytes of each finished read.
+// - 4 for `settle`: the claims, the image, the requests, and which claims hold.
 static SETTINGS: [Setting; 5] = [
     Setting {
         workers: 1,
         depth: 1,
         jobs: Jobs::Pair,
         way: Way::Lowest,
-        growths: 6 + 2 + 4 + 2 + 5,
+        growths: 6 + 2 + 4 + 2 + 4,
         entries: 8,
     },
     Setting {
@@ -50,7 +50,7 @@ static SETTINGS: [Setting; 5] = [
         depth: 1,
         jobs: Jobs::Pair,
         way: Way::FailsSecond(0),
-        growths: 6 + 2 + 4 + 2 + 5,
+        growths: 6 + 2 + 4 + 2 + 4,
         entries: 9,
     },
     Setting {
@@ -58,7 +58,7 @@ static SETTINGS: [Setting; 5] = [
         depth: 2,
         jobs: Jobs::Few,
         way: Way::Lowest,
-        growths: 6 + 5 + 24 + 2 + 10,
+        growths: 6 + 5 + 24 + 2 + 4,
         entries: 48,
     },
     Setting {
@@ -66,7 +66,7 @@ static SETTINGS: [Setting; 5] = [
         depth: 1,
         jobs: Jobs::Few,
         way: Way::Lowest,
-        growths: 6 + 11 + 24 + 2 + 10,
+        growths: 6 + 11 + 24 + 2 + 4,
         entries: 48,
     },
     Setting {
@@ -74,7 +74,7 @@ static SETTINGS: [Setting; 5] = [
         depth: 2,
         jobs: Jobs::Few,
         way: Way::Highest,
-        growths: 6 + 11 + 24 + 2 + 10,
+        growths: 6 + 11 + 24 + 2 + 4,
         entries: 48,
     },
 ];
