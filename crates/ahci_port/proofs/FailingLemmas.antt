@@ -23,7 +23,7 @@ use Rattle.ahci_port.proofs.AnswerLemmas.{failed_now, apart_answers}
 use Rattle.ahci_port.proofs.FailureLemmas.{halted_fail}
 use Rattle.ahci_port.proofs.IssuingLemmas.{headers_stay}
 use Rattle.ahci_port.proofs.KeepingLemmas.{keeps_step}
-use Rattle.ahci_port.proofs.SetLemmas.{own, other}
+use Rattle.ahci_port.proofs.SetLemmas.{other, own, taken_by}
 
 -- an error has ended every command
 pub none_outstanding : (s : Option SlotState) → outstanding_in true s ≡ None
@@ -70,13 +70,7 @@ failed_taken Held e = absurd (cc)
 failed_taken Done e = absurd (cc)
 
 pub busy_taken : (p : Phase) → is_busy p ≡ true → p ≢ Free
-busy_taken Issued b e = absurd (cc)
-busy_taken Accepted b e = absurd (cc)
-busy_taken Free b e = absurd (cc)
-busy_taken Rejected b e = absurd (cc)
-busy_taken Broken b e = absurd (cc)
-busy_taken Held b e = absurd (cc)
-busy_taken Done b e = absurd (cc)
+busy_taken = taken_by is_busy refl
 
 -- a command that is issued or accepted fails
 pub keeps_fail : (starting : List ℕ) (disk : DiskState) (regs moved : PortState) (slots : List (Option SlotState))

@@ -11,6 +11,7 @@ use Rattle.ncq_journal.specs.declared.plain.Plain.TheVariants as plain
 use Rattle.ncq_core.specs.DiskState.{DiskState}
 use Rattle.ncq_journal.specs.Entry.{Entry}
 use Rattle.ncq_journal.specs.Halted.{halted, busy}
+use Rattle.ncq_journal.specs.Lawful.{IsJournalled}
 use Rattle.ncq_journal.specs.Phase.{phase, is_failed, is_busy}
 use Rattle.ncq_journal.specs.Tags.{sact, ci, in_sact, in_ci, in_device}
 use Rattle.ncq_core.specs.Verdict.{verdict, command_in, stopped_verdict, running_verdict, by_kind, plain_verdict, idle_verdict, aborted, passed}
@@ -21,6 +22,7 @@ use Rattle.ncq_journal.proofs.TagLemmas.{lacks}
 use Rattle.sata_fis.specs.Command.{queued_in}
 use Rattle.sata_fis.specs.Fields.{H2dFields, QueuedFields}
 use Rattle.sata_fis.specs.Layout.{h2d_at}
+use Rattle.ahci_port.specs.Carrying.{Passes, disk_after}
 use Rattle.ahci_port.specs.Faults.{plain_refusal}
 use Rattle.ahci_port.specs.Keeping.{Keeps, HasSlot, slot_at}
 use Rattle.ahci_port.specs.PortView.{PortView}
@@ -103,6 +105,17 @@ plain_may port e = by (halted port.past) (busy port.past) refl refl e
     by true b p q h = absurd (cc)
     by false true p q h = absurd (cc)
     by false false p q h = (p, q)
+
+-- a command that is journalled as itself passes an idle disk, leaves it as it is, and IDENTIFY DEVICE reads its page
+pub passes : (command : Plain) (disk : DiskState) → IsJournalled command → disk.error ≡ None → verdict.is_busy disk ≡ false → Passes command disk
+passes plain.Identify disk h calm idle = (calm, idle)
+passes plain.Flush disk h calm idle = (calm, idle)
+passes plain.ReadLog disk h calm idle = absurd h
+
+pub disk_same : (command : Plain) (disk : DiskState) → IsJournalled command → disk_after command disk ≡ disk
+disk_same plain.Identify disk h = refl
+disk_same plain.Flush disk h = refl
+disk_same plain.ReadLog disk h = absurd h
 
 pub identify_state : (disk : DiskState) → disk.error ≡ None → (verdict disk (cfis_for plain.Identify)).state ≡ disk
 identify_state disk calm = plain_state disk (cfis_for plain.Identify) (h2d_at (cfis_for plain.Identify)) calm refl refl

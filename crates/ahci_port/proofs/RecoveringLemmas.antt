@@ -25,6 +25,7 @@ use Rattle.ahci_port.proofs.AnswerLemmas.{answer_stays}
 use Rattle.ahci_port.proofs.FailingLemmas.{none_outstanding}
 use Rattle.ahci_port.proofs.FailureLemmas.{halted_recover}
 use Rattle.ahci_port.proofs.RegisterLemmas.{tracks_recover}
+use Rattle.ahci_port.proofs.SetLemmas.{taken_by}
 
 recovered_taken : (p : Phase) → p ≢ Free → recovered p ≢ Free
 recovered_taken Free t e = t e
@@ -49,13 +50,7 @@ idle_again None = refl
 idle_again (Some slot) = ap (λ b. cond (b && true) (Some (queued_of slot.window)) None) (recovered_idle slot.phase)
 
 pub failed_taken : (p : Phase) → is_failed p ≡ true → p ≢ Free
-failed_taken Free f e = absurd (cc)
-failed_taken Issued f e = absurd (cc)
-failed_taken Accepted f e = absurd (cc)
-failed_taken Rejected f e = absurd (cc)
-failed_taken Broken f e = absurd (cc)
-failed_taken Held f e = absurd (cc)
-failed_taken Done f e = absurd (cc)
+failed_taken = taken_by is_failed refl
 
 slot_recovers : (starting : List ℕ) (past : List Entry) (t u : ℕ) (s : Option SlotState) → HasSlot starting past u s → HasSlot starting (Recover t ∷ past) u (option_map recovered_slot s)
 slot_recovers starting past t u None h = ap recovered h

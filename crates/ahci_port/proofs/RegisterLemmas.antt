@@ -8,6 +8,8 @@ use Rattle.ahci_regs.specs.Receiving.{after_bits, is_done}
 use Rattle.ahci_regs.specs.RegisterTable.{register_at}
 use Rattle.ahci_regs.specs.Writing.{write_at, with_sact, with_ci, with_command, commanded, remaining}
 use Rattle.ncq_journal.specs.declared.phase.Phase.TheVariants.{Issued, Accepted, Done}
+use Rattle.ncq_journal.specs.declared.plain.Plain.{Plain}
+use Rattle.ncq_journal.specs.declared.plain.Plain.TheVariants as plain
 use Rattle.ncq_journal.specs.Entry.{Entry, Issue, Accept, Complete, Fail, Recover, Reissue, Collect}
 use Rattle.ncq_journal.specs.Phase.{phase, is_busy}
 use Rattle.ncq_journal.specs.Tags.{sact, ci, in_sact, in_ci}
@@ -31,7 +33,8 @@ use Rattle.word_bits.proofs.PlacesLemmas.{
   minus-no_places,
 }
 use Rattle.word_bits.proofs.BitsLemmas.{bits_pow, bits_zero}
-use Rattle.ahci_port.specs.Registers.{after_write, started, issued, accepted, refused, failed, read_by_pio, flushed, recovered, acknowledged, taken}
+use Rattle.ahci_port.specs.Carrying.{carried}
+use Rattle.ahci_port.specs.Registers.{after_write, started, issued, accepted, refused, failed, read_by_pio, recovered, acknowledged, taken}
 use Rattle.ahci_port.specs.Tracking.{Tracks}
 use Rattle.ahci_port.proofs.SetLemmas.{
   sact_issue,
@@ -186,54 +189,39 @@ slot_0 d s commands st depth some few ci_is whole out =
     ∙ ap (λ x. record s { ci = x }) (ap (λ n. union s.ci (only_below n (bits (2 ^ 0)))) depth ∙ gained d 0 s.ci (omega arith) few (ap length ci_is ∙ whole)))
     ∙ ap (λ x. without_place (with_place x 0) 0) ci_is ∙ back_again commands 0 out
 
-kept : (s : PortState) → (after_write s 0x138 1).sact ≡ s.sact
-kept s = ap (λ x. x.sact) (write_ci s 1) ∙ by s.st
+-- no other field is changed by the write
+kept : {T : Type 0} (field : PortState → T) → ((s : PortState) (commands : List Bool) → field (record s { ci = commands }) ≡ field s)
+    → (s : PortState) → field (after_write s 0x138 1) ≡ field s
+kept field apart s = ap field (write_ci s 1) ∙ by s.st
   where
-    by : (b : Bool) → (taken s (cond b (Ok (record s { ci = union s.ci (only_below s.depth (bits 1)) })) (Err NotStarted))).sact ≡ s.sact
-    by true = refl
-    by false = refl
+    set : List Bool
+    set = union s.ci (only_below s.depth (bits 1))
 
-kept_depth : (s : PortState) → (after_write s 0x138 1).depth ≡ s.depth
-kept_depth s = ap (λ x. x.depth) (write_ci s 1) ∙ by s.st
-  where
-    by : (b : Bool) → (taken s (cond b (Ok (record s { ci = union s.ci (only_below s.depth (bits 1)) })) (Err NotStarted))).depth ≡ s.depth
-    by true = refl
-    by false = refl
-
-kept_st : (s : PortState) → (after_write s 0x138 1).st ≡ s.st
-kept_st s = ap (λ x. x.st) (write_ci s 1) ∙ by s.st
-  where
-    by : (b : Bool) → (taken s (cond b (Ok (record s { ci = union s.ci (only_below s.depth (bits 1)) })) (Err NotStarted))).st ≡ s.st
-    by true = refl
-    by false = refl
-
-kept_fre : (s : PortState) → (after_write s 0x138 1).fre ≡ s.fre
-kept_fre s = ap (λ x. x.fre) (write_ci s 1) ∙ by s.st
-  where
-    by : (b : Bool) → (taken s (cond b (Ok (record s { ci = union s.ci (only_below s.depth (bits 1)) })) (Err NotStarted))).fre ≡ s.fre
-    by true = refl
+    by : (b : Bool) → field (taken s (cond b (Ok (record s { ci = set })) (Err NotStarted))) ≡ field s
+    by true = apart s set
     by false = refl
 
 -- a journal of which the registers are those before a command of slot 0 has them after it
-pub tracks_pio : (d : ℕ) (past : List Entry) (s : PortState) → Tracks d past s → 1 ≤ d → d ≤ 32 → has_place (ci past) 0 ≡ false → Tracks d past (read_by_pio s)
-tracks_pio d past s k some few out = record {
-  depth_is = kept_depth s ∙ k.depth_is;
-  st = kept_st s ∙ k.st;
-  fre = kept_fre s ∙ k.fre;
-  sact_is = kept s ∙ k.sact_is;
-  ci_is = ap (λ b. cond b (without_place (after_write s 0x138 1).ci 0) (after_write s 0x138 1).ci) done_40
+tracks_answered : (d : ℕ) (past : List Entry) (s later : PortState) → Tracks d past s → 1 ≤ d → d ≤ 32 → has_place (ci past) 0 ≡ false
+    → later.depth ≡ (after_write s 0x138 1).depth → later.st ≡ (after_write s 0x138 1).st → later.fre ≡ (after_write s 0x138 1).fre
+    → later.sact ≡ (after_write s 0x138 1).sact → later.ci ≡ cond (is_done 0x40) (without_place (after_write s 0x138 1).ci 0) (after_write s 0x138 1).ci
+    → Tracks d past later
+tracks_answered d past s later k some few out depth st fre sact commands = record {
+  depth_is = depth ∙ kept (λ x. x.depth) (λ x c. refl) s ∙ k.depth_is;
+  st = st ∙ kept (λ x. x.st) (λ x c. refl) s ∙ k.st;
+  fre = fre ∙ kept (λ x. x.fre) (λ x c. refl) s ∙ k.fre;
+  sact_is = sact ∙ kept (λ x. x.sact) (λ x c. refl) s ∙ k.sact_is;
+  ci_is = commands ∙ ap (λ b. cond b (without_place (after_write s 0x138 1).ci 0) (after_write s 0x138 1).ci) done_40
       ∙ slot_0 d s (ci past) k.st k.depth_is some few k.ci_is (length-places (λ u. in_ci (phase past u))) out;
 }
 
-pub tracks_flush : (d : ℕ) (past : List Entry) (s : PortState) → Tracks d past s → 1 ≤ d → d ≤ 32 → has_place (ci past) 0 ≡ false → Tracks d past (flushed s)
-tracks_flush d past s k some few out = record {
-  depth_is = kept_depth s ∙ k.depth_is;
-  st = kept_st s ∙ k.st;
-  fre = kept_fre s ∙ k.fre;
-  sact_is = kept s ∙ k.sact_is;
-  ci_is = ap (λ b. cond b (without_place (after_write s 0x138 1).ci 0) (after_write s 0x138 1).ci) done_40
-      ∙ slot_0 d s (ci past) k.st k.depth_is some few k.ci_is (length-places (λ u. in_ci (phase past u))) out;
-}
+pub tracks_pio : (d : ℕ) (past : List Entry) (s : PortState) → Tracks d past s → 1 ≤ d → d ≤ 32 → has_place (ci past) 0 ≡ false → Tracks d past (read_by_pio s)
+tracks_pio d past s k some few out = tracks_answered d past s (read_by_pio s) k some few out refl refl refl refl refl
+
+pub tracks_carried : (command : Plain) (d : ℕ) (past : List Entry) (s : PortState) → Tracks d past s → 1 ≤ d → d ≤ 32 → has_place (ci past) 0 ≡ false → Tracks d past (carried command s)
+tracks_carried plain.Flush d past s k some few out = tracks_answered d past s (carried plain.Flush s) k some few out refl refl refl refl refl
+tracks_carried plain.Identify d past s k some few out = tracks_pio d past s k some few out
+tracks_carried plain.ReadLog d past s k some few out = tracks_pio d past s k some few out
 
 -- ST and FRE in the words that stop and start the port
 st_clear : has_place (bits 0x10) 0 ≡ false

@@ -1,6 +1,6 @@
 -- PxSACT, PxCI and the device's tags, entry by entry.
 use Rattle.std.proofs.Common.{◌≡◌, ◌≢◌, ℕ, ◌<◌, Bool, true, false, cond, ◌==◌, List, ◌∷◌, ap, sym, refl, ◌∙◌, inl, inr}
-use Rattle.std.proofs.lemmas.Bool.{cond-true, cond-false, eq-eqb, ne_eqb, cases_eq}
+use Rattle.std.proofs.lemmas.Bool.{true≢false, cond-true, cond-false, eq-eqb, ne_eqb, cases_eq}
 use Rattle.ncq_journal.specs.declared.phase.Phase.{Phase}
 use Rattle.ncq_journal.specs.declared.phase.Phase.TheVariants.{Free, Issued, Accepted, Rejected, Broken, Held, Done}
 use Rattle.ncq_journal.specs.Entry.{Entry, Issue, Accept, Complete, Fail, Recover, Reissue, Collect}
@@ -14,6 +14,10 @@ own t x y = cond-true (t == t) x y (eq-eqb t t refl)
 
 pub other : {X : Type 0} (t u : ℕ) (x y : X) → u ≢ t → cond (t == u) x y ≡ y
 other t u x y apart = cond-false (t == u) x y (ne_eqb t u (λ e. apart (sym e)))
+
+-- a phase of which something holds that doesn't hold of a free slot is that of a taken one
+pub taken_by : (f : Phase → Bool) → f Free ≡ false → (p : Phase) → f p ≡ true → p ≢ Free
+taken_by f free p holds here = true≢false (sym holds ∙ ap f here ∙ free)
 
 -- a set by phase, where one tag's phase alone changes and comes into it
 gains : (f : Phase → Bool) (old new : ℕ → Phase) (t : ℕ) → t < 32 → f (new t) ≡ true → ((u : ℕ) → u ≢ t → new u ≡ old u) → with_place (places (λ u. f (old u))) t ≡ places (λ u. f (new u))
@@ -50,31 +54,23 @@ sact_complete past t below = loses in_sact (phase past) (phase (Complete t ∷ p
 pub ci_complete : (past : List Entry) (t : ℕ) → phase past t ≡ Accepted → ci past ≡ ci (Complete t ∷ past)
 ci_complete past t accepted = stays in_ci (phase past) (phase (Complete t ∷ past)) t (ap in_ci (own t Done (phase past t)) ∙ sym (ap in_ci accepted)) (λ u apart. other t u Done (phase past u) apart)
 
+-- a command that fails stays in both sets
+fails : (p : Phase) → is_busy p ≡ true → (in_sact (failed p) ≡ in_sact p) × (in_ci (failed p) ≡ in_ci p)
+fails Issued b = (refl, refl)
+fails Accepted b = (refl, refl)
+fails Free b = absurd (cc)
+fails Rejected b = absurd (cc)
+fails Broken b = absurd (cc)
+fails Held b = absurd (cc)
+fails Done b = absurd (cc)
+
 pub sact_fail : (past : List Entry) (t error lba : ℕ) → is_busy (phase past t) ≡ true → sact past ≡ sact (Fail t error lba ∷ past)
-sact_fail past t error lba busy = stays in_sact (phase past) (phase (Fail t error lba ∷ past)) t (ap in_sact (own t (failed (phase past t)) (phase past t)) ∙ fails (phase past t) busy)
-    (λ u apart. other t u (failed (phase past u)) (phase past u) apart)
-  where
-    fails : (p : Phase) → is_busy p ≡ true → in_sact (failed p) ≡ in_sact p
-    fails Issued b = refl
-    fails Accepted b = refl
-    fails Free b = absurd (cc)
-    fails Rejected b = absurd (cc)
-    fails Broken b = absurd (cc)
-    fails Held b = absurd (cc)
-    fails Done b = absurd (cc)
+sact_fail past t error lba busy = stays in_sact (phase past) (phase (Fail t error lba ∷ past)) t
+    (ap in_sact (own t (failed (phase past t)) (phase past t)) ∙ (fails (phase past t) busy).0) (λ u apart. other t u (failed (phase past u)) (phase past u) apart)
 
 pub ci_fail : (past : List Entry) (t error lba : ℕ) → is_busy (phase past t) ≡ true → ci past ≡ ci (Fail t error lba ∷ past)
-ci_fail past t error lba busy = stays in_ci (phase past) (phase (Fail t error lba ∷ past)) t (ap in_ci (own t (failed (phase past t)) (phase past t)) ∙ fails (phase past t) busy)
-    (λ u apart. other t u (failed (phase past u)) (phase past u) apart)
-  where
-    fails : (p : Phase) → is_busy p ≡ true → in_ci (failed p) ≡ in_ci p
-    fails Issued b = refl
-    fails Accepted b = refl
-    fails Free b = absurd (cc)
-    fails Rejected b = absurd (cc)
-    fails Broken b = absurd (cc)
-    fails Held b = absurd (cc)
-    fails Done b = absurd (cc)
+ci_fail past t error lba busy = stays in_ci (phase past) (phase (Fail t error lba ∷ past)) t
+    (ap in_ci (own t (failed (phase past t)) (phase past t)) ∙ (fails (phase past t) busy).1) (λ u apart. other t u (failed (phase past u)) (phase past u) apart)
 
 pub sact_recover : (past : List Entry) (t : ℕ) → no_places ≡ sact (Recover t ∷ past)
 sact_recover past t = sym (places_none (λ u. in_sact (recovered (phase past u))) (λ u low. none (phase past u)))

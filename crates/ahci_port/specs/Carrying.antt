@@ -19,7 +19,7 @@ abbrev pub Passes : Plain → DiskState → Type 0
 Passes ReadLog disk = is_stopped disk ≡ true
 Passes plain disk = (disk.error ≡ None) × (is_busy disk ≡ false)
 
--- the registers once the device has answered: the end of a flush is a D2H Register FIS, a page comes by PIO
+-- the registers once the device has answered: the end of a flush is a D2H Register FIS with an interrupt, a page comes by PIO
 abbrev pub told : Plain → PortState → PortState
 told Flush s = after_register s 0x40 0 true 0
 told page s = read_data s

@@ -53,10 +53,6 @@ read_data s = after_pio_end (after_pio s 0x48 0) 0x40 true 0
 abbrev pub read_by_pio : PortState → PortState
 read_by_pio s = read_data (after_write s 0x138 1)
 
--- FLUSH CACHE EXT in slot 0: PxCI, and a D2H Register FIS with an interrupt
-abbrev pub flushed : PortState → PortState
-flushed s = after_register (after_write s 0x138 1) 0x40 0 true 0
-
 -- the port is stopped and started again: ST off, PxSERR and PxIS cleared, ST on
 abbrev pub restarted : PortState → PortState
 restarted s =

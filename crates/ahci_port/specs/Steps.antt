@@ -7,15 +7,17 @@ use Rattle.std.specs.Option.{option_and_then, option_map}
 use Rattle.ahci_table.specs.Command.{op, queued_of}
 use Rattle.ahci_table.specs.Scatter.{IsScattered}
 use Rattle.ahci_table.specs.Window.{WindowState}
+use Rattle.ncq_journal.specs.declared.plain.Plain.{Plain}
 use Rattle.ncq_journal.specs.declared.plain.Plain.TheVariants as plain
 use Rattle.ncq_journal.specs.Answer.{Answer, answer, sectors_at}
-use Rattle.ncq_core.specs.DiskFis.{accepted_bytes, not_found_bytes, flushed_bytes, pio_bytes, setup_bytes, completed_bytes, failed_bytes}
+use Rattle.ncq_core.specs.DiskFis.{accepted_bytes, not_found_bytes, pio_bytes, setup_bytes, completed_bytes, failed_bytes}
 use Rattle.ncq_journal.specs.Entry.{Entry, Issue, Accept, Complete, Fail, Recover, Reissue, Collect, Unqueued}
 use Rattle.ncq_journal.specs.Lawful.{IsLawful, end_of}
 use Rattle.ncq_journal.specs.Numbering.{answer_numbered, place_of}
 use Rattle.ncq_journal.specs.Request.{request}
 use Rattle.ncq_journal.specs.Sector.{sector}
 use Rattle.ncq_journal.specs.Work.{Work, Read, Write, lba_of}
+use Rattle.ahci_port.specs.Carrying.{area_after, carried}
 use Rattle.ahci_port.specs.Headline.{Headline}
 use Rattle.ahci_port.specs.PortView.{PortView, next_number, sectors_in, window_at, put_at, setup_place, pio_place, register_place, bits_place}
 use Rattle.ahci_port.specs.Registers as registers
@@ -194,18 +196,18 @@ pub record IsReissued (tag : ℕ) (old new : PortView) : Type 0 where
   pub area_same : new.area ≡ old.area
   pub windows_same : new.windows ≡ old.windows
 
--- IDENTIFY DEVICE is carried out: a PIO Setup FIS
-pub record IsIdentified (old new : PortView) : Type 0 where
-  pub appended : Appends old new (Unqueued plain.Identify)
+-- a command that is not queued is carried out in slot 0
+pub record IsCarriedOut (command : Plain) (old new : PortView) : Type 0 where
+  pub appended : Appends old new (Unqueued command)
   pub room : ReservesRoom old new
-  pub registers_are : new.registers ≡ registers.read_by_pio old.registers
-  pub area_is : new.area ≡ put_at pio_place pio_bytes old.area
+  pub registers_are : new.registers ≡ carried command old.registers
+  pub area_is : new.area ≡ area_after command old.area
   pub windows_same : new.windows ≡ old.windows
 
--- FLUSH CACHE EXT is carried out: a D2H Register FIS
-pub record IsFlushed (old new : PortView) : Type 0 where
-  pub appended : Appends old new (Unqueued plain.Flush)
-  pub room : ReservesRoom old new
-  pub registers_are : new.registers ≡ registers.flushed old.registers
-  pub area_is : new.area ≡ put_at register_place flushed_bytes old.area
-  pub windows_same : new.windows ≡ old.windows
+-- IDENTIFY DEVICE: the device sends a PIO Setup FIS
+abbrev pub IsIdentified : PortView → PortView → Type 0
+IsIdentified = IsCarriedOut plain.Identify
+
+-- FLUSH CACHE EXT: it sends a D2H Register FIS
+abbrev pub IsFlushed : PortView → PortView → Type 0
+IsFlushed = IsCarriedOut plain.Flush

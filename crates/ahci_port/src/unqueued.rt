@@ -182,9 +182,9 @@ impl UnqueuedTable {
     }
 
     /// The page that came last.
-    pub(crate) fn page(&self) -> [u8; 512]
-        ensures { result ≡ self.now.page }
+    pub(crate) fn page(&self) -> &[u8; 512]
+        ensures { result.now ≡ self.now.page }
     {
-        self.page
+        &self.page
     }
 }

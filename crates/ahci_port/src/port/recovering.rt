@@ -3,10 +3,12 @@
 
 ghost use Rattle.std.specs.Prelude.{◌≡◌, true, IfOk, IfErr, OnOk, OnErr};
 ghost use Rattle.ncq_core.specs.Identify.{identify_page};
+ghost use Rattle.ncq_journal.specs.Lawful.{IsJournalled};
 ghost use Rattle.ncq_journal.specs.Phase.{phase, is_failed};
+ghost use Rattle.ncq_journal.specs.declared.plain.Plain.TheVariants.{Identify};
 ghost use Rattle.ahci_port.specs.Faults.{AnswersOr, recover_refusal, plain_refusal};
 ghost use Rattle.ahci_port.specs.PortView.{sectors_in};
-ghost use Rattle.ahci_port.specs.Steps.{IsRecovered, IsIdentified, IsFlushed};
+ghost use Rattle.ahci_port.specs.Steps.{IsCarriedOut, IsRecovered, IsIdentified, IsFlushed};
 
 use crate::fault::{PlainFault, RecoverFault};
 use crate::port::{Port, ROOM};
@@ -60,22 +62,7 @@ impl<A: Allocator> Port<A> {
         ensures fault { AnswersOr result (plain_refusal self.old) PlainFault.OutOfMemory }
         ensures err { OnErr result (self.new ≡ self.old) }
     {
-        if let Some(fault) = self.plain_fault() {
-            return Err(fault);
-        }
-        let Ok(()) = self.journal.reserve(ROOM) else {
-            return Err(PlainFault::OutOfMemory);
-        };
-        carry_out(
-            Plain::Identify,
-            &mut self.headers,
-            &mut self.unqueued,
-            &mut self.registers,
-            &mut self.area,
-            &mut self.disk,
-        );
-        self.journal.push_reserved(Event::Plain(Plain::Identify));
-        Ok(self.unqueued.page())
+        self.send_unqueued(Plain::Identify)
     }
 
     /// Sends FLUSH CACHE EXT. There is no volatile cache, so it changes no sector.
@@ -87,6 +74,18 @@ impl<A: Allocator> Port<A> {
         ensures fault { AnswersOr result (plain_refusal self.old) PlainFault.OutOfMemory }
         ensures err { OnErr result (self.new ≡ self.old) }
     {
+        self.send_unqueued(Plain::Flush)?;
+        Ok(())
+    }
+
+    /// Carries out IDENTIFY DEVICE or FLUSH CACHE EXT, and answers the page that the device sent last.
+    fn send_unqueued(&mut self, plain: Plain) -> Result<[u8; 512], PlainFault>
+        requires { IsJournalled plain }
+        ensures page { IfOk result (λ page. plain ≡ Identify → page ≡ identify_page (sectors_in self.old) self.old.depth) }
+        ensures carried { OnOk result (IsCarriedOut plain self.old self.new) }
+        ensures fault { AnswersOr result (plain_refusal self.old) PlainFault.OutOfMemory }
+        ensures err { OnErr result (self.new ≡ self.old) }
+    {
         if let Some(fault) = self.plain_fault() {
             return Err(fault);
         }
@@ -94,15 +93,15 @@ impl<A: Allocator> Port<A> {
             return Err(PlainFault::OutOfMemory);
         };
         carry_out(
-            Plain::Flush,
+            plain,
             &mut self.headers,
             &mut self.unqueued,
             &mut self.registers,
             &mut self.area,
             &mut self.disk,
         );
-        self.journal.push_reserved(Event::Plain(Plain::Flush));
-        Ok(())
+        self.journal.push_reserved(Event::Plain(plain));
+        Ok(*self.unqueued.page())
     }
 
     /// Why a command that is not queued is not sent. While the port is not halted, PxSACT has the tags that are issued or

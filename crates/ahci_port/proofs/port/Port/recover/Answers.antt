@@ -20,12 +20,12 @@ carry_out-requires g c =
     stopped_here _ _ _ _ _ _ _ c.self.invariant ∙ stop
 
 -- what stands once the log is read: the failed tag, the registers and the slots
-bad : (g : _) (c : goal.After-push_reserved g) → is_failed (phase c.self.inside.journal.past (get_or c.page.result 0 0 % 32)) ≡ true
+bad : (g : _) (c : goal.After-push_reserved g) → is_failed (phase c.self.inside.journal.past (get_or c.page.result.now 0 0 % 32)) ≡ true
 bad g c =
     let i = c.self.inside in
     let stop : halted i.journal.past ≡ true = ap (λ p. halted p.past) c.self.view_is ∙ sym c.halted.ensures ∙ c.if-not-halted.false in
-    let is : IsSomeAnd i.disk.error (λ e. c.page.result ≡ log_page e) = subst (λ x. IsSomeAnd i.disk.error (λ e. x ≡ log_page e)) (sym c.page.ensures) c.carry_out.ensures.page in
-    tag_of_page i.disk.error c.page.result i.journal.past (logged _ _ _ _ _ _ _ c.self.invariant stop) is (failed_low _ _ _ _ _ _ _ c.self.invariant)
+    let is : IsSomeAnd i.disk.error (λ e. c.page.result.now ≡ log_page e) = subst (λ x. IsSomeAnd i.disk.error (λ e. x ≡ log_page e)) (sym c.page.ensures) c.carry_out.ensures.page in
+    tag_of_page i.disk.error c.page.result.now i.journal.past (logged _ _ _ _ _ _ _ c.self.invariant stop) is (failed_low _ _ _ _ _ _ _ c.self.invariant)
 
 regs : (g : _) (c : goal.After-push_reserved g) → c.carry_out.new.registers ≡ recovered c.self.inside.registers
 regs g c = c.carry_out.ensures.registers ∙ ap read_by_pio c.restart.ensures
@@ -47,7 +47,7 @@ invariant_of-self-2 g c =
     let i = c.self.inside in
     rw (c.carry_out.ensures.headers, c.carry_out.ensures.disk, regs g c, slots g c, c.push_reserved.ensures.past, c.in-Ok.ensures.past)
     (keeps_recover i.starting.items i.disk i.registers i.slots.items i.headers i.journal.past i.journal.room c.push_reserved.new.self.room
-    (get_or c.page.result 0 0 % 32) c.self.invariant (bad g c) (let a = c.in-Ok.ensures.room in let b = c.push_reserved.ensures.room in omega arith))
+    (get_or c.page.result.now 0 0 % 32) c.self.invariant (bad g c) (let a = c.in-Ok.ensures.room in let b = c.push_reserved.ensures.room in omega arith))
 
 pub returns-clause-recovered : goal.returns-clause-recovered
 returns-clause-recovered g c =
@@ -59,7 +59,7 @@ returns-clause-recovered g c =
         image_same = ap (λ d. d.image) c.carry_out.ensures.disk;
         first_same = c.push_reserved.ensures.first ∙ c.in-Ok.ensures.first;
         depth_same = ap (λ d. d.depth) c.carry_out.ensures.disk;
-        past_is = c.push_reserved.ensures.past ∙ ap (λ p. Recover (get_or c.page.result 0 0 % 32) ∷ p) c.in-Ok.ensures.past;
+        past_is = c.push_reserved.ensures.past ∙ ap (λ p. Recover (get_or c.page.result.now 0 0 % 32) ∷ p) c.in-Ok.ensures.past;
         sent_is = c.carry_out.ensures.sent;
       };
       room = reserves_room _ _ _ _ c.in-Ok.ensures.room c.in-Ok.ensures.same c.in-Ok.ensures.more c.push_reserved.ensures.room c.push_reserved.ensures.held;
