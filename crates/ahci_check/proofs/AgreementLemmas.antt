@@ -45,7 +45,7 @@ before : (c : ScriptCommand) → is_in_place BeforeDisk c ≡ replay.is_in_place
 before (command.Disk sectors depth first) = refl
 before (command.Write tag lba sectors fill) = refl
 before (command.Read tag lba sectors) = refl
-before (command.Raw tag header bytes) = refl
+before (command.Raw tag w) = refl
 before (command.Accept tag) = refl
 before (command.Serve tags) = refl
 before (command.Fail tag error lba) = refl
@@ -64,7 +64,7 @@ later : (port : PortView) (c : ScriptCommand) → is_in_place (place_of (Some po
 later port (command.Disk sectors depth first) = refl
 later port (command.Write tag lba sectors fill) = refl
 later port (command.Read tag lba sectors) = refl
-later port (command.Raw tag header bytes) = refl
+later port (command.Raw tag w) = refl
 later port (command.Accept tag) = refl
 later port (command.Serve tags) = refl
 later port (command.Fail tag error lba) = refl
@@ -133,7 +133,7 @@ first_run line (command.Disk sectors depth first) next said ran =
     made (disk_refusal sectors depth first) _ sectors depth first next said (disk_alike (after_first line) sectors depth first) ran
 first_run line (command.Write tag lba sectors fill) next said ran = absurd ran
 first_run line (command.Read tag lba sectors) next said ran = absurd ran
-first_run line (command.Raw tag header bytes) next said ran = absurd ran
+first_run line (command.Raw tag w) next said ran = absurd ran
 first_run line (command.Accept tag) next said ran = absurd ran
 first_run line (command.Serve tags) next said ran = absurd ran
 first_run line (command.Fail tag error lba) next said ran = absurd ran
@@ -199,7 +199,7 @@ does_size old new (command.Show lba) said h = unchanged old new h.0
 does_size old new command.Journal said h = unchanged old new h.0
 does_size old new command.Trim said h =
     record { sectors = ap (λ (p : PortView). length p.starting) h.0 ∙ h.1; depth = ap (λ (p : PortView). p.depth) h.0 }
-does_size old new (command.Raw tag header bytes) said h = absurd h
+does_size old new (command.Raw tag w) said h = absurd h
 does_size old new (command.Disk sectors depth first) said h = absurd h
 
 window_size : (w : WindowState) (old new : PortView) (said : Said) → AnswersWindow w old new said → SameSize old new
@@ -207,7 +207,7 @@ window_size w old new said (replay.is_issued may fit issued told) = grown old ne
 window_size w old new said (replay.is_refused fault name refuses named same told) = unchanged old new same
 
 run_size : (old new : PortView) (c : ScriptCommand) (said : Said) → RunsOn old c new said → SameSize old new
-run_size old new (command.Raw tag header bytes) said ran = window_size _ old new said ran
+run_size old new (command.Raw tag w) said ran = window_size _ old new said ran
 run_size old new c said ran = refused_or (refusal_on old c) old new said (Does old c new said) (does_size old new c said) ran
 
 run_alike : (line : List ℕ) (port : Option PortView) (c : ScriptCommand) (next : Option PortView) (said : Said) → Runs port c next said

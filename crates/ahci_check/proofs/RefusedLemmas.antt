@@ -28,7 +28,7 @@ use Rattle.ahci_port.specs.declared.fault.IssueFault.{IssueFault}
 use Rattle.ahci_port.specs.declared.fault.IssueFault.TheVariants as issue
 use Rattle.ahci_port.specs.declared.fault.ReissueFault.TheVariants as reissue
 use Rattle.ahci_port.specs.declared.fault.StepFault.TheVariants as step
-use Rattle.ahci_replay.specs.Commands.{AnswersWindow, MakesDisk, RefusedOr, Runs, RunsOn}
+use Rattle.ahci_replay.specs.Commands.{AnswersWindow, MakesDisk, RefusedOr, Runs, RunsOn, window_of}
 use Rattle.ahci_replay.specs.Commands as runs
 use Rattle.ahci_replay.specs.Refusals.{disk_refusal, issue_refusal, joined, of_collect, of_issue, of_reissue, of_step, refusal_on, register_refusal, show_refusal}
 use Rattle.ahci_script.specs.Lines.{reading}
@@ -225,7 +225,7 @@ refused port new words (command.Write tag lba count fill) said e h is ran =
     answered (issue_refusal port tag lba count) port new said _ (issue_refused port words tag lba count e is) ran
 refused port new words (command.Read tag lba count) said e h is ran =
     answered (issue_refusal port tag lba count) port new said _ (issue_refused port words tag lba count e is) ran
-refused port new words (command.Raw tag header bytes) said e h is ran = raw_refused port new words (record { tag = tag; header = header; bytes = bytes }) said e is ran
+refused port new words (command.Raw tag window) said e h is ran = raw_refused port new words (window_of tag window) said e is ran
 refused port new words (command.Accept tag) said e h is ran =
     answered (refusal_on port (command.Accept tag)) port new said _ (accept_refused (halted port.past) (phase port.past tag) (free port tag h (far port.depth tag words e is))) ran
 refused port new words (command.Serve tags) said e h is ran =

@@ -8,6 +8,7 @@ use Rattle.ahci_regs.specs.RegisterTable.{register_at}
 use Rattle.ahci_regs.specs.declared.fault.RegFault.{RegFault}
 use Rattle.ahci_regs.specs.declared.fault.RegFault.TheVariants as reg
 use Rattle.ahci_regs.specs.declared.register.Register.{Register}
+use Rattle.ahci_replay.specs.Commands.{window_of}
 use Rattle.ahci_script.specs.Words.{after_first}
 use Rattle.ahci_script.specs.declared.line.ScriptCommand.{ScriptCommand}
 use Rattle.ahci_script.specs.declared.line.ScriptCommand.TheVariants as command
@@ -100,7 +101,7 @@ register_excess words (Err fault) = excess_at words limit.NoSuchRegister
 abbrev pub excess_behind : ℕ → ℕ → List ℕ → ScriptCommand → Option Excess
 excess_behind sectors depth words (command.Write tag lba count fill) = transfer_excess depth words tag lba count
 excess_behind sectors depth words (command.Read tag lba count) = transfer_excess depth words tag lba count
-excess_behind sectors depth words (command.Raw tag header bytes) = raw_excess depth words (record { tag = tag; header = header; bytes = bytes })
+excess_behind sectors depth words (command.Raw tag window) = raw_excess depth words (window_of tag window)
 excess_behind sectors depth words (command.Accept tag) = tag_excess depth words tag
 excess_behind sectors depth words (command.Serve tags) = tags_excess depth words tags.items
 excess_behind sectors depth words (command.Fail tag error lba) = fail_excess sectors depth words tag lba

@@ -89,9 +89,7 @@ fn excess_behind<A: Allocator>(
             lba,
             sectors: count,
         } => Ok(transfer_excess(depth, words, *tag, *lba, *count)),
-        ScriptCommand::Raw { tag, header, bytes } => {
-            raw_excess(alloc, depth, words, *tag, *header, bytes)
-        }
+        ScriptCommand::Raw { tag, window } => raw_excess(alloc, depth, words, *tag, window),
         ScriptCommand::Accept { tag }
         | ScriptCommand::Collect { tag, .. }
         | ScriptCommand::Reissue { tag } => Ok(tag_excess(depth, words, *tag)),

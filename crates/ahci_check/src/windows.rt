@@ -3,10 +3,12 @@
 ghost use Rattle.std.specs.Prelude.{◌≡◌, ◌<◌, IfOk};
 ghost use Rattle.ahci_check.specs.Limits.{faulty_word, raw_excess, window_excess};
 ghost use Rattle.ahci_check.specs.Windows.{table_fault};
+ghost use Rattle.ahci_replay.specs.Commands.{window_of};
 
 use crate::excess::{Excess, excess_at, tag_excess};
 use crate::limit::Limit;
-use ahci_script::{HexBytes, after_first};
+use ahci_replay::read_window;
+use ahci_script::{RawWindow, after_first};
 use ahci_table::{TableFault, Window};
 use std::alloc::{AllocError, Allocator};
 
@@ -17,18 +19,15 @@ pub(crate) fn raw_excess<A: Allocator>(
     depth: u64,
     words: &[u8],
     tag: u8,
-    header: [u8; 32],
-    bytes: &HexBytes<'_>,
+    raw: &RawWindow<'_>,
 ) -> Result<Option<Excess>, AllocError>
     requires { tag < 32 }
-    ensures { IfOk result (λ excess. excess ≡ raw_excess depth words.now (record { tag = tag; header = header; bytes = bytes.now })) }
+    ensures { IfOk result (λ excess. excess ≡ raw_excess depth words.now (window_of tag raw.now)) }
 {
     if let Some(excess) = tag_excess(depth, words, tag) {
         return Ok(Some(excess));
     }
-    let mut read = vec![in alloc; 0u8; bytes.len()]?;
-    bytes.read_into(&mut read);
-    let window = Window::from_parts(tag, header, read);
+    let window = read_window(alloc, tag, raw)?;
     Ok(window_excess(after_first(words), table_fault(&window)))
 }
 

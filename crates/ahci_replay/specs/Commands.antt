@@ -15,6 +15,7 @@ use Rattle.ahci_script.specs.Said.{Said}
 use Rattle.ahci_script.specs.Said as says
 use Rattle.ahci_script.specs.declared.line.ScriptCommand.{ScriptCommand}
 use Rattle.ahci_script.specs.declared.line.ScriptCommand.TheVariants as command
+use Rattle.ahci_script.specs.declared.raw_window.RawWindow.{RawWindow}
 use Rattle.ahci_script.specs.declared.refusal.Refusal.{Refusal}
 use Rattle.ahci_table.specs.Build.{IsBuilt}
 use Rattle.ahci_table.specs.Defaults.{default_list}
@@ -36,6 +37,10 @@ pub record HasIssued (tag : ℕ) (work : Work) (old new : PortView) (said : Said
   pub built : IsBuilt tag work (default_list (sectors_of work)) window
   pub issued : IsIssued window old new
   pub told : said ≡ says.Issued (next_number old)
+
+-- a window as a script spells it, for the slot of a tag
+abbrev pub window_of : ℕ → RawWindow → WindowState
+window_of tag w = record { tag = tag; header = w.header; bytes = w.bytes }
 
 -- a window that a script spells is handed to the port: it is fit and issued, and the answer has the entry of its Issue; or the
 -- port refuses it, nothing changes, and the answer has the name of the fault
@@ -101,7 +106,7 @@ Does old (command.Ack mask) new said = (new ≡ record old { registers = acknowl
 Does old (command.Show lba) new said = (new ≡ old) × (said ≡ says.Sector lba (slice_index (sector old.starting old.past lba) 0))
 Does old command.Journal new said = (new ≡ old) × (said ≡ says.Journal (length old.past))
 Does old command.Trim new said = (new ≡ trimmed old) × (length old.image ≡ length old.starting) × (said ≡ says.Trimmed (length old.past))
-Does old (command.Raw tag header bytes) new said = ⊥
+Does old (command.Raw tag window) new said = ⊥
 Does old (command.Disk sectors depth first) new said = ⊥
 
 -- a refusal changes nothing, and its name is the answer; where there is none, this is done
@@ -111,7 +116,7 @@ RefusedOr None old new said Done = Done
 
 -- a command was run on a port; a window of any bytes says itself what may be answered
 abbrev pub RunsOn : PortView → ScriptCommand → PortView → Said → Type 0
-RunsOn old (command.Raw tag header bytes) new said = AnswersWindow (record { tag = tag; header = header; bytes = bytes }) old new said
+RunsOn old (command.Raw tag window) new said = AnswersWindow (window_of tag window) old new said
 RunsOn old c new said = RefusedOr (refusal_on old c) old new said (Does old c new said)
 
 -- a disk of zeros with free slots, or a refusal
@@ -147,7 +152,7 @@ MayRun old c new = new ≡ old
 abbrev pub MayLackOn : PortView → ScriptCommand → Type 0
 MayLackOn port (command.Write tag lba sectors fill) = refusal_on port (command.Write tag lba sectors fill) ≡ None
 MayLackOn port (command.Read tag lba sectors) = refusal_on port (command.Read tag lba sectors) ≡ None
-MayLackOn port (command.Raw tag header bytes) = Unit {0}
+MayLackOn port (command.Raw tag window) = Unit {0}
 MayLackOn port (command.Collect tag number) = Unit {0}
 MayLackOn port command.Recover = refusal_on port command.Recover ≡ None
 MayLackOn port (command.Identify word) = refusal_on port (command.Identify word) ≡ None

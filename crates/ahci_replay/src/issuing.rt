@@ -12,9 +12,10 @@ ghost use Rattle.ahci_table.specs.Refusal.{is_ragged};
 ghost use Rattle.ahci_replay.specs.Commands.{AnswersWindow, HasIssued, MayLackOn, RefusedOr, RunsOn};
 ghost use Rattle.ahci_replay.specs.Refusals.{issue_refusal, joined, of_issue};
 
+use crate::reading::read_window;
 use crate::refusals::issue_refusal;
 use ahci_port::Port;
-use ahci_script::{HexBytes, Refusal, ScriptAnswer, ScriptCommand};
+use ahci_script::{RawWindow, Refusal, ScriptAnswer, ScriptCommand};
 use ahci_table::{BuildFault, Piece, Window, default_pieces};
 use arrayvec::ArrayVec;
 use ncq_core::{Bytes, LBA_LIMIT, MAX_COUNT, MAX_SECTORS, Op, Phase};
@@ -132,21 +133,18 @@ fn issue<A: Allocator + Copy>(
     }
 }
 
-/// Issues a window of any bytes, which are read into memory of its own.
+/// Issues a window of any bytes.
 pub(crate) fn issue_raw<A: Allocator + Copy>(
     port: &mut Port<A>,
     alloc: &A,
     tag: u8,
-    header: [u8; 32],
-    bytes: &HexBytes<'_>,
+    window: &RawWindow<'_>,
 ) -> Result<ScriptAnswer<A>, AllocError>
     requires { tag < 32 }
-    ensures ok { IfOk result (λ answer. RunsOn port.old (ScriptCommand.Raw tag header bytes.now) port.new (said answer)) }
+    ensures ok { IfOk result (λ answer. RunsOn port.old (ScriptCommand.Raw tag window.now) port.new (said answer)) }
     ensures err { OnErr result (port.new ≡ port.old) }
 {
-    let mut read = vec![in alloc.clone()?; 0u8; bytes.len()]?;
-    bytes.read_into(&mut read);
-    issue_window(port, Window::from_parts(tag, header, read))
+    issue_window(port, read_window(alloc.clone()?, tag, window)?)
 }
 
 /// Issues a window.

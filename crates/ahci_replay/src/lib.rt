@@ -4,6 +4,7 @@
 mod answering;
 mod issuing;
 mod lines;
+mod reading;
 mod refusals;
 mod replaying;
 mod running;
@@ -13,6 +14,7 @@ mod session;
 mod teller;
 mod unanswered;
 
+pub use reading::read_window;
 pub use replaying::{replay, replay_with};
 pub use script_fault::ScriptFault;
 pub use session::Session;

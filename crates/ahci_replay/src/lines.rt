@@ -9,7 +9,7 @@ use crate::script_fault::ScriptFault;
 use crate::session::Session;
 use crate::teller::Teller;
 use crate::unanswered::Unanswered;
-use ahci_script::{Line, Output, ScriptCommand, parse};
+use ahci_script::{Line, Output, ScriptCommand, read_line};
 use std::alloc::Allocator;
 
 /// Answers a line of the given number.
@@ -25,12 +25,10 @@ pub(crate) fn answer_line<T: Teller<A>, A: Allocator + Copy>(
     ensures fault { IfErr result (IsLineFault session.old line.now number) }
     ensures wrong { placed session.old line.now ≡ None → result ≡ Err (ScriptFault.Line number) }
 {
-    match parse(line) {
-        None => Err(ScriptFault::Line(number)),
-        Some(Line::Skip) => Ok(()),
-        Some(Line::Run(command)) => {
-            answer_command(session, output, teller, number, line, command)
-        }
+    match read_line(line) {
+        Err(_) => Err(ScriptFault::Line(number)),
+        Ok(Line::Skip) => Ok(()),
+        Ok(Line::Run(command)) => { answer_command(session, output, teller, number, line, command) }
     }
 }
 

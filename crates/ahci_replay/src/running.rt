@@ -42,9 +42,7 @@ pub(crate) fn run_on<A: Allocator + Copy>(
             fill,
         } => Ok(write(port, alloc, tag, lba, sectors, fill)?),
         ScriptCommand::Read { tag, lba, sectors } => Ok(read(port, alloc, tag, lba, sectors)?),
-        ScriptCommand::Raw { tag, header, bytes } => {
-            Ok(issue_raw(port, alloc, tag, header, &bytes)?)
-        }
+        ScriptCommand::Raw { tag, window } => Ok(issue_raw(port, alloc, tag, &window)?),
         ScriptCommand::Accept { tag } => Ok(step(port, DeviceStep::Accept(tag))),
         ScriptCommand::Serve { tags } => Ok(step(port, DeviceStep::Serve(tags))),
         ScriptCommand::Fail { tag, error, lba } => {
@@ -166,6 +164,7 @@ fn flush<A: Allocator + Copy>(port: &mut Port<A>) -> Result<ScriptAnswer<A>, All
 }
 
 /// Hands the journal out, which ends here.
+#[inline(never)]
 fn trim<A: Allocator + Copy>(port: &mut Port<A>) -> ScriptAnswer<A>
     ensures { RunsOn port.old ScriptCommand.Trim port.new (said result) }
 {

@@ -128,7 +128,7 @@ collect-back tag number t n = word (decimal number) _ _ (tag-spelled tag t) (las
 
 raw-back : (tag : ℕ) (header bytes : List ℕ) → tag < 32 → length header ≡ 32 → All (λ b. b < 256) header → 0 < length bytes
     → All (λ b. b < 256) bytes
-    → raw_of (Some (before (decimal tag) (before (hex_bytes header) (hex_bytes bytes)))) ≡ Ok (Raw tag header bytes)
+    → raw_of (Some (before (decimal tag) (before (hex_bytes header) (hex_bytes bytes)))) ≡ Ok (Raw tag (record { header = header; bytes = bytes }))
 raw-back tag header bytes t size heads some all =
     word (before (hex_bytes header) (hex_bytes bytes)) _ _ (tag-spelled tag t)
     (word (hex_bytes bytes) _ _ (header-spelled header heads size) (last _ _ (bytes-spelled bytes all some) refl))
@@ -172,9 +172,9 @@ read_back (Write tag lba sectors fill) h =
 read_back (Read tag lba sectors) h =
     by_name (codes "read") (before (decimal tag) (before (decimal lba) (decimal sectors))) (Read tag lba sectors) refl refl
     (read-back tag lba sectors h.0 h.1 h.2)
-read_back (Raw tag header bytes) h =
-    by_name (codes "raw") (before (decimal tag) (before (hex_bytes header) (hex_bytes bytes))) (Raw tag header bytes) refl refl
-    (raw-back tag header bytes h.0 h.1 h.2 h.3 h.4)
+read_back (Raw tag w) h =
+    by_name (codes "raw") (before (decimal tag) (before (hex_bytes w.header) (hex_bytes w.bytes))) (Raw tag w) refl refl
+    (raw-back tag w.header w.bytes h.0 h.1 h.2 h.3 h.4)
 read_back (Accept tag) h = by_name (codes "accept") (decimal tag) (Accept tag) refl refl (accept-back tag h)
 read_back (Serve tags) h = serve-line tags.items h
 read_back (Fail tag error lba) h =

@@ -60,7 +60,7 @@ raw_of words = do
   h ← word_of header_of t.1
   b ← word_of hex_bytes_of h.1
   end ← ends b.1
-  Ok (Raw t.0 h.0 b.0)
+  Ok (Raw t.0 (record { header = h.0; bytes = b.0 }))
 
 -- accept T
 abbrev pub accept_of : Rest → Command
@@ -193,7 +193,7 @@ pub record AreTags (tags : List ℕ) : Type 0 where
 abbrev pub HasSmallTag : ScriptCommand → Type 0
 HasSmallTag (Write tag lba sectors fill) = tag < 32
 HasSmallTag (Read tag lba sectors) = tag < 32
-HasSmallTag (Raw tag header bytes) = tag < 32
+HasSmallTag (Raw tag window) = tag < 32
 HasSmallTag (Accept tag) = tag < 32
 HasSmallTag (Serve tags) = AreTags tags.items
 HasSmallTag (Fail tag error lba) = tag < 32

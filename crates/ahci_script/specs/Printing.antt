@@ -24,7 +24,7 @@ printed (Disk sectors depth None) = before (codes "disk") (before (decimal secto
 printed (Disk sectors depth (Some first)) = before (codes "disk") (before (decimal sectors) (before (decimal depth) (decimal first)))
 printed (Write tag lba sectors fill) = before (codes "write") (before (decimal tag) (before (decimal lba) (before (decimal sectors) (hex_of 2 fill))))
 printed (Read tag lba sectors) = before (codes "read") (before (decimal tag) (before (decimal lba) (decimal sectors)))
-printed (Raw tag header bytes) = before (codes "raw") (before (decimal tag) (before (hex_bytes header) (hex_bytes bytes)))
+printed (Raw tag w) = before (codes "raw") (before (decimal tag) (before (hex_bytes w.header) (hex_bytes w.bytes)))
 printed (Accept tag) = before (codes "accept") (decimal tag)
 printed (Serve tags) = codes "serve" ++ numbers_text tags.items
 printed (Fail tag error lba) = before (codes "fail") (before (decimal tag) (before (hex_of 2 error) (decimal lba)))
@@ -46,7 +46,7 @@ abbrev pub IsInRange : ScriptCommand → Type 0
 IsInRange (Disk sectors depth first) = (sectors < 2 ^ 64) × (depth < 2 ^ 64) × IfSome first (λ n. n < 2 ^ 64)
 IsInRange (Write tag lba sectors fill) = (tag < 32) × (lba < 2 ^ 64) × (sectors < sectors_limit) × (fill < 256)
 IsInRange (Read tag lba sectors) = (tag < 32) × (lba < 2 ^ 64) × (sectors < sectors_limit)
-IsInRange (Raw tag header bytes) = (tag < 32) × (length header ≡ 32) × All (λ b. b < 256) header × (0 < length bytes) × All (λ b. b < 256) bytes
+IsInRange (Raw tag w) = (tag < 32) × (length w.header ≡ 32) × All (λ b. b < 256) w.header × (0 < length w.bytes) × All (λ b. b < 256) w.bytes
 IsInRange (Accept tag) = tag < 32
 IsInRange (Serve tags) = AreTags tags.items
 IsInRange (Fail tag error lba) = (tag < 32) × (error < 256) × (lba < 2 ^ 64)

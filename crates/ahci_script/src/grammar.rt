@@ -7,6 +7,7 @@ ghost use Rattle.ahci_script.specs.Lines.{HasSmallTag, HasSmallTags, accept_of, 
 use crate::breach::{Breach, high_byte};
 use crate::fault::Fault;
 use crate::line::{Line, ScriptCommand};
+use crate::raw_window::RawWindow;
 use crate::tags::tags;
 use crate::words::{Words, first};
 
@@ -183,7 +184,10 @@ fn raw(words: Words<'_>) -> Result<ScriptCommand<'_>, Breach>
     let (header, words) = words.header()?;
     let (bytes, words) = words.bytes()?;
     words.end()?;
-    Ok(ScriptCommand::Raw { tag, header, bytes })
+    Ok(ScriptCommand::Raw {
+        tag,
+        window: RawWindow { header, bytes },
+    })
 }
 
 fn accept(words: Words<'_>) -> Result<ScriptCommand<'_>, Breach>

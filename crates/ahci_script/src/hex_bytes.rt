@@ -65,14 +65,14 @@ impl<'a> HexBytes<'a> {
 pub(crate) fn hex_bytes(word: &[u8]) -> Result<HexBytes<'_>, Fault>
     ensures { result ≡ hex_bytes_of word.now }
 {
-    HexBytes::new(word).ok_or(not_hexadecimal(word, Fault::OddDigits))
+    HexBytes::new(word).ok_or_else(|| not_hexadecimal(word, Fault::OddDigits))
 }
 
 /// The 32 bytes of a command header, by 64 hexadecimal digits.
 pub(crate) fn header(word: &[u8]) -> Result<[u8; 32], Fault>
     ensures { result ≡ header_of word.now }
 {
-    some_header(word).ok_or(not_hexadecimal(word, Fault::NotSixtyFourDigits))
+    some_header(word).ok_or_else(|| not_hexadecimal(word, Fault::NotSixtyFourDigits))
 }
 
 fn some_header(word: &[u8]) -> Option<[u8; 32]>

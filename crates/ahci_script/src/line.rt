@@ -1,4 +1,4 @@
-use crate::hex_bytes::HexBytes;
+use crate::raw_window::RawWindow;
 use arrayvec::ArrayVec;
 
 /// A line of a script, read and not yet run.
@@ -36,8 +36,7 @@ pub enum ScriptCommand<'a> {
     /// `raw T H B`: issues a window of any header and bytes.
     Raw {
         tag: u8,
-        header: [u8; 32],
-        bytes: HexBytes<'a>,
+        window: RawWindow<'a>,
     },
     /// `accept T`: the device takes the tag's command.
     Accept {

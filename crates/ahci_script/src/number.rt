@@ -113,7 +113,7 @@ pub(crate) fn hex_digit_value(b: u8) -> u8
 pub(crate) fn hexadecimal(word: &[u8]) -> Result<u32, Fault>
     ensures { result ≡ hexadecimal_of word.now }
 {
-    digits(word).ok_or(not_hexadecimal(word, Fault::LongRegister))
+    digits(word).ok_or_else(|| not_hexadecimal(word, Fault::LongRegister))
 }
 
 /// The value of 1 to 8 hexadecimal digits.
@@ -142,7 +142,7 @@ fn hex_value(digits: &[u8]) -> Option<u32>
 pub(crate) fn byte(word: &[u8]) -> Result<u8, Fault>
     ensures { result ≡ byte_of word.now }
 {
-    two_digits(word).ok_or(not_hexadecimal(word, Fault::NotTwoDigits))
+    two_digits(word).ok_or_else(|| not_hexadecimal(word, Fault::NotTwoDigits))
 }
 
 /// The value of two hexadecimal digits.

@@ -212,7 +212,7 @@ tells_received old new (command.Write tag lba sectors fill) said size ran i outs
     answered old new i size outside (refusal_on old (command.Write tag lba sectors fill)) said _ ran (λ none done. same_area old new i size outside done.issued.area_same)
 tells_received old new (command.Read tag lba sectors) said size ran i outside =
     answered old new i size outside (refusal_on old (command.Read tag lba sectors)) said _ ran (λ none done. same_area old new i size outside done.issued.area_same)
-tells_received old new (command.Raw tag header bytes) said size ran i outside = window old new i size outside ran
+tells_received old new (command.Raw tag w) said size ran i outside = window old new i size outside ran
 tells_received old new (command.Disk sectors depth first) said size ran i outside = absurd ran
 tells_received old new (command.Accept tag) said size ran i outside =
     answered old new i size outside (refusal_on old (command.Accept tag)) said _ ran

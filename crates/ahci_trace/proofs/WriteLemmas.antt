@@ -81,7 +81,7 @@ tells_writes old new (command.Write tag lba sectors fill) said ran =
     answered old new (refusal_on old (command.Write tag lba sectors fill)) said _ ran (λ none done. was_issued old new done.issued)
 tells_writes old new (command.Read tag lba sectors) said ran =
     answered old new (refusal_on old (command.Read tag lba sectors)) said _ ran (λ none done. was_issued old new done.issued)
-tells_writes old new (command.Raw tag header bytes) said ran = window old new ran
+tells_writes old new (command.Raw tag w) said ran = window old new ran
 tells_writes old new (command.Disk sectors depth first) said ran = absurd ran
 tells_writes old new (command.Accept tag) said ran =
     answered old new (refusal_on old (command.Accept tag)) said _ ran (λ none done. taken_of old new (request old.past tag) tag done.done done.stepped)
