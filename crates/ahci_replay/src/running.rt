@@ -164,6 +164,7 @@ fn flush<A: Allocator + Copy>(port: &mut Port<A>) -> Result<ScriptAnswer<A>, All
 }
 
 /// Hands the journal out, which ends here.
+// Apart from the commands that come by the million: what it moves is large.
 #[inline(never)]
 fn trim<A: Allocator + Copy>(port: &mut Port<A>) -> ScriptAnswer<A>
     ensures { RunsOn port.old ScriptCommand.Trim port.new (said result) }

@@ -76,6 +76,7 @@ impl<A: Allocator + Copy> Session<A> {
     }
 
     /// A disk of zeros. Its numbers are compared before an image is made.
+    // Once in a script, and what it moves is large.
     #[cold]
     fn make_disk(
         &mut self,
