@@ -106,7 +106,7 @@ plain_may port e = by (halted port.past) (busy port.past) refl refl e
     by false true p q h = absurd (cc)
     by false false p q h = (p, q)
 
--- a command that is journalled as itself passes an idle disk, leaves it as it is, and IDENTIFY DEVICE reads its page
+-- a command that is journalled as itself passes an idle disk, and leaves it as it is
 pub passes : (command : Plain) (disk : DiskState) → IsJournalled command → disk.error ≡ None → verdict.is_busy disk ≡ false → Passes command disk
 passes plain.Identify disk h calm idle = (calm, idle)
 passes plain.Flush disk h calm idle = (calm, idle)
