@@ -23,7 +23,7 @@ use crate::refusing::refusal;
 use crate::runs;
 use crate::window::Window;
 use arrayvec::ArrayVec;
-use ncq_core::Op;
+use ncq_journal::Op;
 use sata_fis::{Fis, Queued, h2d_of};
 use std::alloc::{AllocError, Allocator};
 

@@ -3,7 +3,7 @@ ghost use Rattle.ahci_table.specs.Defaults.{default_list, default_piece, sectors
 
 use crate::piece::Piece;
 use arrayvec::ArrayVec;
-use ncq_core::MAX_COUNT;
+use ncq_journal::MAX_COUNT;
 
 /// The most pieces of a command.
 const MAX_PIECES: u32 = 32;

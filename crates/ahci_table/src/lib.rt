@@ -21,6 +21,6 @@ mod window;
 pub use command::Command;
 pub use defaults::default_pieces;
 pub use fault::{BuildFault, TableFault};
-pub use ncq_core::OutOfMemory;
+pub use ncq_journal::OutOfMemory;
 pub use piece::Piece;
 pub use window::{MAX_BYTES, Window};

@@ -12,7 +12,7 @@ use crate::piece::Piece;
 use crate::runs;
 use crate::window::Window;
 use arrayvec::ArrayVec;
-use ncq_core::OutOfMemory;
+use ncq_journal::OutOfMemory;
 use std::alloc::Allocator;
 
 impl<A: Allocator> Window<A> {

@@ -9,7 +9,7 @@ use crate::fault::BuildFault;
 use crate::list::{are_apart, total};
 use crate::piece::{Piece, end_of};
 use crate::window::MAX_BYTES;
-use ncq_core::{LBA_LIMIT, MAX_COUNT, Op};
+use ncq_journal::{LBA_LIMIT, MAX_COUNT, Op};
 use std::alloc::Allocator;
 
 /// Whether the bytes of a write aren't whole sectors.
