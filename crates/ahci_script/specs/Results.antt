@@ -17,7 +17,7 @@ abbrev pub told : ResultLine → Told
 told code.Wrote = Wrote
 told (code.Read bytes) = Read bytes.now
 told (code.Failed error lba) = Failed error lba
-told (code.Sector lba byte) = Sector lba byte
+told (code.Sector byte lba) = Sector lba byte
 
 -- its text, without its line feed
 abbrev pub told_text : Told → List ℕ

@@ -31,8 +31,8 @@ pub enum ScriptAnswer<A: Allocator = Global> {
     },
     /// The entry that failed the request, with the error register's byte and the LBA of the sector.
     Failed {
-        entry: u64,
         error: u8,
+        entry: u64,
         lba: u64,
     },
     /// The tag of the command that had failed.
@@ -52,8 +52,8 @@ pub enum ScriptAnswer<A: Allocator = Global> {
     Flushed,
     /// A sector of the disk, by its first byte.
     Sector {
-        lba: u64,
         byte: u8,
+        lba: u64,
     },
     /// How many entries the journal has.
     Journal(u64),

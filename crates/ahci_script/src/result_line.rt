@@ -9,5 +9,5 @@ pub enum ResultLine<'a> {
     /// A job's command failed, with the error register's byte and the LBA of the sector.
     Failed { error: u8, lba: u64 },
     /// A sector, by its first byte.
-    Sector { lba: u64, byte: u8 },
+    Sector { byte: u8, lba: u64 },
 }
