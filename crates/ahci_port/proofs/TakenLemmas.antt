@@ -2,17 +2,20 @@
 use Rattle.std.proofs.Common.{◌≡◌, ℕ, ◌*◌, ◌/◌, ◌^◌, ◌<◌, ◌≤◌, Bool, true, false, cond, List, length, leb, sym, refl, ◌∙◌, subst, Option, None, Some, arith}
 use Rattle.std.proofs.lemmas.Bool.{false≢true, leb-false}
 use Rattle.ahci_table.specs.Command.{op, queued_of}
-use Rattle.ahci_table.specs.Fit.{IsFit}
+use Rattle.ahci_table.specs.Fit.{Breaks, IsFit}
 use Rattle.ahci_table.specs.Text.{text}
 use Rattle.ahci_table.specs.Window.{WindowState}
+use Rattle.ahci_table.specs.declared.fault.TableFault.{TableFault}
+use Rattle.ahci_table.specs.declared.fault.TableFault.TheVariants as table
 use Rattle.ncq_journal.specs.declared.phase.Phase.{Phase}
 use Rattle.ncq_journal.specs.declared.phase.Phase.TheVariants.{Free, Issued, Accepted, Rejected, Broken, Held, Done}
 use Rattle.ncq_journal.specs.Entry.{Entry}
 use Rattle.ncq_journal.specs.Halted.{halted}
 use Rattle.ncq_journal.specs.Lawful.{IsProper, most_sectors}
 use Rattle.ncq_journal.specs.Phase.{phase}
-use Rattle.ahci_port.specs.Faults.{MayTake, early_refusal}
+use Rattle.ahci_port.specs.Faults.{MayTake, RefusesIssue, early_refusal}
 use Rattle.ahci_port.specs.Keeping.{HasSlot}
+use Rattle.ahci_port.specs.Moves.{issue_fault_of}
 use Rattle.ahci_port.specs.PortView.{PortView, is_free}
 use Rattle.ahci_port.specs.Slots.{SlotState}
 use Rattle.ahci_port.specs.declared.fault.IssueFault.TheVariants as issue
@@ -38,6 +41,13 @@ early_may port tag e = by (halted port.past) (leb port.depth tag) (is_free (phas
     by false true x p q r h = absurd (cc)
     by false false true p q r h = record { running = p; below = leb-false port.depth tag q; free = free_is (phase port.past tag) r }
     by false false false p q r h = absurd (cc)
+
+-- a window that breaks a rule is refused for it
+pub refuses_rule : (port : PortView) (w : WindowState) (f : TableFault) → MayTake port w.tag → Breaks w f → RefusesIssue port w (issue_fault_of f)
+refuses_rule port w table.BadHeader may breaks = (may, breaks)
+refuses_rule port w table.BadCommand may breaks = (may, breaks)
+refuses_rule port w table.WrongTag may breaks = (may, breaks)
+refuses_rule port w table.BadList may breaks = (may, breaks)
 
 -- the slot of a free tag is empty
 pub vacant_slot : (starting : List ℕ) (past : List Entry) (tag : ℕ) (s : Option SlotState) → HasSlot starting past tag s → phase past tag ≡ Free → s ≡ None

@@ -1,4 +1,4 @@
-use ncq_core::Outcome;
+use ncq_journal::Outcome;
 
 /// The place of the entry that answered a request, and how it ended.
 #[derive(Clone, Copy, Debug, PartialEq, Eq)]

@@ -21,7 +21,8 @@ pub use fault::{
     CollectFault, IssueFault, PlainFault, RecoverFault, ReissueFault, ResumeFault, StepFault,
     TrimFault, WriteFault,
 };
-pub use ncq_core::{DiskFault, Outcome};
+pub use ncq_core::DiskFault;
+pub use ncq_journal::Outcome;
 pub use pending::Pending;
 pub use port::{MOST_FIRST, Port};
 pub use reply::Reply;

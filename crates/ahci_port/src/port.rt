@@ -27,7 +27,8 @@ use crate::slot::{Slot, phase_in, place_in};
 use crate::software::{started, write};
 use crate::unqueued::UnqueuedTable;
 use ahci_regs::{PortRegs, RegFault, Register};
-use ncq_core::{Disk, DiskFault, Journal, Phase, read_sectors};
+use ncq_core::{Disk, DiskFault};
+use ncq_journal::{Journal, Phase, read_sectors};
 use std::alloc::{AllocError, Allocator, Global};
 use std::marker::Model;
 

@@ -1,4 +1,4 @@
-use ncq_core::Outcome;
+use ncq_journal::Outcome;
 
 /// The answer to a request: its number, the journal's entry that answered it, and how it ended.
 #[derive(Clone, Copy, Debug, PartialEq, Eq)]

@@ -1,10 +1,11 @@
 ghost use Rattle.std.specs.Prelude.{◌≡◌, map, IsSome, None, Some, is_some};
 ghost use Rattle.std.specs.List.{list_any};
 ghost use Rattle.std.specs.Option.{option_copied, option_map};
-ghost use Rattle.ahci_table.specs.Command.{cfis, queued_of};
+ghost use Rattle.ahci_table.specs.Command.{cfis, op, queued_of};
 ghost use Rattle.ahci_table.specs.Fit.{IsFit};
 ghost use Rattle.ahci_table.specs.Prdt.{pieces};
 ghost use Rattle.ahci_table.specs.Text.{text};
+ghost use Rattle.ncq_journal.specs.Lawful.{IsProper};
 ghost use Rattle.ncq_core.specs.DiskFis.{setup_bytes};
 ghost use Rattle.ncq_core.specs.DiskState.{command_of};
 ghost use Rattle.ncq_core.specs.Serving.{HasMoved, serve_fault, served};
@@ -16,7 +17,8 @@ ghost use Rattle.ahci_port.specs.Moves.{issued_slot, outcome_of, served_slot, re
 use crate::ended::Ended;
 use crate::memory::Memory;
 use ahci_table::{Command, Window};
-use ncq_core::{Disk, Outcome, Phase};
+use ncq_core::Disk;
+use ncq_journal::{Outcome, Phase};
 use std::alloc::{Allocator, Global};
 use std::marker::Model;
 
@@ -59,7 +61,8 @@ impl<A: Allocator> Slot<A> {
         requires fit { IsFit window }
         requires list { command.pieces.items ≡ pieces window }
         requires queued { command.queued ≡ queued_of window }
-        ensures { result ≡ issued_slot place command.queued window }
+        ensures slot { result ≡ issued_slot place command.queued window }
+        ensures proper { IsProper (op window) }
     {
         Slot {
             place,

@@ -14,7 +14,8 @@ use crate::receiving::{receive_pio, receive_register};
 use crate::sent::Sent;
 use crate::software::write;
 use ahci_regs::{PortRegs, Register};
-use ncq_core::{Disk, Plain, Taken};
+use ncq_core::{Disk, Taken};
+use ncq_journal::Plain;
 use std::alloc::Allocator;
 
 /// How many entries the command's PRDT has: a page is one piece, and a flush has no data.

@@ -12,7 +12,7 @@ use crate::port::{Port, number_at};
 use crate::reply::Reply;
 use crate::software::issue;
 use ahci_table::Window;
-use ncq_core::{Event, Phase};
+use ncq_journal::{Event, Phase};
 use std::alloc::Allocator;
 
 impl<A: Allocator> Port<A> {

@@ -1,10 +1,9 @@
 //! How software issues a command.
 
-ghost use Rattle.std.specs.Prelude.{◌≡◌, IfOk, IfErr, OnOk};
+ghost use Rattle.std.specs.Prelude.{◌≡◌, ◌≢◌, IfOk, IfErr, OnOk};
 ghost use Rattle.ahci_table.specs.Command.{op, queued_of};
 ghost use Rattle.ahci_table.specs.Fit.{IsFit};
 ghost use Rattle.ahci_table.specs.Prdt.{pieces};
-ghost use Rattle.ncq_journal.specs.Lawful.{IsProper};
 ghost use Rattle.ncq_journal.specs.Work.{work_of};
 ghost use Rattle.ahci_port.specs.Faults.{RefusesIssue, MayTake, early_refusal};
 ghost use Rattle.ahci_port.specs.Moves.{issue_fault_of};
@@ -15,8 +14,8 @@ use crate::fault::IssueFault;
 use crate::port::{Port, ROOM};
 use crate::slot::Slot;
 use crate::software::issue;
-use ahci_table::{Piece, TableFault, Window};
-use ncq_core::{Bytes, Event, Op, Phase};
+use ahci_table::{Command, Piece, TableFault, Window};
+use ncq_journal::{Bytes, Event, Op, Phase};
 use sata_fis::Queued;
 use std::alloc::{AllocError, Allocator};
 
@@ -43,7 +42,6 @@ fn op_of<A: Allocator + Clone>(
     requires queued { queued.now ≡ queued_of window.now }
     requires list { list.now ≡ pieces window.now }
     ensures work { IfOk result (λ o. work_of o ≡ op window.now) }
-    ensures proper { IfOk result (λ o. IsProper (op window.now)) }
 {
     let lba = queued.lba;
     if !queued.write {
@@ -73,6 +71,25 @@ impl<A: Allocator> Port<A> {
             _ => Some(IssueFault::SlotOwned),
         }
     }
+
+    /// The command of a window that nothing stands against. This and `enter` stand inline in both calls, so that the command with its
+    /// list of pieces is not moved.
+    #[inline(always)]
+    fn command_of(&self, window: &Window<A>) -> Result<Command, IssueFault>
+        ensures taken { OnOk result (MayTake self.now window.now.tag × IsFit window.now) }
+        ensures queued { IfOk result (λ c. c.queued ≡ queued_of window.now) }
+        ensures pieces { IfOk result (λ c. c.pieces.items ≡ pieces window.now) }
+        ensures fault { IfErr result (RefusesIssue self.now window.now) }
+        ensures lacking { IfErr result (λ e. e ≢ IssueFault.OutOfMemory) }
+    {
+        if let Some(fault) = self.early_fault(window.tag()) {
+            return Err(fault);
+        }
+        match window.check() {
+            Ok(command) => Ok(command),
+            Err(fault) => Err(issue_fault(fault)),
+        }
+    }
 }
 
 impl<A: Allocator + Clone> Port<A> {
@@ -90,17 +107,58 @@ impl<A: Allocator + Clone> Port<A> {
         ensures fault { IfErr result (λ e. RefusesIssue self.old window e.1) }
         ensures err { IfErr result (λ e. (e.0 ≡ window) × (self.new ≡ self.old)) }
     {
-        let tag = window.tag();
-        if let Some(fault) = self.early_fault(tag) {
-            return Err((window, fault));
-        }
-        let command = match window.check() {
+        let command = match self.command_of(&window) {
             Ok(command) => command,
-            Err(fault) => return Err((window, issue_fault(fault))),
+            Err(fault) => return Err((window, fault)),
         };
-        let Ok(op) = op_of(&self.alloc, &window, &command.queued, &command.pieces) else {
-            return Err((window, IssueFault::OutOfMemory));
-        };
+        match op_of(&self.alloc, &window, &command.queued, &command.pieces) {
+            Ok(op) => self.enter(window, command, op),
+            Err(_) => Err((window, IssueFault::OutOfMemory)),
+        }
+    }
+
+    /// Issues the command of a window as `issue` does, where what it asks is at hand: `asked` goes into the journal as it is, and
+    /// of a write no byte is copied.
+    ///
+    /// # Errors
+    /// Those of `issue`; the window comes back as it was.
+    pub fn issue_asked(
+        &mut self,
+        window: Window<A>,
+        asked: Op<A>,
+    ) -> Result<u64, (Window<A>, IssueFault)>
+        requires { IsFit window → work_of asked ≡ op window }
+        ensures number { IfOk result (λ n. n ≡ next_number self.old) }
+        ensures issued { OnOk result (IsIssued window self.old self.new) }
+        ensures taken { OnOk result (MayTake self.old window.tag × IsFit window) }
+        ensures fault { IfErr result (λ e. RefusesIssue self.old window e.1) }
+        ensures err { IfErr result (λ e. (e.0 ≡ window) × (self.new ≡ self.old)) }
+    {
+        match self.command_of(&window) {
+            Ok(command) => self.enter(window, command, asked),
+            Err(fault) => Err((window, fault)),
+        }
+    }
+
+    /// Issues a command that nothing stands against: its window goes into the slot, and what it asks into the journal.
+    #[inline(always)]
+    fn enter(
+        &mut self,
+        window: Window<A>,
+        command: Command,
+        asked: Op<A>,
+    ) -> Result<u64, (Window<A>, IssueFault)>
+        requires taken { MayTake self.old window.tag }
+        requires fit { IsFit window }
+        requires queued { command.queued ≡ queued_of window }
+        requires pieces { command.pieces.items ≡ pieces window }
+        requires asked { work_of asked ≡ op window }
+        ensures number { IfOk result (λ n. n ≡ next_number self.old) }
+        ensures issued { OnOk result (IsIssued window self.old self.new) }
+        ensures fault { IfErr result (λ e. e.1 ≡ IssueFault.OutOfMemory) }
+        ensures err { IfErr result (λ e. (e.0 ≡ window) × (self.new ≡ self.old)) }
+    {
+        let tag = window.tag();
         let Ok(()) = self.journal.reserve(ROOM) else {
             return Err((window, IssueFault::OutOfMemory));
         };
@@ -109,7 +167,7 @@ impl<A: Allocator + Clone> Port<A> {
         self.headers[tag as usize] = *window.header();
         issue(&mut self.registers, tag);
         self.slots[tag as usize] = Some(Slot::issued(place, command, window));
-        self.journal.push_reserved(Event::Issue(tag, op));
+        self.journal.push_reserved(Event::Issue(tag, asked));
         Ok(number)
     }
 }

@@ -13,7 +13,7 @@ use crate::sent::Sent;
 use crate::slot::{read_in, window_in};
 use crate::tag_sets::TagSets;
 use ahci_table::Window;
-use ncq_core::Phase;
+use ncq_journal::Phase;
 use std::alloc::Allocator;
 use word_bits::with_bit;
 

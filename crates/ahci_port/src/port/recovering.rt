@@ -15,7 +15,7 @@ use crate::port::{Port, ROOM};
 use crate::slot::recover_slots;
 use crate::software::restart;
 use crate::unqueued::carry_out;
-use ncq_core::{Event, Plain};
+use ncq_journal::{Event, Plain};
 use std::alloc::Allocator;
 
 impl<A: Allocator> Port<A> {
@@ -78,7 +78,9 @@ impl<A: Allocator> Port<A> {
         Ok(())
     }
 
-    /// Carries out IDENTIFY DEVICE or FLUSH CACHE EXT, and answers the page that the device sent last.
+    /// Carries out IDENTIFY DEVICE or FLUSH CACHE EXT, and answers the page that the device sent last. It stands inline in both, so
+    /// that a flush moves no page.
+    #[inline(always)]
     fn send_unqueued(&mut self, plain: Plain) -> Result<[u8; 512], PlainFault>
         requires { IsJournalled plain }
         ensures page { IfOk result (λ page. plain ≡ Identify → page ≡ identify_page (sectors_in self.old) self.old.depth) }

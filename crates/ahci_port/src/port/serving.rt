@@ -17,8 +17,9 @@ use crate::receiving::{receive_bits, receive_setup};
 use crate::slot::Slot;
 use crate::step::{DeviceStep, Stepped};
 use arrayvec::ArrayVec;
+use ncq_core::Disk;
 use ncq_core::laws::the_disks_answers_are_these_bytes;
-use ncq_core::{Disk, Event, Journal, Phase};
+use ncq_journal::{Event, Journal, Phase};
 use std::alloc::Allocator;
 use word_bits::place;
 

@@ -10,7 +10,8 @@ use crate::port::Port;
 use crate::receiving::{receive_bits, receive_register, receive_setup};
 use crate::step::{DeviceStep, Stepped};
 use ncq_core::laws::the_disks_answers_are_these_bytes;
-use ncq_core::{Disk, Event, Phase, ServeFault, Taken};
+use ncq_core::{Disk, ServeFault, Taken};
+use ncq_journal::{Event, Phase};
 use std::alloc::Allocator;
 use word_bits::place;
 

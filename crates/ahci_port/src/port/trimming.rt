@@ -9,7 +9,7 @@ ghost use Rattle.ahci_port.specs.Steps.{GoesOn, trimmed};
 use crate::fault::TrimFault;
 use crate::port::{MOST_FIRST, Port};
 use crate::slot::is_any_owned;
-use ncq_core::Journal;
+use ncq_journal::Journal;
 use std::alloc::Allocator;
 
 impl<A: Allocator + Copy> Port<A> {

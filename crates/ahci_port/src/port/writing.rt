@@ -13,7 +13,7 @@ use crate::port::Port;
 use crate::written::Written;
 use ahci_regs::{RegFault, Register};
 use ahci_table::Window;
-use ncq_core::Phase;
+use ncq_journal::Phase;
 use std::alloc::Allocator;
 use word_bits::{below, is_set};
 
