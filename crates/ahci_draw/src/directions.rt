@@ -6,7 +6,7 @@ ghost use Rattle.ncq_journal.specs.Work.{work_of};
 ghost use Rattle.ahci_draw.specs.Directions.{directions_of, is_write, turned, turned_by, writes_in};
 
 use ahci_port::Port;
-use ncq_core::{Event, Op};
+use ncq_journal::{Event, Op};
 use std::alloc::Allocator;
 
 /// Before the disk none was.

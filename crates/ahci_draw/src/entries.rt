@@ -7,7 +7,7 @@ ghost use Rattle.ahci_draw.specs.Entries.{entries_text, line_of, moved_by, turne
 use crate::directions::directions_after;
 use crate::line::push_line;
 use crate::phases::phases_after;
-use ncq_core::{Journal, Phase};
+use ncq_journal::{Journal, Phase};
 use std::alloc::{AllocError, Allocator};
 
 /// Appends the line of the entry of a number, where there is one, and moves phases and directions after it.

@@ -9,7 +9,7 @@ use crate::phases::in_device;
 use crate::text::letter;
 use crate::words::push_title;
 use ahci_script::growing::push;
-use ncq_core::{Event, Op, Phase, Plain};
+use ncq_journal::{Event, Op, Phase, Plain};
 use std::alloc::{AllocError, Allocator};
 
 /// Where a tag stands, as a letter: a capital for a write.

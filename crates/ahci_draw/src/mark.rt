@@ -5,7 +5,7 @@ ghost use Rattle.ahci_draw.specs.Mark.{mark_of};
 use crate::directions::{directions_in, directions_of_none};
 use crate::phases::{phases_in, phases_of_none};
 use ahci_port::Port;
-use ncq_core::Phase;
+use ncq_journal::Phase;
 use std::alloc::Allocator;
 
 /// What is kept of the port that a command finds, to draw later what the command has added.

@@ -7,7 +7,7 @@ ghost use Rattle.ncq_journal.specs.Entry.{entry_of};
 ghost use Rattle.ahci_draw.specs.Phases.{in_device, is_accepted, moved, phases_of};
 
 use ahci_port::Port;
-use ncq_core::{Event, Phase, phase_after};
+use ncq_journal::{Event, Phase, phase_after};
 use std::alloc::Allocator;
 
 /// Before the disk every tag is free.

@@ -8,7 +8,7 @@ ghost use Rattle.ahci_draw.specs.Words.{direction, entry_words, failure_words, i
 use crate::text::push_number;
 use ahci_script::growing::push;
 use ahci_script::spaced_byte;
-use ncq_core::{Event, Op, Plain};
+use ncq_journal::{Event, Op, Plain};
 use std::alloc::{AllocError, Allocator};
 
 /// A queued command's direction.

@@ -1,4 +1,4 @@
-use ncq_core::Op;
+use ncq_journal::Op;
 use std::alloc::Allocator;
 
 /// What is kept of the request of a tag while a journal is told as a script.

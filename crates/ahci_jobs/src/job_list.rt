@@ -5,7 +5,7 @@ ghost use Rattle.ahci_jobs.specs.JobList.{IsListFault, IsListed};
 
 use crate::list_fault::ListFault;
 use crate::making::add_line;
-use ncq_core::Op;
+use ncq_journal::Op;
 use std::alloc::{AllocError, Allocator};
 use std::io::Read;
 use streams::{Found, Reads, TakesLines, take_lines};

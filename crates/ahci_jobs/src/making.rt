@@ -8,7 +8,7 @@ ghost use Rattle.ahci_jobs.specs.JobList.{IsGood, IsLineFault, command_for, comm
 
 use crate::list_fault::ListFault;
 use ahci_script::{Job, JobLine, parse_job};
-use ncq_core::{Bytes, LBA_LIMIT, MAX_COUNT, Op};
+use ncq_journal::{Bytes, LBA_LIMIT, MAX_COUNT, Op};
 use std::alloc::{AllocError, Allocator};
 
 /// How many bytes a sector has.

@@ -14,7 +14,7 @@ use crate::run_size::RunSize;
 use crate::telling::tell_run;
 use ahci_driver::{Chooser, Open, RunEnd, RunFault, run};
 use ahci_port::Port;
-use ncq_core::Op;
+use ncq_journal::Op;
 use std::alloc::{AllocError, Allocator};
 use std::io::{Read, Write};
 use std::sync::Wait;

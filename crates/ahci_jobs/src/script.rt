@@ -11,7 +11,7 @@ ghost use Rattle.ahci_jobs.specs.Scripts.{collect_line, entry_line, entry_lines,
 use crate::issued::{Issued, TAGS};
 use ahci_port::Port;
 use ahci_script::growing::{push, push_byte, push_number};
-use ncq_core::{Event, Op, Plain};
+use ncq_journal::{Event, Op, Plain};
 use std::alloc::{AllocError, Allocator};
 
 /// Appends a word and the number of a tag.

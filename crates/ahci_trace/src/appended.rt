@@ -5,7 +5,7 @@ ghost use Rattle.ncq_journal.specs.Numbering.{entry_numbered};
 ghost use Rattle.ahci_trace.specs.Entries.{appended_at, new_entries, newest, what_of};
 
 use crate::mark::Mark;
-use ncq_core::{Event, Journal, Op, Plain};
+use ncq_journal::{Event, Journal, Op, Plain};
 use std::alloc::{AllocError, Allocator};
 
 /// What an entry of the journal says, without a write's bytes. The numbers are tags, 0 to 31.

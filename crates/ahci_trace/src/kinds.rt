@@ -4,7 +4,7 @@ ghost use Rattle.std.specs.Prelude.{◌≡◌};
 ghost use Rattle.ahci_trace.specs.Text.{kind_name, phase_name, plain_name};
 
 use crate::appended::Happened;
-use ncq_core::{Phase, Plain};
+use ncq_journal::{Phase, Plain};
 
 /// The name of an entry's kind.
 pub(crate) fn kind_name(what: Happened) -> &'static str

@@ -2,7 +2,7 @@ ghost use Rattle.std.specs.Prelude.{◌≡◌, IfOk};
 ghost use Rattle.ahci_trace.specs.Owned.{is_owned, owned_slots};
 
 use ahci_port::Port;
-use ncq_core::Phase;
+use ncq_journal::Phase;
 use std::alloc::{AllocError, Allocator};
 
 /// A slot that a request owns, and where its command stands.

@@ -4,7 +4,7 @@ ghost use Rattle.ahci_trace.specs.Received.{data_moved, nothing_received, page_c
 use crate::appended::Happened;
 use crate::sent::bytes_at;
 use ahci_port::Port;
-use ncq_core::{Phase, Plain};
+use ncq_journal::{Phase, Plain};
 use std::alloc::Allocator;
 
 /// The FISes that a command has brought into the received FIS area, byte by byte (AHCI 1.3.1, section 4.2.1). Of a command

@@ -12,7 +12,7 @@ use crate::flat::FlatReply;
 use crate::status::Status;
 use ahci_port::{Outcome, Port, Reply};
 use ahci_table::Window;
-use ncq_core::Phase;
+use ncq_journal::Phase;
 use std::alloc::Allocator;
 
 /// Takes the answer of a request and frees its slot. What a read has read stands at the beginning of `out` then. It takes no

@@ -11,7 +11,7 @@ ghost use Rattle.port_place.specs.Seen.{AnswersBytes, AnswersEntry, written_by};
 use crate::flat::FlatEntry;
 use crate::status::Status;
 use ahci_port::Port;
-use ncq_core::{Event, Op, Plain};
+use ncq_journal::{Event, Op, Plain};
 use std::alloc::Allocator;
 
 /// The entry of a number.

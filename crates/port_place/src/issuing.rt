@@ -10,7 +10,7 @@ use crate::faults::issue_status;
 use crate::status::Status;
 use ahci_port::Port;
 use ahci_table::{BuildFault, Window, default_pieces};
-use ncq_core::{Bytes, LBA_LIMIT, MAX_COUNT, Op};
+use ncq_journal::{Bytes, LBA_LIMIT, MAX_COUNT, Op};
 use std::alloc::{AllocError, Allocator};
 
 /// How many bytes a sector has.

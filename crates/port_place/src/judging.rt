@@ -9,7 +9,8 @@ use crate::flat::FlatEntry;
 use crate::known::{Known, is_busy, is_halted, known_of, known_with, nothing_known};
 use crate::named::{Deed, Span, named};
 use crate::status::Status;
-use ncq_core::{LBA_LIMIT, MAX_COUNT, MAX_DEPTH, Phase, Plain};
+use ncq_core::MAX_DEPTH;
+use ncq_journal::{LBA_LIMIT, MAX_COUNT, Phase, Plain};
 
 /// Looks at events, the oldest first, as a journal from its beginning on, on a disk of so many sectors with so many slots. Where
 /// one can't come where it stands, `first_bad` is the place of the first such, counted from 0.

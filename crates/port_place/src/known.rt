@@ -8,7 +8,7 @@ ghost use Rattle.port_place.specs.Knowing.{AreKnown, known, known_after, nothing
 
 use crate::flat::FlatEntry;
 use crate::named::{Deed, Span};
-use ncq_core::Phase;
+use ncq_journal::Phase;
 
 /// Where a list of events has left a tag: its phase, and the sectors of the command that it was last issued for.
 #[derive(Clone, Copy)]

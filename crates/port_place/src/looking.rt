@@ -14,7 +14,7 @@ use crate::faults::register_status;
 use crate::flat::{FlatSets, FlatSlot};
 use crate::status::Status;
 use ahci_port::Port;
-use ncq_core::Phase;
+use ncq_journal::Phase;
 use std::alloc::Allocator;
 
 /// How many slots there are.

@@ -4,7 +4,7 @@ ghost use Rattle.std.specs.Prelude.{◌≡◌, ◌<◌};
 ghost use Rattle.port_place.specs.Judging.{HasLowTag, entry_named, entry_of, tagged};
 
 use crate::flat::FlatEntry;
-use ncq_core::Plain;
+use ncq_journal::Plain;
 
 /// The sectors of a command.
 #[derive(Clone, Copy)]

@@ -7,7 +7,8 @@ ghost use Rattle.port_place.specs.Alone.{log_refusal, page_refusal};
 ghost use Rattle.port_place.specs.Told.{Told};
 
 use crate::status::Status;
-use ncq_core::{LBA_LIMIT, MAX_DEPTH};
+use ncq_core::MAX_DEPTH;
+use ncq_journal::LBA_LIMIT;
 
 /// How many bytes a page has.
 const PAGE: usize = 512;

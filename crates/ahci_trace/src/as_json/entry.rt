@@ -7,7 +7,7 @@ use super::member::{put_boolean, put_number, put_tag, put_text};
 use crate::appended::{Appended, Happened};
 use crate::kinds::kind_name;
 use json::Writer;
-use ncq_core::Plain;
+use ncq_journal::Plain;
 use std::alloc::{AllocError, Allocator};
 
 /// The kind of an entry, in one word.
