@@ -34,6 +34,66 @@ fn filled<A: Allocator>(outcome: Outcome, window: &Window<A>, mut buffer: Vec<u8
     buffer
 }
 
+/// An answer that was taken out of its slot. The bytes of a finished read still stand in the window.
+#[derive(Drop)]
+pub(crate) struct Answered<A: Allocator> {
+    reply: Reply,
+    window: Window<A>,
+    buffer: Vec<u8, A>,
+}
+
+impl<A: Allocator> Answered<A> {
+    /// The reply, and the bytes of a finished read, which are its window's text, in the buffer; no bytes otherwise.
+    pub(crate) fn received(self) -> (Reply, Vec<u8, A>)
+        requires fit { IsFit self.window }
+        requires len { has_length self.reply.outcome self.window (length self.buffer.items) }
+        ensures reply { result.0 ≡ self.reply }
+        ensures text { result.1.items ≡ bytes_in self.reply.outcome self.window }
+        ensures length { length result.1.items ≡ answer_length self.reply.outcome (length self.buffer.items) }
+    {
+        let Answered {
+            reply,
+            window,
+            buffer,
+        } = self;
+        (reply, filled(reply.outcome, &window, buffer))
+    }
+}
+
+/// Takes the answer of a ticket's request and frees its slot. It takes no memory.
+///
+/// # Errors
+/// Those of `collect_locked`; the ticket comes back.
+pub(crate) fn take_locked<A: Allocator>(
+    port: &mut Port<A>,
+    ticket: Ticket<A>,
+) -> Result<Answered<A>, (Ticket<A>, CollectFault)>
+    ensures ok { OnOk result (IsCollected ticket.tag port.old port.new) }
+    ensures number { IfOk result (λ a. a.reply.number ≡ ticket.number) }
+    ensures answer { IfOk result (λ a. answered_as port.old ticket.number ≡ Some (record { entry = a.reply.entry; outcome = a.reply.outcome; bytes = bytes_in a.reply.outcome a.window })) }
+    ensures fit { IfOk result (λ a. IsFit a.window) }
+    ensures length { IfOk result (λ a. has_length a.reply.outcome a.window (length a.buffer.items)) }
+    ensures buffer { IfOk result (λ a. a.buffer.items ≡ ticket.buffer) }
+    ensures fault { MatchOption (ticket_refusal port.old ticket) (IsOk result) (λ f. IsErrAnd result (λ e. (e.0 ≡ ticket) × (e.1 ≡ f))) }
+    ensures err { OnErr result (port.new ≡ port.old) }
+{
+    port.journal();
+    let read = port.read_length(ticket.tag);
+    if !suits(read, &ticket.buffer) {
+        return Err((ticket, CollectFault::Stranger));
+    }
+    let (reply, window) = match port.collect(ticket.tag, ticket.number) {
+        Ok(collected) => collected,
+        Err(fault) => return Err((ticket, fault)),
+    };
+    let Ticket { buffer, .. } = ticket;
+    Ok(Answered {
+        reply,
+        window,
+        buffer,
+    })
+}
+
 /// What `collect` does once it has the lock: it takes the answer of the ticket's request and frees its slot. The bytes
 /// are those of a finished read, in the ticket's buffer, and none otherwise. It takes no memory.
 ///
@@ -51,15 +111,5 @@ pub fn collect_locked<A: Allocator>(
     ensures fault { MatchOption (ticket_refusal port.old ticket) (IsOk result) (λ f. IsErrAnd result (λ e. (e.0 ≡ ticket) × (e.1 ≡ f))) }
     ensures err { OnErr result (port.new ≡ port.old) }
 {
-    port.journal();
-    let read = port.read_length(ticket.tag);
-    if !suits(read, &ticket.buffer) {
-        return Err((ticket, CollectFault::Stranger));
-    }
-    let (reply, window) = match port.collect(ticket.tag, ticket.number) {
-        Ok(collected) => collected,
-        Err(fault) => return Err((ticket, fault)),
-    };
-    let Ticket { buffer, .. } = ticket;
-    Ok((reply, filled(reply.outcome, &window, buffer)))
+    Ok(take_locked(port, ticket)?.received())
 }

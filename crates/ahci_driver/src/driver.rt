@@ -1,3 +1,5 @@
+mod working;
+
 ghost use Rattle.std.specs.Prelude.{◌≡◌, false, true, ℕ, IfOk, IfErr, OnOk, OnErr, None, length, ◌<◌};
 ghost use Rattle.ncq_journal.specs.Laws.{AllFree};
 ghost use Rattle.ncq_journal.specs.Work.{work_of};
@@ -11,14 +13,12 @@ ghost use Rattle.ahci_driver.specs.Submitting.{HasTried, IsNotSubmitted, buffer_
 use crate::chooser::Chooser;
 use crate::collecting::collect_locked;
 use crate::fault::{PumpFault, SubmitFault};
-use crate::finishing::finish_locked;
 use crate::pumped::Pumped;
 use crate::pumping::pump_locked;
 use crate::submitting::{prepared, submit_locked};
 use crate::ticket::Ticket;
-use crate::unfinished::Unfinished;
 use ahci_port::{CollectFault, Port, Reply, TrimFault};
-use ncq_core::{Journal, Op};
+use ncq_journal::{Journal, Op};
 use std::alloc::{Allocator, Global};
 use std::marker::Model;
 use std::sync::{Mutex, Wait};
@@ -107,32 +107,6 @@ impl<A: Allocator> Driver<A> {
         let collected = collect_locked(&mut self.port.lock(rt), ticket)?;
         self.board.give_back(seat, freed);
         Ok(collected)
-    }
-
-    /// Collects as `collect` does, and lets the port get on until the answer is there, all under one lock.
-    ///
-    /// # Errors
-    /// The ticket comes back, with the reason; the tag stays the seat's.
-    pub(crate) fn finish<C: Chooser>(
-        &self,
-        rt: &impl Wait,
-        seat: &mut TagSeat,
-        chooser: &mut C,
-        ticket: Ticket<A>,
-    ) -> Result<(Reply, Vec<u8, A>), (Ticket<A>, Unfinished)>
-        requires seat { seat.old.board ≡ self.now }
-        requires held { has_place seat.old.tags ticket.tag ≡ true }
-        ensures board { seat.new.board ≡ seat.old.board }
-        ensures number { IfOk result (λ r. r.0.number ≡ ticket.number) }
-        ensures length { IfOk result (λ r. length r.1.items ≡ answer_length r.0.outcome (length ticket.buffer)) }
-        ensures tags { IfOk result (λ _. seat.new.tags ≡ without_place seat.old.tags ticket.tag) }
-        ensures log { IfOk result (λ _. seat.new.log ≡ returned ticket.tag seat.old.log) }
-        ensures err { IfErr result (λ e. (e.0 ≡ ticket) × (seat.new ≡ seat.old)) }
-    {
-        let owned = ticket.tag();
-        let finished = finish_locked(&mut self.port.lock(rt), chooser, ticket)?;
-        self.board.give_back(seat, owned);
-        Ok(finished)
     }
 }
 

@@ -11,7 +11,7 @@ ghost use Rattle.ahci_driver.specs.Settled.{AllNamed, AnsweredBefore, IsFirstUnn
 use crate::fault::SettleFault;
 use crate::receipt::Receipt;
 use ahci_port::Port;
-use ncq_core::{Answer, Event, Op, answer_of};
+use ncq_journal::{Answer, Event, Op, answer_of};
 use std::alloc::{AllocError, Allocator};
 
 /// Whether two commands are the same.

@@ -1,5 +1,5 @@
 use ahci_port::Reply;
-use ncq_core::Bytes;
+use ncq_journal::Bytes;
 use std::alloc::{Allocator, Global};
 
 /// What a worker brings back of a job: the reply, and the bytes of a finished read, none otherwise.

@@ -17,7 +17,7 @@ use crate::run_fault::RunFault;
 use crate::settling::settle;
 use crate::worker::{Stop, Worker};
 use ahci_port::Port;
-use ncq_core::{Op, is_proper};
+use ncq_journal::{Op, is_proper};
 use std::alloc::{AllocError, Allocator, Global};
 use std::sync::Wait;
 use std::sync::atomic::AtomicBool;

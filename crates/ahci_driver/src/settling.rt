@@ -11,7 +11,7 @@ use crate::fault::SettleFault;
 use crate::plain::{is_in_turn, is_issued};
 use crate::receipt::Receipt;
 use ahci_port::Port;
-use ncq_core::{Claim, Event, Op, claims_hold};
+use ncq_journal::{Claim, Event, Op, claims_hold};
 use std::alloc::{AllocError, Allocator};
 
 /// The claims of receipts, each at the place of its number, and of how many receipts they are.

@@ -12,7 +12,7 @@ use crate::ticket::Ticket;
 use crate::unfinished::Unfinished;
 use ahci_port::{IssueFault, Reply};
 use ahci_table::BuildFault;
-use ncq_core::{Bytes, Op};
+use ncq_journal::{Bytes, Op};
 use std::alloc::Allocator;
 use std::sync::Wait;
 use std::sync::atomic::AtomicBool;
@@ -121,7 +121,7 @@ impl<'a, A: Allocator + Clone, C: Chooser, G: Gate> Worker<'a, A, C, G> {
             let Ok(alloc) = self.alloc.clone() else {
                 return Err(Stop::OutOfMemory);
             };
-            match self.driver.submit(rt, alloc, &mut self.seat, op) {
+            match self.driver.start(rt, alloc, &mut self.seat, op) {
                 Ok(ticket) => return Ok(ticket),
                 Err(fault) => {
                     if let Some(stop) = stop_at(fault, job) {

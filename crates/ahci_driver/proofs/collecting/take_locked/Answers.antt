@@ -2,10 +2,10 @@ use Rattle.std.proofs.Common.{sym, ◌∙◌, ap, length}
 use Rattle.ahci_driver.specs.Tickets.{suits}
 use Rattle.ahci_port.proofs.CollectingLemmas.{not_refused}
 use Rattle.ahci_driver.proofs.CollectingLemmas.{text_length}
-use Rattle.ahci_driver.proofs.collecting.collect_locked.Goals as goal
+use Rattle.ahci_driver.proofs.collecting.take_locked.Goals as goal
 
-pub filled-requires-clause-len : goal.filled-requires-clause-len
-filled-requires-clause-len g c =
+pub returns-clause-length : goal.returns-clause-length
+returns-clause-length g c =
     let none = not_refused c.in-Ok.collected _ c.in-Ok.ensures.fault in
     let buffer = c.ticket.inside.buffer.items in
     let fits = ap (λ o. suits o (length buffer)) (sym c.read_length-read.ensures) ∙ ap (λ b. suits c.read_length-read.result (length b)) (sym c.deref.ensures.value) ∙ sym c.suits.ensures in
