@@ -1,5 +1,5 @@
 -- What stands against a script's command: its count, its address, and then what the port says.
-use Rattle.std.proofs.Common.{◌≡◌, ◌≢◌, ℕ, ◌*◌, ◌^◌, Bool, true, false, cond, ◌||◌, Option, Some, None, Ok, IfErr, IsErrAnd, MatchOption, nat_eq, nat_le, nat_lt, refl, sym, ap, ◌∙◌, subst}
+use Rattle.std.proofs.Common.{◌≡◌, ◌≢◌, ℕ, ◌*◌, ◌^◌, Bool, true, false, cond, ◌||◌, Option, Some, None, Result, Ok, Err, IfOk, IfErr, IsErr, IsErrAnd, IsOkAnd, OnOk, OnErr, MatchOption, nat_eq, nat_le, nat_lt, refl, sym, ap, ◌∙◌, subst}
 use Rattle.std.specs.Option.{option_map}
 use Rattle.std.proofs.lemmas.Bool.{true≢false, le-leb, lt-leb}
 use Rattle.ahci_replay.specs.Refusals.{issue_refusal, joined, of_issue}
@@ -16,7 +16,7 @@ use Rattle.ncq_journal.specs.declared.phase.Phase.{Phase}
 use Rattle.ncq_journal.specs.declared.phase.Phase.TheVariants.{Free, Issued, Accepted, Rejected, Broken, Held, Done}
 use Rattle.ahci_script.specs.Said.{Said}
 use Rattle.ahci_script.specs.Said as says
-use Rattle.ahci_replay.specs.Commands.{AnswersWindow, is_issued, is_refused, RefusedOr}
+use Rattle.ahci_replay.specs.Commands.{AnswersWindow, is_issued, is_refused, RefusedOr, issue_said}
 use Rattle.ahci_script.specs.declared.refusal.Refusal.{Refusal}
 use Rattle.ahci_script.specs.declared.refusal.Refusal.TheVariants as refused
 use Rattle.ahci_table.specs.Defaults.{default_list}
@@ -136,6 +136,26 @@ early_names port w issue.BadCommand fit is memory = absurd (is.1.1 fit.command)
 early_names port w issue.WrongTag fit is memory = absurd (is.1.2 fit.tag)
 early_names port w issue.BadList fit is memory = absurd (is.1.3 fit.listed)
 early_names port w issue.OutOfMemory fit is memory = absurd (memory refl)
+
+-- what came of an issue is told so
+pub told_answer : (T E : Type 0) (say : T → Said) (w : WindowState) (old new : PortView) (issued : Result ℕ (WindowState × IssueFault)) (o : Result T E)
+    → OnOk issued (IsIssued w old new) → OnOk issued (MayTake old w.tag × IsFit w) → IfOk issued (λ n. n ≡ next_number old)
+    → IfErr issued (λ e. RefusesIssue old w e.1) → IfErr issued (λ e. (e.0 ≡ w) × (new ≡ old))
+    → MatchOption (issue_said issued) (IsErr o) (λ says. IsOkAnd o (λ a. say a ≡ says)) → IfOk o (λ a. AnswersWindow w old new (say a))
+told_answer T E say w old new issued (Err f) done may number refuses same told = tt
+told_answer T E say w old new (Ok n) (Ok a) done may number refuses same told = is_issued may.0 may.1 done (told ∙ ap says.Issued number)
+told_answer T E say w old new (Err e) (Ok a) done may number refuses same told = named (of_issue e.1) refl told
+  where
+    named : (q : Option Refusal) → of_issue e.1 ≡ q → MatchOption (option_map says.Refused q) (IsErr {T = T} {E = E} (Ok a)) (λ x. say a ≡ x) → AnswersWindow w old new (say a)
+    named None is bad = absurd (true≢false (sym bad))
+    named (Some name) is said = is_refused e.1 name refuses is same.1 said
+
+-- where memory was wanting, nothing has changed
+pub told_same : (T E : Type 0) (say : T → Said) (w : WindowState) (old new : PortView) (issued : Result ℕ (WindowState × IssueFault)) (o : Result T E)
+    → IfErr issued (λ e. (e.0 ≡ w) × (new ≡ old)) → MatchOption (issue_said issued) (IsErr o) (λ says. IsOkAnd o (λ a. say a ≡ says)) → OnErr o (new ≡ old)
+told_same T E say w old new issued (Ok a) same told = tt
+told_same T E say w old new (Ok n) (Err f) same told = absurd told
+told_same T E say w old new (Err e) (Err f) same told = same.1
 
 -- what is answered of a window that is fit
 pub fit_answer : (old new : PortView) (w : WindowState) (said : Said) → IsFit w → AnswersWindow w old new said

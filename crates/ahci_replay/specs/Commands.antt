@@ -1,6 +1,6 @@
 -- What a script's commands do: the port that each of them leaves, and its answer. Want of memory is left aside.
-use Rattle.std.specs.Prelude.{ℕ, ◌+◌, ◌*◌, Bool, true, false, List, length, replicate, slice_index, Option, Some, None, IsOkAnd, ◌≡◌, ◌⊎◌}
-use Rattle.std.specs.Option.{unwrap_or}
+use Rattle.std.specs.Prelude.{ℕ, ◌+◌, ◌*◌, Bool, true, false, List, length, replicate, slice_index, Option, Some, None, Result, Ok, Err, IsOkAnd, ◌≡◌, ◌⊎◌}
+use Rattle.std.specs.Option.{option_map, unwrap_or}
 use Rattle.ahci_port.specs.Faults.{MayTake, RefusesIssue}
 use Rattle.ahci_port.specs.PortView.{PortView, next_number, port_from, sectors_in}
 use Rattle.ahci_port.specs.Registers.{acknowledged}
@@ -47,6 +47,11 @@ window_of tag w = record { tag = tag; header = w.header; bytes = w.bytes }
 pub data AnswersWindow (window : WindowState) (old new : PortView) (said : Said) : Type 0 where
   is_issued : MayTake old window.tag → IsFit window → IsIssued window old new → said ≡ says.Issued (next_number old) → AnswersWindow window old new said
   is_refused : (fault : IssueFault) (name : Refusal) → RefusesIssue old window fault → of_issue fault ≡ Some name → new ≡ old → said ≡ says.Refused name → AnswersWindow window old new said
+
+-- what an issue is told as; nothing where memory was wanting
+abbrev pub issue_said : Result ℕ (WindowState × IssueFault) → Option Said
+issue_said (Ok number) = Some (says.Issued number)
+issue_said (Err e) = option_map says.Refused (of_issue e.1)
 
 -- the answer of a device's step
 abbrev pub step_said : Stepped → Said

@@ -1,6 +1,6 @@
 //! How a script's commands are issued: by a window over the default pieces, or by one of any bytes.
 
-ghost use Rattle.std.specs.Prelude.{◌≡◌, ◌<◌, ◌≤◌, ◌*◌, ◌^◌, false, length, IfOk, OnErr, replicate};
+ghost use Rattle.std.specs.Prelude.{◌≡◌, ◌<◌, ◌≤◌, ◌*◌, ◌^◌, false, length, IfOk, IsErr, IsOkAnd, OnErr, MatchOption, replicate};
 ghost use Rattle.std.specs.Option.{option_map};
 ghost use Rattle.ncq_journal.specs.Work.{work_of, lba_of, sectors_of};
 ghost use Rattle.ahci_port.specs.Faults.{early_refusal};
@@ -9,16 +9,17 @@ ghost use Rattle.ahci_script.specs.Said.{said, Issued};
 ghost use Rattle.ahci_table.specs.Defaults.{default_list};
 ghost use Rattle.ahci_table.specs.Fit.{IsFit};
 ghost use Rattle.ahci_table.specs.Refusal.{is_ragged};
-ghost use Rattle.ahci_replay.specs.Commands.{AnswersWindow, HasIssued, MayLackOn, RefusedOr, RunsOn};
+ghost use Rattle.ahci_replay.specs.Commands.{AnswersWindow, HasIssued, MayLackOn, RefusedOr, RunsOn, issue_said};
 ghost use Rattle.ahci_replay.specs.Refusals.{issue_refusal, joined, of_issue};
 
 use crate::reading::read_window;
 use crate::refusals::issue_refusal;
-use ahci_port::Port;
+use ahci_port::{IssueFault, Port};
 use ahci_script::{RawWindow, Refusal, ScriptAnswer, ScriptCommand};
 use ahci_table::{BuildFault, Piece, Window, default_pieces};
 use arrayvec::ArrayVec;
-use ncq_core::{Bytes, LBA_LIMIT, MAX_COUNT, MAX_SECTORS, Op, Phase};
+use ncq_core::MAX_SECTORS;
+use ncq_journal::{Bytes, LBA_LIMIT, MAX_COUNT, Op, Phase};
 use std::alloc::{AllocError, Allocator};
 
 /// How many bytes a sector has.
@@ -74,7 +75,7 @@ pub(crate) fn write<A: Allocator + Copy>(
         return Ok(ScriptAnswer::Refused(refusal));
     }
     let bytes = Bytes::from_vec(filled(alloc.clone()?, sectors, fill)?);
-    issue(port, alloc, tag, &Op::Write { lba, bytes })
+    issue(port, alloc, tag, Op::Write { lba, bytes })
 }
 
 /// Issues a read.
@@ -93,7 +94,7 @@ pub(crate) fn read<A: Allocator + Copy>(
     if let Some(refusal) = against(port, tag, lba, sectors) {
         return Ok(ScriptAnswer::Refused(refusal));
     }
-    issue(port, alloc, tag, &Op::Read { lba, sectors })
+    issue(port, alloc, tag, Op::Read { lba, sectors })
 }
 
 /// The pieces that serve for a command where nothing else is asked for.
@@ -104,25 +105,25 @@ fn pieces_of<A: Allocator>(op: &Op<A>) -> ArrayVec<Piece, 32>
     default_pieces(op.sectors() as u32)
 }
 
-/// Issues a command by a window over the default pieces. What stands against it was asked before (`against`); its count and
-/// address are looked at once more as its window is built.
+/// Issues a command by a window over the default pieces; the command itself goes into the journal. What stands against it was
+/// asked before (`against`); its count and address are looked at once more as its window is built.
 fn issue<A: Allocator + Copy>(
     port: &mut Port<A>,
     alloc: &A,
     tag: u8,
-    op: &Op<A>,
+    op: Op<A>,
 ) -> Result<ScriptAnswer<A>, AllocError>
     requires tag { tag < 32 }
-    requires small { sectors_of (work_of op.now) < 2 ^ 32 }
-    requires whole { is_ragged (work_of op.now) ≡ false }
+    requires small { sectors_of (work_of op) < 2 ^ 32 }
+    requires whole { is_ragged (work_of op) ≡ false }
     ensures ok { IfOk result (λ answer.
-        RefusedOr (issue_refusal port.old tag (lba_of (work_of op.now)) (sectors_of (work_of op.now)))
-        port.old port.new (said answer) (HasIssued tag (work_of op.now) port.old port.new (said answer))) }
+        RefusedOr (issue_refusal port.old tag (lba_of (work_of op)) (sectors_of (work_of op)))
+        port.old port.new (said answer) (HasIssued tag (work_of op) port.old port.new (said answer))) }
     ensures err { OnErr result (port.new ≡ port.old) }
 {
-    let pieces = pieces_of(op);
-    match Window::build(alloc.clone()?, tag, op, &pieces) {
-        Ok(window) => issue_window(port, window),
+    let pieces = pieces_of(&op);
+    match Window::build(alloc.clone()?, tag, &op, &pieces) {
+        Ok(window) => told(port.issue_asked(window, op)),
         Err(fault) => match fault {
             BuildFault::BadCount => Ok(ScriptAnswer::Refused(Refusal::BadCount)),
             BuildFault::BadLba => Ok(ScriptAnswer::Refused(Refusal::BadLba)),
@@ -155,7 +156,16 @@ fn issue_window<A: Allocator + Copy>(
     ensures ok { IfOk result (λ answer. AnswersWindow window port.old port.new (said answer)) }
     ensures err { OnErr result (port.new ≡ port.old) }
 {
-    match port.issue(window) {
+    told(port.issue(window))
+}
+
+/// What an issue is told as.
+fn told<A: Allocator>(
+    issued: Result<u64, (Window<A>, IssueFault)>,
+) -> Result<ScriptAnswer<A>, AllocError>
+    ensures { MatchOption (issue_said issued) (IsErr result) (λ says. IsOkAnd result (λ answer. said answer ≡ says)) }
+{
+    match issued {
         Ok(number) => Ok(ScriptAnswer::Issued(number)),
         Err((_window, fault)) => match issue_refusal(fault) {
             Some(refusal) => Ok(ScriptAnswer::Refused(refusal)),

@@ -1,7 +1,12 @@
-use Rattle.std.proofs.Common.{◌∙◌, refl, sym}
-use Rattle.ahci_replay.specs.Commands.{is_refused}
+use Rattle.ahci_script.specs.Said.{said}
+use Rattle.ahci_replay.proofs.IssuingLemmas.{told_answer, told_same}
 use Rattle.ahci_replay.proofs.issuing.issue_window.Goals as goal
 
-pub returns-in-Some-clause-ok : goal.returns-in-Some-clause-ok
-returns-in-Some-clause-ok g c =
-    is_refused c.in-Err.fault c.in-Some.refusal c.in-Err.ensures.fault (sym c.issue_refusal.ensures ∙ c.in-Some.is) c.in-Err.ensures.err.1 refl
+pub returns-clause-ok : goal.returns-clause-ok
+returns-clause-ok g c =
+    let issue = c.issue.ensures in
+    told_answer _ _ said c.args.window c.args.port.now c.issue.new.self c.issue.result c.told.result issue.issued issue.taken issue.number issue.fault issue.err c.told.ensures
+
+pub returns-clause-err : goal.returns-clause-err
+returns-clause-err g c =
+    told_same _ _ said c.args.window c.args.port.now c.issue.new.self c.issue.result c.told.result c.issue.ensures.err c.told.ensures
