@@ -1,11 +1,12 @@
 //! The calls of a port that may want memory: what they answer where it is refused, what stands then, and what they answer
 //! with memory.
-use crate::commands::{Command, image_of, port_of, window_of};
+use crate::commands::{Command, image_of, op_of, port_of, window_of};
 use crate::heap::{Asked, Heap, Row, Tried, equal, grant_all, growths_of, refuse_from};
 use crate::journal::ENTRY;
-use crate::shown::look_at;
+use crate::shown::{Shown, look_at};
 use ahci_port::{DeviceStep, DiskFault, IssueFault, PlainFault, Port, RecoverFault, Stepped};
-use ahci_table::Window;
+use ahci_table::{Window, default_pieces};
+use ncq_core::Op;
 use refusing_allocator::Refusing;
 use std::process::Abort;
 use std::test::Fail;
@@ -69,6 +70,8 @@ fn a_port_is_made_or_leaves_nothing_behind(rt: HostRuntime) -> Result<(), Fail> 
 #[derive(Clone, Copy, Debug)]
 enum Call {
     Issue(Command, u8),
+    /// What the command asks is handed over.
+    IssueAsked(Command, u8),
     Identify(u8),
     Flush(u8),
 }
@@ -90,9 +93,9 @@ const NOT_ISSUED: Said = NotIssued(IssueFault::OutOfMemory);
 
 const NOT_SENT: Said = NotSent(PlainFault::OutOfMemory);
 
-// A write has a copy of its bytes, which is the first growth. Room is for 129 entries beyond those that stand: a new journal
-// makes 129, one with an entry makes twice as many, and that is room enough for the next ones.
-static CALLS: [Row<Call, Said>; 13] = [
+// A write has a copy of its bytes, which is the first growth, where they are not handed over. Room is for 129 entries beyond
+// those that stand: a new journal makes 129, one with an entry makes twice as many, and that is room enough for the next ones.
+static CALLS: [Row<Call, Said>; 16] = [
     Row {
         call: Call::Issue(Command::Read(0), 0),
         refused: &[NOT_ISSUED],
@@ -134,6 +137,24 @@ static CALLS: [Row<Call, Said>; 13] = [
         refused: &[NOT_ISSUED, NOT_ISSUED],
         answer: Issued(0),
         bytes: 131_072 + ROOM * ENTRY,
+    },
+    Row {
+        call: Call::IssueAsked(Command::Read(0), 0),
+        refused: &[NOT_ISSUED],
+        answer: Issued(0),
+        bytes: ROOM * ENTRY,
+    },
+    Row {
+        call: Call::IssueAsked(Command::Write(5, 0x11), 1),
+        refused: &[NOT_ISSUED],
+        answer: Issued(1),
+        bytes: 2 * ROOM * ENTRY,
+    },
+    Row {
+        call: Call::IssueAsked(Command::Write(31, 0x11), 2),
+        refused: &[],
+        answer: Issued(2),
+        bytes: 0,
     },
     Row {
         call: Call::Identify(0),
@@ -214,8 +235,34 @@ pub fn are_same(window: &Window<&Heap>, other: &Window<&Heap>) -> bool {
         && window.bytes() == other.bytes()
 }
 
-/// Issues a command while growths are refused, and then with memory. A refusal leaves the port as it was, and gives the
-/// window back as it was.
+/// What came of an issue, and what a second one answers with memory. A refusal leaves the port and as many blocks as before, and
+/// gives the window back as it was.
+fn tried_issue<'a>(
+    rt: &impl Abort,
+    heap: &Heap,
+    port: &mut Port<&'a Heap>,
+    answer: Result<u64, (Window<&'a Heap>, IssueFault)>,
+    copy: &Window<&'a Heap>,
+    before: &(Shown, u64),
+) -> Tried<Said> {
+    let (asked, bytes) = (growths_of(heap), heap.bytes());
+    grant_all(heap);
+    match answer {
+        Ok(number) => Tried::of(Issued(number), asked, bytes),
+        Err((window, fault)) => {
+            let left = ((look_at(port), heap.out()), are_same(&window, copy));
+            equal(rt, &copy.tag(), 0, &left, &(*before, true));
+            let mut tried = Tried::of(NotIssued(fault), asked, bytes);
+            tried.again = Some(match port.issue(window) {
+                Ok(number) => Issued(number),
+                Err((_, fault)) => NotIssued(fault),
+            });
+            tried
+        }
+    }
+}
+
+/// Issues a command while growths are refused, and then with memory.
 fn tries_to_issue<'a>(
     rt: &impl Abort,
     heap: &'a Heap,
@@ -228,21 +275,29 @@ fn tries_to_issue<'a>(
     let before = (look_at(port), heap.out());
     refuse_from(heap, growth);
     let answer = port.issue(window);
-    let (asked, bytes) = (growths_of(heap), heap.bytes());
-    grant_all(heap);
-    Ok(match answer {
-        Ok(number) => Tried::of(Issued(number), asked, bytes),
-        Err((window, fault)) => {
-            let left = ((look_at(port), heap.out()), are_same(&window, &copy));
-            equal(rt, &command, growth, &left, &(before, true));
-            let mut tried = Tried::of(NotIssued(fault), asked, bytes);
-            tried.again = Some(match port.issue(window) {
-                Ok(number) => Issued(number),
-                Err((_, fault)) => NotIssued(fault),
-            });
-            tried
-        }
-    })
+    Ok(tried_issue(rt, heap, port, answer, &copy, &before))
+}
+
+/// The same where what the command asks is handed over. It is not given back, so a refused write has a block less.
+fn tries_to_issue_asked<'a>(
+    rt: &impl Abort,
+    heap: &'a Heap,
+    port: &mut Port<&'a Heap>,
+    command: Command,
+    growth: usize,
+) -> Result<Tried<Said>, Fail> {
+    let tag = command.tag();
+    if tag >= 32 {
+        return Err(Fail::new("no tag"));
+    }
+    let asked = op_of(heap, command)?;
+    let blocks = u64::from(matches!(asked, Op::Write { .. }));
+    let window = Window::build(heap, tag, &asked, &default_pieces(1))?;
+    let copy = window_of(heap, command)?;
+    let before = (look_at(port), heap.out().saturating_sub(blocks));
+    refuse_from(heap, growth);
+    let answer = port.issue_asked(window, asked);
+    Ok(tried_issue(rt, heap, port, answer, &copy, &before))
 }
 
 /// A port of 32 slots that has flushed so often.
@@ -256,9 +311,13 @@ fn flushed<'a>(heap: &'a Heap, often: u8) -> Result<Port<&'a Heap>, Fail> {
 
 fn tries(rt: &impl Abort, heap: &Heap, call: Call, growth: usize) -> Result<Tried<Said>, Fail> {
     match call {
-        Call::Issue(command, often) => {
+        Call::Issue(command, often) | Call::IssueAsked(command, often) => {
             let mut port = flushed(heap, often)?;
-            let tried = tries_to_issue(rt, heap, &mut port, command, growth)?;
+            let tried = if matches!(call, Call::Issue(..)) {
+                tries_to_issue(rt, heap, &mut port, command, growth)?
+            } else {
+                tries_to_issue_asked(rt, heap, &mut port, command, growth)?
+            };
             let owned = (port.owner(command.tag()), port.journal().len());
             let number = u64::from(often);
             equal(rt, &call, growth, &owned, &(Some(number), number + 1));

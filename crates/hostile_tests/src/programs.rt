@@ -14,14 +14,14 @@ use std::thread::Threads;
 /// A line of a script with its answer, and how many growths it meets.
 type Line = (&'static str, &'static str, u64);
 
-// A disk: its image, the copy of it, the slots (1 for four of them) and the line that is answered. A write: its bytes, its
-// window, and its copy in the journal; a read: its window. Room in the journal is made at the first entry, and doubled at the
+// A disk: its image, the copy of it, the slots (1 for four of them) and the line that is answered. A write: its bytes,
+// which become the journal's, and its window; a read: its window. Room in the journal is made at the first entry, and doubled at the
 // next that has to be sure of it. The first completion: room for a line that may be longer than those before, which is enough
 // for a collected read's too. A collected read: its text.
 static TWO_WRITES: [Line; 14] = [
     ("disk 8 4\n", "disk 8 4\n", 4),
-    ("write 0 3 1 aa\n", "issued 0\n", 4),
-    ("write 1 3 1 bb\n", "issued 1\n", 4),
+    ("write 0 3 1 aa\n", "issued 0\n", 3),
+    ("write 1 3 1 bb\n", "issued 1\n", 3),
     ("accept 0\n", "accepted 2\n", 0),
     ("accept 1\n", "accepted 3\n", 0),
     ("serve 1\n", "completed 4\n", 1),
@@ -37,7 +37,7 @@ static TWO_WRITES: [Line; 14] = [
 
 static A_RECOVERY: [Line; 11] = [
     ("disk 8 1\n", "disk 8 1\n", 4),
-    ("write 0 3 1 aa\n", "issued 0\n", 4),
+    ("write 0 3 1 aa\n", "issued 0\n", 3),
     ("accept 0\n", "accepted 1\n", 0),
     ("fail 0 40 3\n", "failed 2\n", 0),
     ("write 1 0 1 aa\n", "refused Halted\n", 0),
@@ -60,7 +60,7 @@ static UNQUEUED: [Line; 11] = [
         "refused BadHeader\n",
         1,
     ),
-    ("write 0 0 256 aa\n", "issued 3\n", 3),
+    ("write 0 0 256 aa\n", "issued 3\n", 2),
     ("write 0 0 256 aa\n", "refused SlotOwned\n", 0),
     ("read 0 0 256\n", "refused SlotOwned\n", 0),
     ("read 1 0 65537\n", "refused BadCount\n", 0),
