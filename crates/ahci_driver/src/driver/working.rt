@@ -1,9 +1,9 @@
 //! The calls of a run's workers: as much as can be done without the lock is done before it is taken, or after.
 
-ghost use Rattle.std.specs.Prelude.{◌≡◌, true, false, IfOk, IfErr, OnOk, OnErr, length};
+ghost use Rattle.std.specs.Prelude.{◌≡◌, ◌<◌, None, true, false, IfOk, IfErr, OnOk, OnErr, length};
 ghost use Rattle.ncq_journal.specs.Work.{work_of};
 ghost use Rattle.word_bits.specs.Places.{has_place, with_place, without_place};
-ghost use Rattle.ahci_driver.specs.Submitting.{HasTried, IsNotSubmitted, buffer_for, returned};
+ghost use Rattle.ahci_driver.specs.Submitting.{HasTried, IsNotSubmitted, buffer_for, claimed, default_refusal, returned};
 ghost use Rattle.ahci_driver.specs.Tickets.{answer_length};
 
 use crate::chooser::Chooser;
@@ -64,9 +64,12 @@ impl<A: Allocator + Clone> Driver<A> {
         requires { seat.old.board ≡ self.now }
         ensures board { seat.new.board ≡ seat.old.board }
         ensures buffer { IfOk result (λ t. t.buffer ≡ buffer_for (work_of op.now)) }
+        ensures built { OnOk result (default_refusal (work_of op.now) ≡ None) }
         ensures fresh { IfOk result (λ t. has_place seat.old.tags t.tag ≡ false) }
         ensures gained { IfOk result (λ t. seat.new.tags ≡ with_place seat.old.tags t.tag) }
         ensures has { IfOk result (λ t. has_place seat.new.tags t.tag ≡ true) }
+        ensures below { IfOk result (λ t. t.tag < self.now.depth) }
+        ensures log { IfOk result (λ t. seat.new.log ≡ claimed t.tag seat.old.log) }
         ensures kept { OnErr result (seat.new.tags ≡ seat.old.tags) }
         ensures fault { IfErr result (IsNotSubmitted (work_of op.now)) }
         ensures tried { IfErr result (HasTried self.now.depth seat.old.log seat.new.log) }
