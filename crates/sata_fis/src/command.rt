@@ -20,9 +20,9 @@ impl Model for Queued {
 
     ghost Value = { QueuedFields };
 
-    ghost view = { λ q. record { write = q.write; tag = q.tag; lba = q.lba; sectors = q.sectors; fua = q.fua } };
+    ghost view = { λ q. q };
 
     ghost invariant = { λ q. (q.tag < 32) × (q.lba < 2 ^ 48) × (1 ≤ q.sectors) × (q.sectors ≤ 65536) };
 
-    ghost inverse = { λ q. record { write = q.write; tag = q.tag; lba = q.lba; sectors = q.sectors; fua = q.fua } };
+    ghost inverse = { λ q. q };
 }

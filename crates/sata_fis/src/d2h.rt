@@ -21,25 +21,11 @@ impl Model for D2h {
 
     ghost Value = { D2hFields };
 
-    ghost view = { λ f. record {
-      i = f.i;
-      status = f.status;
-      error = f.error;
-      lba = f.lba;
-      device = f.device;
-      count = f.count;
-    } };
+    ghost view = { λ f. f };
 
     ghost invariant = { λ f. f.lba < 2 ^ 48 };
 
-    ghost inverse = { λ f. record {
-      i = f.i;
-      status = f.status;
-      error = f.error;
-      lba = f.lba;
-      device = f.device;
-      count = f.count;
-    } };
+    ghost inverse = { λ f. f };
 }
 
 impl D2h {
@@ -67,19 +53,12 @@ impl D2h {
         ensures bytes { result.items ≡ d2h_bytes self.now }
         ensures back { d2h_at result.items ≡ self.now }
     {
-        let D2h {
-            i,
-            status,
-            error,
-            lba,
-            device,
-            count,
-        } = *self;
+        let D2h { lba, count, .. } = *self;
         let [lba_0, lba_1, lba_2, lba_3, lba_4, lba_5, _, _] = lba.to_le_bytes();
         let [count_low, count_high] = count.to_le_bytes();
         from_dwords(&[
-            [0x34, flags(false, i, false), status, error],
-            [lba_0, lba_1, lba_2, device],
+            [0x34, flags(false, self.i, false), self.status, self.error],
+            [lba_0, lba_1, lba_2, self.device],
             [lba_3, lba_4, lba_5, 0],
             [count_low, count_high, 0, 0],
             [0, 0, 0, 0],

@@ -25,11 +25,11 @@ impl Model for DmaSetup {
 
     ghost Value = { DmaSetupFields };
 
-    ghost view = { λ f. record { a = f.a; i = f.i; d = f.d; tag = f.tag; offset = f.offset; count = f.count } };
+    ghost view = { λ f. f };
 
     ghost invariant = { λ f. f.tag < 32 };
 
-    ghost inverse = { λ f. record { a = f.a; i = f.i; d = f.d; tag = f.tag; offset = f.offset; count = f.count } };
+    ghost inverse = { λ f. f };
 }
 
 impl DmaSetup {
@@ -57,17 +57,10 @@ impl DmaSetup {
         ensures bytes { result.items ≡ dma_setup_bytes self.now }
         ensures back { dma_setup_at result.items ≡ self.now }
     {
-        let DmaSetup {
-            a,
-            i,
-            d,
-            tag,
-            offset,
-            count,
-        } = *self;
+        let DmaSetup { offset, count, .. } = *self;
         from_dwords(&[
-            [0x41, flags(a, i, d), 0, 0],
-            [tag, 0, 0, 0],
+            [0x41, flags(self.a, self.i, self.d), 0, 0],
+            [self.tag, 0, 0, 0],
             [0, 0, 0, 0],
             [0, 0, 0, 0],
             offset.to_le_bytes(),

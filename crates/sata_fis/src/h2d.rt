@@ -22,27 +22,11 @@ impl Model for H2d {
 
     ghost Value = { H2dFields };
 
-    ghost view = { λ f. record {
-      c = f.c;
-      command = f.command;
-      features = f.features;
-      lba = f.lba;
-      device = f.device;
-      count = f.count;
-      control = f.control;
-    } };
+    ghost view = { λ f. f };
 
     ghost invariant = { λ f. f.lba < 2 ^ 48 };
 
-    ghost inverse = { λ f. record {
-      c = f.c;
-      command = f.command;
-      features = f.features;
-      lba = f.lba;
-      device = f.device;
-      count = f.count;
-      control = f.control;
-    } };
+    ghost inverse = { λ f. f };
 }
 
 impl H2d {
@@ -72,22 +56,24 @@ impl H2d {
         ensures back { h2d_at result.items ≡ self.now }
     {
         let H2d {
-            c,
-            command,
             features,
             lba,
-            device,
             count,
-            control,
+            ..
         } = *self;
         let [features_low, features_high] = features.to_le_bytes();
         let [lba_0, lba_1, lba_2, lba_3, lba_4, lba_5, _, _] = lba.to_le_bytes();
         let [count_low, count_high] = count.to_le_bytes();
         from_dwords(&[
-            [0x27, flags(c, false, false), command, features_low],
-            [lba_0, lba_1, lba_2, device],
+            [
+                0x27,
+                flags(self.c, false, false),
+                self.command,
+                features_low,
+            ],
+            [lba_0, lba_1, lba_2, self.device],
             [lba_3, lba_4, lba_5, features_high],
-            [count_low, count_high, 0, control],
+            [count_low, count_high, 0, self.control],
             [0, 0, 0, 0],
         ])
     }

@@ -28,31 +28,11 @@ impl Model for PioSetup {
 
     ghost Value = { PioSetupFields };
 
-    ghost view = { λ f. record {
-      i = f.i;
-      d = f.d;
-      status = f.status;
-      error = f.error;
-      lba = f.lba;
-      device = f.device;
-      count = f.count;
-      e_status = f.e_status;
-      bytes = f.bytes;
-    } };
+    ghost view = { λ f. f };
 
     ghost invariant = { λ f. f.lba < 2 ^ 48 };
 
-    ghost inverse = { λ f. record {
-      i = f.i;
-      d = f.d;
-      status = f.status;
-      error = f.error;
-      lba = f.lba;
-      device = f.device;
-      count = f.count;
-      e_status = f.e_status;
-      bytes = f.bytes;
-    } };
+    ghost inverse = { λ f. f };
 }
 
 impl PioSetup {
@@ -84,24 +64,19 @@ impl PioSetup {
         ensures back { pio_setup_at result.items ≡ self.now }
     {
         let PioSetup {
-            i,
-            d,
-            status,
-            error,
             lba,
-            device,
             count,
-            e_status,
             bytes,
+            ..
         } = *self;
         let [lba_0, lba_1, lba_2, lba_3, lba_4, lba_5, _, _] = lba.to_le_bytes();
         let [count_low, count_high] = count.to_le_bytes();
         let [bytes_low, bytes_high] = bytes.to_le_bytes();
         from_dwords(&[
-            [0x5F, flags(false, i, d), status, error],
-            [lba_0, lba_1, lba_2, device],
+            [0x5F, flags(false, self.i, self.d), self.status, self.error],
+            [lba_0, lba_1, lba_2, self.device],
             [lba_3, lba_4, lba_5, 0],
-            [count_low, count_high, 0, e_status],
+            [count_low, count_high, 0, self.e_status],
             [bytes_low, bytes_high, 0, 0],
         ])
     }

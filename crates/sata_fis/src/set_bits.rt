@@ -32,11 +32,11 @@ impl Model for SetBits {
 
     ghost Value = { SetBitsFields };
 
-    ghost view = { λ f. record { i = f.i; status = f.status; error = f.error; sactive = f.sactive } };
+    ghost view = { λ f. f };
 
     ghost invariant = { λ f. bit_and f.status 0x77 ≡ f.status };
 
-    ghost inverse = { λ f. record { i = f.i; status = f.status; error = f.error; sactive = f.sactive } };
+    ghost inverse = { λ f. f };
 }
 
 impl SetBits {
@@ -62,14 +62,9 @@ impl SetBits {
         ensures bytes { result.items ≡ set_bits_bytes self.now }
         ensures back { set_bits_at result.items ≡ self.now }
     {
-        let SetBits {
-            i,
-            status,
-            error,
-            sactive,
-        } = *self;
+        let SetBits { sactive, .. } = *self;
         from_dwords(&[
-            [0xA1, flags(false, i, false), status, error],
+            [0xA1, flags(false, self.i, false), self.status, self.error],
             sactive.to_le_bytes(),
         ])
     }
