@@ -9,24 +9,8 @@ use Rattle.ncq_journal.specs.declared.plain.Plain.{Plain}
 use Rattle.ncq_journal.specs.declared.plain.Plain.TheVariants.{Identify, Flush, ReadLog}
 use Rattle.ncq_core.specs.DiskLaws.{CommandIsSpelled}
 use Rattle.ncq_core.specs.DiskState.{DiskState, command_of, disk_sectors}
-use Rattle.ncq_core.specs.Verdict.{
-  aborted,
-  accepted,
-  by_kind,
-  command_in,
-  idle_verdict,
-  is_busy,
-  is_past_end,
-  is_read_log,
-  is_taken_tag,
-  not_found,
-  passed,
-  plain_verdict,
-  queued_verdict,
-  running_verdict,
-  stopped_verdict,
-  verdict,
-}
+use Rattle.ncq_core.specs.Verdict.{aborted, accepted, by_kind, command_in, idle_verdict, is_busy, is_past_end, is_read_log, is_taken_tag, not_found, passed}
+use Rattle.ncq_core.specs.Verdict.{plain_verdict, queued_verdict, running_verdict, stopped_verdict, verdict}
 use Rattle.ncq_core.specs.VerdictTable.{AsksForTheErrorLog, Carries, CarriesPlain, CarriesQueued, IsFreeTag, IsIdle, WhileRunning, WhileStopped}
 
 command_is_spelled : CommandIsSpelled

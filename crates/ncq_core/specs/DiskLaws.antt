@@ -6,25 +6,8 @@ use Rattle.sata_fis.specs.declared.fis.Fis.TheVariants.{H2d, D2h, DmaActivate, P
 use Rattle.sata_fis.specs.Fields.{H2dFields, QueuedFields}
 use Rattle.sata_fis.specs.Spelling.{Spells}
 use Rattle.ncq_core.specs.DiskState.{DiskError}
-use Rattle.ncq_core.specs.DiskFis.{
-  accepted_fis,
-  aborted_fis,
-  not_found_fis,
-  flushed_fis,
-  pio_fis,
-  dma_setup_fis,
-  completed_fis,
-  failed_fis,
-  accepted_bytes,
-  aborted_bytes,
-  not_found_bytes,
-  flushed_bytes,
-  pio_bytes,
-  setup_bytes,
-  activate_bytes,
-  completed_bytes,
-  failed_bytes,
-}
+use Rattle.ncq_core.specs.DiskFis.{accepted_fis, aborted_fis, not_found_fis, flushed_fis, pio_fis, dma_setup_fis, completed_fis, failed_fis, accepted_bytes}
+use Rattle.ncq_core.specs.DiskFis.{aborted_bytes, not_found_bytes, flushed_bytes, pio_bytes, setup_bytes, activate_bytes, completed_bytes, failed_bytes}
 use Rattle.ncq_core.specs.Verdict.{command_in}
 use Rattle.ncq_core.specs.Log.{log_page}
 

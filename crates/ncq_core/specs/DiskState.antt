@@ -2,14 +2,13 @@
 -- or none, and the error that stands or none.
 use Rattle.std.specs.Prelude.{◌≡◌, ℕ, ◌+◌, ◌*◌, ◌/◌, ◌%◌, ◌^◌, ◌<◌, ◌≤◌, Bool, ◌||◌, nat_eq, nat_lt, if◌then◌else◌, List, length, map, replicate, Option, None, Some, is_some, slice_index_or}
 use Rattle.sata_fis.specs.Fields.{QueuedFields}
+use Rattle.ncq_core.specs.declared.disk.error.DiskError.TheInside.{Inside}
 use Rattle.ncq_core.specs.declared.disk_fault.DiskFault.{DiskFault}
 use Rattle.ncq_core.specs.declared.disk_fault.DiskFault.TheVariants.{BadSize, BadDepth}
 
 -- the error that stopped the disk: the tag of the command that failed, the error byte and the LBA of the failing sector
-pub record DiskError : Type 0 where
-  pub tag : ℕ
-  pub error : ℕ
-  pub lba : ℕ
+abbrev pub DiskError : Type 0
+DiskError = Inside
 
 -- the bytes of all sectors, for how many bytes memory is held, how many tags there are, the command outstanding at each of
 -- 32 tags, and the error

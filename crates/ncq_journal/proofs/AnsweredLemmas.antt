@@ -1,36 +1,6 @@
 -- When a request has its answer, and what a Complete answers.
-use Rattle.std.proofs.Common.{
-  ◌≡◌,
-  ◌≢◌,
-  ℕ,
-  ◌-◌,
-  ◌<◌,
-  ◌≤◌,
-  Bool,
-  true,
-  false,
-  cond,
-  ◌==◌,
-  List,
-  [],
-  ◌∷◌,
-  length,
-  length-drop,
-  ap,
-  sym,
-  refl,
-  subst,
-  ◌∙◌,
-  Option,
-  None,
-  Some,
-  is_some,
-  IsSomeAnd,
-  arith,
-  inl,
-  inr,
-  suc,
-}
+use Rattle.std.proofs.Common.{◌≡◌, ◌≢◌, ℕ, ◌-◌, ◌<◌, ◌≤◌, Bool, true, false, cond, ◌==◌, List, [], ◌∷◌, length, length-drop, ap, sym, refl, subst, ◌∙◌, Option, None}
+use Rattle.std.proofs.Common.{Some, is_some, IsSomeAnd, arith, inl, inr, suc}
 use Rattle.std.specs.Option.{option_or}
 use Rattle.std.proofs.lemmas.Bool.{both_ways, eqb-false, eq-eqb, cond-true}
 use Rattle.std.proofs.lemmas.Option.{same_Some}
@@ -58,13 +28,7 @@ or-some (Some b) a = refl
 
 pub given_none : (image : List ℕ) (past : List Entry) (newest : Entry) → given image past newest None ≡ None
 given_none image past (Issue t work) = refl
-given_none image past (Accept t) = refl
-given_none image past (Complete t) = refl
-given_none image past (Fail t error lba) = refl
-given_none image past (Recover t) = refl
-given_none image past (Reissue t) = refl
-given_none image past (Collect t) = refl
-given_none image past (Unqueued command) = refl
+given_none image past _ = refl
 
 -- a request that is not yet issued has no answer
 pub no_answer_yet : (image : List ℕ) (past : List Entry) (n : ℕ) → length past ≤ n → answer image past n ≡ None
@@ -94,21 +58,11 @@ moves past t tag old new own same =
 
 answered_failed : (p : Phase) → is_answered (failed p) ≡ true
 answered_failed Free = refl
-answered_failed Issued = refl
-answered_failed Accepted = refl
-answered_failed Rejected = refl
-answered_failed Broken = refl
-answered_failed Held = refl
-answered_failed Done = refl
+answered_failed _ = refl
 
 answered_recovered : (p : Phase) → is_answered (recovered p) ≡ is_answered p
 answered_recovered Free = refl
-answered_recovered Issued = refl
-answered_recovered Accepted = refl
-answered_recovered Rejected = refl
-answered_recovered Broken = refl
-answered_recovered Held = refl
-answered_recovered Done = refl
+answered_recovered _ = refl
 
 given_quiet : (image : List ℕ) (past : List Entry) (newest : Entry) (issue : Option Entry) → Type 0
 given_quiet image past newest issue = given image past newest issue ≡ None
@@ -240,12 +194,7 @@ last_stays s d image past (Issue t work) tag r h none own =
     cond_at t tag (Some (record { number = length past; work = work })) (request past tag) (λ o. o ≡ Some r)
     (λ same. absurd (both_ways (is_answered (phase past tag)) waits (ap (λ u. is_answered (phase past u)) (sym same) ∙ ap is_answered h.1.1))) (λ _. own)
 last_stays s d image past (Accept t) tag r h none own = own
-last_stays s d image past (Complete t) tag r h none own = own
-last_stays s d image past (Fail t error lba) tag r h none own = own
-last_stays s d image past (Recover t) tag r h none own = own
-last_stays s d image past (Reissue t) tag r h none own = own
-last_stays s d image past (Collect t) tag r h none own = own
-last_stays s d image past (Unqueued command) tag r h none own = own
+last_stays s d image past _ tag r h none own = own
 
 pub unanswered_is_last : UnansweredIsLast
 unanswered_is_last s d image [] n tag work h at none = absurd (let w : n < 0 = entry_at-within [] n (Issue tag work) at in omega arith)

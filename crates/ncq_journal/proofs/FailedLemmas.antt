@@ -2,7 +2,7 @@
 use Rattle.std.proofs.Common.{◌≡◌, ℕ, ◌≤◌, ◌<◌, Bool, true, false, cond, ◌==◌, List, [], ◌∷◌, ap, sym, refl, ◌∙◌, arith, inl, inr}
 use Rattle.std.proofs.lemmas.Bool.{both_ways, cases_lt, false≢true}
 use Rattle.ncq_journal.specs.declared.phase.Phase.{Phase}
-use Rattle.ncq_journal.specs.declared.phase.Phase.TheVariants.{Free, Issued, Accepted, Rejected, Broken, Held, Done}
+use Rattle.ncq_journal.specs.declared.phase.Phase.TheVariants.{Free, Issued, Accepted, Done}
 use Rattle.ncq_journal.specs.Entry.{Entry, Issue, Accept, Complete, Fail, Recover, Reissue, Collect, Unqueued}
 use Rattle.ncq_journal.specs.Halted.{halted}
 use Rattle.ncq_journal.specs.Lawful.{IsLawful}
@@ -32,12 +32,7 @@ it_failed s d past t tag few h runs =
 
 recovered_well : (p : Phase) → is_failed (recovered p) ≡ false
 recovered_well Free = refl
-recovered_well Issued = refl
-recovered_well Accepted = refl
-recovered_well Rejected = refl
-recovered_well Broken = refl
-recovered_well Held = refl
-recovered_well Done = refl
+recovered_well _ = refl
 
 pub one_has_failed : OneHasFailed
 one_has_failed s d [] t u few h e f = absurd (false≢true e)

@@ -3,7 +3,7 @@ use Rattle.std.proofs.Common.{◌≡◌, ℕ, ◌+◌, ◌<◌, List, [], ◌∷
 use mathlib.Core.List.{reverse}
 use Rattle.std.proofs.lemmas.List.{map-append, reverse-append, take-append-drop}
 use Rattle.ncq_journal.specs.declared.event.Event.{Event}
-use Rattle.ncq_journal.specs.Entry.{Entry, entry_of, Issue, Accept, Complete, Fail, Recover, Reissue, Collect, Unqueued}
+use Rattle.ncq_journal.specs.Entry.{Entry, entry_of, Issue}
 use Rattle.ncq_journal.specs.History.{history_of}
 use Rattle.ncq_journal.specs.Lawful.{IsLawful, IsAllowed, IsProperEntry, AllProper}
 use Rattle.ncq_journal.proofs.HistoryLemmas.{history_more}
@@ -35,13 +35,7 @@ all_cons P x xs first rest (suc k) d below = rest k d (let b : suc k < suc (leng
 -- an entry that may come next issues a command that can be issued
 proper_next : (s d : ℕ) (past : List Entry) (entry : Entry) → IsAllowed s d past entry → IsProperEntry entry
 proper_next s d past (Issue t work) h = h.3
-proper_next s d past (Accept t) h = tt
-proper_next s d past (Complete t) h = tt
-proper_next s d past (Fail t error lba) h = tt
-proper_next s d past (Recover t) h = tt
-proper_next s d past (Reissue t) h = tt
-proper_next s d past (Collect t) h = tt
-proper_next s d past (Unqueued command) h = tt
+proper_next s d past _ h = tt
 
 -- a lawful journal issues only commands that can be issued
 pub lawful_proper : (s d : ℕ) (past : List Entry) → IsLawful s d past → AllProper past

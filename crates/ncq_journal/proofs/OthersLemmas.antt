@@ -5,7 +5,7 @@ use Rattle.std.proofs.lemmas.Bool.{cases_eq, eqb-true, eq-eqb, cond-true, cond-f
 use Rattle.std.proofs.lemmas.Option.{same_Some}
 use Rattle.ncq_journal.specs.declared.outcome.Outcome.TheVariants as outcome
 use Rattle.ncq_journal.specs.declared.phase.Phase.{Phase}
-use Rattle.ncq_journal.specs.declared.phase.Phase.TheVariants.{Free, Issued, Accepted, Rejected, Broken, Held, Done}
+use Rattle.ncq_journal.specs.declared.phase.Phase.TheVariants.{Free, Issued, Accepted}
 use Rattle.ncq_journal.specs.Answer.{Answer, answer, given, completes}
 use Rattle.ncq_journal.specs.Entry.{Entry, Issue, Accept, Complete, Fail, Recover, Reissue, Collect, Unqueued}
 use Rattle.ncq_journal.specs.History.{entry_at}
@@ -33,13 +33,7 @@ issued_has (newest ∷ past) n tag work e =
 
     later : (newest : Entry) (past : List Entry) (tag : ℕ) → IsSome (request past tag) → IsSome (request (newest ∷ past) tag)
     later (Issue t w) past tag h = chosen (t == tag) (record { number = length past; work = w }) (request past tag) h
-    later (Accept t) past tag h = h
-    later (Complete t) past tag h = h
-    later (Fail t error lba) past tag h = h
-    later (Recover t) past tag h = h
-    later (Reissue t) past tag h = h
-    later (Collect t) past tag h = h
-    later (Unqueued command) past tag h = h
+    later _ past tag h = h
 
 or_keeps : (o later : Option Answer) → is_some o ≡ true → is_some (option_or o later) ≡ true
 or_keeps None later h = absurd (false≢true h)
@@ -72,12 +66,7 @@ before (Issue t w) s d image past tag n work r h q e other ih = by (t == tag) re
     by true same x = issued_again s d image past tag n (request past tag) h.0 (ap (phase past) (sym (eqb-true t tag same)) ∙ h.1.1) refl (issued_has past n tag work e) ih
     by false apart x = ih r x other
 before (Accept t) s d image past tag n work r h q e other ih = ih r q other
-before (Complete t) s d image past tag n work r h q e other ih = ih r q other
-before (Fail t error lba) s d image past tag n work r h q e other ih = ih r q other
-before (Recover t) s d image past tag n work r h q e other ih = ih r q other
-before (Reissue t) s d image past tag n work r h q e other ih = ih r q other
-before (Collect t) s d image past tag n work r h q e other ih = ih r q other
-before (Unqueued command) s d image past tag n work r h q e other ih = ih r q other
+before _ s d image past tag n work r h q e other ih = ih r q other
 
 number_now : (past : List Entry) (newest : Entry) (tag : ℕ) (work : Work) (r : Request) → newest ≡ Issue tag work → request (newest ∷ past) tag ≡ Some r → r.number ≡ length past
 number_now past newest tag work r e q =
@@ -163,11 +152,7 @@ fail_others s d image past t n error lba r h q other =
 fails_unanswered : (s : ℕ) (p : Phase) (work : Work) (error lba : ℕ) → Fails s p work error lba → is_answered p ≡ false
 fails_unanswered s Accepted work error lba h = refl
 fails_unanswered s Issued work error lba h = refl
-fails_unanswered s Free work error lba h = absurd h
-fails_unanswered s Rejected work error lba h = absurd h
-fails_unanswered s Broken work error lba h = absurd h
-fails_unanswered s Held work error lba h = absurd h
-fails_unanswered s Done work error lba h = absurd h
+fails_unanswered s _ work error lba h = absurd h
 
 none_yet : (o : Option Answer) → is_some o ≡ false → o ≡ None
 none_yet None h = refl

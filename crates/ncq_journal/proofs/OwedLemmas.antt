@@ -17,12 +17,7 @@ use Rattle.std.proofs.lemmas.Bool.{cases_lt}
 
 few_in : (p : Phase) → owed_in p ≤ 4
 few_in Free = omega arith
-few_in Issued = omega arith
-few_in Accepted = omega arith
-few_in Rejected = omega arith
-few_in Broken = omega arith
-few_in Held = omega arith
-few_in Done = omega arith
+few_in _ = omega arith
 
 pub owed_is_few : OwedIsFew
 owed_is_few past = sum_le (λ tag. owed_in (phase past tag)) 4 (λ tag. few_in (phase past tag))
@@ -57,12 +52,7 @@ failing s (Some r) Done error lba h = absurd h
 
 ending : (p : Phase) → owed_in (recovered p) ≡ owed_in p + owed_more p
 ending Free = refl
-ending Issued = refl
-ending Accepted = refl
-ending Rejected = refl
-ending Broken = refl
-ending Held = refl
-ending Done = refl
+ending _ = refl
 
 -- the sum where the entry's own tag goes from one phase to another
 step : (past : List Entry) (t : ℕ) (old : Phase) (new : ℕ → Phase) (q : Phase) → t < 32 → phase past t ≡ old

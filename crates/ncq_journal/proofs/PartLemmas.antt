@@ -4,7 +4,7 @@ use Rattle.std.proofs.lemmas.Bool.{cases_lt, false≢true}
 use Rattle.word_bits.specs.Places.{places, has_place}
 use Rattle.word_bits.proofs.PlacesLemmas.{has_place-places, has_place_past, length-places}
 use Rattle.ncq_journal.specs.declared.phase.Phase.{Phase}
-use Rattle.ncq_journal.specs.declared.phase.Phase.TheVariants.{Free, Issued, Accepted, Rejected, Broken, Held, Done}
+use Rattle.ncq_journal.specs.declared.phase.Phase.TheVariants.{Free, Issued, Accepted, Held, Done}
 use Rattle.ncq_journal.specs.Entry.{Entry, Issue, Accept, Complete, Fail, Recover, Reissue, Collect, Unqueued}
 use Rattle.ncq_journal.specs.Halted.{halted, busy}
 use Rattle.ncq_journal.specs.Image.{sector_at}
@@ -116,22 +116,16 @@ places_within p q tag each h =
     ]
 
 device_in_sact : (p : Phase) (b : Bool) → (in_device p && b) ≡ true → in_sact p ≡ true
-device_in_sact Accepted b e = refl
 device_in_sact Free b e = absurd (false≢true e)
-device_in_sact Issued b e = refl
-device_in_sact Rejected b e = refl
-device_in_sact Broken b e = refl
 device_in_sact Held b e = absurd (false≢true e)
 device_in_sact Done b e = absurd (false≢true e)
+device_in_sact _ b e = refl
 
 ci_in_sact : (p : Phase) → in_ci p ≡ true → in_sact p ≡ true
-ci_in_sact Issued e = refl
-ci_in_sact Rejected e = refl
-ci_in_sact Accepted e = refl
-ci_in_sact Broken e = refl
 ci_in_sact Free e = absurd (false≢true e)
 ci_in_sact Held e = absurd (false≢true e)
 ci_in_sact Done e = absurd (false≢true e)
+ci_in_sact _ e = refl
 
 pub device_tags_in_sact : DeviceTagsInSact
 device_tags_in_sact past tag = places_within (λ t. in_device (phase past t) && not (halted past)) (λ t. in_sact (phase past t)) tag (λ t e. device_in_sact (phase past t) (not (halted past)) e)

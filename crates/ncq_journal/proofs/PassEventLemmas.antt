@@ -114,24 +114,12 @@ quiet_entry : {A : _} (event : Event A) → ((x : ℕ) (op : Op A) → event ≡
 quiet_entry event h u work e = not_issue event u work h e
 
 not_complete : {A : _} (event : Event A) → ((x : ℕ) → event ≡ code.Complete x → ⊥) → (u : ℕ) → entry_of event ≢ Complete u
-not_complete (code.Issue x op) h u e = cc
-not_complete (code.Accept t) h u e = cc
 not_complete (code.Complete t) h u e = h t refl
-not_complete (code.Fail t error lba) h u e = cc
-not_complete (code.Recover t) h u e = cc
-not_complete (code.Reissue t) h u e = cc
-not_complete (code.Collect t) h u e = cc
-not_complete (code.Plain command) h u e = cc
+not_complete _ h u e = cc
 
 not_fail : {A : _} (event : Event A) → ((x y z : ℕ) → event ≡ code.Fail x y z → ⊥) → (u error lba : ℕ) → entry_of event ≢ Fail u error lba
-not_fail (code.Issue x op) h u error lba e = cc
-not_fail (code.Accept t) h u error lba e = cc
-not_fail (code.Complete t) h u error lba e = cc
 not_fail (code.Fail t a b) h u error lba e = h t a b refl
-not_fail (code.Recover t) h u error lba e = cc
-not_fail (code.Reissue t) h u error lba e = cc
-not_fail (code.Collect t) h u error lba e = cc
-not_fail (code.Plain command) h u error lba e = cc
+not_fail _ h u error lba e = cc
 
 pub quiet_next : {A : _} (image : List ℕ) (events : List (Event A)) (depth i : ℕ) (event : Event A) (now : List ℕ) (requests : List (Option ℕ)) (answers : List (Option Answer))
     → IsAt image events depth i event

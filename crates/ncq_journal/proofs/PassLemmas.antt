@@ -58,13 +58,7 @@ asked_there past tag m e = by (request (history_of past) tag) refl e
 
 pub not_issue : {A : _} (event : Event A) (tag : ℕ) (work : Work) → ((x : ℕ) (op : Op A) → event ≡ code.Issue x op → ⊥) → entry_of event ≡ Issue tag work → ⊥
 not_issue (code.Issue x op) tag work h e = h x op refl
-not_issue (code.Accept t) tag work h e = cc
-not_issue (code.Complete t) tag work h e = cc
-not_issue (code.Fail t error lba) tag work h e = cc
-not_issue (code.Recover t) tag work h e = cc
-not_issue (code.Reissue t) tag work h e = cc
-not_issue (code.Collect t) tag work h e = cc
-not_issue (code.Plain command) tag work h e = cc
+not_issue _ tag work h e = cc
 
 pub same_request : (r : Request) (n tag u : ℕ) (work : Work) → r.number ≡ n → Issue u work ≡ Issue tag r.work → Some r ≡ Some (record { number = n; work = work })
 same_request r n tag u work e f =

@@ -2,7 +2,7 @@
 use Rattle.std.proofs.Common.{◌≡◌, ◌≢◌, ℕ, ◌<◌, ◌≤◌, Bool, true, false, cond, ◌==◌, List, [], ◌∷◌, length, ap, sym, refl, subst, ◌∙◌, Option, None, Some, IsSome, IsSomeAnd, arith, inl, inr}
 use Rattle.std.proofs.lemmas.Bool.{cond_both, eqb-true, eqb-false, false≢true, cases_lt}
 use Rattle.ncq_journal.specs.declared.phase.Phase.{Phase}
-use Rattle.ncq_journal.specs.declared.phase.Phase.TheVariants.{Free, Issued, Accepted, Rejected, Broken, Held, Done}
+use Rattle.ncq_journal.specs.declared.phase.Phase.TheVariants.{Free, Issued, Accepted, Held, Done}
 use Rattle.ncq_journal.specs.Entry.{Entry, Issue, Accept, Complete, Fail, Recover, Reissue, Collect, Unqueued}
 use Rattle.ncq_journal.specs.Lawful.{IsLawful, Fails, Fits}
 use Rattle.ncq_journal.specs.Laws.{OwnedHasRequest}
@@ -73,21 +73,11 @@ owned_has_request s d past tag h owned = some_unless_none (request past tag) (λ
 
 not_accepted : (p : Phase) → recovered p ≢ Accepted
 not_accepted Free e = absurd (cc)
-not_accepted Issued e = absurd (cc)
-not_accepted Accepted e = absurd (cc)
-not_accepted Rejected e = absurd (cc)
-not_accepted Broken e = absurd (cc)
-not_accepted Held e = absurd (cc)
-not_accepted Done e = absurd (cc)
+not_accepted _ e = absurd (cc)
 
 not_failed : (p : Phase) → failed p ≢ Accepted
 not_failed Free e = absurd (cc)
-not_failed Issued e = absurd (cc)
-not_failed Accepted e = absurd (cc)
-not_failed Rejected e = absurd (cc)
-not_failed Broken e = absurd (cc)
-not_failed Held e = absurd (cc)
-not_failed Done e = absurd (cc)
+not_failed _ e = absurd (cc)
 
 -- a step after which an accepted tag was accepted before
 was_accepted : (t tag : ℕ) (q p : Phase) → q ≢ Accepted → cond (t == tag) q p ≡ Accepted → p ≡ Accepted

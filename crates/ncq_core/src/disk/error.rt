@@ -17,9 +17,9 @@ impl Model for DiskError {
 
     ghost Value = { DiskError };
 
-    ghost view = { λ e. record { tag = e.tag; error = e.error; lba = e.lba } };
+    ghost view = { λ e. e };
 
     ghost invariant = { λ e. (e.tag < 32) × (e.error < 256) × (e.lba < 2 ^ 48) };
 
-    ghost inverse = { λ e. record { tag = e.tag; error = e.error; lba = e.lba } };
+    ghost inverse = { λ e. e };
 }
