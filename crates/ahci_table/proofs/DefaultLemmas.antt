@@ -1,38 +1,6 @@
 -- The default pieces serve every count that one command can have.
-use Rattle.std.proofs.Common.{
-  ◌≡◌,
-  ℕ,
-  zero,
-  suc,
-  ◌+◌,
-  ◌-◌,
-  ◌*◌,
-  ◌%◌,
-  ◌^◌,
-  ◌<◌,
-  ◌≤◌,
-  min,
-  Bool,
-  true,
-  false,
-  not,
-  cond,
-  ◌||◌,
-  List,
-  [],
-  map,
-  length,
-  nat_eq,
-  nat_le,
-  nat_lt,
-  eq-eqb,
-  None,
-  refl,
-  ap,
-  ◌∙◌,
-  sym,
-  arith,
-}
+use Rattle.std.proofs.Common.{◌≡◌, ℕ, zero, suc, ◌+◌, ◌-◌, ◌*◌, ◌%◌, ◌^◌, ◌<◌, ◌≤◌, min, Bool, true, false, not, cond, ◌||◌, List, [], map, length, nat_eq, nat_le}
+use Rattle.std.proofs.Common.{nat_lt, eq-eqb, None, refl, ap, ◌∙◌, sym, arith}
 use Rattle.std.specs.Int.{div_ceil}
 use Rattle.std.specs.List.{list_all, list_any, range_with_len}
 use Rattle.std.proofs.Math.Nat.{mul-suc, mul-le-mul_left}

@@ -1,39 +1,6 @@
 -- What is written into a new window is read there again, and makes it fit.
-use Rattle.std.proofs.Common.{
-  ◌≡◌,
-  ℕ,
-  ◌+◌,
-  ◌-◌,
-  ◌*◌,
-  ◌/◌,
-  ◌%◌,
-  ◌^◌,
-  ◌<◌,
-  ◌≤◌,
-  zero,
-  suc,
-  Bool,
-  true,
-  false,
-  cond,
-  nat_eq,
-  List,
-  [],
-  ◌∷◌,
-  ◌++◌,
-  length,
-  take,
-  replicate,
-  get_or,
-  ap,
-  sym,
-  refl,
-  subst,
-  ◌∙◌,
-  arith,
-  inl,
-  inr,
-}
+use Rattle.std.proofs.Common.{◌≡◌, ℕ, ◌+◌, ◌-◌, ◌*◌, ◌/◌, ◌%◌, ◌^◌, ◌<◌, ◌≤◌, zero, suc, Bool, true, false, cond, nat_eq, List, [], ◌∷◌, ◌++◌, length, take, replicate}
+use Rattle.std.proofs.Common.{get_or, ap, sym, refl, subst, ◌∙◌, arith, inl, inr}
 use Rattle.std.specs.Int.{byte_at}
 use Rattle.std.specs.List.{flat_map}
 use Rattle.std.proofs.lemmas.Bool.{cases_lt, cond-false, eqb-true}

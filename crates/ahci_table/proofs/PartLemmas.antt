@@ -1,26 +1,7 @@
 -- Parts of lists of bytes: fronts and rests of two lists in a row, and what copying over a part leaves.
 use Rattle.std.proofs.Common.{◌≡◌, ℕ, zero, suc, ◌+◌, ◌-◌, ◌<◌, ◌≤◌, min, ◌⊎◌, List, [], ◌∷◌, ◌++◌, length, take, drop, get_or, ap, sym, refl, ◌∙◌, arith, inl, inr}
-use Rattle.std.proofs.lemmas.List.{
-  take_min,
-  drop_min,
-  append_assoc,
-  append-nil,
-  length-take,
-  length-drop,
-  length-append,
-  length-take-le,
-  take-append-drop,
-  take-append-le,
-  drop-append-le,
-  take-take,
-  drop-take,
-  drop-drop,
-  take_all,
-  drop_all,
-  get_or-take,
-  get_or-drop,
-  ext_get_or,
-}
+use Rattle.std.proofs.lemmas.List.{take_min, drop_min, append_assoc, append-nil, length-take, length-drop, length-append, length-take-le, take-append-drop}
+use Rattle.std.proofs.lemmas.List.{take-append-le, drop-append-le, take-take, drop-take, drop-drop, take_all, drop_all, get_or-take, get_or-drop, ext_get_or}
 use Rattle.std.proofs.lemmas.Bool.{cases_lt}
 use Rattle.std.proofs.lemmas.Slice.{take-put_mid_below, drop-put_mid}
 use borrow.Rule.Slice.PartMut.{put_mid}

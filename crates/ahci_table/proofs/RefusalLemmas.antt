@@ -1,40 +1,6 @@
 -- What it says that nothing stands against a command with a list of pieces.
-use Rattle.std.proofs.Common.{
-  ◌≡◌,
-  ℕ,
-  ◌*◌,
-  ◌%◌,
-  ◌^◌,
-  ◌<◌,
-  ◌≤◌,
-  ◌≢◌,
-  zero,
-  suc,
-  Bool,
-  true,
-  false,
-  not,
-  cond,
-  ◌||◌,
-  nat_eq,
-  ltb,
-  leb,
-  eq-eqb,
-  inl,
-  inr,
-  List,
-  [],
-  ◌∷◌,
-  length,
-  Option,
-  Some,
-  None,
-  ap,
-  sym,
-  refl,
-  ◌∙◌,
-  arith,
-}
+use Rattle.std.proofs.Common.{◌≡◌, ℕ, ◌*◌, ◌%◌, ◌^◌, ◌<◌, ◌≤◌, ◌≢◌, zero, suc, Bool, true, false, not, cond, ◌||◌, nat_eq, ltb, leb, eq-eqb, inl, inr, List, [], ◌∷◌}
+use Rattle.std.proofs.Common.{length, Option, Some, None, ap, sym, refl, ◌∙◌, arith}
 use Rattle.std.specs.List.{All, list_any}
 use Rattle.std.proofs.lemmas.Bool.{cases_lt, or_parts, eqb-true, lt-ltb, le-leb, false≢true}
 use Rattle.ncq_journal.specs.Lawful.{most_sectors}

@@ -3,21 +3,11 @@
 use Rattle.std.specs.Prelude.{ℕ, ◌*◌, ◌/◌, ◌%◌, Bool, List}
 use Rattle.sata_fis.specs.Places.{byte, bit, number}
 use Rattle.ahci_table.specs.Window.{WindowState}
+use Rattle.ahci_table.specs.declared.header.Header.TheInside.{Inside}
 
-pub record HeaderFields : Type 0 where
-  -- the command FIS's length in dwords
-  pub cfl : ℕ
-  -- ATAPI, write, reset, BIST, clear busy upon R_OK
-  pub a : Bool
-  pub w : Bool
-  pub r : Bool
-  pub b : Bool
-  pub c : Bool
-  -- the entries of the PRDT
-  pub prdtl : ℕ
-  -- the command table's address, low and high
-  pub ctba : ℕ
-  pub ctbau : ℕ
+-- the fields of a header
+abbrev pub HeaderFields : Type 0
+HeaderFields = Inside
 
 abbrev pub header_at : List ℕ → HeaderFields
 header_at bytes = record {

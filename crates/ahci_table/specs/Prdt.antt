@@ -3,6 +3,7 @@
 use Rattle.std.specs.Prelude.{ℕ, ◌+◌, ◌-◌, ◌*◌, ◌%◌, ◌^◌, List, map}
 use Rattle.std.specs.List.{range_with_len}
 use Rattle.sata_fis.specs.Places.{number}
+use Rattle.ahci_table.specs.declared.entry.Entry.TheInside.{Inside}
 use Rattle.ahci_table.specs.declared.piece.Piece.{Piece}
 use Rattle.ahci_table.specs.Window.{WindowState, base}
 use Rattle.ahci_table.specs.Header.{header_of}
@@ -11,12 +12,9 @@ use Rattle.ahci_table.specs.Header.{header_of}
 abbrev pub entry_place : ℕ → ℕ
 entry_place i = 0x80 + 16 * i
 
-pub record EntryFields : Type 0 where
-  -- the data's address, low and high
-  pub dba : ℕ
-  pub dbau : ℕ
-  -- the data's byte count less one
-  pub dbc : ℕ
+-- the fields of an entry
+abbrev pub EntryFields : Type 0
+EntryFields = Inside
 
 -- the entry that begins at a place
 abbrev pub entry_at : ℕ → List ℕ → EntryFields

@@ -20,9 +20,9 @@ impl Model for Entry {
 
     ghost Value = { EntryFields };
 
-    ghost view = { λ e. record { dba = e.dba; dbau = e.dbau; dbc = e.dbc } };
+    ghost view = { λ e. e };
 
-    ghost inverse = { λ e. record { dba = e.dba; dbau = e.dbau; dbc = e.dbc } };
+    ghost inverse = { λ e. e };
 }
 
 /// The dword at a place.

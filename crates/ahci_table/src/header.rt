@@ -31,29 +31,9 @@ impl Model for Header {
 
     ghost Value = { HeaderFields };
 
-    ghost view = { λ h. record {
-      cfl = h.cfl;
-      a = h.a;
-      w = h.w;
-      r = h.r;
-      b = h.b;
-      c = h.c;
-      prdtl = h.prdtl;
-      ctba = h.ctba;
-      ctbau = h.ctbau;
-    } };
+    ghost view = { λ h. h };
 
-    ghost inverse = { λ h. record {
-      cfl = h.cfl;
-      a = h.a;
-      w = h.w;
-      r = h.r;
-      b = h.b;
-      c = h.c;
-      prdtl = h.prdtl;
-      ctba = h.ctba;
-      ctbau = h.ctbau;
-    } };
+    ghost inverse = { λ h. h };
 }
 
 /// Whether a bit of a byte is 1.
