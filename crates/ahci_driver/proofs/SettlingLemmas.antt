@@ -22,11 +22,6 @@ use Rattle.ahci_driver.specs.declared.receipt.Receipt.{Receipt}
 use Rattle.ahci_driver.specs.Received.{Received, received_of, is_named}
 use Rattle.ahci_driver.specs.Settled.{AllRight, AnsweredBefore, AreClaimed, AreFit, Fits, IsFit, IsOfJob, IsRight, answered_as, claim_of, issued_as, work_in}
 
--- the numbers are those of the code's receipts
-pub named_map : {A : _} (receipts : List (Receipt A)) (n : ℕ) → is_named (map received_of receipts) n ≡ list_any (λ r. nat_eq r.reply.number n) receipts
-named_map [] n = refl
-named_map (r ∷ receipts) n = ap (λ b. nat_eq r.reply.number n || b) (named_map receipts n)
-
 -- what was issued has a number from the journal's first to its end
 pub issued_from : (port : PortView) (n : ℕ) → IsSome (issued_as port n) → port.first ≤ n
 issued_from port n h =
@@ -45,20 +40,6 @@ issued_within port n h =
 -- what the code finds at an index
 pub mapped : {X Y : Type 0} (f : X → Y) (xs : List X) (i : ℕ) (x : X) → i < length xs → x ≡ get_or xs i x → slice_get (map f xs) i ≡ Some (f x)
 mapped f xs i x low e = slice_get-map f xs i ∙ ap (option_map f) (slice_get_read xs (length xs) i x refl low e)
-
--- the numbers of the receipts before
-pub named_before : {A : _} (receipts : List (Receipt A)) (i n : ℕ) → is_named (take i (map received_of receipts)) n ≡ is_named (map received_of (take i receipts)) n
-named_before receipts i n = ap (λ rs. is_named rs n) (take-map received_of i receipts)
-
--- a receipt that is its job's but for its answer is its job's exactly where it has the answer
-pub by_answer : (port : PortView) (receipts : List Received) (workers i : ℕ) (work : Work) (r : Received) (x : Result Bool AllocError)
-    → issued_as port r.number ≡ Some work → is_named (take i receipts) r.number ≡ false → AnsweredBefore receipts workers i r.number
-    → IfOk x (λ b. IsTrue b ↔ (answered_as port r.number ≡ Some r.answer)) → IfOk x (λ b. IsTrue b ↔ IsOfJob port receipts workers i work r)
-by_answer port receipts workers i work r (Ok b) issued fresh turn h = (
-  λ t. record { issued = issued; fresh = fresh; answered = h.0 t; in_turn = turn },
-  λ j. h.1 j.answered,
-)
-by_answer port receipts workers i work r (Err e) issued fresh turn h = tt
 
 -- as many receipts as jobs
 pub counted : {A B : _} (receipts : List (Receipt A)) (jobs : List (Op B)) → length receipts ≡ length jobs → length (map received_of receipts) ≡ length (map work_of jobs)
