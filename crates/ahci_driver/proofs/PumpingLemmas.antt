@@ -41,13 +41,9 @@ held_again port tag running low =
     ∙ ap (λ b. cond b None (Some reissue.NotHeld)) (in_places (λ t. is_held (phase port.past t)) tag low.here)
 
 idle_phase : (p : Phase) → is_issued p ≡ false → is_accepted p ≡ false → is_busy p ≡ false
-idle_phase Free i a = refl
 idle_phase Issued i a = absurd (true≢false i)
 idle_phase Accepted i a = absurd (true≢false a)
-idle_phase Rejected i a = refl
-idle_phase Broken i a = refl
-idle_phase Held i a = refl
-idle_phase Done i a = refl
+idle_phase _ i a = refl
 
 none_of : (p : ℕ → Bool) (t : ℕ) → t < 32 → no_places ≡ places p → p t ≡ false
 none_of p t low e = sym (has_place-places p t low) ∙ ap (λ s. has_place s t) (sym e) ∙ has_place-no_places t
@@ -89,11 +85,7 @@ busy_words past issued accepted i a si sa some = by (busy past) refl
         calm : (p : Phase) → is_busy p ≡ false → (is_issued p ≡ false) × (is_accepted p ≡ false)
         calm Issued h = absurd (true≢false h)
         calm Accepted h = absurd (true≢false h)
-        calm Free h = (refl, refl)
-        calm Rejected h = (refl, refl)
-        calm Broken h = (refl, refl)
-        calm Held h = (refl, refl)
-        calm Done h = (refl, refl)
+        calm _ h = (refl, refl)
 
         lacks_busy : (t : ℕ) → t < 32 → busy past ≡ false → is_busy (phase past t) ≡ false
         lacks_busy t low calm = lacks (λ u. is_busy (phase past u)) t low calm

@@ -46,11 +46,7 @@ fn is_same<A: Allocator, B: Allocator>(op: &Op<A>, other: &Op<B>) -> bool
 }
 
 /// Whether the job's command was issued under this number.
-fn is_issued<A: Allocator, B: Allocator>(
-    port: &Port<A>,
-    number: u64,
-    job: &Op<B>,
-) -> bool
+fn is_issued<A: Allocator, B: Allocator>(port: &Port<A>, number: u64, job: &Op<B>) -> bool
     ensures { IsTrue result ↔ (issued_as port.now number ≡ Some (work_of job.now)) }
 {
     match port.journal().get(number) {
