@@ -1,9 +1,8 @@
 -- Receipts in the code's list and in the contract's, and the numbers of what was issued.
 use Rattle.std.proofs.Common.{◌≡◌, ℕ, ◌<◌, ◌≤◌, Bool, false, ◌||◌, ◌+◌, ◌-◌, ◌++◌, List, [], ◌∷◌, set, replicate, get_or-set_same, get_or-set_other, length-set, is_some}
 use Rattle.std.proofs.Common.{IsSomeAnd, length, map, take, get_or, nat_eq, below_more, ap, sym, refl, subst, ◌∙◌, Option, None, Some, IsSome, arith, inl, inr}
-use Rattle.std.specs.List.{list_any, slice_get, take-map}
-use Rattle.std.specs.Prelude.{◌↔◌, Result, Ok, Err, IfOk, IsTrue}
-use Rattle.std.specs.declared.alloc.AllocError.{AllocError}
+use Rattle.std.specs.List.{slice_get}
+use Rattle.std.specs.Prelude.{◌↔◌, IsTrue}
 use Rattle.std.proofs.lemmas.List.{length-map}
 use Rattle.std.specs.Option.{option_and_then, option_map}
 use Rattle.std.proofs.lemmas.Bool.{cases_lt, cases_eq, eq-eqb, ne_eqb, or_left, or_right}
@@ -20,7 +19,7 @@ use Rattle.ncq_journal.proofs.NumberLemmas.{none_below_first, none_from_end, pla
 use Rattle.ahci_port.specs.PortView.{PortView}
 use Rattle.ahci_driver.specs.declared.receipt.Receipt.{Receipt}
 use Rattle.ahci_driver.specs.Received.{Received, received_of, is_named}
-use Rattle.ahci_driver.specs.Settled.{AllRight, AnsweredBefore, AreClaimed, AreFit, Fits, IsFit, IsOfJob, IsRight, answered_as, claim_of, issued_as, work_in}
+use Rattle.ahci_driver.specs.Settled.{AllRight, AreClaimed, AreFit, Fits, IsFit, IsOfJob, IsRight, answered_as, claim_of, issued_as, work_in}
 
 -- what was issued has a number from the journal's first to its end
 pub issued_from : (port : PortView) (n : ℕ) → IsSome (issued_as port n) → port.first ≤ n
