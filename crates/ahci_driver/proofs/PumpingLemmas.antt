@@ -3,7 +3,7 @@ use Rattle.std.proofs.Common.{◌≡◌, ◌≢◌, ℕ, ◌^◌, ◌<◌, Bool,
 use Rattle.std.specs.Prelude.{IfOk, Result, Ok, Err}
 use Rattle.std.proofs.lemmas.Bool.{cases_lt, true≢false}
 use Rattle.ncq_journal.specs.declared.phase.Phase.{Phase}
-use Rattle.ncq_journal.specs.declared.phase.Phase.TheVariants.{Free, Issued, Accepted, Rejected, Broken, Held, Done}
+use Rattle.ncq_journal.specs.declared.phase.Phase.TheVariants.{Issued, Accepted}
 use Rattle.ncq_journal.specs.Entry.{Entry}
 use Rattle.ncq_journal.specs.Halted.{halted, busy}
 use Rattle.ncq_journal.specs.Phase.{phase, is_busy}
@@ -41,13 +41,9 @@ held_again port tag running low =
     ∙ ap (λ b. cond b None (Some reissue.NotHeld)) (in_places (λ t. is_held (phase port.past t)) tag low.here)
 
 idle_phase : (p : Phase) → is_issued p ≡ false → is_accepted p ≡ false → is_busy p ≡ false
-idle_phase Free i a = refl
 idle_phase Issued i a = absurd (true≢false i)
 idle_phase Accepted i a = absurd (true≢false a)
-idle_phase Rejected i a = refl
-idle_phase Broken i a = refl
-idle_phase Held i a = refl
-idle_phase Done i a = refl
+idle_phase _ i a = refl
 
 none_of : (p : ℕ → Bool) (t : ℕ) → t < 32 → no_places ≡ places p → p t ≡ false
 none_of p t low e = sym (has_place-places p t low) ∙ ap (λ s. has_place s t) (sym e) ∙ has_place-no_places t
@@ -89,11 +85,7 @@ busy_words past issued accepted i a si sa some = by (busy past) refl
         calm : (p : Phase) → is_busy p ≡ false → (is_issued p ≡ false) × (is_accepted p ≡ false)
         calm Issued h = absurd (true≢false h)
         calm Accepted h = absurd (true≢false h)
-        calm Free h = (refl, refl)
-        calm Rejected h = (refl, refl)
-        calm Broken h = (refl, refl)
-        calm Held h = (refl, refl)
-        calm Done h = (refl, refl)
+        calm _ h = (refl, refl)
 
         lacks_busy : (t : ℕ) → t < 32 → busy past ≡ false → is_busy (phase past t) ≡ false
         lacks_busy t low calm = lacks (λ u. is_busy (phase past u)) t low calm

@@ -82,9 +82,7 @@ still_end handed x y end ok err still = ended_well (λ e. IsStill e.port handed)
 refused : {A : _} (port : PortView) (handed : Handed A) (jobs : List Work) (receipts : List Received) (workers : ℕ) (f : SettleFault)
     → IsStill port handed → IsUnsettled port jobs receipts workers f → IsRefused port handed jobs receipts workers (unsettled f)
 refused port handed jobs receipts workers settle.OutOfMemory still h = (still, h)
-refused port handed jobs receipts workers settle.Count still h = (still, h)
-refused port handed jobs receipts workers (settle.Wrong i) still h = (still, h)
-refused port handed jobs receipts workers (settle.Extra n) still h = (still, h)
+refused port handed jobs receipts workers _ still h = (still, h)
 
 -- why the run is given up, where `settle` has said so
 pub refused_end : {A B : _} {T : Type 0} (port : PortView) (handed : Handed B) (jobs : List Work) (receipts : List Received) (workers : ℕ) (x : Result T SettleFault)

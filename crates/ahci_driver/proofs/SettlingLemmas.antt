@@ -1,9 +1,8 @@
 -- Receipts in the code's list and in the contract's, and the numbers of what was issued.
 use Rattle.std.proofs.Common.{◌≡◌, ℕ, ◌<◌, ◌≤◌, Bool, false, ◌||◌, ◌+◌, ◌-◌, ◌++◌, List, [], ◌∷◌, set, replicate, get_or-set_same, get_or-set_other, length-set, is_some}
 use Rattle.std.proofs.Common.{IsSomeAnd, length, map, take, get_or, nat_eq, below_more, ap, sym, refl, subst, ◌∙◌, Option, None, Some, IsSome, arith, inl, inr}
-use Rattle.std.specs.List.{list_any, slice_get, take-map}
-use Rattle.std.specs.Prelude.{◌↔◌, Result, Ok, Err, IfOk, IsTrue}
-use Rattle.std.specs.declared.alloc.AllocError.{AllocError}
+use Rattle.std.specs.List.{slice_get}
+use Rattle.std.specs.Prelude.{◌↔◌, IsTrue}
 use Rattle.std.proofs.lemmas.List.{length-map}
 use Rattle.std.specs.Option.{option_and_then, option_map}
 use Rattle.std.proofs.lemmas.Bool.{cases_lt, cases_eq, eq-eqb, ne_eqb, or_left, or_right}
@@ -20,12 +19,7 @@ use Rattle.ncq_journal.proofs.NumberLemmas.{none_below_first, none_from_end, pla
 use Rattle.ahci_port.specs.PortView.{PortView}
 use Rattle.ahci_driver.specs.declared.receipt.Receipt.{Receipt}
 use Rattle.ahci_driver.specs.Received.{Received, received_of, is_named}
-use Rattle.ahci_driver.specs.Settled.{AllRight, AnsweredBefore, AreClaimed, AreFit, Fits, IsFit, IsOfJob, IsRight, answered_as, claim_of, issued_as, work_in}
-
--- the numbers are those of the code's receipts
-pub named_map : {A : _} (receipts : List (Receipt A)) (n : ℕ) → is_named (map received_of receipts) n ≡ list_any (λ r. nat_eq r.reply.number n) receipts
-named_map [] n = refl
-named_map (r ∷ receipts) n = ap (λ b. nat_eq r.reply.number n || b) (named_map receipts n)
+use Rattle.ahci_driver.specs.Settled.{AllRight, AreClaimed, AreFit, Fits, IsFit, IsOfJob, IsRight, answered_as, claim_of, issued_as, work_in}
 
 -- what was issued has a number from the journal's first to its end
 pub issued_from : (port : PortView) (n : ℕ) → IsSome (issued_as port n) → port.first ≤ n
@@ -45,20 +39,6 @@ issued_within port n h =
 -- what the code finds at an index
 pub mapped : {X Y : Type 0} (f : X → Y) (xs : List X) (i : ℕ) (x : X) → i < length xs → x ≡ get_or xs i x → slice_get (map f xs) i ≡ Some (f x)
 mapped f xs i x low e = slice_get-map f xs i ∙ ap (option_map f) (slice_get_read xs (length xs) i x refl low e)
-
--- the numbers of the receipts before
-pub named_before : {A : _} (receipts : List (Receipt A)) (i n : ℕ) → is_named (take i (map received_of receipts)) n ≡ is_named (map received_of (take i receipts)) n
-named_before receipts i n = ap (λ rs. is_named rs n) (take-map received_of i receipts)
-
--- a receipt that is its job's but for its answer is its job's exactly where it has the answer
-pub by_answer : (port : PortView) (receipts : List Received) (workers i : ℕ) (work : Work) (r : Received) (x : Result Bool AllocError)
-    → issued_as port r.number ≡ Some work → is_named (take i receipts) r.number ≡ false → AnsweredBefore receipts workers i r.number
-    → IfOk x (λ b. IsTrue b ↔ (answered_as port r.number ≡ Some r.answer)) → IfOk x (λ b. IsTrue b ↔ IsOfJob port receipts workers i work r)
-by_answer port receipts workers i work r (Ok b) issued fresh turn h = (
-  λ t. record { issued = issued; fresh = fresh; answered = h.0 t; in_turn = turn },
-  λ j. h.1 j.answered,
-)
-by_answer port receipts workers i work r (Err e) issued fresh turn h = tt
 
 -- as many receipts as jobs
 pub counted : {A B : _} (receipts : List (Receipt A)) (jobs : List (Op B)) → length receipts ≡ length jobs → length (map received_of receipts) ≡ length (map work_of jobs)

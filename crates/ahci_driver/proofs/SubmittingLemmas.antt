@@ -28,14 +28,11 @@ capped n =
 
 -- a port refuses a fit window for what the window can't mend
 pub fit_refused : (port : PortView) (w : WindowState) (fault : IssueFault) → IsFit w → RefusesIssue port w fault → MayRefuseFit fault
-fit_refused port w issue.Halted fit h = tt
-fit_refused port w issue.NoSuchTag fit h = tt
-fit_refused port w issue.SlotOwned fit h = tt
-fit_refused port w issue.OutOfMemory fit h = tt
 fit_refused port w issue.BadHeader fit h = absurd (h.1 fit.header)
 fit_refused port w issue.BadCommand fit h = absurd (h.1.1 fit.command)
 fit_refused port w issue.WrongTag fit h = absurd (h.1.2 fit.tag)
 fit_refused port w issue.BadList fit h = absurd (h.1.3 fit.listed)
+fit_refused port w _ fit h = tt
 
 -- a tag that was not the seat's, and is given back
 pub given_back : (s : List Bool) (t : ℕ) → has_place s t ≡ false → without_place (with_place s t) t ≡ s

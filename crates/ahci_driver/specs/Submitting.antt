@@ -1,5 +1,5 @@
 -- Why a command is not submitted, and what a seat finds in it.
-use Rattle.std.specs.Prelude.{◌≡◌, ℕ, ◌*◌, ◌<◌, true, List, [], ◌∷◌, replicate, Option, None, Some}
+use Rattle.std.specs.Prelude.{◌≡◌, ℕ, ◌*◌, ◌<◌, true, false, List, [], ◌∷◌, replicate, Option, None, Some}
 use Rattle.ahci_port.specs.declared.fault.IssueFault.{IssueFault}
 use Rattle.ahci_port.specs.declared.fault.IssueFault.TheVariants as issue
 use Rattle.ncq_journal.specs.Work.{Work, Read, Write, sectors_of}
@@ -9,9 +9,12 @@ use Rattle.ahci_table.specs.Defaults.{default_list}
 use Rattle.ahci_table.specs.Refusal.{refusal}
 use Rattle.tag_board.specs.declared.finding.Finding.{Finding}
 use Rattle.tag_board.specs.declared.finding.Finding.TheVariants.{Gave, Tried}
+use Rattle.tag_board.specs.Board.{Seated}
 use Rattle.tag_board.specs.View.{missed}
+use Rattle.word_bits.specs.Places.{has_place, with_place, without_place}
 use Rattle.ahci_driver.specs.declared.fault.SubmitFault.{SubmitFault}
 use Rattle.ahci_driver.specs.declared.fault.SubmitFault.TheVariants as submit
+use Rattle.ahci_driver.specs.Tickets.{TicketView}
 
 -- the buffer that waits for a command's answer: a zero for each byte that is read
 abbrev pub buffer_for : Work → List ℕ
@@ -53,3 +56,24 @@ returned tag log = Gave tag ∷ log
 abbrev pub HasTried : ℕ → List Finding → List Finding → SubmitFault → Type 0
 HasTried depth before after submit.NoTag = after ≡ missed depth before
 HasTried depth before after fault = (tag : ℕ) × (tag < depth) × (after ≡ returned tag (claimed tag before))
+
+-- a seat has submitted a command on a board of some depth: its ticket has a tag that the seat has gained, and a buffer
+pub record HasSubmitted (depth : ℕ) (work : Work) (old new : Seated) (ticket : TicketView) : Type 0 where
+  pub built : default_refusal work ≡ None
+  pub buffer : ticket.buffer ≡ buffer_for work
+  pub below : ticket.tag < depth
+  pub fresh : has_place old.tags ticket.tag ≡ false
+  pub gained : new.tags ≡ with_place old.tags ticket.tag
+  pub has : has_place new.tags ticket.tag ≡ true
+  pub log : new.log ≡ claimed ticket.tag old.log
+
+-- a seat has not submitted a command: it has the tags that it had
+pub record HasNotSubmitted (depth : ℕ) (work : Work) (old new : Seated) (fault : SubmitFault) : Type 0 where
+  pub kept : new.tags ≡ old.tags
+  pub why : IsNotSubmitted work fault
+  pub tried : HasTried depth old.log new.log fault
+
+-- a seat has given back the tag of a ticket that it has collected
+pub record HasReturned (old new : Seated) (ticket : TicketView) : Type 0 where
+  pub tags : new.tags ≡ without_place old.tags ticket.tag
+  pub log : new.log ≡ returned ticket.tag old.log

@@ -1,14 +1,14 @@
 mod working;
 
-ghost use Rattle.std.specs.Prelude.{◌≡◌, false, true, ℕ, IfOk, IfErr, OnOk, OnErr, None, length, ◌<◌};
+ghost use Rattle.std.specs.Prelude.{◌≡◌, true, IfOk, IfErr, OnOk, OnErr, length};
 ghost use Rattle.ncq_journal.specs.Laws.{AllFree};
 ghost use Rattle.ncq_journal.specs.Work.{work_of};
-ghost use Rattle.word_bits.specs.Places.{has_place, with_place, without_place};
+ghost use Rattle.word_bits.specs.Places.{has_place};
 ghost use Rattle.ahci_port.specs.Headline.{Headline};
 ghost use Rattle.ahci_driver.specs.Pumping.{HasPumped};
 ghost use Rattle.ahci_driver.specs.Tickets.{answer_length};
 ghost use Rattle.ahci_driver.specs.Trimming.{IsKept};
-ghost use Rattle.ahci_driver.specs.Submitting.{HasTried, IsNotSubmitted, buffer_for, claimed, default_refusal, returned};
+ghost use Rattle.ahci_driver.specs.Submitting.{HasNotSubmitted, HasReturned, HasSubmitted};
 
 use crate::chooser::Chooser;
 use crate::collecting::collect_locked;
@@ -99,8 +99,7 @@ impl<A: Allocator> Driver<A> {
         ensures board { seat.new.board ≡ seat.old.board }
         ensures number { IfOk result (λ r. r.0.number ≡ ticket.number) }
         ensures length { IfOk result (λ r. length r.1.items ≡ answer_length r.0.outcome (length ticket.buffer)) }
-        ensures tags { IfOk result (λ _. seat.new.tags ≡ without_place seat.old.tags ticket.tag) }
-        ensures log { IfOk result (λ _. seat.new.log ≡ returned ticket.tag seat.old.log) }
+        ensures returned { OnOk result (HasReturned seat.old seat.new ticket) }
         ensures err { IfErr result (λ e. (e.0 ≡ ticket) × (seat.new ≡ seat.old)) }
     {
         let freed = ticket.tag();
@@ -149,16 +148,8 @@ impl<A: Allocator + Clone> Driver<A> {
     ) -> Result<Ticket<A>, SubmitFault>
         requires { seat.old.board ≡ self.now }
         ensures board { seat.new.board ≡ seat.old.board }
-        ensures buffer { IfOk result (λ t. t.buffer ≡ buffer_for (work_of op.now)) }
-        ensures built { OnOk result (default_refusal (work_of op.now) ≡ None) }
-        ensures fresh { IfOk result (λ t. has_place seat.old.tags t.tag ≡ false) }
-        ensures gained { IfOk result (λ t. seat.new.tags ≡ with_place seat.old.tags t.tag) }
-        ensures has { IfOk result (λ t. has_place seat.new.tags t.tag ≡ true) }
-        ensures below { IfOk result (λ t. t.tag < self.now.depth) }
-        ensures log { IfOk result (λ t. seat.new.log ≡ claimed t.tag seat.old.log) }
-        ensures kept { OnErr result (seat.new.tags ≡ seat.old.tags) }
-        ensures fault { IfErr result (IsNotSubmitted (work_of op.now)) }
-        ensures tried { IfErr result (HasTried self.now.depth seat.old.log seat.new.log) }
+        ensures ok { IfOk result (HasSubmitted self.now.depth (work_of op.now) seat.old seat.new) }
+        ensures err { IfErr result (HasNotSubmitted self.now.depth (work_of op.now) seat.old seat.new) }
     {
         let Ok(tag) = self.board.claim(seat) else {
             return Err(SubmitFault::NoTag);

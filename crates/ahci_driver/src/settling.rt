@@ -5,10 +5,9 @@ ghost use Rattle.std.specs.Prelude.{◌≡◌, ◌↔◌, ◌<◌, ◌≤◌, �
 ghost use Rattle.ncq_journal.specs.Claims.{AreJudged};
 ghost use Rattle.ncq_journal.specs.Work.{work_of};
 ghost use Rattle.ahci_driver.specs.Received.{received_of};
-ghost use Rattle.ahci_driver.specs.Settled.{AreClaimed, AreFit, Fits, IsFirstUnnamed, IsFirstWrong, IsFit, IsSettled, IsUnsettled, claim_of};
+ghost use Rattle.ahci_driver.specs.Settled.{AnsweredBefore, AreClaimed, AreFit, Fits, IsFirstUnnamed, IsFirstWrong, IsFit, IsSettled, IsUnsettled, claim_of, issued_as};
 
 use crate::fault::SettleFault;
-use crate::plain::{is_in_turn, is_issued};
 use crate::receipt::Receipt;
 use ahci_port::Port;
 use ncq_journal::{Claim, Event, Op, claims_hold};
@@ -30,6 +29,47 @@ fn claim_of<B: Allocator>(receipt: &Receipt<B>, first: u64) -> Claim<'_>
         entry: receipt.reply.entry - first,
         outcome: receipt.reply.outcome,
         bytes: receipt.bytes.as_slice(),
+    }
+}
+
+/// Whether two commands are the same.
+fn is_same<A: Allocator, B: Allocator>(op: &Op<A>, other: &Op<B>) -> bool
+    ensures { IsTrue result ↔ (work_of op.now ≡ work_of other.now) }
+{
+    match (op, other) {
+        (Op::Read { lba, sectors }, Op::Read { lba: l, sectors: n }) => lba == l && sectors == n,
+        (Op::Write { lba, bytes }, Op::Write { lba: l, bytes: b }) => {
+            lba == l && bytes.as_slice() == b.as_slice()
+        }
+        _ => false,
+    }
+}
+
+/// Whether the job's command was issued under this number.
+fn is_issued<A: Allocator, B: Allocator>(port: &Port<A>, number: u64, job: &Op<B>) -> bool
+    ensures { IsTrue result ↔ (issued_as port.now number ≡ Some (work_of job.now)) }
+{
+    match port.journal().get(number) {
+        Some(Event::Issue(_, op)) => is_same(op, job),
+        _ => false,
+    }
+}
+
+/// Whether the job before of the same worker was answered before this number.
+fn is_in_turn<B: Allocator>(
+    receipts: &[Receipt<B>],
+    workers: u32,
+    index: usize,
+    number: u64,
+) -> bool
+    ensures { IsTrue result ↔ AnsweredBefore (map received_of receipts.now) workers index number }
+{
+    if index < workers as usize {
+        return true;
+    }
+    match receipts.get(index - workers as usize) {
+        Some(before) => before.reply.entry < number,
+        None => false,
     }
 }
 

@@ -1,9 +1,9 @@
 //! The calls of a run's workers: as much as can be done without the lock is done before it is taken, or after.
 
-ghost use Rattle.std.specs.Prelude.{◌≡◌, ◌<◌, None, true, false, IfOk, IfErr, OnOk, OnErr, length};
+ghost use Rattle.std.specs.Prelude.{◌≡◌, true, IfOk, IfErr, OnOk, length};
 ghost use Rattle.ncq_journal.specs.Work.{work_of};
-ghost use Rattle.word_bits.specs.Places.{has_place, with_place, without_place};
-ghost use Rattle.ahci_driver.specs.Submitting.{HasTried, IsNotSubmitted, buffer_for, claimed, default_refusal, returned};
+ghost use Rattle.word_bits.specs.Places.{has_place};
+ghost use Rattle.ahci_driver.specs.Submitting.{HasNotSubmitted, HasReturned, HasSubmitted};
 ghost use Rattle.ahci_driver.specs.Tickets.{answer_length};
 
 use crate::chooser::Chooser;
@@ -37,8 +37,7 @@ impl<A: Allocator> Driver<A> {
         ensures board { seat.new.board ≡ seat.old.board }
         ensures number { IfOk result (λ r. r.0.number ≡ ticket.number) }
         ensures length { IfOk result (λ r. length r.1.items ≡ answer_length r.0.outcome (length ticket.buffer)) }
-        ensures tags { IfOk result (λ _. seat.new.tags ≡ without_place seat.old.tags ticket.tag) }
-        ensures log { IfOk result (λ _. seat.new.log ≡ returned ticket.tag seat.old.log) }
+        ensures returned { OnOk result (HasReturned seat.old seat.new ticket) }
         ensures err { IfErr result (λ e. (e.0 ≡ ticket) × (seat.new ≡ seat.old)) }
     {
         let owned = ticket.tag();
@@ -63,16 +62,8 @@ impl<A: Allocator + Clone> Driver<A> {
     ) -> Result<Ticket<A>, SubmitFault>
         requires { seat.old.board ≡ self.now }
         ensures board { seat.new.board ≡ seat.old.board }
-        ensures buffer { IfOk result (λ t. t.buffer ≡ buffer_for (work_of op.now)) }
-        ensures built { OnOk result (default_refusal (work_of op.now) ≡ None) }
-        ensures fresh { IfOk result (λ t. has_place seat.old.tags t.tag ≡ false) }
-        ensures gained { IfOk result (λ t. seat.new.tags ≡ with_place seat.old.tags t.tag) }
-        ensures has { IfOk result (λ t. has_place seat.new.tags t.tag ≡ true) }
-        ensures below { IfOk result (λ t. t.tag < self.now.depth) }
-        ensures log { IfOk result (λ t. seat.new.log ≡ claimed t.tag seat.old.log) }
-        ensures kept { OnErr result (seat.new.tags ≡ seat.old.tags) }
-        ensures fault { IfErr result (IsNotSubmitted (work_of op.now)) }
-        ensures tried { IfErr result (HasTried self.now.depth seat.old.log seat.new.log) }
+        ensures ok { IfOk result (HasSubmitted self.now.depth (work_of op.now) seat.old seat.new) }
+        ensures err { IfErr result (HasNotSubmitted self.now.depth (work_of op.now) seat.old seat.new) }
     {
         let Ok(tag) = self.board.claim(seat) else {
             return Err(SubmitFault::NoTag);
