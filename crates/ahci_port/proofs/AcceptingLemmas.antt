@@ -32,7 +32,7 @@ request_has starting past tag slot P h p = subst (λ o. IsSomeAnd o P) (sym h.re
 -- the disk has as many sectors as it had
 pub disk_size : {starting : List ℕ} {disk : DiskState} {regs : PortState} {slots : List (Option SlotState)} {headers : List (List ℕ)} {past : List Entry} {free : ℕ}
     → Keeps starting disk regs slots headers past free → disk_sectors disk ≡ length starting / 512
-disk_size k = ap (λ n. n / 512) k.same_size
+disk_size k = ap (λ n. n / 512) k.shape.same_size
 
 pub accept_allowed : (starting : List ℕ) (disk : DiskState) (regs : PortState) (slots : List (Option SlotState)) (headers : List (List ℕ)) (past : List Entry) (free tag : ℕ) (slot : SlotState)
     → Keeps starting disk regs slots headers past free → phase past tag ≡ Issued → halted past ≡ false
@@ -53,7 +53,7 @@ keeps_accept starting disk regs slots headers past free left tag slot k issued r
     let below = below_depth _ disk.depth past tag Issued k.lawful issued (λ e. absurd (cc)) in
     let own_slot : Holds starting past tag slot = subst (HasSlot starting past tag) here (k.each tag) in
     let allowed = accept_allowed starting disk regs slots headers past free tag slot k issued running here within in
-    let moves = owed_moves _ disk.depth past (Accept tag) k.shallow (k.lawful, allowed) in
+    let moves = owed_moves _ disk.depth past (Accept tag) k.shape.shallow (k.lawful, allowed) in
     let q = queued_of slot.window in
     let still = halted_same past (Accept tag) tag (ap is_failed issued) (ap is_failed (own tag Accepted (phase past tag))) (λ u apart. other tag u Accepted (phase past u) apart) in
     let place = set disk.commands tag (Some q) in
@@ -65,14 +65,14 @@ keeps_accept starting disk regs slots headers past free left tag slot k issued r
     (record {
       depth_same = refl;
       size_same = refl;
-      count_same = length-set disk.commands q.tag (Some q) ∙ k.command_count;
+      count_same = length-set disk.commands q.tag (Some q) ∙ k.shape.command_count;
       sectors = k.sectors;
       error_is = k.error_is ∙ sym (ap (λ b. cond b (last_failure past) None) still);
-      own_command = ap (λ t. get_or (set disk.commands t (Some q)) tag None) its_tag ∙ get_or-set_same disk.commands tag (Some q) None (let c = k.command_count in let d = k.shallow in omega arith)
+      own_command = ap (λ t. get_or (set disk.commands t (Some q)) tag None) its_tag ∙ get_or-set_same disk.commands tag (Some q) None (let c = k.shape.command_count in let d = k.shape.shallow in omega arith)
           ∙ sym (ap (λ b. outstanding_in b (Some (record slot { phase = Accepted }))) calm);
       other_commands = λ u apart. ap (λ t. get_or (set disk.commands t (Some q)) u None) its_tag ∙ get_or-set_other disk.commands tag u (Some q) None apart
           ∙ k.commands u ∙ ap (λ b. outstanding_in b (slot_at slots u)) (sym still);
     })
-    (headers_stay headers tag (Some (record slot { phase = Accepted })) k.header_count (subst (HasHeader headers tag) here (k.listed tag)))
-    (tracks_accept disk.depth past regs tag k.tracks (let d = k.shallow in omega arith) issued)
+    (headers_stay headers tag (Some (record slot { phase = Accepted })) k.shape.header_count (subst (HasHeader headers tag) here (k.listed tag)))
+    (tracks_accept disk.depth past regs tag k.tracks (let d = k.shape.shallow in omega arith) issued)
     (let r = k.room in omega arith)

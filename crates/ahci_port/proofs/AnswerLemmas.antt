@@ -28,12 +28,7 @@ or-none (Some a) = refl
 quiet : (starting : List ℕ) (past : List Entry) (entry : Entry) (u : ℕ) (r : Request) → answers entry u ≡ false → given starting past entry (Some (Issue u r.work)) ≡ None
 quiet starting past (Complete t) u r e = cond-false (t == u) _ None e
 quiet starting past (Fail t error lba) u r e = cond-false (t == u) _ None e
-quiet starting past (Issue t work) u r e = refl
-quiet starting past (Accept t) u r e = refl
-quiet starting past (Recover t) u r e = refl
-quiet starting past (Reissue t) u r e = refl
-quiet starting past (Collect t) u r e = refl
-quiet starting past (Unqueued command) u r e = refl
+quiet starting past _ u r e = refl
 
 -- an entry that answers no request of the tag leaves its answer
 pub answer_stays : (starting : List ℕ) (past : List Entry) (entry : Entry) (u : ℕ) (r : Request) → request past u ≡ Some r

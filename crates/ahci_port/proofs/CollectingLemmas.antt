@@ -43,12 +43,7 @@ pub record Collected (starting : List ℕ) (past : List Entry) (slots : List (Op
 
 done_is : (p : Phase) → is_done p ≡ true → p ≡ Done
 done_is Done e = refl
-done_is Free e = absurd (false≢true e)
-done_is Issued e = absurd (false≢true e)
-done_is Accepted e = absurd (false≢true e)
-done_is Rejected e = absurd (false≢true e)
-done_is Broken e = absurd (false≢true e)
-done_is Held e = absurd (false≢true e)
+done_is _ e = absurd (false≢true e)
 
 -- a call that succeeded was not refused
 pub not_refused : {T E : Type 0} (x : T) (o : Option E) → Answers (Ok x) o → o ≡ None
@@ -88,7 +83,7 @@ collecting starting disk regs slots headers past free tag number port k same non
     by : (s : Option SlotState) → slot_at slots tag ≡ s → HasSlot starting past tag s → Collected starting past slots free port.first tag number
     by None e h = absurd (let z = sym (owner_here starting past port.first tag None h ∙ owned) in cc)
     by (Some slot) e h =
-        let moves = owed_moves _ disk.depth past (Collect tag) k.shallow (k.lawful, done) in
+        let moves = owed_moves _ disk.depth past (Collect tag) k.shape.shallow (k.lawful, done) in
         record {
           slot = slot;
           here = e;

@@ -45,29 +45,16 @@ no_count = refl
 busy_less : (p : Phase) → is_busy p ≡ true → 1 ≤ owed_less p
 busy_less Issued e = omega arith
 busy_less Accepted e = omega arith
-busy_less Free e = absurd (cc)
-busy_less Rejected e = absurd (cc)
-busy_less Broken e = absurd (cc)
-busy_less Held e = absurd (cc)
-busy_less Done e = absurd (cc)
+busy_less _ e = absurd (cc)
 
 busy_open : (p : Phase) → is_busy p ≡ true → is_answered p ≡ false
 busy_open Issued e = refl
 busy_open Accepted e = refl
-busy_open Free e = absurd (cc)
-busy_open Rejected e = absurd (cc)
-busy_open Broken e = absurd (cc)
-busy_open Held e = absurd (cc)
-busy_open Done e = absurd (cc)
+busy_open _ e = absurd (cc)
 
 failed_taken : (p : Phase) → failed p ≢ Free
 failed_taken Issued e = absurd (cc)
-failed_taken Accepted e = absurd (cc)
-failed_taken Free e = absurd (cc)
-failed_taken Rejected e = absurd (cc)
-failed_taken Broken e = absurd (cc)
-failed_taken Held e = absurd (cc)
-failed_taken Done e = absurd (cc)
+failed_taken _ e = absurd (cc)
 
 pub busy_taken : (p : Phase) → is_busy p ≡ true → p ≢ Free
 busy_taken = taken_by is_busy refl
@@ -81,8 +68,8 @@ pub keeps_fail : (starting : List ℕ) (disk : DiskState) (regs moved : PortStat
 keeps_fail starting disk regs moved slots headers past free left tag error lba slot k busy here allowed tracks room =
     let below = below_depth _ disk.depth past tag (phase past tag) k.lawful refl (busy_taken (phase past tag) busy) in
     let own_slot : Holds starting past tag slot = subst (HasSlot starting past tag) here (k.each tag) in
-    let moves = owed_moves _ disk.depth past (Fail tag error lba) k.shallow (k.lawful, allowed) in
-    let stops = halted_fail past tag error lba (let d = k.shallow in omega arith) in
+    let moves = owed_moves _ disk.depth past (Fail tag error lba) k.shape.shallow (k.lawful, allowed) in
+    let stops = halted_fail past tag error lba (let d = k.shape.shallow in omega arith) in
     keeps_step starting disk (stopped_by disk (record { tag = tag; error = error; lba = lba })) regs moved slots headers headers past free left tag
     (Fail tag error lba) (Some (failed_slot slot (length past) error lba)) k below allowed
     (λ u apart. record { phase_same = other tag u (failed (phase past u)) (phase past u) apart; request_same = refl; unanswered = apart_answers tag u apart })
@@ -105,6 +92,6 @@ keeps_fail starting disk regs moved slots headers past free left tag error lba s
       own_command = no_command tag ∙ sym (ap (λ b. outstanding_in b (Some (failed_slot slot (length past) error lba))) stops ∙ none_outstanding (Some (failed_slot slot (length past) error lba)));
       other_commands = λ u apart. no_command u ∙ sym (ap (λ b. outstanding_in b (slot_at slots u)) stops ∙ none_outstanding (slot_at slots u));
     })
-    (headers_stay headers tag (Some (failed_slot slot (length past) error lba)) k.header_count (subst (HasHeader headers tag) here (k.listed tag)))
+    (headers_stay headers tag (Some (failed_slot slot (length past) error lba)) k.shape.header_count (subst (HasHeader headers tag) here (k.listed tag)))
     tracks
     (let r = k.room in let less = busy_less (phase past tag) busy in omega arith)

@@ -36,12 +36,7 @@ calm_own past t u q calm h = by (t == u) h
 
 none_after : (p : Phase) → is_failed (recovered p) ≡ false
 none_after Free = refl
-none_after Issued = refl
-none_after Accepted = refl
-none_after Rejected = refl
-none_after Broken = refl
-none_after Held = refl
-none_after Done = refl
+none_after _ = refl
 
 -- a failed tag is the one that the last Fail names
 pub failed_is_last : (s d : ℕ) (past : List Entry) (tag : ℕ) → d ≤ 32 → IsLawful s d past → is_failed (phase past tag) ≡ true → IsOfTag tag (last_failure past)
@@ -66,12 +61,7 @@ halted_fail past t error lba below =
   where
     fails : (p : Phase) → is_failed (failed p) ≡ true
     fails Free = refl
-    fails Issued = refl
-    fails Accepted = refl
-    fails Rejected = refl
-    fails Broken = refl
-    fails Held = refl
-    fails Done = refl
+    fails _ = refl
 
 -- it goes on after a recovery
 pub halted_recover : (past : List Entry) (t : ℕ) → halted (Recover t ∷ past) ≡ false

@@ -68,10 +68,10 @@ device_at starting past tag (Some slot) h = some_cond (in_device slot.phase && n
 device_of : (starting : List ℕ) (disk : DiskState) (regs : PortState) (slots : List (Option SlotState)) (headers : List (List ℕ)) (past : List Entry) (free : ℕ)
     → Keeps starting disk regs slots headers past free → outstanding disk ≡ device_tags past
 device_of starting disk regs slots headers past free k =
-    same_sets (outstanding disk) (device_tags past) (length-map disk.commands is_some ∙ k.command_count ∙ sym (length-places (λ t. in_device (phase past t) && not (halted past))))
+    same_sets (outstanding disk) (device_tags past) (length-map disk.commands is_some ∙ k.shape.command_count ∙ sym (length-places (λ t. in_device (phase past t) && not (halted past))))
     (λ i h.
     get_or-map is_some disk.commands i None ∙ ap is_some (k.commands i) ∙ device_at starting past i (slot_at slots i) (k.each i)
-    ∙ sym (has_place-places (λ t. in_device (phase past t) && not (halted past)) i (let l = length-map disk.commands is_some in let c = k.command_count in omega arith)))
+    ∙ sym (has_place-places (λ t. in_device (phase past t) && not (halted past)) i (let l = length-map disk.commands is_some in let c = k.shape.command_count in omega arith)))
 
 pub headline_of : (starting : List ℕ) (disk : DiskState) (regs : PortState) (sent : Sent) (area : List ℕ) (slots : List (Option SlotState)) (headers : List (List ℕ)) (journal : History)
     → Keeps starting disk regs slots headers journal.past journal.room → Headline (view_of starting disk regs sent area slots journal)
@@ -91,12 +91,12 @@ pub shape_of : (starting : List ℕ) (disk : DiskState) (regs : PortState) (sent
     (headers : List (List ℕ)) (journal : History)
     → Keeps starting disk regs slots headers journal.past journal.room → IsDisk disk → HasShape (view_of starting disk regs sent area slots journal)
 shape_of starting disk regs sent area slots headers journal k d = record {
-  some = k.some_slot;
-  most = k.shallow;
+  some = k.shape.some_slot;
+  most = k.shape.shallow;
   registers = k.tracks.depth_is;
-  windows = length-map slots window_in ∙ k.slot_count;
-  whole = k.whole;
-  least = subst (λ n. 1 ≤ n / 512) k.same_size d.least;
-  few = k.few;
-  size = k.same_size;
+  windows = length-map slots window_in ∙ k.shape.slot_count;
+  whole = k.shape.whole;
+  least = subst (λ n. 1 ≤ n / 512) k.shape.same_size d.least;
+  few = k.shape.few;
+  size = k.shape.same_size;
 }

@@ -43,7 +43,7 @@ pub disk_stays : (starting : List ℕ) (disk : DiskState) (regs : PortState) (sl
 disk_stays starting disk regs slots headers past free tag entry s k sectors calm last command = record {
   depth_same = refl;
   size_same = refl;
-  count_same = k.command_count;
+  count_same = k.shape.command_count;
   sectors = sectors;
   error_is = k.error_is ∙ sym (ap (λ b. cond b (last_failure (entry ∷ past)) None) calm ∙ ap (λ o. cond (halted past) o None) last);
   own_command = k.commands tag ∙ sym command ∙ ap (λ b. outstanding_in b s) (sym calm);
@@ -79,11 +79,11 @@ keeps_issue starting disk regs slots headers past free left tag slot k below is_
     (halted_same past entry tag (ap is_failed is_free) (ap is_failed (own tag Issued (phase past tag))) (λ u apart. other tag u Issued (phase past u) apart))
     refl (ap (λ p. cond (in_device p && not (halted past)) (Some (queued_of slot.window)) None) issued ∙ sym (ap (outstanding_in (halted past)) vacant)))
     (record {
-      count_same = length-set headers tag slot.window.header ∙ k.header_count;
-      own_header = get_or-set_same headers tag slot.window.header [] (let c = k.header_count in let d = k.shallow in omega arith);
+      count_same = length-set headers tag slot.window.header ∙ k.shape.header_count;
+      own_header = get_or-set_same headers tag slot.window.header [] (let c = k.shape.header_count in let d = k.shape.shallow in omega arith);
       other_headers = λ u apart. get_or-set_other headers tag u slot.window.header [] apart;
     })
-    (tracks_issue disk.depth past regs tag work k.tracks below k.shallow)
+    (tracks_issue disk.depth past regs tag work k.tracks below k.shape.shallow)
     (let few = owed_is_few (entry ∷ past) in omega arith)
 
 -- what an entry of one tag leaves of its slot, where it only changes its phase and answers nobody
@@ -112,7 +112,7 @@ pub keeps_reissue : (starting : List ℕ) (disk : DiskState) (regs : PortState) 
 keeps_reissue starting disk regs slots headers past free left tag slot k held running here room =
     let below = below_depth _ disk.depth past tag Held k.lawful held (λ e. absurd (cc)) in
     let own_slot : Holds starting past tag slot = subst (HasSlot starting past tag) here (k.each tag) in
-    let moves = owed_moves _ disk.depth past (Reissue tag) k.shallow (k.lawful, (held, running)) in
+    let moves = owed_moves _ disk.depth past (Reissue tag) k.shape.shallow (k.lawful, (held, running)) in
     let in_slot : slot.phase ≡ Held = sym own_slot.phase_is ∙ held in
     keeps_step starting disk disk regs (registers.issued regs tag) slots headers headers past free left tag (Reissue tag) (Some (record slot { phase = Issued })) k below
     (held, running)
@@ -121,8 +121,8 @@ keeps_reissue starting disk regs slots headers past free left tag slot k held ru
     (disk_stays starting disk regs slots headers past free tag (Reissue tag) (Some (record slot { phase = Issued })) k k.sectors
     (halted_same past (Reissue tag) tag (ap is_failed held) (ap is_failed (own tag Issued (phase past tag))) (λ u apart. other tag u Issued (phase past u) apart))
     refl (sym (ap (outstanding_in (halted past)) here ∙ ap (λ p. cond (in_device p && not (halted past)) (Some (queued_of slot.window)) None) in_slot)))
-    (headers_stay headers tag (Some (record slot { phase = Issued })) k.header_count (subst (HasHeader headers tag) here (k.listed tag)))
-    (tracks_reissue disk.depth past regs tag k.tracks below k.shallow)
+    (headers_stay headers tag (Some (record slot { phase = Issued })) k.shape.header_count (subst (HasHeader headers tag) here (k.listed tag)))
+    (tracks_reissue disk.depth past regs tag k.tracks below k.shape.shallow)
     (let r = k.room in omega arith)
 
 -- a request that is done is collected
@@ -132,7 +132,7 @@ pub keeps_collect : (starting : List ℕ) (disk : DiskState) (regs : PortState) 
 keeps_collect starting disk regs slots headers past free left tag slot k done here room =
     let below = below_depth _ disk.depth past tag Done k.lawful done (λ e. absurd (cc)) in
     let own_slot : Holds starting past tag slot = subst (HasSlot starting past tag) here (k.each tag) in
-    let moves = owed_moves _ disk.depth past (Collect tag) k.shallow (k.lawful, done) in
+    let moves = owed_moves _ disk.depth past (Collect tag) k.shape.shallow (k.lawful, done) in
     let in_slot : slot.phase ≡ Done = sym own_slot.phase_is ∙ done in
     keeps_step starting disk disk regs regs slots headers headers past free left tag (Collect tag) None k below
     done
@@ -141,7 +141,7 @@ keeps_collect starting disk regs slots headers past free left tag slot k done he
     (disk_stays starting disk regs slots headers past free tag (Collect tag) None k k.sectors
     (halted_same past (Collect tag) tag (ap is_failed done) (ap is_failed (own tag Free (phase past tag))) (λ u apart. other tag u Free (phase past u) apart))
     refl (sym (ap (outstanding_in (halted past)) here ∙ ap (λ p. cond (in_device p && not (halted past)) (Some (queued_of slot.window)) None) in_slot)))
-    (headers_stay headers tag None k.header_count tt)
+    (headers_stay headers tag None k.shape.header_count tt)
     (tracks_collect disk.depth past regs tag k.tracks done)
     (let r = k.room in omega arith)
 
@@ -150,14 +150,7 @@ pub keeps_unqueued : (starting : List ℕ) (disk : DiskState) (regs moved : Port
     → Keeps starting disk regs slots headers past free → IsAllowed (length starting / 512) disk.depth past (Unqueued command) → Tracks disk.depth past moved → 128 ≤ left
     → Keeps starting disk moved slots headers (Unqueued command ∷ past) left
 keeps_unqueued starting disk regs moved slots headers past free left command k allowed tracks room = record {
-  whole = k.whole;
-  few = k.few;
-  some_slot = k.some_slot;
-  shallow = k.shallow;
-  same_size = k.same_size;
-  command_count = k.command_count;
-  slot_count = k.slot_count;
-  header_count = k.header_count;
+  shape = k.shape;
   lawful = (k.lawful, allowed);
   tracks = record { depth_is = tracks.depth_is; st = tracks.st; fre = tracks.fre; sact_is = tracks.sact_is; ci_is = tracks.ci_is };
   sectors = k.sectors;

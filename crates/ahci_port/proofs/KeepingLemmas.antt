@@ -68,14 +68,7 @@ pub keeps_step : (starting : List ℕ) (disk after : DiskState) (registers moved
     → Keeps starting after moved (set slots tag s) listed (entry ∷ past) left
 keeps_step starting disk after registers moved slots headers listed past free left tag entry s k below allowed others own d h tracks room =
     record {
-      whole = k.whole;
-      few = k.few;
-      some_slot = rw d.depth_same k.some_slot;
-      shallow = rw d.depth_same k.shallow;
-      same_size = d.size_same ∙ k.same_size;
-      command_count = d.count_same;
-      slot_count = length-set slots tag s ∙ k.slot_count ∙ sym d.depth_same;
-      header_count = h.count_same;
+      shape = rw (d.size_same, d.depth_same, d.count_same, length-set slots tag s, h.count_same) (rw (k.shape.command_count, k.shape.header_count) at k.shape);
       lawful = subst (λ n. IsLawful (length starting / 512) n (entry ∷ past)) (sym d.depth_same) (k.lawful, allowed);
       tracks = rw d.depth_same tracks;
       sectors = d.sectors;
@@ -87,7 +80,7 @@ keeps_step starting disk after registers moved slots headers listed past free le
     }
   where
     there : slot_at (set slots tag s) tag ≡ s
-    there = get_or-set_same slots tag s None (let c = k.slot_count in omega arith)
+    there = get_or-set_same slots tag s None (let c = k.shape.slot_count in omega arith)
 
     apart : (u : ℕ) → u ≢ tag → slot_at (set slots tag s) u ≡ slot_at slots u
     apart u other = get_or-set_other slots tag u s None other

@@ -1,34 +1,6 @@
 -- What recovery reads from the log.
-use Rattle.std.proofs.Common.{
-  ◌≡◌,
-  ℕ,
-  ◌/◌,
-  ◌<◌,
-  Bool,
-  true,
-  false,
-  cond,
-  map,
-  ◌%◌,
-  List,
-  [],
-  ◌∷◌,
-  ◌++◌,
-  length,
-  take,
-  drop,
-  get_or,
-  ap,
-  sym,
-  refl,
-  ◌∙◌,
-  subst,
-  Option,
-  None,
-  Some,
-  IsSomeAnd,
-  arith,
-}
+use Rattle.std.proofs.Common.{◌≡◌, ℕ, ◌/◌, ◌<◌, Bool, true, false, cond, map, ◌%◌, List, [], ◌∷◌, ◌++◌, length, take, drop, get_or, ap, sym, refl, ◌∙◌, subst, Option}
+use Rattle.std.proofs.Common.{None, Some, IsSomeAnd, arith}
 use Rattle.std.specs.Option.{option_map}
 use Rattle.ncq_journal.proofs.PhaseLemmas.{below_depth}
 use Rattle.ahci_port.specs.Moves.{recovered_slot}
@@ -68,7 +40,7 @@ pub logged : (starting : List ℕ) (disk : DiskState) (regs : PortState) (slots 
     → Keeps starting disk regs slots headers past free → halted past ≡ true → IsSomeAnd disk.error (λ e. is_failed (phase past e.tag) ≡ true)
 logged starting disk regs slots headers past free k stopped =
     subst (λ o. IsSomeAnd o (λ e. is_failed (phase past e.tag) ≡ true)) (sym (k.error_is ∙ ap (λ b. cond b (last_failure past) None) stopped))
-    (failed_tag (length starting / 512) disk.depth past k.shallow k.lawful stopped)
+    (failed_tag (length starting / 512) disk.depth past k.shape.shallow k.lawful stopped)
 
 -- the tag in byte 0 of the page
 page_tag : (e : DiskError) → e.tag < 32 → get_or (log_page e) 0 0 % 32 ≡ e.tag
@@ -86,7 +58,7 @@ pub failed_low : (starting : List ℕ) (disk : DiskState) (regs : PortState) (sl
     → Keeps starting disk regs slots headers past free → (t : ℕ) → is_failed (phase past t) ≡ true → t < 32
 failed_low starting disk regs slots headers past free k t bad =
     let b = below_depth (length starting / 512) disk.depth past t (phase past t) k.lawful refl (failed_taken (phase past t) bad) in
-    let d = k.shallow in
+    let d = k.shape.shallow in
     omega arith
 
 -- the windows stay when the slots recover

@@ -34,7 +34,7 @@ owned starting disk regs slots headers past free tag k taken = by (slot_at slots
     by None e h = absurd (taken h)
     by (Some slot) e h =
         let in_list = within slots tag slot e in
-        record { slot = slot; here = e; below = in_list; low = (let c = k.slot_count in let s = k.shallow in omega arith); holds = h }
+        record { slot = slot; here = e; below = in_list; low = (let c = k.shape.slot_count in let s = k.shape.shallow in omega arith); holds = h }
 
 -- the slot that a call finds at the tag is the owner's
 pub owner_is : {starting : List ℕ} {past : List Entry} {slots : List (Option SlotState)} {tag : ℕ} (o : Owned starting past slots tag) (found : Option SlotState) (slot : SlotState)
@@ -43,12 +43,7 @@ owner_is o found slot read is = same_Some o.slot slot (sym o.here ∙ sym (get_o
 
 held_is : (p : Phase) → is_held p ≡ true → p ≡ Held
 held_is Held e = refl
-held_is Free e = absurd (false≢true e)
-held_is Issued e = absurd (false≢true e)
-held_is Accepted e = absurd (false≢true e)
-held_is Rejected e = absurd (false≢true e)
-held_is Broken e = absurd (false≢true e)
-held_is Done e = absurd (false≢true e)
+held_is _ e = absurd (false≢true e)
 
 -- what no fault of a reissue says
 pub reissue_may : (port : PortView) (tag : ℕ) → reissue_refusal port tag ≡ None → (phase port.past tag ≡ Held) × (halted port.past ≡ false)
@@ -66,7 +61,7 @@ held_taken past tag e f = absurd (let z : Held ≡ Free = sym e ∙ f in cc)
 pub reissue_room : (starting : List ℕ) (disk : DiskState) (regs : PortState) (slots : List (Option SlotState)) (headers : List (List ℕ)) (past : List Entry) (free tag : ℕ)
     → Keeps starting disk regs slots headers past free → phase past tag ≡ Held → halted past ≡ false → 0 < free
 reissue_room starting disk regs slots headers past free tag k held running =
-    let moves = owed_moves _ disk.depth past (Reissue tag) k.shallow (k.lawful, (held, running)) in
+    let moves = owed_moves _ disk.depth past (Reissue tag) k.shape.shallow (k.lawful, (held, running)) in
     let r = k.room in
     omega arith
 

@@ -35,31 +35,22 @@ use Rattle.word_bits.proofs.BitsLemmas.{bits_zero, same_word}
 use Rattle.word_bits.proofs.PlacesLemmas.{has_place-places, has_place-no_places, places_none}
 
 quiet : (p : Phase) → is_busy p ≡ false → is_failed p ≡ false → in_sact p ≡ false
-quiet Free b f = refl
-quiet Held b f = refl
-quiet Done b f = refl
 quiet Issued b f = absurd (true≢false b)
 quiet Accepted b f = absurd (true≢false b)
 quiet Rejected b f = absurd (true≢false f)
 quiet Broken b f = absurd (true≢false f)
+quiet _ b f = refl
 
 quiet_ci : (p : Phase) → is_busy p ≡ false → is_failed p ≡ false → in_ci p ≡ false
-quiet_ci Free b f = refl
-quiet_ci Held b f = refl
-quiet_ci Done b f = refl
-quiet_ci Accepted b f = refl
-quiet_ci Broken b f = refl
 quiet_ci Issued b f = absurd (true≢false b)
 quiet_ci Rejected b f = absurd (true≢false f)
+quiet_ci _ b f = refl
 
 idle : (p : Phase) → in_sact p ≡ false → is_busy p ≡ false
 idle Free e = refl
 idle Held e = refl
 idle Done e = refl
-idle Issued e = absurd (true≢false e)
-idle Accepted e = absurd (true≢false e)
-idle Rejected e = absurd (true≢false e)
-idle Broken e = absurd (true≢false e)
+idle _ e = absurd (true≢false e)
 
 quiet_sact : (past : List Entry) → halted past ≡ false → busy past ≡ false → sact past ≡ no_places
 quiet_sact past calm still = places_none (λ t. in_sact (phase past t))
@@ -137,19 +128,15 @@ idle_disk starting disk regs slots headers past free k still = no_command disk.c
     quiet_slot slot b e = ap (λ d. cond (d && not b) (Some (queued_of slot.window)) None) e
 
     away : (p : Phase) → is_busy p ≡ false → in_device p ≡ false
-    away Free e = refl
-    away Held e = refl
-    away Done e = refl
-    away Rejected e = refl
-    away Broken e = refl
     away Issued e = absurd (true≢false e)
     away Accepted e = absurd (true≢false e)
+    away _ e = refl
 
     by : (t : ℕ) (s : Option SlotState) → HasSlot starting past t s → outstanding_in (halted past) s ≡ None
     by t None h = refl
     by t (Some slot) h =
         let deep = below_depth (length starting / 512) disk.depth past t (phase past t) k.lawful refl (λ e. h.taken (sym h.phase_is ∙ e)) in
-        let shallow = k.shallow in
+        let shallow = k.shape.shallow in
         let low : t < 32 = omega arith in
         quiet_slot slot (halted past) (away slot.phase (ap is_busy (sym h.phase_is) ∙ lacks (λ u. is_busy (phase past u)) t low still))
 

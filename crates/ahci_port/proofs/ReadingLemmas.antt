@@ -45,12 +45,7 @@ phase_here starting past tag (Some slot) h = sym h.phase_is
 
 pub taken_free : (p : Phase) → p ≢ Free → is_free p ≡ false
 taken_free Free t = absurd (t refl)
-taken_free Issued t = refl
-taken_free Accepted t = refl
-taken_free Rejected t = refl
-taken_free Broken t = refl
-taken_free Held t = refl
-taken_free Done t = refl
+taken_free _ t = refl
 
 -- the number of the request that owns a tag's slot, where entries are numbered from a first one
 abbrev pub owner : ℕ → List Entry → ℕ → Option ℕ
@@ -81,21 +76,14 @@ pub stopped_here : (starting : List ℕ) (disk : DiskState) (regs : PortState) (
 stopped_here starting disk regs slots headers past free k = ap is_some k.error_is ∙ by (halted past) refl
   where
     by : (b : Bool) → halted past ≡ b → is_some (cond (halted past) (last_failure past) None) ≡ halted past
-    by true e = ap (λ b. is_some (cond b (last_failure past) None)) e ∙ some_error (last_failure past) _ (failed_tag (length starting / 512) disk.depth past k.shallow k.lawful e) ∙ sym e
+    by true e = ap (λ b. is_some (cond b (last_failure past) None)) e ∙ some_error (last_failure past) _ (failed_tag (length starting / 512) disk.depth past k.shape.shallow k.lawful e) ∙ sym e
     by false e = ap (λ b. is_some (cond b (last_failure past) None)) e ∙ sym e
 
 -- the registers alone move
 pub keeps_registers : (starting : List ℕ) (disk : DiskState) (regs moved : PortState) (slots : List (Option SlotState)) (headers : List (List ℕ)) (past : List Entry) (free : ℕ)
     → Keeps starting disk regs slots headers past free → Tracks disk.depth past moved → Keeps starting disk moved slots headers past free
 keeps_registers starting disk regs moved slots headers past free k tracks = record {
-  whole = k.whole;
-  few = k.few;
-  some_slot = k.some_slot;
-  shallow = k.shallow;
-  same_size = k.same_size;
-  command_count = k.command_count;
-  slot_count = k.slot_count;
-  header_count = k.header_count;
+  shape = k.shape;
   lawful = k.lawful;
   tracks = tracks;
   sectors = k.sectors;
@@ -140,14 +128,16 @@ resumed x image depth first made low = by (new_fault image depth) (nat_lt most_f
 pub keeps_new : (image : List ℕ) (held depth : ℕ) (headers : List (List ℕ)) → IsDisk (new_disk image held depth) → length headers ≡ 32
     → Keeps image (new_disk image held depth) (started depth) (replicate depth None) headers [] 0
 keeps_new image held depth headers d count = record {
-  whole = d.whole;
-  few = d.most;
-  some_slot = d.deep;
-  shallow = d.shallow;
-  same_size = refl;
-  command_count = d.count;
-  slot_count = length-replicate depth None;
-  header_count = count;
+  shape = record {
+    whole = d.whole;
+    few = d.most;
+    some_slot = d.deep;
+    shallow = d.shallow;
+    same_size = refl;
+    command_count = d.count;
+    slot_count = length-replicate depth None;
+    header_count = count;
+  };
   lawful = tt;
   tracks = tracks_new depth;
   sectors = λ s. refl;

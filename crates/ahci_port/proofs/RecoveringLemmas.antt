@@ -29,21 +29,11 @@ use Rattle.ahci_port.proofs.SetLemmas.{taken_by}
 
 recovered_taken : (p : Phase) → p ≢ Free → recovered p ≢ Free
 recovered_taken Free t e = t e
-recovered_taken Issued t e = absurd (cc)
-recovered_taken Accepted t e = absurd (cc)
-recovered_taken Rejected t e = absurd (cc)
-recovered_taken Broken t e = absurd (cc)
-recovered_taken Held t e = absurd (cc)
-recovered_taken Done t e = absurd (cc)
+recovered_taken _ t e = absurd (cc)
 
 recovered_idle : (p : Phase) → in_device (recovered p) ≡ false
 recovered_idle Free = refl
-recovered_idle Issued = refl
-recovered_idle Accepted = refl
-recovered_idle Rejected = refl
-recovered_idle Broken = refl
-recovered_idle Held = refl
-recovered_idle Done = refl
+recovered_idle _ = refl
 
 idle_again : (s : Option SlotState) → outstanding_in false (option_map recovered_slot s) ≡ None
 idle_again None = refl
@@ -77,16 +67,9 @@ pub keeps_recover : (starting : List ℕ) (disk : DiskState) (regs : PortState) 
     → Keeps starting (record disk { error = None }) (registers.recovered regs) (map (option_map recovered_slot) slots) headers (Recover tag ∷ past) left
 keeps_recover starting disk regs slots headers past free left tag k bad room =
     record {
-      whole = k.whole;
-      few = k.few;
-      some_slot = k.some_slot;
-      shallow = k.shallow;
-      same_size = k.same_size;
-      command_count = k.command_count;
-      slot_count = length-map slots (option_map recovered_slot) ∙ k.slot_count;
-      header_count = k.header_count;
+      shape = rw (length-map slots (option_map recovered_slot)) k.shape;
       lawful = (k.lawful, bad);
-      tracks = tracks_recover disk.depth past regs tag k.tracks k.some_slot k.shallow;
+      tracks = tracks_recover disk.depth past regs tag k.tracks k.shape.some_slot k.shape.shallow;
       sectors = k.sectors;
       commands = λ u. k.commands u ∙ ap (λ b. outstanding_in b (slot_at slots u)) stopped ∙ none_outstanding (slot_at slots u)
           ∙ sym (ap (outstanding_in (halted (Recover tag ∷ past))) (there u)
@@ -98,7 +81,7 @@ keeps_recover starting disk regs slots headers past free left tag k bad room =
     }
   where
     stopped : halted past ≡ true
-    stopped = stopped_by_tag (length starting / 512) disk.depth past tag k.shallow k.lawful bad
+    stopped = stopped_by_tag (length starting / 512) disk.depth past tag k.shape.shallow k.lawful bad
 
     there : (u : ℕ) → slot_at (map (option_map recovered_slot) slots) u ≡ option_map recovered_slot (slot_at slots u)
     there u = get_or-map (option_map recovered_slot) slots u None

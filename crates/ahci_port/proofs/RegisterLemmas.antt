@@ -15,43 +15,15 @@ use Rattle.ncq_journal.specs.Phase.{phase, is_busy}
 use Rattle.ncq_journal.specs.Tags.{sact, ci, in_sact, in_ci}
 use Rattle.ncq_journal.specs.Work.{Work}
 use Rattle.word_bits.specs.Places.{bits, has_place, places, no_places, with_place, without_place, union, minus, only_below}
-use Rattle.word_bits.proofs.PlacesLemmas.{
-  length-places,
-  length-with_place,
-  length-without_place,
-  length-only_below,
-  has_place-with_other,
-  has_place-without_same,
-  has_place-without_other,
-  has_place-no_places,
-  has_place-only_below,
-  has_place-only_below_past,
-  same_sets,
-  places_none,
-  union-with_place,
-  minus-with_place,
-  minus-no_places,
-}
+use Rattle.word_bits.proofs.PlacesLemmas.{length-places, length-with_place, length-without_place, length-only_below, has_place-with_other, has_place-without_same}
+use Rattle.word_bits.proofs.PlacesLemmas.{has_place-without_other, has_place-no_places, has_place-only_below, has_place-only_below_past, same_sets, places_none}
+use Rattle.word_bits.proofs.PlacesLemmas.{union-with_place, minus-with_place, minus-no_places}
 use Rattle.word_bits.proofs.BitsLemmas.{bits_pow, bits_zero}
 use Rattle.ahci_port.specs.Carrying.{carried}
 use Rattle.ahci_port.specs.Registers.{after_write, started, issued, accepted, refused, failed, read_by_pio, recovered, acknowledged, taken}
 use Rattle.ahci_port.specs.Tracking.{Tracks}
-use Rattle.ahci_port.proofs.SetLemmas.{
-  sact_issue,
-  ci_issue,
-  sact_reissue,
-  ci_reissue,
-  sact_accept,
-  ci_accept,
-  sact_complete,
-  ci_complete,
-  sact_fail,
-  ci_fail,
-  sact_recover,
-  ci_recover,
-  sact_collect,
-  ci_collect,
-}
+use Rattle.ahci_port.proofs.SetLemmas.{sact_issue, ci_issue, sact_reissue, ci_reissue, sact_accept, ci_accept, sact_complete, ci_complete, sact_fail, ci_fail}
+use Rattle.ahci_port.proofs.SetLemmas.{sact_recover, ci_recover, sact_collect, ci_collect}
 
 -- a write goes to the register at its offset
 pub write_sact : (s : PortState) (value : ℕ) → after_write s 0x134 value ≡ taken s (with_sact s value)

@@ -47,7 +47,7 @@ serving starting disk regs slots headers past free tag k accepted running =
     ∙ ap (λ p. cond (in_device p && not (halted past)) (Some (queued_of o.slot.window)) None) in_slot
     ∙ ap (λ b. cond (not b) (Some (queued_of o.slot.window)) None) running in
     let calm : disk.error ≡ None = k.error_is ∙ ap (λ b. cond b (last_failure past) None) running in
-    let moves = owed_moves _ disk.depth past (Complete tag) k.shallow (k.lawful, (accepted, running)) in
+    let moves = owed_moves _ disk.depth past (Complete tag) k.shape.shallow (k.lawful, (accepted, running)) in
     record {
       accepted = accepted;
       running = running;

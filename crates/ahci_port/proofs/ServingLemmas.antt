@@ -110,7 +110,7 @@ keeps_serve starting disk regs slots headers past free left tag slot image w k a
     let own_slot : Holds starting past tag slot = subst (HasSlot starting past tag) here (k.each tag) in
     let allowed : IsAllowed (length starting / 512) disk.depth past (Complete tag) = (accepted, running) in
     let lawful : IsLawful (length starting / 512) disk.depth (Complete tag ∷ past) = (k.lawful, allowed) in
-    let moves = owed_moves _ disk.depth past (Complete tag) k.shallow lawful in
+    let moves = owed_moves _ disk.depth past (Complete tag) k.shape.shallow lawful in
     let same = op_same slot.window w window in
     let direction = own_slot.is_of.0 ∙ op_direction slot.window in
     let slot' = served_slot slot (length past) w in
@@ -130,12 +130,12 @@ keeps_serve starting disk regs slots headers past free left tag slot image w k a
     (record {
       depth_same = refl;
       size_same = size_stays (queued_of slot.window) disk.image image (text slot.window) (text w) moved;
-      count_same = length-set disk.commands tag None ∙ k.command_count;
+      count_same = length-set disk.commands tag None ∙ k.shape.command_count;
       sectors = λ i. moved_sectors starting past disk.image image slot slot.place w k.sectors sized moved i ∙ ap (λ o. completed o i (sector starting past i)) (sym own_slot.request_is);
       error_is = k.error_is ∙ sym (ap (λ b. cond b (last_failure past) None) still);
-      own_command = get_or-set_same disk.commands tag None None (let c = k.command_count in let d = k.shallow in omega arith);
+      own_command = get_or-set_same disk.commands tag None None (let c = k.shape.command_count in let d = k.shape.shallow in omega arith);
       other_commands = λ u apart. get_or-set_other disk.commands tag u None None apart ∙ k.commands u ∙ ap (λ b. outstanding_in b (slot_at slots u)) (sym still);
     })
-    (headers_stay headers tag (Some slot') k.header_count (subst (HasHeader headers tag) here (k.listed tag) ∙ sym window.header_same))
-    (tracks_complete disk.depth past regs tag k.tracks (let d = k.shallow in omega arith) accepted)
+    (headers_stay headers tag (Some slot') k.shape.header_count (subst (HasHeader headers tag) here (k.listed tag) ∙ sym window.header_same))
+    (tracks_complete disk.depth past regs tag k.tracks (let d = k.shape.shallow in omega arith) accepted)
     (let r = k.room in omega arith)

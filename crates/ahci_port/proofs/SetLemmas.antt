@@ -58,11 +58,7 @@ ci_complete past t accepted = stays in_ci (phase past) (phase (Complete t ∷ pa
 fails : (p : Phase) → is_busy p ≡ true → (in_sact (failed p) ≡ in_sact p) × (in_ci (failed p) ≡ in_ci p)
 fails Issued b = (refl, refl)
 fails Accepted b = (refl, refl)
-fails Free b = absurd (cc)
-fails Rejected b = absurd (cc)
-fails Broken b = absurd (cc)
-fails Held b = absurd (cc)
-fails Done b = absurd (cc)
+fails _ b = absurd (cc)
 
 pub sact_fail : (past : List Entry) (t error lba : ℕ) → is_busy (phase past t) ≡ true → sact past ≡ sact (Fail t error lba ∷ past)
 sact_fail past t error lba busy = stays in_sact (phase past) (phase (Fail t error lba ∷ past)) t
@@ -77,24 +73,14 @@ sact_recover past t = sym (places_none (λ u. in_sact (recovered (phase past u))
   where
     none : (p : Phase) → in_sact (recovered p) ≡ false
     none Free = refl
-    none Issued = refl
-    none Accepted = refl
-    none Rejected = refl
-    none Broken = refl
-    none Held = refl
-    none Done = refl
+    none _ = refl
 
 pub ci_recover : (past : List Entry) (t : ℕ) → no_places ≡ ci (Recover t ∷ past)
 ci_recover past t = sym (places_none (λ u. in_ci (recovered (phase past u))) (λ u low. none (phase past u)))
   where
     none : (p : Phase) → in_ci (recovered p) ≡ false
     none Free = refl
-    none Issued = refl
-    none Accepted = refl
-    none Rejected = refl
-    none Broken = refl
-    none Held = refl
-    none Done = refl
+    none _ = refl
 
 pub sact_collect : (past : List Entry) (t : ℕ) → phase past t ≡ Done → sact past ≡ sact (Collect t ∷ past)
 sact_collect past t done = stays in_sact (phase past) (phase (Collect t ∷ past)) t (ap in_sact (own t Free (phase past t)) ∙ sym (ap in_sact done)) (λ u apart. other t u Free (phase past u) apart)

@@ -37,12 +37,7 @@ use Rattle.ahci_port.proofs.WorkLemmas.{op_lba, op_sectors}
 
 same_device : (p : Phase) → in_device p ≡ is_accepted p
 same_device Free = refl
-same_device Issued = refl
-same_device Accepted = refl
-same_device Rejected = refl
-same_device Broken = refl
-same_device Held = refl
-same_device Done = refl
+same_device _ = refl
 
 -- why the device does not fail a tag's command, by the journal
 abbrev refusal : Bool → Phase → Option Request → ℕ → Option StepFault
@@ -98,12 +93,7 @@ answered_ok (Some x) bytes b e = absurd (cc)
 
 pub accepted_is : (p : Phase) → is_accepted p ≡ true → p ≡ Accepted
 accepted_is Accepted e = refl
-accepted_is Free e = absurd (false≢true e)
-accepted_is Issued e = absurd (false≢true e)
-accepted_is Rejected e = absurd (false≢true e)
-accepted_is Broken e = absurd (false≢true e)
-accepted_is Held e = absurd (false≢true e)
-accepted_is Done e = absurd (false≢true e)
+accepted_is _ e = absurd (false≢true e)
 
 -- what no refusal of a Fail says
 none_refused : (stopped : Bool) (p : Phase) (r : Option Request) (at : ℕ) → refusal stopped p r at ≡ None → (stopped ≡ false) × (p ≡ Accepted) × (is_of_request r at ≡ true)
@@ -134,18 +124,13 @@ may_fail starting disk regs slots headers past free tag error at k none =
       request_has starting past tag o.slot (λ r. Fails (length starting / 512) (phase past tag) r.work error at) o.holds
           (subst (λ p. Fails (length starting / 512) p (op o.slot.window) error at) (sym n.1) inside),
     ) in
-    let moves = owed_moves _ disk.depth past (Fail tag error at) k.shallow (k.lawful, allowed) in
+    let moves = owed_moves _ disk.depth past (Fail tag error at) k.shape.shallow (k.lawful, allowed) in
     let less : owed_less (phase past tag) ≡ 1 = ap owed_less n.1 in
     record { accepted = n.1; allowed = allowed; owner = o; room = (let r = k.room in omega arith) }
 
 issued_is : (p : Phase) → is_issued p ≡ true → p ≡ Issued
 issued_is Issued e = refl
-issued_is Free e = absurd (false≢true e)
-issued_is Accepted e = absurd (false≢true e)
-issued_is Rejected e = absurd (false≢true e)
-issued_is Broken e = absurd (false≢true e)
-issued_is Held e = absurd (false≢true e)
-issued_is Done e = absurd (false≢true e)
+issued_is _ e = absurd (false≢true e)
 
 -- what no refusal of an Accept says
 pub accept_may : (port : PortView) (tag : ℕ) → step_refusal port (step.Accept tag) ≡ None → (phase port.past tag ≡ Issued) × (halted port.past ≡ false)

@@ -24,12 +24,7 @@ use Rattle.ahci_port.proofs.WorkLemmas.{op_read, op_write}
 
 free_is : (p : Phase) → is_free p ≡ true → p ≡ Free
 free_is Free e = refl
-free_is Issued e = absurd (false≢true e)
-free_is Accepted e = absurd (false≢true e)
-free_is Rejected e = absurd (false≢true e)
-free_is Broken e = absurd (false≢true e)
-free_is Held e = absurd (false≢true e)
-free_is Done e = absurd (false≢true e)
+free_is _ e = absurd (false≢true e)
 
 -- what no early refusal says
 pub early_may : (port : PortView) (tag : ℕ) → early_refusal port tag ≡ None → MayTake port tag
@@ -45,9 +40,7 @@ early_may port tag e = by (halted port.past) (leb port.depth tag) (is_free (phas
 -- a window that breaks a rule is refused for it
 pub refuses_rule : (port : PortView) (w : WindowState) (f : TableFault) → MayTake port w.tag → Breaks w f → RefusesIssue port w (issue_fault_of f)
 refuses_rule port w table.BadHeader may breaks = (may, breaks)
-refuses_rule port w table.BadCommand may breaks = (may, breaks)
-refuses_rule port w table.WrongTag may breaks = (may, breaks)
-refuses_rule port w table.BadList may breaks = (may, breaks)
+refuses_rule port w _ may breaks = (may, breaks)
 
 -- the slot of a free tag is empty
 pub vacant_slot : (starting : List ℕ) (past : List Entry) (tag : ℕ) (s : Option SlotState) → HasSlot starting past tag s → phase past tag ≡ Free → s ≡ None

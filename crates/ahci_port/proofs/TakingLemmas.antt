@@ -86,7 +86,7 @@ taking starting disk regs slots headers past free tag k issued running o =
     let w = o.slot.window in
     let own_tag = o.holds.tag_is in
     let calm : disk.error ≡ None = k.error_is ∙ ap (λ b. cond b (last_failure past) None) running in
-    let below : w.tag < disk.depth = (let c = k.slot_count in let b = o.below in omega arith) in
+    let below : w.tag < disk.depth = (let c = k.shape.slot_count in let b = o.below in omega arith) in
     let in_slot : o.slot.phase ≡ Issued = sym o.holds.phase_is ∙ issued in
     let vacant : command_of disk w.tag ≡ None =
     ap (command_of disk) own_tag ∙ k.commands tag ∙ ap (outstanding_in (halted past)) o.here
@@ -102,7 +102,7 @@ taking starting disk regs slots headers past free tag k issued running o =
           ∙ ap (λ b. cond b (verdict.not_found disk (queued_of w)) (verdict.accepted disk (queued_of w)))
           (past_end disk (length starting / 512) w (fit_sized w o.holds.fit) (disk_size k));
       lacking_is = ap (λ n. max n (disk_sectors disk)) (sym (op_lba w)) ∙ ap (max (lba_of (op w))) (disk_size k);
-      lba_small = lba_max (lba_of (op w)) (length starting / 512) proper.lba k.few;
+      lba_small = lba_max (lba_of (op w)) (length starting / 512) proper.lba k.shape.few;
       its_tag = o.holds.fit.tag ∙ own_tag;
       room = (let r = k.room in let n = owed_at_least past tag (let l = o.low in l) issued in omega arith);
     }

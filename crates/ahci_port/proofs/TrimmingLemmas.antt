@@ -60,14 +60,7 @@ same_ci past free = places_none (λ t. in_ci (phase past t)) (λ t low. ap in_ci
 pub keeps_trim : (starting : List ℕ) (disk : DiskState) (regs : PortState) (slots : List (Option SlotState)) (headers : List (List ℕ)) (past : List Entry) (free : ℕ)
     → Keeps starting disk regs slots headers past free → ((tag : ℕ) → slot_at slots tag ≡ None) → Keeps disk.image disk regs slots headers [] 0
 keeps_trim starting disk regs slots headers past free k none = record {
-  whole = subst (λ n. n ≡ 512 * (n / 512)) (sym k.same_size) k.whole;
-  few = subst (λ n. n / 512 ≤ most_disk_sectors) (sym k.same_size) k.few;
-  some_slot = k.some_slot;
-  shallow = k.shallow;
-  same_size = refl;
-  command_count = k.command_count;
-  slot_count = k.slot_count;
-  header_count = k.header_count;
+  shape = rw k.shape.same_size (rw k.shape.same_size at k.shape);
   lawful = tt;
   tracks = record {
     depth_is = k.tracks.depth_is;
@@ -96,5 +89,5 @@ pub goes_on : (starting : List ℕ) (disk : DiskState) (regs : PortState) (slots
     → (s : ℕ) → sector disk.image later s ≡ sector starting (later ++ past) s
 goes_on starting disk regs slots headers past free k none later h s =
     let n = length starting / 512 in
-    let own = subst (λ size. IsLawful (size / 512) disk.depth later) k.same_size h in
+    let own = subst (λ size. IsLawful (size / 512) disk.depth later) k.shape.same_size h in
     sym ((two_parts n disk.depth starting disk.image later past ((lawful_of_parts n disk.depth later past k.lawful none).1 own) none k.sectors).1 s)

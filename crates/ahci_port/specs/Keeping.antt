@@ -47,15 +47,19 @@ HasHeader headers tag (Some slot) = slice_index_or headers tag [] ≡ slot.windo
 abbrev pub slot_at : List (Option SlotState) → ℕ → Option SlotState
 slot_at slots tag = slice_index_or slots tag None
 
+-- the sizes of a port's parts: the starting image and the disk's, tags, commands, slots and headers
+pub record IsShaped (size image depth commands slots headers : ℕ) : Type 0 where
+  pub whole : size ≡ 512 * (size / 512)
+  pub few : size / 512 ≤ most_disk_sectors
+  pub some_slot : 1 ≤ depth
+  pub shallow : depth ≤ most_depth
+  pub same_size : image ≡ size
+  pub command_count : commands ≡ 32
+  pub slot_count : slots ≡ depth
+  pub header_count : headers ≡ 32
+
 pub record Keeps (starting : List ℕ) (disk : DiskState) (registers : PortState) (slots : List (Option SlotState)) (headers : List (List ℕ)) (past : List Entry) (free : ℕ) : Type 0 where
-  pub whole : length starting ≡ 512 * (length starting / 512)
-  pub few : length starting / 512 ≤ most_disk_sectors
-  pub some_slot : 1 ≤ disk.depth
-  pub shallow : disk.depth ≤ most_depth
-  pub same_size : length disk.image ≡ length starting
-  pub command_count : length disk.commands ≡ 32
-  pub slot_count : length slots ≡ disk.depth
-  pub header_count : length headers ≡ 32
+  pub shape : IsShaped (length starting) (length disk.image) disk.depth (length disk.commands) (length slots) (length headers)
   pub lawful : IsLawful (length starting / 512) disk.depth past
   pub tracks : Tracks disk.depth past registers
   pub sectors : (s : ℕ) → sector_at disk.image s ≡ sector starting past s

@@ -38,6 +38,6 @@ returns-clause-goes_on g c =
     rw (← c.self.view_is, image g c)
     (record {
       sectors = goes_on i.starting.items i.disk i.registers i.slots.items i.headers i.journal.past i.journal.room c.self.invariant free;
-      headline = λ port begins deep h. headline_of_both i.starting.items i.disk.image i.disk.depth i.journal.first i.journal.past port c.self.invariant.same_size c.self.invariant.shallow
+      headline = λ port begins deep h. headline_of_both i.starting.items i.disk.image i.disk.depth i.journal.first i.journal.past port c.self.invariant.shape.same_size c.self.invariant.shape.shallow
           c.self.invariant.lawful free c.self.invariant.sectors begins deep h;
     })
