@@ -7,7 +7,7 @@ ghost use Rattle.ahci_jobs.specs.Size.{size_of};
 use crate::fault::CliFault;
 use crate::picked::Picked;
 use ahci_args::{Pick, RunForm};
-use ahci_jobs::{Form, JobsFault, RunSize};
+use ahci_jobs::{Form, RunSize};
 use std::alloc::Allocator;
 use std::io::{Read, Write};
 use std::sync::Wait;
@@ -36,59 +36,17 @@ where
     requires deep { depth ≤ 32 }
     requires room { 1 ≤ sectors }
     requires limit { sectors ≤ 131072 }
-    ensures ok { OnOk result (RunsJobs (form_of RunForm.Text) (size_of workers depth sectors) (R.remaining reader.old) (R.remaining reader.new)
+    ensures ok { OnOk result (RunsJobs Form.Text (size_of workers depth sectors) (R.remaining reader.old) (R.remaining reader.new)
         (W.contents writer.old) (W.contents writer.new)) }
-    ensures err { IfErr result (IsFaultOf of_jobs (EndsRun (form_of RunForm.Text) (size_of workers depth sectors) (R.remaining reader.old) (R.remaining reader.new)
-        (W.contents writer.old) (W.contents writer.new))) }
-{
-    run_jobs_as(
-        rt,
-        alloc,
-        workers,
-        depth,
-        sectors,
-        pick,
-        RunForm::Text,
-        reader,
-        writer,
-    )
-}
-
-/// The same, and writes the run in this form.
-pub fn run_jobs_as<H, R, W, A>(
-    rt: &H,
-    alloc: A,
-    workers: u32,
-    depth: u32,
-    sectors: u32,
-    pick: Pick,
-    form: RunForm,
-    reader: &mut R,
-    writer: &mut W,
-) -> Result<(), CliFault>
-where
-    H: Threads + Wait + Sync,
-    R: Read,
-    W: Write,
-    A: Allocator + Clone + Send + Sync,
-    requires some { 1 ≤ workers }
-    requires most { workers ≤ 32 }
-    requires slots { 1 ≤ depth }
-    requires deep { depth ≤ 32 }
-    requires room { 1 ≤ sectors }
-    requires limit { sectors ≤ 131072 }
-    ensures ok { OnOk result (RunsJobs (form_of form) (size_of workers depth sectors) (R.remaining reader.old) (R.remaining reader.new)
-        (W.contents writer.old) (W.contents writer.new)) }
-    ensures err { IfErr result (IsFaultOf of_jobs (EndsRun (form_of form) (size_of workers depth sectors) (R.remaining reader.old) (R.remaining reader.new)
+    ensures err { IfErr result (IsFaultOf of_jobs (EndsRun Form.Text (size_of workers depth sectors) (R.remaining reader.old) (R.remaining reader.new)
         (W.contents writer.old) (W.contents writer.new))) }
 {
     let size = RunSize::new(workers, depth, sectors);
-    let form = form_of(form);
-    Ok(picked(rt, alloc, size, pick, form, reader, writer)?)
+    Ok(ahci_jobs::run_jobs(rt, alloc, size, Picked { pick }, Form::Text, reader, writer)?)
 }
 
 /// The form of `ahci_jobs` that a command line asks for.
-fn form_of(form: RunForm) -> Form
+pub(crate) fn form_of(form: RunForm) -> Form
     ensures { result ≡ form_of form }
 {
     match form {
@@ -97,28 +55,4 @@ fn form_of(form: RunForm) -> Form
         RunForm::Journal => Form::Journal,
         RunForm::Image => Form::Image,
     }
-}
-
-/// The same, with the faults of a job list.
-fn picked<H, R, W, A>(
-    rt: &H,
-    alloc: A,
-    size: RunSize,
-    pick: Pick,
-    form: Form,
-    reader: &mut R,
-    writer: &mut W,
-) -> Result<(), JobsFault>
-where
-    H: Threads + Wait + Sync,
-    R: Read,
-    W: Write,
-    A: Allocator + Clone + Send + Sync,
-    ensures ok { OnOk result (RunsJobs form size (R.remaining reader.old) (R.remaining reader.new)
-        (W.contents writer.old) (W.contents writer.new)) }
-    ensures err { IfErr result (EndsRun form size (R.remaining reader.old) (R.remaining reader.new)
-        (W.contents writer.old) (W.contents writer.new)) }
-{
-    let chooser = Picked { pick };
-    ahci_jobs::run_jobs(rt, alloc, size, chooser, form, reader, writer)
 }

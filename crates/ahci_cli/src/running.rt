@@ -1,17 +1,17 @@
 //! The program: what the words of a command line ask for, done over a reader and two writers.
 
-ghost use Rattle.std.specs.Prelude.{map, MatchResult, ◌≡◌, Ok, Err, false};
+ghost use Rattle.std.specs.Prelude.{map, ◌≡◌};
 ghost use Rattle.std.specs.String.{string_bytes};
 ghost use Rattle.ahci_cli.specs.Program.{Does, HasRanges, Runs, RunsWithout, form_of_check, streams};
 
 use crate::ending::{end, explain};
 use crate::fault::CliFault;
-use crate::jobs::run_jobs_as;
-use crate::pages::{write_identify, write_log};
-use crate::scripts::{check, check_jobs, draw, replay, trace, trace_json};
+use crate::jobs::form_of;
+use crate::picked::Picked;
 use crate::words_fault::WordsFault;
 use ahci_args::{Asked, asked, not_text};
-use ahci_check::Form;
+use ahci_check::{Form, check, check_jobs};
+use ahci_jobs::RunSize;
 use std::alloc::Global;
 use std::io::{Read, Write};
 use std::sync::Wait;
@@ -79,32 +79,64 @@ where
     ensures { Does asked (streams (R.remaining reader.old) (R.remaining reader.new) (W.contents writer.old) (W.contents writer.new)) result }
 {
     match asked {
-        Asked::Replay => whole(replay(alloc, reader, writer)),
-        Asked::Trace { json: false } => whole(trace(alloc, reader, writer)),
-        Asked::Trace { json: true } => whole(trace_json(alloc, reader, writer)),
-        Asked::Check { jobs: false, json } => check(alloc, form_of_check(json), reader, writer),
-        Asked::Check { jobs: true, json } => check_jobs(alloc, form_of_check(json), reader, writer),
-        Asked::Draw { from, to } => whole(draw(alloc, from, to, reader, writer)),
+        Asked::Replay => {
+            ahci_replay::replay(alloc, reader, writer)?;
+            Ok(false)
+        }
+        Asked::Trace { json: false } => {
+            ahci_trace::trace(alloc, reader, writer)?;
+            Ok(false)
+        }
+        Asked::Trace { json: true } => {
+            ahci_trace::trace_json(alloc, reader, writer)?;
+            Ok(false)
+        }
+        Asked::Check { jobs: false, json } => {
+            Ok(check(alloc, form_of_check(json), reader, writer)?)
+        }
+        Asked::Check { jobs: true, json } => {
+            Ok(check_jobs(alloc, form_of_check(json), reader, writer)?)
+        }
+        Asked::Draw { from, to } => {
+            ahci_draw::draw(alloc, from, to, reader, writer)?;
+            Ok(false)
+        }
         Asked::Run {
             workers,
             depth,
             sectors,
             pick,
             form,
-        } => whole(run_jobs_as(
-            rt, alloc, workers, depth, sectors, pick, form, reader, writer,
-        )),
+        } => {
+            let size = RunSize::new(workers, depth, sectors);
+            ahci_jobs::run_jobs(
+                rt,
+                alloc,
+                size,
+                Picked { pick },
+                form_of(form),
+                reader,
+                writer,
+            )?;
+            Ok(false)
+        }
         Asked::Identify {
             sectors,
             depth,
             raw,
-        } => whole(write_identify(alloc, sectors, depth, raw, writer)),
+        } => {
+            ata_pages::write_identify(alloc, sectors, depth, raw, writer)?;
+            Ok(false)
+        }
         Asked::Log {
             tag,
             error,
             lba,
             raw,
-        } => whole(write_log(alloc, tag, error, lba, raw, writer)),
+        } => {
+            ata_pages::write_log(alloc, tag, error, lba, raw, writer)?;
+            Ok(false)
+        }
     }
 }
 
@@ -113,11 +145,4 @@ fn form_of_check(json: bool) -> Form
     ensures { result ≡ form_of_check json }
 {
     if json { Form::Json } else { Form::Text }
-}
-
-/// A call that judges no line.
-fn whole(outcome: Result<(), CliFault>) -> Result<bool, CliFault>
-    ensures { MatchResult outcome (λ _. result ≡ Ok false) (λ fault. result ≡ Err fault) }
-{
-    outcome.map(|()| false)
 }

@@ -4,10 +4,11 @@
 
 ghost use Rattle.std.specs.Prelude.{◌≤◌};
 
-use ahci_cli::{
-    CliFault, Form, Pick, check, draw, program, replay, run_jobs, trace, trace_json,
-    write_identify, write_log,
-};
+use ahci_check::{Form, check};
+use ahci_cli::{CliFault, Pick, program, replay, run_jobs};
+use ahci_draw::draw;
+use ahci_trace::{trace, trace_json};
+use ata_pages::{PageFault, write_identify, write_log};
 use std::fs;
 use std::rt::Files;
 use std::sync::Wait;
@@ -158,7 +159,7 @@ fn is_traced(rt: &HostRuntime, name: &str, script: &[u8]) -> anyhow::Result<bool
     let alloc = rt.alloc();
     let mut reader = script;
     let mut written = Vec::new(alloc);
-    let outcome = trace(alloc, &mut reader, &mut written);
+    let outcome = trace(alloc, &mut reader, &mut written).map_err(CliFault::from);
     let mut answers = Vec::new(alloc);
     for line in written.as_slice().split(|byte| *byte == b'\n') {
         if !line.is_empty() && !line.starts_with(b"  ") {
@@ -177,7 +178,7 @@ fn is_trace_as_expected(rt: &HostRuntime, name: &str) -> anyhow::Result<bool> {
     let mut reader = script.as_slice();
     let mut written = Vec::new(alloc);
     let outcome = trace(alloc, &mut reader, &mut written);
-    Ok(outcome == Ok(()) && written.as_slice() == expected.as_slice())
+    Ok(outcome.is_ok() && written.as_slice() == expected.as_slice())
 }
 
 /// Whether the trace as JSON is that of `NAME.json`.
@@ -188,7 +189,7 @@ fn is_json_as_expected(rt: &HostRuntime, name: &str) -> anyhow::Result<bool> {
     let mut reader = script.as_slice();
     let mut written = Vec::new(alloc);
     let outcome = trace_json(alloc, &mut reader, &mut written);
-    Ok(outcome == Ok(()) && written.as_slice() == expected.as_slice())
+    Ok(outcome.is_ok() && written.as_slice() == expected.as_slice())
 }
 
 /// Whether the picture is that of `NAME.svg`.
@@ -199,7 +200,7 @@ fn is_picture_as_expected(rt: &HostRuntime, name: &str) -> anyhow::Result<bool> 
     let mut reader = script.as_slice();
     let mut written = Vec::new(alloc);
     let outcome = draw(alloc, 0, u64::MAX, &mut reader, &mut written);
-    Ok(outcome == Ok(()) && written.as_slice() == expected.as_slice())
+    Ok(outcome.is_ok() && written.as_slice() == expected.as_slice())
 }
 
 /// Whether a check of the script writes the text of `NAME.check`, or nothing where that isn't there.
@@ -209,7 +210,9 @@ fn is_judged(rt: &HostRuntime, name: &str, script: &[u8]) -> anyhow::Result<bool
     let expected = expected.unwrap_or(String::new(alloc));
     let mut reader = script;
     let mut written = Vec::new(alloc);
-    let any = check(alloc, Form::Text, &mut reader, &mut written)?;
+    let Ok(any) = check(alloc, Form::Text, &mut reader, &mut written) else {
+        return Ok(false);
+    };
     Ok(written.as_slice() == expected.as_bytes() && any != expected.is_empty())
 }
 
@@ -284,11 +287,11 @@ fn is_line_as_expected<T: Threads + Wait + Sync>(
 fn is_page_told(
     rt: &HostRuntime,
     name: &str,
-    outcome: Result<(), CliFault>,
+    outcome: Result<(), PageFault>,
     written: &[u8],
 ) -> anyhow::Result<bool> {
     let page = fs::read(rt, format!(in rt.alloc(); "{name}.out")?)?;
-    Ok(outcome == Ok(()) && written == page.as_slice())
+    Ok(outcome.is_ok() && written == page.as_slice())
 }
 
 /// Whether this is the text of `NAME.out`, and the outcome that of `NAME.err`, or none where that isn't there.

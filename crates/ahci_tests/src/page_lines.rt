@@ -2,7 +2,7 @@
 use crate::command_line::{MISSING, RANGE, TWICE, are_told, ask, helps};
 use crate::table::equal;
 use ahci_args::Asked;
-use ahci_cli::{CliFault, write_identify, write_log};
+use ata_pages::{PageFault, write_identify, write_log};
 use clap::error::ErrorKind;
 use std::test::Fail;
 use test_helpers::Full;
@@ -193,7 +193,7 @@ fn a_page_is_written_or_output_has_failed(rt: HostRuntime) {
         let wanted = if room == 512 {
             Ok(())
         } else {
-            Err(CliFault::Write)
+            Err(PageFault::Write)
         };
         let identified = write_identify(alloc, 8, 4, true, &mut Full { room });
         equal(&rt, room, &identified, &wanted);

@@ -1,5 +1,8 @@
 //! A trace, as text and as JSON, a picture and a check of one script where memory, the input or the output fails.
-use ahci_cli::{CliFault, Form, check, check_jobs, draw, trace, trace_json};
+use ahci_check::{Form, check, check_jobs};
+use ahci_cli::CliFault;
+use ahci_draw::draw;
+use ahci_trace::{trace, trace_json};
 use json::{Scratch, is_valid};
 use refusing_allocator::{Refusals, Refusing};
 use std::alloc::Allocator;
@@ -61,21 +64,22 @@ impl Tool {
         writer: &mut W,
     ) -> Result<(), CliFault> {
         match self {
-            Tool::Trace => trace(alloc, reader, writer),
-            Tool::Json => trace_json(alloc, reader, writer),
-            Tool::Draw => draw(alloc, 0, u64::MAX, reader, writer),
-            Tool::Check => found(check(alloc, Form::Text, reader, writer)),
-            Tool::CheckJson => found(check(alloc, Form::Json, reader, writer)),
-            Tool::CheckJobs => found(check_jobs(alloc, Form::Text, reader, writer)),
+            Tool::Trace => Ok(trace(alloc, reader, writer)?),
+            Tool::Json => Ok(trace_json(alloc, reader, writer)?),
+            Tool::Draw => Ok(draw(alloc, 0, u64::MAX, reader, writer)?),
+            Tool::Check => found(check(alloc, Form::Text, reader, writer)?),
+            Tool::CheckJson => found(check(alloc, Form::Json, reader, writer)?),
+            Tool::CheckJobs => found(check_jobs(alloc, Form::Text, reader, writer)?),
         }
     }
 }
 
 /// A check that finds something.
-fn found(how: Result<bool, CliFault>) -> Result<(), CliFault> {
-    match how? {
-        true => Ok(()),
-        false => Err(CliFault::Unsettled),
+fn found(is_faulty: bool) -> Result<(), CliFault> {
+    if is_faulty {
+        Ok(())
+    } else {
+        Err(CliFault::Unsettled)
     }
 }
 
@@ -83,7 +87,7 @@ fn found(how: Result<bool, CliFault>) -> Result<(), CliFault> {
 fn each_line_of_a_trace_as_json_is_one_value(rt: HostRuntime) -> Result<(), Fail> {
     let mut written = Vec::new(rt.alloc());
     let mut reader = SCRIPT;
-    assert!(rt; trace_json(rt.alloc(), &mut reader, &mut written) == Ok(()));
+    assert!(rt; trace_json(rt.alloc(), &mut reader, &mut written).is_ok());
     let text = std::str::from_utf8(written.as_slice())?;
     let mut lines: usize = 0;
     for line in text.lines() {
