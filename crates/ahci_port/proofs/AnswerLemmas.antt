@@ -5,7 +5,7 @@ use Rattle.std.proofs.lemmas.Bool.{cond-true, cond-false, eq-eqb, ne_eqb, trueâ‰
 use Rattle.std.proofs.lemmas.Option.{same_Some}
 use Rattle.ncq_journal.specs.declared.outcome.Outcome.TheVariants as outcome
 use Rattle.ncq_journal.specs.Answer.{Answer, answer, completes, given}
-use Rattle.ncq_journal.specs.Entry.{Entry, Issue, Accept, Complete, Fail, Recover, Reissue, Collect, Unqueued}
+use Rattle.ncq_journal.specs.Entry.{Entry, Issue, Complete, Fail}
 use Rattle.ncq_journal.specs.History.{entry_at}
 use Rattle.ncq_journal.specs.Lawful.{IsLawful}
 use Rattle.ncq_journal.specs.Laws.{is_answered}

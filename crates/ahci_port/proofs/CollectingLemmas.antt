@@ -8,7 +8,7 @@ use Rattle.std.proofs.lemmas.Option.{same_Some}
 use Rattle.ahci_regs.specs.PortState.{PortState}
 use Rattle.ahci_table.specs.Command.{op}
 use Rattle.ncq_journal.specs.declared.phase.Phase.{Phase}
-use Rattle.ncq_journal.specs.declared.phase.Phase.TheVariants.{Free, Issued, Accepted, Rejected, Broken, Held, Done}
+use Rattle.ncq_journal.specs.declared.phase.Phase.TheVariants.{Done}
 use Rattle.ahci_table.specs.Fit.{IsFit}
 use Rattle.ahci_table.specs.Window.{WindowState}
 use Rattle.ncq_journal.specs.Answer.{Answer, answer}

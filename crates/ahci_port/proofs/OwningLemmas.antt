@@ -6,7 +6,7 @@ use Rattle.std.proofs.lemmas.Option.{same_Some}
 use Rattle.std.proofs.Math.Seq.{map-set_same}
 use Rattle.ahci_regs.specs.PortState.{PortState}
 use Rattle.ncq_journal.specs.declared.phase.Phase.{Phase}
-use Rattle.ncq_journal.specs.declared.phase.Phase.TheVariants.{Free, Issued, Accepted, Rejected, Broken, Held, Done}
+use Rattle.ncq_journal.specs.declared.phase.Phase.TheVariants.{Free, Held}
 use Rattle.ncq_core.specs.DiskState.{DiskState}
 use Rattle.ncq_journal.specs.Entry.{Entry, Reissue}
 use Rattle.ncq_journal.specs.Halted.{halted}

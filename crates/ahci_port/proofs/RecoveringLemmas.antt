@@ -6,7 +6,7 @@ use Rattle.std.proofs.Math.ListN.{get_or-map}
 use Rattle.ahci_regs.specs.PortState.{PortState}
 use Rattle.ahci_table.specs.Command.{op, queued_of}
 use Rattle.ncq_journal.specs.declared.phase.Phase.{Phase}
-use Rattle.ncq_journal.specs.declared.phase.Phase.TheVariants.{Free, Issued, Accepted, Rejected, Broken, Held, Done}
+use Rattle.ncq_journal.specs.declared.phase.Phase.TheVariants.{Free}
 use Rattle.ncq_core.specs.DiskState.{DiskState}
 use Rattle.ncq_journal.specs.Entry.{Entry, Recover}
 use Rattle.ncq_journal.specs.Halted.{halted}

@@ -5,7 +5,7 @@ use Rattle.std.proofs.lemmas.Bool.{false≢true}
 use Rattle.ahci_regs.specs.PortState.{PortState}
 use Rattle.ahci_table.specs.Command.{op, queued_of}
 use Rattle.ncq_journal.specs.declared.phase.Phase.{Phase}
-use Rattle.ncq_journal.specs.declared.phase.Phase.TheVariants.{Free, Issued, Accepted, Rejected, Broken, Held, Done}
+use Rattle.ncq_journal.specs.declared.phase.Phase.TheVariants.{Free, Issued, Accepted}
 use Rattle.ncq_core.specs.declared.serve_fault.ServeFault.{ServeFault}
 use Rattle.ncq_core.specs.declared.serve_fault.ServeFault.TheVariants as serve_fault
 use Rattle.ncq_core.specs.DiskState.{DiskState, command_of}
