@@ -81,105 +81,33 @@ fn works(board: &TagBoard, mut seat: TagSeat, owners: &Owners, work: Work) -> Ta
     seat
 }
 
-fn two<R: Threads + Sync>(
+/// So many threads at work, one at least, each with a seat of its own.
+fn crew<R: Threads + Sync>(
     rt: &R,
     board: &TagBoard,
     mut seat: TagSeat,
     owners: &Owners,
     work: Work,
+    threads: u32,
 ) -> TagSeat
     requires { seat.board ≡ board.now }
     ensures { result.board ≡ board.now }
 {
-    let other = board.split(&mut seat);
-    let (mut seat, other) = join(
-        rt,
-        move || -> TagSeat
-            requires { seat.board ≡ board.now }
-            ensures { result.board ≡ board.entry.now }
-        { works(board, seat, owners, work) },
-        move || -> TagSeat
-            requires { other.board ≡ board.now }
-            ensures { result.board ≡ board.entry.now }
-        { works(board, other, owners, work) },
-    );
-    board.join(&mut seat, other);
-    seat
-}
-
-fn three<R: Threads + Sync>(
-    rt: &R,
-    board: &TagBoard,
-    mut seat: TagSeat,
-    owners: &Owners,
-    work: Work,
-) -> TagSeat
-    requires { seat.board ≡ board.now }
-    ensures { result.board ≡ board.now }
-{
-    let other = board.split(&mut seat);
-    let (mut seat, other) = join(
-        rt,
-        move || -> TagSeat
-            requires { seat.board ≡ board.now }
-            ensures { result.board ≡ board.entry.now }
-        { works(board, seat, owners, work) },
-        move || -> TagSeat
-            requires { IsSync R.row × (other.board ≡ board.now) }
-            ensures { result.board ≡ board.entry.now }
-        { two(rt, board, other, owners, work) },
-    );
-    board.join(&mut seat, other);
-    seat
-}
-
-fn four<R: Threads + Sync>(
-    rt: &R,
-    board: &TagBoard,
-    mut seat: TagSeat,
-    owners: &Owners,
-    work: Work,
-) -> TagSeat
-    requires { seat.board ≡ board.now }
-    ensures { result.board ≡ board.now }
-{
+    if threads <= 1 {
+        return works(board, seat, owners, work);
+    }
+    let (few, rest) = (threads / 2, threads - threads / 2);
     let other = board.split(&mut seat);
     let (mut seat, other) = join(
         rt,
         move || -> TagSeat
             requires { IsSync R.row × (seat.board ≡ board.now) }
             ensures { result.board ≡ board.entry.now }
-        { two(rt, board, seat, owners, work) },
+        { crew(rt, board, seat, owners, work, few) },
         move || -> TagSeat
             requires { IsSync R.row × (other.board ≡ board.now) }
             ensures { result.board ≡ board.entry.now }
-        { two(rt, board, other, owners, work) },
-    );
-    board.join(&mut seat, other);
-    seat
-}
-
-fn eight<R: Threads + Sync>(
-    rt: &R,
-    board: &TagBoard,
-    mut seat: TagSeat,
-    owners: &Owners,
-    work: Work,
-) -> TagSeat
-    requires { seat.board ≡ board.now }
-    ensures { result.board ≡ board.now }
-{
-    let other = board.split(&mut seat);
-    let (mut seat, other) = join(
-        rt,
-        move || -> TagSeat
-            requires { IsSync R.row × (seat.board ≡ board.now) }
-            ensures { result.board ≡ board.entry.now }
-        { four(rt, board, seat, owners, work) },
-        move || -> TagSeat
-            requires { IsSync R.row × (other.board ≡ board.now) }
-            ensures { result.board ≡ board.entry.now }
-        { four(rt, board, other, owners, work) },
+        { crew(rt, board, other, owners, work, rest) },
     );
     board.join(&mut seat, other);
     seat
@@ -197,7 +125,7 @@ fn three_threads_claim_a_thousand_times_each(rt: HostRuntime) -> Result<(), Fail
         tries: 1_001_000,
     };
     let (board, seat) = TagBoard::new(rt.alloc(), 3)?;
-    let seat = three(&rt, &board, seat, &owners, work);
+    let seat = crew(&rt, &board, seat, &owners, work, 3);
     equal(&rt, owners.claims.load(SeqCst), 3_000);
     equal(&rt, owners.clashes.load(SeqCst), 0);
     equal(&rt, u64::from(seat.held()), 0);
@@ -213,7 +141,7 @@ fn eight_threads_over_five_tags_never_share_one(rt: HostRuntime) -> Result<(), F
         tries: 1_000,
     };
     let (board, seat) = TagBoard::new(rt.alloc(), 5)?;
-    let seat = eight(&rt, &board, seat, &owners, work);
+    let seat = crew(&rt, &board, seat, &owners, work, 8);
     assert!(rt; owners.claims.load(SeqCst) > 0);
     equal(&rt, owners.clashes.load(SeqCst), 0);
     equal(&rt, u64::from(seat.held()), 0);

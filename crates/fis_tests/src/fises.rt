@@ -5,7 +5,7 @@ mod examples;
 use crate::table::{equal, equal_bytes};
 use arrayvec::ArrayVec;
 use checker::agrees;
-use examples::{answers, commands};
+use examples::{READ, answers, commands};
 use sata_fis::{
     Fis, FisFault, H2d, Payload, Queued, SetBits, data_head, decode, h2d_of, is_lba,
     is_sector_count, is_set_bits_status, is_tag, queued,
@@ -183,18 +183,7 @@ fn busy_and_request_bits_do_not_come_through(rt: HostRuntime) {
     );
 }
 
-/// READ FPDMA QUEUED of 8 sectors at LBA 123456789Ah with tag 5.
-const READ: H2d = H2d {
-    c: true,
-    command: 0x60,
-    features: 8,
-    lba: 0x12_3456_789A,
-    device: 0x40,
-    count: 0x28,
-    control: 0,
-};
-
-/// What it asks.
+/// What `READ` asks.
 fn asked() -> Queued {
     Queued {
         write: false,

@@ -1,11 +1,13 @@
 //! A reader that fails after every number of bytes, and a writer that takes any number of bytes and no more.
 use ahci_driver::Low;
 use ahci_jobs::{Form, JobsFault, RunSize, run_jobs};
-use std::alloc::AllocError;
+use std::alloc::{AllocError, Global};
 use std::io;
 use std::io::{Read, Write};
 use std::process::Abort;
+use std::sync::Wait;
 use std::test::Fail;
+use std::thread::Threads;
 
 static LIST: &[u8] = b"write 0 2 11\nwrite 4 1 22\nread 1 1\nread 4 2\n";
 
@@ -72,32 +74,36 @@ fn a_reader_may_fail_after_any_byte(rt: HostRuntime) {
     }
 }
 
+/// Runs a list with room for so many bytes: as much is written of what there is to tell.
+fn writes<R: Threads + Wait + Sync + Abort>(
+    rt: &R,
+    alloc: Global,
+    mut list: &[u8],
+    size: RunSize,
+    told: &[u8],
+    room: usize,
+) {
+    let mut writer = Full {
+        written: Vec::new(alloc),
+        room,
+    };
+    let ended = run_jobs(rt, alloc, size, Low, Form::Text, &mut list, &mut writer);
+    let taken = room.min(told.len());
+    let expected = if taken < told.len() {
+        Err(JobsFault::Write)
+    } else {
+        Ok(())
+    };
+    assert!(rt;
+        ended == expected && writer.written.as_slice() == &told[..taken],
+        "room for {room} bytes: {ended:?}"
+    );
+}
+
 #[test]
 fn a_writer_may_take_any_number_of_bytes(rt: HostRuntime) {
     for room in 0..=TOLD.len() {
-        let mut reader = LIST;
-        let mut writer = Full {
-            written: Vec::new(rt.alloc()),
-            room,
-        };
-        let ended = run_jobs(
-            &rt,
-            rt.alloc(),
-            RunSize::new(2, 2, 8),
-            Low,
-            Form::Text,
-            &mut reader,
-            &mut writer,
-        );
-        let expected = if room < TOLD.len() {
-            Err(JobsFault::Write)
-        } else {
-            Ok(())
-        };
-        assert!(rt;
-            ended == expected && writer.written.as_slice() == &TOLD[..room],
-            "room for {room} bytes: {ended:?}"
-        );
+        writes(&rt, rt.alloc(), LIST, RunSize::new(2, 2, 8), TOLD, room);
     }
 }
 
@@ -113,33 +119,11 @@ fn long_text(rt: &HostRuntime, sectors: usize) -> Result<Vec<u8>, AllocError> {
 
 #[test]
 fn a_writer_may_fail_before_all_results_are_made(rt: HostRuntime) -> Result<(), Fail> {
+    let list = b"read 0 8192\nwrite 0 1 11\n".as_slice();
     let told = long_text(&rt, 8192)?;
     // More than 16,384 bytes are sent before the write is told.
     for room in [0, 1, 16_384, 24_580, 24_581, 24_586, 24_598, 24_599] {
-        let mut reader = b"read 0 8192\nwrite 0 1 11\n".as_slice();
-        let mut writer = Full {
-            written: Vec::new(rt.alloc()),
-            room,
-        };
-        let ended = run_jobs(
-            &rt,
-            rt.alloc(),
-            RunSize::new(1, 1, 8192),
-            Low,
-            Form::Text,
-            &mut reader,
-            &mut writer,
-        );
-        let taken = room.min(told.len());
-        let expected = if taken < told.len() {
-            Err(JobsFault::Write)
-        } else {
-            Ok(())
-        };
-        assert!(rt;
-            ended == expected && writer.written.as_slice() == &told[..taken],
-            "room for {room} bytes: {ended:?}"
-        );
+        writes(&rt, rt.alloc(), list, RunSize::new(1, 1, 8192), &told, room);
     }
     Ok(())
 }

@@ -1,6 +1,9 @@
 -- What remains of a call's reasons once its arguments are looked at.
-use Rattle.std.proofs.Common.{◌≡◌, ℕ, ◌<◌, cond, Option, Some, ap}
+use Rattle.std.proofs.Common.{◌≡◌, ℕ, ◌<◌, cond, Option, None, Some, Result, Ok, Err, ap, subst}
 use Rattle.std.proofs.lemmas.Bool.{eq-eqb, lt-ltb}
+use Rattle.ahci_table.specs.Window.{WindowState}
+use Rattle.port_place.specs.Asked.{AnswersUnless}
+use Rattle.port_place.specs.Making.{Makes}
 use Rattle.port_place.specs.Refusals.{most_tags, with_length, with_tag}
 use Rattle.port_place.specs.declared.status.Status.{Status}
 use Rattle.port_place.specs.declared.status.Status.TheVariants as status
@@ -12,3 +15,15 @@ with_small tag reason small = ap (λ b. cond b reason (Some status.BadTag)) (lt-
 -- the buffer has the length that is wanted
 pub with_whole : (wanted len : ℕ) (reason : Option Status) → len ≡ wanted → with_length wanted len reason ≡ reason
 with_whole wanted len reason is = ap (λ b. cond b reason (Some status.WrongLength)) (eq-eqb len wanted is)
+
+-- a window was made of its arguments, and the call was answered on it
+pub on_window : (reason : Option Status) (w window : WindowState) (answer : Status) (answered : WindowState → Type 0) (same : Type 0)
+    → Makes reason (Ok w) (λ x. x ≡ window) → answered w → AnswersUnless reason answer (answered window) same
+on_window None w window answer answered same is so = subst answered is so
+on_window (Some reason) w window answer answered same is so = absurd (cc)
+
+-- none was made
+pub no_window : (reason : Option Status) (refusal : Status) (made : WindowState → Type 0) (answered same : Type 0)
+    → Makes reason (Err refusal) made → (refusal ≡ status.OutOfMemory → answered) → same → AnswersUnless reason refusal answered same
+no_window None refusal made answered same is lacks s = lacks is
+no_window (Some reason) refusal made answered same is lacks s = let told : refusal ≡ reason = cc in (told, s)

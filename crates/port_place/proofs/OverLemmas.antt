@@ -67,10 +67,10 @@ fresh port = record { port = Some port; pending = nothing_pending }
 
 -- an empty place is filled with what was made
 pub filled : {A : Type 0} (number : ℕ) (old new : PlaceView) (reason : Option Status) (result : Result (Box PortView A) Status) (made : PortView)
-    → old.port ≡ None → Makes reason result made → IsFilled number old new result → Fills number old new reason made
+    → old.port ≡ None → Makes reason result (λ box. box.value ≡ made) → IsFilled number old new result → Fills number old new reason made
 filled {A = A} number old new reason result made is makes fills = subst (λ o. FillsPlace o number old new reason made) (sym is) (by reason result makes fills)
   where
-    by : (reason : Option Status) (result : Result (Box PortView A) Status) → Makes reason result made → IsFilled number old new result → FillsPlace None number old new reason made
+    by : (reason : Option Status) (result : Result (Box PortView A) Status) → Makes reason result (λ box. box.value ≡ made) → IsFilled number old new result → FillsPlace None number old new reason made
     by (Some reason) (Ok box) makes fills = absurd (cc)
     by (Some reason) (Err other) makes fills = let same : other ≡ reason = cc in (fills.0 ∙ ap code_of same, fills.1)
     by None (Ok box) makes fills = inl (fills.0, fills.1 ∙ ap fresh makes, subst Headline makes fills.2)

@@ -1,5 +1,5 @@
 -- What C sees as structs: which numbers stand in them.
-use Rattle.std.specs.Prelude.{ℕ, ◌/◌, List, ◌++◌, length, drop, Option, None, Some, Bool, if◌then◌else◌}
+use Rattle.std.specs.Prelude.{ℕ, ◌/◌, List, ◌++◌, length, drop, Option, is_some, Bool, if◌then◌else◌}
 use Rattle.std.specs.Option.{unwrap_or}
 use Rattle.ahci_port.specs.declared.step.Stepped.{Stepped}
 use Rattle.ahci_port.specs.declared.step.Stepped.TheVariants as stepped
@@ -48,17 +48,13 @@ phase_number phases.Broken = 4
 phase_number phases.Held = 5
 phase_number phases.Done = 6
 
-abbrev pub owned_number : Option ℕ → ℕ
-owned_number None = 0
-owned_number (Some number) = 1
-
 -- a slot of a port
 abbrev pub flat_slot : PortView → ℕ → FlatSlot
 flat_slot port tag = record {
   number = unwrap_or (owner_of port tag) 0;
   bytes = unwrap_or (read_length port.past tag) 0;
   phase = phase_number (phase port.past tag);
-  owned = owned_number (owner_of port tag);
+  owned = number_if (is_some (owner_of port tag));
 }
 
 -- the kind of the entry of a command that is not queued

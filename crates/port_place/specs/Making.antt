@@ -1,7 +1,6 @@
--- When no port is made, and which one is made else.
-use Rattle.std.specs.Prelude.{◌≡◌, ℕ, ◌/◌, ◌%◌, ◌||◌, nat_eq, nat_lt, Option, None, Some, Result, Ok, Err, Box, if◌then◌else◌}
+-- When no port and no window is made, and which one is made else.
+use Rattle.std.specs.Prelude.{◌≡◌, ℕ, ◌/◌, ◌%◌, ◌||◌, nat_eq, nat_lt, Option, None, Some, Result, Ok, Err, if◌then◌else◌}
 use Rattle.ahci_port.specs.Faults.{most_first}
-use Rattle.ahci_port.specs.PortView.{PortView}
 use Rattle.ncq_core.specs.DiskState.{most_depth, most_disk_sectors}
 use Rattle.port_place.specs.declared.status.Status.{Status}
 use Rattle.port_place.specs.declared.status.Status.TheVariants as status
@@ -13,12 +12,12 @@ size_refusal bytes depth first =
     else (if nat_eq depth 0 || nat_lt most_depth depth then Some status.BadDepth
     else (if nat_lt most_first first then Some status.BadFirst else None))
 
--- a box with this port; or memory was refused
-abbrev pub MadeUnless : {A : Type 0} → Result (Box PortView A) Status → PortView → Type 0
-MadeUnless (Ok box) port = box.value ≡ port
-MadeUnless (Err reason) port = reason ≡ status.OutOfMemory
+-- this holds of what was made; or memory was refused
+abbrev pub MadeUnless : {X : Type 0} → Result X Status → (X → Type 0) → Type 0
+MadeUnless (Ok made) holds = holds made
+MadeUnless (Err reason) holds = reason ≡ status.OutOfMemory
 
--- no box for exactly this reason, and else a box with this port or want of memory
-abbrev pub Makes : {A : Type 0} → Option Status → Result (Box PortView A) Status → PortView → Type 0
-Makes None result port = MadeUnless result port
-Makes (Some reason) result port = result ≡ Err reason
+-- nothing is made for exactly this reason, and else something of which this holds, or memory was refused
+abbrev pub Makes : {X : Type 0} → Option Status → Result X Status → (X → Type 0) → Type 0
+Makes None result holds = MadeUnless result holds
+Makes (Some reason) result holds = result ≡ Err reason

@@ -1,11 +1,11 @@
 -- Why each call is refused: the first reason that holds, in this order. Arguments are looked at before the port.
 use Rattle.std.specs.Prelude.{ℕ, Bool, false, nat_eq, nat_lt, List, length, Option, None, Some, if◌then◌else◌}
 use Rattle.std.specs.Option.{option_map, option_or}
-use Rattle.ahci_port.specs.Faults.{collect_refusal, plain_refusal, recover_refusal, reissue_refusal, resume_refusal, step_refusal, trim_refusal}
+use Rattle.ahci_port.specs.Faults.{collect_refusal, plain_refusal, recover_refusal, reissue_refusal, step_refusal, trim_refusal}
 use Rattle.ahci_port.specs.Looking.{read_length}
 use Rattle.ahci_port.specs.PortView.{PortView, sectors_in}
 use Rattle.ahci_port.specs.declared.step.DeviceStep.TheVariants as step
-use Rattle.port_place.specs.Status.{of_collect, of_plain, of_recover, of_reissue, of_resume, of_step, of_trim}
+use Rattle.port_place.specs.Status.{of_collect, of_plain, of_recover, of_reissue, of_step, of_trim}
 use Rattle.port_place.specs.declared.status.Status.{Status}
 use Rattle.port_place.specs.declared.status.Status.TheVariants as status
 
@@ -64,7 +64,3 @@ slot_refusal port tag number room =
 
 abbrev pub collect_refused : PortView → (tag number room : ℕ) → Option Status
 collect_refused port tag number room = with_tag tag (slot_refusal port tag number room)
-
--- a port is made in an empty place alone
-abbrev pub make_refusal : Bool → List ℕ → (depth first : ℕ) → Option Status
-make_refusal full image depth first = if full then Some status.PortThere else option_map of_resume (resume_refusal image depth first)

@@ -1,5 +1,5 @@
--- The number for C of each answer, and the answer for each fault of the crates below. Each number stands for one thing.
-use Rattle.std.specs.Prelude.{ℕ}
+-- The number for C and the name of each answer, and the answer for each fault of the crates below. Each number stands for one thing.
+use Rattle.std.specs.Prelude.{ℕ, List, codes}
 use Rattle.ahci_port.specs.declared.fault.IssueFault.{IssueFault}
 use Rattle.ahci_port.specs.declared.fault.IssueFault.TheVariants as issue
 use Rattle.ahci_port.specs.declared.fault.StepFault.{StepFault}
@@ -10,8 +10,6 @@ use Rattle.ahci_port.specs.declared.fault.RecoverFault.{RecoverFault}
 use Rattle.ahci_port.specs.declared.fault.RecoverFault.TheVariants as recover
 use Rattle.ahci_port.specs.declared.fault.ReissueFault.{ReissueFault}
 use Rattle.ahci_port.specs.declared.fault.ReissueFault.TheVariants as reissue
-use Rattle.ahci_port.specs.declared.fault.ResumeFault.{ResumeFault}
-use Rattle.ahci_port.specs.declared.fault.ResumeFault.TheVariants as resume
 use Rattle.ahci_port.specs.declared.fault.PlainFault.{PlainFault}
 use Rattle.ahci_port.specs.declared.fault.PlainFault.TheVariants as plain
 use Rattle.ahci_port.specs.declared.fault.TrimFault.{TrimFault}
@@ -27,54 +25,61 @@ use Rattle.ahci_regs.specs.declared.fault.RegFault.TheVariants as reg
 use Rattle.port_place.specs.declared.status.Status.{Status}
 use Rattle.port_place.specs.declared.status.Status.TheVariants as status
 
+-- the number of each status, and its name as `ahci replay` writes it; "Ok" for what is done
+abbrev pub told_as : Status → ℕ × List ℕ
+told_as status.Done = (0, codes "Ok")
+told_as status.NoPort = (1, codes "NoPort")
+told_as status.PortThere = (2, codes "PortThere")
+told_as status.OutOfMemory = (3, codes "OutOfMemory")
+told_as status.BufferTooSmall = (4, codes "BufferTooSmall")
+told_as status.WrongLength = (5, codes "WrongLength")
+told_as status.BadTag = (6, codes "BadTag")
+told_as status.BadKind = (7, codes "BadKind")
+told_as status.NoSuchSector = (8, codes "NoSuchSector")
+told_as status.NoSuchEntry = (9, codes "NoSuchEntry")
+told_as status.TooManyTags = (10, codes "TooManyTags")
+told_as status.BadSize = (11, codes "BadSize")
+told_as status.BadDepth = (12, codes "BadDepth")
+told_as status.BadFirst = (13, codes "BadFirst")
+told_as status.Unaligned = (16, codes "Unaligned")
+told_as status.NoSuchRegister = (17, codes "NoSuchRegister")
+told_as status.NotStarted = (18, codes "NotStarted")
+told_as status.NotReceiving = (19, codes "NotReceiving")
+told_as status.Running = (20, codes "Running")
+told_as status.NotQueued = (21, codes "NotQueued")
+told_as status.Halted = (32, codes "Halted")
+told_as status.NoSuchTag = (33, codes "NoSuchTag")
+told_as status.SlotOwned = (34, codes "SlotOwned")
+told_as status.BadHeader = (35, codes "BadHeader")
+told_as status.BadCommand = (36, codes "BadCommand")
+told_as status.WrongTag = (37, codes "WrongTag")
+told_as status.BadList = (38, codes "BadList")
+told_as status.BadCount = (39, codes "BadCount")
+told_as status.BadLba = (40, codes "BadLba")
+told_as status.NotIssued = (41, codes "NotIssued")
+told_as status.NotAccepted = (42, codes "NotAccepted")
+told_as status.OutsideCommand = (43, codes "OutsideCommand")
+told_as status.BadTags = (44, codes "BadTags")
+told_as status.NotHalted = (45, codes "NotHalted")
+told_as status.NotHeld = (46, codes "NotHeld")
+told_as status.QueueBusy = (47, codes "QueueBusy")
+told_as status.Stranger = (48, codes "Stranger")
+told_as status.NotYet = (49, codes "NotYet")
+told_as status.Busy = (50, codes "Busy")
+told_as status.Spent = (51, codes "Spent")
+told_as status.EmptyFis = (64, codes "EmptyFis")
+told_as status.UnknownType = (65, codes "UnknownType")
+told_as status.WrongFisLength = (66, codes "WrongFisLength")
+told_as status.BadFlag = (67, codes "BadFlag")
+told_as status.BadStatus = (68, codes "BadStatus")
+told_as status.BadPayload = (69, codes "BadPayload")
+told_as status.NotAllowed = (80, codes "NotAllowed")
+
 abbrev pub code_of : Status → ℕ
-code_of status.Done = 0
-code_of status.NoPort = 1
-code_of status.PortThere = 2
-code_of status.OutOfMemory = 3
-code_of status.BufferTooSmall = 4
-code_of status.WrongLength = 5
-code_of status.BadTag = 6
-code_of status.BadKind = 7
-code_of status.NoSuchSector = 8
-code_of status.NoSuchEntry = 9
-code_of status.TooManyTags = 10
-code_of status.BadSize = 11
-code_of status.BadDepth = 12
-code_of status.BadFirst = 13
-code_of status.Unaligned = 16
-code_of status.NoSuchRegister = 17
-code_of status.NotStarted = 18
-code_of status.NotReceiving = 19
-code_of status.Running = 20
-code_of status.NotQueued = 21
-code_of status.Halted = 32
-code_of status.NoSuchTag = 33
-code_of status.SlotOwned = 34
-code_of status.BadHeader = 35
-code_of status.BadCommand = 36
-code_of status.WrongTag = 37
-code_of status.BadList = 38
-code_of status.BadCount = 39
-code_of status.BadLba = 40
-code_of status.NotIssued = 41
-code_of status.NotAccepted = 42
-code_of status.OutsideCommand = 43
-code_of status.BadTags = 44
-code_of status.NotHalted = 45
-code_of status.NotHeld = 46
-code_of status.QueueBusy = 47
-code_of status.Stranger = 48
-code_of status.NotYet = 49
-code_of status.Busy = 50
-code_of status.Spent = 51
-code_of status.EmptyFis = 64
-code_of status.UnknownType = 65
-code_of status.WrongFisLength = 66
-code_of status.BadFlag = 67
-code_of status.BadStatus = 68
-code_of status.BadPayload = 69
-code_of status.NotAllowed = 80
+code_of s = (told_as s).0
+
+abbrev pub name_of : Status → List ℕ
+name_of s = (told_as s).1
 
 -- a window was not issued
 abbrev pub of_issue : IssueFault → Status
@@ -115,13 +120,6 @@ abbrev pub of_plain : PlainFault → Status
 of_plain plain.Halted = status.Halted
 of_plain plain.QueueBusy = status.QueueBusy
 of_plain plain.OutOfMemory = status.OutOfMemory
-
--- no port was made
-abbrev pub of_resume : ResumeFault → Status
-of_resume resume.BadSize = status.BadSize
-of_resume resume.BadDepth = status.BadDepth
-of_resume resume.BadFirst = status.BadFirst
-of_resume resume.OutOfMemory = status.OutOfMemory
 
 -- the journal was not handed out
 abbrev pub of_trim : TrimFault → Status

@@ -96,33 +96,22 @@ fn copied<A: Allocator>(ended: &Reply, window: &Window<A>, bytes: u64, out: &mut
         entry,
         outcome,
     } = *ended;
+    let flat = FlatReply {
+        number,
+        entry,
+        ..FlatReply::default()
+    };
     match outcome {
         Outcome::Read => {
             window.gather(0, &mut out[..bytes as usize]);
-            FlatReply {
-                number,
-                entry,
-                lba: 0,
-                bytes,
-                outcome: 0,
-                error: 0,
-            }
+            FlatReply { bytes, ..flat }
         }
-        Outcome::Wrote => FlatReply {
-            number,
-            entry,
-            lba: 0,
-            bytes: 0,
-            outcome: 1,
-            error: 0,
-        },
+        Outcome::Wrote => FlatReply { outcome: 1, ..flat },
         Outcome::Failed { error, lba } => FlatReply {
-            number,
-            entry,
             lba,
-            bytes: 0,
             outcome: 2,
             error: u32::from(error),
+            ..flat
         },
     }
 }

@@ -59,10 +59,8 @@ pub(crate) fn flat_entry<A: Allocator>(event: &Event<A>) -> FlatEntry
         Event::Complete(tag) => of_tag(3, *tag),
         Event::Fail { tag, error, lba } => FlatEntry {
             lba: *lba,
-            sectors: 0,
-            kind: 4,
-            tag: u32::from(*tag),
             error: u32::from(*error),
+            ..of_tag(4, *tag)
         },
         Event::Recover(tag) => of_tag(5, *tag),
         Event::Reissue(tag) => of_tag(6, *tag),
@@ -83,9 +81,7 @@ fn flat_issue<A: Allocator>(tag: u8, op: &Op<A>) -> FlatEntry
     FlatEntry {
         lba: op.lba(),
         sectors: op.sectors() as u32,
-        kind,
-        tag: u32::from(tag),
-        error: 0,
+        ..of_tag(kind, tag)
     }
 }
 

@@ -1,12 +1,11 @@
 //! The status of each fault of the port.
 
 ghost use Rattle.std.specs.Prelude.{◌≡◌};
-ghost use Rattle.port_place.specs.Status.{of_collect, of_fis, of_issue, of_plain, of_recover, of_register, of_reissue, of_resume, of_step, of_table, of_trim, of_write};
+ghost use Rattle.port_place.specs.Status.{of_fis, of_issue, of_plain, of_recover, of_register, of_reissue, of_step, of_table, of_trim, of_write};
 
 use crate::status::Status;
 use ahci_port::{
-    CollectFault, IssueFault, PlainFault, RecoverFault, ReissueFault, ResumeFault, StepFault,
-    TrimFault, WriteFault,
+    IssueFault, PlainFault, RecoverFault, ReissueFault, StepFault, TrimFault, WriteFault,
 };
 use ahci_regs::RegFault;
 use ahci_table::TableFault;
@@ -41,16 +40,6 @@ pub(crate) fn step_status(fault: StepFault) -> Status
     }
 }
 
-/// Why a request was not collected.
-pub(crate) fn collect_status(fault: CollectFault) -> Status
-    ensures { result ≡ of_collect fault }
-{
-    match fault {
-        CollectFault::Stranger => Status::Stranger,
-        CollectFault::NotYet => Status::NotYet,
-    }
-}
-
 /// Why the port did not recover.
 pub(crate) fn recover_status(fault: RecoverFault) -> Status
     ensures { result ≡ of_recover fault }
@@ -79,18 +68,6 @@ pub(crate) fn plain_status(fault: PlainFault) -> Status
         PlainFault::Halted => Status::Halted,
         PlainFault::QueueBusy => Status::QueueBusy,
         PlainFault::OutOfMemory => Status::OutOfMemory,
-    }
-}
-
-/// Why no port was made.
-pub(crate) fn resume_status(fault: ResumeFault) -> Status
-    ensures { result ≡ of_resume fault }
-{
-    match fault {
-        ResumeFault::BadSize => Status::BadSize,
-        ResumeFault::BadDepth => Status::BadDepth,
-        ResumeFault::BadFirst => Status::BadFirst,
-        ResumeFault::OutOfMemory => Status::OutOfMemory,
     }
 }
 

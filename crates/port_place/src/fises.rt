@@ -1,6 +1,6 @@
 //! FISes as structs, read and written with no port.
 
-ghost use Rattle.std.specs.Prelude.{◌≡◌, ◌++◌, Ok};
+ghost use Rattle.std.specs.Prelude.{◌≡◌, ◌++◌, ◌==◌, ◌^◌, nat_le, Ok, Err, if◌then◌else◌};
 ghost use Rattle.sata_fis.specs.Encoding.{encoded};
 ghost use Rattle.port_place.specs.Fises.{AnswersDecode, AnswersEncode, PutsAll, bare_fis, d2h_named, data_named, dma_setup_named, fis_named, flat_fis, h2d_named, is_flag, pio_setup_named, set_bits_named};
 
@@ -64,26 +64,8 @@ fn bare_fis(kind: u8) -> FlatFis
     ensures { result ≡ bare_fis kind }
 {
     FlatFis {
-        lba: 0,
-        sactive: 0,
-        offset: 0,
-        transfer: 0,
-        features: 0,
-        count: 0,
-        bytes: 0,
-        payload: 0,
         kind,
-        c: 0,
-        a: 0,
-        i: 0,
-        d: 0,
-        status: 0,
-        error: 0,
-        device: 0,
-        command: 0,
-        control: 0,
-        e_status: 0,
-        tag: 0,
+        ..FlatFis::default()
     }
 }
 
@@ -163,28 +145,37 @@ fn fis_named<'a>(fis: &FlatFis, payload: &'a [u8]) -> Result<Fis<'a>, Status>
     })
 }
 
-/// Whether a byte is 0 or 1.
-fn is_flag(byte: u8) -> bool
-    ensures { result ≡ is_flag byte }
+/// A flag, where the byte is 0 or 1.
+fn flag(byte: u8) -> Result<bool, Status>
+    ensures { result ≡ (if is_flag byte then Ok (byte == 1) else Err Status.BadFlag) }
 {
-    byte <= 1
+    match byte {
+        0 => Ok(false),
+        1 => Ok(true),
+        _ => Err(Status::BadFlag),
+    }
+}
+
+/// An LBA, where it fits 48 bits.
+fn lba(lba: u64) -> Result<u64, Status>
+    ensures { result ≡ (if nat_le (2 ^ 48) lba then Err Status.BadLba else Ok lba) }
+{
+    if is_lba(lba) {
+        Ok(lba)
+    } else {
+        Err(Status::BadLba)
+    }
 }
 
 /// Register FIS - Host to Device.
 fn h2d_named(fis: &FlatFis) -> Result<H2d, Status>
     ensures { result ≡ h2d_named fis.now }
 {
-    if !is_flag(fis.c) {
-        return Err(Status::BadFlag);
-    }
-    if !is_lba(fis.lba) {
-        return Err(Status::BadLba);
-    }
     Ok(H2d {
-        c: fis.c == 1,
+        c: flag(fis.c)?,
         command: fis.command,
         features: fis.features,
-        lba: fis.lba,
+        lba: lba(fis.lba)?,
         device: fis.device,
         count: fis.count,
         control: fis.control,
@@ -195,17 +186,11 @@ fn h2d_named(fis: &FlatFis) -> Result<H2d, Status>
 fn d2h_named(fis: &FlatFis) -> Result<D2h, Status>
     ensures { result ≡ d2h_named fis.now }
 {
-    if !is_flag(fis.i) {
-        return Err(Status::BadFlag);
-    }
-    if !is_lba(fis.lba) {
-        return Err(Status::BadLba);
-    }
     Ok(D2h {
-        i: fis.i == 1,
+        i: flag(fis.i)?,
         status: fis.status,
         error: fis.error,
-        lba: fis.lba,
+        lba: lba(fis.lba)?,
         device: fis.device,
         count: fis.count,
     })
@@ -215,16 +200,14 @@ fn d2h_named(fis: &FlatFis) -> Result<D2h, Status>
 fn dma_setup_named(fis: &FlatFis) -> Result<DmaSetup, Status>
     ensures { result ≡ dma_setup_named fis.now }
 {
-    if !(is_flag(fis.a) && is_flag(fis.i) && is_flag(fis.d)) {
-        return Err(Status::BadFlag);
-    }
+    let (a, i, d) = (flag(fis.a)?, flag(fis.i)?, flag(fis.d)?);
     if !is_tag(fis.tag) {
         return Err(Status::BadTag);
     }
     Ok(DmaSetup {
-        a: fis.a == 1,
-        i: fis.i == 1,
-        d: fis.d == 1,
+        a,
+        i,
+        d,
         tag: fis.tag,
         offset: fis.offset,
         count: fis.transfer,
@@ -235,18 +218,12 @@ fn dma_setup_named(fis: &FlatFis) -> Result<DmaSetup, Status>
 fn pio_setup_named(fis: &FlatFis) -> Result<PioSetup, Status>
     ensures { result ≡ pio_setup_named fis.now }
 {
-    if !(is_flag(fis.i) && is_flag(fis.d)) {
-        return Err(Status::BadFlag);
-    }
-    if !is_lba(fis.lba) {
-        return Err(Status::BadLba);
-    }
     Ok(PioSetup {
-        i: fis.i == 1,
-        d: fis.d == 1,
+        i: flag(fis.i)?,
+        d: flag(fis.d)?,
         status: fis.status,
         error: fis.error,
-        lba: fis.lba,
+        lba: lba(fis.lba)?,
         device: fis.device,
         count: fis.count,
         e_status: fis.e_status,
@@ -258,14 +235,12 @@ fn pio_setup_named(fis: &FlatFis) -> Result<PioSetup, Status>
 fn set_bits_named(fis: &FlatFis) -> Result<SetBits, Status>
     ensures { result ≡ set_bits_named fis.now }
 {
-    if !is_flag(fis.i) {
-        return Err(Status::BadFlag);
-    }
+    let i = flag(fis.i)?;
     if !is_set_bits_status(fis.status) {
         return Err(Status::BadStatus);
     }
     Ok(SetBits {
-        i: fis.i == 1,
+        i,
         status: fis.status,
         error: fis.error,
         sactive: fis.sactive,

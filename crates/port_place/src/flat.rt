@@ -2,7 +2,7 @@
 
 /// What the device did in a step.
 #[repr(C)]
-#[derive(Clone, Copy, Debug, PartialEq, Eq)]
+#[derive(Clone, Copy, Debug, Default, PartialEq, Eq)]
 pub struct FlatStep {
     /// The number of its first entry.
     pub first: u64,
@@ -14,7 +14,7 @@ pub struct FlatStep {
 
 /// How a request ended.
 #[repr(C)]
-#[derive(Clone, Copy, Debug, PartialEq, Eq)]
+#[derive(Clone, Copy, Debug, Default, PartialEq, Eq)]
 pub struct FlatReply {
     pub number: u64,
     /// The number of the entry that answered it.
@@ -117,7 +117,7 @@ pub struct FlatWritten {
 
 /// What a window asks for.
 #[repr(C)]
-#[derive(Clone, Copy, Debug, PartialEq, Eq)]
+#[derive(Clone, Copy, Debug, Default, PartialEq, Eq)]
 pub struct FlatCommand {
     pub lba: u64,
     pub sectors: u32,
@@ -130,7 +130,7 @@ pub struct FlatCommand {
 
 /// A FIS. What its type doesn't have is 0.
 #[repr(C)]
-#[derive(Clone, Copy, Debug, PartialEq, Eq)]
+#[derive(Clone, Copy, Debug, Default, PartialEq, Eq)]
 pub struct FlatFis {
     pub lba: u64,
     pub sactive: u32,

@@ -2,12 +2,13 @@
 
 ghost use Rattle.std.specs.Prelude.{◌≡◌, ◌<◌, ◌≤◌, ◌*◌, ◌^◌, false, length, IfOk, None};
 ghost use Rattle.ncq_journal.specs.Work.{lba_of, sectors_of, work_of};
-ghost use Rattle.port_place.specs.Asked.{AnswersCopy, AnswersIssue, AnswersSubmit, submit_refusal, work_asked};
+ghost use Rattle.port_place.specs.Asked.{AnswersIssue, AnswersSubmit, submit_refusal, work_asked};
 ghost use Rattle.port_place.specs.Done.{AnswersCommand, AnswersWindow};
 ghost use Rattle.ahci_table.specs.Refusal.{is_ragged};
 
 use crate::faults::issue_status;
 use crate::status::Status;
+use crate::windows::window_of;
 use ahci_port::Port;
 use ahci_table::{BuildFault, Window, default_pieces};
 use ncq_journal::{Bytes, LBA_LIMIT, MAX_COUNT, Op};
@@ -27,41 +28,10 @@ pub fn issue<A: Allocator + Copy>(
 ) -> Status
     ensures { AnswersIssue tag header.now memory.now result port.old port.new number.old number.new }
 {
-    if tag >= 32 {
-        return Status::BadTag;
+    match window_of(alloc, tag, header, memory) {
+        Ok(window) => hand_in(port, window, number),
+        Err(refusal) => refusal,
     }
-    if header.len() != 32 {
-        return Status::WrongLength;
-    }
-    hand_copy(port, alloc, tag as u8, header_of(header), memory, number)
-}
-
-/// Issues the command of a window, whose memory is copied.
-fn hand_copy<A: Allocator + Copy>(
-    port: &mut Port<A>,
-    alloc: A,
-    tag: u8,
-    header: [u8; 32],
-    memory: &[u8],
-    number: &mut u64,
-) -> Status
-    requires { tag < 32 }
-    ensures { AnswersCopy (record { tag = tag; header = header; bytes = memory.now }) result port.old port.new number.old number.new }
-{
-    let Ok(bytes) = Vec::from_slice(alloc, memory) else {
-        return Status::OutOfMemory;
-    };
-    hand_in(port, Window::from_parts(tag, header, bytes), number)
-}
-
-/// The bytes of a header.
-pub(crate) fn header_of(bytes: &[u8]) -> [u8; 32]
-    requires { length bytes.now ≡ 32 }
-    ensures { result ≡ bytes.now }
-{
-    let mut header = [0; 32];
-    header.copy_from_slice(bytes);
-    header
 }
 
 /// Issues a read or a write of whole sectors, in a window over the default pieces. `number` is the request's then.

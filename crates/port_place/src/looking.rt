@@ -6,7 +6,7 @@ ghost use Rattle.ahci_port.specs.PortView.{sectors_in};
 ghost use Rattle.ahci_regs.specs.Reading.{read_of};
 ghost use Rattle.ncq_journal.specs.Sector.{sector};
 ghost use Rattle.port_place.specs.Done.{AnswersRegister, IsSets};
-ghost use Rattle.port_place.specs.Flat.{flat_slot, owned_number, phase_number};
+ghost use Rattle.port_place.specs.Flat.{flat_slot, phase_number};
 ghost use Rattle.port_place.specs.Refusals.{copy_refusal, received_refusal, with_tag};
 ghost use Rattle.port_place.specs.Told.{Told};
 
@@ -107,17 +107,7 @@ pub(crate) fn slot_of<A: Allocator>(port: &Port<A>, tag: u8) -> FlatSlot
         number: owner.unwrap_or(0),
         bytes: port.read_length(tag).unwrap_or(0),
         phase: phase_number(port.phase(tag)),
-        owned: owned_number(owner),
-    }
-}
-
-/// 1 where there is an owner.
-fn owned_number(owner: Option<u64>) -> u32
-    ensures { result ≡ owned_number owner }
-{
-    match owner {
-        Some(_) => 1,
-        None => 0,
+        owned: u32::from(owner.is_some()),
     }
 }
 

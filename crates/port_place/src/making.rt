@@ -20,7 +20,7 @@ pub fn make<A: Allocator + Copy>(
     depth: u32,
     first: u64,
 ) -> Result<Box<Port<A>, A>, Status>
-    ensures { Makes (size_refusal (length image.now) depth first) result (port_from first image.now depth) }
+    ensures { Makes (size_refusal (length image.now) depth first) result (λ box. box.value ≡ port_from first image.now depth) }
 {
     if let Some(refusal) = size_refusal(image.len(), depth, first) {
         return Err(refusal);
@@ -37,7 +37,7 @@ pub fn make_zeros<A: Allocator + Copy>(
     sectors: u32,
     depth: u32,
 ) -> Result<Box<Port<A>, A>, Status>
-    ensures { Makes (size_refusal (512 * sectors) depth 0) result (port_from 0 (replicate (512 * sectors) 0) depth) }
+    ensures { Makes (size_refusal (512 * sectors) depth 0) result (λ box. box.value ≡ port_from 0 (replicate (512 * sectors) 0) depth) }
 {
     let size = SECTOR * sectors as usize;
     if let Some(refusal) = size_refusal(size, depth, 0) {
@@ -73,7 +73,7 @@ fn boxed<A: Allocator + Copy>(
     first: u64,
 ) -> Result<Box<Port<A>, A>, Status>
     requires { size_refusal (length image.items) depth first ≡ None }
-    ensures { Makes None result (port_from first image.items depth) }
+    ensures { Makes None result (λ box. box.value ≡ port_from first image.items depth) }
 {
     let Ok(port) = Port::resume(alloc, image, depth, first) else {
         return Err(Status::OutOfMemory);

@@ -5,99 +5,99 @@ ghost use Rattle.port_place.specs.Status.{code_of};
 #[derive(Clone, Copy, Debug, PartialEq, Eq)]
 pub enum Status {
     /// The call is carried out.
-    Done,
+    Done = 0,
     /// The place is empty.
-    NoPort,
+    NoPort = 1,
     /// The place has a port already.
-    PortThere,
+    PortThere = 2,
     /// Memory was refused.
-    OutOfMemory,
+    OutOfMemory = 3,
     /// The answer has more bytes than the buffer.
-    BufferTooSmall,
+    BufferTooSmall = 4,
     /// A buffer of one fixed length has another.
-    WrongLength,
+    WrongLength = 5,
     /// The tag is not 0 to 31.
-    BadTag,
+    BadTag = 6,
     /// The kind is none of those that the call knows.
-    BadKind,
+    BadKind = 7,
     /// The LBA is past the last sector.
-    NoSuchSector,
+    NoSuchSector = 8,
     /// The journal has no entry of this number, or it has no bytes.
-    NoSuchEntry,
+    NoSuchEntry = 9,
     /// A list of over 32 tags.
-    TooManyTags,
+    TooManyTags = 10,
     /// The disk is not 1 to 131,072 whole sectors.
-    BadSize,
+    BadSize = 11,
     /// The depth is not 1 to 32.
-    BadDepth,
+    BadDepth = 12,
     /// The number of the first entry is over 2^63.
-    BadFirst,
+    BadFirst = 13,
     /// The offset isn't a multiple of 4.
-    Unaligned,
+    Unaligned = 16,
     /// No register of this model stands at the offset.
-    NoSuchRegister,
+    NoSuchRegister = 17,
     /// A write of PxSACT or PxCI while PxCMD.ST is 0.
-    NotStarted,
+    NotStarted = 18,
     /// A write that sets PxCMD.ST while PxCMD.FRE is 0, or is 0 in the value.
-    NotReceiving,
+    NotReceiving = 19,
     /// A write that would clear PxCMD.FRE, or move PxCLB or PxFB, while PxCMD.ST is 1.
-    Running,
+    Running = 20,
     /// A write that sets a bit of PxCI whose bit of PxSACT was not written before.
-    NotQueued,
+    NotQueued = 21,
     /// A command has failed, and the port has not recovered.
-    Halted,
+    Halted = 32,
     /// The tag is not below the depth.
-    NoSuchTag,
+    NoSuchTag = 33,
     /// The slot has a request.
-    SlotOwned,
+    SlotOwned = 34,
     /// The command header is none that the port takes.
-    BadHeader,
+    BadHeader = 35,
     /// CFIS is no READ or WRITE FPDMA QUEUED in the header's direction.
-    BadCommand,
+    BadCommand = 36,
     /// The command's tag is not the window's.
-    WrongTag,
+    WrongTag = 37,
     /// The PRDT is none that the port takes.
-    BadList,
+    BadList = 38,
     /// Not 1 to 65,536 sectors, or a write whose bytes are not as many sectors.
-    BadCount,
+    BadCount = 39,
     /// The LBA doesn't fit 48 bits.
-    BadLba,
+    BadLba = 40,
     /// The tag's command does not wait for the device.
-    NotIssued,
+    NotIssued = 41,
     /// The command of the tag, or of some tag of the list, is not accepted.
-    NotAccepted,
+    NotAccepted = 42,
     /// The sector is not one of the command's.
-    OutsideCommand,
+    OutsideCommand = 43,
     /// A list of no tag, or with one tag twice.
-    BadTags,
+    BadTags = 44,
     /// No command has failed.
-    NotHalted,
+    NotHalted = 45,
     /// The tag's command is not held.
-    NotHeld,
+    NotHeld = 46,
     /// A queued command is issued or accepted.
-    QueueBusy,
+    QueueBusy = 47,
     /// The slot is free, or its request has another number.
-    Stranger,
+    Stranger = 48,
     /// The request has no answer yet.
-    NotYet,
+    NotYet = 49,
     /// Some slot is not free.
-    Busy,
+    Busy = 50,
     /// The number of the next entry is over 2^63.
-    Spent,
+    Spent = 51,
     /// There are no bytes.
-    EmptyFis,
+    EmptyFis = 64,
     /// The type is none of the seven.
-    UnknownType,
+    UnknownType = 65,
     /// The type doesn't have so many bytes.
-    WrongFisLength,
+    WrongFisLength = 66,
     /// A flag that is neither 0 nor 1.
-    BadFlag,
+    BadFlag = 67,
     /// Bit 7 or 3 of a Set Device Bits FIS's status is 1.
-    BadStatus,
+    BadStatus = 68,
     /// The payload of a Data FIS is not 4 to 8,192 bytes, a multiple of 4.
-    BadPayload,
+    BadPayload = 69,
     /// An event that can't come where it stands.
-    NotAllowed,
+    NotAllowed = 80,
 }
 
 impl Status {
@@ -105,54 +105,6 @@ impl Status {
     pub fn code(self) -> u32
         ensures { result ≡ code_of self }
     {
-        match self {
-            Status::Done => 0,
-            Status::NoPort => 1,
-            Status::PortThere => 2,
-            Status::OutOfMemory => 3,
-            Status::BufferTooSmall => 4,
-            Status::WrongLength => 5,
-            Status::BadTag => 6,
-            Status::BadKind => 7,
-            Status::NoSuchSector => 8,
-            Status::NoSuchEntry => 9,
-            Status::TooManyTags => 10,
-            Status::BadSize => 11,
-            Status::BadDepth => 12,
-            Status::BadFirst => 13,
-            Status::Unaligned => 16,
-            Status::NoSuchRegister => 17,
-            Status::NotStarted => 18,
-            Status::NotReceiving => 19,
-            Status::Running => 20,
-            Status::NotQueued => 21,
-            Status::Halted => 32,
-            Status::NoSuchTag => 33,
-            Status::SlotOwned => 34,
-            Status::BadHeader => 35,
-            Status::BadCommand => 36,
-            Status::WrongTag => 37,
-            Status::BadList => 38,
-            Status::BadCount => 39,
-            Status::BadLba => 40,
-            Status::NotIssued => 41,
-            Status::NotAccepted => 42,
-            Status::OutsideCommand => 43,
-            Status::BadTags => 44,
-            Status::NotHalted => 45,
-            Status::NotHeld => 46,
-            Status::QueueBusy => 47,
-            Status::Stranger => 48,
-            Status::NotYet => 49,
-            Status::Busy => 50,
-            Status::Spent => 51,
-            Status::EmptyFis => 64,
-            Status::UnknownType => 65,
-            Status::WrongFisLength => 66,
-            Status::BadFlag => 67,
-            Status::BadStatus => 68,
-            Status::BadPayload => 69,
-            Status::NotAllowed => 80,
-        }
+        self as u32
     }
 }

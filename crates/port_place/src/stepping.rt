@@ -95,21 +95,10 @@ fn step<A: Allocator>(port: &mut Port<A>, step: DeviceStep, done: &mut FlatStep)
 fn flat_step(stepped: Stepped) -> FlatStep
     ensures { result ≡ flat_step stepped }
 {
-    match stepped {
-        Stepped::Accepted(first) => FlatStep {
-            first,
-            count: 1,
-            did: 0,
-        },
-        Stepped::Completed { first, count } => FlatStep {
-            first,
-            count,
-            did: 1,
-        },
-        Stepped::Failed(first) => FlatStep {
-            first,
-            count: 1,
-            did: 2,
-        },
-    }
+    let (first, count, did) = match stepped {
+        Stepped::Accepted(first) => (first, 1, 0),
+        Stepped::Completed { first, count } => (first, count, 1),
+        Stepped::Failed(first) => (first, 1, 2),
+    };
+    FlatStep { first, count, did }
 }

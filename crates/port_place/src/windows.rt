@@ -1,13 +1,14 @@
 //! A window as it lies in memory, looked at with no port.
 
-ghost use Rattle.std.specs.Prelude.{◌≡◌, ◌<◌, ◌≤◌, length};
+ghost use Rattle.std.specs.Prelude.{◌≡◌, length, None};
 ghost use Rattle.ahci_table.specs.Command.{queued_of};
 ghost use Rattle.ahci_table.specs.Prdt.{pieces};
 ghost use Rattle.port_place.specs.Alone.{AnswersCheck, AnswersWindowCheck, flat_command};
+ghost use Rattle.port_place.specs.Making.{Makes};
+ghost use Rattle.port_place.specs.Refusals.{with_length, with_tag};
 
 use crate::faults::table_status;
 use crate::flat::FlatCommand;
-use crate::issuing::header_of;
 use crate::status::Status;
 use ahci_table::{Command, Window};
 use std::alloc::Allocator;
@@ -22,33 +23,34 @@ pub fn window_check<A: Allocator>(
 ) -> Status
     ensures { AnswersCheck tag header.now memory.now result command.old command.new }
 {
-    if tag >= 32 {
-        return Status::BadTag;
+    match window_of(alloc, tag, header, memory) {
+        Ok(window) => look(&window, command),
+        Err(refusal) => refusal,
     }
-    if header.len() != 32 {
-        return Status::WrongLength;
-    }
-    check_copy(alloc, tag as u8, header_of(header), memory, command)
 }
 
-/// The same of a window whose memory is copied.
-fn check_copy<A: Allocator>(
+/// The window of a header, and of a copy of the memory from the tag's base on.
+pub(crate) fn window_of<A: Allocator>(
     alloc: A,
-    tag: u8,
-    header: [u8; 32],
+    tag: u32,
+    header: &[u8],
     memory: &[u8],
-    command: &mut FlatCommand,
-) -> Status
-    requires { tag < 32 }
-    ensures { AnswersWindowCheck (record { tag = tag; header = header; bytes = memory.now }) result command.old command.new }
+) -> Result<Window<A>, Status>
+    ensures { Makes (with_tag tag (with_length 32 (length header.now) None)) result (λ w. w ≡ record { tag = tag; header = header.now; bytes = memory.now }) }
 {
-    let Ok(bytes) = Vec::from_slice(alloc, memory) else {
-        return Status::OutOfMemory;
+    if tag >= 32 {
+        return Err(Status::BadTag);
+    }
+    let Ok(header) = <[u8; 32]>::try_from(header) else {
+        return Err(Status::WrongLength);
     };
-    look(&Window::from_parts(tag, header, bytes), command)
+    match Vec::from_slice(alloc, memory) {
+        Ok(bytes) => Ok(Window::from_parts(tag as u8, header, bytes)),
+        Err(_) => Err(Status::OutOfMemory),
+    }
 }
 
-/// The same of a window.
+/// The same of a window that is copied.
 fn look<A: Allocator>(window: &Window<A>, command: &mut FlatCommand) -> Status
     ensures { AnswersWindowCheck window.now result command.old command.new }
 {

@@ -1,6 +1,6 @@
 //! What a driver writes to the registers, and reads of them between its writes.
 
-ghost use Rattle.std.specs.Prelude.{◌≡◌, length};
+ghost use Rattle.std.specs.Prelude.{◌≡◌};
 ghost use Rattle.ahci_port.specs.Writes.{shown};
 ghost use Rattle.ahci_regs.specs.Reading.{read_of};
 ghost use Rattle.port_place.specs.Done.{AnswersRegister};
@@ -11,9 +11,6 @@ use crate::flat::FlatWritten;
 use crate::status::Status;
 use ahci_port::{Pending, Port, WriteFault, Written};
 use std::alloc::Allocator;
-
-/// How many bytes a command list of 32 headers has.
-const LIST: usize = 1024;
 
 /// Takes a word that a driver writes to the register at an offset. A newly set bit of PxCI issues the command of that slot: its
 /// header stands in `list`, and its window in a 32nd part of `windows`. `done` tells what the write did, and of a command that
@@ -29,20 +26,10 @@ pub fn write_register<A: Allocator + Clone>(
 ) -> Status
     ensures { AnswersWrite offset word list.now windows.now result port.old port.new pending.old pending.new done.old done.new }
 {
-    if list.len() != LIST {
+    let Ok(list) = <&[u8; 1024]>::try_from(list) else {
         return Status::WrongLength;
-    }
-    write_word(port, pending, offset, word, &list_of(list), windows, done)
-}
-
-/// The bytes of a command list.
-fn list_of(bytes: &[u8]) -> [u8; 1024]
-    requires { length bytes.now ≡ 1024 }
-    ensures { result ≡ bytes.now }
-{
-    let mut list = [0; 1024];
-    list.copy_from_slice(bytes);
-    list
+    };
+    write_word(port, pending, offset, word, list, windows, done)
 }
 
 /// The same of a command list of the right length.
@@ -73,24 +60,12 @@ fn write_word<A: Allocator + Clone>(
 fn flat_written(did: Written) -> FlatWritten
     ensures { result ≡ flat_written did }
 {
-    let nothing = FlatWritten {
-        did: 0,
-        slots: 0,
-        tag: 0,
+    let (did, slots, tag) = match did {
+        Written::Noted => (0, 0, 0),
+        Written::Commanded(slots) => (1, slots, 0),
+        Written::Recovered(tag) => (2, 0, u32::from(tag)),
     };
-    match did {
-        Written::Noted => nothing,
-        Written::Commanded(slots) => FlatWritten {
-            did: 1,
-            slots,
-            ..nothing
-        },
-        Written::Recovered(tag) => FlatWritten {
-            did: 2,
-            tag: u32::from(tag),
-            ..nothing
-        },
-    }
+    FlatWritten { did, slots, tag }
 }
 
 /// What is told of a write that was refused, where this stood before.

@@ -23,15 +23,20 @@ fn is_number(bytes: &[u8], places: &[usize], mut n: u64) -> bool {
     n == 0
 }
 
+/// What both Register FISes and PIO Setup have at the same places.
+fn is_at(bytes: &[u8], lba: u64, device: u8, count: u16) -> bool {
+    is_number(bytes, &[4, 5, 6, 8, 9, 10], lba)
+        && is_number(bytes, &[7], u64::from(device))
+        && is_number(bytes, &[12, 13], u64::from(count))
+}
+
 fn is_h2d(bytes: &[u8], f: &H2d) -> bool {
     is_number(bytes, &[0], 0x27)
         && bytes.len() == 20
         && f.c == bit(bytes, 1, 7)
         && is_number(bytes, &[2], u64::from(f.command))
         && is_number(bytes, &[3, 11], u64::from(f.features))
-        && is_number(bytes, &[4, 5, 6, 8, 9, 10], f.lba)
-        && is_number(bytes, &[7], u64::from(f.device))
-        && is_number(bytes, &[12, 13], u64::from(f.count))
+        && is_at(bytes, f.lba, f.device, f.count)
         && is_number(bytes, &[15], u64::from(f.control))
 }
 
@@ -41,9 +46,7 @@ fn is_d2h(bytes: &[u8], f: &D2h) -> bool {
         && f.i == bit(bytes, 1, 6)
         && is_number(bytes, &[2], u64::from(f.status))
         && is_number(bytes, &[3], u64::from(f.error))
-        && is_number(bytes, &[4, 5, 6, 8, 9, 10], f.lba)
-        && is_number(bytes, &[7], u64::from(f.device))
-        && is_number(bytes, &[12, 13], u64::from(f.count))
+        && is_at(bytes, f.lba, f.device, f.count)
 }
 
 fn is_dma_setup(bytes: &[u8], f: &DmaSetup) -> bool {
@@ -66,9 +69,7 @@ fn is_pio_setup(bytes: &[u8], f: &PioSetup) -> bool {
         && f.d == bit(bytes, 1, 5)
         && is_number(bytes, &[2], u64::from(f.status))
         && is_number(bytes, &[3], u64::from(f.error))
-        && is_number(bytes, &[4, 5, 6, 8, 9, 10], f.lba)
-        && is_number(bytes, &[7], u64::from(f.device))
-        && is_number(bytes, &[12, 13], u64::from(f.count))
+        && is_at(bytes, f.lba, f.device, f.count)
         && is_number(bytes, &[15], u64::from(f.e_status))
         && is_number(bytes, &[16, 17], u64::from(f.bytes))
 }

@@ -2,17 +2,30 @@
 
 use sata_fis::{D2h, DmaSetup, Fis, H2d, Payload, PioSetup, SetBits};
 
+/// A command of which nothing is told.
+const COMMAND: H2d = H2d {
+    c: true,
+    command: 0,
+    features: 0,
+    lba: 0,
+    device: 0,
+    count: 0,
+    control: 0,
+};
+
+/// READ FPDMA QUEUED of 8 sectors at LBA 123456789Ah with tag 5.
+pub const READ: H2d = H2d {
+    command: 0x60,
+    features: 8,
+    lba: 0x12_3456_789A,
+    device: 0x40,
+    count: 0x28,
+    ..COMMAND
+};
+
 /// A command without queueing.
 fn plain(command: u8) -> Fis<'static> {
-    Fis::H2d(H2d {
-        c: true,
-        command,
-        features: 0,
-        lba: 0,
-        device: 0,
-        count: 0,
-        control: 0,
-    })
+    Fis::H2d(H2d { command, ..COMMAND })
 }
 
 /// The answer to a command, with I = 1.
@@ -50,13 +63,10 @@ pub fn commands() -> [(&'static [u8], Fis<'static>); 7] {
                 0x27, 0x80, 0x2F, 0, 0x10, 0, 0, 0, 0, 0, 0, 0, 1, 0, 0, 0, 0, 0, 0, 0,
             ],
             Fis::H2d(H2d {
-                c: true,
                 command: 0x2F,
-                features: 0,
                 lba: 0x10,
-                device: 0,
                 count: 1,
-                control: 0,
+                ..COMMAND
             }),
         ),
         // READ FPDMA QUEUED, 8 sectors at LBA 123456789Ah, tag 5
@@ -65,15 +75,7 @@ pub fn commands() -> [(&'static [u8], Fis<'static>); 7] {
                 0x27, 0x80, 0x60, 8, 0x9A, 0x78, 0x56, 0x40, 0x34, 0x12, 0, 0, 0x28, 0, 0, 0, 0, 0,
                 0, 0,
             ],
-            Fis::H2d(H2d {
-                c: true,
-                command: 0x60,
-                features: 8,
-                lba: 0x12_3456_789A,
-                device: 0x40,
-                count: 0x28,
-                control: 0,
-            }),
+            Fis::H2d(READ),
         ),
         // WRITE FPDMA QUEUED, 1 sector at LBA 3, tag 1
         (
@@ -81,13 +83,12 @@ pub fn commands() -> [(&'static [u8], Fis<'static>); 7] {
                 0x27, 0x80, 0x61, 1, 3, 0, 0, 0x40, 0, 0, 0, 0, 8, 0, 0, 0, 0, 0, 0, 0,
             ],
             Fis::H2d(H2d {
-                c: true,
                 command: 0x61,
                 features: 1,
                 lba: 3,
                 device: 0x40,
                 count: 8,
-                control: 0,
+                ..COMMAND
             }),
         ),
         // READ FPDMA QUEUED, 8 sectors at LBA 0, tag 18
@@ -96,13 +97,12 @@ pub fn commands() -> [(&'static [u8], Fis<'static>); 7] {
                 0x27, 0x80, 0x60, 8, 0, 0, 0, 0x40, 0, 0, 0, 0, 0x90, 0, 0, 8, 0, 0, 0, 0,
             ],
             Fis::H2d(H2d {
-                c: true,
                 command: 0x60,
                 features: 8,
-                lba: 0,
                 device: 0x40,
                 count: 0x90,
                 control: 8,
+                ..COMMAND
             }),
         ),
         // READ LOG EXT of log 10h, one page
@@ -111,13 +111,12 @@ pub fn commands() -> [(&'static [u8], Fis<'static>); 7] {
                 0x27, 0x80, 0x2F, 0, 0x10, 0, 0, 0xA0, 0, 0, 0, 0, 1, 0, 0, 8, 0, 0, 0, 0,
             ],
             Fis::H2d(H2d {
-                c: true,
                 command: 0x2F,
-                features: 0,
                 lba: 0x10,
                 device: 0xA0,
                 count: 1,
                 control: 8,
+                ..COMMAND
             }),
         ),
     ]

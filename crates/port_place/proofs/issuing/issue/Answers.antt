@@ -1,18 +1,12 @@
-use Rattle.std.proofs.Common.{None, length, subst, sym, ◌∙◌}
-use Rattle.ahci_table.specs.Window.{WindowState}
-use Rattle.port_place.specs.Asked.{AnswersCopy, AnswersUnless}
-use Rattle.port_place.specs.Done.{Same}
-use Rattle.port_place.specs.Refusals.{with_length}
-use Rattle.port_place.proofs.ArgumentLemmas.{with_small, with_whole}
+use Rattle.std.proofs.Common.{refl}
+use Rattle.port_place.specs.Asked.{AnswersCopy, is_answered, lacks_memory}
+use Rattle.port_place.proofs.ArgumentLemmas.{no_window, on_window}
 use Rattle.port_place.proofs.issuing.issue.Goals as goal
 
-pub returns : goal.returns
-returns g c =
-    let a = c.args in
-    let window : WindowState = record { tag = a.tag; header = a.header.now; bytes = a.memory.now } in
-    let len = length a.header.now in
-    subst
-    (λ reason. AnswersUnless reason c.hand_copy.result (AnswersCopy window c.hand_copy.result a.port.now c.hand_copy.new.port a.number.now c.hand_copy.new.number)
-    (Same a.port.now c.hand_copy.new.port a.number.now c.hand_copy.new.number))
-    (sym (with_small a.tag (with_length 32 len None) c.if-tag-ge32.false ∙ with_whole 32 len None c.if-header-ne32.false))
-    (subst (λ header. AnswersCopy (record window { header = header }) c.hand_copy.result a.port.now c.hand_copy.new.port a.number.now c.hand_copy.new.number) c.header_of.ensures c.hand_copy.ensures)
+pub returns-in-Ok : goal.returns-in-Ok
+returns-in-Ok g c =
+    let after = c.hand_in.new in
+    on_window _ _ _ _ (λ w. AnswersCopy w c.hand_in.result c.args.port.now after.port c.args.number.now after.number) _ c.in-Ok.ensures (is_answered c.hand_in.ensures)
+
+pub returns-in-Err : goal.returns-in-Err
+returns-in-Err g c = no_window _ _ _ _ _ c.in-Err.ensures (λ is. lacks_memory is refl refl) (refl, refl)

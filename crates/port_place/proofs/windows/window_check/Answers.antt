@@ -1,17 +1,10 @@
-use Rattle.std.proofs.Common.{◌≡◌, None, length, subst, sym, ◌∙◌}
-use Rattle.ahci_table.specs.Window.{WindowState}
-use Rattle.port_place.specs.Alone.{AnswersWindowCheck}
-use Rattle.port_place.specs.Asked.{AnswersUnless}
-use Rattle.port_place.specs.Refusals.{with_length}
-use Rattle.port_place.proofs.ArgumentLemmas.{with_small, with_whole}
+use Rattle.std.proofs.Common.{refl}
+use Rattle.port_place.specs.Alone.{AnswersWindowCheck, lacks_memory}
+use Rattle.port_place.proofs.ArgumentLemmas.{no_window, on_window}
 use Rattle.port_place.proofs.windows.window_check.Goals as goal
 
-pub returns : goal.returns
-returns g c =
-    let a = c.args in
-    let window : WindowState = record { tag = a.tag; header = a.header.now; bytes = a.memory.now } in
-    let len = length a.header.now in
-    subst
-    (λ reason. AnswersUnless reason c.check_copy.result (AnswersWindowCheck window c.check_copy.result a.command.now c.check_copy.new.command) (c.check_copy.new.command ≡ a.command.now))
-    (sym (with_small a.tag (with_length 32 len None) c.if-tag-ge32.false ∙ with_whole 32 len None c.if-header-ne32.false))
-    (subst (λ header. AnswersWindowCheck (record window { header = header }) c.check_copy.result a.command.now c.check_copy.new.command) c.header_of.ensures c.check_copy.ensures)
+pub returns-in-Ok : goal.returns-in-Ok
+returns-in-Ok g c = on_window _ _ _ _ (λ w. AnswersWindowCheck w c.look.result c.args.command.now c.look.new.command) _ c.in-Ok.ensures c.look.ensures
+
+pub returns-in-Err : goal.returns-in-Err
+returns-in-Err g c = no_window _ _ _ _ _ c.in-Err.ensures (λ is. lacks_memory is refl) refl

@@ -12,4 +12,4 @@ returns g c =
     let word = λ (list : List ℕ). AnswersWord a.offset a.word list a.windows.now c.write_word.result a.port.now new.port a.pending.now new.pending a.done.now new.done in
     subst
     (λ reason. AnswersUnless reason c.write_word.result (word a.list.now) ((new.port ≡ a.port.now) × (new.pending ≡ a.pending.now) × (new.done ≡ a.done.now)))
-    (sym (with_whole list_bytes len None c.if-list-ne-LIST.false)) (subst word c.list_of.ensures c.write_word.ensures)
+    (sym (with_whole list_bytes len None c.in-Ok.ensures.1.long)) (subst word c.in-Ok.ensures.1.same c.write_word.ensures)
