@@ -9,18 +9,22 @@ use Rattle.ata_pages.specs.LogText.{log_text}
 use Rattle.ata_pages.specs.declared.page_fault.PageFault.{PageFault}
 use Rattle.ata_pages.specs.declared.page_fault.PageFault.TheVariants as fault
 
--- the identify page of a disk of s sectors with d tags: its bytes, or its text
+-- a page as it is, or its text
+abbrev pub output_as : Bool → List ℕ → List ℕ → List ℕ
+output_as raw page text = if raw then page else text
+
+-- the identify page of a disk of s sectors with d tags
 abbrev pub identify_output : ℕ → ℕ → Bool → List ℕ
-identify_output s d raw = if raw then identify_page s d else identify_text (identify_page s d)
+identify_output s d raw = output_as raw (identify_page s d) (identify_text (identify_page s d))
 
 -- an error: the tag of the command that failed, the error byte and the LBA of the failing sector
 abbrev pub error_at : ℕ → ℕ → ℕ → DiskError
 error_at tag error lba = record { tag = tag; error = error; lba = lba }
 
--- page 0 of log 10h after an error: its bytes, or its text
+-- page 0 of log 10h after an error
 abbrev pub log_output : ℕ → ℕ → ℕ → Bool → List ℕ
 log_output tag error lba raw =
-    if raw then log_page (error_at tag error lba) else log_text (log_page (error_at tag error lba))
+    output_as raw (log_page (error_at tag error lba)) (log_text (log_page (error_at tag error lba)))
 
 -- how the writes went where a page is not written to its end: a write or a flush failed, and the fault is that; or none was tried
 abbrev pub WritesAs : WrittenSoFar → WrittenSoFar → PageFault → Type 0

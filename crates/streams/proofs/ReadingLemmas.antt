@@ -166,6 +166,24 @@ first P r a to h holds = record {
   holds = holds;
 }
 
+-- lines at the front of an input, of which something more is known
+pub first_map : {S : Type 0} {Takes : Step S} (P Q : List Bytes → Known → Bytes → S → Type 0) (r : Known) (a : S)
+    → ((lines : List Bytes) (remaining : Known) (rest : Bytes) (to : S) → P lines remaining rest to → Q lines remaining rest to) → TakenFirst Takes r a P → TakenFirst Takes r a Q
+first_map P Q r a g h = record {
+  lines = h.lines;
+  rest = h.rest;
+  remaining = h.remaining;
+  to = h.to;
+  taken = h.taken;
+  consumed = h.consumed;
+  holds = g h.lines h.remaining h.rest h.to h.holds;
+}
+
+-- none was taken
+pub first_none : {S : Type 0} {Takes : Step S} (Q : List Bytes → Known → Bytes → S → Type 0) (r : Known) (a : S) → Q [] r [] a → TakenFirst Takes r a Q
+first_none Q r a holds =
+    record { lines = []; rest = []; remaining = r; to = a; taken = nothing a 1; consumed = Consumes-nil r; holds = holds }
+
 -- all lines were taken
 pub reads_all : {S : Type 0} {Takes : Step S} (r : Known) (a : S) (to : Stand S) → Ends Takes (start r a) to → ReadsAll Takes r to.remaining a to.state
 reads_all {S} {Takes} r a to e =

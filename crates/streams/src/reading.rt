@@ -92,10 +92,16 @@ impl<A: Allocator> Reading<A> {
         ensures end { IfOk result (λ more. more ≡ false → MayEnd (R.remaining reader.new) self.new.input.bytes) }
         ensures less { IfOk result (λ more. more ≡ true → left_in self.new < left_in self.old) }
     {
+        let number = self.line + 1;
         let length = match self.input.find_line() {
             Found::TooLong => return Ok(false),
-            Found::Unfinished => return self.more(reader, reads, taker, output),
-            Found::Line(line) => match taker.take(self.line + 1, Found::Line(line), output) {
+            Found::Unfinished => {
+                return match taker.take(number, Found::Unfinished, output) {
+                    Ok(()) => Ok(self.input.fill(reader, reads, &*taker, &*output)?),
+                    Err(fault) => Err(Stopped::Taker(fault)),
+                };
+            }
+            Found::Line(line) => match taker.take(number, Found::Line(line), output) {
                 Ok(()) => line.len(),
                 Err(fault) => return Err(Stopped::Taker(fault)),
             },
@@ -103,33 +109,6 @@ impl<A: Allocator> Reading<A> {
         self.input.skip(length + 1);
         self.line += 1;
         Ok(true)
-    }
-
-    /// Reads more of the input, of which no whole line is left. `false` at its end.
-    fn more<T: TakesLines<O>, O, R: Read>(
-        &mut self,
-        reader: &mut R,
-        reads: &mut Reads,
-        taker: &mut T,
-        output: &mut O,
-    ) -> Result<bool, Stopped<T::Fault>>
-        requires counted { self.old.input.came ≤ reads.old.came }
-        requires short { length self.old.input.bytes ≤ LINE_LIMIT }
-        requires unfinished { found_of self.old.input.bytes ≡ unfinished }
-        ensures ok { OnOk result (HasRead T.Takes (stand (R.remaining reader.old) (taker.old, output.old) self.old)
-            (stand (R.remaining reader.new) (taker.new, output.new) self.new)) }
-        ensures err { IfErr result (Halts T.Takes T.Refuses (stand (R.remaining reader.old) (taker.old, output.old) self.old)
-            (stand (R.remaining reader.new) (taker.new, output.new) self.new)) }
-        ensures counted { self.new.input.came ≤ reads.new.came }
-        ensures unfailed { OnOk result (reads.new.failed ≡ reads.old.failed) }
-        ensures why { IfErr result (ReadsAs reads.old reads.new) }
-        ensures end { IfOk result (λ more. more ≡ false → MayEnd (R.remaining reader.new) self.new.input.bytes) }
-        ensures less { IfOk result (λ more. more ≡ true → left_in self.new < left_in self.old) }
-    {
-        match taker.take(self.line + 1, Found::Unfinished, output) {
-            Ok(()) => Ok(self.input.fill(reader, reads, &*taker, &*output)?),
-            Err(fault) => Err(Stopped::Taker(fault)),
-        }
     }
 }
 
