@@ -1,10 +1,11 @@
 -- Lemmas about what is told of lines, and how a check ends.
-use Rattle.std.proofs.Common.{◌≡◌, ℕ, ◌+◌, ◌||◌, Bool, true, false, List, [], ◌∷◌, ◌++◌, Option, None, is_some, length, refl, sym, ap, ◌∙◌, subst, inl, inr, append_assoc, append-nil}
+use Rattle.std.proofs.Common.{◌≡◌, ℕ, ◌+◌, ◌||◌, Bool, true, false, List, [], ◌∷◌, ◌++◌, Option, is_some, length, refl, sym, ap, ◌∙◌, subst, inl, inr, append_assoc, append-nil}
 use Rattle.std.proofs.KnownBytes.{Appends-nil, Appends-trans, Consumes-nil}
 use Rattle.std.specs.Io.KnownBytes.{Appends}
 use Rattle.streams.specs.Ends.{ReadSoFar, WrittenSoFar, with_failed_write, with_flush}
 use Rattle.ahci_replay.proofs.TranscriptLemmas.{sent_all, sent_part, with_flush_same}
 use Rattle.ahci_replay.specs.Transcript.{Sends, WritesPart}
+use Rattle.streams.proofs.ReadingLemmas.{first_map, first_none}
 use Rattle.streams.specs.Reading as reading
 use Rattle.streams.specs.Reading.{Comes, MayEnd, ReadsAll, ReadsAs, Step, StopsReading, Taken, TakenFirst, last_by, last_of}
 use Rattle.streams.specs.Unread.{Begins, MayFail, found_of, unfinished, whole, with_feeds}
@@ -129,20 +130,6 @@ pub put_failed : (c d : Known) (old mid new : Desk) (complaint : Said) (next : J
     → new.writes ≡ with_failed_write mid.writes → FailsTelling (stand c old) complaint Write (stand d new)
 put_failed c d old mid new complaint next is part failed = (subst (WritesPart c d) (ap (λ (x : Desk). x.waiting) is) part, failed)
 
--- what waited is written
-pub sent_now : (c d : Known) (old new : Desk) → Appends c d old.waiting → new.waiting ≡ [] → new.form ≡ old.form → new.judge ≡ old.judge → new.found ≡ old.found → new.writes ≡ with_flush old.writes
-    → Tells (stand c old) None old.judge (stand d new)
-sent_now c d old new written empty form judge found writes = record {
-  sends = record { sent = old.waiting; written = written; said = ap (λ l. old.waiting ++ l) (sym empty) };
-  form_same = form;
-  judge_is = judge;
-  found_is = found ∙ sym (or_false old.found);
-  unfailed = ap (λ (w : WrittenSoFar). w.failed) writes;
-}
-
-pub part_now : (c d : Known) (old new : Desk) → WritesPart c d old.waiting → new.writes ≡ with_failed_write old.writes → FailsTelling (stand c old) None Write (stand d new)
-part_now c d old new part failed = (subst (WritesPart c d) (sym (append-nil old.waiting)) part, failed)
-
 -- ---- lines at the front of an input
 
 -- how whoever takes the lines goes on, whose stands these are
@@ -247,35 +234,11 @@ Why Write s lines remaining rest = ⊥
 -- a fault but of the output: what was told is as it was
 stopped_before : {S : Type 0} (f : S → Stand) (stop : Stopped CheckFault) (r s : Known) (a b : S) → is_of_output (fault_of stop) ≡ false → StopsReading (Goes f) (Fails f) r s a b stop
     → TakenFirst (Goes f) r a (λ lines remaining rest to. Stays (f to) (f b) × Why (fault_of stop) s lines remaining rest)
-stopped_before f stopped.Read r s a b other h = record {
-  lines = h.lines;
-  rest = h.rest;
-  remaining = h.remaining;
-  to = h.to;
-  taken = h.taken;
-  consumed = h.consumed;
-  holds = (stays (f h.to) (f b) (ap f h.holds.2), (h.holds.0, h.holds.1));
-}
-stopped_before f (stopped.Taker OutOfMemory) r s a b other h = record {
-  lines = h.lines;
-  rest = h.rest;
-  remaining = h.remaining;
-  to = h.to;
-  taken = h.taken;
-  consumed = h.consumed;
-  holds = (h.holds.1.2, tt);
-}
+stopped_before f stopped.Read r s a b other h = first_map _ _ r a (λ lines remaining rest to holds. (stays (f to) (f b) (ap f holds.2), (holds.0, holds.1))) h
+stopped_before f (stopped.Taker OutOfMemory) r s a b other h = first_map _ _ r a (λ lines remaining rest to holds. (holds.1.2, tt)) h
 stopped_before f (stopped.Taker Read) r s a b other h = absurd h.holds.1.2
 stopped_before f (stopped.Taker Write) r s a b other h = absurd (cc)
-stopped_before f stopped.OutOfMemory r s a b other h = record {
-  lines = [];
-  rest = [];
-  remaining = r;
-  to = a;
-  taken = reading.nothing a 1;
-  consumed = Consumes-nil r;
-  holds = (stays (f a) (f b) (ap f h.1), tt);
-}
+stopped_before f stopped.OutOfMemory r s a b other h = first_none _ r a (stays (f a) (f b) (ap f h.1), tt)
 
 ended : (form : Form) (judge : Judge) (fault : CheckFault) (r s c d : Known)
     → Judged r (λ lines remaining rest. Appends c d (sheet_of form judge lines).text × Why fault s lines remaining rest) → EndsCheck form judge r s c d fault

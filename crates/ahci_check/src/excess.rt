@@ -3,7 +3,7 @@
 ghost use Rattle.std.specs.Prelude.{◌≡◌, IfOk};
 ghost use Rattle.ahci_regs.specs.RegisterTable.{register_at};
 ghost use Rattle.ahci_script.specs.Lines.{HasSmallTag};
-ghost use Rattle.ahci_check.specs.Limits.{count_excess, disk_excess, excess_at, excess_before, excess_behind, excess_in, fail_excess, register_excess, sector_excess, tag_excess, transfer_excess};
+ghost use Rattle.ahci_check.specs.Limits.{count_excess, disk_excess, excess_at, excess_behind, excess_in, fail_excess, register_excess, sector_excess, tag_excess, transfer_excess};
 
 use crate::limit::Limit;
 use crate::place::Place;
@@ -44,25 +44,19 @@ pub(crate) fn excess_of<A: Allocator>(
     ensures { IfOk result (λ excess. excess ≡ excess_in place line.now command.now) }
 {
     let words = after_first(line);
-    match place {
-        Place::BeforeDisk => Ok(excess_before(words, command)),
-        Place::BehindDisk { sectors, depth } => {
+    match (place, command) {
+        (Place::BehindDisk { sectors, depth }, _) => {
             excess_behind(alloc, sectors, depth, words, command)
         }
-    }
-}
-
-/// The first limit that a line passes before the disk.
-fn excess_before(words: &[u8], command: &ScriptCommand<'_>) -> Option<Excess>
-    ensures { result ≡ excess_before words.now command.now }
-{
-    match command {
-        ScriptCommand::Disk {
-            sectors,
-            depth,
-            first,
-        } => disk_excess(words, *sectors, *depth, *first),
-        _ => None,
+        (
+            Place::BeforeDisk,
+            ScriptCommand::Disk {
+                sectors,
+                depth,
+                first,
+            },
+        ) => Ok(disk_excess(words, *sectors, *depth, *first)),
+        _ => Ok(None),
     }
 }
 

@@ -33,13 +33,12 @@ impl<A: Allocator> Model for Sheet<A> {
 }
 
 impl<A: Allocator + Clone> Sheet<A> {
-    ghost use Rattle.std.specs.Prelude.{◌≡◌, ◌≤◌, ◌↔◌, ◌++◌, false, [], length, IfErr, IfOk, IsTrue, None, OnErr, OnOk, Some};
+    ghost use Rattle.std.specs.Prelude.{◌≡◌, ◌≤◌, ◌↔◌, ◌++◌, false, true, [], length, IfErr, IfOk, IsTrue, OnErr, OnOk, Some};
     ghost use Rattle.std.specs.Io.KnownBytes.{Appends};
     ghost use Rattle.streams.specs.Ends.{with_failed_write, with_flush};
     ghost use Rattle.ahci_replay.specs.Transcript.{WritesPart};
-    ghost use Rattle.streams.specs.Unread.{too_long, whole};
-    ghost use Rattle.ahci_check.specs.Judges.{complaint_by, judge_after};
-    ghost use Rattle.ahci_check.specs.Sheets.{FailsJudging, FailsTelling, Judges, Tells, stand, told, with_put};
+    ghost use Rattle.streams.specs.Unread.{shown};
+    ghost use Rattle.ahci_check.specs.Sheets.{FailsTelling, Tells, next_judge, said_of, stand, told, with_put};
 
     /// No line was judged, and nothing written.
     pub(crate) fn new(alloc: A, form: Form, judge: Judge) -> Result<Self, AllocError>
@@ -62,56 +61,32 @@ impl<A: Allocator + Clone> Sheet<A> {
         self.found
     }
 
-    /// What there is to say of the line of the given number, and how the next one is judged.
-    fn judged(&self, number: u64, line: &[u8]) -> Result<(Option<Complaint>, Judge), AllocError>
-        ensures complaint { IfOk result (λ r. r.0 ≡ complaint_by self.now.judge number line.now) }
-        ensures next { IfOk result (λ r. r.1 ≡ judge_after self.now.judge line.now) }
+    /// What there is to say of what comes as the line of the given number, and how the next one is judged.
+    fn said(&self, number: u64, found: Found<'_>) -> Result<(Option<Complaint>, Judge), AllocError>
+        ensures complaint { IfOk result (λ r. r.0 ≡ said_of self.now.judge number (shown found.entry)) }
+        ensures next { IfOk result (λ r. r.1 ≡ next_judge self.now.judge (shown found.entry)) }
     {
-        self.judge.judge(self.alloc.clone()?, number, line)
+        match found {
+            Found::Line(line) => self.judge.judge(self.alloc.clone()?, number, line),
+            Found::TooLong => Ok((Some(long_line(number)), self.judge)),
+            Found::Unfinished => Ok((None, self.judge)),
+        }
     }
 
-    /// Judges the line of the given number.
-    fn take_line<W: Write>(
-        &mut self,
-        number: u64,
-        line: &[u8],
-        writer: &mut W,
-    ) -> Result<(), CheckFault>
-        ensures ok { OnOk result (Judges (stand (W.contents writer.old) self.old) number (whole line.now) (stand (W.contents writer.new) self.new)) }
-        ensures err { IfErr result (λ fault. FailsJudging (stand (W.contents writer.old) self.old) number (whole line.now) fault (stand (W.contents writer.new) self.new)) }
-    {
-        let (complaint, next) = self.judged(number, line)?;
-        self.tell(complaint, next, writer)
-    }
-
-    /// Complains that the line of the given number is too long.
-    fn take_long<W: Write>(&mut self, number: u64, writer: &mut W) -> Result<(), CheckFault>
-        ensures ok { OnOk result (Judges (stand (W.contents writer.old) self.old) number too_long (stand (W.contents writer.new) self.new)) }
-        ensures err { IfErr result (λ fault. FailsJudging (stand (W.contents writer.old) self.old) number too_long fault (stand (W.contents writer.new) self.new)) }
-    {
-        let next = self.judge();
-        self.tell(Some(long_line(number)), next, writer)
-    }
-
-    /// How the next line is judged.
-    fn judge(&self) -> Judge
-        ensures { result ≡ self.now.judge }
-    {
-        self.judge
-    }
-
-    /// Puts down what there is to say of a line, and how the next one is judged; writes what waits once it is enough.
+    /// Puts down what there is to say, and how the next line is judged; writes what waits once it is enough, or has to be sent.
     fn tell<W: Write>(
         &mut self,
         complaint: Option<Complaint>,
         next: Judge,
+        has_to_be_sent: bool,
         writer: &mut W,
     ) -> Result<(), CheckFault>
         ensures ok { OnOk result (Tells (stand (W.contents writer.old) self.old) complaint next (stand (W.contents writer.new) self.new)) }
         ensures err { IfErr result (λ fault. FailsTelling (stand (W.contents writer.old) self.old) complaint fault (stand (W.contents writer.new) self.new)) }
+        ensures sent { has_to_be_sent ≡ true → OnOk result (self.new.waiting ≡ []) }
     {
         self.put(complaint, next)?;
-        if !self.is_full() {
+        if !has_to_be_sent && !self.is_full() {
             return Ok(());
         }
         Ok(self.send(writer)?)
@@ -136,15 +111,6 @@ impl<A: Allocator + Clone> Sheet<A> {
         ensures found { self.new.found ≡ self.old.found }
     {
         self.text.send(writer, &mut self.writes)
-    }
-
-    /// Writes what waits before more of the input is read, which may wait for whoever writes it.
-    fn send_before_read<W: Write>(&mut self, writer: &mut W) -> Result<(), CheckFault>
-        ensures ok { OnOk result (Tells (stand (W.contents writer.old) self.old) None self.old.judge (stand (W.contents writer.new) self.new)) }
-        ensures err { IfErr result (λ fault. FailsTelling (stand (W.contents writer.old) self.old) None fault (stand (W.contents writer.new) self.new)) }
-        ensures sent { OnOk result (self.new.waiting ≡ []) }
-    {
-        Ok(self.send(writer)?)
     }
 
     /// Puts a complaint down, where there is one, and how the next line is judged.
@@ -202,10 +168,9 @@ impl<A: Allocator + Clone, W: Write> TakesLines<W> for Sheet<A> {
     ghost Refuses = { λ old number found fault new. FailsJudging (stand (W.contents old.1) old.0) number found fault (stand (W.contents new.1) new.0) };
 
     fn take(&mut self, number: u64, found: Found<'_>, writer: &mut W) -> Result<(), CheckFault> {
-        match found {
-            Found::Line(line) => self.take_line(number, line, writer),
-            Found::TooLong => self.take_long(number, writer),
-            Found::Unfinished => self.send_before_read(writer),
-        }
+        // Before a read, which may wait for whoever writes the input.
+        let is_before_read = matches!(found, Found::Unfinished);
+        let (complaint, next) = self.said(number, found)?;
+        self.tell(complaint, next, is_before_read, writer)
     }
 }

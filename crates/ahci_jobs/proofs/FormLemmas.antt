@@ -1,12 +1,12 @@
--- Lemmas about the other forms of a run.
-use Rattle.std.proofs.Common.{◌≡◌, ℕ, ◌+◌, ◌<◌, ◌≤◌, List, [], ◌∷◌, ◌++◌, length, take, map, get_or, refl, sym, ap, ◌∙◌, subst, append_assoc, append-nil, add-one, arith}
+-- Lemmas about what a form has of a run.
+use Rattle.std.proofs.Common.{◌≡◌, ℕ, ◌+◌, ◌<◌, List, [], ◌∷◌, ◌++◌, length, take, map, get_or, refl, sym, ap, ◌∙◌, append_assoc, append-nil, add-one, arith}
 use Rattle.std.proofs.lemmas.List.{length-map, length-take-le, map-append, take_more}
 use Rattle.ahci_driver.specs.Received.{Received, received_of}
 use Rattle.ahci_driver.specs.declared.receipt.Receipt.{Receipt}
 use Rattle.ahci_port.specs.PortView.{PortView}
 use Rattle.ncq_journal.specs.Sector.{sector}
-use Rattle.ahci_jobs.specs.Forms.{pieces_of}
-use Rattle.ahci_jobs.specs.Objects.{job_object, job_objects}
+use Rattle.ahci_jobs.specs.Forms.{job_in, jobs_in, pieces_of}
+use Rattle.ahci_jobs.specs.declared.form.Form.{Form}
 
 -- what grows by a piece after a text so far
 pub grown : (old so_far more text new : List ℕ) → text ≡ old ++ so_far → new ≡ text ++ more → new ≡ old ++ (so_far ++ more)
@@ -16,24 +16,24 @@ grown old so_far more text new first then = then ∙ ap (λ t. t ++ more) first 
 pub joined : (old a b one new : List ℕ) → one ≡ old ++ a → new ≡ one ++ b → new ≡ old ++ (a ++ b)
 joined old a b one new first then = grown old a b one new first then
 
--- the objects of some jobs, and of those that come after them
-objects-append : (workers job : ℕ) (xs ys : List Received) → job_objects workers job (xs ++ ys) ≡ job_objects workers job xs ++ job_objects workers (job + length xs) ys
-objects-append workers job [] ys = ap (λ j. job_objects workers j ys) (let e : job ≡ job + 0 = omega arith in e)
-objects-append workers job (x ∷ xs) ys =
-    ap (λ l. job_object workers job x ++ l)
-    (objects-append workers (job + 1) xs ys ∙ ap (λ j. job_objects workers (job + 1) xs ++ job_objects workers j ys) (let e : job + 1 + length xs ≡ job + length (x ∷ xs) = omega arith in e))
-    ∙ sym (append_assoc (job_object workers job x) (job_objects workers (job + 1) xs) (job_objects workers (job + length (x ∷ xs)) ys))
+-- what it has of some jobs, and of those that come after them
+jobs-append : (form : Form) (workers job : ℕ) (xs ys : List Received) → jobs_in form workers job (xs ++ ys) ≡ jobs_in form workers job xs ++ jobs_in form workers (job + length xs) ys
+jobs-append form workers job [] ys = ap (λ j. jobs_in form workers j ys) (let e : job ≡ job + 0 = omega arith in e)
+jobs-append form workers job (x ∷ xs) ys =
+    ap (λ l. job_in form workers job x ++ l)
+    (jobs-append form workers (job + 1) xs ys ∙ ap (λ j. jobs_in form workers (job + 1) xs ++ jobs_in form workers j ys) (let e : job + 1 + length xs ≡ job + length (x ∷ xs) = omega arith in e))
+    ∙ sym (append_assoc (job_in form workers job x) (jobs_in form workers (job + 1) xs) (jobs_in form workers (job + length (x ∷ xs)) ys))
 
 -- one job more
-objects_more : {A : _} (workers : ℕ) (rs : List (Receipt A)) (i : ℕ) (x : Receipt A) → i < length rs → x ≡ get_or rs i x
-    → job_objects workers 0 (map received_of (take i rs)) ++ job_object workers i (received_of x) ≡ job_objects workers 0 (map received_of (take (i + 1) rs))
-objects_more workers rs i x low is =
+jobs_more : {A : _} (form : Form) (workers : ℕ) (rs : List (Receipt A)) (i : ℕ) (x : Receipt A) → i < length rs → x ≡ get_or rs i x
+    → jobs_in form workers 0 (map received_of (take i rs)) ++ job_in form workers i (received_of x) ≡ jobs_in form workers 0 (map received_of (take (i + 1) rs))
+jobs_more form workers rs i x low is =
     sym (
-    ap (λ l. job_objects workers 0 (map received_of l)) (take_more rs i x low ∙ ap (λ y. take i rs ++ y ∷ []) (sym is))
-    ∙ ap (job_objects workers 0) (map-append received_of (take i rs) (x ∷ []))
-    ∙ objects-append workers 0 (map received_of (take i rs)) (received_of x ∷ [])
-    ∙ ap (λ j. job_objects workers 0 (map received_of (take i rs)) ++ job_objects workers j (received_of x ∷ [])) count
-    ∙ ap (λ l. job_objects workers 0 (map received_of (take i rs)) ++ l) (append-nil (job_object workers i (received_of x)))
+    ap (λ l. jobs_in form workers 0 (map received_of l)) (take_more rs i x low ∙ ap (λ y. take i rs ++ y ∷ []) (sym is))
+    ∙ ap (jobs_in form workers 0) (map-append received_of (take i rs) (x ∷ []))
+    ∙ jobs-append form workers 0 (map received_of (take i rs)) (received_of x ∷ [])
+    ∙ ap (λ j. jobs_in form workers 0 (map received_of (take i rs)) ++ jobs_in form workers j (received_of x ∷ [])) count
+    ∙ ap (λ l. jobs_in form workers 0 (map received_of (take i rs)) ++ l) (append-nil (job_in form workers i (received_of x)))
     )
   where
     count : 0 + length (map received_of (take i rs)) ≡ i
@@ -41,12 +41,12 @@ objects_more workers rs i x low is =
         let e : length (map received_of (take i rs)) ≡ i = length-map (take i rs) received_of ∙ length-take-le i rs (omega (arith, low)) in
         omega (arith, e)
 
-pub next_object : {A : _} (workers : ℕ) (old text new : List ℕ) (rs : List (Receipt A)) (i : ℕ) (x : Receipt A) → i < length rs → x ≡ get_or rs i x
-    → text ≡ old ++ job_objects workers 0 (map received_of (take i rs)) → new ≡ text ++ job_object workers i (received_of x)
-    → new ≡ old ++ job_objects workers 0 (map received_of (take (i + 1) rs))
-next_object workers old text new rs i x low is so_far then =
-    grown old (job_objects workers 0 (map received_of (take i rs))) (job_object workers i (received_of x)) text new so_far then
-    ∙ ap (λ l. old ++ l) (objects_more workers rs i x low is)
+pub next_job : {A : _} (form : Form) (workers : ℕ) (old text new : List ℕ) (rs : List (Receipt A)) (i : ℕ) (x : Receipt A) → i < length rs → x ≡ get_or rs i x
+    → text ≡ old ++ jobs_in form workers 0 (map received_of (take i rs)) → new ≡ text ++ job_in form workers i (received_of x)
+    → new ≡ old ++ jobs_in form workers 0 (map received_of (take (i + 1) rs))
+next_job form workers old text new rs i x low is so_far then =
+    grown old (jobs_in form workers 0 (map received_of (take i rs))) (job_in form workers i (received_of x)) text new so_far then
+    ∙ ap (λ l. old ++ l) (jobs_more form workers rs i x low is)
 
 -- one sector more
 pub next_piece : (piece : ℕ → List ℕ → List ℕ) (port : PortView) (old text new : List ℕ) (k : ℕ) → text ≡ old ++ pieces_of piece port k

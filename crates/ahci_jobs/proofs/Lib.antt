@@ -1,5 +1,4 @@
 pub mod ListLemmas
 pub mod RunningLemmas
-pub mod TellingLemmas
 mod FormLemmas
 mod NotedLemmas

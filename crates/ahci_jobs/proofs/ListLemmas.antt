@@ -1,5 +1,5 @@
 -- Lemmas about how a job list is read.
-use Rattle.std.proofs.Common.{◌≡◌, ℕ, ◌+◌, List, [], ◌++◌, Option, length, sym, ap, ◌∙◌, subst, inl, inr, append_assoc, append-nil}
+use Rattle.std.proofs.Common.{◌≡◌, ℕ, ◌+◌, List, [], ◌++◌, Option, length, refl, sym, ap, ◌∙◌, subst, inl, inr, append_assoc, append-nil}
 use Rattle.std.proofs.KnownBytes.{Consumes-nil}
 use Rattle.std.specs.Io.KnownBytes.{Consumes, IsAtEnd}
 use Rattle.ahci_script.specs.Jobs.{job_line_of}
@@ -10,10 +10,10 @@ use Rattle.streams.specs.declared.stopped.Stopped.{Stopped}
 use Rattle.streams.specs.declared.stopped.Stopped.TheVariants as stopped
 use Rattle.ncq_journal.specs.Work.{Work}
 use Rattle.streams.specs.Ends.{ReadSoFar}
-use Rattle.ahci_jobs.specs.Faults.{ListReads, list_fault_of}
+use Rattle.ahci_jobs.specs.Faults.{RunReads, list_fault_of}
 use Rattle.ahci_jobs.specs.JobList.{AreGood, IsBadNext, IsFaulty, IsListFault, IsListed, ListedFirst, Refuses, Takes, asked_in, commands_of, no_line, one_more}
-use Rattle.ahci_jobs.specs.declared.list_fault.ListFault.{ListFault}
-use Rattle.ahci_jobs.specs.declared.list_fault.ListFault.TheVariants.{Line, Job, Read, OutOfMemory}
+use Rattle.ahci_jobs.specs.declared.jobs_fault.JobsFault.{JobsFault}
+use Rattle.ahci_jobs.specs.declared.jobs_fault.JobsFault.TheVariants.{Line, Job, Read, Write, Unsettled, Lost, OutOfMemory}
 
 abbrev pub Known : Type 0
 Known = Option (List ℕ)
@@ -25,7 +25,7 @@ Lines = List (List ℕ)
 abbrev Goes : {S : Type 0} → (S → List Work) → Step S
 Goes f old number found new = Takes (f old) found (f new)
 
-abbrev Fails : {S : Type 0} → (S → List Work) → S → ℕ → Begins → ListFault → S → Type 0
+abbrev Fails : {S : Type 0} → (S → List Work) → S → ℕ → Begins → JobsFault → S → Type 0
 Fails f old number found fault new = Refuses (f old) number found fault
 
 -- the lines are good, and ask for what was added
@@ -77,41 +77,44 @@ listed_all f r s a b new h =
     }
 
 -- why a list ends after good lines
-abbrev Why : ListFault → Lines → Known → List ℕ → Type 0
+abbrev Why : JobsFault → Lines → Known → List ℕ → Type 0
 Why (Line n) lines remaining rest = (n ≡ length lines + 1) × IsFaulty remaining rest
 Why (Job i) lines remaining rest = (i ≡ length (asked_in lines)) × IsBadNext remaining rest
-Why Read lines remaining rest = ⊥
 Why OutOfMemory lines remaining rest = Unit {0}
+Why fault lines remaining rest = ⊥
 
-refused : (fault : ListFault) (found : Begins) (lines : Lines) (s : Known) (rest : List ℕ) → Comes s rest found → Refuses (asked_in lines) (length lines + 1) found fault
+-- the next line is refused
+refused_line : (fault : JobsFault) (line : List ℕ) (lines : Lines) (s : Known) (rest : List ℕ) → Comes s rest (whole line) → Refuses (asked_in lines) (length lines + 1) (whole line) fault
     → Why fault lines s rest
-refused (Line n) (whole line) lines s rest comes h = (h.0, inr (line, comes, h.1))
-refused (Line n) too_long lines s rest comes h = (ap number h, inl comes)
-  where
-    number : ListFault → ℕ
-    number (Line k) = k
-    number f = 0
-refused (Line n) unfinished lines s rest comes h = absurd h
-refused (Job i) (whole line) lines s rest comes h = (h.0, (line, comes, h.1))
-refused (Job i) too_long lines s rest comes h = absurd (cc)
-refused (Job i) unfinished lines s rest comes h = absurd h
-refused Read (whole line) lines s rest comes h = absurd h
-refused Read too_long lines s rest comes h = absurd (cc)
-refused Read unfinished lines s rest comes h = absurd h
-refused OutOfMemory found lines s rest comes h = tt
+refused_line (Line n) line lines s rest comes h = (h.0, inr (line, comes, h.1))
+refused_line (Job i) line lines s rest comes h = (h.0, (line, comes, h.1))
+refused_line OutOfMemory line lines s rest comes h = tt
+refused_line Read line lines s rest comes h = absurd h
+refused_line Write line lines s rest comes h = absurd h
+refused_line Unsettled line lines s rest comes h = absurd h
+refused_line (Lost i) line lines s rest comes h = absurd h
 
-told : (fault : ListFault) (r s : Known) → ListedFirst r (Why fault) → IsListFault r s fault
+refused : (fault : JobsFault) (found : Begins) (lines : Lines) (s : Known) (rest : List ℕ) → Comes s rest found → Refuses (asked_in lines) (length lines + 1) found fault
+    → Why fault lines s rest
+refused fault (whole line) lines s rest comes h = refused_line fault line lines s rest comes h
+refused fault too_long lines s rest comes h = subst (λ f. Why f lines s rest) (sym h) (refl, inl comes)
+refused fault unfinished lines s rest comes h = absurd h
+
+told : (fault : JobsFault) (r s : Known) → ListedFirst r (Why fault) → IsListFault r s fault
 told (Line n) r s h = h
 told (Job i) r s h = h
-told Read r s h = absurd h.holds
 told OutOfMemory r s h = h
+told Read r s h = absurd h.holds
+told Write r s h = absurd h.holds
+told Unsettled r s h = absurd h.holds
+told (Lost i) r s h = absurd h.holds
 
 -- no memory at the start
 pub nothing_listed : (r : Known) → IsListFault r r OutOfMemory
 nothing_listed r = record { lines = []; rest = []; remaining = r; good = no_line; consumed = Consumes-nil r; holds = tt }
 
 -- how a fault ends a list
-pub list_fault : {S : Type 0} (f : S → List Work) (stop : Stopped ListFault) (r s : Known) (a b : S) → f a ≡ [] → StopsReading (Goes f) (Fails f) r s a b stop
+pub list_fault : {S : Type 0} (f : S → List Work) (stop : Stopped JobsFault) (r s : Known) (a b : S) → f a ≡ [] → StopsReading (Goes f) (Fails f) r s a b stop
     → IsListFault r s (list_fault_of stop)
 list_fault f stopped.Read r s a b new h = listed_first f _ _ r a new (λ lines remaining rest to asked holds. (holds.0, holds.1)) h
 list_fault f (stopped.Taker fault) r s a b new h =
@@ -129,11 +132,14 @@ never_read too_long old n h = cc
 never_read unfinished old n h = h
 
 -- the reads, where the reading stopped
-pub list_reads : {S : Type 0} (f : S → List Work) (stop : Stopped ListFault) (r s : Known) (a b : S) (old new : ReadSoFar) → StopsReading (Goes f) (Fails f) r s a b stop
-    → ReadsAs old new stop → ListReads old new (list_fault_of stop)
+pub list_reads : {S : Type 0} (f : S → List Work) (stop : Stopped JobsFault) (r s : Known) (a b : S) (old new : ReadSoFar) → StopsReading (Goes f) (Fails f) r s a b stop
+    → ReadsAs old new stop → RunReads old new (list_fault_of stop)
 list_reads f stopped.Read r s a b old new h told = told
 list_reads f (stopped.Taker (Line n)) r s a b old new h told = told
 list_reads f (stopped.Taker (Job i)) r s a b old new h told = told
 list_reads f (stopped.Taker Read) r s a b old new h told = absurd (never_read h.holds.1.0 (f h.to) (length h.lines + 1) h.holds.1.2)
 list_reads f (stopped.Taker OutOfMemory) r s a b old new h told = told
+list_reads f (stopped.Taker Write) r s a b old new h told = told
+list_reads f (stopped.Taker Unsettled) r s a b old new h told = told
+list_reads f (stopped.Taker (Lost i)) r s a b old new h told = told
 list_reads f stopped.OutOfMemory r s a b old new h told = told

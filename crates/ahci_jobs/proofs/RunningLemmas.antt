@@ -1,8 +1,7 @@
 -- Lemmas about the run of a job list.
-use Rattle.std.proofs.Common.{◌≡◌, ℕ, zero, suc, ◌<◌, List, [], ◌∷◌, ◌++◌, Option, None, Some, IsSomeAnd, Result, Ok, Err, IfErr, OnErr, length, sym, subst, ap, inl, inr, refl, arith}
+use Rattle.std.proofs.Common.{◌≡◌, ℕ, zero, suc, ◌<◌, List, [], ◌∷◌, ◌++◌, Option, None, Some, IsSomeAnd, length, sym, subst, ap, refl, arith}
 use Rattle.std.specs.List.{slice_get}
-use Rattle.ahci_driver.specs.Received.{Received}
-use Rattle.ahci_driver.specs.Running.{HasRun, IsFirstBad, IsGivenUp, IsLate, ProperBelow}
+use Rattle.ahci_driver.specs.Running.{IsFirstBad, IsGivenUp, IsLate, ProperBelow}
 use Rattle.ahci_driver.specs.declared.run_fault.RunFault.{RunFault}
 use Rattle.ahci_driver.specs.declared.fault.SettleFault.TheVariants as settle
 use Rattle.ahci_driver.specs.declared.run_fault.RunFault.TheVariants as of_run
@@ -10,8 +9,6 @@ use Rattle.ahci_port.specs.PortView.{PortView}
 use Rattle.ahci_script.specs.Jobs.{job_line_of}
 use Rattle.ahci_jobs.specs.declared.jobs_fault.JobsFault.{JobsFault}
 use Rattle.ahci_jobs.specs.declared.jobs_fault.JobsFault.TheVariants.{Line, Job, Read, Write, Unsettled, Lost, OutOfMemory}
-use Rattle.ahci_jobs.specs.declared.list_fault.ListFault.{ListFault}
-use Rattle.ahci_jobs.specs.declared.list_fault.ListFault.TheVariants as list
 use Rattle.ahci_script.specs.declared.job.JobLine.{JobLine}
 use Rattle.ahci_script.specs.declared.job.JobLine.TheVariants.{Skip, Do}
 use Rattle.ncq_journal.specs.Lawful.{IsProper}
@@ -19,10 +16,8 @@ use Rattle.ncq_journal.specs.Work.{Work}
 use Rattle.streams.proofs.FoundLemmas.{Bytes}
 use Rattle.ahci_jobs.proofs.ListLemmas.{Known}
 use Rattle.streams.specs.Ends.{ReadSoFar, WrittenSoFar}
-use Rattle.ahci_jobs.specs.Faults.{ListReads, RunReads, RunWrites, jobs_fault_of}
+use Rattle.ahci_jobs.specs.Faults.{RunReads, RunWrites}
 use Rattle.ahci_jobs.specs.JobList.{AreGood, IsGood, IsListFault, IsListed, asked_in, command_for, commands_of, no_line, one_more}
-use Rattle.ahci_jobs.specs.Forms.{written_of}
-use Rattle.ahci_jobs.specs.Results.{IsTold, SaysPart, TellsAs}
 use Rattle.ahci_jobs.specs.Size.{Size}
 use Rattle.ahci_jobs.specs.RunJobs.{EndsRun, blank_port, fault_of}
 use Rattle.ahci_jobs.specs.declared.form.Form.{Form}
@@ -79,51 +74,36 @@ is_late port jobs size (of_run.Unsettled (settle.Wrong i)) is all h = tt
 is_late port jobs size (of_run.Unsettled (settle.Extra n)) is all h = tt
 
 -- the list ended early
-pub ends_listing : (f : ListFault) (form : Form) (size : Size) (r s c : Known) → IsListFault r s f → EndsRun form size r s c c (jobs_fault_of f)
-ends_listing (list.Line n) form size r s c h = (h, refl)
-ends_listing (list.Job i) form size r s c h = (h, refl)
-ends_listing list.Read form size r s c h = (h, refl)
-ends_listing list.OutOfMemory form size r s c h = inl refl
+pub ends_listing : (f : JobsFault) (form : Form) (size : Size) (r s c : Known) → IsListFault r s f → EndsRun form size r s c c f
+ends_listing (Line n) form size r s c h = (h, refl)
+ends_listing (Job i) form size r s c h = (h, refl)
+ends_listing Read form size r s c h = (h, refl)
+ends_listing OutOfMemory form size r s c h = refl
+ends_listing Write form size r s c h = absurd h
+ends_listing Unsettled form size r s c h = absurd h
+ends_listing (Lost i) form size r s c h = absurd h
 
 -- the run was given up
 pub ends_running : (f : RunFault) (port : PortView) (form : Form) (size : Size) (r s c : Known) (jobs : List Work) → IsListed r s jobs → IsGivenUp port jobs f
     → EndsRun form size r s c c (fault_of f)
 ends_running of_run.NotFresh port form size r s c jobs listed h = ((jobs, listed), refl)
 ends_running (of_run.BadJob i) port form size r s c jobs listed h = ((jobs, listed), refl)
-ends_running of_run.OutOfMemory port form size r s c jobs listed h = inl refl
+ends_running of_run.OutOfMemory port form size r s c jobs listed h = refl
 ends_running (of_run.Lost i) port form size r s c jobs listed h = ((jobs, listed, h.1), refl)
 ends_running of_run.Foreign port form size r s c jobs listed h = ((jobs, listed), refl)
 ends_running (of_run.Unsettled settled) port form size r s c jobs listed h = ((jobs, listed), refl)
 
--- the output took no more
-pub ends_telling : {T : Type 0} (result : Result T JobsFault) (form : Form) (size : Size) (r s c d : Known) (jobs : List Work) (port : PortView) (replies : List Received)
-    → IsListed r s jobs → HasRun (blank_port size) port jobs replies size.workers → OnErr result (SaysPart c [] d (written_of form size.workers port replies)) → IfErr result IsTold
-    → IfErr result (EndsRun form size r s c d)
-ends_telling (Ok x) form size r s c d jobs port replies listed ran part told = told
-ends_telling (Err Write) form size r s c d jobs port replies listed ran part told =
-    record { jobs = jobs; port = port; replies = replies; listed = listed; ran = ran; told = part }
-ends_telling (Err OutOfMemory) form size r s c d jobs port replies listed ran part told =
-    inr (record { jobs = jobs; port = port; replies = replies; listed = listed; ran = ran; told = part })
-ends_telling (Err (Line n)) form size r s c d jobs port replies listed ran part told = absurd told
-ends_telling (Err (Job i)) form size r s c d jobs port replies listed ran part told = absurd told
-ends_telling (Err Read) form size r s c d jobs port replies listed ran part told = absurd told
-ends_telling (Err Unsettled) form size r s c d jobs port replies listed ran part told = absurd told
-ends_telling (Err (Lost i)) form size r s c d jobs port replies listed ran part told = absurd told
-
 -- ---- how the reads and writes went
 
 -- where the list ended early
-pub reads_listing : (f : ListFault) (old new : ReadSoFar) → ListReads old new f → RunReads old new (jobs_fault_of f)
-reads_listing (list.Line n) old new told = told
-reads_listing (list.Job i) old new told = told
-reads_listing list.Read old new told = told
-reads_listing list.OutOfMemory old new told = told
-
-pub writes_listing : (f : ListFault) (w : WrittenSoFar) → RunWrites w w (jobs_fault_of f)
-writes_listing (list.Line n) w = refl
-writes_listing (list.Job i) w = refl
-writes_listing list.Read w = refl
-writes_listing list.OutOfMemory w = refl
+pub writes_listing : (f : JobsFault) (r s : Known) (w : WrittenSoFar) → IsListFault r s f → RunWrites w w f
+writes_listing (Line n) r s w h = refl
+writes_listing (Job i) r s w h = refl
+writes_listing Read r s w h = refl
+writes_listing OutOfMemory r s w h = refl
+writes_listing Write r s w h = absurd h
+writes_listing Unsettled r s w h = refl
+writes_listing (Lost i) r s w h = refl
 
 -- where the run was given up
 pub reads_running : (f : RunFault) (old new : ReadSoFar) → new.failed ≡ old.failed → RunReads old new (fault_of f)
@@ -141,25 +121,3 @@ writes_running of_run.OutOfMemory w = refl
 writes_running (of_run.Lost i) w = refl
 writes_running of_run.Foreign w = refl
 writes_running (of_run.Unsettled settled) w = refl
-
--- where the output took no more
-pub ends_writing : {T : Type 0} (result : Result T JobsFault) (old new : WrittenSoFar) → IfErr result (TellsAs old new) → IfErr result (RunWrites old new)
-ends_writing (Ok x) old new told = told
-ends_writing (Err Write) old new told = told
-ends_writing (Err OutOfMemory) old new told = told
-ends_writing (Err (Line n)) old new told = absurd told
-ends_writing (Err (Job i)) old new told = absurd told
-ends_writing (Err Read) old new told = absurd told
-ends_writing (Err Unsettled) old new told = absurd told
-ends_writing (Err (Lost i)) old new told = absurd told
-
--- all was read by then
-pub ends_reading : {T : Type 0} (result : Result T JobsFault) (old new : ReadSoFar) → IfErr result IsTold → new.failed ≡ old.failed → IfErr result (RunReads old new)
-ends_reading (Ok x) old new is same = is
-ends_reading (Err Write) old new is same = same
-ends_reading (Err OutOfMemory) old new is same = same
-ends_reading (Err (Line n)) old new is same = absurd is
-ends_reading (Err (Job i)) old new is same = absurd is
-ends_reading (Err Read) old new is same = absurd is
-ends_reading (Err Unsettled) old new is same = absurd is
-ends_reading (Err (Lost i)) old new is same = absurd is

@@ -11,8 +11,8 @@ use Rattle.ahci_script.specs.declared.job.JobLine.TheVariants.{Skip, Do}
 use Rattle.ncq_journal.specs.Lawful.{IsProper}
 use Rattle.ncq_journal.specs.Work.{Work}
 use Rattle.ncq_journal.specs.Work as work
-use Rattle.ahci_jobs.specs.declared.list_fault.ListFault.{ListFault}
-use Rattle.ahci_jobs.specs.declared.list_fault.ListFault.TheVariants as fault
+use Rattle.ahci_jobs.specs.declared.jobs_fault.JobsFault.{JobsFault}
+use Rattle.ahci_jobs.specs.declared.jobs_fault.JobsFault.TheVariants as fault
 
 -- the command that a job asks for; a write's sectors are filled with one byte
 abbrev pub command_for : Job → Work
@@ -36,11 +36,11 @@ IsBad (Some (Do j)) = ¬ (IsProper (command_for j))
 IsBad line = ⊥
 
 -- why a line of the given number, after so many jobs, ends a job list
-abbrev pub IsLineFault : Option JobLine → ℕ → ℕ → ListFault → Type 0
+abbrev pub IsLineFault : Option JobLine → ℕ → ℕ → JobsFault → Type 0
 IsLineFault line number jobs (fault.Line n) = (n ≡ number) × (line ≡ None)
 IsLineFault line number jobs (fault.Job i) = (i ≡ jobs) × IsBad line
 IsLineFault line number jobs fault.OutOfMemory = IsGood line
-IsLineFault line number jobs fault.Read = ⊥
+IsLineFault line number jobs f = ⊥
 
 -- a list goes on: with a good line, or with more input
 abbrev pub Takes : List Work → Begins → List Work → Type 0
@@ -49,7 +49,7 @@ Takes old too_long new = ⊥
 Takes old unfinished new = new ≡ old
 
 -- a list does not go on
-abbrev pub Refuses : List Work → ℕ → Begins → ListFault → Type 0
+abbrev pub Refuses : List Work → ℕ → Begins → JobsFault → Type 0
 Refuses old number (whole line) f = IsLineFault (job_line_of line) number (length old) f
 Refuses old number too_long f = f ≡ fault.Line number
 Refuses old number unfinished f = ⊥
@@ -95,9 +95,10 @@ pub record ListedFirst (remaining_old : Option (List ℕ)) (P : List (List ℕ) 
   pub holds : P lines remaining rest
 
 -- why a job list is not read to its end: the first fault in the order of the input
-abbrev pub IsListFault : Option (List ℕ) → Option (List ℕ) → ListFault → Type 0
+abbrev pub IsListFault : Option (List ℕ) → Option (List ℕ) → JobsFault → Type 0
 IsListFault r s (fault.Line n) = ListedFirst r (λ lines remaining rest. (n ≡ length lines + 1) × IsFaulty remaining rest)
 IsListFault r s (fault.Job i) = ListedFirst r (λ lines remaining rest. (i ≡ length (asked_in lines)) × IsBadNext remaining rest)
 IsListFault r s fault.Read =
     ListedFirst r (λ lines remaining rest. (found_of rest ≡ unfinished) × MayFail (length (with_feeds lines ++ rest)) remaining s)
 IsListFault r s fault.OutOfMemory = ListedFirst r (λ _ _ _. Unit {0})
+IsListFault r s f = ⊥

@@ -1,10 +1,10 @@
 -- A run as JSON (RFC 8259): an object a line, with the words of the text in it.
-use Rattle.std.specs.Prelude.{ℕ, ◌+◌, ◌%◌, List, [], ◌∷◌, ◌++◌, slice_index, codes, if◌then◌else◌}
+use Rattle.std.specs.Prelude.{ℕ, ◌%◌, List, ◌++◌, codes}
 use Rattle.std.specs.Fmt.{decimal}
 use Rattle.ahci_driver.specs.Received.{Received}
 use Rattle.ahci_script.specs.Results.{Told, told_text}
 use Rattle.ahci_script.specs.Results as line
-use Rattle.ahci_jobs.specs.Results.{is_blank, line_for}
+use Rattle.ahci_jobs.specs.Results.{line_for}
 
 -- a word, and a number after it
 abbrev pub numbered : List ℕ → ℕ → List ℕ
@@ -25,12 +25,6 @@ number_members reply = numbered (codes ",\"number\":") reply.number ++ numbered 
 unfoldable pub job_object : ℕ → ℕ → Received → List ℕ
 job_object workers job reply = job_members workers job ++ (number_members reply ++ answer_member (line_for reply.answer))
 
--- the objects of jobs, in their order, the first of which has this number
-abbrev pub job_objects : ℕ → ℕ → List Received → List ℕ
-job_objects workers job [] = []
-job_objects workers job (reply ∷ more) = job_object workers job reply ++ job_objects workers (job + 1) more
-
--- the object of a sector, where it isn't all zero
-unfoldable pub sector_object : ℕ → List ℕ → List ℕ
-sector_object lba bytes =
-    if is_blank bytes then [] else numbered (codes "{\"sector\":") lba ++ answer_member (line.Sector lba (slice_index bytes 0))
+-- the object of a sector, by its first byte
+unfoldable pub sector_object : ℕ → ℕ → List ℕ
+sector_object lba byte = numbered (codes "{\"sector\":") lba ++ answer_member (line.Sector lba byte)

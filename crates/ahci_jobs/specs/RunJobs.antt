@@ -1,5 +1,5 @@
 -- A job list from its text to the text of its results.
-use Rattle.std.specs.Prelude.{◌≡◌, ℕ, ◌*◌, ◌<◌, List, [], Option, length, replicate, ◌⊎◌}
+use Rattle.std.specs.Prelude.{◌≡◌, ℕ, ◌*◌, ◌<◌, List, Option, length, replicate, take}
 use Rattle.std.specs.Io.KnownBytes.{Appends}
 use Rattle.ahci_driver.specs.Received.{Received}
 use Rattle.ahci_driver.specs.Running.{HasRun}
@@ -9,12 +9,10 @@ use Rattle.ahci_port.specs.PortView.{PortView, new_port}
 use Rattle.ncq_journal.specs.Work.{Work}
 use Rattle.ahci_jobs.specs.JobList.{IsListFault, IsListed}
 use Rattle.ahci_jobs.specs.Forms.{written_of}
-use Rattle.ahci_jobs.specs.Results.{SaysPart}
 use Rattle.ahci_jobs.specs.Size.{Size}
 use Rattle.ahci_jobs.specs.declared.form.Form.{Form}
 use Rattle.ahci_jobs.specs.declared.jobs_fault.JobsFault.{JobsFault}
 use Rattle.ahci_jobs.specs.declared.jobs_fault.JobsFault.TheVariants as fault
-use Rattle.ahci_jobs.specs.declared.list_fault.ListFault.TheVariants as list
 
 -- a new port over a disk of zeros
 abbrev pub blank_port : Size → PortView
@@ -34,19 +32,23 @@ pub record HasDone (form : Form) (size : Size) (remaining_old remaining_new : Op
 abbrev pub RunsJobs : Form → Size → Option (List ℕ) → Option (List ℕ) → Option (List ℕ) → Option (List ℕ) → Type 0
 RunsJobs form size r s c d = HasDone form size r s (Appends c d)
 
+-- some first part of a text is written
+abbrev pub SaysPart : Option (List ℕ) → Option (List ℕ) → List ℕ → Type 0
+SaysPart c d text = (n : ℕ) × Appends c d (take n text)
+
 -- the fault, where a run that has begun was given up
 abbrev pub fault_of : RunFault → JobsFault
 fault_of run.OutOfMemory = fault.OutOfMemory
 fault_of (run.Lost job) = fault.Lost job
 fault_of given_up = fault.Unsettled
 
--- why it isn't. A fault of the input, and a run that isn't settled, come before any text, and a job that is lost is one of the list; where the output takes no more, or
--- memory is wanted, some first part of the text may be written
+-- why it isn't. A fault of the input, a run that isn't settled, and want of memory come before any text, and a job that is lost is one
+-- of the list; where the output takes no more, some first part of the text is written
 abbrev pub EndsRun : Form → Size → Option (List ℕ) → Option (List ℕ) → Option (List ℕ) → Option (List ℕ) → JobsFault → Type 0
-EndsRun form size r s c d (fault.Line n) = IsListFault r s (list.Line n) × (d ≡ c)
-EndsRun form size r s c d (fault.Job i) = IsListFault r s (list.Job i) × (d ≡ c)
-EndsRun form size r s c d fault.Read = IsListFault r s list.Read × (d ≡ c)
-EndsRun form size r s c d fault.Write = HasDone form size r s (SaysPart c [] d)
-EndsRun form size r s c d fault.OutOfMemory = (d ≡ c) ⊎ HasDone form size r s (SaysPart c [] d)
+EndsRun form size r s c d (fault.Line n) = IsListFault r s (fault.Line n) × (d ≡ c)
+EndsRun form size r s c d (fault.Job i) = IsListFault r s (fault.Job i) × (d ≡ c)
+EndsRun form size r s c d fault.Read = IsListFault r s fault.Read × (d ≡ c)
+EndsRun form size r s c d fault.Write = HasDone form size r s (SaysPart c d)
+EndsRun form size r s c d fault.OutOfMemory = d ≡ c
 EndsRun form size r s c d fault.Unsettled = ((jobs : List Work) × IsListed r s jobs) × (d ≡ c)
 EndsRun form size r s c d (fault.Lost i) = ((jobs : List Work) × IsListed r s jobs × (i < length jobs)) × (d ≡ c)

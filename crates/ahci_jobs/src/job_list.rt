@@ -1,9 +1,9 @@
 ghost use Rattle.std.specs.Prelude.{◌≡◌, map, IfErr, IfOk, OnOk};
 ghost use Rattle.ncq_journal.specs.Work.{work_of};
-ghost use Rattle.ahci_jobs.specs.Faults.{ListReads};
+ghost use Rattle.ahci_jobs.specs.Faults.{RunReads};
 ghost use Rattle.ahci_jobs.specs.JobList.{IsListFault, IsListed};
 
-use crate::list_fault::ListFault;
+use crate::jobs_fault::JobsFault;
 use crate::making::add_line;
 use ncq_journal::Op;
 use std::alloc::{AllocError, Allocator};
@@ -36,16 +36,16 @@ impl<A: Allocator + Clone> TakesLines<()> for JobList<A> {
     ghost use Rattle.ncq_journal.specs.Work.{work_of};
     ghost use Rattle.ahci_jobs.specs.JobList.{Refuses, Takes};
 
-    type Fault = ListFault;
+    type Fault = JobsFault;
 
     ghost Takes = { λ old number found new. Takes (map work_of old.0.jobs.items) found (map work_of new.0.jobs.items) };
 
     ghost Refuses = { λ old number found fault new. Refuses (map work_of old.0.jobs.items) number found fault };
 
-    fn take(&mut self, number: u64, found: Found<'_>, _output: &mut ()) -> Result<(), ListFault> {
+    fn take(&mut self, number: u64, found: Found<'_>, _output: &mut ()) -> Result<(), JobsFault> {
         match found {
             Found::Line(line) => add_line(&mut self.jobs, &self.alloc, number, line),
-            Found::TooLong => Err(ListFault::Line(number)),
+            Found::TooLong => Err(JobsFault::Line(number)),
             Found::Unfinished => Ok(()),
         }
     }
@@ -57,11 +57,11 @@ pub(crate) fn listed<R: Read, A: Allocator + Clone>(
     alloc: A,
     reader: &mut R,
     reads: &mut Reads,
-) -> Result<Vec<Op<A>, A>, ListFault>
+) -> Result<Vec<Op<A>, A>, JobsFault>
     ensures ok { IfOk result (λ jobs. IsListed (R.remaining reader.old) (R.remaining reader.new) (map work_of jobs.items)) }
     ensures err { IfErr result (IsListFault (R.remaining reader.old) (R.remaining reader.new)) }
     ensures unfailed { OnOk result (reads.new.failed ≡ reads.old.failed) }
-    ensures reads { IfErr result (ListReads reads.old reads.new) }
+    ensures reads { IfErr result (RunReads reads.old reads.new) }
 {
     let mut list = JobList::new(alloc.clone()?)?;
     take_lines(alloc, reader, reads, &mut list, &mut ())?;

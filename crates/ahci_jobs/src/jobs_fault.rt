@@ -1,10 +1,9 @@
 ghost use Rattle.std.specs.Prelude.{◌≡◌};
-ghost use Rattle.ahci_jobs.specs.Faults.{jobs_fault_of};
+ghost use Rattle.ahci_jobs.specs.Faults.{list_fault_of};
 ghost use Rattle.ahci_jobs.specs.declared.jobs_fault.JobsFault.TheVariants as the-fault;
 
-use crate::list_fault::ListFault;
 use std::alloc::AllocError;
-use streams::OutputFailed;
+use streams::{OutputFailed, Stopped};
 
 /// Why a job list is not done to its end.
 #[derive(Clone, Copy, Debug, PartialEq, Eq)]
@@ -25,15 +24,14 @@ pub enum JobsFault {
     OutOfMemory,
 }
 
-impl From<ListFault> for JobsFault {
-    ghost from_gives = { λ found fault. fault ≡ jobs_fault_of found };
+impl From<Stopped<JobsFault>> for JobsFault {
+    ghost from_gives = { λ stopped fault. fault ≡ list_fault_of stopped };
 
-    fn from(found: ListFault) -> JobsFault {
-        match found {
-            ListFault::Line(line) => JobsFault::Line(line),
-            ListFault::Job(job) => JobsFault::Job(job),
-            ListFault::Read => JobsFault::Read,
-            ListFault::OutOfMemory => JobsFault::OutOfMemory,
+    fn from(stopped: Stopped<JobsFault>) -> JobsFault {
+        match stopped {
+            Stopped::Read => JobsFault::Read,
+            Stopped::Taker(fault) => fault,
+            Stopped::OutOfMemory => JobsFault::OutOfMemory,
         }
     }
 }

@@ -2,11 +2,9 @@
 #![tactic(auto)]
 
 mod form;
-mod image;
 mod issued;
 mod job_list;
 mod jobs_fault;
-mod list_fault;
 mod making;
 mod objects;
 mod run_size;

@@ -6,8 +6,8 @@ ghost use Rattle.ncq_journal.specs.Lawful.{IsProper};
 ghost use Rattle.ncq_journal.specs.Work.{work_of};
 ghost use Rattle.ahci_jobs.specs.JobList.{IsGood, IsLineFault, command_for, commands_of};
 
-use crate::list_fault::ListFault;
-use ahci_script::{Job, JobLine, parse_job};
+use crate::jobs_fault::JobsFault;
+use ahci_script::{Job, JobLine, read_job};
 use ncq_journal::{Bytes, LBA_LIMIT, MAX_COUNT, Op};
 use std::alloc::{AllocError, Allocator};
 
@@ -42,18 +42,18 @@ fn add_job<A: Allocator + Clone>(
     jobs: &mut Vec<Op<A>, A>,
     alloc: &A,
     job: Job,
-) -> Result<(), ListFault>
+) -> Result<(), JobsFault>
     ensures ok { OnOk result (map work_of jobs.new.items ≡ map work_of jobs.old.items ++ command_for job ∷ []) }
     ensures good { OnOk result (IsProper (command_for job)) }
     ensures err { OnErr result (jobs.new.items ≡ jobs.old.items) }
     ensures fault { IfErr result (IsLineFault (Some (JobLine.Do job)) 0 (length (map work_of jobs.old.items))) }
 {
     if !is_good(job) {
-        return Err(ListFault::Job(jobs.len() as u64));
+        return Err(JobsFault::Job(jobs.len() as u64));
     }
     let op = command(alloc.clone()?, job)?;
     let Ok(()) = jobs.push(op) else {
-        return Err(ListFault::OutOfMemory);
+        return Err(JobsFault::OutOfMemory);
     };
     Ok(())
 }
@@ -64,15 +64,15 @@ pub(crate) fn add_line<A: Allocator + Clone>(
     alloc: &A,
     number: u64,
     line: &[u8],
-) -> Result<(), ListFault>
+) -> Result<(), JobsFault>
     ensures ok { OnOk result (map work_of jobs.new.items ≡ map work_of jobs.old.items ++ commands_of (job_line_of line.now)) }
     ensures good { OnOk result (IsGood (job_line_of line.now)) }
     ensures err { OnErr result (jobs.new.items ≡ jobs.old.items) }
     ensures fault { IfErr result (IsLineFault (job_line_of line.now) number (length (map work_of jobs.old.items))) }
 {
-    match parse_job(line) {
-        None => Err(ListFault::Line(number)),
-        Some(JobLine::Skip) => Ok(()),
-        Some(JobLine::Do(job)) => add_job(jobs, alloc, job),
+    match read_job(line) {
+        Err(_) => Err(JobsFault::Line(number)),
+        Ok(JobLine::Skip) => Ok(()),
+        Ok(JobLine::Do(job)) => add_job(jobs, alloc, job),
     }
 }

@@ -11,7 +11,7 @@ use crate::job_list::listed;
 use crate::jobs_fault::JobsFault;
 use crate::making::SECTOR;
 use crate::run_size::RunSize;
-use crate::telling::tell_run;
+use crate::telling::text_of;
 use ahci_driver::{Chooser, Open, RunEnd, RunFault, run};
 use ahci_port::Port;
 use ncq_journal::Op;
@@ -83,12 +83,13 @@ where
 
 /// Does the jobs that the reader gives on a disk of zeros, by workers on threads, and writes the run in this form: as text, a
 /// line for each job, in the order of the jobs, and then one for each sector that isn't all zero, rising. All jobs are read and
-/// judged before the first is done. The chooser decides what the device does next.
+/// judged before the first is done, and all that is written is made before any of it is written. The chooser decides what the
+/// device does next.
 ///
 /// # Errors
 /// `Line` for the first line that is not understood or too long, `Job` for the first job with a bad count or address,
 /// `Read` where the input fails or is too long, whichever comes first in the input; `Unsettled` and `Lost` for a run that
-/// its journal doesn't bear out: all these before anything is written. `Write` where the output fails. `OutOfMemory`.
+/// its journal doesn't bear out; `OutOfMemory`: all these before anything is written. `Write` where the output fails.
 pub fn run_jobs<H, R, W, C, A>(
     rt: &H,
     alloc: A,
@@ -151,7 +152,10 @@ where
 {
     let jobs = listed(alloc.clone()?, reader, reads)?;
     match done(rt, alloc.clone()?, size, chooser, &jobs) {
-        Ok(end) => tell_run(alloc, form, size.workers(), writer, writes, &end),
+        Ok(end) => {
+            let text = text_of(alloc, form, size.workers(), &end)?;
+            Ok(writes.write_whole(writer, &text)?)
+        }
         Err(fault) => Err(given_up(fault)),
     }
 }

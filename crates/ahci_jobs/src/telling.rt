@@ -1,48 +1,23 @@
-//! What is written of a run: as text a line for each job and one for each sector that isn't all zero, or another form as a whole.
+//! What is written of a run, by its form: something of each job, in the order of the jobs, and then of each sector, rising; or the
+//! journal.
 
-ghost use Rattle.std.specs.Prelude.{◌≡◌, [], ◌<◌, ◌≤◌, map, IfErr, OnErr, OnOk};
-ghost use Rattle.std.specs.Io.KnownBytes.{Appends};
+ghost use Rattle.std.specs.Prelude.{◌≡◌, ◌++◌, ◌<◌, ◌≤◌, IfOk, OnOk, map};
 ghost use Rattle.ncq_journal.specs.Sector.{sector};
 ghost use Rattle.ahci_port.specs.PortView.{sectors_in};
 ghost use Rattle.ahci_script.specs.Results.{told};
 ghost use Rattle.ahci_driver.specs.Received.{received_of};
-ghost use Rattle.streams.specs.Ends.{with_flush};
-ghost use Rattle.ahci_jobs.specs.Forms.{written_of};
-ghost use Rattle.ahci_jobs.specs.Results.{IsTold, TellsAs, Says, SaysPart, fed, is_blank, line_for, replies_text, run_text, sector_text, sectors_text};
+ghost use Rattle.ahci_jobs.specs.Forms.{job_in, jobs_in, parts_of, pieces_of, sector_in, written_of};
+ghost use Rattle.ahci_jobs.specs.Results.{fed, is_blank, line_for};
 
 use crate::form::Form;
-use crate::image::image;
-use crate::jobs_fault::JobsFault;
 use crate::making::SECTOR;
-use crate::objects::objects;
+use crate::objects::{push_object, push_sector_object};
 use crate::script::script;
 use ahci_driver::{Receipt, RunEnd};
 use ahci_port::{Outcome, Port};
-use ahci_script::{Output, ResultLine};
-use std::alloc::Allocator;
-use std::io::Write;
-use streams::Writes;
-
-/// Appends a line to what waits, and sends it once enough waits.
-fn tell<W: Write, A: Allocator>(
-    output: &mut Output<A>,
-    writer: &mut W,
-    writes: &mut Writes,
-    line: ResultLine<'_>,
-) -> Result<(), JobsFault>
-    ensures ok { OnOk result (Says (W.contents writer.old) output.old (W.contents writer.new) output.new (fed (told line.entry))) }
-    ensures err { OnErr result (SaysPart (W.contents writer.old) output.old (W.contents writer.new) (fed (told line.entry))) }
-    ensures fault { IfErr result IsTold }
-    ensures unfailed { OnOk result (writes.new.failed ≡ writes.old.failed) }
-    ensures writes { IfErr result (TellsAs writes.old writes.new) }
-    ensures short { IfErr result (λ fault. fault ≡ JobsFault.OutOfMemory → W.contents writer.new ≡ W.contents writer.old) }
-{
-    output.put_result(line)?;
-    if output.is_full() {
-        output.send(writer, writes)?;
-    }
-    Ok(())
-}
+use ahci_script::ResultLine;
+use ahci_script::growing::{push, push_result};
+use std::alloc::{AllocError, Allocator};
 
 /// The line of a job's receipt.
 pub(crate) fn line_of<A: Allocator>(receipt: &Receipt<A>) -> ResultLine<'_>
@@ -55,139 +30,121 @@ pub(crate) fn line_of<A: Allocator>(receipt: &Receipt<A>) -> ResultLine<'_>
     }
 }
 
-/// Tells the results of all jobs, in their order.
-fn tell_replies<W: Write, A: Allocator>(
-    output: &mut Output<A>,
-    writer: &mut W,
-    writes: &mut Writes,
-    replies: &[Receipt<A>],
-) -> Result<(), JobsFault>
-    ensures ok { OnOk result (Says (W.contents writer.old) output.old (W.contents writer.new) output.new (replies_text (map received_of replies.now))) }
-    ensures err { OnErr result (SaysPart (W.contents writer.old) output.old (W.contents writer.new) (replies_text (map received_of replies.now))) }
-    ensures fault { IfErr result IsTold }
-    ensures unfailed { OnOk result (writes.new.failed ≡ writes.old.failed) }
-    ensures writes { IfErr result (TellsAs writes.old writes.new) }
+/// Appends a line and its line feed.
+fn push_line<A: Allocator>(text: &mut Vec<u8, A>, line: ResultLine<'_>) -> Result<(), AllocError>
+    ensures { OnOk result (text.new.items ≡ text.old.items ++ fed (told line.entry)) }
 {
-    for receipt in replies {
-        tell(output, writer, writes, line_of(receipt))?;
+    push_result(text, line)?;
+    push(text, b"\n")
+}
+
+/// Appends what a form has of a job.
+fn push_job<A: Allocator, B: Allocator>(
+    text: &mut Vec<u8, A>,
+    form: Form,
+    workers: u32,
+    job: u64,
+    receipt: &Receipt<B>,
+) -> Result<(), AllocError>
+    requires { 1 ≤ workers }
+    ensures { OnOk result (text.new.items ≡ text.old.items ++ job_in form workers job (received_of receipt.now)) }
+{
+    match form {
+        Form::Text => push_line(text, line_of(receipt)),
+        Form::Json => push_object(text, workers, job, receipt),
+        Form::Journal | Form::Image => Ok(()),
+    }
+}
+
+/// Appends what a form has of all jobs, in their order.
+fn push_jobs<A: Allocator, B: Allocator>(
+    text: &mut Vec<u8, A>,
+    form: Form,
+    workers: u32,
+    replies: &[Receipt<B>],
+) -> Result<(), AllocError>
+    requires { 1 ≤ workers }
+    ensures { OnOk result (text.new.items ≡ text.old.items ++ jobs_in form workers 0 (map received_of replies.now)) }
+{
+    for (job, receipt) in replies.iter().enumerate() {
+        push_job(text, form, workers, job as u64, receipt)?;
     }
     Ok(())
 }
 
 /// Whether each byte is 0.
-pub(crate) fn is_all_zero(bytes: &[u8]) -> bool
+fn is_all_zero(bytes: &[u8]) -> bool
     ensures { result ≡ is_blank bytes.now }
 {
     bytes.iter().all(|b| *b == 0)
 }
 
-/// Tells a sector, where it isn't all zero.
-fn tell_sector<W: Write, A: Allocator>(
-    output: &mut Output<A>,
-    writer: &mut W,
-    writes: &mut Writes,
-    port: &Port<A>,
-    lba: u32,
-) -> Result<(), JobsFault>
-    requires { lba < sectors_in port.now }
-    ensures ok { OnOk result (Says (W.contents writer.old) output.old (W.contents writer.new) output.new
-        (sector_text lba (sector port.now.starting port.now.past lba))) }
-    ensures err { OnErr result (SaysPart (W.contents writer.old) output.old (W.contents writer.new)
-        (sector_text lba (sector port.now.starting port.now.past lba))) }
-    ensures fault { IfErr result IsTold }
-    ensures unfailed { OnOk result (writes.new.failed ≡ writes.old.failed) }
-    ensures writes { IfErr result (TellsAs writes.old writes.new) }
+/// Appends what a form has of a sector.
+fn push_sector<A: Allocator>(
+    text: &mut Vec<u8, A>,
+    form: Form,
+    lba: u64,
+    bytes: &[u8; SECTOR],
+) -> Result<(), AllocError>
+    ensures { OnOk result (text.new.items ≡ text.old.items ++ sector_in form lba bytes.now) }
 {
-    let lba = u64::from(lba);
-    let mut bytes = [0; SECTOR];
-    port.copy(lba, &mut bytes);
-    if is_all_zero(&bytes) {
-        return Ok(());
+    let byte = bytes[0];
+    match form {
+        Form::Text | Form::Json if is_all_zero(bytes) => Ok(()),
+        Form::Text => push_line(text, ResultLine::Sector { lba, byte }),
+        Form::Json => push_sector_object(text, lba, byte),
+        Form::Image => push(text, bytes),
+        Form::Journal => Ok(()),
     }
-    tell(
-        output,
-        writer,
-        writes,
-        ResultLine::Sector {
-            lba,
-            byte: bytes[0],
-        },
-    )
 }
 
-/// Tells all sectors that aren't all zero, rising.
-fn tell_sectors<W: Write, A: Allocator>(
-    output: &mut Output<A>,
-    writer: &mut W,
-    writes: &mut Writes,
-    port: &Port<A>,
-) -> Result<(), JobsFault>
-    ensures ok { OnOk result (Says (W.contents writer.old) output.old (W.contents writer.new) output.new (sectors_text port.now (sectors_in port.now))) }
-    ensures err { OnErr result (SaysPart (W.contents writer.old) output.old (W.contents writer.new) (sectors_text port.now (sectors_in port.now))) }
-    ensures fault { IfErr result IsTold }
-    ensures unfailed { OnOk result (writes.new.failed ≡ writes.old.failed) }
-    ensures writes { IfErr result (TellsAs writes.old writes.new) }
+/// Appends what a form has of all sectors, rising.
+fn push_sectors<A: Allocator, B: Allocator>(
+    text: &mut Vec<u8, A>,
+    form: Form,
+    port: &Port<B>,
+) -> Result<(), AllocError>
+    ensures { OnOk result (text.new.items ≡ text.old.items ++ pieces_of (sector_in form) port.now (sectors_in port.now)) }
 {
     for lba in 0..port.sectors() {
-        tell_sector(output, writer, writes, port, lba)?;
+        let mut bytes = [0; SECTOR];
+        port.copy(u64::from(lba), &mut bytes);
+        push_sector(text, form, u64::from(lba), &bytes)?;
     }
     Ok(())
 }
 
-/// Writes the text of a run.
-fn tell_text<W: Write, A: Allocator>(
-    alloc: A,
-    writer: &mut W,
-    writes: &mut Writes,
-    end: &RunEnd<A>,
-) -> Result<(), JobsFault>
-    ensures ok { OnOk result (Appends (W.contents writer.old) (W.contents writer.new) (run_text end.now.port (map received_of end.now.replies.items))) }
-    ensures err { OnErr result (SaysPart (W.contents writer.old) [] (W.contents writer.new) (run_text end.now.port (map received_of end.now.replies.items))) }
-    ensures fault { IfErr result IsTold }
-    ensures flushed { OnOk result (writes.new ≡ with_flush writes.old) }
-    ensures writes { IfErr result (TellsAs writes.old writes.new) }
-{
-    let mut output = Output::new(alloc);
-    tell_replies(&mut output, writer, writes, &end.replies)?;
-    tell_sectors(&mut output, writer, writes, &end.port)?;
-    output.send(writer, writes)?;
-    Ok(())
-}
-
-/// Writes a whole form.
-fn tell_whole<W: Write>(writer: &mut W, writes: &mut Writes, text: &[u8]) -> Result<(), JobsFault>
-    ensures ok { OnOk result (Appends (W.contents writer.old) (W.contents writer.new) text.now) }
-    ensures err { OnErr result (SaysPart (W.contents writer.old) [] (W.contents writer.new) text.now) }
-    ensures fault { IfErr result IsTold }
-    ensures flushed { OnOk result (writes.new ≡ with_flush writes.old) }
-    ensures writes { IfErr result (TellsAs writes.old writes.new) }
-{
-    writes.write_whole(writer, text)?;
-    Ok(())
-}
-
-/// Writes all that there is to tell of a run by so many workers, in this form. What is not the text is made as a whole first.
-pub(crate) fn tell_run<W: Write, A: Allocator + Clone>(
+/// What a form has of all jobs and sectors. Room for an image is asked for at once.
+fn parts<A: Allocator, B: Allocator>(
     alloc: A,
     form: Form,
     workers: u32,
-    writer: &mut W,
-    writes: &mut Writes,
-    end: &RunEnd<A>,
-) -> Result<(), JobsFault>
+    end: &RunEnd<B>,
+) -> Result<Vec<u8, A>, AllocError>
     requires { 1 ≤ workers }
-    ensures ok { OnOk result (Appends (W.contents writer.old) (W.contents writer.new)
-        (written_of form workers end.now.port (map received_of end.now.replies.items))) }
-    ensures err { OnErr result (SaysPart (W.contents writer.old) [] (W.contents writer.new)
-        (written_of form workers end.now.port (map received_of end.now.replies.items))) }
-    ensures fault { IfErr result IsTold }
-    ensures flushed { OnOk result (writes.new ≡ with_flush writes.old) }
-    ensures writes { IfErr result (TellsAs writes.old writes.new) }
+    ensures { IfOk result (λ text. text.items ≡ parts_of form workers end.now.port (map received_of end.now.replies.items)) }
+{
+    let mut text = Vec::new(alloc);
+    if let Form::Image = form {
+        text.reserve_exact(end.port.sectors() as usize * SECTOR)?;
+    }
+    push_jobs(&mut text, form, workers, &end.replies)?;
+    push_sectors(&mut text, form, &end.port)?;
+    Ok(text)
+}
+
+/// All that is written of a run by so many workers, in this form.
+pub(crate) fn text_of<A: Allocator, B: Allocator>(
+    alloc: A,
+    form: Form,
+    workers: u32,
+    end: &RunEnd<B>,
+) -> Result<Vec<u8, A>, AllocError>
+    requires { 1 ≤ workers }
+    ensures { IfOk result (λ text. text.items ≡ written_of form workers end.now.port (map received_of end.now.replies.items)) }
 {
     match form {
-        Form::Text => tell_text(alloc, writer, writes, end),
-        Form::Json => tell_whole(writer, writes, &objects(&alloc, workers, end)?),
-        Form::Journal => tell_whole(writer, writes, &script(alloc, &end.port)?),
-        Form::Image => tell_whole(writer, writes, &image(alloc, &end.port)?),
+        Form::Journal => script(alloc, &end.port),
+        Form::Text | Form::Json | Form::Image => parts(alloc, form, workers, end),
     }
 }

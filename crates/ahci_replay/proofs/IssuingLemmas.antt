@@ -33,11 +33,6 @@ pub built_free : (T : Type 0) (x : T) (o : Option BuildFault)
 built_free T x None is = refl
 built_free T x (Some f) is = absurd is
 
--- one that failed had this against it, or lacked memory
-pub built_named : (e e' : BuildFault) (o : Option BuildFault) → e' ≡ e → e ≢ build.OutOfMemory → MatchOption o (e' ≡ build.OutOfMemory) (λ f. e' ≡ f) → o ≡ Some e
-built_named e e' None same other is = absurd (other (sym same ∙ is))
-built_named e e' (Some f) same other is = ap Some (sym is ∙ same)
-
 -- count and address by themselves
 abbrev count_bad : ℕ → Bool
 count_bad n = nat_eq n 0 || nat_lt most_sectors n
@@ -49,41 +44,12 @@ no_case false true true l rest whole none = cc
 no_case false true false l rest whole none = cc
 no_case false false r l rest whole none = refl
 
-count_case : (c b r : Bool) (l : Option BuildFault) (rest : Option Refusal) → r ≡ false → ((c || r) ≡ false → l ≡ None)
-    → cond (c || r) (Some build.BadCount) (cond b (Some build.BadLba) l) ≡ Some build.BadCount
-    → cond c (Some refused.BadCount) (cond b (Some refused.BadLba) rest) ≡ Some refused.BadCount
-count_case true b r l rest whole free is = refl
-count_case false b true l rest whole free is = absurd (true≢false whole)
-count_case false true false l rest whole free is = cc
-count_case false false false l rest whole free is = absurd (none_some (sym (free refl) ∙ is))
-  where
-    none_some : None ≡ Some build.BadCount → ⊥
-    none_some e = cc
-
-address_case : (c b r : Bool) (l : Option BuildFault) (rest : Option Refusal) → r ≡ false → ((c || r) ≡ false → l ≡ None)
-    → cond (c || r) (Some build.BadCount) (cond b (Some build.BadLba) l) ≡ Some build.BadLba
-    → cond c (Some refused.BadCount) (cond b (Some refused.BadLba) rest) ≡ Some refused.BadLba
-address_case true b r l rest whole free is = cc
-address_case false b true l rest whole free is = absurd (true≢false whole)
-address_case false true false l rest whole free is = refl
-address_case false false false l rest whole free is = absurd (none_some (sym (free refl) ∙ is))
-  where
-    none_some : None ≡ Some build.BadLba → ⊥
-    none_some e = cc
-
-other_case : (c b r : Bool) (l : Option BuildFault) (e : BuildFault) → ((c || r) ≡ false → l ≡ None)
-    → MatchOption (cond (c || r) (Some build.BadCount) (cond b (Some build.BadLba) l)) (e ≡ build.OutOfMemory) (λ f. e ≡ f) → e ≢ build.OutOfMemory → e ≢ build.BadCount → e ≢ build.BadLba → ⊥
-other_case true b r l e free is memory count address = count is
-other_case false b true l e free is memory count address = count is
-other_case false true false l e free is memory count address = address is
-other_case false false false l e free is memory count address = memory (subst (λ o. MatchOption o (e ≡ build.OutOfMemory) (λ f. e ≡ f)) (free refl) is)
-
--- nothing else stands against a window over the default pieces
-pub no_other_fault : (e : BuildFault) (work : Work) → MatchOption (refusal work (default_list (sectors_of work))) (e ≡ build.OutOfMemory) (λ f. e ≡ f)
-    → e ≢ build.OutOfMemory → e ≢ build.BadCount → e ≢ build.BadLba → ⊥
-no_other_fault e work is memory count address =
-    other_case (count_bad (sectors_of work)) (nat_le (2 ^ 48) (lba_of work)) (is_ragged work)
-    (list_refusal (default_list (sectors_of work)) (512 * sectors_of work)) e (defaults_serve work) is memory count address
+no_fault : (c b r : Bool) (l : Option BuildFault) (rest : Option Refusal) → r ≡ false → ((c || r) ≡ false → l ≡ None)
+    → cond c (Some refused.BadCount) (cond b (Some refused.BadLba) rest) ≡ None → cond (c || r) (Some build.BadCount) (cond b (Some build.BadLba) l) ≡ None
+no_fault true b r l rest whole free none = cc
+no_fault false true r l rest whole free none = cc
+no_fault false false true l rest whole free none = absurd (true≢false whole)
+no_fault false false false l rest whole free none = free refl
 
 -- what the port says of the tag
 abbrev pub port_says : PortView → ℕ → Option Refusal
@@ -174,14 +140,10 @@ pub free_issue : (port : PortView) (tag : ℕ) (work : Work) → is_ragged work 
 free_issue port tag work whole free =
     no_case (count_bad (sectors_of work)) (nat_le (2 ^ 48) (lba_of work)) (is_ragged work) (list_refusal (default_list (sectors_of work)) (512 * sectors_of work)) (port_says port tag) whole free
 
-pub count_issue : (port : PortView) (tag : ℕ) (work : Work) → is_ragged work ≡ false → refusal work (default_list (sectors_of work)) ≡ Some build.BadCount
-    → issue_refusal port tag (lba_of work) (sectors_of work) ≡ Some refused.BadCount
-count_issue port tag work whole is =
-    count_case (count_bad (sectors_of work)) (nat_le (2 ^ 48) (lba_of work)) (is_ragged work)
-    (list_refusal (default_list (sectors_of work)) (512 * sectors_of work)) (port_says port tag) whole (defaults_serve work) is
-
-pub address_issue : (port : PortView) (tag : ℕ) (work : Work) → is_ragged work ≡ false → refusal work (default_list (sectors_of work)) ≡ Some build.BadLba
-    → issue_refusal port tag (lba_of work) (sectors_of work) ≡ Some refused.BadLba
-address_issue port tag work whole is =
-    address_case (count_bad (sectors_of work)) (nat_le (2 ^ 48) (lba_of work)) (is_ragged work)
-    (list_refusal (default_list (sectors_of work)) (512 * sectors_of work)) (port_says port tag) whole (defaults_serve work) is
+-- where nothing stands against a command, its window is built, or memory is wanting
+pub none_builds : (port : PortView) (tag : ℕ) (work : Work) (e : BuildFault) → is_ragged work ≡ false → issue_refusal port tag (lba_of work) (sectors_of work) ≡ None
+    → MatchOption (refusal work (default_list (sectors_of work))) (e ≡ build.OutOfMemory) (λ f. e ≡ f) → e ≡ build.OutOfMemory
+none_builds port tag work e whole none is =
+    subst (λ o. MatchOption o (e ≡ build.OutOfMemory) (λ f. e ≡ f))
+    (no_fault (count_bad (sectors_of work)) (nat_le (2 ^ 48) (lba_of work)) (is_ragged work) (list_refusal (default_list (sectors_of work)) (512 * sectors_of work)) (port_says port tag) whole
+    (defaults_serve work) none) is

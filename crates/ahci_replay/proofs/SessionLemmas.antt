@@ -38,10 +38,6 @@ refused T f None show q old new Done is named same = cc
 refused T f (Some g) show q old new Done is named same =
     let inner : f ≡ g = cc in (same, ap says.Refused (named ∙ ap show inner))
 
--- a refusal that is known
-pub shown : (o : Option Refusal) (q : Refusal) (old : PortView) (Done : Type 0) → o ≡ Some q → RefusedOr o old old (says.Refused q) Done
-shown o q old Done is = subst (λ x. RefusedOr x old old (says.Refused q) Done) (sym is) (refl, refl)
-
 -- the same, where the refusal is the same and what is done says more
 pub refused_as : (o o' : Option Refusal) (old new : PortView) (said : Said) (Done Done' : Type 0) → o' ≡ o → (Done → Done') → RefusedOr o old new said Done → RefusedOr o' old new said Done'
 refused_as None o' old new said Done Done' same more did =

@@ -1,8 +1,9 @@
 -- Lemmas about what lines add, and about how a script ends.
 use Rattle.std.proofs.Common.{◌≡◌, ℕ, ◌+◌, true, false, List, [], ◌∷◌, ◌++◌, Option, None, length, take, refl, sym, ap, ◌∙◌, subst, inl, inr, append_assoc, append-nil}
-use Rattle.std.proofs.KnownBytes.{Appends-nil, Appends-trans, Consumes-nil}
+use Rattle.std.proofs.KnownBytes.{Appends-nil, Appends-trans}
 use Rattle.std.proofs.Math.Seq.{take-append-add}
 use Rattle.std.specs.Io.KnownBytes.{Appends, Consumes, IsAtEnd}
+use Rattle.streams.proofs.ReadingLemmas.{first_map, first_none}
 use Rattle.streams.specs.Reading as reading
 use Rattle.streams.specs.Reading.{Comes, IsNext, MayEnd, ReadsAll, Step, ReadsAs, StopsReading, Taken, TakenFirst, last_by, last_of}
 use Rattle.streams.specs.Unread.{Begins, MayFail, found_of, too_long, unfinished, whole, with_feeds}
@@ -220,35 +221,15 @@ refused telling s OutOfMemory unfinished lines rest p q other comes h = absurd (
 stopped_before : {S : Type 0} (telling : Telling) (f : S → Place) (stop : Stopped ScriptFault) (r s : Known) (a b : S) → is_of_output (fault_of stop) ≡ false
     → StopsReading (Goes telling f) (Fails telling f) r s a b stop
     → TakenFirst (Goes telling f) r a (λ lines remaining rest to. Stays (f to) (f b) × Why s (fault_of stop) lines remaining (f to).port rest)
-stopped_before telling f stopped.Read r s a b other h = record {
-  lines = h.lines;
-  rest = h.rest;
-  remaining = h.remaining;
-  to = h.to;
-  taken = h.taken;
-  consumed = h.consumed;
-  holds = ((ap (λ x. (f x).contents) h.holds.2, ap (λ x. (f x).waiting) h.holds.2, ap (λ x. (f x).failed) h.holds.2), (h.holds.0, h.holds.1));
-}
+stopped_before telling f stopped.Read r s a b other h =
+    first_map _ _ r a (λ lines remaining rest to holds. ((ap (λ x. (f x).contents) holds.2, ap (λ x. (f x).waiting) holds.2, ap (λ x. (f x).failed) holds.2), (holds.0, holds.1))) h
 stopped_before telling f (stopped.Taker fault) r s a b other h =
-    let now = refused telling s fault h.holds.1.0 h.lines h.rest (f h.to) (f b) other h.holds.1.1 h.holds.1.2 in
-    record {
-      lines = h.lines;
-      rest = h.rest;
-      remaining = h.remaining;
-      to = h.to;
-      taken = h.taken;
-      consumed = h.consumed;
-      holds = (now.0, subst (λ k. Why s fault h.lines k (f h.to).port h.rest) (sym h.holds.0) now.1);
-    }
-stopped_before telling f stopped.OutOfMemory r s a b other h = record {
-  lines = [];
-  rest = [];
-  remaining = r;
-  to = a;
-  taken = reading.nothing a 1;
-  consumed = Consumes-nil r;
-  holds = ((ap (λ x. (f x).contents) h.1, ap (λ x. (f x).waiting) h.1, ap (λ x. (f x).failed) h.1), tt);
-}
+    first_map _ _ r a
+    (λ lines remaining rest to holds.
+    let now = refused telling s fault holds.1.0 lines rest (f to) (f b) other holds.1.1 holds.1.2 in
+    (now.0, subst (λ k. Why s fault lines k (f to).port rest) (sym holds.0) now.1)) h
+stopped_before telling f stopped.OutOfMemory r s a b other h =
+    first_none _ r a ((ap (λ x. (f x).contents) h.1, ap (λ x. (f x).waiting) h.1, ap (λ x. (f x).failed) h.1), tt)
 
 -- and then what waits is written
 stays_written : (c d : Known) (text : Text) (p q : Place) → Sends c p.contents text p.waiting → Stays p q → Appends q.contents d q.waiting → Appends c d text

@@ -24,80 +24,53 @@ use Rattle.ahci_regs.specs.declared.fault.RegFault.TheVariants as reg
 use Rattle.ahci_script.specs.declared.line.ScriptCommand.{ScriptCommand}
 use Rattle.ahci_script.specs.declared.line.ScriptCommand.TheVariants as command
 use Rattle.ahci_script.specs.declared.refusal.Refusal.{Refusal}
-use Rattle.ahci_script.specs.declared.refusal.Refusal.TheVariants.{
-  BadSize,
-  BadDepth,
-  BadCount,
-  BadLba,
-  NoSuchTag,
-  SlotOwned,
-  BadHeader,
-  BadCommand,
-  WrongTag,
-  BadList,
-  Halted,
-  NotIssued,
-  NotAccepted,
-  OutsideCommand,
-  BadTags,
-  Stranger,
-  NotYet,
-  NotHalted,
-  NotHeld,
-  QueueBusy,
-  Unaligned,
-  NoSuchRegister,
-  NoSuchSector,
-  Busy,
-  Spent,
-  BadFirst,
-}
+use Rattle.ahci_script.specs.declared.refusal.Refusal.TheVariants as refused
 use Rattle.ncq_core.specs.DiskState.{most_depth, most_disk_sectors}
 use Rattle.ncq_journal.specs.Lawful.{most_sectors}
 
 -- a fault by the name that is shown
 abbrev pub of_issue : IssueFault → Option Refusal
-of_issue issue.Halted = Some Halted
-of_issue issue.NoSuchTag = Some NoSuchTag
-of_issue issue.SlotOwned = Some SlotOwned
-of_issue issue.BadHeader = Some BadHeader
-of_issue issue.BadCommand = Some BadCommand
-of_issue issue.WrongTag = Some WrongTag
-of_issue issue.BadList = Some BadList
+of_issue issue.Halted = Some refused.Halted
+of_issue issue.NoSuchTag = Some refused.NoSuchTag
+of_issue issue.SlotOwned = Some refused.SlotOwned
+of_issue issue.BadHeader = Some refused.BadHeader
+of_issue issue.BadCommand = Some refused.BadCommand
+of_issue issue.WrongTag = Some refused.WrongTag
+of_issue issue.BadList = Some refused.BadList
 of_issue issue.OutOfMemory = None
 
 abbrev pub of_step : StepFault → Refusal
-of_step step.Halted = Halted
-of_step step.NotIssued = NotIssued
-of_step step.NotAccepted = NotAccepted
-of_step step.OutsideCommand = OutsideCommand
-of_step step.BadTags = BadTags
+of_step step.Halted = refused.Halted
+of_step step.NotIssued = refused.NotIssued
+of_step step.NotAccepted = refused.NotAccepted
+of_step step.OutsideCommand = refused.OutsideCommand
+of_step step.BadTags = refused.BadTags
 
 abbrev pub of_collect : CollectFault → Refusal
-of_collect collect.Stranger = Stranger
-of_collect collect.NotYet = NotYet
+of_collect collect.Stranger = refused.Stranger
+of_collect collect.NotYet = refused.NotYet
 
 abbrev pub of_recover : RecoverFault → Option Refusal
-of_recover recover.NotHalted = Some NotHalted
+of_recover recover.NotHalted = Some refused.NotHalted
 of_recover recover.OutOfMemory = None
 
 abbrev pub of_reissue : ReissueFault → Refusal
-of_reissue reissue.Halted = Halted
-of_reissue reissue.NotHeld = NotHeld
+of_reissue reissue.Halted = refused.Halted
+of_reissue reissue.NotHeld = refused.NotHeld
 
 abbrev pub of_plain : PlainFault → Option Refusal
-of_plain plain.Halted = Some Halted
-of_plain plain.QueueBusy = Some QueueBusy
+of_plain plain.Halted = Some refused.Halted
+of_plain plain.QueueBusy = Some refused.QueueBusy
 of_plain plain.OutOfMemory = None
 
 abbrev pub of_trim : TrimFault → Refusal
-of_trim trim.Busy = Busy
-of_trim trim.Spent = Spent
+of_trim trim.Busy = refused.Busy
+of_trim trim.Spent = refused.Spent
 
 -- a read of a register has no other fault
 abbrev pub of_register : RegFault → Refusal
-of_register reg.Unaligned = Unaligned
-of_register fault = NoSuchRegister
+of_register reg.Unaligned = refused.Unaligned
+of_register fault = refused.NoSuchRegister
 
 -- a refusal that may be none
 abbrev pub joined : Option (Option Refusal) → Option Refusal
@@ -107,16 +80,16 @@ joined None = None
 -- why a disk is not made; where no first number is given, it is 0
 abbrev pub disk_refusal : ℕ → ℕ → Option ℕ → Option Refusal
 disk_refusal sectors depth first =
-    if nat_eq sectors 0 || nat_lt most_disk_sectors sectors then Some BadSize
-    else if nat_eq depth 0 || nat_lt most_depth depth then Some BadDepth
-    else if nat_lt most_first (unwrap_or first 0) then Some BadFirst
+    if nat_eq sectors 0 || nat_lt most_disk_sectors sectors then Some refused.BadSize
+    else if nat_eq depth 0 || nat_lt most_depth depth then Some refused.BadDepth
+    else if nat_lt most_first (unwrap_or first 0) then Some refused.BadFirst
     else None
 
 -- why a command of so many sectors from an LBA on is not issued: its window is built first
 abbrev pub issue_refusal : PortView → ℕ → ℕ → ℕ → Option Refusal
 issue_refusal port tag lba sectors =
-    if nat_eq sectors 0 || nat_lt most_sectors sectors then Some BadCount
-    else if nat_le (2 ^ 48) lba then Some BadLba
+    if nat_eq sectors 0 || nat_lt most_sectors sectors then Some refused.BadCount
+    else if nat_le (2 ^ 48) lba then Some refused.BadLba
     else joined (option_map of_issue (early_refusal port tag))
 
 -- why a register is not read
@@ -126,7 +99,7 @@ register_refusal (Err fault) = Some (of_register fault)
 
 -- why a sector is not shown
 abbrev pub show_refusal : PortView → ℕ → Option Refusal
-show_refusal port lba = if nat_lt lba (sectors_in port) then None else Some NoSuchSector
+show_refusal port lba = if nat_lt lba (sectors_in port) then None else Some refused.NoSuchSector
 
 -- why the port refuses a command, if it does; a window of any bytes is not among these
 abbrev pub refusal_on : PortView → ScriptCommand → Option Refusal

@@ -1,6 +1,6 @@
 //! How a script's commands are issued: by a window over the default pieces, or by one of any bytes.
 
-ghost use Rattle.std.specs.Prelude.{◌≡◌, ◌<◌, ◌≤◌, ◌*◌, ◌^◌, false, length, IfOk, IsErr, IsOkAnd, OnErr, MatchOption, replicate};
+ghost use Rattle.std.specs.Prelude.{◌≡◌, ◌<◌, ◌≤◌, ◌*◌, ◌^◌, false, length, IfOk, IsErr, IsOkAnd, None, OnErr, MatchOption, replicate};
 ghost use Rattle.std.specs.Option.{option_map};
 ghost use Rattle.ncq_journal.specs.Work.{work_of, lba_of, sectors_of};
 ghost use Rattle.ahci_port.specs.Faults.{early_refusal};
@@ -105,8 +105,8 @@ fn pieces_of<A: Allocator>(op: &Op<A>) -> ArrayVec<Piece, 32>
     default_pieces(op.sectors() as u32)
 }
 
-/// Issues a command by a window over the default pieces; the command itself goes into the journal. What stands against it was
-/// asked before (`against`); its count and address are looked at once more as its window is built.
+/// Issues a command by a window over the default pieces; the command itself goes into the journal. Nothing stands against it
+/// (`against`).
 fn issue<A: Allocator + Copy>(
     port: &mut Port<A>,
     alloc: &A,
@@ -116,6 +116,7 @@ fn issue<A: Allocator + Copy>(
     requires tag { tag < 32 }
     requires small { sectors_of (work_of op) < 2 ^ 32 }
     requires whole { is_ragged (work_of op) ≡ false }
+    requires free { issue_refusal port.old tag (lba_of (work_of op)) (sectors_of (work_of op)) ≡ None }
     ensures ok { IfOk result (λ answer.
         RefusedOr (issue_refusal port.old tag (lba_of (work_of op)) (sectors_of (work_of op)))
         port.old port.new (said answer) (HasIssued tag (work_of op) port.old port.new (said answer))) }
@@ -125,10 +126,8 @@ fn issue<A: Allocator + Copy>(
     match Window::build(alloc.clone()?, tag, &op, &pieces) {
         Ok(window) => told(port.issue_asked(window, op)),
         Err(fault) => match fault {
-            BuildFault::BadCount => Ok(ScriptAnswer::Refused(Refusal::BadCount)),
-            BuildFault::BadLba => Ok(ScriptAnswer::Refused(Refusal::BadLba)),
             BuildFault::OutOfMemory => Err(AllocError),
-            // The default pieces serve every count.
+            // Its count and address were looked at, and the default pieces serve every count.
             _ => unreachable!(),
         },
     }

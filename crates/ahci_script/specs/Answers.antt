@@ -4,34 +4,7 @@ use Rattle.std.specs.Fmt.{decimal, digit_glyph}
 use Rattle.std.specs.List.{range_with_len}
 use Rattle.ahci_script.specs.Said.{Said, Disk, Issued, Accepted, Completed, FailedStep, Wrote, Read, Failed, Recovered, Reissued, Register, Acked, Word, Flushed, Sector, Journal, Trimmed, Refused}
 use Rattle.ahci_script.specs.declared.refusal.Refusal.{Refusal}
-use Rattle.ahci_script.specs.declared.refusal.Refusal.TheVariants.{
-  BadSize,
-  BadDepth,
-  BadFirst,
-  BadCount,
-  BadLba,
-  NoSuchTag,
-  SlotOwned,
-  BadHeader,
-  BadCommand,
-  WrongTag,
-  BadList,
-  Halted,
-  NotIssued,
-  NotAccepted,
-  BadTags,
-  OutsideCommand,
-  NotHalted,
-  NotHeld,
-  QueueBusy,
-  Stranger,
-  NotYet,
-  Unaligned,
-  NoSuchRegister,
-  NoSuchSector,
-  Busy,
-  Spent,
-}
+use Rattle.ahci_script.specs.declared.refusal.Refusal.TheVariants as the-refusal
 
 -- the last digits of a number as hexadecimal ones, in lower case
 abbrev pub hex_of : ℕ → ℕ → List ℕ
@@ -57,34 +30,34 @@ abbrev pub sectors_text : List ℕ → ℕ → List ℕ
 sectors_text bytes zero = []
 sectors_text bytes (suc n) = sectors_text bytes n ++ sector_text bytes n
 
--- the fault's name
+-- the refusal's name
 abbrev pub name_of : Refusal → List ℕ
-name_of BadSize = codes "BadSize"
-name_of BadDepth = codes "BadDepth"
-name_of BadFirst = codes "BadFirst"
-name_of BadCount = codes "BadCount"
-name_of BadLba = codes "BadLba"
-name_of NoSuchTag = codes "NoSuchTag"
-name_of SlotOwned = codes "SlotOwned"
-name_of BadHeader = codes "BadHeader"
-name_of BadCommand = codes "BadCommand"
-name_of WrongTag = codes "WrongTag"
-name_of BadList = codes "BadList"
-name_of Halted = codes "Halted"
-name_of NotIssued = codes "NotIssued"
-name_of NotAccepted = codes "NotAccepted"
-name_of BadTags = codes "BadTags"
-name_of OutsideCommand = codes "OutsideCommand"
-name_of NotHalted = codes "NotHalted"
-name_of NotHeld = codes "NotHeld"
-name_of QueueBusy = codes "QueueBusy"
-name_of Stranger = codes "Stranger"
-name_of NotYet = codes "NotYet"
-name_of Unaligned = codes "Unaligned"
-name_of NoSuchRegister = codes "NoSuchRegister"
-name_of NoSuchSector = codes "NoSuchSector"
-name_of Busy = codes "Busy"
-name_of Spent = codes "Spent"
+name_of the-refusal.BadSize = codes "BadSize"
+name_of the-refusal.BadDepth = codes "BadDepth"
+name_of the-refusal.BadFirst = codes "BadFirst"
+name_of the-refusal.BadCount = codes "BadCount"
+name_of the-refusal.BadLba = codes "BadLba"
+name_of the-refusal.NoSuchTag = codes "NoSuchTag"
+name_of the-refusal.SlotOwned = codes "SlotOwned"
+name_of the-refusal.BadHeader = codes "BadHeader"
+name_of the-refusal.BadCommand = codes "BadCommand"
+name_of the-refusal.WrongTag = codes "WrongTag"
+name_of the-refusal.BadList = codes "BadList"
+name_of the-refusal.Halted = codes "Halted"
+name_of the-refusal.NotIssued = codes "NotIssued"
+name_of the-refusal.NotAccepted = codes "NotAccepted"
+name_of the-refusal.BadTags = codes "BadTags"
+name_of the-refusal.OutsideCommand = codes "OutsideCommand"
+name_of the-refusal.NotHalted = codes "NotHalted"
+name_of the-refusal.NotHeld = codes "NotHeld"
+name_of the-refusal.QueueBusy = codes "QueueBusy"
+name_of the-refusal.Stranger = codes "Stranger"
+name_of the-refusal.NotYet = codes "NotYet"
+name_of the-refusal.Unaligned = codes "Unaligned"
+name_of the-refusal.NoSuchRegister = codes "NoSuchRegister"
+name_of the-refusal.NoSuchSector = codes "NoSuchSector"
+name_of the-refusal.Busy = codes "Busy"
+name_of the-refusal.Spent = codes "Spent"
 
 -- an answer, without its line feed
 abbrev pub answer_text : Said → List ℕ

@@ -18,6 +18,12 @@ use Rattle.ahci_script.specs.declared.line.Line.TheVariants as the-line
 abbrev pub Command : Type 0
 Command = Result ScriptCommand Breach
 
+-- a command, after whose words nothing is left
+abbrev pub alone : ScriptCommand → Rest → Command
+alone command words = do
+  end ← ends words
+  Ok command
+
 -- a number, where a word is left
 abbrev pub number_if_any : Rest → Result (Option ℕ) Breach
 number_if_any None = Ok None
@@ -41,8 +47,7 @@ write_of words = do
   l ← word_of decimal_of t.1
   n ← word_of sectors_of l.1
   b ← word_of byte_of n.1
-  end ← ends b.1
-  Ok (Write t.0 l.0 n.0 b.0)
+  alone (Write t.0 l.0 n.0 b.0) b.1
 
 -- read T LBA N
 abbrev pub read_of : Rest → Command
@@ -50,8 +55,7 @@ read_of words = do
   t ← word_of tag_of words
   l ← word_of decimal_of t.1
   n ← word_of sectors_of l.1
-  end ← ends n.1
-  Ok (Read t.0 l.0 n.0)
+  alone (Read t.0 l.0 n.0) n.1
 
 -- raw T H B
 abbrev pub raw_of : Rest → Command
@@ -59,15 +63,13 @@ raw_of words = do
   t ← word_of tag_of words
   h ← word_of header_of t.1
   b ← word_of hex_bytes_of h.1
-  end ← ends b.1
-  Ok (Raw t.0 (record { header = h.0; bytes = b.0 }))
+  alone (Raw t.0 (record { header = h.0; bytes = b.0 })) b.1
 
 -- accept T
 abbrev pub accept_of : Rest → Command
 accept_of words = do
   t ← word_of tag_of words
-  end ← ends t.1
-  Ok (Accept t.0)
+  alone (Accept t.0) t.1
 
 -- tags that were read, and the tags of the words that are left, as many as there is room for
 unfoldable pub more_tags : ℕ → List ℕ → Rest → Result (List ℕ) Breach
@@ -95,57 +97,44 @@ fail_of words = do
   t ← word_of tag_of words
   e ← word_of byte_of t.1
   l ← word_of decimal_of e.1
-  end ← ends l.1
-  Ok (Fail t.0 e.0 l.0)
+  alone (Fail t.0 e.0 l.0) l.1
 
 -- collect T K
 abbrev pub collect_of : Rest → Command
 collect_of words = do
   t ← word_of tag_of words
   n ← word_of decimal_of t.1
-  end ← ends n.1
-  Ok (Collect t.0 n.0)
+  alone (Collect t.0 n.0) n.1
 
 -- reissue T
 abbrev pub reissue_of : Rest → Command
 reissue_of words = do
   t ← word_of tag_of words
-  end ← ends t.1
-  Ok (Reissue t.0)
+  alone (Reissue t.0) t.1
 
 -- reg OFF
 abbrev pub reg_of : Rest → Command
 reg_of words = do
   off ← word_of hexadecimal_of words
-  end ← ends off.1
-  Ok (Reg off.0)
+  alone (Reg off.0) off.1
 
 -- ack MASK
 abbrev pub ack_of : Rest → Command
 ack_of words = do
   mask ← word_of hexadecimal_of words
-  end ← ends mask.1
-  Ok (Ack mask.0)
+  alone (Ack mask.0) mask.1
 
 -- identify W
 abbrev pub identify_of : Rest → Command
 identify_of words = do
   w ← word_of page_word_of words
-  end ← ends w.1
-  Ok (Identify w.0)
+  alone (Identify w.0) w.1
 
 -- show LBA
 abbrev pub show_of : Rest → Command
 show_of words = do
   l ← word_of decimal_of words
-  end ← ends l.1
-  Ok (Show l.0)
-
--- a command of no other words
-abbrev pub alone : ScriptCommand → Rest → Command
-alone command words = do
-  end ← ends words
-  Ok command
+  alone (Show l.0) l.1
 
 -- a line that begins with no command's name
 abbrev pub unnamed : List ℕ → List ℕ → Breach

@@ -1,5 +1,5 @@
 -- The lines that `ahci run` writes.
-use Rattle.std.specs.Prelude.{ℕ, ◌+◌, ◌*◌, ◌/◌, List, ◌++◌, length, codes}
+use Rattle.std.specs.Prelude.{ℕ, ◌/◌, List, ◌++◌, length, codes}
 use Rattle.std.specs.Fmt.{decimal}
 use Rattle.ahci_script.specs.Answers.{hex_of, sectors_text}
 use Rattle.ahci_script.specs.declared.result_line.ResultLine.{ResultLine}
@@ -25,8 +25,3 @@ told_text Wrote = codes "wrote"
 told_text (Read bytes) = codes "read" ++ sectors_text bytes (length bytes / 512)
 told_text (Failed error lba) = codes "failed " ++ (hex_of 2 error ++ (codes " " ++ decimal lba))
 told_text (Sector lba byte) = codes "sector " ++ (decimal lba ++ (codes " " ++ hex_of 2 byte))
-
--- how many bytes it has at most, with its line feed
-abbrev pub told_room : Told → ℕ
-told_room (Read bytes) = 64 + 3 * (length bytes / 512)
-told_room line = 64

@@ -1,8 +1,8 @@
 //! The grammar of scripts: each command's name, and the words that stand after it.
 
-ghost use Rattle.std.specs.Prelude.{◌≡◌, IfOk, IfSome};
+ghost use Rattle.std.specs.Prelude.{◌≡◌, IfOk};
 ghost use Rattle.ahci_script.specs.Breaches.{comment_of};
-ghost use Rattle.ahci_script.specs.Lines.{HasSmallTag, HasSmallTags, accept_of, ack_of, alone, collect_of, command_of, disk_of, fail_of, identify_of, line_of, named, named_more, raw_of, read_of, reading, reg_of, reissue_of, serve_of, show_of, unnamed, write_of};
+ghost use Rattle.ahci_script.specs.Lines.{HasSmallTag, HasSmallTags, accept_of, ack_of, alone, collect_of, command_of, disk_of, fail_of, identify_of, named, named_more, raw_of, read_of, reading, reg_of, reissue_of, serve_of, show_of, unnamed, write_of};
 
 use crate::breach::{Breach, high_byte};
 use crate::fault::Fault;
@@ -28,14 +28,6 @@ pub fn read_line(line: &[u8]) -> Result<Line<'_>, Breach>
             Err(breach) => Err(breach.seen_in(line)),
         },
     }
-}
-
-/// What a line spells. `None` where it breaks a rule.
-pub fn parse(line: &[u8]) -> Option<Line<'_>>
-    ensures line { result ≡ line_of line.now }
-    ensures tags { IfSome result (λ line. HasSmallTags line) }
-{
-    read_line(line).ok()
 }
 
 /// A comment may hold any byte below 128.
@@ -124,7 +116,7 @@ pub(crate) fn unnamed(line: &[u8], name: &[u8]) -> Breach
     }
 }
 
-/// A command of no other words.
+/// A command, after whose words nothing is left.
 fn alone<'a>(words: Words<'a>, command: ScriptCommand<'a>) -> Result<ScriptCommand<'a>, Breach>
     requires { HasSmallTag command }
     ensures command { result ≡ alone command.entry words.entry }
@@ -172,8 +164,7 @@ fn read(words: Words<'_>) -> Result<ScriptCommand<'_>, Breach>
     let (tag, words) = words.tag()?;
     let (lba, words) = words.number()?;
     let (sectors, words) = words.sectors()?;
-    words.end()?;
-    Ok(ScriptCommand::Read { tag, lba, sectors })
+    alone(words, ScriptCommand::Read { tag, lba, sectors })
 }
 
 fn raw(words: Words<'_>) -> Result<ScriptCommand<'_>, Breach>
@@ -195,8 +186,7 @@ fn accept(words: Words<'_>) -> Result<ScriptCommand<'_>, Breach>
     ensures tag { IfOk result (λ command. HasSmallTag command) }
 {
     let (tag, words) = words.tag()?;
-    words.end()?;
-    Ok(ScriptCommand::Accept { tag })
+    alone(words, ScriptCommand::Accept { tag })
 }
 
 fn serve(words: Words<'_>) -> Result<ScriptCommand<'_>, Breach>
@@ -214,8 +204,7 @@ fn fail(words: Words<'_>) -> Result<ScriptCommand<'_>, Breach>
     let (tag, words) = words.tag()?;
     let (error, words) = words.byte()?;
     let (lba, words) = words.number()?;
-    words.end()?;
-    Ok(ScriptCommand::Fail { tag, error, lba })
+    alone(words, ScriptCommand::Fail { tag, error, lba })
 }
 
 fn collect(words: Words<'_>) -> Result<ScriptCommand<'_>, Breach>
@@ -224,8 +213,7 @@ fn collect(words: Words<'_>) -> Result<ScriptCommand<'_>, Breach>
 {
     let (tag, words) = words.tag()?;
     let (number, words) = words.number()?;
-    words.end()?;
-    Ok(ScriptCommand::Collect { tag, number })
+    alone(words, ScriptCommand::Collect { tag, number })
 }
 
 fn reissue(words: Words<'_>) -> Result<ScriptCommand<'_>, Breach>
@@ -233,8 +221,7 @@ fn reissue(words: Words<'_>) -> Result<ScriptCommand<'_>, Breach>
     ensures tag { IfOk result (λ command. HasSmallTag command) }
 {
     let (tag, words) = words.tag()?;
-    words.end()?;
-    Ok(ScriptCommand::Reissue { tag })
+    alone(words, ScriptCommand::Reissue { tag })
 }
 
 fn reg(words: Words<'_>) -> Result<ScriptCommand<'_>, Breach>
@@ -242,8 +229,7 @@ fn reg(words: Words<'_>) -> Result<ScriptCommand<'_>, Breach>
     ensures tag { IfOk result (λ command. HasSmallTag command) }
 {
     let (off, words) = words.register()?;
-    words.end()?;
-    Ok(ScriptCommand::Reg { off })
+    alone(words, ScriptCommand::Reg { off })
 }
 
 fn ack(words: Words<'_>) -> Result<ScriptCommand<'_>, Breach>
@@ -251,8 +237,7 @@ fn ack(words: Words<'_>) -> Result<ScriptCommand<'_>, Breach>
     ensures tag { IfOk result (λ command. HasSmallTag command) }
 {
     let (mask, words) = words.register()?;
-    words.end()?;
-    Ok(ScriptCommand::Ack { mask })
+    alone(words, ScriptCommand::Ack { mask })
 }
 
 fn identify(words: Words<'_>) -> Result<ScriptCommand<'_>, Breach>
@@ -260,8 +245,7 @@ fn identify(words: Words<'_>) -> Result<ScriptCommand<'_>, Breach>
     ensures tag { IfOk result (λ command. HasSmallTag command) }
 {
     let (word, words) = words.page_word()?;
-    words.end()?;
-    Ok(ScriptCommand::Identify { word })
+    alone(words, ScriptCommand::Identify { word })
 }
 
 fn show(words: Words<'_>) -> Result<ScriptCommand<'_>, Breach>
@@ -269,6 +253,5 @@ fn show(words: Words<'_>) -> Result<ScriptCommand<'_>, Breach>
     ensures tag { IfOk result (λ command. HasSmallTag command) }
 {
     let (lba, words) = words.number()?;
-    words.end()?;
-    Ok(ScriptCommand::Show { lba })
+    alone(words, ScriptCommand::Show { lba })
 }

@@ -3,8 +3,10 @@
 ghost use Rattle.std.specs.Prelude.{◌≡◌, ◌++◌, ◌∷◌, OnOk};
 ghost use Rattle.std.specs.Fmt.{decimal};
 ghost use Rattle.ahci_script.specs.Answers.{hex_of};
+ghost use Rattle.ahci_script.specs.Results.{told, told_text};
 
-use crate::text::{eight_digits, spaced_byte};
+use crate::result_line::ResultLine;
+use crate::text::{SHORT, eight_digits, push_sectors, spaced_byte};
 use itoa::Buffer;
 use std::alloc::{AllocError, Allocator};
 
@@ -39,4 +41,32 @@ pub fn push_word<A: Allocator>(text: &mut Vec<u8, A>, word: u32) -> Result<(), A
     ensures { OnOk result (text.new.items ≡ text.old.items ++ hex_of 8 word) }
 {
     push(text, &eight_digits(word))
+}
+
+/// Appends a result, without a line feed. Room for a short one is asked for at once.
+pub fn push_result<A: Allocator>(
+    text: &mut Vec<u8, A>,
+    line: ResultLine<'_>,
+) -> Result<(), AllocError>
+    ensures { OnOk result (text.new.items ≡ text.old.items ++ told_text (told line.entry)) }
+{
+    text.reserve(SHORT)?;
+    match line {
+        ResultLine::Wrote => push(text, b"wrote"),
+        ResultLine::Read(bytes) => {
+            push(text, b"read")?;
+            text.reserve(3 * (bytes.len() / 512))?;
+            push_sectors(text, bytes);
+            Ok(())
+        }
+        ResultLine::Failed { error, lba } => {
+            push(text, b"failed")?;
+            push_byte(text, error)?;
+            push_number(text, b" ", lba)
+        }
+        ResultLine::Sector { lba, byte } => {
+            push_number(text, b"sector ", lba)?;
+            push_byte(text, byte)
+        }
+    }
 }

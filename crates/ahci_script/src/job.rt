@@ -1,5 +1,5 @@
 ghost use Rattle.std.specs.Prelude.{◌≡◌};
-ghost use Rattle.ahci_script.specs.Jobs.{job_line_of, job_of, job_reading, read_job_of, write_job_of};
+ghost use Rattle.ahci_script.specs.Jobs.{job_of, job_reading, read_job_of, write_job_of};
 
 use crate::breach::Breach;
 use crate::grammar::{comment, unnamed};
@@ -21,13 +21,6 @@ pub enum Job {
     Write { lba: u64, sectors: u32, fill: u8 },
     /// `read LBA N`: reads sectors.
     Read { lba: u64, sectors: u32 },
-}
-
-/// Reads a line of a job list, without its line feed. `None` where it is not understood.
-pub fn parse_job(line: &[u8]) -> Option<JobLine>
-    ensures { result ≡ job_line_of line.now }
-{
-    read_job(line).ok()
 }
 
 /// Reads a line of a job list, without its line feed: what it spells; else the first rule of the language that it breaks, from

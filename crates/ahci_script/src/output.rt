@@ -1,13 +1,10 @@
 ghost use Rattle.std.specs.Prelude.{◌≡◌, ◌∷◌, ◌++◌, ◌↔◌, ◌≤◌, ℕ, [], IsTrue, OnErr, OnOk, length, take};
 ghost use Rattle.std.specs.Io.KnownBytes.{Appends};
 ghost use Rattle.ahci_script.specs.Answers.{answer_text};
-ghost use Rattle.ahci_script.specs.Results.{told, told_text};
 ghost use Rattle.ahci_script.specs.Said.{said};
 ghost use Rattle.streams.specs.Ends.{with_failed_write, with_flush};
 
 use crate::answer::ScriptAnswer;
-use crate::result_line::ResultLine;
-use crate::result_text;
 use crate::text::{push, push_line, room_for};
 use std::alloc::{AllocError, Allocator, Global};
 use std::io::Write;
@@ -75,17 +72,6 @@ impl<A: Allocator> Output<A> {
             self.waiting.truncate(before);
             return Err(refused);
         }
-        Ok(())
-    }
-
-    /// Appends a result's text and its line feed. Room for both is asked for first, so after a refused growth no byte of
-    /// them waits.
-    pub fn put_result(&mut self, line: ResultLine<'_>) -> Result<(), AllocError>
-        ensures ok { OnOk result (self.new ≡ self.old ++ (told_text (told line.entry) ++ 10 ∷ [])) }
-        ensures err { OnErr result (self.new ≡ self.old) }
-    {
-        self.waiting.reserve(result_text::room_for(line))?;
-        result_text::push_line(&mut self.waiting, line);
         Ok(())
     }
 

@@ -1,9 +1,9 @@
 use Rattle.std.proofs.Common.{ap, map}
 use Rattle.streams.proofs.FoundLemmas.{if_err_from}
 use Rattle.ncq_journal.specs.Work.{work_of}
-use Rattle.ahci_jobs.specs.Faults.{ListReads, list_fault_of}
+use Rattle.ahci_jobs.specs.Faults.{RunReads, list_fault_of}
 use Rattle.ahci_jobs.specs.JobList.{IsListFault}
-use Rattle.ahci_jobs.specs.declared.list_fault.ListFault.TheVariants.{OutOfMemory}
+use Rattle.ahci_jobs.specs.declared.jobs_fault.JobsFault.TheVariants.{OutOfMemory}
 use Rattle.ahci_jobs.proofs.ListLemmas.{list_fault, list_reads, listed_all, nothing_listed}
 use Rattle.ahci_jobs.proofs.job_list.listed.Goals as goal
 
@@ -27,6 +27,6 @@ returns-in_err-clone-clause-err g c = if_err_from _ OutOfMemory (IsListFault _ _
 pub returns-in_err-take_lines-clause-reads : goal.returns-in_err-take_lines-clause-reads
 returns-in_err-take_lines-clause-reads g c =
     let f = c.in_err-take_lines.field-0.0 in
-    if_err_from _ (list_fault_of f) (ListReads c.args.reads.now c.take_lines.new.reads) c.from_residual-in_err-take_lines.ensures.1
+    if_err_from _ (list_fault_of f) (RunReads c.args.reads.now c.take_lines.new.reads) c.from_residual-in_err-take_lines.ensures.1
     (list_reads (λ x. map work_of x.0.jobs.items) f (g.R.Read.remaining c.args.reader.now) (g.R.Read.remaining c.take_lines.new.reader)
     (c.in_ok-list.list, tt) (c.take_lines.new.taker, c.take_lines.new.output) c.args.reads.now c.take_lines.new.reads c.in_err-take_lines.ensures.err c.in_err-take_lines.ensures.why)

@@ -4,13 +4,12 @@ use Rattle.ahci_port.specs.Steps.{IsIssued}
 use Rattle.ahci_script.specs.Said.{Issued, said}
 use Rattle.ahci_table.specs.Defaults.{default_list}
 use Rattle.ahci_table.specs.Refusal.{refusal}
-use Rattle.ahci_table.specs.declared.fault.BuildFault.TheVariants.{BadCount, BadLba, OutOfMemory}
+use Rattle.ahci_table.specs.declared.fault.BuildFault.TheVariants.{OutOfMemory}
 use Rattle.ncq_journal.specs.Work.{lba_of, sectors_of, work_of}
-use Rattle.ahci_script.specs.declared.refusal.Refusal.TheVariants as refused
 use Rattle.ahci_replay.specs.Commands.{AnswersWindow, HasIssued, RefusedOr}
 use Rattle.ahci_replay.specs.Refusals.{issue_refusal}
-use Rattle.ahci_replay.proofs.IssuingLemmas.{address_issue, built_free, built_named, count_issue, fit_answer, free_issue, no_other_fault, port_says, told_answer, told_same}
-use Rattle.ahci_replay.proofs.SessionLemmas.{if_ok_from, refused_as, shown}
+use Rattle.ahci_replay.proofs.IssuingLemmas.{built_free, fit_answer, free_issue, none_builds, port_says, told_answer, told_same}
+use Rattle.ahci_replay.proofs.SessionLemmas.{if_ok_from, refused_as}
 use Rattle.ahci_replay.proofs.issuing.issue.Goals as goal
 
 pub returns-in-Ok-clause-ok : goal.returns-in-Ok-clause-ok
@@ -37,27 +36,9 @@ pub returns-in-Ok-clause-err : goal.returns-in-Ok-clause-err
 returns-in-Ok-clause-err g c =
     told_same _ _ said c.in-Ok.window c.args.port.now c.issue_asked.new.self c.issue_asked.result c.told.result c.issue_asked.ensures.err c.told.ensures
 
-pub returns-in-BadCount-clause-ok : goal.returns-in-BadCount-clause-ok
-returns-in-BadCount-clause-ok g c =
-    let a = c.args in
-    let work = work_of a.op in
-    let pieces : c.deref.result.now ≡ default_list (sectors_of work) = c.deref.ensures.0 ∙ c.pieces_of-pieces.ensures in
-    let named : refusal work (default_list (sectors_of work)) ≡ Some BadCount =
-    ap (refusal work) (sym pieces) ∙ built_named BadCount c.in-Err.fault (refusal work c.deref.result.now) c.in-BadCount.is (λ e. cc) c.in-Err.ensures.fault in
-    shown (issue_refusal a.port.now a.tag (lba_of work) (sectors_of work)) refused.BadCount a.port.now _ (count_issue a.port.now a.tag work c.requires.whole named)
-
-pub returns-in-BadLba-clause-ok : goal.returns-in-BadLba-clause-ok
-returns-in-BadLba-clause-ok g c =
-    let a = c.args in
-    let work = work_of a.op in
-    let pieces : c.deref.result.now ≡ default_list (sectors_of work) = c.deref.ensures.0 ∙ c.pieces_of-pieces.ensures in
-    let named : refusal work (default_list (sectors_of work)) ≡ Some BadLba =
-    ap (refusal work) (sym pieces) ∙ built_named BadLba c.in-Err.fault (refusal work c.deref.result.now) c.in-BadLba.is (λ e. cc) c.in-Err.ensures.fault in
-    shown (issue_refusal a.port.now a.tag (lba_of work) (sectors_of work)) refused.BadLba a.port.now _ (address_issue a.port.now a.tag work c.requires.whole named)
-
 pub unreachable-requires : goal.unreachable-requires
 unreachable-requires g c =
     let work = work_of c.args.op in
     let fault = c.in-Err.fault in
-    no_other_fault fault work (subst (λ l. MatchOption (refusal work l) (fault ≡ OutOfMemory) (λ f. fault ≡ f)) (c.deref.ensures.0 ∙ c.pieces_of-pieces.ensures) c.in-Err.ensures.fault)
-    c.in_default.not-OutOfMemory c.in_default.not-BadCount c.in_default.not-BadLba
+    absurd (c.in_default.not-OutOfMemory (none_builds c.args.port.now c.args.tag work fault c.requires.whole c.requires.free
+    (subst (λ l. MatchOption (refusal work l) (fault ≡ OutOfMemory) (λ f. fault ≡ f)) (c.deref.ensures.0 ∙ c.pieces_of-pieces.ensures) c.in-Err.ensures.fault)))

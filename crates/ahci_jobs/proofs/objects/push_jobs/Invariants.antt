@@ -1,8 +1,0 @@
--- the objects of the jobs so far
-use Rattle.std.proofs.Common.{◌≡◌, ◌++◌, map, take}
-use Rattle.ahci_driver.specs.Received.{received_of}
-use Rattle.ahci_jobs.specs.Objects.{job_objects}
-use Rattle.ahci_jobs.proofs.objects.push_jobs.Given as goal
-
-abbrev pub invariant-loop-job : goal.invariant-loop-job
-invariant-loop-job g l = l.text.items ≡ l.initial.text.items ++ job_objects l.workers 0 (map received_of (take l.job l.replies))
