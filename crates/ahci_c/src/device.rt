@@ -22,11 +22,7 @@ pub extern "C" fn ahci_port_accept(
     ensures { Changes result (view_of port.old) (view_of port.new) (done.new ≡ done.old)
         (λ answer old new. Told answer (accept_refusal old tag) (HasStepped (DeviceStep.Accept tag) old new done.new) (Same old new done.old done.new)) }
 {
-    let Some(mut held) = port.take(heap) else {
-        return Status::NoPort.code();
-    };
-    let answer = port_place::accept(&mut held, tag, done);
-    port.back(held, answer)
+    over!(port, heap, |held| port_place::accept(&mut held, tag, done))
 }
 
 /// The device serves the commands of some tags, in the list's order.
@@ -40,11 +36,7 @@ pub extern "C" fn ahci_port_serve(
     ensures { Changes result (view_of port.old) (view_of port.new) (done.new ≡ done.old)
         (λ answer old new. Told answer (serve_refusal old tags.now) (HasStepped (DeviceStep.Serve (record { items = tags.now })) old new done.new) (Same old new done.old done.new)) }
 {
-    let Some(mut held) = port.take(heap) else {
-        return Status::NoPort.code();
-    };
-    let answer = port_place::serve(&mut held, tags, done);
-    port.back(held, answer)
+    over!(port, heap, |held| port_place::serve(&mut held, tags, done))
 }
 
 /// The device fails a tag's accepted command.
@@ -60,9 +52,9 @@ pub extern "C" fn ahci_port_fail(
     ensures { Changes result (view_of port.old) (view_of port.new) (done.new ≡ done.old)
         (λ answer old new. Told answer (fail_refusal old tag error lba) (HasStepped (DeviceStep.Fail tag error lba) old new done.new) (Same old new done.old done.new)) }
 {
-    let Some(mut held) = port.take(heap) else {
-        return Status::NoPort.code();
-    };
-    let answer = port_place::fail(&mut held, tag, error, lba, done);
-    port.back(held, answer)
+    over!(
+        port,
+        heap,
+        |held| port_place::fail(&mut held, tag, error, lba, done)
+    )
 }

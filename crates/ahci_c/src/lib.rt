@@ -4,6 +4,17 @@
 
 ghost use Rattle.std.specs.Prelude.{◌≡◌};
 
+/// Takes the port out of its place, makes the call on it, puts it back, and answers the call's number; an empty place is told.
+macro_rules! over {
+    ($place:ident, $heap:ident, |$held:ident| $call:expr) => {{
+        let Some(mut $held) = $place.take($heap) else {
+            return Status::NoPort.code();
+        };
+        let answer = $call;
+        $place.back($held, answer)
+    }};
+}
+
 mod alone;
 mod device;
 mod looking;

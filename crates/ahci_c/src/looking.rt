@@ -21,11 +21,7 @@ pub extern "C" fn ahci_port_depth(port: &mut Place, heap: Global, depth: &mut u3
     ensures { Reads result (view_of port.old) (view_of port.new) (depth.new ≡ depth.old)
         (λ answer port. (answer ≡ Status.Done) × (depth.new ≡ port.depth)) }
 {
-    let Some(held) = port.take(heap) else {
-        return Status::NoPort.code();
-    };
-    let answer = port_place::depth(&held, depth);
-    port.back(held, answer)
+    over!(port, heap, |held| port_place::depth(&held, depth))
 }
 
 /// How many sectors the disk has.
@@ -34,11 +30,7 @@ pub extern "C" fn ahci_port_sectors(port: &mut Place, heap: Global, sectors: &mu
     ensures { Reads result (view_of port.old) (view_of port.new) (sectors.new ≡ sectors.old)
         (λ answer port. (answer ≡ Status.Done) × (sectors.new ≡ sectors_in port)) }
 {
-    let Some(held) = port.take(heap) else {
-        return Status::NoPort.code();
-    };
-    let answer = port_place::sectors(&held, sectors);
-    port.back(held, answer)
+    over!(port, heap, |held| port_place::sectors(&held, sectors))
 }
 
 /// Copies the received FIS area.
@@ -47,11 +39,7 @@ pub extern "C" fn ahci_port_received(port: &mut Place, heap: Global, out: &mut [
     ensures { Reads result (view_of port.old) (view_of port.new) (out.new ≡ out.old)
         (λ answer port. Told answer (received_refusal (length out.old)) (out.new ≡ port.area) (out.new ≡ out.old)) }
 {
-    let Some(held) = port.take(heap) else {
-        return Status::NoPort.code();
-    };
-    let answer = port_place::received(&held, out);
-    port.back(held, answer)
+    over!(port, heap, |held| port_place::received(&held, out))
 }
 
 /// Which tags wait for what.
@@ -60,11 +48,7 @@ pub extern "C" fn ahci_port_tag_sets(port: &mut Place, heap: Global, sets: &mut 
     ensures { Reads result (view_of port.old) (view_of port.new) (sets.new ≡ sets.old)
         (λ answer port. (answer ≡ Status.Done) × IsSets port sets.new) }
 {
-    let Some(held) = port.take(heap) else {
-        return Status::NoPort.code();
-    };
-    let answer = port_place::tag_sets(&held, sets);
-    port.back(held, answer)
+    over!(port, heap, |held| port_place::tag_sets(&held, sets))
 }
 
 /// One slot.
@@ -78,11 +62,7 @@ pub extern "C" fn ahci_port_slot(
     ensures { Reads result (view_of port.old) (view_of port.new) (slot.new ≡ slot.old)
         (λ answer port. Told answer (with_tag tag None) (slot.new ≡ flat_slot port tag) (slot.new ≡ slot.old)) }
 {
-    let Some(held) = port.take(heap) else {
-        return Status::NoPort.code();
-    };
-    let answer = port_place::slot(&held, tag, slot);
-    port.back(held, answer)
+    over!(port, heap, |held| port_place::slot(&held, tag, slot))
 }
 
 /// Copies a sector as it is now.
@@ -91,11 +71,7 @@ pub extern "C" fn ahci_port_copy(port: &mut Place, heap: Global, lba: u64, out: 
     ensures { Reads result (view_of port.old) (view_of port.new) (out.new ≡ out.old)
         (λ answer port. Told answer (copy_refusal port lba (length out.old)) (out.new ≡ sector port.starting port.past lba) (out.new ≡ out.old)) }
 {
-    let Some(held) = port.take(heap) else {
-        return Status::NoPort.code();
-    };
-    let answer = port_place::copy(&held, lba, out);
-    port.back(held, answer)
+    over!(port, heap, |held| port_place::copy(&held, lba, out))
 }
 
 /// The entry of a number of the journal.
@@ -109,11 +85,7 @@ pub extern "C" fn ahci_port_entry(
     ensures { Reads result (view_of port.old) (view_of port.new) (entry.new ≡ entry.old)
         (λ answer port. AnswersEntry (entry_numbered port.first port.past number) answer entry.old entry.new) }
 {
-    let Some(held) = port.take(heap) else {
-        return Status::NoPort.code();
-    };
-    let answer = port_place::entry(&held, number, entry);
-    port.back(held, answer)
+    over!(port, heap, |held| port_place::entry(&held, number, entry))
 }
 
 /// Copies the bytes of the write that the entry of a number has issued.
@@ -127,11 +99,11 @@ pub extern "C" fn ahci_port_entry_bytes(
     ensures { Reads result (view_of port.old) (view_of port.new) (out.new ≡ out.old)
         (λ answer port. AnswersBytes (written_by (entry_numbered port.first port.past number)) answer out.old out.new) }
 {
-    let Some(held) = port.take(heap) else {
-        return Status::NoPort.code();
-    };
-    let answer = port_place::entry_bytes(&held, number, out);
-    port.back(held, answer)
+    over!(
+        port,
+        heap,
+        |held| port_place::entry_bytes(&held, number, out)
+    )
 }
 
 /// All that can be seen of a port at once.
@@ -140,9 +112,5 @@ pub extern "C" fn ahci_port_state(port: &mut Place, heap: Global, state: &mut Fl
     ensures { Reads result (view_of port.old) (view_of port.new) (state.new ≡ state.old)
         (λ answer port. (answer ≡ Status.Done) × IsState port state.new) }
 {
-    let Some(held) = port.take(heap) else {
-        return Status::NoPort.code();
-    };
-    let answer = port_place::state(&held, state);
-    port.back(held, answer)
+    over!(port, heap, |held| port_place::state(&held, state))
 }

@@ -23,11 +23,7 @@ pub extern "C" fn ahci_port_register(
     ensures { Reads result (view_of port.old) (view_of port.new) (word.new ≡ word.old)
         (λ answer port. AnswersRegister (read_of port.registers offset) answer word.old word.new) }
 {
-    let Some(held) = port.take(heap) else {
-        return Status::NoPort.code();
-    };
-    let answer = port_place::register(&held, offset, word);
-    port.back(held, answer)
+    over!(port, heap, |held| port_place::register(&held, offset, word))
 }
 
 /// Software acknowledges interrupts.
@@ -36,11 +32,7 @@ pub extern "C" fn ahci_port_acknowledge(port: &mut Place, heap: Global, mask: u3
     ensures { Changes result (view_of port.old) (view_of port.new) ⊤
         (λ answer old new. (answer ≡ Status.Done) × (new ≡ record old { registers = acknowledged old.registers mask })) }
 {
-    let Some(mut held) = port.take(heap) else {
-        return Status::NoPort.code();
-    };
-    let answer = port_place::acknowledge(&mut held, mask);
-    port.back(held, answer)
+    over!(port, heap, |held| port_place::acknowledge(&mut held, mask))
 }
 
 /// Takes a word that a driver writes to the register at an offset.
@@ -84,9 +76,9 @@ pub extern "C" fn ahci_port_read_register(
     ensures { Reads result (view_of port.old) (view_of port.new) (word.new ≡ word.old)
         (λ answer held. AnswersRegister (read_of (shown held (view_of port.old).pending) offset) answer word.old word.new) }
 {
-    let Some(held) = port.take(heap) else {
-        return Status::NoPort.code();
-    };
-    let answer = port_place::read_register(&held, &port.pending(), offset, word);
-    port.back(held, answer)
+    over!(
+        port,
+        heap,
+        |held| port_place::read_register(&held, &port.pending(), offset, word)
+    )
 }

@@ -27,11 +27,11 @@ pub extern "C" fn ahci_port_issue(
     ensures { Changes result (view_of port.old) (view_of port.new) (number.new ≡ number.old)
         (λ answer old new. AnswersIssue tag header.now memory.now answer old new number.old number.new) }
 {
-    let Some(mut held) = port.take(heap) else {
-        return Status::NoPort.code();
-    };
-    let answer = port_place::issue(&mut held, heap, tag, header, memory, number);
-    port.back(held, answer)
+    over!(
+        port,
+        heap,
+        |held| port_place::issue(&mut held, heap, tag, header, memory, number)
+    )
 }
 
 /// Issues a read or a write of whole sectors.
@@ -49,11 +49,11 @@ pub extern "C" fn ahci_port_submit(
     ensures { Changes result (view_of port.old) (view_of port.new) (number.new ≡ number.old)
         (λ answer old new. AnswersSubmit tag kind lba sectors data.now answer old new number.old number.new) }
 {
-    let Some(mut held) = port.take(heap) else {
-        return Status::NoPort.code();
-    };
-    let answer = port_place::submit(&mut held, heap, tag, kind, lba, sectors, data, number);
-    port.back(held, answer)
+    over!(
+        port,
+        heap,
+        |held| port_place::submit(&mut held, heap, tag, kind, lba, sectors, data, number)
+    )
 }
 
 /// Software recovers from a failure.
@@ -62,11 +62,7 @@ pub extern "C" fn ahci_port_recover(port: &mut Place, heap: Global, tag: &mut u3
     ensures { Changes result (view_of port.old) (view_of port.new) (tag.new ≡ tag.old)
         (λ answer old new. ToldOr answer (recover_refused old) (HasRecovered old new tag.new) (Same old new tag.old tag.new)) }
 {
-    let Some(mut held) = port.take(heap) else {
-        return Status::NoPort.code();
-    };
-    let answer = port_place::recover(&mut held, tag);
-    port.back(held, answer)
+    over!(port, heap, |held| port_place::recover(&mut held, tag))
 }
 
 /// Software issues a held command again.
@@ -75,11 +71,7 @@ pub extern "C" fn ahci_port_reissue(port: &mut Place, heap: Global, tag: u32) ->
     ensures { Changes result (view_of port.old) (view_of port.new) ⊤
         (λ answer old new. Told answer (reissue_refused old tag) (IsReissued tag old new) (new ≡ old)) }
 {
-    let Some(mut held) = port.take(heap) else {
-        return Status::NoPort.code();
-    };
-    let answer = port_place::reissue(&mut held, tag);
-    port.back(held, answer)
+    over!(port, heap, |held| port_place::reissue(&mut held, tag))
 }
 
 /// Takes the answer of a request, and frees its slot.
@@ -95,11 +87,11 @@ pub extern "C" fn ahci_port_collect(
     ensures { Changes result (view_of port.old) (view_of port.new) ((reply.new ≡ reply.old) × (out.new ≡ out.old))
         (λ answer old new. Told answer (collect_refused old tag number (length out.old)) (HasCollected tag number old new reply.new out.old out.new) ((new ≡ old) × (reply.new ≡ reply.old) × (out.new ≡ out.old))) }
 {
-    let Some(mut held) = port.take(heap) else {
-        return Status::NoPort.code();
-    };
-    let answer = port_place::collect(&mut held, tag, number, reply, out);
-    port.back(held, answer)
+    over!(
+        port,
+        heap,
+        |held| port_place::collect(&mut held, tag, number, reply, out)
+    )
 }
 
 /// Sends IDENTIFY DEVICE, and copies its page.
@@ -108,11 +100,7 @@ pub extern "C" fn ahci_port_identify(port: &mut Place, heap: Global, out: &mut [
     ensures { Changes result (view_of port.old) (view_of port.new) (out.new ≡ out.old)
         (λ answer old new. ToldOr answer (identify_refusal old (length out.old)) (IsIdentified old new × (out.new ≡ identify_page (sectors_in old) old.depth)) (Same old new out.old out.new)) }
 {
-    let Some(mut held) = port.take(heap) else {
-        return Status::NoPort.code();
-    };
-    let answer = port_place::identify(&mut held, out);
-    port.back(held, answer)
+    over!(port, heap, |held| port_place::identify(&mut held, out))
 }
 
 /// Sends FLUSH CACHE EXT.
@@ -121,11 +109,7 @@ pub extern "C" fn ahci_port_flush(port: &mut Place, heap: Global) -> u32
     ensures { Changes result (view_of port.old) (view_of port.new) ⊤
         (λ answer old new. ToldOr answer (flush_refusal old) (IsFlushed old new) (new ≡ old)) }
 {
-    let Some(mut held) = port.take(heap) else {
-        return Status::NoPort.code();
-    };
-    let answer = port_place::flush(&mut held);
-    port.back(held, answer)
+    over!(port, heap, |held| port_place::flush(&mut held))
 }
 
 /// Throws the journal away where every slot is free.
@@ -134,9 +118,5 @@ pub extern "C" fn ahci_port_trim(port: &mut Place, heap: Global, entries: &mut u
     ensures { Changes result (view_of port.old) (view_of port.new) (entries.new ≡ entries.old)
         (λ answer old new. Told answer (trim_refused old) ((new ≡ trimmed old) × (entries.new ≡ length old.past)) (Same old new entries.old entries.new)) }
 {
-    let Some(mut held) = port.take(heap) else {
-        return Status::NoPort.code();
-    };
-    let answer = port_place::trim(&mut held, entries);
-    port.back(held, answer)
+    over!(port, heap, |held| port_place::trim(&mut held, entries))
 }
