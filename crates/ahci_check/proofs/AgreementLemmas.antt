@@ -43,41 +43,11 @@ use Rattle.ahci_check.specs.Agreement.{CheckAgrees, place_of}
 
 before : (c : ScriptCommand) → is_in_place BeforeDisk c ≡ replay.is_in_place None c
 before (command.Disk sectors depth first) = refl
-before (command.Write tag lba sectors fill) = refl
-before (command.Read tag lba sectors) = refl
-before (command.Raw tag w) = refl
-before (command.Accept tag) = refl
-before (command.Serve tags) = refl
-before (command.Fail tag error lba) = refl
-before (command.Collect tag number) = refl
-before command.Recover = refl
-before (command.Reissue tag) = refl
-before (command.Reg off) = refl
-before (command.Ack mask) = refl
-before (command.Identify word) = refl
-before command.Flush = refl
-before (command.Show lba) = refl
-before command.Journal = refl
-before command.Trim = refl
+before _ = refl
 
 later : (port : PortView) (c : ScriptCommand) → is_in_place (place_of (Some port)) c ≡ replay.is_in_place (Some port) c
 later port (command.Disk sectors depth first) = refl
-later port (command.Write tag lba sectors fill) = refl
-later port (command.Read tag lba sectors) = refl
-later port (command.Raw tag w) = refl
-later port (command.Accept tag) = refl
-later port (command.Serve tags) = refl
-later port (command.Fail tag error lba) = refl
-later port (command.Collect tag number) = refl
-later port command.Recover = refl
-later port (command.Reissue tag) = refl
-later port (command.Reg off) = refl
-later port (command.Ack mask) = refl
-later port (command.Identify word) = refl
-later port command.Flush = refl
-later port (command.Show lba) = refl
-later port command.Journal = refl
-later port command.Trim = refl
+later port _ = refl
 
 same_place : (port : Option PortView) (c : ScriptCommand) → is_in_place (place_of port) c ≡ replay.is_in_place port c
 same_place None c = before c
@@ -132,21 +102,7 @@ first_run : (line : List ℕ) (c : ScriptCommand) (next : Option PortView) (said
 first_run line (command.Disk sectors depth first) next said ran =
     made (disk_refusal sectors depth first) _ sectors depth first next said (disk_alike (after_first line) sectors depth first) ran
 first_run line (command.Write tag lba sectors fill) next said ran = absurd ran
-first_run line (command.Read tag lba sectors) next said ran = absurd ran
-first_run line (command.Raw tag w) next said ran = absurd ran
-first_run line (command.Accept tag) next said ran = absurd ran
-first_run line (command.Serve tags) next said ran = absurd ran
-first_run line (command.Fail tag error lba) next said ran = absurd ran
-first_run line (command.Collect tag number) next said ran = absurd ran
-first_run line command.Recover next said ran = absurd ran
-first_run line (command.Reissue tag) next said ran = absurd ran
-first_run line (command.Reg off) next said ran = absurd ran
-first_run line (command.Ack mask) next said ran = absurd ran
-first_run line (command.Identify word) next said ran = absurd ran
-first_run line command.Flush next said ran = absurd ran
-first_run line (command.Show lba) next said ran = absurd ran
-first_run line command.Journal next said ran = absurd ran
-first_run line command.Trim next said ran = absurd ran
+first_run line _ next said ran = absurd ran
 
 -- ---- no command adds a sector or a slot, or takes one
 

@@ -89,10 +89,7 @@ refused_line : (fault : JobsFault) (line : List ℕ) (lines : Lines) (s : Known)
 refused_line (Line n) line lines s rest comes h = (h.0, inr (line, comes, h.1))
 refused_line (Job i) line lines s rest comes h = (h.0, (line, comes, h.1))
 refused_line OutOfMemory line lines s rest comes h = tt
-refused_line Read line lines s rest comes h = absurd h
-refused_line Write line lines s rest comes h = absurd h
-refused_line Unsettled line lines s rest comes h = absurd h
-refused_line (Lost i) line lines s rest comes h = absurd h
+refused_line _ line lines s rest comes h = absurd h
 
 refused : (fault : JobsFault) (found : Begins) (lines : Lines) (s : Known) (rest : List ℕ) → Comes s rest found → Refuses (asked_in lines) (length lines + 1) found fault
     → Why fault lines s rest
@@ -104,10 +101,7 @@ told : (fault : JobsFault) (r s : Known) → ListedFirst r (Why fault) → IsLis
 told (Line n) r s h = h
 told (Job i) r s h = h
 told OutOfMemory r s h = h
-told Read r s h = absurd h.holds
-told Write r s h = absurd h.holds
-told Unsettled r s h = absurd h.holds
-told (Lost i) r s h = absurd h.holds
+told _ r s h = absurd h.holds
 
 -- no memory at the start
 pub nothing_listed : (r : Known) → IsListFault r r OutOfMemory

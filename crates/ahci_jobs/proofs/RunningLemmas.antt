@@ -75,49 +75,31 @@ is_late port jobs size (of_run.Unsettled (settle.Extra n)) is all h = tt
 
 -- the list ended early
 pub ends_listing : (f : JobsFault) (form : Form) (size : Size) (r s c : Known) → IsListFault r s f → EndsRun form size r s c c f
-ends_listing (Line n) form size r s c h = (h, refl)
-ends_listing (Job i) form size r s c h = (h, refl)
-ends_listing Read form size r s c h = (h, refl)
 ends_listing OutOfMemory form size r s c h = refl
 ends_listing Write form size r s c h = absurd h
 ends_listing Unsettled form size r s c h = absurd h
 ends_listing (Lost i) form size r s c h = absurd h
+ends_listing _ form size r s c h = (h, refl)
 
 -- the run was given up
 pub ends_running : (f : RunFault) (port : PortView) (form : Form) (size : Size) (r s c : Known) (jobs : List Work) → IsListed r s jobs → IsGivenUp port jobs f
     → EndsRun form size r s c c (fault_of f)
-ends_running of_run.NotFresh port form size r s c jobs listed h = ((jobs, listed), refl)
-ends_running (of_run.BadJob i) port form size r s c jobs listed h = ((jobs, listed), refl)
 ends_running of_run.OutOfMemory port form size r s c jobs listed h = refl
 ends_running (of_run.Lost i) port form size r s c jobs listed h = ((jobs, listed, h.1), refl)
-ends_running of_run.Foreign port form size r s c jobs listed h = ((jobs, listed), refl)
-ends_running (of_run.Unsettled settled) port form size r s c jobs listed h = ((jobs, listed), refl)
+ends_running _ port form size r s c jobs listed h = ((jobs, listed), refl)
 
 -- ---- how the reads and writes went
 
 -- where the list ended early
 pub writes_listing : (f : JobsFault) (r s : Known) (w : WrittenSoFar) → IsListFault r s f → RunWrites w w f
-writes_listing (Line n) r s w h = refl
-writes_listing (Job i) r s w h = refl
-writes_listing Read r s w h = refl
-writes_listing OutOfMemory r s w h = refl
 writes_listing Write r s w h = absurd h
-writes_listing Unsettled r s w h = refl
-writes_listing (Lost i) r s w h = refl
+writes_listing _ r s w h = refl
 
 -- where the run was given up
 pub reads_running : (f : RunFault) (old new : ReadSoFar) → new.failed ≡ old.failed → RunReads old new (fault_of f)
 reads_running of_run.NotFresh old new told = told
-reads_running (of_run.BadJob i) old new told = told
-reads_running of_run.OutOfMemory old new told = told
-reads_running (of_run.Lost i) old new told = told
-reads_running of_run.Foreign old new told = told
-reads_running (of_run.Unsettled settled) old new told = told
+reads_running _ old new told = told
 
 pub writes_running : (f : RunFault) (w : WrittenSoFar) → RunWrites w w (fault_of f)
 writes_running of_run.NotFresh w = refl
-writes_running (of_run.BadJob i) w = refl
-writes_running of_run.OutOfMemory w = refl
-writes_running (of_run.Lost i) w = refl
-writes_running of_run.Foreign w = refl
-writes_running (of_run.Unsettled settled) w = refl
+writes_running _ w = refl

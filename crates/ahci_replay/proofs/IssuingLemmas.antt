@@ -57,12 +57,7 @@ port_says port tag = joined (option_map of_issue (early_refusal port tag))
 
 not_free : (p : Phase) → p ≢ Free → is_free p ≡ false
 not_free Free other = absurd (other refl)
-not_free Issued other = refl
-not_free Accepted other = refl
-not_free Rejected other = refl
-not_free Broken other = refl
-not_free Held other = refl
-not_free Done other = refl
+not_free _ other = refl
 
 -- nothing stands against a tag that the port may take
 may_early : (port : PortView) (tag : ℕ) → MayTake port tag → early_refusal port tag ≡ None

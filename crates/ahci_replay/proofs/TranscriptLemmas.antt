@@ -13,26 +13,8 @@ use Rattle.ahci_port.specs.PortView.{PortView}
 use Rattle.streams.specs.Ends.{ReadSoFar, WrittenSoFar, with_flush}
 use Rattle.ahci_replay.specs.Fault.{fault_of, is_of_output}
 use Rattle.ahci_replay.specs.Place.{Place}
-use Rattle.ahci_replay.specs.Transcript.{
-  Adds,
-  Answers,
-  Grown,
-  IsFaulty,
-  MayAnswer,
-  ReadsTo,
-  Refuses,
-  Replayed,
-  ReplayedFirst,
-  ReplayedTo,
-  Sends,
-  Stays,
-  Takes,
-  Telling,
-  WritesPart,
-  WritesTo,
-  no_line,
-  one_more,
-}
+use Rattle.ahci_replay.specs.Transcript.{Adds, Answers, Grown, IsFaulty, MayAnswer, ReadsTo, Refuses, Replayed, ReplayedFirst, ReplayedTo, Sends, Stays, Takes, Telling}
+use Rattle.ahci_replay.specs.Transcript.{WritesPart, WritesTo, no_line, one_more}
 use Rattle.ahci_replay.specs.declared.script_fault.ScriptFault.{ScriptFault}
 use Rattle.ahci_replay.specs.declared.script_fault.ScriptFault.TheVariants.{Line, Read, Write, OutOfMemory}
 
@@ -333,17 +315,13 @@ with_flush_same old mid is = ap (λ f. with_flush (record { failed = f; flushed 
 
 -- the writes, where what waits was written after a fault
 pub writes_to : (fault : ScriptFault) (old mid new : WrittenSoFar) → is_of_output fault ≡ false → mid.failed ≡ old.failed → new ≡ with_flush mid → WritesTo old new fault
-writes_to (Line n) old mid new other is sent = sent ∙ with_flush_same old mid is
-writes_to Read old mid new other is sent = sent ∙ with_flush_same old mid is
-writes_to OutOfMemory old mid new other is sent = sent ∙ with_flush_same old mid is
 writes_to Write old mid new other is sent = absurd (cc)
+writes_to _ old mid new other is sent = sent ∙ with_flush_same old mid is
 
 -- and where one failed
 pub writes_failed : (fault : ScriptFault) (old new : WrittenSoFar) → is_of_output fault ≡ true → new.failed ≡ true → WritesTo old new fault
-writes_failed (Line n) old new is failed = absurd (cc)
-writes_failed Read old new is failed = absurd (cc)
-writes_failed OutOfMemory old new is failed = absurd (cc)
 writes_failed Write old new is failed = failed
+writes_failed _ old new is failed = absurd (cc)
 
 -- no line is refused with a failed read
 never_read : (telling : Telling) (found : Begins) (n : ℕ) (p q : Place) → Refuses telling p n found Read q → ⊥

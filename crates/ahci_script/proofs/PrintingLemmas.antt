@@ -14,27 +14,8 @@ use Rattle.std.specs.Option.{is_some, unwrap_or}
 use Rattle.ahci_script.specs.Answers.{hex_of}
 use Rattle.ahci_script.specs.Breaches.{◌>>=◌}
 use Rattle.ahci_script.specs.HexBytes.{header_of, hex_bytes_of, hex_digit_value, pairs_of, some_bytes_of, some_header_of}
-use Rattle.ahci_script.specs.Number.{
-  below,
-  byte_of,
-  decimal_below,
-  decimal_of,
-  decimal_value,
-  digits_of,
-  hex_digit_of,
-  hexadecimal_of,
-  hexadecimal_value,
-  is_decimal,
-  is_hex_digit,
-  not_hexadecimal,
-  page_word_of,
-  sectors_limit,
-  sectors_of,
-  tag_of,
-  two_digits_of,
-  with_digit,
-  with_hex_digit,
-}
+use Rattle.ahci_script.specs.Number.{below, byte_of, decimal_below, decimal_of, decimal_value, digits_of, hex_digit_of, hexadecimal_of, hexadecimal_value, is_decimal}
+use Rattle.ahci_script.specs.Number.{is_hex_digit, not_hexadecimal, page_word_of, sectors_limit, sectors_of, tag_of, two_digits_of, with_digit, with_hex_digit}
 use Rattle.ahci_script.specs.Printing.{before, hex_bytes}
 use Rattle.ahci_script.specs.Words.{Rest, cut_of, first_at, next_at, next_of, placed, word_of}
 use Rattle.ahci_script.specs.declared.fault.Fault.{Fault}

@@ -4,68 +4,19 @@ use Rattle.std.specs.Fmt.{decimal}
 use Rattle.std.specs.List.{All}
 use Rattle.ahci_script.specs.Answers.{hex_of, numbers_text}
 use Rattle.ahci_script.specs.Breaches.{◌>>=◌, seen_in}
-use Rattle.ahci_script.specs.Lines.{
-  AreTags,
-  accept_of,
-  ack_of,
-  collect_of,
-  command_of,
-  disk_of,
-  fail_of,
-  identify_of,
-  named,
-  named_more,
-  number_if_any,
-  raw_of,
-  read_of,
-  reading,
-  reg_of,
-  reissue_of,
-  serve_of,
-  show_of,
-  write_of,
-}
+use Rattle.ahci_script.specs.Lines.{AreTags, accept_of, ack_of, collect_of, command_of, disk_of, fail_of, identify_of, named, named_more, number_if_any, raw_of}
+use Rattle.ahci_script.specs.Lines.{read_of, reading, reg_of, reissue_of, serve_of, show_of, write_of}
 use Rattle.ahci_script.specs.Number.{sectors_limit}
 use Rattle.ahci_script.specs.Printing.{IsReadBack, before, hex_bytes}
 use Rattle.ahci_script.specs.Words.{Rest, ends, first_at, word_of}
 use Rattle.ahci_script.specs.declared.breach.Breach.{Breach}
 use Rattle.ahci_script.specs.declared.fault.Fault.{Fault}
 use Rattle.ahci_script.specs.declared.line.ScriptCommand.{ScriptCommand}
-use Rattle.ahci_script.specs.declared.line.ScriptCommand.TheVariants.{
-  Disk,
-  Write,
-  Read,
-  Raw,
-  Accept,
-  Serve,
-  Fail,
-  Collect,
-  Recover,
-  Reissue,
-  Reg,
-  Ack,
-  Identify,
-  Flush,
-  Show,
-  Journal,
-  Trim,
-}
+use Rattle.ahci_script.specs.declared.line.ScriptCommand.TheVariants.{Disk, Write, Read, Raw, Accept, Serve, Fail, Collect, Recover, Reissue, Reg, Ack, Identify, Flush}
+use Rattle.ahci_script.specs.declared.line.ScriptCommand.TheVariants.{Show, Journal, Trim}
 use Rattle.ahci_script.specs.declared.line.Line.TheVariants as line
-use Rattle.ahci_script.proofs.PrintingLemmas.{
-  Spells,
-  byte-spelled,
-  bytes-spelled,
-  cut-before,
-  header-spelled,
-  is_word,
-  number-spelled,
-  page_word-spelled,
-  register-spelled,
-  sectors-spelled,
-  tag-spelled,
-  word-before,
-  word-last,
-}
+use Rattle.ahci_script.proofs.PrintingLemmas.{Spells, byte-spelled, bytes-spelled, cut-before, header-spelled, is_word, number-spelled, page_word-spelled}
+use Rattle.ahci_script.proofs.PrintingLemmas.{register-spelled, sectors-spelled, tag-spelled, word-before, word-last}
 use Rattle.ahci_script.proofs.TagsLemmas.{tags-back}
 
 -- a value that is found goes on
@@ -181,12 +132,9 @@ read_back (Fail tag error lba) h =
     by_name (codes "fail") (before (decimal tag) (before (hex_of 2 error) (decimal lba))) (Fail tag error lba) refl refl (fail-back tag error lba h.0 h.1 h.2)
 read_back (Collect tag number) h =
     by_name (codes "collect") (before (decimal tag) (decimal number)) (Collect tag number) refl refl (collect-back tag number h.0 h.1)
-read_back Recover h = refl
 read_back (Reissue tag) h = by_name (codes "reissue") (decimal tag) (Reissue tag) refl refl (reissue-back tag h)
 read_back (Reg off) h = by_name (codes "reg") (hex_of 8 off) (Reg off) refl refl (reg-back off h)
 read_back (Ack mask) h = by_name (codes "ack") (hex_of 8 mask) (Ack mask) refl refl (ack-back mask h)
 read_back (Identify w) h = by_name (codes "identify") (decimal w) (Identify w) refl refl (identify-back w h)
-read_back Flush h = refl
 read_back (Show lba) h = by_name (codes "show") (decimal lba) (Show lba) refl refl (show-back lba h)
-read_back Journal h = refl
-read_back Trim h = refl
+read_back _ h = refl

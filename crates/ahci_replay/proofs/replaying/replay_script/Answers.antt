@@ -4,19 +4,8 @@ use Rattle.ahci_replay.specs.Fault.{is_of_output}
 use Rattle.ahci_replay.specs.Place.{place}
 use Rattle.ahci_replay.specs.Transcript.{ReplayedTo}
 use Rattle.ahci_replay.specs.declared.script_fault.ScriptFault.TheVariants.{Write}
-use Rattle.ahci_replay.proofs.TranscriptLemmas.{
-  all_part_written,
-  all_replayed,
-  fault_part_written,
-  fault_written,
-  output_failed,
-  output_has_failed,
-  stopped_unfailed,
-  whole_unfailed,
-  with_flush_same,
-  writes_failed,
-  writes_to,
-}
+use Rattle.ahci_replay.proofs.TranscriptLemmas.{all_part_written, all_replayed, fault_part_written, fault_written, output_failed, output_has_failed, stopped_unfailed}
+use Rattle.ahci_replay.proofs.TranscriptLemmas.{whole_unfailed, with_flush_same, writes_failed, writes_to}
 use Rattle.ahci_replay.proofs.replaying.replay_script.Goals as goal
 
 pub returns-in_err-send-in-Ok-clause-err : goal.returns-in_err-send-in-Ok-clause-err
