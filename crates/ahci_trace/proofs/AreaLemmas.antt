@@ -32,7 +32,7 @@ use Rattle.ncq_journal.specs.declared.plain.Plain.TheVariants as plain
 use Rattle.ahci_trace.proofs.NewestLemmas.{last_completed, told_by, unrefused_serve}
 use Rattle.ahci_trace.specs.Area.{IsOfTold, TellsReceived}
 use Rattle.ahci_trace.specs.Entries.{what_of}
-use Rattle.ahci_trace.specs.Json.{told_between}
+use Rattle.ahci_trace.specs.Trace.{told_between}
 use Rattle.ahci_trace.specs.Received.{failed_in, received_by}
 
 -- ---- the area
@@ -92,23 +92,15 @@ all_setups old (tag ∷ tags) area i size outside =
 same_tag : (tag : ℕ) (x y : Phase) → cond (tag == tag) x y ≡ x
 same_tag tag x y = ap (λ b. cond b x y) (let e : (tag == tag) ≡ true = grind (arith, nat_tests) in e)
 
-failed_issued : (p : Phase) → is_issued p ≡ true → failed p ≡ phases.Rejected
-failed_issued phases.Issued is = refl
-failed_issued phases.Free is = cc
-failed_issued phases.Accepted is = cc
-failed_issued phases.Rejected is = cc
-failed_issued phases.Broken is = cc
-failed_issued phases.Held is = cc
-failed_issued phases.Done is = cc
-
-failed_accepted : (p : Phase) → is_accepted p ≡ true → failed p ≡ phases.Broken
-failed_accepted phases.Accepted is = refl
-failed_accepted phases.Issued is = cc
-failed_accepted phases.Free is = cc
-failed_accepted phases.Rejected is = cc
-failed_accepted phases.Broken is = cc
-failed_accepted phases.Held is = cc
-failed_accepted phases.Done is = cc
+-- how a command that is issued fails, and one that is accepted
+fails : (p : Phase) → (is_issued p ≡ true → failed p ≡ phases.Rejected) × (is_accepted p ≡ true → failed p ≡ phases.Broken)
+fails phases.Issued = (λ is. refl, λ is. cc)
+fails phases.Accepted = (λ is. cc, λ is. refl)
+fails phases.Free = (λ is. cc, λ is. cc)
+fails phases.Rejected = (λ is. cc, λ is. cc)
+fails phases.Broken = (λ is. cc, λ is. refl)
+fails phases.Held = (λ is. cc, λ is. cc)
+fails phases.Done = (λ is. cc, λ is. cc)
 
 -- a step that is not refused: its command is issued, its command is accepted, its list is good
 unrefused_accept : (h b : Bool) → option_map of_step (cond h (Some step_fault.Halted) (cond b None (Some step_fault.NotIssued))) ≡ None → b ≡ true
@@ -150,7 +142,7 @@ module _ (old new : PortView) (i : ℕ) (size : length old.area ≡ 256) (outsid
   rejected {tag} {w} issued is =
       let entry = Fail tag 0x10 (first_lacking old w) in
       let no = untold entry old.past is.appended.first_same is.appended.past_is (omega arith) in
-      let now : phase new.past tag ≡ phases.Rejected = ap (λ p. phase p tag) is.appended.past_is ∙ same_tag tag (failed (phase old.past tag)) (phase old.past tag) ∙ failed_issued (phase old.past tag) issued in
+      let now : phase new.past tag ≡ phases.Rejected = ap (λ p. phase p tag) is.appended.past_is ∙ same_tag tag (failed (phase old.past tag)) (phase old.past tag) ∙ (fails (phase old.past tag)).0 issued in
       let no_register = subst (λ p. ¬ (IsOfTold (failed_in p new.area) i)) now no in
       put register_place 20 (not_found_bytes (first_lacking old w)) is.area_is refl (omega arith) (λ h. no_register (inr (inr (inl h))))
 
@@ -158,7 +150,7 @@ module _ (old new : PortView) (i : ℕ) (size : length old.area ≡ 256) (outsid
   broken : {tag error lba : ℕ} {answer : Stepped} → is_accepted (phase old.past tag) ≡ true → IsFailed tag error lba old new answer → Kept
   broken {tag} {error} {lba} taken is =
       let no = untold (Fail tag error lba) old.past is.appended.first_same is.appended.past_is (omega arith) in
-      let now : phase new.past tag ≡ phases.Broken = ap (λ p. phase p tag) is.appended.past_is ∙ same_tag tag (failed (phase old.past tag)) (phase old.past tag) ∙ failed_accepted (phase old.past tag) taken in
+      let now : phase new.past tag ≡ phases.Broken = ap (λ p. phase p tag) is.appended.past_is ∙ same_tag tag (failed (phase old.past tag)) (phase old.past tag) ∙ (fails (phase old.past tag)).1 taken in
       let no_bits = subst (λ p. ¬ (IsOfTold (failed_in p new.area) i)) now no in
       put bits_place 8 (failed_bytes error) is.area_is refl (omega arith) (λ h. no_bits (inr (inr (inr h))))
 

@@ -6,7 +6,6 @@ use Rattle.std.proofs.lemmas.Bool.{and_from, and_parts}
 use Rattle.std.proofs.lemmas.Bool.Decides.{nat_tests}
 use Rattle.std.proofs.lemmas.List.Folds.{list_all-append}
 use Rattle.std.proofs.lemmas.List.Concat.{flat_map-cons}
-use Rattle.ahci_port.specs.PortView.{PortView}
 use Rattle.ahci_regs.specs.RegisterTable.{name_of}
 use Rattle.ahci_regs.specs.declared.register.Register.{Register}
 use Rattle.ahci_regs.specs.declared.register.Register.TheVariants.{Cap, Ghc, Pi, Vs, PxClb, PxClbu, PxFb, PxFbu, PxIs, PxIe, PxCmd, PxTfd, PxSig, PxSsts, PxSctl, PxSerr, PxSact, PxCi}
@@ -22,11 +21,10 @@ use Rattle.sata_fis.specs.Encoding.{data_head_bytes}
 use Rattle.sata_fis.specs.Fields.{QueuedFields}
 use Rattle.word_bits.specs.Places.{bits, has_place}
 use Rattle.ahci_trace.specs.Lines.{AreNotes, KeepsAnswers, Noted, a_note, an_answer, is_line, no_answer, no_note}
-use Rattle.ahci_trace.specs.Mark.{mark_of}
 use Rattle.ahci_trace.specs.Names.{Named, bits_of, bits_text, name_text, names_text, separator}
 use Rattle.ahci_trace.specs.Sent.{SentBytes}
 use Rattle.ahci_trace.specs.Text.{bytes_text, change_text, data_line, data_text, details_text, direction, entry_text, fis_text, kind_name, named_text, page_text, phase_name, plain_name, prdt_text, received_text, sent_text, slot_text, told_text, trace_notes, transfer_text, what_text, write_text}
-use Rattle.ahci_trace.specs.Trace.{Told, told_of}
+use Rattle.ahci_trace.specs.Trace.{Told, told_between}
 use Rattle.ahci_trace.specs.Transfers.{payloads_of}
 use Rattle.ahci_trace.specs.declared.appended.Appended.{Appended}
 use Rattle.ahci_trace.specs.declared.appended.Happened.{Happened}
@@ -93,48 +91,29 @@ direction-line : (b : Bool) → is_line (direction b) ≡ true
 direction-line true = refl
 direction-line false = refl
 
-name-line : (r : Register) → is_line (name_of r) ≡ true
-name-line Cap = refl
-name-line Ghc = refl
-name-line Pi = refl
-name-line Vs = refl
-name-line PxClb = refl
-name-line PxClbu = refl
-name-line PxFb = refl
-name-line PxFbu = refl
-name-line PxIs = refl
-name-line PxIe = refl
-name-line PxCmd = refl
-name-line PxTfd = refl
-name-line PxSig = refl
-name-line PxSsts = refl
-name-line PxSctl = refl
-name-line PxSerr = refl
-name-line PxSact = refl
-name-line PxCi = refl
-
 abbrev are_names : List Named → Bool
 are_names table = list_all (λ n. is_line n.name) table
 
-named-bits : (r : Register) → are_names (bits_of r) ≡ true
-named-bits Cap = refl
-named-bits Ghc = refl
-named-bits Pi = refl
-named-bits Vs = refl
-named-bits PxClb = refl
-named-bits PxClbu = refl
-named-bits PxFb = refl
-named-bits PxFbu = refl
-named-bits PxIs = refl
-named-bits PxIe = refl
-named-bits PxCmd = refl
-named-bits PxTfd = refl
-named-bits PxSig = refl
-named-bits PxSsts = refl
-named-bits PxSctl = refl
-named-bits PxSerr = refl
-named-bits PxSact = refl
-named-bits PxCi = refl
+-- the name of a register, and those of its bits
+register-line : (r : Register) → (is_line (name_of r) ≡ true) × (are_names (bits_of r) ≡ true)
+register-line Cap = (refl, refl)
+register-line Ghc = (refl, refl)
+register-line Pi = (refl, refl)
+register-line Vs = (refl, refl)
+register-line PxClb = (refl, refl)
+register-line PxClbu = (refl, refl)
+register-line PxFb = (refl, refl)
+register-line PxFbu = (refl, refl)
+register-line PxIs = (refl, refl)
+register-line PxIe = (refl, refl)
+register-line PxCmd = (refl, refl)
+register-line PxTfd = (refl, refl)
+register-line PxSig = (refl, refl)
+register-line PxSsts = (refl, refl)
+register-line PxSctl = (refl, refl)
+register-line PxSerr = (refl, refl)
+register-line PxSact = (refl, refl)
+register-line PxCi = (refl, refl)
 
 separator-line : (any : Bool) → is_line (separator any) ≡ true
 separator-line true = refl
@@ -149,7 +128,7 @@ names-line any set (n ∷ more) h =
     (names-line (any || has_place set n.place) set more parts.1)
 
 bits-line : (r : Register) (word : ℕ) → is_line (bits_text r word) ≡ true
-bits-line r word = names-line false (bits word) (bits_of r) (named-bits r)
+bits-line r word = names-line false (bits word) (bits_of r) (register-line r).1
 
 kind-line : (w : Happened) → is_line (kind_name w) ≡ true
 kind-line (what.Issue tag write lba sectors) = refl
@@ -212,7 +191,7 @@ entry_notes e =
 write_notes : (w : RegisterWrite) → AreNotes (write_text w)
 write_notes w =
     indented (codes "wrote " ++ (name_of w.register ++ (codes " " ++ (hex_of 8 w.word ++ 10 ∷ []))))
-    (behind (codes "wrote ") _ refl (behind (name_of w.register) _ (name-line w.register) (behind (codes " ") _ refl (behind (hex_of 8 w.word) _ (hex-line 8 w.word) feed))))
+    (behind (codes "wrote ") _ refl (behind (name_of w.register) _ (register-line w.register).0 (behind (codes " ") _ refl (behind (hex_of 8 w.word) _ (hex-line 8 w.word) feed))))
 
 named_notes : (name bytes : List ℕ) → is_line name ≡ true → AreNotes (named_text (32 ∷ 32 ∷ name) bytes)
 unfolding named_text
@@ -264,7 +243,7 @@ received_notes r =
 change_notes : (c : Change) → AreNotes (change_text c)
 change_notes c =
     indented (name_of c.register ++ (codes " " ++ (hex_of 8 c.word ++ (bits_text c.register c.word ++ 10 ∷ []))))
-    (behind (name_of c.register) _ (name-line c.register) (behind (codes " ") _ refl (behind (hex_of 8 c.word) _ (hex-line 8 c.word)
+    (behind (name_of c.register) _ (register-line c.register).0 (behind (codes " ") _ refl (behind (hex_of 8 c.word) _ (hex-line 8 c.word)
     (behind (bits_text c.register c.word) _ (bits-line c.register c.word) feed))))
 
 slot_notes : (s : OwnedSlot) → AreNotes (slot_text s)
@@ -280,10 +259,6 @@ told_notes t =
     (AreNotes-append (flat_map transfer_text t.served) _ (flat_notes transfer_text transfer_notes t.served)
     (AreNotes-append (received_text t.received) _ (received_notes t.received)
     (AreNotes-append (flat_map change_text t.changes) _ (flat_notes change_text change_notes t.changes) (flat_notes slot_text slot_notes t.slots))))))
-
-notes_are : (before after : Option PortView) → AreNotes (trace_notes before after)
-notes_are before None = no_note
-notes_are before (Some port) = told_notes (told_of (mark_of before) port)
 
 -- ---- the answers stay
 
@@ -302,5 +277,5 @@ keeps_answers _ _ last _ _ (one_more number port first (line.Run command) next a
     let answer = answer_text ran.said in (
       (answer ++ 10 ∷ []) ++ answers,
       one_more number port first (line.Run command) next (answer ++ 10 ∷ []) more answers last fed is (record { said = ran.said; ran = ran.ran; spelled = refl }) adds,
-      subst (λ a. Noted (a ++ text) ((answer ++ 10 ∷ []) ++ answers)) (sym ran.spelled) (noted answer (trace_notes port next) text answers (notes_are port next) so_far),
+      subst (λ a. Noted (a ++ text) ((answer ++ 10 ∷ []) ++ answers)) (sym ran.spelled) (noted answer (trace_notes port next) text answers (told_notes (told_between port next)) so_far),
     )

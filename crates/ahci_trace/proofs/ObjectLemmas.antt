@@ -5,9 +5,9 @@ use Rattle.ahci_script.specs.Answers.{answer_text}
 use Rattle.ahci_script.specs.Said.{Said}
 use Rattle.ahci_script.specs.declared.line.Line.TheVariants as line
 use Rattle.json.specs.Print.{print}
-use Rattle.ahci_trace.specs.Json.{command_object, told_between}
+use Rattle.ahci_trace.specs.Json.{command_object}
 use Rattle.ahci_trace.specs.Lines.{HasObjects, Objects, a_skipped, an_object, no_object}
-use Rattle.ahci_trace.specs.Trace.{Told}
+use Rattle.ahci_trace.specs.Trace.{Told, told_between}
 
 -- one more object before others
 one_more_object : (number : ℕ) (first : List ℕ) (more : List (List ℕ)) (said : Said) (told : Told) (text answers : List ℕ) → Objects (number + 1) more text answers

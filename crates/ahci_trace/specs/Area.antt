@@ -4,7 +4,7 @@ use Rattle.ahci_port.specs.PortView.{PortView, setup_place, pio_place, register_
 use Rattle.ahci_replay.specs.Commands.{RunsOn}
 use Rattle.ahci_script.specs.Said.{Said}
 use Rattle.ahci_script.specs.declared.line.ScriptCommand.{ScriptCommand}
-use Rattle.ahci_trace.specs.Json.{told_between}
+use Rattle.ahci_trace.specs.Trace.{told_between}
 use Rattle.ahci_trace.specs.declared.received.Received.{Received}
 
 -- a FIS of so many bytes is told, and the byte i of the area is one of them

@@ -3,7 +3,6 @@ use Rattle.std.specs.Prelude.{ℕ, Bool, if◌then◌else◌, List, [], ◌∷�
 use Rattle.std.specs.Fmt.{decimal}
 use Rattle.ahci_script.specs.Answers.{answer_text, hex_of}
 use Rattle.ahci_script.specs.Said.{Said}
-use Rattle.ahci_port.specs.PortView.{PortView}
 use Rattle.ahci_regs.specs.RegisterTable.{name_of}
 use Rattle.ahci_replay.specs.Transcript.{Telling}
 use Rattle.json.specs.Print.{print}
@@ -12,15 +11,17 @@ use Rattle.ncq_core.specs.DiskFis.{setup_bytes}
 use Rattle.ncq_journal.specs.declared.plain.Plain.TheVariants.{ReadLog}
 use Rattle.sata_fis.specs.Fields.{QueuedFields}
 use Rattle.word_bits.specs.Places.{bits, has_place}
-use Rattle.ahci_trace.specs.Mark.{mark_of}
 use Rattle.ahci_trace.specs.Names.{Named, bits_of}
 use Rattle.ahci_trace.specs.Text.{kind_name, phase_name}
 use Rattle.ahci_trace.specs.Sent.{SentBytes}
-use Rattle.ahci_trace.specs.Trace.{Told, nothing_told, told_of}
+use Rattle.ahci_trace.specs.Trace.{Told, told_between}
 use Rattle.ahci_trace.specs.Transfers.{payloads_of}
 use Rattle.ahci_trace.specs.declared.appended.Appended.{Appended}
 use Rattle.ahci_trace.specs.declared.appended.Happened.{Happened}
 use Rattle.ahci_trace.specs.declared.appended.Happened.TheVariants as what
+use Rattle.ahci_trace.specs.declared.as_json.member.Member.{Member}
+use Rattle.ahci_trace.specs.declared.as_json.value.Value.{Value}
+use Rattle.ahci_trace.specs.declared.as_json.value.Value.TheVariants as value
 use Rattle.ahci_trace.specs.declared.change.Change.{Change}
 use Rattle.ahci_trace.specs.declared.owned.OwnedSlot.{OwnedSlot}
 use Rattle.ahci_trace.specs.declared.received.Received.{Received}
@@ -39,6 +40,19 @@ number_member name n = key name ∷ number (decimal n) ∷ []
 
 abbrev pub boolean_member : List ℕ → Bool → List Token
 boolean_member name b = key name ∷ boolean b ∷ []
+
+-- the code's values and members
+abbrev pub value_token : Value → Token
+value_token (value.Text text) = string text.now
+value_token (value.Number n) = number (decimal n)
+value_token (value.Boolean b) = boolean b
+value_token (value.Bytes bytes) = string (hex_text bytes.now)
+value_token (value.Byte byte) = string (hex_of 2 byte)
+value_token (value.Word word) = string (hex_of 8 word)
+value_token value.Null = null
+
+abbrev pub member_tokens : Member → List Token
+member_tokens m = key m.0.now ∷ value_token m.1 ∷ []
 
 -- a member with an array of values
 abbrev pub list_member : List ℕ → List Token → List Token
@@ -75,24 +89,23 @@ abbrev pub prdt_value : List ℕ → List Token
 prdt_value entry = string (hex_text entry) ∷ []
 
 -- what was sent; null where nothing was
-unfoldable pub sent_value : Option SentBytes → List Token
-sent_value None = null ∷ []
-sent_value (Some sent) =
+unfoldable pub sent_object : SentBytes → List Token
+sent_object sent =
     object (text_member (codes "header") (hex_text sent.header) ++ (text_member (codes "cfis") (hex_text sent.cfis) ++ list_member (codes "prdt") (flat_map prdt_value sent.entries)))
+
+abbrev pub sent_value : Option SentBytes → List Token
+sent_value None = null ∷ []
+sent_value (Some sent) = sent_object sent
 
 -- the number of the bytes of data in a Data FIS
 abbrev pub payload_value : ℕ → List Token
 payload_value bytes = number (decimal bytes) ∷ []
 
--- the FISes that carried a command's data; in a write a DMA Activate FIS came before each Data FIS
-unfoldable pub carried_members : QueuedFields → List Token
-carried_members command =
-    text_member (codes "dma_setup") (hex_text (setup_bytes command)) ++ list_member (codes "data") (flat_map payload_value (payloads_of command))
-
--- a command whose data moved
+-- a command whose data moved, and the FISes that carried them; in a write a DMA Activate FIS came before each Data FIS
 unfoldable pub transfer_object : QueuedFields → List Token
 transfer_object command =
-    object (number_member (codes "tag") command.tag ++ (boolean_member (codes "write") command.write ++ carried_members command))
+    object (number_member (codes "tag") command.tag ++ (boolean_member (codes "write") command.write
+    ++ (text_member (codes "dma_setup") (hex_text (setup_bytes command)) ++ list_member (codes "data") (flat_map payload_value (payloads_of command)))))
 
 -- a FIS by its name, where one came
 abbrev pub fis_member : List ℕ → Option (List ℕ) → List Token
@@ -110,26 +123,19 @@ abbrev pub bit_value : List Bool → Named → List Token
 bit_value set n = if has_place set n.place then string n.name ∷ [] else []
 
 -- the word of a register before; null where the command made the disk
-abbrev pub before_member : Option ℕ → List Token
-before_member None = key (codes "before") ∷ null ∷ []
-before_member (Some word) = text_member (codes "before") (hex_of 8 word)
-
--- both words of a register
-unfoldable pub word_members : Change → List Token
-word_members c = before_member c.before ++ text_member (codes "word") (hex_of 8 c.word)
+abbrev pub before_value : Option ℕ → Token
+before_value None = null
+before_value (Some word) = string (hex_of 8 word)
 
 -- a register's words, and the names of its bits
 unfoldable pub change_object : Change → List Token
 change_object c =
-    object (text_member (codes "name") (name_of c.register) ++ (word_members c
+    object (text_member (codes "name") (name_of c.register) ++ (key (codes "before") ∷ before_value c.before ∷ text_member (codes "word") (hex_of 8 c.word)
     ++ list_member (codes "bits") (flat_map (bit_value (bits c.word)) (bits_of c.register))))
 
 -- a register that was written, and the word
-unfoldable pub write_members : RegisterWrite → List Token
-write_members w = text_member (codes "name") (name_of w.register) ++ text_member (codes "word") (hex_of 8 w.word)
-
 unfoldable pub write_object : RegisterWrite → List Token
-write_object w = object (write_members w)
+write_object w = object (text_member (codes "name") (name_of w.register) ++ text_member (codes "word") (hex_of 8 w.word))
 
 -- an owned slot
 unfoldable pub slot_object : OwnedSlot → List Token
@@ -155,19 +161,10 @@ ascii_byte b = if nat_lt b 128 then b else 63
 abbrev pub ascii_of : List ℕ → List ℕ
 ascii_of line = map ascii_byte line
 
--- the line of a command: its number and its text
-unfoldable pub line_members : ℕ → List ℕ → List Token
-line_members n line = number_member (codes "line") n ++ text_member (codes "command") (ascii_of line)
-
--- a command's line, its answer, and what it did
+-- the number and the text of a command's line, its answer, and what it did
 unfoldable pub command_object : ℕ → List ℕ → Said → Told → List Token
 command_object n line said t =
-    object (line_members n line ++ (text_member (codes "answer") (answer_text said) ++ told_members t))
-
--- what a command did that has found the first port, and has left the second; nothing before the disk
-abbrev pub told_between : Option PortView → Option PortView → Told
-told_between before None = nothing_told
-told_between before (Some port) = told_of (mark_of before) port
+    object ((number_member (codes "line") n ++ text_member (codes "command") (ascii_of line)) ++ (text_member (codes "answer") (answer_text said) ++ told_members t))
 
 -- the text for an answer: one object, on a line
 abbrev pub json_line : Telling

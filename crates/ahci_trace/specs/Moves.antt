@@ -10,7 +10,7 @@ use Rattle.ahci_replay.specs.Commands.{RunsOn}
 use Rattle.ahci_script.specs.Said.{Said}
 use Rattle.ahci_script.specs.declared.line.ScriptCommand.{ScriptCommand}
 use Rattle.ahci_trace.specs.Entries.{newest}
-use Rattle.ahci_trace.specs.Json.{told_between}
+use Rattle.ahci_trace.specs.Trace.{told_between}
 use Rattle.ahci_trace.specs.Mark.{mark_of}
 use Rattle.ahci_trace.specs.declared.appended.Happened.{Happened}
 use Rattle.ahci_trace.specs.declared.appended.Happened.TheVariants as what

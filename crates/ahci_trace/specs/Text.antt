@@ -12,10 +12,9 @@ use Rattle.ncq_journal.specs.declared.plain.Plain.{Plain}
 use Rattle.ncq_journal.specs.declared.plain.Plain.TheVariants.{Identify, Flush, ReadLog}
 use Rattle.sata_fis.specs.Encoding.{data_head_bytes}
 use Rattle.sata_fis.specs.Fields.{QueuedFields}
-use Rattle.ahci_trace.specs.Mark.{mark_of}
 use Rattle.ahci_trace.specs.Names.{bits_text}
 use Rattle.ahci_trace.specs.Sent.{SentBytes}
-use Rattle.ahci_trace.specs.Trace.{Told, told_of}
+use Rattle.ahci_trace.specs.Trace.{Told, told_between}
 use Rattle.ahci_trace.specs.Transfers.{payloads_of}
 use Rattle.ahci_trace.specs.declared.appended.Appended.{Appended}
 use Rattle.ahci_trace.specs.declared.appended.Happened.{Happened}
@@ -146,8 +145,7 @@ told_text t =
 
 -- the notes after the answer of a command that has found the first port, and has left the second; there are none before the disk
 abbrev pub trace_notes : Option PortView → Option PortView → List ℕ
-trace_notes before None = []
-trace_notes before (Some port) = told_text (told_of (mark_of before) port)
+trace_notes before after = told_text (told_between before after)
 
 -- the text for an answer: its line, and the notes after it
 abbrev pub trace_text : Telling

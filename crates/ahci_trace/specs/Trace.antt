@@ -1,10 +1,11 @@
 -- What one command did to a port, as plain values.
-use Rattle.std.specs.Prelude.{List, [], None, Option}
+use Rattle.std.specs.Prelude.{List, [], None, Option, Some}
 use Rattle.std.specs.Option.{option_map}
 use Rattle.ahci_port.specs.PortView.{PortView}
 use Rattle.sata_fis.specs.Fields.{QueuedFields}
 use Rattle.ahci_trace.specs.Changes.{changes}
 use Rattle.ahci_trace.specs.Entries.{new_entries, newest}
+use Rattle.ahci_trace.specs.Mark.{mark_of}
 use Rattle.ahci_trace.specs.Owned.{owned_slots}
 use Rattle.ahci_trace.specs.Received.{nothing_received, received_by}
 use Rattle.ahci_trace.specs.Sent.{SentBytes, sent_by, shown}
@@ -54,3 +55,8 @@ told_of mark port = record {
 -- nothing, before the disk
 abbrev pub nothing_told : Told
 nothing_told = record { entries = []; writes = []; sent = None; served = []; received = nothing_received; changes = []; slots = [] }
+
+-- what a command did that has found the first port, and has left the second; nothing before the disk
+abbrev pub told_between : Option PortView → Option PortView → Told
+told_between before None = nothing_told
+told_between before (Some port) = told_of (mark_of before) port

@@ -6,29 +6,26 @@ ghost use Rattle.json.specs.Print.{print};
 ghost use Rattle.ahci_trace.specs.Json.{command_object, passed_members, told_members};
 ghost use Rattle.ahci_trace.specs.Trace.{told};
 
-mod answer;
 mod entry;
 mod hex;
 mod item;
 mod line;
-mod list;
 pub(crate) mod member;
 mod received;
 mod register;
 mod sent;
 mod slot;
+pub(crate) mod tokens;
 mod transfer;
+pub(crate) mod value;
 mod write;
 
 use crate::command_trace::CommandTrace;
 use ahci_script::ScriptAnswer;
-use answer::put_answer;
-use json::Writer;
-use line::put_line;
-use list::put_list;
-use received::put_received;
-use sent::put_sent;
+use item::Item;
+use json::Token;
 use std::alloc::{AllocError, Allocator};
+use tokens::Tokens;
 
 /// The text of an object for a command of a line, its answer and what it did.
 pub(crate) fn json_text<A: Allocator + Copy, B: Allocator>(
@@ -40,61 +37,51 @@ pub(crate) fn json_text<A: Allocator + Copy, B: Allocator>(
 ) -> Result<Vec<u8, A>, AllocError>
     ensures { IfOk result (λ text. text.items ≡ print (command_object number line.now (said answer.now) (told trace.now))) }
 {
-    let mut writer = Writer::new(Vec::new(alloc));
-    put_command(&mut writer, alloc, number, line, answer, trace)?;
-    Ok(writer.into_inner())
+    let mut tokens = Tokens::new(alloc);
+    tokens.put_command(number, line, answer, trace)?;
+    Ok(tokens.into_text())
 }
 
-/// Adds an object for a command of a line, its answer and what it did.
-#[tactic(auto, unfolding(crate::specs::Json::command_object))]
-fn put_command<A: Allocator + Copy, B: Allocator>(
-    writer: &mut Writer<A>,
-    alloc: A,
-    number: u64,
-    line: &[u8],
-    answer: &ScriptAnswer<B>,
-    trace: &CommandTrace<A>,
-) -> Result<(), AllocError>
-    ensures tokens { OnOk result (writer.new.tokens ≡ writer.old.tokens ++ command_object number line.now (said answer.now) (told trace.now)) }
-    ensures before { OnOk result (writer.new.before ≡ writer.old.before) }
-{
-    writer.begin_object()?;
-    put_line(writer, alloc, number, line)?;
-    put_answer(writer, alloc, answer)?;
-    put_told(writer, alloc, trace)?;
-    writer.end_object()
-}
+impl<A: Allocator + Copy> Tokens<A> {
+    /// Adds an object for a command of a line, its answer and what it did.
+    #[tactic(auto, unfolding(crate::specs::Json::command_object))]
+    fn put_command<B: Allocator>(
+        &mut self,
+        number: u64,
+        line: &[u8],
+        answer: &ScriptAnswer<B>,
+        trace: &CommandTrace<A>,
+    ) -> Result<(), AllocError>
+        ensures { OnOk result (self.new ≡ self.old ++ command_object number line.now (said answer.now) (told trace.now)) }
+    {
+        self.add(Token::BeginObject)?;
+        self.put_line(number, line)?;
+        self.put_answer(answer)?;
+        self.put_told(trace)?;
+        self.add(Token::EndObject)
+    }
 
-/// Adds what passed between port and device.
-#[tactic(auto, unfolding(crate::specs::Json::passed_members))]
-fn put_passed<A: Allocator + Copy>(
-    writer: &mut Writer<A>,
-    alloc: A,
-    trace: &CommandTrace<A>,
-) -> Result<(), AllocError>
-    ensures tokens { OnOk result (writer.new.tokens ≡ writer.old.tokens ++ passed_members (told trace.now)) }
-    ensures before { OnOk result (writer.new.before ≡ writer.old.before) }
-{
-    writer.key("sent")?;
-    put_sent(writer, alloc, &trace.sent)?;
-    put_list(writer, alloc, "transfers", &trace.served)?;
-    writer.key("received")?;
-    put_received(writer, alloc, &trace.received)
-}
+    /// Adds what a command did.
+    #[tactic(auto, unfolding(crate::specs::Json::told_members))]
+    fn put_told(&mut self, trace: &CommandTrace<A>) -> Result<(), AllocError>
+        ensures { OnOk result (self.new ≡ self.old ++ told_members (told trace.now)) }
+    {
+        self.put_list("entries", &trace.entries)?;
+        self.put_list("writes", &trace.writes)?;
+        self.put_passed(trace)?;
+        self.put_list("registers", &trace.changes)?;
+        self.put_list("slots", &trace.slots)
+    }
 
-/// Adds what a command did.
-#[tactic(auto, unfolding(crate::specs::Json::told_members))]
-fn put_told<A: Allocator + Copy>(
-    writer: &mut Writer<A>,
-    alloc: A,
-    trace: &CommandTrace<A>,
-) -> Result<(), AllocError>
-    ensures tokens { OnOk result (writer.new.tokens ≡ writer.old.tokens ++ told_members (told trace.now)) }
-    ensures before { OnOk result (writer.new.before ≡ writer.old.before) }
-{
-    put_list(writer, alloc, "entries", &trace.entries)?;
-    put_list(writer, alloc, "writes", &trace.writes)?;
-    put_passed(writer, alloc, trace)?;
-    put_list(writer, alloc, "registers", &trace.changes)?;
-    put_list(writer, alloc, "slots", &trace.slots)
+    /// Adds what passed between port and device.
+    #[tactic(auto, unfolding(crate::specs::Json::passed_members))]
+    fn put_passed(&mut self, trace: &CommandTrace<A>) -> Result<(), AllocError>
+        ensures { OnOk result (self.new ≡ self.old ++ passed_members (told trace.now)) }
+    {
+        self.add(Token::Key("sent"))?;
+        trace.sent.put(self)?;
+        self.put_list("transfers", &trace.served)?;
+        self.add(Token::Key("received"))?;
+        trace.received.put(self)
+    }
 }

@@ -1,11 +1,12 @@
 //! The end of a trace as JSON at a fault.
 
 ghost use Rattle.std.specs.Prelude.{◌≡◌, ◌++◌, IfOk, OnOk};
-ghost use Rattle.ahci_trace.specs.Closing.{Closes, IsTold, TellsFault, fault_line, fault_object, fault_word, line_member};
+ghost use Rattle.ahci_trace.specs.Closing.{Closes, IsTold, TellsFault, fault_line, fault_object, fault_word};
 
-use crate::as_json::member::{put_number, put_text};
+use crate::as_json::member::Member;
+use crate::as_json::tokens::Tokens;
+use crate::as_json::value::Value;
 use ahci_replay::ScriptFault;
-use json::Writer;
 use std::alloc::{AllocError, Allocator};
 use std::io::Write;
 use streams::Writes;
@@ -22,42 +23,39 @@ fn fault_word(fault: ScriptFault) -> &'static str
     }
 }
 
-/// Adds the line of a fault, where it has one.
-fn put_line<A: Allocator>(writer: &mut Writer<A>, fault: ScriptFault) -> Result<(), AllocError>
-    ensures tokens { OnOk result (writer.new.tokens ≡ writer.old.tokens ++ line_member fault) }
-    ensures before { OnOk result (writer.new.before ≡ writer.old.before) }
-{
-    match fault {
-        ScriptFault::Line(line) => put_number(writer, "line", line),
-        _ => Ok(()),
+impl<A: Allocator + Copy> Tokens<A> {
+    /// Adds an object for a fault, with its line where it has one.
+    #[tactic(auto, unfolding(crate::specs::Closing::fault_object))]
+    fn put_fault(&mut self, fault: ScriptFault) -> Result<(), AllocError>
+        ensures { OnOk result (self.new ≡ self.old ++ fault_object fault) }
+    {
+        let word = Member("fault", Value::Text(fault_word(fault)));
+        match fault {
+            ScriptFault::Line(line) => {
+                self.put_object(&[word, Member("line", Value::Number(line))])
+            }
+            _ => self.put_object(&[word]),
+        }
     }
 }
 
-/// Adds an object for a fault.
-#[tactic(auto, unfolding(crate::specs::Closing::fault_object))]
-fn put_fault<A: Allocator>(writer: &mut Writer<A>, fault: ScriptFault) -> Result<(), AllocError>
-    ensures tokens { OnOk result (writer.new.tokens ≡ writer.old.tokens ++ fault_object fault) }
-    ensures before { OnOk result (writer.new.before ≡ writer.old.before) }
-{
-    writer.begin_object()?;
-    put_text(writer, "fault", fault_word(fault))?;
-    put_line(writer, fault)?;
-    writer.end_object()
-}
-
 /// The line of a fault's object.
-fn fault_line<A: Allocator>(alloc: A, fault: ScriptFault) -> Result<Vec<u8, A>, AllocError>
+fn fault_line<A: Allocator + Copy>(alloc: A, fault: ScriptFault) -> Result<Vec<u8, A>, AllocError>
     ensures { IfOk result (λ text. text.items ≡ fault_line fault) }
 {
-    let mut writer = Writer::new(Vec::new(alloc));
-    put_fault(&mut writer, fault)?;
-    let mut text = writer.into_inner();
+    let mut tokens = Tokens::new(alloc);
+    tokens.put_fault(fault)?;
+    let mut text = tokens.into_text();
     text.push(b'\n')?;
     Ok(text)
 }
 
 /// Tells a fault. Answers the fault, or what kept it from being told.
-fn tell_fault<W: Write, A: Allocator>(alloc: A, fault: ScriptFault, writer: &mut W) -> ScriptFault
+fn tell_fault<W: Write, A: Allocator + Copy>(
+    alloc: A,
+    fault: ScriptFault,
+    writer: &mut W,
+) -> ScriptFault
     requires { IsTold fault }
     ensures { TellsFault fault (W.contents writer.old) (W.contents writer.new) result }
 {
@@ -72,7 +70,7 @@ fn tell_fault<W: Write, A: Allocator>(alloc: A, fault: ScriptFault, writer: &mut
 
 /// Ends a trace at a fault, with an object that tells it; where output or memory is wanting, with nothing. Answers the fault
 /// that the trace ends with.
-pub(crate) fn close<W: Write, A: Allocator>(
+pub(crate) fn close<W: Write, A: Allocator + Copy>(
     alloc: A,
     fault: ScriptFault,
     writer: &mut W,

@@ -1,5 +1,8 @@
-ghost use Rattle.std.specs.Prelude.{◌≡◌, IfOk};
-ghost use Rattle.ahci_trace.specs.Trace.{nothing_told, told, told_of};
+ghost use Rattle.std.specs.Prelude.{◌≡◌, IfOk, Option};
+ghost use Rattle.std.specs.Option.{option_copied};
+ghost use Rattle.ahci_port.specs.PortView.{PortView};
+ghost use Rattle.ahci_trace.specs.Mark.{mark_of};
+ghost use Rattle.ahci_trace.specs.Trace.{nothing_told, told, told_between, told_of};
 
 use crate::appended::{Appended, new_entries, newest};
 use crate::change::{Change, changes};
@@ -35,7 +38,7 @@ pub struct CommandTrace<A: Allocator = Global> {
 
 impl<A: Allocator + Copy> CommandTrace<A> {
     /// What there is to tell before the disk: nothing.
-    pub(crate) fn nothing(alloc: A) -> Self
+    fn nothing(alloc: A) -> Self
         ensures { told result ≡ nothing_told }
     {
         CommandTrace {
@@ -46,6 +49,17 @@ impl<A: Allocator + Copy> CommandTrace<A> {
             received: nothing_received(),
             changes: Vec::new(alloc),
             slots: Vec::new(alloc),
+        }
+    }
+
+    /// What a command did that found the port of the mark, and has left this one; nothing before the disk.
+    pub(crate) fn between(alloc: A, mark: &Mark, port: Option<&Port<A>>) -> Result<Self, AllocError>
+        ensures { IfOk result (λ trace. (before : Option PortView) → mark.now ≡ mark_of before
+            → told trace ≡ told_between before (option_copied port.entry)) }
+    {
+        match port {
+            None => Ok(Self::nothing(alloc)),
+            Some(port) => Self::of(alloc, mark, port),
         }
     }
 

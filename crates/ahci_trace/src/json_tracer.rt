@@ -41,43 +41,6 @@ struct JsonTracer<A: Allocator> {
     alloc: A,
 }
 
-impl<A: Allocator + Copy> JsonTracer<A> {
-    ghost use Rattle.std.specs.Prelude.{◌≡◌, IfOk, Option};
-    ghost use Rattle.std.specs.Option.{option_copied};
-    ghost use Rattle.json.specs.Print.{print};
-    ghost use Rattle.ahci_port.specs.PortView.{PortView};
-    ghost use Rattle.ahci_script.specs.Said.{said};
-    ghost use Rattle.ahci_trace.specs.Json.{command_object, told_between};
-    ghost use Rattle.ahci_trace.specs.Mark.{mark_of};
-    ghost use Rattle.ahci_trace.specs.Trace.{told};
-
-    /// What a command did that found the port of the mark, and has left this one.
-    fn trace(&self, mark: &Mark, port: Option<&Port<A>>) -> Result<CommandTrace<A>, AllocError>
-        ensures { IfOk result (λ trace. (before : Option PortView) → mark.now ≡ mark_of before
-            → told trace ≡ told_between before (option_copied port.entry)) }
-    {
-        match port {
-            None => Ok(CommandTrace::nothing(self.alloc)),
-            Some(port) => CommandTrace::of(self.alloc, mark, port),
-        }
-    }
-
-    /// The object for a command of a line, its answer and what it did, which found the port of the mark, and has left this one.
-    fn object(
-        &self,
-        number: u64,
-        line: &[u8],
-        mark: &Mark,
-        answer: &ScriptAnswer<A>,
-        port: Option<&Port<A>>,
-    ) -> Result<Vec<u8, A>, AllocError>
-        ensures { IfOk result (λ text. (before : Option PortView) → mark.now ≡ mark_of before
-            → text.items ≡ print (command_object number line.now (said answer.now) (told_between before (option_copied port.entry)))) }
-    {
-        json_text(self.alloc, number, line, answer, &self.trace(mark, port)?)
-    }
-}
-
 impl<A: Allocator + Copy> Teller<A> for JsonTracer<A> {
     ghost use Rattle.std.specs.Prelude.{◌≡◌};
     ghost use Rattle.ahci_trace.specs.Json.{json_line};
@@ -102,7 +65,7 @@ impl<A: Allocator + Copy> Teller<A> for JsonTracer<A> {
         port: Option<&Port<A>>,
         output: &mut Output<A>,
     ) -> Result<(), AllocError> {
-        let text = self.object(number, line, &before, answer, port)?;
-        output.put_text(&text)
+        let trace = CommandTrace::between(self.alloc, &before, port)?;
+        output.put_text(&json_text(self.alloc, number, line, answer, &trace)?)
     }
 }

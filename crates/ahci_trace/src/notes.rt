@@ -8,13 +8,12 @@ use std::alloc::{AllocError, Allocator};
 /// Appends the notes of each.
 pub(crate) fn push_notes<T: Note, A: Allocator + Copy>(
     text: &mut Vec<u8, A>,
-    alloc: A,
     each: &[T],
 ) -> Result<(), AllocError>
     ensures { OnOk result (text.new.items ≡ text.old.items ++ flat_map T.note each.now) }
 {
     for one in each {
-        one.push_to(text, alloc)?;
+        one.push_to(text)?;
     }
     Ok(())
 }

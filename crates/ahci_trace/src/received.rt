@@ -38,10 +38,8 @@ fn register_came(area: &[u8; 256]) -> Received
     ensures { result ≡ register_came area.now }
 {
     Received {
-        setup: None,
-        pio: None,
         register: Some(bytes_at(area, 0x40)),
-        bits: None,
+        ..nothing_received()
     }
 }
 
@@ -50,10 +48,8 @@ fn set_bits_came(area: &[u8; 256]) -> Received
     ensures { result ≡ set_bits_came area.now }
 {
     Received {
-        setup: None,
-        pio: None,
-        register: None,
         bits: Some(bytes_at(area, 0x58)),
+        ..nothing_received()
     }
 }
 
@@ -63,9 +59,7 @@ fn data_moved(area: &[u8; 256]) -> Received
 {
     Received {
         setup: Some(bytes_at(area, 0x00)),
-        pio: None,
-        register: None,
-        bits: Some(bytes_at(area, 0x58)),
+        ..set_bits_came(area)
     }
 }
 
@@ -74,10 +68,8 @@ fn page_came(area: &[u8; 256]) -> Received
     ensures { result ≡ page_came area.now }
 {
     Received {
-        setup: None,
         pio: Some(bytes_at(area, 0x20)),
-        register: None,
-        bits: None,
+        ..nothing_received()
     }
 }
 

@@ -3,7 +3,7 @@
 ghost use Rattle.std.specs.Prelude.{◌≡◌, ◌++◌, OnOk, IfOk};
 ghost use Rattle.std.specs.Option.{option_map};
 ghost use Rattle.ahci_trace.specs.Sent.{shown};
-ghost use Rattle.ahci_trace.specs.Text.{change_text, command_text, details_text, direction, entry_text, fis_text, page_text, prdt_text, received_text, sent_text, slot_text, told_text, what_text, write_text};
+ghost use Rattle.ahci_trace.specs.Text.{change_text, command_text, direction, entry_text, fis_text, page_text, prdt_text, received_text, sent_text, slot_text, told_text, what_text, write_text};
 ghost use Rattle.ahci_trace.specs.Trace.{told};
 
 use crate::appended::{Appended, Happened};
@@ -30,13 +30,13 @@ pub(crate) fn text_of<A: Allocator + Copy>(
     ensures { IfOk result (λ text. text.items ≡ told_text (told trace.now)) }
 {
     let mut text = Vec::new(alloc);
-    push_notes(&mut text, alloc, &trace.entries)?;
-    push_notes(&mut text, alloc, &trace.writes)?;
-    push_sent(&mut text, alloc, &trace.sent)?;
-    push_notes(&mut text, alloc, &trace.served)?;
-    push_received(&mut text, &trace.received)?;
-    push_notes(&mut text, alloc, &trace.changes)?;
-    push_notes(&mut text, alloc, &trace.slots)?;
+    push_notes(&mut text, &trace.entries)?;
+    push_notes(&mut text, &trace.writes)?;
+    trace.sent.push_to(&mut text)?;
+    push_notes(&mut text, &trace.served)?;
+    trace.received.push_to(&mut text)?;
+    push_notes(&mut text, &trace.changes)?;
+    push_notes(&mut text, &trace.slots)?;
     Ok(text)
 }
 
@@ -47,52 +47,45 @@ fn direction(write: bool) -> &'static [u8]
     if write { b" write " } else { b" read " }
 }
 
-fn push_details<A: Allocator>(text: &mut Vec<u8, A>, what: Happened) -> Result<(), AllocError>
-    ensures { OnOk result (text.new.items ≡ text.old.items ++ details_text what) }
-{
-    match what {
-        Happened::Issue {
-            tag,
-            write,
-            lba,
-            sectors,
-        } => {
-            push_number(text, b" ", u64::from(tag))?;
-            push_number(text, direction(write), lba)?;
-            push_number(text, b" ", sectors)
-        }
-        Happened::Accept(tag)
-        | Happened::Complete(tag)
-        | Happened::Recover(tag)
-        | Happened::Reissue(tag)
-        | Happened::Collect(tag) => push_number(text, b" ", u64::from(tag)),
-        Happened::Fail { tag, error, lba } => {
-            push_number(text, b" ", u64::from(tag))?;
-            push_byte(text, error)?;
-            push_number(text, b" ", lba)
-        }
-        Happened::Plain(_) => Ok(()),
-    }
-}
+/// What an entry says.
+impl Note for Happened {
+    ghost note = { what_text };
 
-fn push_what<A: Allocator>(text: &mut Vec<u8, A>, what: Happened) -> Result<(), AllocError>
-    ensures { OnOk result (text.new.items ≡ text.old.items ++ what_text what) }
-{
-    push(text, kind_name(what).as_bytes())?;
-    push_details(text, what)
+    fn push_to<A: Allocator + Copy>(&self, text: &mut Vec<u8, A>) -> Result<(), AllocError> {
+        push(text, kind_name(*self).as_bytes())?;
+        match *self {
+            Happened::Issue {
+                tag,
+                write,
+                lba,
+                sectors,
+            } => {
+                push_number(text, b" ", u64::from(tag))?;
+                push_number(text, direction(write), lba)?;
+                push_number(text, b" ", sectors)
+            }
+            Happened::Accept(tag)
+            | Happened::Complete(tag)
+            | Happened::Recover(tag)
+            | Happened::Reissue(tag)
+            | Happened::Collect(tag) => push_number(text, b" ", u64::from(tag)),
+            Happened::Fail { tag, error, lba } => {
+                push_number(text, b" ", u64::from(tag))?;
+                push_byte(text, error)?;
+                push_number(text, b" ", lba)
+            }
+            Happened::Plain(_) => Ok(()),
+        }
+    }
 }
 
 impl Note for Appended {
     ghost note = { entry_text };
 
-    fn push_to<A: Allocator + Copy>(
-        &self,
-        text: &mut Vec<u8, A>,
-        _alloc: A,
-    ) -> Result<(), AllocError> {
+    fn push_to<A: Allocator + Copy>(&self, text: &mut Vec<u8, A>) -> Result<(), AllocError> {
         push_number(text, b"  entry ", self.number)?;
         push(text, b": ")?;
-        push_what(text, self.what)?;
+        self.what.push_to(text)?;
         push(text, b"\n")
     }
 }
@@ -100,11 +93,7 @@ impl Note for Appended {
 impl Note for RegisterWrite {
     ghost note = { write_text };
 
-    fn push_to<A: Allocator + Copy>(
-        &self,
-        text: &mut Vec<u8, A>,
-        _alloc: A,
-    ) -> Result<(), AllocError> {
+    fn push_to<A: Allocator + Copy>(&self, text: &mut Vec<u8, A>) -> Result<(), AllocError> {
         push(text, b"  wrote ")?;
         push(text, self.register.name().as_bytes())?;
         push(text, b" ")?;
@@ -117,38 +106,31 @@ impl Note for RegisterWrite {
 impl Note for [u8; 16] {
     ghost note = { prdt_text };
 
-    fn push_to<A: Allocator + Copy>(
-        &self,
-        text: &mut Vec<u8, A>,
-        _alloc: A,
-    ) -> Result<(), AllocError> {
+    fn push_to<A: Allocator + Copy>(&self, text: &mut Vec<u8, A>) -> Result<(), AllocError> {
         push_named(text, b"  sent PRDT entry", self)
     }
 }
 
-fn push_sent<A: Allocator + Copy, B: Allocator>(
-    text: &mut Vec<u8, A>,
-    alloc: A,
-    sent: &Option<SentCommand<B>>,
-) -> Result<(), AllocError>
-    ensures { OnOk result (text.new.items ≡ text.old.items ++ sent_text (option_map shown sent.now)) }
-{
-    match sent {
-        Some(command) => push_command(text, alloc, command),
-        None => Ok(()),
+impl<B: Allocator> Note for SentCommand<B> {
+    ghost note = { λ sent. command_text (shown sent) };
+
+    fn push_to<A: Allocator + Copy>(&self, text: &mut Vec<u8, A>) -> Result<(), AllocError> {
+        push_named(text, b"  sent command header", &self.header)?;
+        push_named(text, b"  sent CFIS", &self.cfis)?;
+        push_notes(text, &self.entries)
     }
 }
 
-fn push_command<A: Allocator + Copy, B: Allocator>(
-    text: &mut Vec<u8, A>,
-    alloc: A,
-    command: &SentCommand<B>,
-) -> Result<(), AllocError>
-    ensures { OnOk result (text.new.items ≡ text.old.items ++ command_text (shown command.now)) }
-{
-    push_named(text, b"  sent command header", &command.header)?;
-    push_named(text, b"  sent CFIS", &command.cfis)?;
-    push_notes(text, alloc, &command.entries)
+/// What was sent, where something was.
+impl<B: Allocator> Note for Option<SentCommand<B>> {
+    ghost note = { λ sent. sent_text (option_map shown sent) };
+
+    fn push_to<A: Allocator + Copy>(&self, text: &mut Vec<u8, A>) -> Result<(), AllocError> {
+        match self {
+            Some(command) => command.push_to(text),
+            None => Ok(()),
+        }
+    }
 }
 
 /// Appends a FIS by the standard's name, where one came.
@@ -181,22 +163,21 @@ fn push_page<A: Allocator>(
     }
 }
 
-fn push_received<A: Allocator>(text: &mut Vec<u8, A>, received: &Received) -> Result<(), AllocError>
-    ensures { OnOk result (text.new.items ≡ text.old.items ++ received_text received.now) }
-{
-    push_page(text, &received.pio)?;
-    push_fis(text, b"  received D2H Register FIS", &received.register)?;
-    push_fis(text, b"  received Set Device Bits FIS", &received.bits)
+/// The FISes that came, but for those of the data.
+impl Note for Received {
+    ghost note = { received_text };
+
+    fn push_to<A: Allocator + Copy>(&self, text: &mut Vec<u8, A>) -> Result<(), AllocError> {
+        push_page(text, &self.pio)?;
+        push_fis(text, b"  received D2H Register FIS", &self.register)?;
+        push_fis(text, b"  received Set Device Bits FIS", &self.bits)
+    }
 }
 
 impl Note for Change {
     ghost note = { change_text };
 
-    fn push_to<A: Allocator + Copy>(
-        &self,
-        text: &mut Vec<u8, A>,
-        _alloc: A,
-    ) -> Result<(), AllocError> {
+    fn push_to<A: Allocator + Copy>(&self, text: &mut Vec<u8, A>) -> Result<(), AllocError> {
         push(text, b"  ")?;
         push(text, self.register.name().as_bytes())?;
         push(text, b" ")?;
@@ -209,11 +190,7 @@ impl Note for Change {
 impl Note for OwnedSlot {
     ghost note = { slot_text };
 
-    fn push_to<A: Allocator + Copy>(
-        &self,
-        text: &mut Vec<u8, A>,
-        _alloc: A,
-    ) -> Result<(), AllocError> {
+    fn push_to<A: Allocator + Copy>(&self, text: &mut Vec<u8, A>) -> Result<(), AllocError> {
         push_number(text, b"  slot ", u64::from(self.tag))?;
         push(text, b" ")?;
         push(text, phase_name(self.phase).as_bytes())?;

@@ -34,26 +34,9 @@ pub struct Tracer<A: Allocator> {
 }
 
 impl<A: Allocator + Copy> Tracer<A> {
-    ghost use Rattle.std.specs.Prelude.{◌≡◌, IfOk, Option};
-    ghost use Rattle.std.specs.Option.{option_copied};
-    ghost use Rattle.ahci_port.specs.PortView.{PortView};
-    ghost use Rattle.ahci_trace.specs.Mark.{mark_of};
-    ghost use Rattle.ahci_trace.specs.Text.{trace_notes};
-
     /// The notes are made with this allocator.
     pub fn new(alloc: A) -> Self {
         Tracer { alloc }
-    }
-
-    /// What a command did that found the port of the mark, and has left this one.
-    fn notes(&self, mark: &Mark, port: Option<&Port<A>>) -> Result<Vec<u8, A>, AllocError>
-        ensures { IfOk result (λ text. (before : Option PortView) → mark.now ≡ mark_of before
-            → text.items ≡ trace_notes before (option_copied port.entry)) }
-    {
-        match port {
-            None => Ok(Vec::new(self.alloc)),
-            Some(port) => text_of(self.alloc, &CommandTrace::of(self.alloc, mark, port)?),
-        }
     }
 }
 
@@ -81,7 +64,7 @@ impl<A: Allocator + Copy> Teller<A> for Tracer<A> {
         port: Option<&Port<A>>,
         output: &mut Output<A>,
     ) -> Result<(), AllocError> {
-        let notes = self.notes(&before, port)?;
-        output.put_noted(answer, &notes)
+        let trace = CommandTrace::between(self.alloc, &before, port)?;
+        output.put_noted(answer, &text_of(self.alloc, &trace)?)
     }
 }

@@ -85,12 +85,12 @@ fn push_setup<A: Allocator>(text: &mut Vec<u8, A>, command: &Queued) -> Result<(
 /// Appends the Data FISes of a command.
 fn push_all_data<A: Allocator + Copy>(
     text: &mut Vec<u8, A>,
-    alloc: A,
     command: &Queued,
 ) -> Result<(), AllocError>
     ensures { OnOk result (text.new.items ≡ text.old.items ++ flat_map (data_text command.now.write) (payloads_of command.now)) }
 {
-    push_each(text, command.write, &payloads(alloc, command)?)
+    let payloads = payloads(*text.allocator(), command)?;
+    push_each(text, command.write, &payloads)
 }
 
 /// A command, by the FISes that carry its data.
@@ -98,12 +98,8 @@ impl Note for Queued {
     ghost note = { transfer_text };
 
     #[tactic(auto, unfolding(crate::specs::Text::transfer_text))]
-    fn push_to<A: Allocator + Copy>(
-        &self,
-        text: &mut Vec<u8, A>,
-        alloc: A,
-    ) -> Result<(), AllocError> {
+    fn push_to<A: Allocator + Copy>(&self, text: &mut Vec<u8, A>) -> Result<(), AllocError> {
         push_setup(text, self)?;
-        push_all_data(text, alloc, self)
+        push_all_data(text, self)
     }
 }

@@ -1,12 +1,13 @@
 ghost use Rattle.std.specs.Prelude.{◌≡◌, ◌++◌, OnOk};
 ghost use Rattle.ahci_trace.specs.Json.{entry_object, kind_word, what_members};
 
-use super::hex::put_byte;
 use super::item::Item;
-use super::member::{put_boolean, put_number, put_tag, put_text};
+use super::member::Member;
+use super::tokens::Tokens;
+use super::value::Value;
 use crate::appended::{Appended, Happened};
 use crate::kinds::kind_name;
-use json::Writer;
+use json::Token;
 use ncq_journal::Plain;
 use std::alloc::{AllocError, Allocator};
 
@@ -20,60 +21,36 @@ fn kind_word(what: Happened) -> &'static str
     }
 }
 
-/// Adds the members of an issued command.
-#[tactic(auto, unfolding(crate::specs::Json::what_members))]
-fn put_issue<A: Allocator>(
-    writer: &mut Writer<A>,
-    tag: u8,
-    write: bool,
-    lba: u64,
-    sectors: u64,
-) -> Result<(), AllocError>
-    ensures tokens { OnOk result (writer.new.tokens ≡ writer.old.tokens ++ what_members (Happened.Issue tag write lba sectors)) }
-    ensures before { OnOk result (writer.new.before ≡ writer.old.before) }
-{
-    put_tag(writer, tag)?;
-    put_boolean(writer, "write", write)?;
-    put_number(writer, "lba", lba)?;
-    put_number(writer, "sectors", sectors)
-}
+/// What an entry says.
+impl Item for Happened {
+    ghost value = { what_members };
 
-/// Adds the members of a command that failed.
-#[tactic(auto, unfolding(crate::specs::Json::what_members))]
-fn put_fail<A: Allocator>(
-    writer: &mut Writer<A>,
-    tag: u8,
-    error: u8,
-    lba: u64,
-) -> Result<(), AllocError>
-    ensures tokens { OnOk result (writer.new.tokens ≡ writer.old.tokens ++ what_members (Happened.Fail tag error lba)) }
-    ensures before { OnOk result (writer.new.before ≡ writer.old.before) }
-{
-    put_tag(writer, tag)?;
-    put_byte(writer, "error", error)?;
-    put_number(writer, "lba", lba)
-}
-
-/// Adds what an entry says.
-#[tactic(auto, unfolding(crate::specs::Json::what_members))]
-fn put_what<A: Allocator>(writer: &mut Writer<A>, what: Happened) -> Result<(), AllocError>
-    ensures tokens { OnOk result (writer.new.tokens ≡ writer.old.tokens ++ what_members what) }
-    ensures before { OnOk result (writer.new.before ≡ writer.old.before) }
-{
-    match what {
-        Happened::Issue {
-            tag,
-            write,
-            lba,
-            sectors,
-        } => put_issue(writer, tag, write, lba, sectors),
-        Happened::Accept(tag)
-        | Happened::Complete(tag)
-        | Happened::Recover(tag)
-        | Happened::Reissue(tag)
-        | Happened::Collect(tag) => put_tag(writer, tag),
-        Happened::Fail { tag, error, lba } => put_fail(writer, tag, error, lba),
-        Happened::Plain(_) => Ok(()),
+    #[tactic(auto, unfolding(crate::specs::Json::what_members))]
+    fn put<A: Allocator + Copy>(&self, tokens: &mut Tokens<A>) -> Result<(), AllocError> {
+        match *self {
+            Happened::Issue {
+                tag,
+                write,
+                lba,
+                sectors,
+            } => tokens.put_each(&[
+                Member("tag", Value::Number(tag as u64)),
+                Member("write", Value::Boolean(write)),
+                Member("lba", Value::Number(lba)),
+                Member("sectors", Value::Number(sectors)),
+            ]),
+            Happened::Accept(tag)
+            | Happened::Complete(tag)
+            | Happened::Recover(tag)
+            | Happened::Reissue(tag)
+            | Happened::Collect(tag) => Member("tag", Value::Number(tag as u64)).put(tokens),
+            Happened::Fail { tag, error, lba } => tokens.put_each(&[
+                Member("tag", Value::Number(tag as u64)),
+                Member("error", Value::Byte(error)),
+                Member("lba", Value::Number(lba)),
+            ]),
+            Happened::Plain(_) => Ok(()),
+        }
     }
 }
 
@@ -81,15 +58,12 @@ impl Item for Appended {
     ghost value = { entry_object };
 
     #[tactic(auto, unfolding(crate::specs::Json::entry_object))]
-    fn put<A: Allocator + Copy>(
-        &self,
-        writer: &mut Writer<A>,
-        _alloc: A,
-    ) -> Result<(), AllocError> {
-        writer.begin_object()?;
-        put_number(writer, "number", self.number)?;
-        put_text(writer, "entry", kind_word(self.what))?;
-        put_what(writer, self.what)?;
-        writer.end_object()
+    fn put<A: Allocator + Copy>(&self, tokens: &mut Tokens<A>) -> Result<(), AllocError> {
+        let number = Member("number", Value::Number(self.number));
+        let entry = Member("entry", Value::Text(kind_word(self.what)));
+        tokens.add(Token::BeginObject)?;
+        tokens.put_each(&[number, entry])?;
+        self.what.put(tokens)?;
+        tokens.add(Token::EndObject)
     }
 }

@@ -1,11 +1,16 @@
-//! The line of a command.
+//! The line of a command, and its answer.
 
 ghost use Rattle.std.specs.Prelude.{◌≡◌, ◌++◌, codes, IfOk, OnOk};
-ghost use Rattle.ahci_trace.specs.Json.{ascii_byte, ascii_of, line_members, text_member};
+ghost use Rattle.ahci_script.specs.Answers.{answer_text};
+ghost use Rattle.ahci_script.specs.Said.{said};
+ghost use Rattle.ahci_trace.specs.Json.{ascii_byte, ascii_of, number_member, text_member};
 
 use super::hex::ascii;
-use super::member::{put_number, put_text};
-use json::Writer;
+use super::item::Item;
+use super::member::Member;
+use super::tokens::Tokens;
+use super::value::Value;
+use ahci_script::{ScriptAnswer, answer_bytes};
 use std::alloc::{AllocError, Allocator};
 
 /// A byte of a line, or a question mark where it isn't ASCII, as in no line that is understood.
@@ -22,31 +27,27 @@ fn ascii_of<A: Allocator>(alloc: A, line: &[u8]) -> Result<Vec<u8, A>, AllocErro
     line.iter().map(|byte| ascii_byte(*byte)).collect(alloc)
 }
 
-/// Adds a member with the text of a line.
-#[tactic(auto, using(crate::proofs::AsciiLemmas::line_ascii))]
-fn put_command_text<A: Allocator + Copy>(
-    writer: &mut Writer<A>,
-    alloc: A,
-    line: &[u8],
-) -> Result<(), AllocError>
-    ensures tokens { OnOk result (writer.new.tokens ≡ writer.old.tokens ++ text_member (codes "command") (ascii_of line.now)) }
-    ensures before { OnOk result (writer.new.before ≡ writer.old.before) }
-{
-    let text = ascii_of(alloc, line)?;
-    put_text(writer, "command", ascii(&text))
-}
+impl<A: Allocator + Copy> Tokens<A> {
+    /// Adds the number and the text of a command's line.
+    #[tactic(auto, using(crate::proofs::AsciiLemmas::line_ascii))]
+    pub(super) fn put_line(&mut self, number: u64, line: &[u8]) -> Result<(), AllocError>
+        ensures { OnOk result (self.new ≡ self.old
+            ++ (number_member (codes "line") number ++ text_member (codes "command") (ascii_of line.now))) }
+    {
+        let text = ascii_of(self.alloc, line)?;
+        Member("line", Value::Number(number)).put(self)?;
+        Member("command", Value::Text(ascii(&text))).put(self)
+    }
 
-/// Adds the number and the text of a command's line.
-#[tactic(auto, unfolding(crate::specs::Json::line_members))]
-pub(crate) fn put_line<A: Allocator + Copy>(
-    writer: &mut Writer<A>,
-    alloc: A,
-    number: u64,
-    line: &[u8],
-) -> Result<(), AllocError>
-    ensures tokens { OnOk result (writer.new.tokens ≡ writer.old.tokens ++ line_members number line.now) }
-    ensures before { OnOk result (writer.new.before ≡ writer.old.before) }
-{
-    put_number(writer, "line", number)?;
-    put_command_text(writer, alloc, line)
+    /// Adds a member with an answer.
+    #[tactic(auto, using(crate::proofs::AsciiLemmas::answer_ascii))]
+    pub(super) fn put_answer<B: Allocator>(
+        &mut self,
+        answer: &ScriptAnswer<B>,
+    ) -> Result<(), AllocError>
+        ensures { OnOk result (self.new ≡ self.old ++ text_member (codes "answer") (answer_text (said answer.now))) }
+    {
+        let text = answer_bytes(self.alloc, answer)?;
+        Member("answer", Value::Text(ascii(&text))).put(self)
+    }
 }

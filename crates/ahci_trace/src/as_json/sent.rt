@@ -1,53 +1,46 @@
-ghost use Rattle.std.specs.Prelude.{◌≡◌, ◌++◌, OnOk, Some};
-ghost use Rattle.std.specs.Option.{option_map};
-ghost use Rattle.ahci_trace.specs.Json.{prdt_value, sent_value};
+ghost use Rattle.ahci_trace.specs.Json.{prdt_value, sent_object, sent_value};
 ghost use Rattle.ahci_trace.specs.Sent.{shown};
+ghost use Rattle.std.specs.Option.{option_map};
 
-use super::hex::{put_bytes, put_hex};
 use super::item::Item;
-use super::list::put_list;
+use super::member::Member;
+use super::tokens::Tokens;
+use super::value::Value;
 use crate::sent::SentCommand;
-use json::Writer;
+use json::Token;
 use std::alloc::{AllocError, Allocator};
 
 /// An entry of a PRDT.
 impl Item for [u8; 16] {
     ghost value = { prdt_value };
 
-    fn put<A: Allocator + Copy>(&self, writer: &mut Writer<A>, alloc: A) -> Result<(), AllocError> {
-        put_bytes(writer, alloc, self)
+    fn put<A: Allocator + Copy>(&self, tokens: &mut Tokens<A>) -> Result<(), AllocError> {
+        Value::Bytes(self).put(tokens)
     }
 }
 
-/// Adds a command that was sent.
-#[tactic(auto, unfolding(crate::specs::Json::sent_value))]
-fn put_command<A: Allocator + Copy, B: Allocator>(
-    writer: &mut Writer<A>,
-    alloc: A,
-    command: &SentCommand<B>,
-) -> Result<(), AllocError>
-    ensures tokens { OnOk result (writer.new.tokens ≡ writer.old.tokens ++ sent_value (Some (shown command.now))) }
-    ensures before { OnOk result (writer.new.before ≡ writer.old.before) }
-{
-    writer.begin_object()?;
-    put_hex(writer, alloc, "header", &command.header)?;
-    put_hex(writer, alloc, "cfis", &command.cfis)?;
-    put_list(writer, alloc, "prdt", &command.entries)?;
-    writer.end_object()
+impl<B: Allocator> Item for SentCommand<B> {
+    ghost value = { λ sent. sent_object (shown sent) };
+
+    #[tactic(auto, unfolding(crate::specs::Json::sent_object))]
+    fn put<A: Allocator + Copy>(&self, tokens: &mut Tokens<A>) -> Result<(), AllocError> {
+        let header = Member("header", Value::Bytes(&self.header));
+        let cfis = Member("cfis", Value::Bytes(&self.cfis));
+        tokens.add(Token::BeginObject)?;
+        tokens.put_each(&[header, cfis])?;
+        tokens.put_list("prdt", &self.entries)?;
+        tokens.add(Token::EndObject)
+    }
 }
 
-/// Adds what was sent, or null.
-#[tactic(auto, unfolding(crate::specs::Json::sent_value))]
-pub(crate) fn put_sent<A: Allocator + Copy, B: Allocator>(
-    writer: &mut Writer<A>,
-    alloc: A,
-    sent: &Option<SentCommand<B>>,
-) -> Result<(), AllocError>
-    ensures tokens { OnOk result (writer.new.tokens ≡ writer.old.tokens ++ sent_value (option_map shown sent.now)) }
-    ensures before { OnOk result (writer.new.before ≡ writer.old.before) }
-{
-    match sent {
-        Some(command) => put_command(writer, alloc, command),
-        None => writer.null(),
+/// What was sent, or null.
+impl<B: Allocator> Item for Option<SentCommand<B>> {
+    ghost value = { λ sent. sent_value (option_map shown sent) };
+
+    fn put<A: Allocator + Copy>(&self, tokens: &mut Tokens<A>) -> Result<(), AllocError> {
+        match self {
+            Some(command) => command.put(tokens),
+            None => tokens.add(Token::Null),
+        }
     }
 }

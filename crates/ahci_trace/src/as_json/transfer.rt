@@ -1,14 +1,11 @@
-ghost use Rattle.std.specs.Prelude.{◌≡◌, ◌++◌, codes, flat_map, OnOk};
-ghost use Rattle.ncq_core.specs.DiskFis.{setup_bytes};
-ghost use Rattle.ahci_trace.specs.Json.{carried_members, hex_text, list_member, payload_value, text_member, transfer_object};
-ghost use Rattle.ahci_trace.specs.Transfers.{payloads_of};
+ghost use Rattle.ahci_trace.specs.Json.{payload_value, transfer_object};
 
-use super::hex::put_hex;
 use super::item::Item;
-use super::list::put_list;
-use super::member::{put_boolean, put_tag};
+use super::member::Member;
+use super::tokens::Tokens;
+use super::value::Value;
 use crate::served::{payloads, setup};
-use json::Writer;
+use json::Token;
 use sata_fis::Queued;
 use std::alloc::{AllocError, Allocator};
 
@@ -16,51 +13,9 @@ use std::alloc::{AllocError, Allocator};
 impl Item for u32 {
     ghost value = { payload_value };
 
-    fn put<A: Allocator + Copy>(
-        &self,
-        writer: &mut Writer<A>,
-        _alloc: A,
-    ) -> Result<(), AllocError> {
-        writer.u64(u64::from(*self))
+    fn put<A: Allocator + Copy>(&self, tokens: &mut Tokens<A>) -> Result<(), AllocError> {
+        tokens.writer.u64(u64::from(*self))
     }
-}
-
-/// Adds a member with the number of bytes in each Data FIS of a command.
-fn put_data<A: Allocator + Copy>(
-    writer: &mut Writer<A>,
-    alloc: A,
-    command: &Queued,
-) -> Result<(), AllocError>
-    ensures tokens { OnOk result (writer.new.tokens ≡ writer.old.tokens ++ list_member (codes "data") (flat_map payload_value (payloads_of command.now))) }
-    ensures before { OnOk result (writer.new.before ≡ writer.old.before) }
-{
-    put_list(writer, alloc, "data", &payloads(alloc, command)?)
-}
-
-/// Adds a member with the DMA Setup FIS of a command.
-fn put_setup<A: Allocator + Copy>(
-    writer: &mut Writer<A>,
-    alloc: A,
-    command: &Queued,
-) -> Result<(), AllocError>
-    ensures tokens { OnOk result (writer.new.tokens ≡ writer.old.tokens ++ text_member (codes "dma_setup") (hex_text (setup_bytes command.now))) }
-    ensures before { OnOk result (writer.new.before ≡ writer.old.before) }
-{
-    put_hex(writer, alloc, "dma_setup", setup(command).as_slice())
-}
-
-/// Adds the FISes that carried a command's data.
-#[tactic(auto, unfolding(crate::specs::Json::carried_members))]
-fn put_carried<A: Allocator + Copy>(
-    writer: &mut Writer<A>,
-    alloc: A,
-    command: &Queued,
-) -> Result<(), AllocError>
-    ensures tokens { OnOk result (writer.new.tokens ≡ writer.old.tokens ++ carried_members command.now) }
-    ensures before { OnOk result (writer.new.before ≡ writer.old.before) }
-{
-    put_setup(writer, alloc, command)?;
-    put_data(writer, alloc, command)
 }
 
 /// A command whose data moved.
@@ -68,11 +23,15 @@ impl Item for Queued {
     ghost value = { transfer_object };
 
     #[tactic(auto, unfolding(crate::specs::Json::transfer_object))]
-    fn put<A: Allocator + Copy>(&self, writer: &mut Writer<A>, alloc: A) -> Result<(), AllocError> {
-        writer.begin_object()?;
-        put_tag(writer, self.tag)?;
-        put_boolean(writer, "write", self.write)?;
-        put_carried(writer, alloc, self)?;
-        writer.end_object()
+    fn put<A: Allocator + Copy>(&self, tokens: &mut Tokens<A>) -> Result<(), AllocError> {
+        let bytes = setup(self);
+        let tag = Member("tag", Value::Number(self.tag as u64));
+        let write = Member("write", Value::Boolean(self.write));
+        let setup = Member("dma_setup", Value::Bytes(bytes.as_slice()));
+        tokens.add(Token::BeginObject)?;
+        tokens.put_each(&[tag, write, setup])?;
+        let payloads = payloads(tokens.alloc, self)?;
+        tokens.put_list("data", &payloads)?;
+        tokens.add(Token::EndObject)
     }
 }

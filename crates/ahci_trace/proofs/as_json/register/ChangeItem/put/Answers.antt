@@ -1,12 +1,20 @@
-use Rattle.std.proofs.Common.{◌++◌, codes, ap, ◌∙◌}
+use Rattle.std.proofs.Common.{◌∷◌, ◌++◌, ◌∙◌, codes, ap}
+use Rattle.ahci_regs.specs.RegisterTable.{name_of}
+use Rattle.ahci_script.specs.Answers.{hex_of}
+use Rattle.json.specs.Token.{key}
 use Rattle.streams.proofs.FoundLemmas.{on_ok_from}
-use Rattle.ahci_trace.specs.Json.{change_object, text_member}
-use Rattle.ahci_trace.proofs.TextLemmas.{five_parts}
+use Rattle.ahci_trace.specs.Json.{change_object, text_member, value_token}
+use Rattle.ahci_trace.proofs.TextLemmas.{four_parts, part_is}
 use Rattle.ahci_trace.proofs.as_json.register.ChangeItem.put.Goals as goal
 
-pub returns-clause-tokens : goal.returns-clause-tokens
+pub returns : goal.returns
 unfolding change_object
-returns-clause-tokens g c =
-    let name = c.in_ok-put_text.ensures.tokens ∙ ap (λ t. c.begin_object.new.self.tokens ++ text_member (codes "name") t) c.name.ensures in
-    on_ok_from c.end_object.result _ _ c.end_object.ensures.ok
-    (λ last. five_parts c.args.writer.now.tokens _ _ _ _ _ _ _ _ _ _ c.in_ok-begin_object.ensures.ok name c.in_ok-put_words.ensures.tokens c.in_ok-put_bits.ensures.tokens last)
+returns g c =
+    let change = c.args.self.now in
+    let word = text_member (codes "word") (hex_of 8 change.word) in
+    let members =
+    part_is _ c.in_ok-put_each.ensures
+    (ap (λ n. text_member (codes "name") n ++ (key (codes "before") ∷ value_token c.word_before.result ∷ word)) c.name.ensures
+    ∙ ap (λ v. text_member (codes "name") (name_of change.register) ++ (key (codes "before") ∷ v ∷ word)) c.word_before.ensures) in
+    on_ok_from c.add-2.result _ _ c.add-2.ensures
+    (λ last. four_parts c.args.tokens.now _ _ _ _ _ _ _ _ c.in_ok-add.ensures members c.in_ok-put_bits.ensures last)

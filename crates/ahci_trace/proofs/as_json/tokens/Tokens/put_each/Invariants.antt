@@ -1,8 +1,8 @@
 -- The tokens of the first ones are added.
 use Rattle.std.proofs.Common.{◌≡◌, ◌++◌, take}
 use Rattle.std.specs.List.{flat_map}
-use Rattle.ahci_trace.proofs.as_json.list.put_each.Given as goal
+use Rattle.ahci_trace.proofs.as_json.tokens.Tokens.put_each.Given as goal
 
 abbrev pub invariant-loop-item : goal.invariant-loop-item
 invariant-loop-item g l =
-    (l.writer.tokens ≡ l.initial.writer.tokens ++ flat_map g.T.Item.value (take l.item-index l.items)) × (l.writer.before ≡ l.initial.writer.before)
+    l.self ≡ l.initial.self ++ flat_map g.T.Item.value (take l.item-index l.items)

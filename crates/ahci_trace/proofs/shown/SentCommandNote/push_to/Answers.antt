@@ -3,7 +3,7 @@ use Rattle.std.specs.List.{flat_map}
 use Rattle.streams.proofs.FoundLemmas.{on_ok_from}
 use Rattle.ahci_trace.specs.Text.{prdt_text}
 use Rattle.ahci_trace.proofs.TextLemmas.{three_parts}
-use Rattle.ahci_trace.proofs.shown.push_command.Goals as goal
+use Rattle.ahci_trace.proofs.shown.SentCommandNote.push_to.Goals as goal
 
 pub returns : goal.returns
 returns g c =
