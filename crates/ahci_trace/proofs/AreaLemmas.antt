@@ -96,11 +96,8 @@ same_tag tag x y = ap (λ b. cond b x y) (let e : (tag == tag) ≡ true = grind 
 fails : (p : Phase) → (is_issued p ≡ true → failed p ≡ phases.Rejected) × (is_accepted p ≡ true → failed p ≡ phases.Broken)
 fails phases.Issued = (λ is. refl, λ is. cc)
 fails phases.Accepted = (λ is. cc, λ is. refl)
-fails phases.Free = (λ is. cc, λ is. cc)
-fails phases.Rejected = (λ is. cc, λ is. cc)
 fails phases.Broken = (λ is. cc, λ is. refl)
-fails phases.Held = (λ is. cc, λ is. cc)
-fails phases.Done = (λ is. cc, λ is. cc)
+fails _ = (λ is. cc, λ is. cc)
 
 -- a step that is not refused: its command is issued, its command is accepted, its list is good
 unrefused_accept : (h b : Bool) → option_map of_step (cond h (Some step_fault.Halted) (cond b None (Some step_fault.NotIssued))) ≡ None → b ≡ true

@@ -93,31 +93,7 @@ sectors_ascii bytes (suc n) =
 
 name_ascii : (r : Refusal) → is_ascii (name_of r) ≡ true
 name_ascii refusal.BadSize = refl
-name_ascii refusal.BadDepth = refl
-name_ascii refusal.BadFirst = refl
-name_ascii refusal.BadCount = refl
-name_ascii refusal.BadLba = refl
-name_ascii refusal.NoSuchTag = refl
-name_ascii refusal.SlotOwned = refl
-name_ascii refusal.BadHeader = refl
-name_ascii refusal.BadCommand = refl
-name_ascii refusal.WrongTag = refl
-name_ascii refusal.BadList = refl
-name_ascii refusal.Halted = refl
-name_ascii refusal.NotIssued = refl
-name_ascii refusal.NotAccepted = refl
-name_ascii refusal.BadTags = refl
-name_ascii refusal.OutsideCommand = refl
-name_ascii refusal.NotHalted = refl
-name_ascii refusal.NotHeld = refl
-name_ascii refusal.QueueBusy = refl
-name_ascii refusal.Stranger = refl
-name_ascii refusal.NotYet = refl
-name_ascii refusal.Unaligned = refl
-name_ascii refusal.NoSuchRegister = refl
-name_ascii refusal.NoSuchSector = refl
-name_ascii refusal.Busy = refl
-name_ascii refusal.Spent = refl
+name_ascii _ = refl
 
 -- a number, and a text after it
 number_then : (n : ℕ) (text : List ℕ) → IsAscii text → IsAscii (decimal n ++ text)

@@ -80,12 +80,7 @@ plain-line ReadLog = refl
 
 phase-line : (p : Phase) → is_line (phase_name p) ≡ true
 phase-line Free = refl
-phase-line Issued = refl
-phase-line Accepted = refl
-phase-line Rejected = refl
-phase-line Broken = refl
-phase-line Held = refl
-phase-line Done = refl
+phase-line _ = refl
 
 direction-line : (b : Bool) → is_line (direction b) ≡ true
 direction-line true = refl
@@ -97,23 +92,7 @@ are_names table = list_all (λ n. is_line n.name) table
 -- the name of a register, and those of its bits
 register-line : (r : Register) → (is_line (name_of r) ≡ true) × (are_names (bits_of r) ≡ true)
 register-line Cap = (refl, refl)
-register-line Ghc = (refl, refl)
-register-line Pi = (refl, refl)
-register-line Vs = (refl, refl)
-register-line PxClb = (refl, refl)
-register-line PxClbu = (refl, refl)
-register-line PxFb = (refl, refl)
-register-line PxFbu = (refl, refl)
-register-line PxIs = (refl, refl)
-register-line PxIe = (refl, refl)
-register-line PxCmd = (refl, refl)
-register-line PxTfd = (refl, refl)
-register-line PxSig = (refl, refl)
-register-line PxSsts = (refl, refl)
-register-line PxSctl = (refl, refl)
-register-line PxSerr = (refl, refl)
-register-line PxSact = (refl, refl)
-register-line PxCi = (refl, refl)
+register-line _ = (refl, refl)
 
 separator-line : (any : Bool) → is_line (separator any) ≡ true
 separator-line true = refl
@@ -131,14 +110,8 @@ bits-line : (r : Register) (word : ℕ) → is_line (bits_text r word) ≡ true
 bits-line r word = names-line false (bits word) (bits_of r) (register-line r).1
 
 kind-line : (w : Happened) → is_line (kind_name w) ≡ true
-kind-line (what.Issue tag write lba sectors) = refl
-kind-line (what.Accept tag) = refl
-kind-line (what.Complete tag) = refl
-kind-line (what.Fail tag error lba) = refl
-kind-line (what.Recover tag) = refl
-kind-line (what.Reissue tag) = refl
-kind-line (what.Collect tag) = refl
 kind-line (what.Plain command) = plain-line command
+kind-line _ = refl
 
 details-line : (w : Happened) → is_line (details_text w) ≡ true
 details-line (what.Issue tag write lba sectors) =
