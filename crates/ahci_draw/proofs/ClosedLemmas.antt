@@ -4,14 +4,14 @@ use Rattle.std.specs.Fmt.{decimal}
 use Rattle.std.specs.List.{flat_map, list_all, onto_first, range_with_len, slice_split}
 use Rattle.std.proofs.lemmas.Bool.{and_from, and_parts, eqb-true}
 use Rattle.ahci_draw.specs.Grid.{across, down, grid_text}
-use Rattle.ahci_draw.specs.Heading.{counts_text, frame_text, heading_text, key_text, view_text, width_of}
+use Rattle.ahci_draw.specs.Heading.{heading_shape, heading_text, width_of}
 use Rattle.ahci_draw.specs.Lanes.{cells_in, device_text, lane_at, lane_text, lanes_text, name_shape, tags_in}
 use Rattle.ahci_draw.specs.Lines.{device_place, front_to, label_of, lane_place, lines_of, sign_place, title_of, within}
 use Rattle.ahci_draw.specs.Markup.{IsClosed, Quoted, Text, at, is_plain, is_sheet_byte, reads}
 use Rattle.ahci_draw.specs.Picture.{picture_of, picture_with}
 use Rattle.ahci_draw.specs.Row.{row_at, row_of, row_text, row_top, rows_in, rows_text}
 use Rattle.ahci_draw.specs.Signs.{column_head, column_sign, head_at, heads_text, label_at, label_shape, rule_at, rule_shape, sign_at, sign_shape, signs_text}
-use Rattle.ahci_draw.specs.Strip.{bar_shape, begins, colour_of, left_of, level_number, level_shape, middle_of, run_at, run_length, run_text, runs_text}
+use Rattle.ahci_draw.specs.Strip.{bar_shape, begins, colour_of, left_of, level_shape, middle_of, run_at, run_length, run_text, runs_text}
 use Rattle.ahci_draw.specs.declared.strip.Strip.{Strip}
 use Rattle.ahci_draw.specs.declared.strip.Strip.TheVariants.{Lane, Device}
 use Rattle.ahci_draw.specs.Text.{letter, numbered}
@@ -64,12 +64,12 @@ plain_colour cell =
     (if_all is_plain (cell == 102) _ _ refl (if_all is_plain (cell == 70) _ _ refl (if_all is_plain (cell == 104) _ _ refl (if_all is_plain (cell == 72) _ _ refl
     (if_all is_plain (cell == 100) (codes "bea") (codes "5b6") refl refl))))))))
 
-closes_bar : (lane cell start count : ℕ) → Closes (bar_shape lane cell start count)
+closes_bar : (lane start count : ℕ) (colour : List ℕ) → Plain colour → Closes (bar_shape lane colour start count)
 unfolding bar_shape numbered
-closes_bar lane cell start count = record {
+closes_bar lane start count colour plain = record {
   whole = λ opened.
-      plain_in_value (colour_of cell) (codes "' d='M" ++ (decimal (left_of start) ++ (codes " " ++ (decimal (16 * lane + 32) ++ (codes "h" ++ (decimal (12 * count) ++ codes "'/>"))))))
-      (codes "htap") opened (plain_colour cell)
+      plain_in_value colour (codes "' d='M" ++ (decimal (left_of start) ++ (codes " " ++ (decimal (16 * lane + 32) ++ (codes "h" ++ (decimal (12 * count) ++ codes "'/>"))))))
+      (codes "htap") opened plain
       ∙ number_in_value (left_of start) (codes " " ++ (decimal (16 * lane + 32) ++ (codes "h" ++ (decimal (12 * count) ++ codes "'/>")))) (codes "htap") opened
       ∙ number_in_value (16 * lane + 32) (codes "h" ++ (decimal (12 * count) ++ codes "'/>")) (codes "htap") opened
       ∙ number_in_value (12 * count) (codes "'/>") (codes "htap") opened;
@@ -80,20 +80,12 @@ unfolding level_shape numbered
 closes_level lanes tags start count = record {
   whole = λ opened.
       number_in_value (left_of start) _ _ _ ∙ number_in_value (19 * lanes + 30) _ _ _ ∙ number_in_value (3 * tags) _ _ _ ∙ number_in_value (12 * count) _ _ _
-      ∙ number_in_value (3 * tags) _ _ _;
-}
-
-closes_level_number : (lanes tags start : ℕ) → Closes (level_number lanes tags start)
-unfolding level_number numbered
-closes_level_number lanes tags start = record {
-  whole = λ opened. number_in_value (middle_of start) _ _ _ ∙ number_in_value (19 * lanes + 40) _ _ _ ∙ number_in_text tags _ _;
+      ∙ number_in_value (3 * tags) _ _ _ ∙ number_in_value (middle_of start) _ _ _ ∙ number_in_value (19 * lanes + 40) _ _ _ ∙ number_in_text tags _ _;
 }
 
 closes_run : (strip : Strip) (cell start count : ℕ) → Closes (run_text strip cell start count)
-closes_run (Lane lane) cell start count = closes_if (cell == 46) [] (bar_shape lane cell start count) closes_none (closes_bar lane cell start count)
-closes_run (Device lanes) cell start count =
-    closes_if (nat_le cell 65) [] (level_shape lanes (cell - 65) start count ++ level_number lanes (cell - 65) start) closes_none
-    (closes_both (level_shape lanes (cell - 65) start count) (level_number lanes (cell - 65) start) (closes_level lanes (cell - 65) start count) (closes_level_number lanes (cell - 65) start))
+closes_run (Lane lane) cell start count = closes_if (cell == 46) [] (bar_shape lane (colour_of cell) start count) closes_none (closes_bar lane start count (colour_of cell) (plain_colour cell))
+closes_run (Device lanes) cell start count = closes_if (nat_le cell 65) [] (level_shape lanes (cell - 65) start count) closes_none (closes_level lanes (cell - 65) start count)
 
 closes_runs : (strip : Strip) (cells : List ℕ) → Closes (runs_text strip cells)
 unfolding runs_text
@@ -250,29 +242,12 @@ closes_rows tags lines plain =
     closes_all (row_at tags lines) (range_with_len 0 (rows_in (length lines)))
     (λ row. closes_row tags (row_of lines row) row (all_take (list_all is_plain) 100 (drop (100 * row) lines) (all_drop (list_all is_plain) (100 * row) lines plain)))
 
-opens_frame : (width height : ℕ) → reads (frame_text width height) (at Text []) ≡ at Text (codes "gvs" ∷ [])
-unfolding frame_text view_text numbered
-opens_frame width height =
-    let last = codes "' font-family='sans-serif' font-size='9' text-anchor='middle' stroke-width='13'>\n" in
-    number_in_value width (codes "' height='" ++ (decimal height ++ (view_text width height ++ last))) (codes "gvs") []
-    ∙ number_in_value height (view_text width height ++ last) (codes "gvs") [] ∙ reads-append (view_text width height) last (at (Quoted (codes "gvs")) [])
-    ∙ ap (reads last) (number_in_value width (codes " " ++ decimal height) (codes "gvs") [] ∙ in_value (decimal height) (codes "gvs") [] (plain_decimal height))
-
-opens_key : (opened : List (List ℕ)) → reads key_text (at Text opened) ≡ at Text (codes "g" ∷ opened)
-opens_key opened = refl
-
-closes_key : (columns lanes : ℕ) (opened : List (List ℕ)) → reads (key_text ++ counts_text columns lanes) (at Text opened) ≡ at Text opened
-unfolding counts_text numbered
-closes_key columns lanes opened =
-    reads-append key_text (counts_text columns lanes) (at Text opened) ∙ ap (reads (counts_text columns lanes)) (opens_key opened)
-    ∙ number_in_text columns (codes ", tags: " ++ (decimal lanes ++ codes "</text></g>")) (codes "txet" ∷ codes "g" ∷ opened)
-    ∙ number_in_text lanes (codes "</text></g>") (codes "txet" ∷ codes "g" ∷ opened)
-
 opens_heading : (columns lanes : ℕ) → reads (heading_text columns lanes) (at Text []) ≡ at Text (codes "gvs" ∷ [])
-unfolding heading_text
+unfolding heading_shape numbered
 opens_heading columns lanes =
-    reads-append (frame_text (width_of columns) (row_top lanes (rows_in columns))) (key_text ++ counts_text columns lanes) (at Text [])
-    ∙ ap (reads (key_text ++ counts_text columns lanes)) (opens_frame (width_of columns) (row_top lanes (rows_in columns))) ∙ closes_key columns lanes (codes "gvs" ∷ [])
+    let height = row_top lanes (rows_in columns) in
+    number_in_value (width_of columns) _ (codes "gvs") [] ∙ number_in_value height _ (codes "gvs") [] ∙ number_in_value (width_of columns) _ (codes "gvs") []
+    ∙ number_in_value height _ (codes "gvs") [] ∙ number_in_text columns _ (codes "txet" ∷ codes "g" ∷ codes "gvs" ∷ []) ∙ number_in_text lanes _ (codes "txet" ∷ codes "g" ∷ codes "gvs" ∷ [])
 
 pub closed_picture : (lines : List (List ℕ)) → list_all (list_all is_plain) lines ≡ true → IsClosed (picture_of lines ++ 10 ∷ [])
 unfolding picture_with

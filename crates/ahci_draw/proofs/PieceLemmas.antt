@@ -1,12 +1,15 @@
 -- Texts that grow by a piece at a time.
-use Rattle.std.proofs.Common.{◌≡◌, ℕ, ◌+◌, ◌-◌, ◌<◌, suc, List, [], ◌∷◌, ◌++◌, Option, Bool, ◌||◌, map, ap, sym, ◌∙◌, append_assoc, append-nil, arith, refl, zero-add}
+use Rattle.std.proofs.Common.{◌≡◌, ℕ, ◌+◌, ◌-◌, ◌<◌, suc, List, [], ◌∷◌, ◌++◌, Option, Bool, ◌||◌, map, ap, sym, ◌∙◌, append_assoc, append-nil, arith, drop, get_or, length, refl, zero-add}
 use Rattle.std.specs.List.{flat_map, list_any, range_with_len}
 use Rattle.std.proofs.lemmas.Grind.{flat_map-append}
+use Rattle.std.proofs.lemmas.List.{drop_more}
 use Rattle.ncq_journal.proofs.TagLemmas.{range_more}
 use Rattle.ncq_journal.specs.Entry.{Entry}
 use Rattle.ncq_journal.specs.Numbering.{entry_numbered}
-use Rattle.ncq_journal.specs.declared.phase.Phase.{Phase}
-use Rattle.ahci_draw.specs.Entries.{entries_text, line_of, moved_by, turned_behind}
+use Rattle.ahci_draw.specs.Entries.{entries_text, line_of, moved_by}
+use Rattle.ahci_draw.specs.Text.{piece_text, shape}
+use Rattle.ahci_draw.specs.declared.tag_state.TagState.{TagState}
+use Rattle.ahci_draw.specs.declared.text.Piece.{Piece}
 
 -- pieces, one after the other
 pub two : {X : Type 0} (old one new a a' b b' : List X) → one ≡ old ++ a → new ≡ one ++ b → a ≡ a' → b ≡ b' → new ≡ old ++ (a' ++ b')
@@ -23,21 +26,17 @@ pub four : {X : Type 0} (old t1 t2 t3 new a a' b b' c c' d d' : List X) → t1 �
 four old t1 t2 t3 new a a' b b' c c' d d' p1 p2 p3 p4 q1 q2 q3 q4 =
     two old t1 new a a' (b' ++ (c' ++ d')) (b' ++ (c' ++ d')) p1 (three t1 t2 t3 new b b' c c' d d' p2 p3 p4 q2 q3 q4) q1 refl
 
-pub five : {X : Type 0} (old t1 t2 t3 t4 new a a' b b' c c' d d' e e' : List X) → t1 ≡ old ++ a → t2 ≡ t1 ++ b → t3 ≡ t2 ++ c → t4 ≡ t3 ++ d → new ≡ t4 ++ e
-    → a ≡ a' → b ≡ b' → c ≡ c' → d ≡ d' → e ≡ e' → new ≡ old ++ (a' ++ (b' ++ (c' ++ (d' ++ e'))))
-five old t1 t2 t3 t4 new a a' b b' c c' d d' e e' p1 p2 p3 p4 p5 q1 q2 q3 q4 q5 =
-    two old t1 new a a' (b' ++ (c' ++ (d' ++ e'))) (b' ++ (c' ++ (d' ++ e'))) p1 (four t1 t2 t3 t4 new b b' c c' d d' e e' p2 p3 p4 p5 q2 q3 q4 q5) q1 refl
-
-pub six : {X : Type 0} (old t1 t2 t3 t4 t5 new a a' b b' c c' d d' e e' f f' : List X) → t1 ≡ old ++ a → t2 ≡ t1 ++ b → t3 ≡ t2 ++ c → t4 ≡ t3 ++ d → t5 ≡ t4 ++ e → new ≡ t5 ++ f
-    → a ≡ a' → b ≡ b' → c ≡ c' → d ≡ d' → e ≡ e' → f ≡ f' → new ≡ old ++ (a' ++ (b' ++ (c' ++ (d' ++ (e' ++ f')))))
-six old t1 t2 t3 t4 t5 new a a' b b' c c' d d' e e' f f' p1 p2 p3 p4 p5 p6 q1 q2 q3 q4 q5 q6 =
-    two old t1 new a a' (b' ++ (c' ++ (d' ++ (e' ++ f')))) (b' ++ (c' ++ (d' ++ (e' ++ f')))) p1 (five t1 t2 t3 t4 t5 new b b' c c' d d' e e' f f' p2 p3 p4 p5 p6 q2 q3 q4 q5 q6) q1 refl
-
 pub seven : {X : Type 0} (old t1 t2 t3 t4 t5 t6 new a a' b b' c c' d d' e e' f f' g g' : List X) → t1 ≡ old ++ a → t2 ≡ t1 ++ b → t3 ≡ t2 ++ c → t4 ≡ t3 ++ d → t5 ≡ t4 ++ e → t6 ≡ t5 ++ f → new ≡ t6 ++ g
     → a ≡ a' → b ≡ b' → c ≡ c' → d ≡ d' → e ≡ e' → f ≡ f' → g ≡ g' → new ≡ old ++ (a' ++ (b' ++ (c' ++ (d' ++ (e' ++ (f' ++ g'))))))
 seven old t1 t2 t3 t4 t5 t6 new a a' b b' c c' d d' e e' f f' g g' p1 p2 p3 p4 p5 p6 p7 q1 q2 q3 q4 q5 q6 q7 =
-    two old t1 new a a' (b' ++ (c' ++ (d' ++ (e' ++ (f' ++ g'))))) (b' ++ (c' ++ (d' ++ (e' ++ (f' ++ g'))))) p1
-    (six t1 t2 t3 t4 t5 t6 new b b' c c' d d' e e' f f' g g' p2 p3 p4 p5 p6 p7 q2 q3 q4 q5 q6 q7) q1 refl
+    four old t1 t2 t3 new a a' b b' c c' (d' ++ (e' ++ (f' ++ g'))) (d' ++ (e' ++ (f' ++ g'))) p1 p2 p3 (four t3 t4 t5 t6 new d d' e e' f f' g g' p4 p5 p6 p7 q4 q5 q6 q7) q1 q2 q3 refl
+
+-- where the text so far and the pieces that are left are the whole, they are so after the next one
+pub next_piece : (text new whole : List ℕ) (pieces : List Piece) (i : ℕ) (d : Piece) → i < length pieces → text ++ shape (drop i pieces) ≡ whole
+    → new ≡ text ++ piece_text (get_or pieces i d) → new ++ shape (drop (i + 1) pieces) ≡ whole
+next_piece text new whole pieces i d low so_far grown =
+    ap (λ t. t ++ shape (drop (i + 1) pieces)) grown ∙ append_assoc text (piece_text (get_or pieces i d)) (shape (drop (i + 1) pieces))
+    ∙ ap (λ l. text ++ shape l) (sym (drop_more pieces i d low)) ∙ so_far
 
 -- a piece that is another
 pub is_then : {X : Type 0} (old new a b : List X) → new ≡ old ++ a → a ≡ b → new ≡ old ++ b
@@ -64,24 +63,21 @@ any_mapped p f [] = refl
 any_mapped p f (x ∷ xs) = ap (λ b. p (f x) || b) (any_mapped p f xs)
 
 -- where the text so far and the lines that are left are the whole, they are so after the next one
-pub next_line : (first : ℕ) (past : List Entry) (text new whole : List ℕ) (phases after : List Phase) (writes turned : List Bool) (n end : ℕ) (found : Option Entry)
-    → n < end → entry_numbered first past n ≡ found → text ++ entries_text first past phases writes n (end - n) ≡ whole
-    → new ≡ text ++ line_of n phases writes found → after ≡ moved_by phases found → turned ≡ turned_behind writes found
-    → new ++ entries_text first past after turned (n + 1) (end - (n + 1)) ≡ whole
+pub next_line : (first : ℕ) (past : List Entry) (text new whole : List ℕ) (tags after : List TagState) (n end : ℕ) (found : Option Entry)
+    → n < end → entry_numbered first past n ≡ found → text ++ entries_text first past tags n (end - n) ≡ whole
+    → new ≡ text ++ line_of n tags found → after ≡ moved_by tags found → new ++ entries_text first past after (n + 1) (end - (n + 1)) ≡ whole
 unfolding entries_text
-next_line first past text new whole phases after writes turned n end found low is so_far grown moves turns =
-    ap (λ p. new ++ entries_text first past p turned (n + 1) (end - (n + 1))) moves
-    ∙ ap (λ w. new ++ entries_text first past (moved_by phases found) w (n + 1) (end - (n + 1))) turns
-    ∙ ap (λ t. t ++ entries_text first past (moved_by phases found) (turned_behind writes found) (n + 1) (end - (n + 1))) grown
-    ∙ append_assoc text (line_of n phases writes found) (entries_text first past (moved_by phases found) (turned_behind writes found) (n + 1) (end - (n + 1)))
-    ∙ ap (λ e. text ++ (line_of n phases writes e ++ entries_text first past (moved_by phases e) (turned_behind writes e) (n + 1) (end - (n + 1)))) (sym is)
-    ∙ ap (λ k. text ++ entries_text first past phases writes n k) (sym one_more) ∙ so_far
+next_line first past text new whole tags after n end found low is so_far grown moves =
+    ap (λ t. new ++ entries_text first past t (n + 1) (end - (n + 1))) moves
+    ∙ ap (λ t. t ++ entries_text first past (moved_by tags found) (n + 1) (end - (n + 1))) grown
+    ∙ append_assoc text (line_of n tags found) (entries_text first past (moved_by tags found) (n + 1) (end - (n + 1)))
+    ∙ ap (λ e. text ++ (line_of n tags e ++ entries_text first past (moved_by tags e) (n + 1) (end - (n + 1)))) (sym is)
+    ∙ ap (λ k. text ++ entries_text first past tags n k) (sym one_more) ∙ so_far
   where
     one_more : end - n ≡ suc (end - (n + 1))
     one_more = omega (arith, low)
 
-pub all_lines : (first : ℕ) (past : List Entry) (text whole : List ℕ) (phases : List Phase) (writes : List Bool) (n left : ℕ) → left ≡ 0
-    → text ++ entries_text first past phases writes n left ≡ whole → text ≡ whole
+pub all_lines : (first : ℕ) (past : List Entry) (text whole : List ℕ) (tags : List TagState) (n left : ℕ) → left ≡ 0
+    → text ++ entries_text first past tags n left ≡ whole → text ≡ whole
 unfolding entries_text
-all_lines first past text whole phases writes n left none so_far =
-    sym (append-nil text) ∙ ap (λ k. text ++ entries_text first past phases writes n k) (sym none) ∙ so_far
+all_lines first past text whole tags n left none so_far = sym (append-nil text) ∙ ap (λ k. text ++ entries_text first past tags n k) (sym none) ∙ so_far

@@ -19,16 +19,16 @@ use Rattle.ncq_journal.specs.declared.phase.Phase.{Phase}
 use Rattle.ncq_journal.specs.declared.phase.Phase.TheVariants.{Free, Issued, Accepted, Rejected, Broken, Held, Done}
 use Rattle.ncq_journal.specs.declared.plain.Plain.TheVariants.{Identify, Flush, ReadLog}
 use Rattle.ahci_draw.specs.Drawn.{IsSheet, IsSheetTo, picture_lines}
-use Rattle.ahci_draw.specs.Entries.{entries_text, line_of, moved_by, turned_behind}
+use Rattle.ahci_draw.specs.Entries.{entries_text, line_of, moved_by}
 use Rattle.ahci_draw.specs.Line.{cell, cell_at, cells, entry_line, lane_of, sign_of}
 use Rattle.ahci_draw.specs.Lines.{lines_of, within}
 use Rattle.ahci_draw.specs.Markup.{IsClosed, is_plain, is_sheet_byte}
-use Rattle.ahci_draw.specs.Phases.{in_device, moved}
-use Rattle.ahci_draw.specs.Directions.{turned}
 use Rattle.ahci_draw.specs.Mark.{mark_of}
 use Rattle.ahci_draw.specs.Sheet.{added_between, sheet_text}
+use Rattle.ahci_draw.specs.Tags.{in_device, moved, unused}
 use Rattle.ahci_draw.specs.Text.{letter, numbered}
 use Rattle.ahci_draw.specs.Words.{entry_words, failure_words, issue_words, title_text}
+use Rattle.ahci_draw.specs.declared.tag_state.TagState.{TagState}
 use Rattle.ahci_draw.proofs.MarkupLemmas.{plain_append, plain_decimal, plain_hex}
 use Rattle.ahci_draw.proofs.ClosedLemmas.{Plain, closed_picture, plain_lines, plain_numbered}
 
@@ -94,13 +94,13 @@ plain_cell Held false = refl
 plain_cell Done true = refl
 plain_cell Done false = refl
 
-plain_cells : (phases : List Phase) (writes : List Bool) → Plain (cells phases writes)
+plain_cells : (tags : List TagState) → Plain (cells tags)
 unfolding cells
-plain_cells phases writes = each (range_with_len 0 32)
+plain_cells tags = each (range_with_len 0 32)
   where
-    each : (tags : List ℕ) → Plain (flat_map (cell_at phases writes) tags)
+    each : (numbers : List ℕ) → Plain (flat_map (cell_at tags) numbers)
     each [] = refl
-    each (tag ∷ tags) = and_from _ _ (plain_cell (slice_index_or phases tag Free) (slice_index_or writes tag false)) (each tags)
+    each (n ∷ numbers) = let tag = slice_index_or tags n unused in and_from _ _ (plain_cell tag.phase tag.writes) (each numbers)
 
 plain_sign_of : (entry : Entry) → is_plain (sign_of entry) ≡ true
 plain_sign_of (Issue tag (Read lba sectors)) = refl
@@ -142,30 +142,30 @@ of_both : (a b : List ℕ) → OfSheet a → OfSheet b → OfSheet (a ++ b)
 of_both [] b p q = q
 of_both (x ∷ a) b p q = and_from _ _ (and_parts _ _ p).0 (of_both a b (and_parts _ _ p).1 q)
 
-of_entry : (number : ℕ) (phases : List Phase) (writes : List Bool) (entry : Entry) → OfSheet (entry_line number phases writes entry)
+of_entry : (number : ℕ) (tags : List TagState) (entry : Entry) → OfSheet (entry_line number tags entry)
 unfolding entry_line
-of_entry number phases writes entry =
-    of_plain (cells phases writes ++ ((letter (in_device phases) ∷ sign_of entry ∷ lane_of entry ∷ []) ++ title_text number entry))
-    (plain_append (cells phases writes) ((letter (in_device phases) ∷ sign_of entry ∷ lane_of entry ∷ []) ++ title_text number entry) (plain_cells phases writes)
-    (and_from _ _ (plain_letter (in_device phases)) (and_from _ _ (plain_sign_of entry) (and_from _ _ (plain_lane entry) (plain_title number entry)))))
+of_entry number tags entry =
+    of_plain (cells tags ++ ((letter (in_device tags) ∷ sign_of entry ∷ lane_of entry ∷ []) ++ title_text number entry))
+    (plain_append (cells tags) ((letter (in_device tags) ∷ sign_of entry ∷ lane_of entry ∷ []) ++ title_text number entry) (plain_cells tags)
+    (and_from _ _ (plain_letter (in_device tags)) (and_from _ _ (plain_sign_of entry) (and_from _ _ (plain_lane entry) (plain_title number entry)))))
 
-of_line : (number : ℕ) (phases : List Phase) (writes : List Bool) (entry : Option Entry) → OfSheet (line_of number phases writes entry)
-of_line number phases writes None = refl
-of_line number phases writes (Some entry) = of_entry number (moved phases entry) (turned writes entry) entry
+of_line : (number : ℕ) (tags : List TagState) (entry : Option Entry) → OfSheet (line_of number tags entry)
+of_line number tags None = refl
+of_line number tags (Some entry) = of_entry number (moved tags entry) entry
 
-of_entries : (first : ℕ) (past : List Entry) (phases : List Phase) (writes : List Bool) (number count : ℕ) → OfSheet (entries_text first past phases writes number count)
+of_entries : (first : ℕ) (past : List Entry) (tags : List TagState) (number count : ℕ) → OfSheet (entries_text first past tags number count)
 unfolding entries_text
-of_entries first past phases writes number zero = refl
-of_entries first past phases writes number (suc more) =
+of_entries first past tags number zero = refl
+of_entries first past tags number (suc more) =
     let found = entry_numbered first past number in
-    of_both (line_of number phases writes found) (entries_text first past (moved_by phases found) (turned_behind writes found) (number + 1) more) (of_line number phases writes found)
-    (of_entries first past (moved_by phases found) (turned_behind writes found) (number + 1) more)
+    of_both (line_of number tags found) (entries_text first past (moved_by tags found) (number + 1) more) (of_line number tags found)
+    (of_entries first past (moved_by tags found) (number + 1) more)
 
 of_added : (before after : Option PortView) → OfSheet (added_between before after)
 of_added before None = refl
 of_added before (Some port) =
     let mark = mark_of before in
-    of_entries port.first port.past mark.phases mark.writes (max mark.end port.first) (next_number port - max mark.end port.first)
+    of_entries port.first port.past mark.tags (max mark.end port.first) (next_number port - max mark.end port.first)
 
 of_answer : (number : ℕ) (line : List ℕ) (said : Said) (before after : Option PortView) → OfSheet (sheet_text number line said before after)
 of_answer number line said before after = of_both (added_between before after) (10 ∷ []) (of_added before after) refl

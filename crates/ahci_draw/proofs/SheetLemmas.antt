@@ -1,52 +1,81 @@
--- How a run ends whose script a fault has ended.
-use Rattle.std.proofs.Common.{◌≡◌, List, [], ℕ, Option, Some, Result, Ok, Err, IfErr, inl, inr, subst, sym}
+-- How a run ends whose script was replayed to its end, or to a fault of its own.
+use Rattle.std.proofs.Common.{◌≡◌, List, [], ℕ, Option, Some, Result, Ok, Err, OnOk, IfErr, Bool, true, inl, inr, subst, sym}
+use Rattle.std.specs.Result.{result_and}
 use Rattle.std.specs.Io.KnownBytes.{Appends}
-use Rattle.ahci_replay.specs.Transcript.{ReplayedTo}
+use Rattle.ahci_replay.specs.Transcript.{Replayed, ReplayedTo}
 use Rattle.ahci_replay.specs.declared.script_fault.ScriptFault.{ScriptFault}
 use Rattle.ahci_replay.specs.declared.script_fault.ScriptFault.TheVariants as fault
-use Rattle.streams.specs.Ends.{WrittenSoFar}
-use Rattle.ahci_draw.specs.Drawn.{DrawWrites, DrawnTo, IsSentAt, IsSentTo, IsSheetTo, SendWrites, SendWritesAt, picture_lines}
+use Rattle.streams.specs.Ends.{WrittenSoFar, with_flush}
+use Rattle.ahci_draw.specs.Drawn.{DrawWrites, Drawn, DrawnTo, IsSentTo, IsSheet, IsSheetTo, SendWrites, has_sheet, picture_lines}
 use Rattle.ahci_draw.specs.Sheet.{sheet_text}
 
--- the sheet that was empty at first
-pub is_sheet : (r s : Option (List ℕ)) (old items sheet : List ℕ) (found f : ScriptFault) → old ≡ [] → sheet ≡ items → found ≡ f
-    → ReplayedTo sheet_text r s (Some old) (Some items) found → ReplayedTo sheet_text r s (Some []) (Some sheet) f
-is_sheet r s old items sheet found f empty same told is =
-    subst (ReplayedTo sheet_text r s (Some []) (Some sheet)) told
-    (subst (λ t. ReplayedTo sheet_text r s (Some []) (Some t) found) (sym same) (subst (λ o. ReplayedTo sheet_text r s (Some o) (Some items) found) empty is))
+-- the sheet that it has
+abbrev pub SheetOf : {T : Type 0} → Option (List ℕ) → Option (List ℕ) → List ℕ → Result T ScriptFault → Type 0
+SheetOf r s sheet (Ok x) = IsSheet r s sheet
+SheetOf r s sheet (Err f) = IsSheetTo r s f sheet
 
-sent : (from to : ℕ) (r s c d : Option (List ℕ)) (sheet : List ℕ) (f : ScriptFault) → IsSheetTo r s f sheet → Appends c d (picture_lines from to sheet) → DrawnTo from to r s c d f
-sent from to r s c d sheet (fault.Line n) is written = record { sheet = sheet; replayed = is; written = written }
-sent from to r s c d sheet fault.Read is written = record { sheet = sheet; replayed = is; written = written }
-sent from to r s c d sheet fault.OutOfMemory is written = absurd is
-sent from to r s c d sheet fault.Write is written = absurd is
+-- one that was empty at first
+moved : (P : List ℕ → List ℕ → Type 0) (old items sheet : List ℕ) → old ≡ [] → sheet ≡ items → P old items → P [] sheet
+moved P old items sheet empty same is = subst (P []) (sym same) (subst (λ o. P o items) empty is)
 
-not_sent : (from to : ℕ) (r s c d : Option (List ℕ)) (sheet : List ℕ) (f failed : ScriptFault) → IsSheetTo r s f sheet → IsSentTo from to sheet c d failed → DrawnTo from to r s c d failed
-not_sent from to r s c d sheet f fault.OutOfMemory is sent = sent
-not_sent from to r s c d sheet f fault.Write is sent = record { sheet = sheet; replayed = inr (f, is); count = sent.0; written = sent.1 }
-not_sent from to r s c d sheet f (fault.Line n) is sent = absurd sent
-not_sent from to r s c d sheet f fault.Read is sent = absurd sent
+pub sheet_of : {T : Type 0} (result : Result T ScriptFault) (r s : Option (List ℕ)) (old items sheet : List ℕ) → old ≡ [] → sheet ≡ items → has_sheet result ≡ true
+    → OnOk result (Replayed sheet_text r s (Some old) (Some items)) → IfErr result (ReplayedTo sheet_text r s (Some old) (Some items)) → SheetOf r s sheet result
+sheet_of (Ok x) r s old items sheet empty same has ok err = moved (λ o t. Replayed sheet_text r s (Some o) (Some t)) old items sheet empty same ok
+sheet_of (Err (fault.Line n)) r s old items sheet empty same has ok err = moved (λ o t. ReplayedTo sheet_text r s (Some o) (Some t) (fault.Line n)) old items sheet empty same err
+sheet_of (Err fault.Read) r s old items sheet empty same has ok err = moved (λ o t. ReplayedTo sheet_text r s (Some o) (Some t) fault.Read) old items sheet empty same err
+sheet_of (Err fault.Write) r s old items sheet empty same has ok err = absurd (cc)
+sheet_of (Err fault.OutOfMemory) r s old items sheet empty same has ok err = absurd (cc)
 
-pub sent_at : (from to : ℕ) (r s c d : Option (List ℕ)) (sheet : List ℕ) (f told : ScriptFault) → IsSheetTo r s f sheet → IsSentAt from to f sheet c d told → DrawnTo from to r s c d told
-sent_at from to r s c d sheet f told is (inl (same, written)) = subst (DrawnTo from to r s c d) (sym same) (sent from to r s c d sheet f is written)
-sent_at from to r s c d sheet f told is (inr failed) = not_sent from to r s c d sheet f told is failed
+-- the run of a script that has this sheet, and then the sending of its picture
+module _ (r s c d : Option (List ℕ)) (from to : ℕ) (sheet : List ℕ) where
+  whole : (sent replayed : Result (Unit {0}) ScriptFault) → SheetOf r s sheet replayed → OnOk sent (Appends c d (picture_lines from to sheet))
+      → OnOk (result_and sent replayed) (Drawn from to r s c d)
+  whole (Ok x) (Ok y) is written = record { sheet = sheet; replayed = is; written = written }
+  whole (Ok x) (Err f) is written = tt
+  whole (Err f) replayed is written = tt
 
--- how the writes went where the picture was not written
-pub draws_as : (old new : WrittenSoFar) (f : ScriptFault) → SendWrites old new f → DrawWrites old new f
-draws_as old new fault.OutOfMemory sent = sent
-draws_as old new fault.Write sent = sent
-draws_as old new (fault.Line n) sent = absurd sent
-draws_as old new fault.Read sent = absurd sent
+  pub drawn_whole : (sent replayed result : Result (Unit {0}) ScriptFault) → result ≡ result_and sent replayed → SheetOf r s sheet replayed
+      → OnOk sent (Appends c d (picture_lines from to sheet)) → OnOk result (Drawn from to r s c d)
+  drawn_whole sent replayed result same is written = subst (λ t. OnOk t (Drawn from to r s c d)) (sym same) (whole sent replayed is written)
 
-pub draws_sent : {T : Type 0} (result : Result T ScriptFault) (old new : WrittenSoFar) → IfErr result (SendWrites old new) → IfErr result (DrawWrites old new)
-draws_sent (Ok x) old new sent = sent
-draws_sent (Err f) old new sent = draws_as old new f sent
+  not_sent : (replayed : Result (Unit {0}) ScriptFault) (f : ScriptFault) → SheetOf r s sheet replayed → IsSentTo from to sheet c d f → DrawnTo from to r s c d f
+  not_sent replayed fault.OutOfMemory is sent = sent
+  not_sent (Ok x) fault.Write is sent = record { sheet = sheet; replayed = inl is; count = sent.0; written = sent.1 }
+  not_sent (Err f) fault.Write is sent = record { sheet = sheet; replayed = inr (f, is); count = sent.0; written = sent.1 }
+  not_sent replayed (fault.Line n) is sent = absurd sent
+  not_sent replayed fault.Read is sent = absurd sent
 
--- after a line that is faulty, and after a failed read
-pub draws_line : (n : ℕ) (told : ScriptFault) (old new : WrittenSoFar) → SendWritesAt (fault.Line n) old new told → DrawWrites old new told
-draws_line n told old new (inl (same, is)) = subst (DrawWrites old new) (sym same) is
-draws_line n told old new (inr sent) = draws_as old new told sent
+  ended : (sent replayed : Result (Unit {0}) ScriptFault) → SheetOf r s sheet replayed → OnOk sent (Appends c d (picture_lines from to sheet))
+      → IfErr sent (IsSentTo from to sheet c d) → IfErr (result_and sent replayed) (DrawnTo from to r s c d)
+  ended (Ok x) (Ok y) is written failed = tt
+  ended (Ok x) (Err (fault.Line n)) is written failed = record { sheet = sheet; replayed = is; written = written }
+  ended (Ok x) (Err fault.Read) is written failed = record { sheet = sheet; replayed = is; written = written }
+  ended (Ok x) (Err fault.Write) is written failed = absurd is
+  ended (Ok x) (Err fault.OutOfMemory) is written failed = absurd is
+  ended (Err f) replayed is written failed = not_sent replayed f is failed
 
-pub draws_read : (told : ScriptFault) (old new : WrittenSoFar) → SendWritesAt fault.Read old new told → DrawWrites old new told
-draws_read told old new (inl (same, is)) = subst (DrawWrites old new) (sym same) is
-draws_read told old new (inr sent) = draws_as old new told sent
+  pub drawn_to : (sent replayed result : Result (Unit {0}) ScriptFault) → result ≡ result_and sent replayed → SheetOf r s sheet replayed
+      → OnOk sent (Appends c d (picture_lines from to sheet)) → IfErr sent (IsSentTo from to sheet c d) → IfErr result (DrawnTo from to r s c d)
+  drawn_to sent replayed result same is written failed = subst (λ t. IfErr t (DrawnTo from to r s c d)) (sym same) (ended sent replayed is written failed)
+
+-- how its writes went
+module _ (old new : WrittenSoFar) where
+  pub drawn_flushed : (sent replayed : Result (Unit {0}) ScriptFault) → OnOk sent (new ≡ with_flush old) → OnOk (result_and sent replayed) (new ≡ with_flush old)
+  drawn_flushed (Ok x) (Ok y) flushed = flushed
+  drawn_flushed (Ok x) (Err f) flushed = tt
+  drawn_flushed (Err f) replayed flushed = tt
+
+  draws_as : (f : ScriptFault) → SendWrites old new f → DrawWrites old new f
+  draws_as fault.OutOfMemory sent = sent
+  draws_as fault.Write sent = sent
+  draws_as (fault.Line n) sent = absurd sent
+  draws_as fault.Read sent = absurd sent
+
+  pub draws : (r s : Option (List ℕ)) (sheet : List ℕ) (sent replayed : Result (Unit {0}) ScriptFault) → SheetOf r s sheet replayed → OnOk sent (new ≡ with_flush old) → IfErr sent (SendWrites old new)
+      → IfErr (result_and sent replayed) (DrawWrites old new)
+  draws r s sheet (Ok x) (Ok y) is flushed failed = tt
+  draws r s sheet (Ok x) (Err (fault.Line n)) is flushed failed = flushed
+  draws r s sheet (Ok x) (Err fault.Read) is flushed failed = flushed
+  draws r s sheet (Ok x) (Err fault.Write) is flushed failed = absurd is
+  draws r s sheet (Ok x) (Err fault.OutOfMemory) is flushed failed = absurd is
+  draws r s sheet (Err f) replayed is flushed failed = draws_as f failed

@@ -1,5 +1,5 @@
 -- What a run of `draw` has written.
-use Rattle.std.specs.Prelude.{◌≡◌, ℕ, List, [], ◌∷◌, ◌++◌, take, Option, Some, ◌⊎◌}
+use Rattle.std.specs.Prelude.{◌≡◌, ℕ, Bool, true, false, List, [], ◌∷◌, ◌++◌, take, Option, Some, Result, Ok, Err, ◌⊎◌}
 use Rattle.std.specs.Io.KnownBytes.{Appends}
 use Rattle.streams.specs.Ends.{WrittenSoFar, with_failed_write, with_flush}
 use Rattle.ahci_replay.specs.Transcript.{Replayed, ReplayedTo}
@@ -11,6 +11,13 @@ use Rattle.ahci_draw.specs.Sheet.{sheet_text}
 -- the whole picture is a text of lines
 abbrev pub picture_lines : (from to : ℕ) → List ℕ → List ℕ
 picture_lines from to sheet = picture_text from to sheet ++ 10 ∷ []
+
+-- a script was replayed to its end, or to a fault of its own
+abbrev pub has_sheet : {T : Type 0} → Result T ScriptFault → Bool
+has_sheet (Ok x) = true
+has_sheet (Err (fault.Line n)) = true
+has_sheet (Err fault.Read) = true
+has_sheet (Err f) = false
 
 -- the sheet of a script that was replayed to its end
 abbrev pub IsSheet : Option (List ℕ) → Option (List ℕ) → List ℕ → Type 0
@@ -40,10 +47,6 @@ IsSentTo from to sheet c d fault.OutOfMemory = d ≡ c
 IsSentTo from to sheet c d fault.Write = (count : ℕ) × Appends c d (take count (picture_lines from to sheet))
 IsSentTo from to sheet c d _ = ⊥
 
--- the picture is written, and the fault of the script is told; or that of the writing is
-abbrev pub IsSentAt : (from to : ℕ) → ScriptFault → List ℕ → Option (List ℕ) → Option (List ℕ) → ScriptFault → Type 0
-IsSentAt from to f sheet c d told = ((told ≡ f) × Appends c d (picture_lines from to sheet)) ⊎ IsSentTo from to sheet c d told
-
 -- a first part of the picture is written
 pub record DrawnPart (from to : ℕ) (r s c d : Option (List ℕ)) : Type 0 where
   pub sheet : List ℕ
@@ -65,10 +68,6 @@ abbrev pub SendWrites : WrittenSoFar → WrittenSoFar → ScriptFault → Type 0
 SendWrites old new fault.Write = new ≡ with_failed_write old
 SendWrites old new fault.OutOfMemory = new ≡ old
 SendWrites old new _ = ⊥
-
--- after a fault of the script: the picture was written and flushed, and that fault is told; or it was not
-abbrev pub SendWritesAt : ScriptFault → WrittenSoFar → WrittenSoFar → ScriptFault → Type 0
-SendWritesAt f old new told = ((told ≡ f) × (new ≡ with_flush old)) ⊎ SendWrites old new told
 
 -- where a fault is told
 abbrev pub DrawWrites : WrittenSoFar → WrittenSoFar → ScriptFault → Type 0

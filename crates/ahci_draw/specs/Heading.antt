@@ -8,10 +8,11 @@ use Rattle.ahci_draw.specs.Text.{numbered}
 abbrev pub width_of : ℕ → ℕ
 width_of columns = max (12 * min columns 100 + 80) 640
 
--- what colours and signs mean
+-- the end of the frame's tag, and what colours and signs mean
 abbrev pub key_text : List ℕ
 key_text =
-    codes "<rect width='100%' height='100%' fill='#fff'/>\n"
+    codes "' font-family='sans-serif' font-size='9' text-anchor='middle' stroke-width='13'>\n"
+    ++ (codes "<rect width='100%' height='100%' fill='#fff'/>\n"
     ++ (codes "<g font-size='11' text-anchor='start'>\n"
     ++ (codes "<path stroke='#fe8' d='M8 36h12'/><path stroke='#ea1' d='M22 36h12'/><text x='40' y='40'>issued</text>\n"
     ++ (codes "<path stroke='#bdf' d='M96 36h12'/><path stroke='#49f' d='M110 36h12'/><text x='128' y='40'>accepted</text>\n"
@@ -20,23 +21,14 @@ key_text =
     ++ (codes "<path stroke='#bea' d='M356 36h12'/><path stroke='#5b6' d='M370 36h12'/><text x='388' y='40'>done</text>\n"
     ++ (codes "<text x='436' y='40'>light: a read, dark: a write</text>\n"
     ++ (codes "<text x='8' y='58'>R a read is issued, W a write, N issued again, A accepted, C completed, X failed, V recovered, E collected</text>\n"
-    ++ codes "<text x='8' y='74'>above the lanes: I IDENTIFY DEVICE, F FLUSH CACHE EXT, L READ LOG EXT; below: tags outstanding in the device</text>\n"))))))))
+    ++ codes "<text x='8' y='74'>above the lanes: I IDENTIFY DEVICE, F FLUSH CACHE EXT, L READ LOG EXT; below: tags outstanding in the device</text>\n")))))))))
 
--- what of its plane is seen
-unfoldable pub view_text : (width height : ℕ) → List ℕ
-view_text width height = numbered (codes "' viewBox='0 0 ") width ++ numbered (codes " ") height
-
--- the frame of the picture
-unfoldable pub frame_text : (width height : ℕ) → List ℕ
-frame_text width height =
+-- the frame, with its width, its height and what of its plane is seen, the key, and how many entries are drawn and tags have a lane
+unfoldable pub heading_shape : (width height columns lanes : ℕ) → List ℕ
+heading_shape width height columns lanes =
     numbered (codes "<svg xmlns='http://www.w3.org/2000/svg' width='") width ++ (numbered (codes "' height='") height
-    ++ (view_text width height ++ codes "' font-family='sans-serif' font-size='9' text-anchor='middle' stroke-width='13'>\n"))
+    ++ (numbered (codes "' viewBox='0 0 ") width ++ (numbered (codes " ") height ++ (key_text
+    ++ (numbered (codes "<text x='8' y='18' font-size='13'>entries: ") columns ++ (numbered (codes ", tags: ") lanes ++ codes "</text></g>"))))))
 
--- how many entries are drawn, and how many tags have a lane
-unfoldable pub counts_text : (columns lanes : ℕ) → List ℕ
-counts_text columns lanes =
-    numbered (codes "<text x='8' y='18' font-size='13'>entries: ") columns ++ (numbered (codes ", tags: ") lanes ++ codes "</text></g>")
-
--- the frame, the key and the counts
-unfoldable pub heading_text : (columns lanes : ℕ) → List ℕ
-heading_text columns lanes = frame_text (width_of columns) (row_top lanes (rows_in columns)) ++ (key_text ++ counts_text columns lanes)
+abbrev pub heading_text : (columns lanes : ℕ) → List ℕ
+heading_text columns lanes = heading_shape (width_of columns) (row_top lanes (rows_in columns)) columns lanes

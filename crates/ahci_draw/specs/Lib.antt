@@ -1,8 +1,7 @@
 -- Definitions of the picture.
 pub mod Text
 pub mod Words
-pub mod Phases
-pub mod Directions
+pub mod Tags
 pub mod Line
 pub mod Entries
 pub mod Mark

@@ -1,6 +1,6 @@
 -- The line of an entry in the sheet: a letter for each of the 32 tags, one for how many tags the device has, the entry's sign, the
 -- lane that it stands in, and the entry in words. No byte of it but the line feed at its front is one that XML reads as more than itself.
-use Rattle.std.specs.Prelude.{ℕ, if◌then◌else◌, Bool, false, List, [], ◌∷◌, ◌++◌, flat_map, slice_index_or}
+use Rattle.std.specs.Prelude.{ℕ, if◌then◌else◌, Bool, List, [], ◌∷◌, ◌++◌, flat_map, slice_index_or}
 use Rattle.std.specs.List.{range_with_len}
 use Rattle.ncq_journal.specs.Entry.{Entry, Issue, Accept, Complete, Fail, Recover, Reissue, Collect, Unqueued}
 use Rattle.ncq_journal.specs.Work.{Work, Read, Write}
@@ -8,9 +8,10 @@ use Rattle.ncq_journal.specs.declared.phase.Phase.{Phase}
 use Rattle.ncq_journal.specs.declared.phase.Phase.TheVariants.{Free, Issued, Accepted, Rejected, Broken, Held, Done}
 use Rattle.ncq_journal.specs.declared.plain.Plain.{Plain}
 use Rattle.ncq_journal.specs.declared.plain.Plain.TheVariants.{Identify, Flush, ReadLog}
-use Rattle.ahci_draw.specs.Phases.{in_device}
+use Rattle.ahci_draw.specs.Tags.{in_device, unused}
 use Rattle.ahci_draw.specs.Text.{letter}
 use Rattle.ahci_draw.specs.Words.{title_text}
+use Rattle.ahci_draw.specs.declared.tag_state.TagState.{TagState}
 
 -- where a tag stands: i issued, a accepted, f failed, h held, d done, in capitals for a write, and a dot for a free one
 abbrev pub cell : Phase → Bool → ℕ
@@ -22,11 +23,11 @@ cell Broken writes = if writes then 70 else 102
 cell Held writes = if writes then 72 else 104
 cell Done writes = if writes then 68 else 100
 
-abbrev pub cell_at : List Phase → List Bool → ℕ → List ℕ
-cell_at phases writes tag = cell (slice_index_or phases tag Free) (slice_index_or writes tag false) ∷ []
+abbrev pub cell_at : List TagState → ℕ → List ℕ
+cell_at tags tag = cell (slice_index_or tags tag unused).phase (slice_index_or tags tag unused).writes ∷ []
 
-unfoldable pub cells : List Phase → List Bool → List ℕ
-cells phases writes = flat_map (cell_at phases writes) (range_with_len 0 32)
+unfoldable pub cells : List TagState → List ℕ
+cells tags = flat_map (cell_at tags) (range_with_len 0 32)
 
 -- the sign of an entry: R and W a read and a write that are issued, A accepted, C completed, X failed, V recovered, N issued again
 -- (anew), E its answer collected (ended)
@@ -62,6 +63,6 @@ lane_of (Collect tag) = letter tag
 lane_of (Unqueued command) = 46
 
 -- the line of an entry, after which the tags stand so
-unfoldable pub entry_line : ℕ → List Phase → List Bool → Entry → List ℕ
-entry_line number phases writes entry =
-    (10 ∷ []) ++ (cells phases writes ++ ((letter (in_device phases) ∷ sign_of entry ∷ lane_of entry ∷ []) ++ title_text number entry))
+unfoldable pub entry_line : ℕ → List TagState → Entry → List ℕ
+entry_line number tags entry =
+    (10 ∷ []) ++ (cells tags ++ ((letter (in_device tags) ∷ sign_of entry ∷ lane_of entry ∷ []) ++ title_text number entry))

@@ -1,8 +1,7 @@
 -- What is kept of the port that a command finds.
 use Rattle.std.specs.Prelude.{ℕ, Option, None, Some}
 use Rattle.ahci_port.specs.PortView.{PortView, next_number}
-use Rattle.ahci_draw.specs.Directions.{directions_of}
-use Rattle.ahci_draw.specs.Phases.{phases_of}
+use Rattle.ahci_draw.specs.Tags.{tags_of}
 use Rattle.ahci_draw.specs.declared.mark.Mark.{Mark}
 
 -- the number of the entry that comes next; 0 before the disk
@@ -11,4 +10,4 @@ end_of None = 0
 end_of (Some port) = next_number port
 
 abbrev pub mark_of : Option PortView → Mark
-mark_of port = record { end = end_of port; phases = phases_of port; writes = directions_of port }
+mark_of port = record { end = end_of port; tags = tags_of port }

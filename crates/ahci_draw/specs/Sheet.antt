@@ -8,7 +8,7 @@ use Rattle.ahci_draw.specs.declared.mark.Mark.{Mark}
 
 -- the lines of a port's entries from a number on
 abbrev pub entries_from : Mark → PortView → ℕ → List ℕ
-entries_from mark port number = entries_text port.first port.past mark.phases mark.writes number (next_number port - number)
+entries_from mark port number = entries_text port.first port.past mark.tags number (next_number port - number)
 
 -- what a command has added that found a port with this mark, and has left this one: a line for each entry; a journal that was
 -- trimmed has none before its first

@@ -20,27 +20,22 @@ colour_of cell =
     else (if cell == 100 then codes "bea" else codes "5b6"))))))))
 
 -- the bar of so many columns from one on, in the lane after so many others
-unfoldable pub bar_shape : ℕ → ℕ → ℕ → ℕ → List ℕ
-bar_shape lane cell start count =
-    codes "<path stroke='#" ++ (colour_of cell ++ (numbered (codes "' d='M") (left_of start) ++ (numbered (codes " ") (16 * lane + 32)
+unfoldable pub bar_shape : ℕ → List ℕ → ℕ → ℕ → List ℕ
+bar_shape lane colour start count =
+    codes "<path stroke='#" ++ (colour ++ (numbered (codes "' d='M") (left_of start) ++ (numbered (codes " ") (16 * lane + 32)
     ++ (numbered (codes "h") (12 * count) ++ codes "'/>"))))
 
--- a bar as high as so many tags of the device, three units for each, below so many lanes
+-- a bar as high as so many tags of the device, three units for each, below so many lanes, and their number
 unfoldable pub level_shape : ℕ → ℕ → ℕ → ℕ → List ℕ
 level_shape lanes tags start count =
     numbered (codes "<path d='M") (left_of start) ++ (numbered (codes " ") (19 * lanes + 30) ++ (numbered (codes "v-") (3 * tags)
-    ++ (numbered (codes "h") (12 * count) ++ (numbered (codes "v") (3 * tags) ++ codes "z'/>"))))
-
--- and their number
-unfoldable pub level_number : ℕ → ℕ → ℕ → List ℕ
-level_number lanes tags start =
-    numbered (codes "<text x='") (middle_of start) ++ (numbered (codes "' y='") (19 * lanes + 40) ++ (numbered (codes "'>") tags ++ codes "</text>"))
+    ++ (numbered (codes "h") (12 * count) ++ (numbered (codes "v") (3 * tags) ++ (numbered (codes "z'/><text x='") (middle_of start)
+    ++ (numbered (codes "' y='") (19 * lanes + 40) ++ (numbered (codes "'>") tags ++ codes "</text>")))))))
 
 -- what is drawn of a run of a letter, which has so many columns from one on: nothing of a free tag, and of a device with none
 abbrev pub run_text : Strip → ℕ → ℕ → ℕ → List ℕ
-run_text (Lane lane) cell start count = if cell == 46 then [] else bar_shape lane cell start count
-run_text (Device lanes) cell start count =
-    if nat_le cell 65 then [] else level_shape lanes (cell - 65) start count ++ level_number lanes (cell - 65) start
+run_text (Lane lane) cell start count = if cell == 46 then [] else bar_shape lane (colour_of cell) start count
+run_text (Device lanes) cell start count = if nat_le cell 65 then [] else level_shape lanes (cell - 65) start count
 
 -- a run begins where another letter stands before it, or none
 abbrev pub begins : List ℕ → ℕ → Bool

@@ -1,5 +1,5 @@
-use crate::entries::push_entries;
 use crate::mark::Mark;
+use crate::text::Text;
 use ahci_port::Port;
 use ahci_replay::Teller;
 use ahci_script::{Output, ScriptAnswer};
@@ -12,28 +12,15 @@ pub(crate) struct Drawer<A: Allocator> {
 }
 
 impl<A: Allocator + Copy> Drawer<A> {
-    ghost use Rattle.std.specs.Prelude.{◌≡◌, ◌++◌, IfOk, OnOk, Option};
+    ghost use Rattle.std.specs.Prelude.{◌≡◌, IfOk, Option};
     ghost use Rattle.std.specs.Option.{option_copied};
     ghost use Rattle.ahci_port.specs.PortView.{PortView};
     ghost use Rattle.ahci_draw.specs.Mark.{mark_of};
-    ghost use Rattle.ahci_draw.specs.Sheet.{added_between, added_on};
+    ghost use Rattle.ahci_draw.specs.Sheet.{added_between};
 
     /// The sheet is made with this allocator.
     pub(crate) fn new(alloc: A) -> Self {
         Drawer { alloc }
-    }
-
-    /// Appends what a command has added that found the port of the mark, and has left this one.
-    fn push_added_on<B: Allocator>(
-        mark: &Mark,
-        text: &mut Vec<u8, A>,
-        port: &Port<B>,
-    ) -> Result<(), AllocError>
-        ensures { OnOk result (text.new.items ≡ text.old.items ++ added_on mark.now port.now) }
-    {
-        let journal = port.journal();
-        let start = mark.end.max(journal.first());
-        push_entries(text, journal, &mark.phases, &mark.writes, start)
     }
 
     /// What a command has added that found the port of the mark, and has left this one.
@@ -41,11 +28,11 @@ impl<A: Allocator + Copy> Drawer<A> {
         ensures { IfOk result (λ text. (before : Option PortView) → mark.now ≡ mark_of before
             → text.items ≡ added_between before (option_copied port.entry)) }
     {
-        let mut text = Vec::new(self.alloc);
+        let mut text = Text::new(self.alloc);
         if let Some(port) = port {
-            Self::push_added_on(mark, &mut text, port)?;
+            text.push_added(mark, port)?;
         }
-        Ok(text)
+        Ok(text.into_bytes())
     }
 }
 

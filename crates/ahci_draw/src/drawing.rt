@@ -1,7 +1,7 @@
 ghost use Rattle.std.specs.Prelude.{◌≡◌, IfErr, OnOk};
 ghost use Rattle.streams.specs.Ends.{with_flush};
 ghost use Rattle.std.specs.Io.KnownBytes.{Appends};
-ghost use Rattle.ahci_draw.specs.Drawn.{DrawWrites, Drawn, DrawnTo, IsSentAt, IsSentTo, SendWrites, SendWritesAt, picture_lines};
+ghost use Rattle.ahci_draw.specs.Drawn.{DrawWrites, Drawn, DrawnTo, IsSentTo, SendWrites, has_sheet, picture_lines};
 
 use crate::drawer::Drawer;
 use crate::picture::picture_text;
@@ -45,47 +45,21 @@ fn drawn<R: Read, W: Write, A: Allocator + Copy>(
     ensures writes { IfErr result (DrawWrites writes.old writes.new) }
 {
     let mut sheet = Vec::new(alloc);
-    match replay_with(alloc, &Drawer::new(alloc), reader, &mut sheet) {
-        Ok(()) => send(alloc, from, to, &sheet, writer, writes),
-        Err(ScriptFault::Line(line)) => Err(send_at(
-            ScriptFault::Line(line),
-            alloc,
-            from,
-            to,
-            &sheet,
-            writer,
-            writes,
-        )),
-        Err(ScriptFault::Read) => Err(send_at(
-            ScriptFault::Read,
-            alloc,
-            from,
-            to,
-            &sheet,
-            writer,
-            writes,
-        )),
-        Err(_) => Err(ScriptFault::OutOfMemory), // a sheet takes all that it has room for
+    let replayed = replay_with(alloc, &Drawer::new(alloc), reader, &mut sheet);
+    if has_sheet(&replayed) {
+        return send(alloc, from, to, &sheet, writer, writes).and(replayed);
     }
+    Err(ScriptFault::OutOfMemory) // a sheet takes all that it has room for
 }
 
-/// Writes the picture of what was done before a fault, and answers the fault, or how the writing failed.
-fn send_at<W: Write, A: Allocator + Copy>(
-    fault: ScriptFault,
-    alloc: A,
-    from: u64,
-    to: u64,
-    sheet: &[u8],
-    writer: &mut W,
-    writes: &mut Writes,
-) -> ScriptFault
-    ensures sent { IsSentAt from to fault sheet.now (W.contents writer.old) (W.contents writer.new) result }
-    ensures writes { SendWritesAt fault writes.old writes.new result }
+/// Whether a script was replayed to its end, or to a fault of its own.
+fn has_sheet(replayed: &Result<(), ScriptFault>) -> bool
+    ensures { result ≡ has_sheet replayed.now }
 {
-    match send(alloc, from, to, sheet, writer, writes) {
-        Ok(()) => fault,
-        Err(failed) => failed,
-    }
+    matches!(
+        replayed,
+        Ok(()) | Err(ScriptFault::Line(_) | ScriptFault::Read)
+    )
 }
 
 /// Writes the picture that a sheet gives.

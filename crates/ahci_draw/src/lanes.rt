@@ -2,14 +2,12 @@
 
 ghost use Rattle.std.specs.Prelude.{◌≡◌, ◌++◌, ◌≤◌, IfOk, OnOk, length, map, slice_index};
 ghost use Rattle.std.specs.List.{list_any};
-ghost use Rattle.ahci_draw.specs.Lanes.{cells_in, device_text, has_lane, is_told, lane_text, lanes_text, name_shape, tags_in};
+ghost use Rattle.ahci_draw.specs.Lanes.{cells_in, device_text, has_lane, is_told, lane_text, lanes_text, tags_in};
 ghost use Rattle.ahci_draw.specs.Lines.{texts};
 
 use crate::sheet::{DEVICE, LANE, byte_at};
-use crate::signs::push_signs;
-use crate::strip::{Strip, push_runs};
-use crate::text::{letter, push_number};
-use ahci_script::growing::push;
+use crate::strip::Strip;
+use crate::text::{Text, letter};
 use std::alloc::{AllocError, Allocator};
 
 /// Whether an entry tells of a tag: the tag is not free after it, or it is the entry's own.
@@ -58,64 +56,43 @@ fn cells_in<A: Allocator>(alloc: A, lines: &[&[u8]], place: usize) -> Result<Vec
     bytes_at(alloc, lines, place)
 }
 
-/// Appends the name of a lane.
-#[tactic(auto, unfolding(crate::specs::Lanes::name_shape))]
-fn push_name<A: Allocator>(text: &mut Vec<u8, A>, lane: usize, tag: usize) -> Result<(), AllocError>
-    ensures { OnOk result (text.new.items ≡ text.old.items ++ name_shape lane tag) }
-{
-    push_number(text, b"\n<text x='36' y='", 16 * (lane as u128) + 35)?;
-    push_number(text, b"'>tag ", tag as u128)?;
-    push(text, b"</text>")
-}
-
-/// Appends the lane of a tag, after so many others.
-#[tactic(auto, unfolding(crate::specs::Lanes::lane_text))]
-fn push_lane<A: Allocator + Copy>(
-    alloc: A,
-    text: &mut Vec<u8, A>,
-    lines: &[&[u8]],
-    lane: usize,
-    tag: usize,
-) -> Result<(), AllocError>
-    ensures { OnOk result (text.new.items ≡ text.old.items ++ lane_text (texts lines.now) lane tag) }
-{
-    push_name(text, lane, tag)?;
-    push_runs(text, Strip::Lane(lane), &cells_in(alloc, lines, tag)?)?;
-    push_signs(text, letter(tag), 16 * (lane as u128) + 35, lines)
-}
-
-/// Appends the lanes of these tags.
-#[tactic(auto, unfolding(crate::specs::Lanes::lanes_text))]
-pub(crate) fn push_lanes<A: Allocator + Copy>(
-    alloc: A,
-    text: &mut Vec<u8, A>,
-    tags: &[usize],
-    lines: &[&[u8]],
-) -> Result<(), AllocError>
-    ensures { OnOk result (text.new.items ≡ text.old.items ++ lanes_text tags.now (texts lines.now)) }
-{
-    for lane in 0..tags.len() {
-        push_lane(alloc, text, lines, lane, tags[lane])?;
+impl<A: Allocator + Copy> Text<A> {
+    /// Appends the lane of a tag, after so many others.
+    #[tactic(auto, unfolding(crate::specs::Lanes::lane_text))]
+    fn push_lane(&mut self, lines: &[&[u8]], lane: usize, tag: usize) -> Result<(), AllocError>
+        ensures { OnOk result (self.new ≡ self.old ++ lane_text (texts lines.now) lane tag) }
+    {
+        let cells = cells_in(self.alloc(), lines, tag)?;
+        self.push_number(b"\n<text x='36' y='", 16 * (lane as u128) + 35)?;
+        self.push_number(b"'>tag ", tag as u128)?;
+        self.push(b"</text>")?;
+        self.push_runs(Strip::Lane(lane), &cells)?;
+        self.push_signs(letter(tag), 16 * (lane as u128) + 35, lines)
     }
-    Ok(())
-}
 
-/// Appends the row of the device, below so many lanes.
-#[tactic(auto, unfolding(crate::specs::Lanes::device_text))]
-pub(crate) fn push_device<A: Allocator + Copy>(
-    alloc: A,
-    text: &mut Vec<u8, A>,
-    lanes: usize,
-    lines: &[&[u8]],
-) -> Result<(), AllocError>
-    ensures { OnOk result (text.new.items ≡ text.old.items ++ device_text lanes (texts lines.now)) }
-{
-    push_number(
-        text,
-        b"\n<g fill='#579'><text x='36' y='",
-        19 * (lanes as u128) + 30,
-    )?;
-    push(text, b"'>in device</text>")?;
-    push_runs(text, Strip::Device(lanes), &cells_in(alloc, lines, DEVICE)?)?;
-    push(text, b"</g>")
+    /// Appends the lanes of these tags.
+    #[tactic(auto, unfolding(crate::specs::Lanes::lanes_text))]
+    pub(crate) fn push_lanes(&mut self, tags: &[usize], lines: &[&[u8]]) -> Result<(), AllocError>
+        ensures { OnOk result (self.new ≡ self.old ++ lanes_text tags.now (texts lines.now)) }
+    {
+        for lane in 0..tags.len() {
+            self.push_lane(lines, lane, tags[lane])?;
+        }
+        Ok(())
+    }
+
+    /// Appends the row of the device, below so many lanes.
+    #[tactic(auto, unfolding(crate::specs::Lanes::device_text))]
+    pub(crate) fn push_device(&mut self, lanes: usize, lines: &[&[u8]]) -> Result<(), AllocError>
+        ensures { OnOk result (self.new ≡ self.old ++ device_text lanes (texts lines.now)) }
+    {
+        let cells = cells_in(self.alloc(), lines, DEVICE)?;
+        self.push_number(
+            b"\n<g fill='#579'><text x='36' y='",
+            19 * (lanes as u128) + 30,
+        )?;
+        self.push(b"'>in device</text>")?;
+        self.push_runs(Strip::Device(lanes), &cells)?;
+        self.push(b"</g>")
+    }
 }

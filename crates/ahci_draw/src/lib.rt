@@ -5,7 +5,6 @@
 //! picture is made of these lines once the script has ended, when it is known which tags have a lane and how long each run is.
 #![tactic(auto)]
 
-mod directions;
 mod drawer;
 mod drawing;
 mod entries;
@@ -15,12 +14,13 @@ mod lanes;
 pub mod laws;
 mod line;
 mod mark;
-mod phases;
 mod picture;
 mod row;
 mod sheet;
 mod signs;
 mod strip;
+mod tag_state;
+mod tags;
 mod text;
 mod words;
 

@@ -5,10 +5,9 @@ ghost use Rattle.ncq_journal.specs.Entry.{entry_of};
 ghost use Rattle.ncq_journal.specs.Work.{work_of};
 ghost use Rattle.ahci_draw.specs.Line.{cell, cells, entry_line, issue_sign, lane_of, plain_sign, sign_of};
 
-use crate::phases::in_device;
-use crate::text::letter;
-use crate::words::push_title;
-use ahci_script::growing::push;
+use crate::tag_state::TagState;
+use crate::tags::in_device;
+use crate::text::{Text, letter};
 use ncq_journal::{Event, Op, Phase, Plain};
 use std::alloc::{AllocError, Allocator};
 
@@ -29,21 +28,6 @@ fn cell(phase: Phase, writes: bool) -> u8
         Phase::Done if writes => b'D',
         Phase::Done => b'd',
     }
-}
-
-/// Appends a letter for each tag.
-#[tactic(auto, unfolding(crate::specs::Line::cells))]
-fn push_cells<A: Allocator>(
-    text: &mut Vec<u8, A>,
-    phases: &[Phase; 32],
-    writes: &[bool; 32],
-) -> Result<(), AllocError>
-    ensures { OnOk result (text.new.items ≡ text.old.items ++ cells phases.now writes.now) }
-{
-    for tag in 0..32u8 {
-        push(text, &[cell(phases[tag as usize], writes[tag as usize])])?;
-    }
-    Ok(())
 }
 
 fn issue_sign<A: Allocator>(op: &Op<A>) -> u8
@@ -97,22 +81,31 @@ fn lane_of<A: Allocator>(event: &Event<A>) -> u8
     }
 }
 
-/// Appends the line of an entry, after which the tags stand so.
-#[tactic(auto, unfolding(crate::specs::Line::entry_line))]
-pub(crate) fn push_line<A: Allocator, B: Allocator>(
-    text: &mut Vec<u8, A>,
-    number: u64,
-    phases: &[Phase; 32],
-    writes: &[bool; 32],
-    event: &Event<B>,
-) -> Result<(), AllocError>
-    ensures { OnOk result (text.new.items ≡ text.old.items ++ entry_line number phases.now writes.now (entry_of event.now)) }
-{
-    push(text, b"\n")?;
-    push_cells(text, phases, writes)?;
-    push(
-        text,
-        &[letter(in_device(phases)), sign_of(event), lane_of(event)],
-    )?;
-    push_title(text, number, event)
+impl<A: Allocator> Text<A> {
+    /// Appends a letter for each tag.
+    #[tactic(auto, unfolding(crate::specs::Line::cells))]
+    fn push_cells(&mut self, tags: &[TagState; 32]) -> Result<(), AllocError>
+        ensures { OnOk result (self.new ≡ self.old ++ cells tags.now) }
+    {
+        for tag in 0..32u8 {
+            self.push(&[cell(tags[tag as usize].phase, tags[tag as usize].writes)])?;
+        }
+        Ok(())
+    }
+
+    /// Appends the line of an entry, after which the tags stand so.
+    #[tactic(auto, unfolding(crate::specs::Line::entry_line))]
+    pub(crate) fn push_line<B: Allocator>(
+        &mut self,
+        number: u64,
+        tags: &[TagState; 32],
+        event: &Event<B>,
+    ) -> Result<(), AllocError>
+        ensures { OnOk result (self.new ≡ self.old ++ entry_line number tags.now (entry_of event.now)) }
+    {
+        self.push(b"\n")?;
+        self.push_cells(tags)?;
+        self.push(&[letter(in_device(tags)), sign_of(event), lane_of(event)])?;
+        self.push_title(number, event)
+    }
 }

@@ -2,10 +2,9 @@ ghost use Rattle.std.specs.Prelude.{◌≡◌, None, Some};
 ghost use Rattle.std.specs.Option.{option_copied};
 ghost use Rattle.ahci_draw.specs.Mark.{mark_of};
 
-use crate::directions::{directions_in, directions_of_none};
-use crate::phases::{phases_in, phases_of_none};
+use crate::tag_state::TagState;
+use crate::tags::{tags_in, tags_of_none};
 use ahci_port::Port;
-use ncq_journal::Phase;
 use std::alloc::Allocator;
 
 /// What is kept of the port that a command finds, to draw later what the command has added.
@@ -13,10 +12,8 @@ use std::alloc::Allocator;
 pub(crate) struct Mark {
     /// The number of the journal's next entry; 0 before the disk.
     pub(crate) end: u64,
-    /// Where the command of each tag stands.
-    pub(crate) phases: [Phase; 32],
-    /// Which tags were last issued to write.
-    pub(crate) writes: [bool; 32],
+    /// The states of the tags.
+    pub(crate) tags: [TagState; 32],
 }
 
 impl Mark {
@@ -26,8 +23,7 @@ impl Mark {
     {
         Mark {
             end: 0,
-            phases: phases_of_none(),
-            writes: directions_of_none(),
+            tags: tags_of_none(),
         }
     }
 
@@ -39,8 +35,7 @@ impl Mark {
             None => Mark::of_none(),
             Some(port) => Mark {
                 end: port.journal().end(),
-                phases: phases_in(port),
-                writes: directions_in(port),
+                tags: tags_in(port),
             },
         }
     }

@@ -4,11 +4,9 @@ ghost use Rattle.std.specs.Prelude.{◌≡◌, ◌≤◌, IfOk, length};
 ghost use Rattle.ahci_draw.specs.Lines.{texts};
 ghost use Rattle.ahci_draw.specs.Picture.{picture_of, picture_text, picture_with};
 
-use crate::heading::push_heading;
 use crate::lanes::tags_in;
-use crate::row::push_rows;
 use crate::sheet::{lines_of, within};
-use ahci_script::growing::push;
+use crate::text::Text;
 use std::alloc::{AllocError, Allocator};
 
 /// The picture of these lines with lanes for these tags.
@@ -20,11 +18,11 @@ fn picture_with<A: Allocator + Copy>(
     requires { length tags.now ≤ 32 }
     ensures { IfOk result (λ text. text.items ≡ picture_with tags.now (texts lines.now)) }
 {
-    let mut text = Vec::new(alloc);
-    push_heading(&mut text, lines.len(), tags.len())?;
-    push_rows(alloc, &mut text, tags, lines)?;
-    push(&mut text, b"\n</svg>")?;
-    Ok(text)
+    let mut text = Text::new(alloc);
+    text.push_heading(lines.len(), tags.len())?;
+    text.push_rows(tags, lines)?;
+    text.push(b"\n</svg>")?;
+    Ok(text.into_bytes())
 }
 
 /// The picture of these lines, each of which is an entry.

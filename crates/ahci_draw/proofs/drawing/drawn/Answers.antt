@@ -1,24 +1,30 @@
--- A fault has ended the script, after which the picture is written, or not.
-use Rattle.ahci_replay.specs.declared.script_fault.ScriptFault.TheVariants.{Line, Read}
-use Rattle.ahci_draw.proofs.SheetLemmas.{draws_line, draws_read, draws_sent, is_sheet, sent_at}
+-- The script was replayed, and its picture is written, or not.
+use Rattle.std.proofs.Common.{◌≡◌, ◌∙◌, IfErr, OnOk, subst, sym}
+use Rattle.ahci_draw.specs.Drawn.{DrawWrites}
+use Rattle.ahci_draw.proofs.SheetLemmas.{drawn_flushed, drawn_to, drawn_whole, draws, sheet_of}
+use Rattle.streams.specs.Ends.{with_flush}
 use Rattle.ahci_draw.proofs.drawing.drawn.Goals as goal
 
-pub returns-in-Err-Line-clause-err : goal.returns-in-Err-Line-clause-err
-returns-in-Err-Line-clause-err g c =
-    sent_at _ _ _ _ _ _ c.deref-in-Err-Line.result.now (Line c.in-Err-Line.line) c.send_at.result
-    (is_sheet _ _ _ _ _ c.in-Err-Line.field-0 (Line c.in-Err-Line.line) c.new-sheet.ensures.items c.deref-in-Err-Line.ensures.value
-    c.in-Err-Line.field-0-is c.in-Err-Line.ensures.err) c.send_at.ensures.sent
+pub returns-then-has_sheet-clause-ok : goal.returns-then-has_sheet-clause-ok
+returns-then-has_sheet-clause-ok g c =
+    drawn_whole _ _ _ _ _ _ _ c.send.result c.replay_with-replayed.result c.and.result c.and.ensures
+    (sheet_of c.replay_with-replayed.result _ _ _ _ _ c.new-sheet.ensures.items c.deref.ensures.value (sym c.has_sheet.ensures ∙ c.if-has_sheet.true) c.replay_with-replayed.ensures.ok c.replay_with-replayed.ensures.err)
+    c.send.ensures.ok
 
-pub returns-in-Err-Read-clause-err : goal.returns-in-Err-Read-clause-err
-returns-in-Err-Read-clause-err g c =
-    sent_at _ _ _ _ _ _ c.deref-in-Err-Read.result.now Read c.send_at-in-Err-Read.result
-    (is_sheet _ _ _ _ _ c.in-Err-Read.field-0 Read c.new-sheet.ensures.items c.deref-in-Err-Read.ensures.value c.in-Err-Read.field-0-is c.in-Err-Read.ensures.err) c.send_at-in-Err-Read.ensures.sent
+pub returns-then-has_sheet-clause-err : goal.returns-then-has_sheet-clause-err
+returns-then-has_sheet-clause-err g c =
+    drawn_to _ _ _ _ _ _ _ c.send.result c.replay_with-replayed.result c.and.result c.and.ensures
+    (sheet_of c.replay_with-replayed.result _ _ _ _ _ c.new-sheet.ensures.items c.deref.ensures.value (sym c.has_sheet.ensures ∙ c.if-has_sheet.true) c.replay_with-replayed.ensures.ok c.replay_with-replayed.ensures.err)
+    c.send.ensures.ok c.send.ensures.err
 
-pub returns-in-Err-Line-clause-writes : goal.returns-in-Err-Line-clause-writes
-returns-in-Err-Line-clause-writes g c = draws_line c.in-Err-Line.line c.send_at.result c.args.writes.now c.send_at.new.writes c.send_at.ensures.writes
+pub returns-then-has_sheet-clause-flushed : goal.returns-then-has_sheet-clause-flushed
+returns-then-has_sheet-clause-flushed g c =
+    subst (λ r. OnOk r (c.send.new.writes ≡ with_flush c.args.writes.now)) (sym c.and.ensures)
+    (drawn_flushed c.args.writes.now c.send.new.writes c.send.result c.replay_with-replayed.result c.send.ensures.flushed)
 
-pub returns-in-Err-Read-clause-writes : goal.returns-in-Err-Read-clause-writes
-returns-in-Err-Read-clause-writes g c = draws_read c.send_at-in-Err-Read.result c.args.writes.now c.send_at-in-Err-Read.new.writes c.send_at-in-Err-Read.ensures.writes
-
-pub returns-in-Ok-clause-writes : goal.returns-in-Ok-clause-writes
-returns-in-Ok-clause-writes g c = draws_sent c.send.result c.args.writes.now c.send.new.writes c.send.ensures.writes
+pub returns-then-has_sheet-clause-writes : goal.returns-then-has_sheet-clause-writes
+returns-then-has_sheet-clause-writes g c =
+    subst (λ r. IfErr r (DrawWrites c.args.writes.now c.send.new.writes)) (sym c.and.ensures)
+    (draws c.args.writes.now c.send.new.writes _ _ _ c.send.result c.replay_with-replayed.result
+    (sheet_of c.replay_with-replayed.result _ _ _ _ _ c.new-sheet.ensures.items c.deref.ensures.value (sym c.has_sheet.ensures ∙ c.if-has_sheet.true) c.replay_with-replayed.ensures.ok c.replay_with-replayed.ensures.err)
+    c.send.ensures.flushed c.send.ensures.writes)

@@ -1,0 +1,20 @@
+use Rattle.std.proofs.Common.{◌∙◌, ap, length-set, set, arith}
+use Rattle.std.specs.Prelude.{slice_index_or}
+use Rattle.std.proofs.lemmas.List.Edits.{fill_by_more}
+use Rattle.std.proofs.lemmas.List.FromFn.{fill_by_all}
+use Rattle.ncq_journal.specs.Entry.{entry_of}
+use Rattle.ahci_draw.specs.Tags.{moved, moved_at, unused}
+use Rattle.ahci_draw.proofs.tags.tags_after.Goals as goal
+
+pub loop-tag-preserved : goal.loop-tag-preserved
+loop-tag-preserved g c = record {
+  count = length-set c.loop-tag.after c.loop-tag.tag c.tag_after.result ∙ c.loop-tag.invariant.count;
+  stand = λ t low.
+      ap (λ p. slice_index_or (set c.loop-tag.after c.loop-tag.tag p) t unused) c.tag_after.ensures
+      ∙ fill_by_more (moved_at c.args.before.now (entry_of c.args.event.now)) c.loop-tag.after c.loop-tag.tag unused (let n = c.loop-tag.invariant.count in omega arith) c.loop-tag.invariant.stand t low;
+}
+
+pub returns : goal.returns
+unfolding moved
+returns g c =
+    fill_by_all (moved_at c.args.before.now (entry_of c.args.event.now)) _ 32 unused c.loop-tag.invariant.count (λ k low. c.loop-tag.invariant.stand k (omega arith))
