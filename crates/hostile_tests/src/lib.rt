@@ -3,26 +3,4 @@
 #![tactic(auto)]
 
 #[cfg(test)]
-mod building;
-#[cfg(test)]
-mod commands;
-#[cfg(test)]
-mod driver;
-#[cfg(test)]
-mod heap;
-#[cfg(test)]
-mod jobs;
-#[cfg(test)]
-mod journal;
-#[cfg(test)]
-mod ports;
-#[cfg(test)]
-mod programs;
-#[cfg(test)]
-mod runs;
-#[cfg(test)]
-mod settling;
-#[cfg(test)]
-mod shown;
-#[cfg(test)]
-mod unasked;
+mod tests;

@@ -1,5 +1,5 @@
 //! All that a port shows.
-use crate::heap::Heap;
+use crate::tests::heap::Heap;
 use ahci_port::{Port, Sent, TagSets};
 use ahci_regs::RegFault;
 

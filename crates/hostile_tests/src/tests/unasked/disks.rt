@@ -1,6 +1,6 @@
 //! A disk alone, over an image in memory of the heap.
 use super::unasked;
-use crate::heap::{Heap, refuse_from};
+use crate::tests::heap::{Heap, refuse_from};
 use ncq_core::{Disk, Plain, ServeFault, Taken};
 use refusing_allocator::Refusing;
 use std::process::Abort;

@@ -1,7 +1,7 @@
 //! The jobs of the runs that are tried, and their choosers.
 ghost use Rattle.std.specs.Prelude.{◌≡◌, vec_len, IfOk};
 
-use crate::heap::Heap;
+use crate::tests::heap::Heap;
 use ahci_driver::{Chooser, High, Low};
 use ahci_port::DeviceStep;
 use std::alloc::AllocError;

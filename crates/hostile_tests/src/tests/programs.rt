@@ -1,6 +1,6 @@
 //! Scripts and job lists where memory is refused: what was answered before is written, and the fault is want of memory, with
 //! status 3.
-use crate::heap::{Asked, Heap, equal, growths_of, refuse_from};
+use crate::tests::heap::{Asked, Heap, equal, growths_of, refuse_from};
 use ahci_cli::{CliFault, Pick, replay, run_jobs};
 use refusing_allocator::Refusing;
 use std::alloc::{AllocError, Global};

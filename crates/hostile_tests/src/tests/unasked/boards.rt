@@ -2,7 +2,7 @@
 ghost use Rattle.std.specs.Prelude.{◌≡◌};
 
 use super::unasked;
-use crate::heap::{Heap, refuse_from};
+use crate::tests::heap::{Heap, refuse_from};
 use refusing_allocator::Refusing;
 use std::process::Abort;
 use std::test::Fail;

@@ -2,8 +2,8 @@
 ghost use Rattle.std.specs.Prelude.{◌≡◌};
 
 use super::unasked;
-use crate::commands::{Command, op_of, port_of};
-use crate::heap::{Heap, grant_all, refuse_from};
+use crate::tests::commands::{Command, op_of, port_of};
+use crate::tests::heap::{Heap, grant_all, refuse_from};
 use ahci_driver::{
     Driver, High, Low, Pumped, SubmitFault, TagBoard, TagSeat, Ticket, collect_locked, pump_locked,
     submit_locked,
@@ -196,7 +196,7 @@ fn pumps_and_collects_need_no_memory(rt: HostRuntime) -> Result<(), Fail> {
 fn under_the_lock_only_an_issue_needs_memory(rt: HostRuntime) -> Result<(), Fail> {
     let heap = Refusing::new(rt.alloc());
     let mut port = port_of(&heap, 4)?;
-    let window = crate::commands::window_of(&heap, Command::Read(3))?;
+    let window = crate::tests::commands::window_of(&heap, Command::Read(3))?;
     let buffer = vec![in &heap; 0; 512]?;
     let Ok(ticket) = submit_locked(&mut port, window, buffer) else {
         return Err(Fail::new("not submitted"));

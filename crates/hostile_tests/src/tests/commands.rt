@@ -1,6 +1,6 @@
 //! Commands, their windows, and ports, in memory of the heap.
-use crate::heap::Heap;
-use crate::shown::SECTORS;
+use crate::tests::heap::Heap;
+use crate::tests::shown::SECTORS;
 use ahci_port::Port;
 use ahci_table::{Window, default_pieces};
 use ncq_core::{Bytes, Op};

@@ -1,7 +1,7 @@
 //! Windows: made of parts, checked, and their data moved.
 use super::unasked;
-use crate::commands::{Command, window_of};
-use crate::heap::{Heap, refuse_from};
+use crate::tests::commands::{Command, window_of};
+use crate::tests::heap::{Heap, refuse_from};
 use ahci_table::Window;
 use refusing_allocator::Refusing;
 use std::alloc::Global;

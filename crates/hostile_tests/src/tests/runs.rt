@@ -1,8 +1,8 @@
 //! Runs of workers in which a growth is refused: each ends as want of memory, with all its threads, and gives back what it
 //! took.
-use crate::commands::port_of;
-use crate::heap::{Heap, equal, grant_all};
-use crate::jobs::{Jobs, Way, crowd};
+use crate::tests::commands::port_of;
+use crate::tests::heap::{Heap, equal, grant_all};
+use crate::tests::jobs::{Jobs, Way, crowd};
 use ahci_driver::{Gate, Open, RunFault, run};
 use refusing_allocator::{Refusals, Refusing};
 use std::alloc::Global;

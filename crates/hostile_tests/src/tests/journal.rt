@@ -1,20 +1,20 @@
 //! A journal's room is asked for once, and not more of it than it needs; pushes ask for none.
-use crate::heap::{Asked, Heap, Row, Tried, equal, grant_all, growths_of, refuse_from};
+use crate::tests::heap::{
+    Asked, Heap, Row, Tried, equal, grant_all, growths_of, refuse_from, tries_each,
+};
 use ncq_core::{Event, Journal};
 use refusing_allocator::Refusing;
 use std::mem::size_of;
-use std::process::Abort;
 use std::test::Fail;
 
 /// How many bytes an entry has.
-pub const ENTRY: u64 = size_of::<Event<&'static Heap>>() as u64;
+const ENTRY: u64 = size_of::<Event<&'static Heap>>() as u64;
 
-/// Room for so many entries, in a journal for which this room was made before and filled.
-#[derive(Clone, Copy, Debug)]
-struct Room {
-    before: u64,
-    count: u64,
-}
+/// How many bytes the room of 129 entries has, which a call of a port makes.
+pub const ROOM: u64 = 129 * ENTRY;
+
+/// The room that was made before in a journal, and filled; and for how many entries room is made now.
+type Room = (u64, u64);
 
 /// Whether room was made; entries and room then.
 type Said = (bool, u64, u64);
@@ -22,60 +22,12 @@ type Said = (bool, u64, u64);
 // The first request is for as many entries as are wanted. A later one is for those and the ones that stand, or for twice as
 // many as before, where that is more.
 static ROOMS: [Row<Room, Said>; 6] = [
-    Row {
-        call: Room {
-            before: 0,
-            count: 129,
-        },
-        refused: &[(false, 0, 0)],
-        answer: (true, 0, 129),
-        bytes: 129 * ENTRY,
-    },
-    Row {
-        call: Room {
-            before: 0,
-            count: 4,
-        },
-        refused: &[(false, 0, 0)],
-        answer: (true, 0, 4),
-        bytes: 4 * ENTRY,
-    },
-    Row {
-        call: Room {
-            before: 4,
-            count: 5,
-        },
-        refused: &[(false, 4, 0)],
-        answer: (true, 4, 5),
-        bytes: 9 * ENTRY,
-    },
-    Row {
-        call: Room {
-            before: 4,
-            count: 1,
-        },
-        refused: &[(false, 4, 0)],
-        answer: (true, 4, 1),
-        bytes: 8 * ENTRY,
-    },
-    Row {
-        call: Room {
-            before: 0,
-            count: 0,
-        },
-        refused: &[],
-        answer: (true, 0, 0),
-        bytes: 0,
-    },
-    Row {
-        call: Room {
-            before: 4,
-            count: 0,
-        },
-        refused: &[],
-        answer: (true, 4, 0),
-        bytes: 0,
-    },
+    Row((0, 129), &[(false, 0, 0)], (true, 0, 129), 129 * ENTRY),
+    Row((0, 4), &[(false, 0, 0)], (true, 0, 4), 4 * ENTRY),
+    Row((4, 5), &[(false, 4, 0)], (true, 4, 5), 9 * ENTRY),
+    Row((4, 1), &[(false, 4, 0)], (true, 4, 1), 8 * ENTRY),
+    Row((0, 0), &[], (true, 0, 0), 0),
+    Row((4, 0), &[], (true, 4, 0), 0),
 ];
 
 /// Whether room is made, and what there is then.
@@ -84,35 +36,27 @@ fn reserved(journal: &mut Journal<&Heap>, count: u64) -> Said {
     (is_made, journal.len(), journal.room())
 }
 
-fn tried(heap: &Heap, room: Room, growth: usize) -> Result<Tried<Said>, Fail> {
+fn tried(heap: &Heap, (before, count): Room, growth: usize) -> Result<Tried<Said>, Fail> {
     let mut journal = Journal::new(heap);
-    journal.reserve(room.before)?;
-    for tag in 0..room.before {
+    journal.reserve(before)?;
+    for tag in 0..before {
         if journal.room() > 0 {
             journal.push_reserved(Event::Accept((tag % 32) as u8));
         }
     }
     refuse_from(heap, growth);
-    let said = reserved(&mut journal, room.count);
+    let said = reserved(&mut journal, count);
     let mut tried = Tried::of(said, growths_of(heap), heap.bytes());
     grant_all(heap);
     if !said.0 {
-        tried.again = Some(reserved(&mut journal, room.count));
+        tried.again = Some(reserved(&mut journal, count));
     }
     Ok(tried)
 }
 
 #[test]
 fn room_is_asked_for_once_and_exactly(rt: HostRuntime) -> Result<(), Fail> {
-    for row in &ROOMS {
-        for growth in 0..=row.refused.len() {
-            let heap = Refusing::new(rt.alloc());
-            let found = tried(&heap, row.call, growth)?;
-            equal(&rt, &row.call, growth, &found, &row.wanted(growth));
-            assert!(rt; heap.out() == 0);
-        }
-    }
-    Ok(())
+    tries_each(&rt, rt.alloc(), ROOMS.as_slice(), tried)
 }
 
 // The heap has nothing left once the room is made.

@@ -1,34 +1,34 @@
 //! The calls of a port that may want memory: what they answer where it is refused, what stands then, and what they answer
 //! with memory.
-use crate::commands::{Command, image_of, op_of, port_of, window_of};
-use crate::heap::{Asked, Heap, Row, Tried, equal, grant_all, growths_of, refuse_from};
-use crate::journal::ENTRY;
-use crate::shown::{Shown, look_at};
+use crate::tests::commands::{Command, image_of, op_of, port_of, window_of};
+use crate::tests::heap::{Heap, Row, Tried, equal, grant_all, growths_of, refuse_from, tries_each};
+use crate::tests::journal::ROOM;
+use crate::tests::shown::{Shown, look_at};
 use ahci_port::{DeviceStep, DiskFault, IssueFault, PlainFault, Port, RecoverFault, Stepped};
 use ahci_table::{Window, default_pieces};
 use ncq_core::Op;
-use refusing_allocator::Refusing;
 use std::process::Abort;
 use std::test::Fail;
 
-/// How many entries' room each call of a port makes.
-const ROOM: u64 = 129;
+/// The depth of a port, or why none is made.
+type Made = Result<u32, DiskFault>;
 
-// The depth of a new port, and how many growths it meets: one is the copy of the image; the slots are pushed one by one, so
+const NO_PORT: Made = Err(DiskFault::OutOfMemory);
+
+// How many growths a new port of each depth meets: one is the copy of the image; the slots are pushed one by one, so
 // that there is room for 4 of them, and for 8, 16 and 32 where there are more.
-static DEPTHS: [(u32, usize); 8] = [
-    (1, 2),
-    (4, 2),
-    (5, 3),
-    (8, 3),
-    (9, 4),
-    (16, 4),
-    (17, 5),
-    (32, 5),
+static DEPTHS: [Row<u32, Made>; 8] = [
+    Row(1, &[NO_PORT; 2], Ok(1), 0),
+    Row(4, &[NO_PORT; 2], Ok(4), 0),
+    Row(5, &[NO_PORT; 3], Ok(5), 0),
+    Row(8, &[NO_PORT; 3], Ok(8), 0),
+    Row(9, &[NO_PORT; 4], Ok(9), 0),
+    Row(16, &[NO_PORT; 4], Ok(16), 0),
+    Row(17, &[NO_PORT; 5], Ok(17), 0),
+    Row(32, &[NO_PORT; 5], Ok(32), 0),
 ];
 
-/// Why no port is made, or its depth.
-fn made(heap: &Heap, depth: u32, growth: usize) -> Result<Tried<Result<u32, DiskFault>>, Fail> {
+fn made(heap: &Heap, depth: u32, growth: usize) -> Result<Tried<Made>, Fail> {
     let image = image_of(heap)?;
     refuse_from(heap, growth);
     let port = Port::new(heap, image, depth);
@@ -45,25 +45,7 @@ fn made(heap: &Heap, depth: u32, growth: usize) -> Result<Tried<Result<u32, Disk
 
 #[test]
 fn a_port_is_made_or_leaves_nothing_behind(rt: HostRuntime) -> Result<(), Fail> {
-    for (depth, growths) in DEPTHS {
-        for growth in 0..=growths {
-            let heap = Refusing::new(rt.alloc());
-            let found = made(&heap, depth, growth)?;
-            let wanted = if growth < growths {
-                Tried {
-                    said: Err(DiskFault::OutOfMemory),
-                    asked: Asked::Refused(growth as u64),
-                    bytes: None,
-                    again: Some(Ok(depth)),
-                }
-            } else {
-                Tried::of(Ok(depth), Asked::Granted(growths as u64), 0)
-            };
-            equal(&rt, &depth, growth, &found, &wanted);
-            assert!(rt; heap.out() == 0);
-        }
-    }
-    Ok(())
+    tries_each(&rt, rt.alloc(), DEPTHS.as_slice(), made)
 }
 
 /// A call of a port that may want memory, on one that has flushed so often before.
@@ -87,6 +69,8 @@ enum Said {
     NotSent(PlainFault),
 }
 
+use Call::{Flush, Identify, Issue, IssueAsked};
+use Command::{LongWrite, Read, UrgentRead, Write};
 use Said::{Flushed, Issued, NotIssued, NotSent, Word};
 
 const NOT_ISSUED: Said = NotIssued(IssueFault::OutOfMemory);
@@ -96,102 +80,37 @@ const NOT_SENT: Said = NotSent(PlainFault::OutOfMemory);
 // A write has a copy of its bytes, which is the first growth, where they are not handed over. Room is for 129 entries beyond
 // those that stand: a new journal makes 129, one with an entry makes twice as many, and that is room enough for the next ones.
 static CALLS: [Row<Call, Said>; 16] = [
-    Row {
-        call: Call::Issue(Command::Read(0), 0),
-        refused: &[NOT_ISSUED],
-        answer: Issued(0),
-        bytes: ROOM * ENTRY,
-    },
-    Row {
-        call: Call::Issue(Command::Read(5), 1),
-        refused: &[NOT_ISSUED],
-        answer: Issued(1),
-        bytes: 2 * ROOM * ENTRY,
-    },
-    Row {
-        call: Call::Issue(Command::Read(31), 3),
-        refused: &[],
-        answer: Issued(3),
-        bytes: 0,
-    },
-    Row {
-        call: Call::Issue(Command::Write(0, 0x11), 0),
-        refused: &[NOT_ISSUED, NOT_ISSUED],
-        answer: Issued(0),
-        bytes: 512 + ROOM * ENTRY,
-    },
-    Row {
-        call: Call::Issue(Command::Write(31, 0x11), 2),
-        refused: &[NOT_ISSUED],
-        answer: Issued(2),
-        bytes: 512,
-    },
-    Row {
-        call: Call::Issue(Command::UrgentRead(2), 0),
-        refused: &[NOT_ISSUED],
-        answer: Issued(0),
-        bytes: ROOM * ENTRY,
-    },
-    Row {
-        call: Call::Issue(Command::LongWrite(31, 7), 0),
-        refused: &[NOT_ISSUED, NOT_ISSUED],
-        answer: Issued(0),
-        bytes: 131_072 + ROOM * ENTRY,
-    },
-    Row {
-        call: Call::IssueAsked(Command::Read(0), 0),
-        refused: &[NOT_ISSUED],
-        answer: Issued(0),
-        bytes: ROOM * ENTRY,
-    },
-    Row {
-        call: Call::IssueAsked(Command::Write(5, 0x11), 1),
-        refused: &[NOT_ISSUED],
-        answer: Issued(1),
-        bytes: 2 * ROOM * ENTRY,
-    },
-    Row {
-        call: Call::IssueAsked(Command::Write(31, 0x11), 2),
-        refused: &[],
-        answer: Issued(2),
-        bytes: 0,
-    },
-    Row {
-        call: Call::Identify(0),
-        refused: &[NOT_SENT],
-        answer: Word([31, 0]),
-        bytes: ROOM * ENTRY,
-    },
-    Row {
-        call: Call::Identify(1),
-        refused: &[NOT_SENT],
-        answer: Word([31, 0]),
-        bytes: 2 * ROOM * ENTRY,
-    },
-    Row {
-        call: Call::Identify(2),
-        refused: &[],
-        answer: Word([31, 0]),
-        bytes: 0,
-    },
-    Row {
-        call: Call::Flush(0),
-        refused: &[NOT_SENT],
-        answer: Flushed,
-        bytes: ROOM * ENTRY,
-    },
-    Row {
-        call: Call::Flush(1),
-        refused: &[NOT_SENT],
-        answer: Flushed,
-        bytes: 2 * ROOM * ENTRY,
-    },
-    Row {
-        call: Call::Flush(2),
-        refused: &[],
-        answer: Flushed,
-        bytes: 0,
-    },
+    Row(Issue(Read(0), 0), &[NOT_ISSUED], Issued(0), ROOM),
+    Row(Issue(Read(5), 1), &[NOT_ISSUED], Issued(1), 2 * ROOM),
+    Row(Issue(Read(31), 3), &[], Issued(3), 0),
+    Row(
+        Issue(Write(0, 0x11), 0),
+        &[NOT_ISSUED, NOT_ISSUED],
+        Issued(0),
+        512 + ROOM,
+    ),
+    Row(Issue(Write(31, 0x11), 2), &[NOT_ISSUED], Issued(2), 512),
+    Row(Issue(UrgentRead(2), 0), &[NOT_ISSUED], Issued(0), ROOM),
+    Row(
+        Issue(LongWrite(31, 7), 0),
+        &[NOT_ISSUED, NOT_ISSUED],
+        Issued(0),
+        131_072 + ROOM,
+    ),
+    Row(IssueAsked(Read(0), 0), &[NOT_ISSUED], Issued(0), ROOM),
+    Row(
+        IssueAsked(Write(5, 0x11), 1),
+        &[NOT_ISSUED],
+        Issued(1),
+        2 * ROOM,
+    ),
+    Row(IssueAsked(Write(31, 0x11), 2), &[], Issued(2), 0),
+    Row(Identify(0), &[NOT_SENT], Word([31, 0]), ROOM),
+    Row(Identify(1), &[NOT_SENT], Word([31, 0]), 2 * ROOM),
+    Row(Identify(2), &[], Word([31, 0]), 0),
+    Row(Flush(0), &[NOT_SENT], Flushed, ROOM),
+    Row(Flush(1), &[NOT_SENT], Flushed, 2 * ROOM),
+    Row(Flush(2), &[], Flushed, 0),
 ];
 
 /// Sends a command that is not queued.
@@ -336,15 +255,12 @@ fn tries(rt: &impl Abort, heap: &Heap, call: Call, growth: usize) -> Result<Trie
 
 #[test]
 fn a_port_refused_memory_is_as_it_was_and_goes_on_with_memory(rt: HostRuntime) -> Result<(), Fail> {
-    for row in &CALLS {
-        for growth in 0..=row.refused.len() {
-            let heap = Refusing::new(rt.alloc());
-            let found = tries(&rt, &heap, row.call, growth)?;
-            equal(&rt, &row.call, growth, &found, &row.wanted(growth));
-            assert!(rt; heap.out() == 0);
-        }
-    }
-    Ok(())
+    tries_each(
+        &rt,
+        rt.alloc(),
+        CALLS.as_slice(),
+        |heap, call, growth| tries(&rt, heap, call, growth),
+    )
 }
 
 /// A port of so many slots whose last tag has failed.
@@ -397,18 +313,15 @@ fn tries_to_recover(
 #[test]
 fn a_port_refused_memory_is_still_halted_at_each_depth(rt: HostRuntime) -> Result<(), Fail> {
     for depth in 1..=32u32 {
-        let row = Row {
-            call: depth,
-            refused: &[Err(RecoverFault::OutOfMemory)],
-            answer: Ok((depth - 1) as u8),
-            bytes: 2 * ROOM * ENTRY,
-        };
-        for growth in 0..=1 {
-            let heap = Refusing::new(rt.alloc());
-            let found = tries_to_recover(&rt, &heap, depth, growth)?;
-            equal(&rt, &depth, growth, &found, &row.wanted(growth));
-            assert!(rt; heap.out() == 0);
-        }
+        let rows = [Row(
+            depth,
+            &[Err(RecoverFault::OutOfMemory)],
+            Ok((depth - 1) as u8),
+            2 * ROOM,
+        )];
+        tries_each(&rt, rt.alloc(), &rows, |heap, depth, growth| {
+            tries_to_recover(&rt, heap, depth, growth)
+        })?;
     }
     Ok(())
 }

@@ -1,9 +1,9 @@
 //! A run is settled where memory is refused.
 ghost use Rattle.std.specs.Prelude.{◌≤◌};
 
-use crate::commands::port_of;
-use crate::heap::{Asked, Heap, Tried, equal, grant_all, growths_of, refuse_from};
-use crate::jobs::{Jobs, Way, crowd};
+use crate::tests::commands::port_of;
+use crate::tests::heap::{Asked, Heap, Tried, equal, grant_all, growths_of, refuse_from};
+use crate::tests::jobs::{Jobs, Way, crowd};
 use ahci_driver::{Open, RunEnd, SettleFault, run, settle, settle_plainly};
 use ncq_core::Op;
 use refusing_allocator::Refusing;

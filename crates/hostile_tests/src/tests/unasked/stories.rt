@@ -1,7 +1,7 @@
 //! Stories of a port, in which memory is there for commands that are issued and for recoveries alone.
 use super::unasked;
-use crate::heap::{Heap, grant_all, refuse_from};
-use crate::shown::look_at;
+use crate::tests::heap::{Heap, grant_all, refuse_from};
+use crate::tests::shown::look_at;
 use ahci_port::{
     CollectFault, IssueFault, Outcome, PlainFault, Port, RecoverFault, ReissueFault, Reply,
     StepFault, Stepped, TrimFault,

@@ -1,11 +1,12 @@
 //! The driver's calls that may want memory, in a seat's hands and under the lock.
 ghost use Rattle.std.specs.Prelude.{◌≡◌};
 
-use crate::commands::{Command, op_of, port_of, window_of};
-use crate::heap::{Heap, Row, Tried, equal, grant_all, growths_of, refuse_from};
-use crate::journal::ENTRY;
-use crate::ports::{are_same, halted};
-use crate::shown::look_at;
+use crate::tests::commands::Command::{LongWrite, Read, UrgentRead, Write};
+use crate::tests::commands::{Command, op_of, port_of, window_of};
+use crate::tests::heap::{Heap, Row, Tried, equal, grant_all, growths_of, refuse_from, tries_each};
+use crate::tests::journal::ROOM;
+use crate::tests::ports::{are_same, halted};
+use crate::tests::shown::look_at;
 use ahci_driver::{
     BoardFault, Driver, Low, PumpFault, Pumped, SubmitFault, TagBoard, TagSeat, pump_locked,
     submit_locked,
@@ -13,13 +14,9 @@ use ahci_driver::{
 use ahci_port::{IssueFault, Port};
 use ahci_table::BuildFault;
 use ncq_core::Op;
-use refusing_allocator::Refusing;
 use std::process::Abort;
 use std::sync::Wait;
 use std::test::Fail;
-
-/// How many entries' room an issue makes.
-const ROOM: u64 = 129;
 
 /// How many bytes the window of one sector has.
 const WINDOW: u64 = 0x1200;
@@ -45,37 +42,29 @@ fn made(heap: &Heap, depth: u32, growth: usize) -> Result<Tried<Result<u32, Boar
 
 // The board's word of 8 bytes is one growth; the table's row of slots is another, of no bytes, since the board has none.
 static BOARDS: [Row<u32, Result<u32, BoardFault>>; 3] = [
-    Row {
-        call: 1,
-        refused: &[Err(BoardFault::OutOfMemory), Err(BoardFault::OutOfMemory)],
-        answer: Ok(1),
-        bytes: 8,
-    },
-    Row {
-        call: 17,
-        refused: &[Err(BoardFault::OutOfMemory), Err(BoardFault::OutOfMemory)],
-        answer: Ok(0x1_FFFF),
-        bytes: 8,
-    },
-    Row {
-        call: 32,
-        refused: &[Err(BoardFault::OutOfMemory), Err(BoardFault::OutOfMemory)],
-        answer: Ok(u32::MAX),
-        bytes: 8,
-    },
+    Row(
+        1,
+        &[Err(BoardFault::OutOfMemory), Err(BoardFault::OutOfMemory)],
+        Ok(1),
+        8,
+    ),
+    Row(
+        17,
+        &[Err(BoardFault::OutOfMemory), Err(BoardFault::OutOfMemory)],
+        Ok(0x1_FFFF),
+        8,
+    ),
+    Row(
+        32,
+        &[Err(BoardFault::OutOfMemory), Err(BoardFault::OutOfMemory)],
+        Ok(u32::MAX),
+        8,
+    ),
 ];
 
 #[test]
 fn a_board_is_made_or_leaves_nothing_behind(rt: HostRuntime) -> Result<(), Fail> {
-    for row in &BOARDS {
-        for growth in 0..=row.refused.len() {
-            let heap = Refusing::new(rt.alloc());
-            let found = made(&heap, row.call, growth)?;
-            equal(&rt, &row.call, growth, &found, &row.wanted(growth));
-            assert!(rt; heap.out() == 0);
-        }
-    }
-    Ok(())
+    tries_each(&rt, rt.alloc(), BOARDS.as_slice(), made)
 }
 
 /// A ticket's tag and number, or why there is none.
@@ -88,30 +77,30 @@ const NOT_ISSUED: Submitted = Err(SubmitFault::Issue(IssueFault::OutOfMemory));
 // A read: the window, the buffer of its answer, and the room of its entries. A write: the window, the copy of its bytes in the
 // journal, and the room.
 static COMMANDS: [Row<Command, Submitted>; 4] = [
-    Row {
-        call: Command::Read(0),
-        refused: &[NO_WINDOW, NO_WINDOW, NOT_ISSUED],
-        answer: Ok((0, 0)),
-        bytes: WINDOW + 512 + ROOM * ENTRY,
-    },
-    Row {
-        call: Command::Write(0, 0x77),
-        refused: &[NO_WINDOW, NOT_ISSUED, NOT_ISSUED],
-        answer: Ok((0, 0)),
-        bytes: WINDOW + 512 + ROOM * ENTRY,
-    },
-    Row {
-        call: Command::LongWrite(0, 0x77),
-        refused: &[NO_WINDOW, NOT_ISSUED, NOT_ISSUED],
-        answer: Ok((0, 0)),
-        bytes: 0x1000 + 131_072 + 131_072 + ROOM * ENTRY,
-    },
-    Row {
-        call: Command::UrgentRead(0),
-        refused: &[NO_WINDOW, NO_WINDOW, NOT_ISSUED],
-        answer: Ok((0, 0)),
-        bytes: WINDOW + 512 + ROOM * ENTRY,
-    },
+    Row(
+        Read(0),
+        &[NO_WINDOW, NO_WINDOW, NOT_ISSUED],
+        Ok((0, 0)),
+        WINDOW + 512 + ROOM,
+    ),
+    Row(
+        Write(0, 0x77),
+        &[NO_WINDOW, NOT_ISSUED, NOT_ISSUED],
+        Ok((0, 0)),
+        WINDOW + 512 + ROOM,
+    ),
+    Row(
+        LongWrite(0, 0x77),
+        &[NO_WINDOW, NOT_ISSUED, NOT_ISSUED],
+        Ok((0, 0)),
+        0x1000 + 131_072 + 131_072 + ROOM,
+    ),
+    Row(
+        UrgentRead(0),
+        &[NO_WINDOW, NO_WINDOW, NOT_ISSUED],
+        Ok((0, 0)),
+        WINDOW + 512 + ROOM,
+    ),
 ];
 
 /// A driver of a port with four slots, with its one seat.
@@ -182,33 +171,25 @@ fn tries_to_submit<R: Wait + Abort>(
 
 #[test]
 fn a_seat_refused_memory_holds_what_it_held(rt: HostRuntime) -> Result<(), Fail> {
-    for row in &COMMANDS {
-        for growth in 0..=row.refused.len() {
-            let heap = Refusing::new(rt.alloc());
-            let found = tries_to_submit(&rt, &heap, row.call, growth)?;
-            equal(&rt, &row.call, growth, &found, &row.wanted(growth));
-            assert!(rt; heap.out() == 0);
-        }
-    }
-    Ok(())
+    tries_each(
+        &rt,
+        rt.alloc(),
+        COMMANDS.as_slice(),
+        |heap, call, growth| tries_to_submit(&rt, heap, call, growth),
+    )
 }
 
 const NOT_LOCKED: Result<(u8, u64), IssueFault> = Err(IssueFault::OutOfMemory);
 
 // Under the lock the window and the buffer are there.
 static LOCKED: [Row<Command, Result<(u8, u64), IssueFault>>; 2] = [
-    Row {
-        call: Command::UrgentRead(3),
-        refused: &[NOT_LOCKED],
-        answer: Ok((3, 0)),
-        bytes: ROOM * ENTRY,
-    },
-    Row {
-        call: Command::Write(3, 0x77),
-        refused: &[NOT_LOCKED, NOT_LOCKED],
-        answer: Ok((3, 0)),
-        bytes: 512 + ROOM * ENTRY,
-    },
+    Row(UrgentRead(3), &[NOT_LOCKED], Ok((3, 0)), ROOM),
+    Row(
+        Write(3, 0x77),
+        &[NOT_LOCKED, NOT_LOCKED],
+        Ok((3, 0)),
+        512 + ROOM,
+    ),
 ];
 
 /// Submits a window and a buffer under the lock while growths are refused, and then with memory. A refusal leaves the port
@@ -247,15 +228,12 @@ fn tries_to_submit_locked(
 
 #[test]
 fn under_the_lock_window_and_buffer_come_back(rt: HostRuntime) -> Result<(), Fail> {
-    for row in &LOCKED {
-        for growth in 0..=row.refused.len() {
-            let heap = Refusing::new(rt.alloc());
-            let found = tries_to_submit_locked(&rt, &heap, row.call, growth)?;
-            equal(&rt, &row.call, growth, &found, &row.wanted(growth));
-            assert!(rt; heap.out() == 0);
-        }
-    }
-    Ok(())
+    tries_each(
+        &rt,
+        rt.alloc(),
+        LOCKED.as_slice(),
+        |heap, call, growth| tries_to_submit_locked(&rt, heap, call, growth),
+    )
 }
 
 /// Pumps a halted port under the lock while growths are refused, and then with memory. A refusal leaves it halted, as it
@@ -306,20 +284,18 @@ fn tries_to_pump<R: Wait + Abort>(
 #[test]
 fn a_pump_refused_memory_leaves_the_port_halted(rt: HostRuntime) -> Result<(), Fail> {
     for depth in [1, 16, 32u32] {
-        let row = Row {
-            call: depth,
-            refused: &[Err(PumpFault::OutOfMemory)],
-            answer: Ok(Pumped::Recovered((depth - 1) as u8)),
-            bytes: 2 * ROOM * ENTRY,
-        };
-        for growth in 0..=1 {
-            let heap = Refusing::new(rt.alloc());
-            let found = tries_to_pump_locked(&rt, &heap, depth, growth)?;
-            equal(&rt, &depth, growth, &found, &row.wanted(growth));
-            let found = tries_to_pump(&rt, &heap, depth, growth)?;
-            equal(&rt, &depth, growth, &found, &row.wanted(growth));
-            assert!(rt; heap.out() == 0);
-        }
+        let rows = [Row(
+            depth,
+            &[Err(PumpFault::OutOfMemory)],
+            Ok(Pumped::Recovered((depth - 1) as u8)),
+            2 * ROOM,
+        )];
+        tries_each(&rt, rt.alloc(), &rows, |heap, depth, growth| {
+            tries_to_pump_locked(&rt, heap, depth, growth)
+        })?;
+        tries_each(&rt, rt.alloc(), &rows, |heap, depth, growth| {
+            tries_to_pump(&rt, heap, depth, growth)
+        })?;
     }
     Ok(())
 }

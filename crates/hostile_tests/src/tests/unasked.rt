@@ -5,7 +5,7 @@ mod drivers;
 mod moves;
 mod stories;
 
-use crate::heap::{Asked, Heap, equal, growths_of};
+use crate::tests::heap::{Asked, Heap, equal, growths_of};
 use std::fmt::Debug;
 use std::process::Abort;
 

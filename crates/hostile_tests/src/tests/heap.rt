@@ -3,6 +3,7 @@ use refusing_allocator::{Refusals, Refusing};
 use std::alloc::Global;
 use std::fmt::Debug;
 use std::process::Abort;
+use std::test::Fail;
 
 /// What the calls that are tried take their memory from.
 pub type Heap = Refusing<Global>;
@@ -55,31 +56,50 @@ impl<S> Tried<S> {
 /// A call, what it answers where its first, second, .. growth is refused, what it answers with memory, and how many bytes it
 /// asks for then. It meets as many growths as there are refusals.
 #[derive(Drop)]
-pub struct Row<C, S: 'static> {
-    pub call: C,
-    pub refused: &'static [S],
-    pub answer: S,
-    pub bytes: u64,
-}
+pub struct Row<C, S: 'static>(pub C, pub &'static [S], pub S, pub u64);
 
 impl<C, S: Copy + 'static> Row<C, S> {
     /// What is wanted where this growth and all that follow are refused.
-    pub fn wanted(&self, growth: usize) -> Tried<S> {
-        match self.refused.get(growth) {
+    fn wanted(&self, growth: usize) -> Tried<S> {
+        match self.1.get(growth) {
             Some(said) => Tried {
                 said: *said,
                 asked: Asked::Refused(growth as u64),
                 bytes: None,
-                again: Some(self.answer),
+                again: Some(self.2),
             },
             None => Tried {
-                said: self.answer,
+                said: self.2,
                 asked: Asked::Granted(growth as u64),
-                bytes: Some(self.bytes),
+                bytes: Some(self.3),
                 again: None,
             },
         }
     }
+}
+
+/// Tries the call of each row with each of its growths refused, and with none. All that a try took comes back.
+pub fn tries_each<C, S, F>(
+    rt: &impl Abort,
+    alloc: Global,
+    rows: &[Row<C, S>],
+    tries: F,
+) -> Result<(), Fail>
+where
+    C: Copy + Debug,
+    S: Copy + PartialEq + Debug + 'static,
+    F: Fn(&Heap, C, usize) -> Result<Tried<S>, Fail>,
+    requires { F.IsAlwaysCallable tries }
+{
+    for row in rows {
+        for growth in 0..=row.1.len() {
+            let heap = Refusing::new(alloc);
+            let found = tries(&heap, row.0, growth)?;
+            equal(rt, &row.0, growth, &found, &row.wanted(growth));
+            assert!(rt; heap.out() == 0);
+        }
+    }
+    Ok(())
 }
 
 /// Compares what was found where a growth of a call was refused.

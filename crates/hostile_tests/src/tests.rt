@@ -1,0 +1,12 @@
+mod building;
+mod commands;
+mod driver;
+mod heap;
+mod jobs;
+mod journal;
+mod ports;
+mod programs;
+mod runs;
+mod settling;
+mod shown;
+mod unasked;
