@@ -4,7 +4,7 @@ ghost use Rattle.std.specs.Prelude.{◌≤◌};
 use crate::tests::commands::port_of;
 use crate::tests::heap::{Asked, Heap, Tried, equal, grant_all, growths_of, refuse_from};
 use crate::tests::jobs::{Jobs, Way, crowd};
-use ahci_driver::{Open, RunEnd, SettleFault, run, settle, settle_plainly};
+use ahci_driver::{Open, RunEnd, SettleFault, run, settle};
 use ncq_core::Op;
 use refusing_allocator::Refusing;
 use std::alloc::Global;
@@ -40,24 +40,20 @@ fn run_of<'a, R: Threads + Wait + Sync>(
 }
 
 impl<'a> Ran<'a> {
-    /// Settles the run in one pass, or plainly, in memory of a heap.
-    fn settles(&self, heap: &Heap, is_plain: bool) -> Result<(), SettleFault> {
+    /// Settles the run in memory of a heap.
+    fn settles(&self, heap: &Heap) -> Result<(), SettleFault> {
         let (port, replies) = (&self.end.port, &self.end.replies);
-        if is_plain {
-            settle_plainly(heap, port, &self.jobs, replies, self.workers)
-        } else {
-            settle(heap, port, &self.jobs, replies, self.workers)
-        }
+        settle(heap, port, &self.jobs, replies, self.workers)
     }
 
     /// Settles while growths are refused, and then with memory.
-    fn tries(&self, heap: &Heap, is_plain: bool, growth: usize) -> Tried<Result<(), SettleFault>> {
+    fn tries(&self, heap: &Heap, growth: usize) -> Tried<Result<(), SettleFault>> {
         refuse_from(heap, growth);
-        let said = self.settles(heap, is_plain);
+        let said = self.settles(heap);
         let mut tried = Tried::of(said, growths_of(heap), 0);
         grant_all(heap);
         if said.is_err() {
-            tried.again = Some(self.settles(heap, is_plain));
+            tried.again = Some(self.settles(heap));
         }
         tried
     }
@@ -76,34 +72,28 @@ fn wanted(growths: usize, growth: usize) -> Tried<Result<(), SettleFault>> {
     }
 }
 
-/// Jobs, workers, how many growths the one pass meets, and how many the plain program.
-type Row = (Jobs, u32, usize, usize);
+/// Jobs, workers, and how many growths the settling meets.
+type Row = (Jobs, u32, usize);
 
-// One pass: the image, the requests, and, where there are entries, the claims, and which of them hold. Plainly: the bytes of each
-// finished read.
-static ROWS: [Row; 3] = [
-    (Jobs::None, 3, 2, 0),
-    (Jobs::Pair, 1, 4, 1),
-    (Jobs::Few, 4, 4, 6),
-];
+// The image, the requests, and, where there are entries, the claims, and which of them hold.
+static ROWS: [Row; 3] = [(Jobs::None, 3, 2), (Jobs::Pair, 1, 4), (Jobs::Few, 4, 4)];
 
 /// Settles a run with each growth refused in turn.
-fn settles_each(rt: &impl Abort, alloc: Global, ran: &Ran<'_>, is_plain: bool, growths: usize) {
+fn settles_each(rt: &impl Abort, alloc: Global, ran: &Ran<'_>, growths: usize) {
     for growth in 0..=growths {
         let heap = Refusing::new(alloc);
-        let found = ran.tries(&heap, is_plain, growth);
-        equal(rt, &is_plain, growth, &found, &wanted(growths, growth));
+        let found = ran.tries(&heap, growth);
+        equal(rt, &ran.workers, growth, &found, &wanted(growths, growth));
         assert!(rt; heap.out() == 0);
     }
 }
 
 #[test]
 fn a_run_is_settled_or_memory_is_wanted(rt: HostRuntime) -> Result<(), Fail> {
-    for (jobs, workers, in_one_pass, plainly) in ROWS {
+    for (jobs, workers, growths) in ROWS {
         let heap = Refusing::new(rt.alloc());
         let ran = run_of(&rt, &heap, jobs, workers)?;
-        settles_each(&rt, rt.alloc(), &ran, false, in_one_pass);
-        settles_each(&rt, rt.alloc(), &ran, true, plainly);
+        settles_each(&rt, rt.alloc(), &ran, growths);
     }
     Ok(())
 }
