@@ -1,7 +1,7 @@
 //! A run on a port that was trimmed.
 
-use crate::common::{Way, crowd};
-use crate::jobs::{Jobs, commands};
+use crate::tests::common::{Way, crowd};
+use crate::tests::jobs::{Jobs, commands};
 use ahci_driver::{Driver, Open, RunEnd, SettleFault, TagBoard, run, settle, settle_plainly};
 use ahci_port::Port;
 use ncq_core::Journal;

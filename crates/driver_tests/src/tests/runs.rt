@@ -1,8 +1,8 @@
 //! Whole runs, and what `settle` says of receipts that were changed afterwards.
 ghost use Rattle.std.specs.Prelude.{◌≡◌, ◌≤◌, vec_len, IfOk};
 
-use crate::common::{Way, byte_of, crowd};
-use crate::jobs::{Jobs, commands};
+use crate::tests::common::{Way, byte_of, crowd};
+use crate::tests::jobs::{Jobs, commands};
 use ahci_driver::{Open, Receipt, RunEnd, SettleFault, run, settle, settle_plainly};
 use ahci_port::{Outcome, Port, Reply};
 use ncq_core::{Bytes, Op};
