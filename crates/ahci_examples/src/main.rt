@@ -33,14 +33,34 @@ static SCRIPTS: [&str; 14] = [
     "unqueued_commands",
 ];
 
-/// The scripts whose whole trace is in `NAME.trace`.
-static TRACED: [&str; 2] = ["error_in_a_queue", "registers"];
+/// What makes a file of a whole script.
+#[derive(Clone, Copy)]
+enum Tool {
+    /// A trace, in `NAME.trace`.
+    Trace,
+    /// The same as JSON, in `NAME.json`.
+    Json,
+    /// A picture, in `NAME.svg`.
+    Draw,
+}
 
-/// The scripts whose trace as JSON is in `NAME.json`.
-static LISTED: [&str; 1] = ["error_in_a_queue"];
+impl Tool {
+    fn ending(self) -> &'static str {
+        match self {
+            Tool::Trace => "trace",
+            Tool::Json => "json",
+            Tool::Draw => "svg",
+        }
+    }
+}
 
-/// The scripts whose picture is in `NAME.svg`.
-static DRAWN: [&str; 1] = ["error_in_a_queue"];
+/// The scripts that have such a file.
+static MADE: [(&str, Tool); 4] = [
+    ("error_in_a_queue", Tool::Trace),
+    ("registers", Tool::Trace),
+    ("error_in_a_queue", Tool::Json),
+    ("error_in_a_queue", Tool::Draw),
+];
 
 /// Command lines that read nothing: what is written or told is in `NAME.out`, and the exit status. The program is called `ahci`
 /// whatever its own file is.
@@ -102,17 +122,10 @@ fn main(rt: HostRuntime) -> anyhow::Result<()> {
     for name in SCRIPTS {
         tell(&rt, name, is_script_as_expected(&rt, name)?)?;
     }
-    for name in TRACED {
-        let file = format!(in rt.alloc(); "{name}.trace")?;
-        tell(&rt, file.as_str(), is_trace_as_expected(&rt, name)?)?;
-    }
-    for name in LISTED {
-        let file = format!(in rt.alloc(); "{name}.json")?;
-        tell(&rt, file.as_str(), is_json_as_expected(&rt, name)?)?;
-    }
-    for name in DRAWN {
-        let file = format!(in rt.alloc(); "{name}.svg")?;
-        tell(&rt, file.as_str(), is_picture_as_expected(&rt, name)?)?;
+    for (name, tool) in MADE {
+        let ending = tool.ending();
+        let file = format!(in rt.alloc(); "{name}.{ending}")?;
+        tell(&rt, file.as_str(), is_made_as_expected(&rt, name, tool)?)?;
     }
     let lists = job_lists();
     for list in &lists[..] {
@@ -170,36 +183,19 @@ fn is_traced(rt: &HostRuntime, name: &str, script: &[u8]) -> anyhow::Result<bool
     is_told(rt, name, outcome, answers.as_slice())
 }
 
-/// Whether the whole trace is that of `NAME.trace`.
-fn is_trace_as_expected(rt: &HostRuntime, name: &str) -> anyhow::Result<bool> {
+/// Whether what the tool makes of the script is in its file.
+fn is_made_as_expected(rt: &HostRuntime, name: &str, tool: Tool) -> anyhow::Result<bool> {
     let alloc = rt.alloc();
+    let ending = tool.ending();
     let script = fs::read(rt, format!(in alloc; "{name}.ahci")?)?;
-    let expected = fs::read(rt, format!(in alloc; "{name}.trace")?)?;
+    let expected = fs::read(rt, format!(in alloc; "{name}.{ending}")?)?;
     let mut reader = script.as_slice();
     let mut written = Vec::new(alloc);
-    let outcome = trace(alloc, &mut reader, &mut written);
-    Ok(outcome.is_ok() && written.as_slice() == expected.as_slice())
-}
-
-/// Whether the trace as JSON is that of `NAME.json`.
-fn is_json_as_expected(rt: &HostRuntime, name: &str) -> anyhow::Result<bool> {
-    let alloc = rt.alloc();
-    let script = fs::read(rt, format!(in alloc; "{name}.ahci")?)?;
-    let expected = fs::read(rt, format!(in alloc; "{name}.json")?)?;
-    let mut reader = script.as_slice();
-    let mut written = Vec::new(alloc);
-    let outcome = trace_json(alloc, &mut reader, &mut written);
-    Ok(outcome.is_ok() && written.as_slice() == expected.as_slice())
-}
-
-/// Whether the picture is that of `NAME.svg`.
-fn is_picture_as_expected(rt: &HostRuntime, name: &str) -> anyhow::Result<bool> {
-    let alloc = rt.alloc();
-    let script = fs::read(rt, format!(in alloc; "{name}.ahci")?)?;
-    let expected = fs::read(rt, format!(in alloc; "{name}.svg")?)?;
-    let mut reader = script.as_slice();
-    let mut written = Vec::new(alloc);
-    let outcome = draw(alloc, 0, u64::MAX, &mut reader, &mut written);
+    let outcome = match tool {
+        Tool::Trace => trace(alloc, &mut reader, &mut written),
+        Tool::Json => trace_json(alloc, &mut reader, &mut written),
+        Tool::Draw => draw(alloc, 0, u64::MAX, &mut reader, &mut written),
+    };
     Ok(outcome.is_ok() && written.as_slice() == expected.as_slice())
 }
 

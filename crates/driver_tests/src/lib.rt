@@ -3,21 +3,4 @@
 #![tactic(auto)]
 
 #[cfg(test)]
-mod beginnings;
-#[cfg(test)]
-mod choosers;
-#[cfg(test)]
-mod common;
-#[cfg(test)]
-mod gates;
-#[cfg(test)]
-mod jobs;
-#[cfg(test)]
-mod one_seat;
-#[cfg(test)]
-mod reading;
-#[cfg(test)]
-mod runs;
-#[cfg(test)]
-#[cfg(test)]
-mod trimming;
+mod tests;

@@ -3,14 +3,4 @@
 #![tactic(auto)]
 
 #[cfg(test)]
-mod alone;
-#[cfg(test)]
-mod guest;
-#[cfg(test)]
-mod heap;
-#[cfg(test)]
-mod making;
-#[cfg(test)]
-mod refused;
-#[cfg(test)]
-mod seen;
+mod tests;

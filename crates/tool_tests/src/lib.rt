@@ -3,12 +3,4 @@
 #![tactic(auto)]
 
 #[cfg(test)]
-mod drawn;
-#[cfg(test)]
-mod failing;
-#[cfg(test)]
-mod lines;
-#[cfg(test)]
-mod scripts;
-#[cfg(test)]
-mod windows;
+mod tests;

@@ -1,7 +1,7 @@
 //! Runs that don't begin.
 ghost use Rattle.std.specs.Prelude.{◌≡◌, ◌≤◌, vec_len, IfOk};
 
-use crate::common::{Way, crowd};
+use crate::tests::common::{Way, crowd};
 use ahci_driver::{Open, RunFault, run};
 use ahci_port::Port;
 use ncq_core::Op;

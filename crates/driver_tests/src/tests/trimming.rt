@@ -1,8 +1,8 @@
 //! A run on a port that was trimmed.
 
-use crate::common::{Way, crowd};
-use crate::jobs::{Jobs, commands};
-use ahci_driver::{Driver, Open, RunEnd, SettleFault, TagBoard, run, settle, settle_plainly};
+use crate::tests::common::{Way, crowd};
+use crate::tests::jobs::{Jobs, commands};
+use ahci_driver::{Driver, Open, RunEnd, SettleFault, TagBoard, run, settle};
 use ahci_port::Port;
 use ncq_core::Journal;
 use std::alloc::Global;
@@ -52,7 +52,6 @@ fn a_run_goes_on_where_a_trimmed_one_has_ended(rt: HostRuntime) -> Result<(), Fa
     let jobs = commands(alloc, Jobs::Few)?;
     let wrong = Err(SettleFault::Wrong(0));
     assert!(rt; settle(alloc, &end.port, &jobs, &replies, 4) == wrong);
-    assert!(rt; settle_plainly(alloc, &end.port, &jobs, &replies, 4) == wrong);
-    assert!(rt; settle_plainly(alloc, &end.port, &jobs, &end.replies, 4).is_ok());
+    assert!(rt; settle(alloc, &end.port, &jobs, &end.replies, 4).is_ok());
     Ok(())
 }

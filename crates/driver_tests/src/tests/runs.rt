@@ -1,9 +1,9 @@
 //! Whole runs, and what `settle` says of receipts that were changed afterwards.
 ghost use Rattle.std.specs.Prelude.{◌≡◌, ◌≤◌, vec_len, IfOk};
 
-use crate::common::{Way, byte_of, crowd};
-use crate::jobs::{Jobs, commands};
-use ahci_driver::{Open, Receipt, RunEnd, SettleFault, run, settle, settle_plainly};
+use crate::tests::common::{Way, byte_of, crowd};
+use crate::tests::jobs::{Jobs, commands};
+use ahci_driver::{Open, Receipt, RunEnd, SettleFault, run, settle};
 use ahci_port::{Outcome, Port, Reply};
 use ncq_core::{Bytes, Op};
 use std::alloc::{AllocError, Global};
@@ -51,8 +51,6 @@ fn ran_of<R: Threads + Wait + Sync>(rt: &R, alloc: Global, setting: Setting) -> 
 #[derive(Clone, Copy, Debug)]
 enum Look {
     Settle,
-    /// The plain program takes a time that grows with the square of the journal.
-    SettleInOnePass,
     /// With no jobs and no receipts.
     SettleNothing,
     Receipts,
@@ -72,8 +70,6 @@ enum Look {
 enum Said {
     Settled,
     Not(SettleFault),
-    /// The two programs don't agree.
-    Differ,
     Receipts(usize),
     Reply(Option<Reply>),
     Byte(Option<u8>),
@@ -85,13 +81,6 @@ impl Ran {
     fn look(&mut self, alloc: Global, look: Look) -> Result<Said, AllocError> {
         Ok(match look {
             Look::Settle => self.settles(alloc, &self.jobs, &self.end.replies),
-            Look::SettleInOnePass => told(settle(
-                alloc,
-                &self.end.port,
-                &self.jobs,
-                &self.end.replies,
-                self.workers,
-            )),
             Look::SettleNothing => self.settles(alloc, &[], &[]),
             Look::Receipts => Said::Receipts(self.end.replies.len()),
             Look::Reply(index) => Said::Reply(self.end.replies.get(index).map(|it| it.reply)),
@@ -101,14 +90,9 @@ impl Ran {
         })
     }
 
-    /// What both programs say.
+    /// What settling says.
     fn settles(&self, alloc: Global, jobs: &[Op], receipts: &[Receipt]) -> Said {
-        let fast = settle(alloc, &self.end.port, jobs, receipts, self.workers);
-        if fast == settle_plainly(alloc, &self.end.port, jobs, receipts, self.workers) {
-            told(fast)
-        } else {
-            Said::Differ
-        }
+        told(settle(alloc, &self.end.port, jobs, receipts, self.workers))
     }
 
     fn edit(&mut self, alloc: Global, look: Look) -> Result<Said, AllocError> {
@@ -351,11 +335,11 @@ fn two_hundred_runs_by_chance_are_settled(rt: HostRuntime) -> Result<(), Fail> {
 static MIXED_UP: [(Look, Said); 7] = [
     (Look::Receipts, Said::Receipts(4_000)),
     (Look::Swap(5, 9), Said::Done),
-    (Look::SettleInOnePass, Said::Not(SettleFault::Wrong(5))),
+    (Look::Settle, Said::Not(SettleFault::Wrong(5))),
     (Look::Swap(5, 9), Said::Done),
-    (Look::SettleInOnePass, Said::Settled),
+    (Look::Settle, Said::Settled),
     (Look::Copy(5, 9), Said::Done),
-    (Look::SettleInOnePass, Said::Not(SettleFault::Wrong(9))),
+    (Look::Settle, Said::Not(SettleFault::Wrong(9))),
 ];
 
 #[test]

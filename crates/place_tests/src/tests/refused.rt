@@ -1,13 +1,14 @@
 //! The calls that may want memory: what they answer where it is refused, and that the port is as it was then; and those that
 //! take none, over an allocator that has none left.
-use crate::guest::{HEADER, list, window, windows};
-use crate::heap::{Heap, look_at, port_of, refuse_from};
+use crate::tests::guest::{HEADER, list, window, windows};
+use crate::tests::heap::{Heap, look_at, port_of, refuse_from};
 use ahci_port::{Pending, Port};
 use port_place::{
     FlatCommand, FlatReply, FlatStep, FlatWritten, Status, accept, collect, entry_bytes, fail,
     flush, identify, issue, recover, serve, submit, window_check, write_register,
 };
 use refusing_allocator::{Refusals, Refusing};
+use std::alloc::Global;
 use std::process::Abort;
 use std::test::Fail;
 
@@ -77,14 +78,7 @@ fn commands(port: &mut Port<&Heap>) -> Status {
 
 /// Looks at a window whose header is of zeros.
 fn checks(heap: &Heap) -> Status {
-    let mut command = FlatCommand {
-        lba: 0,
-        sectors: 0,
-        kind: 0,
-        tag: 0,
-        pieces: 0,
-    };
-    match window_check(heap, 0, &[0; 32], &[0; 64], &mut command) {
+    match window_check(heap, 0, &[0; 32], &[0; 64], &mut FlatCommand::default()) {
         Status::BadHeader => Status::Done,
         other => other,
     }
@@ -138,26 +132,10 @@ fn a_port_refused_memory_is_as_it_was_and_goes_on_with_memory(rt: HostRuntime) -
     Ok(())
 }
 
-/// An answer with nothing in it.
-fn no_reply() -> FlatReply {
-    FlatReply {
-        number: 0,
-        entry: 0,
-        lba: 0,
-        bytes: 0,
-        outcome: 0,
-        error: 0,
-    }
-}
-
 /// Accepts, serves and collects tag 1's write, which is request 0, and looks at its bytes.
 fn runs(port: &mut Port<&Heap>, out: &mut [u8; 512]) -> [Status; 5] {
-    let mut done = FlatStep {
-        first: 0,
-        count: 0,
-        did: 0,
-    };
-    let mut reply = no_reply();
+    let mut done = FlatStep::default();
+    let mut reply = FlatReply::default();
     [
         accept(port, 1, &mut done),
         serve(port, &[1], &mut done),
@@ -189,11 +167,7 @@ fn what_follows_an_issue_asks_for_no_memory(rt: HostRuntime) -> Result<(), Fail>
 
 /// A port whose tag 1 has failed, with three entries.
 fn halted<'a>(heap: &'a Heap, port: &mut Port<&'a Heap>) -> [Status; 3] {
-    let mut done = FlatStep {
-        first: 0,
-        count: 0,
-        did: 0,
-    };
+    let mut done = FlatStep::default();
     [
         submits(heap, port, 0),
         accept(port, 1, &mut done),
@@ -201,35 +175,36 @@ fn halted<'a>(heap: &'a Heap, port: &mut Port<&'a Heap>) -> [Status; 3] {
     ]
 }
 
-#[test]
-fn a_port_that_recovers_asks_for_room_first(rt: HostRuntime) -> Result<(), Fail> {
-    let heap = Refusing::new(rt.alloc());
+/// Recovers by the call, or by a driver's start of the port: the answer, and the tag that is told.
+fn recovers(port: &mut Port<&Heap>, is_driver: bool) -> (Status, u32) {
+    if is_driver {
+        return writes(port, true, 0x118, 0x11);
+    }
+    let mut tag = 9;
+    let answer = recover(port, &mut tag);
+    (answer, tag)
+}
+
+/// Recovers a failed port while all is refused, and then with memory.
+fn asks_for_room(rt: &impl Abort, alloc: Global, is_driver: bool) -> Result<(), Fail> {
+    let heap = Refusing::new(alloc);
     let mut port = port_of(&heap)?;
     assert_eq!(rt; halted(&heap, &mut port), [Status::Done; 3]);
     let before = look_at(&port);
     refuse_from(&heap, 0);
-    let mut tag = 9;
-    assert_eq!(rt; recover(&mut port, &mut tag), Status::OutOfMemory);
+    assert_eq!(rt; recovers(&mut port, is_driver), (Status::OutOfMemory, 9));
     assert!(rt; look_at(&port) == before);
     heap.refuse(Refusals::None);
-    assert_eq!(rt; recover(&mut port, &mut tag), Status::Done);
-    assert_eq!(rt; tag, 1);
+    assert_eq!(rt; recovers(&mut port, is_driver), (Status::Done, 1));
     Ok(())
 }
 
 #[test]
+fn a_port_that_recovers_asks_for_room_first(rt: HostRuntime) -> Result<(), Fail> {
+    asks_for_room(&rt, rt.alloc(), false)
+}
+
+#[test]
 fn a_driver_that_starts_a_failed_port_again_asks_for_room(rt: HostRuntime) -> Result<(), Fail> {
-    let heap = Refusing::new(rt.alloc());
-    let mut port = port_of(&heap)?;
-    assert_eq!(rt; halted(&heap, &mut port), [Status::Done; 3]);
-    let before = look_at(&port);
-    refuse_from(&heap, 0);
-    assert_eq!(rt;
-        writes(&mut port, true, 0x118, 0x11),
-        (Status::OutOfMemory, 9)
-    );
-    assert!(rt; look_at(&port) == before);
-    heap.refuse(Refusals::None);
-    assert_eq!(rt; writes(&mut port, true, 0x118, 0x11), (Status::Done, 1));
-    Ok(())
+    asks_for_room(&rt, rt.alloc(), true)
 }

@@ -1,5 +1,5 @@
 //! What can be seen of a port on which a write of sector 3 was issued by tag 1.
-use crate::heap::{Heap, SECTORS, look_at, port_of};
+use crate::tests::heap::{Heap, SECTORS, look_at, port_of};
 use ahci_port::Port;
 use port_place::{FlatEntry, Status, entry, entry_bytes, submit};
 use refusing_allocator::Refusing;

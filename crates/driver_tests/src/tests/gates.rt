@@ -1,8 +1,8 @@
 //! When a run calls its gate: one that makes a job wait for another worker's, and one that notes what the device has done.
 ghost use Rattle.std.specs.Prelude.{◌≤◌};
 
-use crate::common::{Way, crowd};
-use crate::jobs::{Jobs, commands};
+use crate::tests::common::{Way, crowd};
+use crate::tests::jobs::{Jobs, commands};
 use ahci_driver::{Chooser, Gate, Low, run};
 use ahci_port::{DeviceStep, Port};
 use std::alloc::Global;

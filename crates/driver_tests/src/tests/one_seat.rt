@@ -2,9 +2,11 @@
 //! submitted while the port is halted.
 ghost use Rattle.std.specs.Prelude.{◌≡◌};
 
-use crate::common::{Way, is_filled};
+use crate::tests::common::{Way, is_filled};
+use Call::{Collect, FreeNow, Pump, PumpAll, Stubborn, Submit};
 use ahci_driver::{Driver, Pumped, SubmitFault, TagBoard, TagSeat, Ticket};
-use ahci_port::{CollectFault, IssueFault, Outcome, Port, Reply, Stepped};
+use ahci_port::Stepped::{Accepted, Completed, Failed};
+use ahci_port::{CollectFault, IssueFault, Outcome, Port};
 use std::alloc::{AllocError, Global};
 use std::process::Abort;
 use std::sync::Wait;
@@ -41,8 +43,8 @@ enum Said {
     Ticket(u8, u64),
     Refused(SubmitFault),
     Pumped(Pumped),
-    /// The reply, how many bytes came, and the first of them.
-    Collected(Reply, usize, Option<u8>),
+    /// The reply's number, entry and outcome, how many bytes came, and the first of them.
+    Collected(u64, u64, Outcome, usize, Option<u8>),
     Waits(CollectFault),
     Free(u32),
     Nothing,
@@ -98,7 +100,7 @@ impl Story {
                 let first = bytes.first().copied();
                 let whole = is_filled(&bytes, 512, first.unwrap_or(0)) || bytes.is_empty();
                 let len = if whole { bytes.len() } else { 1 };
-                Said::Collected(reply, len, first)
+                Said::Collected(reply.number, reply.entry, reply.outcome, len, first)
             }
             Err((ticket, fault)) => {
                 self.ticket = Some(ticket);
@@ -109,53 +111,28 @@ impl Story {
 }
 
 static STORY: [(Call, Said); 13] = [
-    (Call::Submit(Job::Write(1, 0x77)), Said::Ticket(0, 0)),
-    (Call::Collect, Said::Waits(CollectFault::NotYet)),
+    (Submit(Job::Write(1, 0x77)), Said::Ticket(0, 0)),
+    (Collect, Said::Waits(CollectFault::NotYet)),
+    (Stubborn, Said::Pumped(Pumped::Stepped(Accepted(1)))),
     (
-        Call::Stubborn,
-        Said::Pumped(Pumped::Stepped(Stepped::Accepted(1))),
+        Stubborn,
+        Said::Pumped(Pumped::Stepped(Completed { first: 2, count: 1 })),
     ),
+    (Stubborn, Said::Pumped(Pumped::Idle)),
+    (Collect, Said::Collected(0, 2, Outcome::Wrote, 0, None)),
+    (FreeNow, Said::Free(3)),
+    (Submit(Job::Read(1)), Said::Ticket(0, 4)),
+    (Pump, Said::Pumped(Pumped::Stepped(Accepted(5)))),
     (
-        Call::Stubborn,
-        Said::Pumped(Pumped::Stepped(Stepped::Completed { first: 2, count: 1 })),
+        Pump,
+        Said::Pumped(Pumped::Stepped(Completed { first: 6, count: 1 })),
     ),
-    (Call::Stubborn, Said::Pumped(Pumped::Idle)),
+    (Pump, Said::Pumped(Pumped::Idle)),
     (
-        Call::Collect,
-        Said::Collected(
-            Reply {
-                number: 0,
-                entry: 2,
-                outcome: Outcome::Wrote,
-            },
-            0,
-            None,
-        ),
+        Collect,
+        Said::Collected(4, 6, Outcome::Read, 512, Some(0x77)),
     ),
-    (Call::FreeNow, Said::Free(3)),
-    (Call::Submit(Job::Read(1)), Said::Ticket(0, 4)),
-    (
-        Call::Pump,
-        Said::Pumped(Pumped::Stepped(Stepped::Accepted(5))),
-    ),
-    (
-        Call::Pump,
-        Said::Pumped(Pumped::Stepped(Stepped::Completed { first: 6, count: 1 })),
-    ),
-    (Call::Pump, Said::Pumped(Pumped::Idle)),
-    (
-        Call::Collect,
-        Said::Collected(
-            Reply {
-                number: 4,
-                entry: 6,
-                outcome: Outcome::Read,
-            },
-            512,
-            Some(0x77),
-        ),
-    ),
-    (Call::FreeNow, Said::Free(3)),
+    (FreeNow, Said::Free(3)),
 ];
 
 fn equal(rt: &impl Abort, call: Call, found: Said, wanted: Said) {
@@ -205,34 +182,20 @@ fn a_write_is_read_back_by_one_seat(rt: HostRuntime) -> Result<(), Fail> {
 }
 
 static TOGETHER: [(Call, Said); 8] = [
-    (Call::Submit(Job::Write(1, 0x77)), Said::Ticket(0, 0)),
-    (Call::Submit(Job::Read(1)), Said::Ticket(1, 1)),
+    (Submit(Job::Write(1, 0x77)), Said::Ticket(0, 0)),
+    (Submit(Job::Read(1)), Said::Ticket(1, 1)),
+    (PumpAll, Said::Pumped(Pumped::Stepped(Accepted(2)))),
+    (PumpAll, Said::Pumped(Pumped::Stepped(Accepted(3)))),
     (
-        Call::PumpAll,
-        Said::Pumped(Pumped::Stepped(Stepped::Accepted(2))),
+        PumpAll,
+        Said::Pumped(Pumped::Stepped(Completed { first: 4, count: 2 })),
     ),
+    (PumpAll, Said::Pumped(Pumped::Idle)),
     (
-        Call::PumpAll,
-        Said::Pumped(Pumped::Stepped(Stepped::Accepted(3))),
+        Collect,
+        Said::Collected(1, 5, Outcome::Read, 512, Some(0x77)),
     ),
-    (
-        Call::PumpAll,
-        Said::Pumped(Pumped::Stepped(Stepped::Completed { first: 4, count: 2 })),
-    ),
-    (Call::PumpAll, Said::Pumped(Pumped::Idle)),
-    (
-        Call::Collect,
-        Said::Collected(
-            Reply {
-                number: 1,
-                entry: 5,
-                outcome: Outcome::Read,
-            },
-            512,
-            Some(0x77),
-        ),
-    ),
-    (Call::FreeNow, Said::Free(2)),
+    (FreeNow, Said::Free(2)),
 ];
 
 #[test]
@@ -242,37 +205,29 @@ fn all_completes_two_commands_by_one_pump(rt: HostRuntime) -> Result<(), Fail> {
 }
 
 static HALTED: [(Call, Said); 8] = [
-    (Call::Submit(Job::Write(1, 0x77)), Said::Ticket(0, 0)),
+    (Submit(Job::Write(1, 0x77)), Said::Ticket(0, 0)),
+    (Pump, Said::Pumped(Pumped::Stepped(Accepted(1)))),
+    (Call::Fail, Said::Pumped(Pumped::Stepped(Failed(2)))),
     (
-        Call::Pump,
-        Said::Pumped(Pumped::Stepped(Stepped::Accepted(1))),
-    ),
-    (
-        Call::Fail,
-        Said::Pumped(Pumped::Stepped(Stepped::Failed(2))),
-    ),
-    (
-        Call::Submit(Job::Read(1)),
+        Submit(Job::Read(1)),
         Said::Refused(SubmitFault::Issue(IssueFault::Halted)),
     ),
-    (Call::FreeNow, Said::Free(2)),
-    (Call::Pump, Said::Pumped(Pumped::Recovered(0))),
+    (FreeNow, Said::Free(2)),
+    (Pump, Said::Pumped(Pumped::Recovered(0))),
     (
-        Call::Collect,
+        Collect,
         Said::Collected(
-            Reply {
-                number: 0,
-                entry: 2,
-                outcome: Outcome::Failed {
-                    error: 0x40,
-                    lba: 1,
-                },
+            0,
+            2,
+            Outcome::Failed {
+                error: 0x40,
+                lba: 1,
             },
             0,
             None,
         ),
     ),
-    (Call::FreeNow, Said::Free(3)),
+    (FreeNow, Said::Free(3)),
 ];
 
 #[test]

@@ -1,5 +1,5 @@
 //! The calls that need no port. Their values are those of the standards.
-use crate::guest::{HEADER, window};
+use crate::tests::guest::{HEADER, window};
 use port_place::{
     FlatCommand, FlatFis, Status, fis_decode, fis_encode, identify_page, log_page, status_text,
     window_check,
@@ -53,30 +53,6 @@ fn a_fit_window_asks_for_its_command(rt: HostRuntime) -> Result<(), Fail> {
     Ok(())
 }
 
-/// DMA Activate, a FIS without a field.
-const ACTIVATE: FlatFis = FlatFis {
-    lba: 0,
-    sactive: 0,
-    offset: 0,
-    transfer: 0,
-    features: 0,
-    count: 0,
-    bytes: 0,
-    payload: 0,
-    kind: 0x39,
-    c: 0,
-    a: 0,
-    i: 0,
-    d: 0,
-    status: 0,
-    error: 0,
-    device: 0,
-    command: 0,
-    control: 0,
-    e_status: 0,
-    tag: 0,
-};
-
 #[test]
 fn the_bytes_of_a_set_device_bits_fis_are_read_and_written(rt: HostRuntime) -> Result<(), Fail> {
     let bytes = [0xA1, 0x40, 0x41, 0x40, 0x08, 0, 0, 0x80];
@@ -86,9 +62,13 @@ fn the_bytes_of_a_set_device_bits_fis_are_read_and_written(rt: HostRuntime) -> R
         status: 0x41,
         error: 0x40,
         sactive: 0x8000_0008,
-        ..ACTIVATE
+        ..FlatFis::default()
     };
-    let mut fis = ACTIVATE;
+    // DMA Activate, a FIS without a field
+    let mut fis = FlatFis {
+        kind: 0x39,
+        ..FlatFis::default()
+    };
     assert_eq!(rt; (fis_decode(&bytes, &mut fis), fis), (Status::Done, wanted));
     let mut out = [0xEE; 8];
     let mut len = 0;

@@ -1,5 +1,5 @@
 //! Ports are made, or leave nothing behind where a request for memory is refused.
-use crate::heap::{DEPTH, Heap, refuse_from};
+use crate::tests::heap::{DEPTH, Heap, refuse_from};
 use port_place::{Status, make, make_zeros};
 use refusing_allocator::Refusing;
 use std::test::Fail;

@@ -1,7 +1,9 @@
 //! Whole scripts: the text that a check writes of them, and how it ends.
 use ahci_check::{CheckFault, Form, check, check_jobs};
+use std::alloc::Global;
 use std::io;
 use std::io::Read;
+use std::process::Abort;
 use std::test::Fail;
 
 /// A script, the text of its complaints, and whether there was any.
@@ -72,12 +74,16 @@ static JOBS: [Script; 4] = [
     ),
 ];
 
-#[test]
-fn each_script_has_the_objects_beside_it(rt: HostRuntime) {
-    for (script, expected, any) in &OBJECTS {
-        let mut written = Vec::new(rt.alloc());
+/// Compares what a check of each script, or of each job list, writes with the text beside it.
+fn tells(rt: &impl Abort, alloc: Global, rows: &[Script], form: Form, is_jobs: bool) {
+    for (script, expected, any) in rows {
+        let mut written = Vec::new(alloc);
         let mut reader = script.as_bytes();
-        let ended = check(rt.alloc(), Form::Json, &mut reader, &mut written);
+        let ended = if is_jobs {
+            check_jobs(alloc, form, &mut reader, &mut written)
+        } else {
+            check(alloc, form, &mut reader, &mut written)
+        };
         assert!(rt;
             ended == Ok(*any) && written.as_slice() == expected.as_bytes(),
             "{script}: {ended:?}"
@@ -86,16 +92,13 @@ fn each_script_has_the_objects_beside_it(rt: HostRuntime) {
 }
 
 #[test]
+fn each_script_has_the_objects_beside_it(rt: HostRuntime) {
+    tells(&rt, rt.alloc(), OBJECTS.as_slice(), Form::Json, false);
+}
+
+#[test]
 fn each_job_list_has_the_complaints_beside_it(rt: HostRuntime) {
-    for (jobs, expected, any) in &JOBS {
-        let mut written = Vec::new(rt.alloc());
-        let mut reader = jobs.as_bytes();
-        let ended = check_jobs(rt.alloc(), Form::Text, &mut reader, &mut written);
-        assert!(rt;
-            ended == Ok(*any) && written.as_slice() == expected.as_bytes(),
-            "{jobs}: {ended:?}"
-        );
-    }
+    tells(&rt, rt.alloc(), JOBS.as_slice(), Form::Text, true);
 }
 
 /// A reader that gives lines which are no command, a thousand at a time, for as long as it is asked.
@@ -124,15 +127,7 @@ fn a_complaint_does_not_wait_for_the_end_of_the_input(rt: HostRuntime) {
 
 #[test]
 fn each_script_has_the_complaints_beside_it(rt: HostRuntime) {
-    for (script, expected, any) in &SCRIPTS {
-        let mut written = Vec::new(rt.alloc());
-        let mut reader = script.as_bytes();
-        let ended = check(rt.alloc(), Form::Text, &mut reader, &mut written);
-        assert!(rt;
-            ended == Ok(*any) && written.as_slice() == expected.as_bytes(),
-            "{script}: {ended:?}"
-        );
-    }
+    tells(&rt, rt.alloc(), SCRIPTS.as_slice(), Form::Text, false);
 }
 
 /// A comment of 4,097 bytes after a line that is no command.

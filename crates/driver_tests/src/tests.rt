@@ -1,0 +1,9 @@
+mod beginnings;
+mod choosers;
+mod common;
+mod gates;
+mod jobs;
+mod one_seat;
+mod reading;
+mod runs;
+mod trimming;

@@ -1,0 +1,6 @@
+mod alone;
+mod guest;
+mod heap;
+mod making;
+mod refused;
+mod seen;

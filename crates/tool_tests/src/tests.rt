@@ -1,0 +1,5 @@
+mod drawn;
+mod failing;
+mod lines;
+mod scripts;
+mod windows;
