@@ -4,7 +4,7 @@ use Rattle.std.specs.Fmt.{decimal}
 use Rattle.std.specs.List.{All}
 use Rattle.ahci_script.specs.Answers.{hex_of, numbers_text}
 use Rattle.ahci_script.specs.Breaches.{◌>>=◌, seen_in}
-use Rattle.ahci_script.specs.Lines.{AreTags, accept_of, ack_of, collect_of, command_of, disk_of, fail_of, identify_of, named, named_more, number_if_any, raw_of}
+use Rattle.ahci_script.specs.Lines.{AreTags, accept_of, ack_of, collect_of, command_of, disk_of, fail_of, identify_of, named, named_device, named_disk, number_if_any, raw_of}
 use Rattle.ahci_script.specs.Lines.{read_of, reading, reg_of, reissue_of, serve_of, show_of, write_of}
 use Rattle.ahci_script.specs.Number.{sectors_limit}
 use Rattle.ahci_script.specs.Printing.{IsReadBack, before, hex_bytes}
@@ -12,8 +12,8 @@ use Rattle.ahci_script.specs.Words.{Rest, ends, first_at, word_of}
 use Rattle.ahci_script.specs.declared.breach.Breach.{Breach}
 use Rattle.ahci_script.specs.declared.fault.Fault.{Fault}
 use Rattle.ahci_script.specs.declared.line.ScriptCommand.{ScriptCommand}
-use Rattle.ahci_script.specs.declared.line.ScriptCommand.TheVariants.{Disk, Write, Read, Raw, Accept, Serve, Fail, Collect, Recover, Reissue, Reg, Ack, Identify, Flush}
-use Rattle.ahci_script.specs.declared.line.ScriptCommand.TheVariants.{Show, Journal, Trim}
+use Rattle.ahci_script.specs.declared.line.ScriptCommand.TheVariants.{Disk, Write, Read, Raw, Accept, Serve, Fail, Collect, Reissue, Reg, Ack, Identify}
+use Rattle.ahci_script.specs.declared.line.ScriptCommand.TheVariants.{Show}
 use Rattle.ahci_script.specs.declared.line.Line.TheVariants as line
 use Rattle.ahci_script.proofs.PrintingLemmas.{Spells, byte-spelled, bytes-spelled, cut-before, header-spelled, is_word, number-spelled, page_word-spelled}
 use Rattle.ahci_script.proofs.PrintingLemmas.{register-spelled, sectors-spelled, tag-spelled, word-before, word-last}
@@ -91,7 +91,7 @@ serve-back : (t : ℕ) (ts : List ℕ) → AreTags (t ∷ ts) → serve_of (Some
 serve-back t ts are = ap (λ r. r >>= λ tags. Ok (Serve (record { items = tags }))) (tags-back t ts are)
 
 serve-line : (tags : List ℕ) → AreTags tags → reading (codes "serve" ++ numbers_text tags) ≡ Ok (line.Run (Serve (record { items = tags })))
-unfolding named named_more
+unfolding named named_disk named_device
 serve-line [] are = absurd (omega (arith, are.some))
 serve-line (t ∷ ts) are = by_name (codes "serve") (decimal t ++ numbers_text ts) (Serve (record { items = t ∷ ts })) refl refl (serve-back t ts are)
 
@@ -111,7 +111,7 @@ show-back : (lba : ℕ) → lba < 2 ^ 64 → show_of (Some (decimal lba)) ≡ Ok
 show-back lba h = last _ _ (number-spelled lba h) refl
 
 pub read_back : IsReadBack
-unfolding named named_more
+unfolding named named_disk named_device
 read_back (Disk sectors depth None) h =
     by_name (codes "disk") (before (decimal sectors) (decimal depth)) (Disk sectors depth None) refl refl (disk-back sectors depth h.0 h.1)
 read_back (Disk sectors depth (Some first)) h =

@@ -141,19 +141,26 @@ abbrev pub unnamed : List ℕ → List ℕ → Breach
 unnamed line [] = breach_at line SpareSpace
 unnamed line (b ∷ bs) = breach_at line UnknownCommand
 
--- a command by its name, the first word of its line: those of the disk, of the device, and of what there is to see
-unfoldable pub named_more : List ℕ → List ℕ → Rest → Command
-named_more line name words =
-    if bytes_eq name (codes "disk") then disk_of words
-    else if bytes_eq name (codes "accept") then accept_of words
+-- a command by its name, the first word of its line: those of the device, and of the registers
+unfoldable pub named_device : List ℕ → List ℕ → Rest → Command
+named_device line name words =
+    if bytes_eq name (codes "accept") then accept_of words
     else if bytes_eq name (codes "serve") then serve_of words
     else if bytes_eq name (codes "fail") then fail_of words
     else if bytes_eq name (codes "reg") then reg_of words
     else if bytes_eq name (codes "ack") then ack_of words
+    else Err (unnamed line name)
+
+-- and, before them, those of the disk and the journal
+unfoldable pub named_disk : List ℕ → List ℕ → Rest → Command
+named_disk line name words =
+    if bytes_eq name (codes "disk") then disk_of words
+    else if bytes_eq name (codes "identify") then identify_of words
+    else if bytes_eq name (codes "flush") then alone Flush words
     else if bytes_eq name (codes "show") then show_of words
     else if bytes_eq name (codes "journal") then alone Journal words
     else if bytes_eq name (codes "trim") then alone Trim words
-    else Err (unnamed line name)
+    else named_device line name words
 
 -- and, before them, those of requests
 unfoldable pub named : List ℕ → List ℕ → Rest → Command
@@ -164,9 +171,7 @@ named line name words =
     else if bytes_eq name (codes "collect") then collect_of words
     else if bytes_eq name (codes "recover") then alone Recover words
     else if bytes_eq name (codes "reissue") then reissue_of words
-    else if bytes_eq name (codes "identify") then identify_of words
-    else if bytes_eq name (codes "flush") then alone Flush words
-    else named_more line name words
+    else named_disk line name words
 
 -- a command, which is a name and its words
 abbrev pub command_of : List ℕ → Command

@@ -2,7 +2,7 @@
 
 ghost use Rattle.std.specs.Prelude.{◌≡◌, IfOk};
 ghost use Rattle.ahci_script.specs.Breaches.{comment_of};
-ghost use Rattle.ahci_script.specs.Lines.{HasSmallTag, HasSmallTags, accept_of, ack_of, alone, collect_of, command_of, disk_of, fail_of, identify_of, named, named_more, raw_of, read_of, reading, reg_of, reissue_of, serve_of, show_of, unnamed, write_of};
+ghost use Rattle.ahci_script.specs.Lines.{HasSmallTag, HasSmallTags, accept_of, ack_of, alone, collect_of, command_of, disk_of, fail_of, identify_of, named, named_device, named_disk, raw_of, read_of, reading, reg_of, reissue_of, serve_of, show_of, unnamed, write_of};
 
 use crate::breach::{Breach, high_byte};
 use crate::fault::Fault;
@@ -67,24 +67,41 @@ fn named<'a>(line: &[u8], name: &[u8], words: Words<'a>) -> Result<ScriptCommand
         alone(words, ScriptCommand::Recover)
     } else if name == b"reissue".as_slice() {
         reissue(words)
-    } else if name == b"identify".as_slice() {
-        identify(words)
-    } else if name == b"flush".as_slice() {
-        alone(words, ScriptCommand::Flush)
     } else {
-        named_more(line, name, words)
+        named_disk(line, name, words)
     }
 }
 
-/// The commands of the disk, of the device, and of what there is to see.
-#[tactic(auto, unfolding(crate::specs::Lines::named_more))]
-fn named_more<'a>(line: &[u8], name: &[u8], words: Words<'a>) -> Result<ScriptCommand<'a>, Breach>
-    ensures command { result ≡ named_more line.now name.now words.entry }
+/// The commands of the disk and the journal, and those after them.
+#[tactic(auto, unfolding(crate::specs::Lines::named_disk))]
+fn named_disk<'a>(line: &[u8], name: &[u8], words: Words<'a>) -> Result<ScriptCommand<'a>, Breach>
+    ensures command { result ≡ named_disk line.now name.now words.entry }
     ensures tag { IfOk result (λ command. HasSmallTag command) }
 {
     if name == b"disk".as_slice() {
         disk(words)
-    } else if name == b"accept".as_slice() {
+    } else if name == b"identify".as_slice() {
+        identify(words)
+    } else if name == b"flush".as_slice() {
+        alone(words, ScriptCommand::Flush)
+    } else if name == b"show".as_slice() {
+        show(words)
+    } else if name == b"journal".as_slice() {
+        alone(words, ScriptCommand::Journal)
+    } else if name == b"trim".as_slice() {
+        alone(words, ScriptCommand::Trim)
+    } else {
+        named_device(line, name, words)
+    }
+}
+
+/// The commands of the device and of the registers.
+#[tactic(auto, unfolding(crate::specs::Lines::named_device))]
+fn named_device<'a>(line: &[u8], name: &[u8], words: Words<'a>) -> Result<ScriptCommand<'a>, Breach>
+    ensures command { result ≡ named_device line.now name.now words.entry }
+    ensures tag { IfOk result (λ command. HasSmallTag command) }
+{
+    if name == b"accept".as_slice() {
         accept(words)
     } else if name == b"serve".as_slice() {
         serve(words)
@@ -94,12 +111,6 @@ fn named_more<'a>(line: &[u8], name: &[u8], words: Words<'a>) -> Result<ScriptCo
         reg(words)
     } else if name == b"ack".as_slice() {
         ack(words)
-    } else if name == b"show".as_slice() {
-        show(words)
-    } else if name == b"journal".as_slice() {
-        alone(words, ScriptCommand::Journal)
-    } else if name == b"trim".as_slice() {
-        alone(words, ScriptCommand::Trim)
     } else {
         Err(unnamed(line, name))
     }
