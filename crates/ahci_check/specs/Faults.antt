@@ -2,8 +2,8 @@
 use Rattle.std.specs.Prelude.{◌≡◌, Bool, true, false, ⊤}
 use Rattle.streams.specs.Ends.{ReadSoFar, WrittenSoFar, with_failed_write, with_flush}
 use Rattle.streams.specs.Unread.{FailsReading}
+use Rattle.streams.specs.Reading.{fault_or}
 use Rattle.streams.specs.declared.stopped.Stopped.{Stopped}
-use Rattle.streams.specs.declared.stopped.Stopped.TheVariants as stopped
 use Rattle.ahci_check.specs.declared.check_fault.CheckFault.{CheckFault}
 use Rattle.ahci_check.specs.declared.check_fault.CheckFault.TheVariants as fault
 
@@ -14,9 +14,7 @@ is_of_output _ = false
 
 -- the fault where the reading stopped
 abbrev pub fault_of : Stopped CheckFault → CheckFault
-fault_of stopped.Read = fault.Read
-fault_of (stopped.Taker f) = f
-fault_of stopped.OutOfMemory = fault.OutOfMemory
+fault_of stopped = fault_or fault.Read fault.OutOfMemory stopped
 
 -- how the writes went then: one failed, and the fault is that; or none did, and after a failed read what was written is flushed
 abbrev pub WritesTo : WrittenSoFar → WrittenSoFar → CheckFault → Type 0

@@ -1,9 +1,7 @@
 ghost use Rattle.std.specs.Prelude.{◌≡◌};
 ghost use Rattle.ahci_check.specs.declared.check_fault.CheckFault.TheVariants as the-fault;
-ghost use Rattle.ahci_check.specs.Faults.{fault_of};
 
 use std::alloc::AllocError;
-use streams::{OutputFailed, Stopped};
 
 /// Why a script was not judged to its end.
 #[derive(Clone, Copy, Debug, PartialEq, Eq)]
@@ -25,26 +23,6 @@ impl CheckFault {
         ensures { result ≡ is_of_output self }
     {
         matches!(self, CheckFault::Write)
-    }
-}
-
-impl From<Stopped<CheckFault>> for CheckFault {
-    ghost from_gives = { λ stopped fault. fault ≡ fault_of stopped };
-
-    fn from(stopped: Stopped<CheckFault>) -> CheckFault {
-        match stopped {
-            Stopped::Read => CheckFault::Read,
-            Stopped::Taker(fault) => fault,
-            Stopped::OutOfMemory => CheckFault::OutOfMemory,
-        }
-    }
-}
-
-impl From<OutputFailed> for CheckFault {
-    ghost from_gives = { λ _ fault. fault ≡ the-fault.Write };
-
-    fn from(_failed: OutputFailed) -> CheckFault {
-        CheckFault::Write
     }
 }
 

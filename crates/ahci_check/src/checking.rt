@@ -92,9 +92,12 @@ fn fill_sheet<R: Read, W: Write, A: Allocator + Clone>(
     ensures reads { IfErr result (ReadsTo reads.old reads.new) }
 {
     match take_lines(alloc, reader, reads, sheet, writer) {
-        Ok(()) => Ok(sheet.send(writer)?),
+        Ok(()) => {
+            sheet.send(writer)?;
+            Ok(())
+        }
         Err(stopped) => {
-            let fault = CheckFault::from(stopped);
+            let fault = stopped.fault_or(CheckFault::Read, CheckFault::OutOfMemory);
             if fault.is_of_output() {
                 return Err(fault);
             }

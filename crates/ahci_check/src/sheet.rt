@@ -11,7 +11,7 @@ use ahci_script::{Fault, Output};
 use std::alloc::{AllocError, Allocator};
 use std::io::Write;
 use std::marker::Model;
-use streams::{Found, LINE_LIMIT, OutputFailed, TakesLines, Writes};
+use streams::{Found, LINE_LIMIT, TakesLines, Writes};
 
 /// The complaints about the lines so far: those that wait for the output, how the writes went, and how the next line is judged.
 #[derive(Drop)]
@@ -89,7 +89,8 @@ impl<A: Allocator + Clone> Sheet<A> {
         if !has_to_be_sent && !self.is_full() {
             return Ok(());
         }
-        Ok(self.send(writer)?)
+        self.send(writer)?;
+        Ok(())
     }
 
     /// Whether enough text waits to be written.
@@ -100,17 +101,21 @@ impl<A: Allocator + Clone> Sheet<A> {
     }
 
     /// Writes what waits, and flushes. After a failure some first part of it was written.
-    pub(crate) fn send<W: Write>(&mut self, writer: &mut W) -> Result<(), OutputFailed>
+    pub(crate) fn send<W: Write>(&mut self, writer: &mut W) -> Result<(), CheckFault>
         ensures written { OnOk result (Appends (W.contents writer.old) (W.contents writer.new) self.old.waiting) }
         ensures part { OnErr result (WritesPart (W.contents writer.old) (W.contents writer.new) self.old.waiting) }
         ensures sent { OnOk result (self.new.waiting ≡ []) }
         ensures flushed { OnOk result (self.new.writes ≡ with_flush self.old.writes) }
+        ensures fault { IfErr result (λ fault. fault ≡ CheckFault.Write) }
         ensures failed { OnErr result (self.new.writes ≡ with_failed_write self.old.writes) }
         ensures form { self.new.form ≡ self.old.form }
         ensures judge { self.new.judge ≡ self.old.judge }
         ensures found { self.new.found ≡ self.old.found }
     {
-        self.text.send(writer, &mut self.writes)
+        match self.text.send(writer, &mut self.writes) {
+            Ok(()) => Ok(()),
+            Err(_) => Err(CheckFault::Write),
+        }
     }
 
     /// Puts a complaint down, where there is one, and how the next line is judged.

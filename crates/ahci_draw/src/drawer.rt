@@ -1,3 +1,7 @@
+ghost use Rattle.std.specs.Prelude.{◌≡◌};
+ghost use Rattle.ahci_draw.specs.Mark.{mark_of};
+ghost use Rattle.ahci_draw.specs.Sheet.{sheet_text};
+
 use crate::mark::Mark;
 use crate::text::Text;
 use ahci_port::Port;
@@ -37,10 +41,6 @@ impl<A: Allocator + Copy> Drawer<A> {
 }
 
 impl<A: Allocator + Copy> Teller<A> for Drawer<A> {
-    ghost use Rattle.std.specs.Prelude.{◌≡◌};
-    ghost use Rattle.ahci_draw.specs.Mark.{mark_of};
-    ghost use Rattle.ahci_draw.specs.Sheet.{sheet_text};
-
     type Before = Mark;
 
     ghost telling = { sheet_text };

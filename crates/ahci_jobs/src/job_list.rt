@@ -64,6 +64,8 @@ pub(crate) fn listed<R: Read, A: Allocator + Clone>(
     ensures reads { IfErr result (RunReads reads.old reads.new) }
 {
     let mut list = JobList::new(alloc.clone()?)?;
-    take_lines(alloc, reader, reads, &mut list, &mut ())?;
-    Ok(list.jobs)
+    match take_lines(alloc, reader, reads, &mut list, &mut ()) {
+        Ok(()) => Ok(list.jobs),
+        Err(stopped) => Err(stopped.fault_or(JobsFault::Read, JobsFault::OutOfMemory)),
+    }
 }

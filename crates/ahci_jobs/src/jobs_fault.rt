@@ -1,9 +1,7 @@
 ghost use Rattle.std.specs.Prelude.{◌≡◌};
-ghost use Rattle.ahci_jobs.specs.Faults.{list_fault_of};
 ghost use Rattle.ahci_jobs.specs.declared.jobs_fault.JobsFault.TheVariants as the-fault;
 
 use std::alloc::AllocError;
-use streams::{OutputFailed, Stopped};
 
 /// Why a job list is not done to its end.
 #[derive(Clone, Copy, Debug, PartialEq, Eq)]
@@ -22,26 +20,6 @@ pub enum JobsFault {
     Lost(u64),
     /// The system gave no memory.
     OutOfMemory,
-}
-
-impl From<Stopped<JobsFault>> for JobsFault {
-    ghost from_gives = { λ stopped fault. fault ≡ list_fault_of stopped };
-
-    fn from(stopped: Stopped<JobsFault>) -> JobsFault {
-        match stopped {
-            Stopped::Read => JobsFault::Read,
-            Stopped::Taker(fault) => fault,
-            Stopped::OutOfMemory => JobsFault::OutOfMemory,
-        }
-    }
-}
-
-impl From<OutputFailed> for JobsFault {
-    ghost from_gives = { λ _ fault. fault ≡ the-fault.Write };
-
-    fn from(_failed: OutputFailed) -> JobsFault {
-        JobsFault::Write
-    }
 }
 
 impl From<AllocError> for JobsFault {

@@ -154,7 +154,10 @@ where
     match done(rt, alloc.clone()?, size, chooser, &jobs) {
         Ok(end) => {
             let text = text_of(alloc, form, size.workers(), &end)?;
-            Ok(writes.write_whole(writer, &text)?)
+            match writes.write_whole(writer, &text) {
+                Ok(()) => Ok(()),
+                Err(_) => Err(JobsFault::Write),
+            }
         }
         Err(fault) => Err(given_up(fault)),
     }

@@ -1,7 +1,7 @@
 -- Why a script ends before its last line.
 use Rattle.std.specs.Prelude.{Bool, true, false}
+use Rattle.streams.specs.Reading.{fault_or}
 use Rattle.streams.specs.declared.stopped.Stopped.{Stopped}
-use Rattle.streams.specs.declared.stopped.Stopped.TheVariants as stopped
 use Rattle.ahci_replay.specs.declared.script_fault.ScriptFault.{ScriptFault}
 use Rattle.ahci_replay.specs.declared.script_fault.ScriptFault.TheVariants as fault
 
@@ -12,6 +12,4 @@ is_of_output _ = false
 
 -- the fault where the reading stopped
 abbrev pub fault_of : Stopped ScriptFault → ScriptFault
-fault_of stopped.Read = fault.Read
-fault_of (stopped.Taker f) = f
-fault_of stopped.OutOfMemory = fault.OutOfMemory
+fault_of stopped = fault_or fault.Read fault.OutOfMemory stopped

@@ -64,7 +64,7 @@ fn replay_script<'t, T: Teller<A>, R: Read, W: Write, A: Allocator + Copy>(
     match take_lines(alloc, reader, reads, script, writer) {
         Ok(()) => Ok(script.output.send(writer, &mut script.writes)?),
         Err(stopped) => {
-            let fault = ScriptFault::from(stopped);
+            let fault = stopped.fault_or(ScriptFault::Read, ScriptFault::OutOfMemory);
             if fault.is_of_output() {
                 return Err(fault);
             }

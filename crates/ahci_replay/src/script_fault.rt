@@ -1,9 +1,8 @@
 ghost use Rattle.std.specs.Prelude.{◌≡◌};
-ghost use Rattle.ahci_replay.specs.Fault.{fault_of};
 ghost use Rattle.ahci_replay.specs.declared.script_fault.ScriptFault.TheVariants as the-fault;
 
 use std::alloc::AllocError;
-use streams::{OutputFailed, Stopped};
+use streams::OutputFailed;
 
 /// Why a script ends before its last line.
 #[derive(Clone, Copy, Debug, PartialEq, Eq)]
@@ -27,18 +26,6 @@ impl ScriptFault {
         ensures { result ≡ is_of_output self }
     {
         matches!(self, ScriptFault::Write)
-    }
-}
-
-impl From<Stopped<ScriptFault>> for ScriptFault {
-    ghost from_gives = { λ stopped fault. fault ≡ fault_of stopped };
-
-    fn from(stopped: Stopped<ScriptFault>) -> ScriptFault {
-        match stopped {
-            Stopped::Read => ScriptFault::Read,
-            Stopped::Taker(fault) => fault,
-            Stopped::OutOfMemory => ScriptFault::OutOfMemory,
-        }
     }
 }
 

@@ -1,10 +1,13 @@
 //! A trace as one JSON object.
 
-ghost use Rattle.std.specs.Prelude.{◌≡◌, ◌++◌, IfOk, OnOk};
+ghost use Rattle.std.specs.Prelude.{◌≡◌, ◌++◌, IfOk, OnOk, Option};
+ghost use Rattle.std.specs.Option.{option_copied};
+ghost use Rattle.ahci_port.specs.PortView.{PortView};
 ghost use Rattle.ahci_script.specs.Said.{said};
 ghost use Rattle.json.specs.Print.{print};
 ghost use Rattle.ahci_trace.specs.Json.{command_object, passed_members, told_members};
-ghost use Rattle.ahci_trace.specs.Trace.{told};
+ghost use Rattle.ahci_trace.specs.Mark.{mark_of};
+ghost use Rattle.ahci_trace.specs.Trace.{told, told_between};
 
 mod entry;
 mod hex;
@@ -21,24 +24,29 @@ pub(crate) mod value;
 mod write;
 
 use crate::command_trace::CommandTrace;
+use crate::mark::Mark;
+use ahci_port::Port;
 use ahci_script::ScriptAnswer;
 use item::Item;
 use json::Token;
 use std::alloc::{AllocError, Allocator};
 use tokens::Tokens;
 
-/// The text of an object for a command of a line, its answer and what it did.
-pub(crate) fn json_text<A: Allocator + Copy, B: Allocator>(
+/// The text of an object for a command of a line, its answer, and what it did that found the port of the mark and has left this one.
+pub(crate) fn json_text<A: Allocator + Copy>(
     alloc: A,
     number: u64,
     line: &[u8],
-    answer: &ScriptAnswer<B>,
-    trace: &CommandTrace<A>,
+    mark: &Mark,
+    answer: &ScriptAnswer<A>,
+    port: Option<&Port<A>>,
 ) -> Result<Vec<u8, A>, AllocError>
-    ensures { IfOk result (λ text. text.items ≡ print (command_object number line.now (said answer.now) (told trace.now))) }
+    ensures { IfOk result (λ text. (found : Option PortView) → mark.now ≡ mark_of found
+        → text.items ≡ print (command_object number line.now (said answer.now) (told_between found (option_copied port.entry)))) }
 {
+    let trace = CommandTrace::between(alloc, mark, port)?;
     let mut tokens = Tokens::new(alloc);
-    tokens.put_command(number, line, answer, trace)?;
+    tokens.put_command(number, line, answer, &trace)?;
     Ok(tokens.into_text())
 }
 

@@ -69,3 +69,9 @@ StopsReading Takes Refuses r s from to (stopped.Taker fault) =
 abbrev pub ReadsAs : {F : Type 0} → ReadSoFar → ReadSoFar → Stopped F → Type 0
 ReadsAs old new stopped.Read = FailsReading new
 ReadsAs old new other = new.failed ≡ old.failed
+
+-- the fault of whoever had the lines taken: the taker's own, or these where a read failed and where memory was wanting
+abbrev pub fault_or : {F : Type 0} → F → F → Stopped F → F
+fault_or read out_of_memory stopped.Read = read
+fault_or read out_of_memory (stopped.Taker fault) = fault
+fault_or read out_of_memory stopped.OutOfMemory = out_of_memory

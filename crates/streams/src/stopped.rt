@@ -11,6 +11,22 @@ pub enum Stopped<F> {
     OutOfMemory,
 }
 
+impl<F: Copy> Stopped<F> {
+    ghost use Rattle.std.specs.Prelude.{◌≡◌};
+    ghost use Rattle.streams.specs.Reading.{fault_or};
+
+    /// The fault of whoever had the lines taken: the taker's own, or these where a read failed and where memory was wanting.
+    pub fn fault_or(self, read: F, out_of_memory: F) -> F
+        ensures { result ≡ fault_or read out_of_memory self }
+    {
+        match self {
+            Stopped::Read => read,
+            Stopped::Taker(fault) => fault,
+            Stopped::OutOfMemory => out_of_memory,
+        }
+    }
+}
+
 impl<F> From<InputFailed> for Stopped<F> {
     ghost use Rattle.std.specs.Prelude.{◌≡◌};
     ghost use Rattle.streams.specs.declared.stopped.Stopped.TheVariants as stopped;

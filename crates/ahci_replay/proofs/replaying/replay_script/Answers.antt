@@ -21,24 +21,24 @@ returns-in_ok-send-in-Ok-clause-ok g c =
 
 pub returns-then-is_of_output-clause-err : goal.returns-then-is_of_output-clause-err
 returns-then-is_of_output-clause-err g c =
-    subst (ReplayedTo g.T.Teller.telling _ _ _ _) (sym c.from-fault.ensures)
+    subst (ReplayedTo g.T.Teller.telling _ _ _ _) (sym c.fault_or-fault.ensures)
     (output_failed g.T.Teller.telling (λ x. place (g.W.Write.contents x.1) x.0.output x.0.session x.0.writes.failed) c.in-Err.stopped (g.R.Read.remaining c.args.reader.now) (g.R.Read.remaining c.take_lines.new.reader)
     (c.args.script.now, c.args.writer.now) (c.take_lines.new.taker, c.take_lines.new.output) c.requires.new
-    (sym (ap is_of_output c.from-fault.ensures) ∙ sym c.is_of_output.ensures ∙ c.if-is_of_output.true) c.in-Err.ensures.err)
+    (sym (ap is_of_output c.fault_or-fault.ensures) ∙ sym c.is_of_output.ensures ∙ c.if-is_of_output.true) c.in-Err.ensures.err)
 
 pub returns-in_err-send-in-Err-clause-err : goal.returns-in_err-send-in-Err-clause-err
 returns-in_err-send-in-Err-clause-err g c =
     if_err_from _ Write (ReplayedTo g.T.Teller.telling _ _ _ _) c.from_residual-in_err-send-in-Err.ensures.1
     (fault_part_written g.T.Teller.telling (λ x. place (g.W.Write.contents x.1) x.0.output x.0.session x.0.writes.failed) c.in-Err.stopped (g.R.Read.remaining c.args.reader.now) (g.R.Read.remaining c.take_lines.new.reader) (g.R.Read.remaining c.take_lines.new.reader) _
     (c.args.script.now, c.args.writer.now) (c.take_lines.new.taker, c.take_lines.new.output) c.requires.new
-    (sym (ap is_of_output c.from-fault.ensures) ∙ sym c.is_of_output.ensures ∙ c.if-is_of_output.false) c.in-Err.ensures.err c.in_err-send-in-Err.ensures.part)
+    (sym (ap is_of_output c.fault_or-fault.ensures) ∙ sym c.is_of_output.ensures ∙ c.if-is_of_output.false) c.in-Err.ensures.err c.in_err-send-in-Err.ensures.part)
 
 pub returns-in_ok-send-in-Err-clause-err : goal.returns-in_ok-send-in-Err-clause-err
 returns-in_ok-send-in-Err-clause-err g c =
-    subst (ReplayedTo g.T.Teller.telling _ _ _ _) (sym c.from-fault.ensures)
+    subst (ReplayedTo g.T.Teller.telling _ _ _ _) (sym c.fault_or-fault.ensures)
     (fault_written g.T.Teller.telling (λ x. place (g.W.Write.contents x.1) x.0.output x.0.session x.0.writes.failed) c.in-Err.stopped (g.R.Read.remaining c.args.reader.now) (g.R.Read.remaining c.take_lines.new.reader) _
     (c.args.script.now, c.args.writer.now) (c.take_lines.new.taker, c.take_lines.new.output) c.requires.new
-    (sym (ap is_of_output c.from-fault.ensures) ∙ sym c.is_of_output.ensures ∙ c.if-is_of_output.false) c.in-Err.ensures.err c.in_ok-send-in-Err.ensures.written)
+    (sym (ap is_of_output c.fault_or-fault.ensures) ∙ sym c.is_of_output.ensures ∙ c.if-is_of_output.false) c.in-Err.ensures.err c.in_ok-send-in-Err.ensures.written)
 
 pub returns-in_ok-send-in-Ok-clause-flushed : goal.returns-in_ok-send-in-Ok-clause-flushed
 returns-in_ok-send-in-Ok-clause-flushed g c =
@@ -50,11 +50,11 @@ returns-then-is_of_output-clause-writes g c =
     writes_failed _ c.args.script.now.writes c.take_lines.new.taker.writes (sym c.is_of_output.ensures ∙ c.if-is_of_output.true)
     (output_has_failed g.T.Teller.telling (λ x. place (g.W.Write.contents x.1) x.0.output x.0.session x.0.writes.failed) c.in-Err.stopped (g.R.Read.remaining c.args.reader.now) (g.R.Read.remaining c.take_lines.new.reader)
     (c.args.script.now, c.args.writer.now) (c.take_lines.new.taker, c.take_lines.new.output)
-    (sym (ap is_of_output c.from-fault.ensures) ∙ sym c.is_of_output.ensures ∙ c.if-is_of_output.true) c.in-Err.ensures.err)
+    (sym (ap is_of_output c.fault_or-fault.ensures) ∙ sym c.is_of_output.ensures ∙ c.if-is_of_output.true) c.in-Err.ensures.err)
 
 pub returns-in_ok-send-in-Err-clause-writes : goal.returns-in_ok-send-in-Err-clause-writes
 returns-in_ok-send-in-Err-clause-writes g c =
     writes_to _ c.args.script.now.writes c.take_lines.new.taker.writes _ (sym c.is_of_output.ensures ∙ c.if-is_of_output.false)
     (stopped_unfailed g.T.Teller.telling (λ x. place (g.W.Write.contents x.1) x.0.output x.0.session x.0.writes.failed) c.in-Err.stopped (g.R.Read.remaining c.args.reader.now) (g.R.Read.remaining c.take_lines.new.reader)
     (c.args.script.now, c.args.writer.now) (c.take_lines.new.taker, c.take_lines.new.output)
-    (sym (ap is_of_output c.from-fault.ensures) ∙ sym c.is_of_output.ensures ∙ c.if-is_of_output.false) c.in-Err.ensures.err) c.in_ok-send-in-Err.ensures.flushed
+    (sym (ap is_of_output c.fault_or-fault.ensures) ∙ sym c.is_of_output.ensures ∙ c.if-is_of_output.false) c.in-Err.ensures.err) c.in_ok-send-in-Err.ensures.flushed

@@ -1,7 +1,7 @@
-use Rattle.std.proofs.Common.{ap, refl}
+use Rattle.std.proofs.Common.{ap, refl, subst, sym}
 use Rattle.streams.proofs.FoundLemmas.{if_err_from}
 use Rattle.ahci_check.specs.Sheets.{Desk, FailsTelling, stand}
-use Rattle.ahci_check.specs.declared.check_fault.CheckFault.TheVariants.{OutOfMemory, Write}
+use Rattle.ahci_check.specs.declared.check_fault.CheckFault.TheVariants.{OutOfMemory}
 use Rattle.ahci_check.proofs.SheetLemmas.{put_failed, put_sent, waits}
 use Rattle.ahci_check.proofs.sheet.Sheet.tell.Goals as goal
 
@@ -19,8 +19,9 @@ pub returns-in_err-send-clause-err : goal.returns-in_err-send-clause-err
 returns-in_err-send-clause-err g c =
     let p = stand (g.W.Write.contents c.args.writer.now) c.args.self.now in
     let q = stand (g.W.Write.contents c.send.new.writer) c.send.new.self in
-    if_err_from _ Write (λ fault. FailsTelling p c.args.complaint fault q) c.from_residual-in_err-send.ensures.1
-    (put_failed (g.W.Write.contents c.args.writer.now) (g.W.Write.contents c.send.new.writer) c.args.self.now c.put.new.self c.send.new.self c.args.complaint c.args.next c.in_ok-put.ensures.ok c.in_err-send.ensures.part c.in_err-send.ensures.failed)
+    let f = c.in_err-send.field-0.0 in
+    if_err_from _ f (λ fault. FailsTelling p c.args.complaint fault q) c.from_residual-in_err-send.ensures.1
+    (subst (λ fault. FailsTelling p c.args.complaint fault q) (sym c.in_err-send.ensures.fault) (put_failed (g.W.Write.contents c.args.writer.now) (g.W.Write.contents c.send.new.writer) c.args.self.now c.put.new.self c.send.new.self c.args.complaint c.args.next c.in_ok-put.ensures.ok c.in_err-send.ensures.part c.in_err-send.ensures.failed))
 
 pub returns-clause-ok : goal.returns-clause-ok
 returns-clause-ok g c =
