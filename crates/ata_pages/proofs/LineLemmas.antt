@@ -1,5 +1,5 @@
 -- Lines that are written one after another.
-use Rattle.std.proofs.Common.{◌≡◌, ℕ, zero, suc, ◌+◌, ◌*◌, ◌^◌, ◌-◌, ◌==◌, ◌<◌, true, false, List, [], ◌∷◌, ◌++◌, codes, refl, ap, sym, ◌∙◌, arith, append_assoc, append-nil, zero-add, rules}
+use Rattle.std.proofs.Common.{◌≡◌, ℕ, zero, suc, ◌+◌, ◌*◌, ◌^◌, ◌-◌, ◌<◌, true, false, List, [], ◌∷◌, ◌++◌, codes, refl, ap, sym, ◌∙◌, arith, append_assoc, append-nil, zero-add, rules}
 use Rattle.std.proofs.lemmas.Bool.{ne_eqb}
 use Rattle.std.proofs.lemmas.Bool.Decides.{nat_tests}
 use Rattle.std.proofs.lemmas.Str.Ascii.{encode_ascii}
@@ -8,7 +8,6 @@ use Rattle.std.specs.declared.fmt.Formatter.{Formatter}
 use Rattle.std.specs.Fmt.{HasWritten, IsPlainFormatter, decimal, digits, format_spec, padded_integral}
 use Rattle.std.specs.List.{flat_map, range_with_len}
 use Rattle.std.specs.Prelude.{encode_utf8, slice_index}
-use Rattle.ata_pages.specs.Digits.{last_digits}
 use Rattle.ata_pages.specs.IdentifyText.{characters, identify_text, shown, two_characters, word_line, word_lines, word_name, word_of}
 use Rattle.ata_pages.specs.LogText.{byte_line, byte_lines, byte_name, is_told, lba_of, log_text, nq_of, tag_of, unl_of}
 use Rattle.ata_pages.proofs.DigitLemmas.{four_hex_digits, three_digits, two_hex_digits}
