@@ -115,14 +115,7 @@ with_new a s values rows fresh = at_new a.id (more_values s values) (new_row a s
 values_fit : (c : List Rule) (a : Rule) (s : ValueSource) (values : List Text) (rows : List Row) → Among a c → has_row a.id rows ≡ false → 0 < length values
     → values_fault a values ≡ [] → AreRowsOf c rows → AreRowsOf c (with_values a.id (reading_by a) s values rows)
 values_fit c a s values rows among fresh filled passed h =
-    subst (AreRowsOf c) (sym (with_new a s values rows fresh)) (with_row c rows (new_row a s values) h (record {
-      rule = a;
-      among = among;
-      same_id = refl;
-      reading = refl;
-      filled = filled;
-      passed = passed;
-    }))
+    subst (AreRowsOf c) (sym (with_new a s values rows fresh)) (with_row c rows (new_row a s values) h (record { rule = a; among = among; same_id = refl; reading = refl; filled = filled; passed = passed }))
 
 no_value : (r : ValueRange) → r ≡ record { start_inclusive = 1; end_inclusive = 1 } → range_kinds r.start_inclusive r.end_inclusive 0 ≡ [] → ⊥
 no_value r is e =

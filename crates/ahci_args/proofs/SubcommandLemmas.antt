@@ -54,24 +54,23 @@ name_of Draws = codes "draw"
 abbrev pub known_as : Text → Option Subcommand
 known_as word = find (λ s. bytes_eq (name_of s) word) (Runs ∷ Identifies ∷ Logs ∷ Traces ∷ Checks ∷ Draws ∷ [])
 
+-- what each of them has
+pub each_has : (P : Subcommand → Type 0) → P Runs → P Identifies → P Logs → P Traces → P Checks → P Draws → (s : Subcommand) → P s
+each_has P r i l t k w Runs = r
+each_has P r i l t k w Identifies = i
+each_has P r i l t k w Logs = l
+each_has P r i l t k w Traces = t
+each_has P r i l t k w Checks = k
+each_has P r i l t k w Draws = w
+
 pub known_by_name : (s : Subcommand) → known_as (name_of s) ≡ Some s
-known_by_name Runs = refl
-known_by_name Identifies = refl
-known_by_name Logs = refl
-known_by_name Traces = refl
-known_by_name Checks = refl
-known_by_name Draws = refl
+known_by_name = each_has (λ s. known_as (name_of s) ≡ Some s) refl refl refl refl refl refl
 
 -- a name that is none of theirs
 pub no_name : (name : Text) → (name ≡ codes "run" → ⊥) → (name ≡ codes "identify" → ⊥) → (name ≡ codes "log" → ⊥)
     → (name ≡ codes "trace" → ⊥) → (name ≡ codes "check" → ⊥) → (name ≡ codes "draw" → ⊥)
     → (s : Subcommand) → name ≡ name_of s → ⊥
-no_name name r i l t k w Runs = r
-no_name name r i l t k w Identifies = i
-no_name name r i l t k w Logs = l
-no_name name r i l t k w Traces = t
-no_name name r i l t k w Checks = k
-no_name name r i l t k w Draws = w
+no_name name = each_has (λ s. name ≡ name_of s → ⊥)
 
 -- as they are built
 abbrev pub leaf_of : PickWords → Subcommand → Shape
@@ -308,9 +307,6 @@ draw_options picks words e =
 -- ---- each of them
 
 pub takes_options : (picks : PickWords) (s : Subcommand) (words : List Text) → HasNoFault (leaf_of picks s) words → Takes s (rows_after (leaf_of picks s).rules [] words)
-takes_options picks Runs words e = run_options picks words e
-takes_options picks Identifies words e = identify_options picks words e
-takes_options picks Logs words e = log_options picks words e
-takes_options picks Traces words e = trace_options picks words e
-takes_options picks Checks words e = check_options picks words e
-takes_options picks Draws words e = draw_options picks words e
+takes_options picks =
+    each_has (λ s. (words : List Text) → HasNoFault (leaf_of picks s) words → Takes s (rows_after (leaf_of picks s).rules [] words))
+    (run_options picks) (identify_options picks) (log_options picks) (trace_options picks) (check_options picks) (draw_options picks)

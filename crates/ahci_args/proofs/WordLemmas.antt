@@ -16,7 +16,7 @@ use Rattle.ahci_args.specs.CommandLine.{PickWords, ahci, replay}
 use Rattle.ahci_args.specs.Asking.{AsksReplay}
 use Rattle.ahci_args.specs.Usage.{usage_faults, value_fault}
 use Rattle.ahci_args.proofs.FlagLemmas.{Asks, AsksOnly, first_none, second_none, turn_stops, leaf_words}
-use Rattle.ahci_args.proofs.SubcommandLemmas.{HasNoFault, Subcommand, Runs, Identifies, Logs, Traces, Checks, Draws, Takes, leaf_of, name_of, takes_options}
+use Rattle.ahci_args.proofs.SubcommandLemmas.{HasNoFault, Subcommand, each_has, Runs, Identifies, Logs, Traces, Checks, Draws, Takes, leaf_of, name_of, takes_options}
 
 -- ---- each flag asks for help or the version
 
@@ -85,12 +85,9 @@ module _ (picks : PickWords) where
 
   stops : (s : Subcommand) → StopsAt (name_of s)
   unfolding walked
-  stops Runs = stops_at (codes "run") refl
-  stops Identifies = stops_at (codes "identify") refl
-  stops Logs = stops_at (codes "log") refl
-  stops Traces = stops_at (codes "trace") refl
-  stops Checks = stops_at (codes "check") refl
-  stops Draws = stops_at (codes "draw") refl
+  stops =
+      each_has (λ s. StopsAt (name_of s)) (stops_at (codes "run") refl) (stops_at (codes "identify") refl) (stops_at (codes "log") refl)
+      (stops_at (codes "trace") refl) (stops_at (codes "check") refl) (stops_at (codes "draw") refl)
 
   -- a subcommand has no fault where the whole has none
   below : (word : Text) (words : List Text) → built_fault whole nothing_held (word ∷ words) ≡ []
@@ -106,12 +103,9 @@ module _ (picks : PickWords) where
       leaf_words leaf leaf_asks words (first_none _ _ (entered_at_word (codes "replay") words stops_at_replay e))
 
   entered_no_fault : (s : Subcommand) (words : List Text) → entered_fault whole (Some (name_of s, words)) ≡ [] → HasNoFault (leaf_of picks s) words
-  entered_no_fault Runs words e = e
-  entered_no_fault Identifies words e = e
-  entered_no_fault Logs words e = e
-  entered_no_fault Traces words e = e
-  entered_no_fault Checks words e = e
-  entered_no_fault Draws words e = e
+  entered_no_fault s words =
+      each_has (λ s. entered_fault whole (Some (name_of s, words)) ≡ [] → HasNoFault (leaf_of picks s) words)
+      (λ e. e) (λ e. e) (λ e. e) (λ e. e) (λ e. e) (λ e. e) s
 
   behind : (s : Subcommand) (words : List Text) → built_fault whole nothing_held (name_of s ∷ words) ≡ [] → HasNoFault (leaf_of picks s) words
   behind s words e = entered_no_fault s words (entered_at_word (name_of s) words (stops s) e)
@@ -221,12 +215,9 @@ second_word (x ∷ []) more word is = cc
 second_word (x ∷ y ∷ ys) more word is = let same : y ≡ word = cc in ap Some same
 
 enters : (picks : PickWords) (s : Subcommand) (words : List Text) → entered (whole picks) (Some (name_of s, words)) ≡ Some (name_of s, rows_after (leaf_of picks s).rules [] words)
-enters picks Runs words = refl
-enters picks Identifies words = refl
-enters picks Logs words = refl
-enters picks Traces words = refl
-enters picks Checks words = refl
-enters picks Draws words = refl
+enters picks s words =
+    each_has (λ s. entered (whole picks) (Some (name_of s, words)) ≡ Some (name_of s, rows_after (leaf_of picks s).rules [] words))
+    refl refl refl refl refl refl s
 
 line_found : (picks : PickWords) (words : List Text) (s : Subcommand) → IsLine picks s (drop 1 words) → HasFound picks words s
 line_found picks words s is = record {

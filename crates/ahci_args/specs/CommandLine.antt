@@ -9,6 +9,13 @@ use Rattle.clap.specs.declared.builder.value_parser.ValueParser.TheVariants.{Nam
 abbrev pub replay : Shape
 replay = (new_app (codes "replay")).top
 
+-- the most slots of a port and sectors of a disk
+abbrev pub most_depth : ℕ
+most_depth = 32
+
+abbrev pub most_sectors : ℕ
+most_sectors = 131072
+
 -- an option that has to be given, with a number from 1 to `most`
 abbrev pub number_option : Text → ℕ → Rule
 number_option name most = record (new_rule name) {
@@ -26,6 +33,10 @@ index_option name last = record (new_rule name) {
   required = true;
   parser = Some (Unsigned 0 last);
 }
+
+-- the last number of 64 bits
+abbrev pub last_entry : ℕ
+last_entry = 18446744073709551615
 
 -- an option with a number from 0 to `last`, which is `default` unless it is given
 abbrev pub bound_option : Text → ℕ → Text → Rule
@@ -65,25 +76,9 @@ pick_option picks = record (new_rule (codes "pick")) {
   parser = Some (Names picks.words);
 }
 
--- the most workers of a run, slots of a port and sectors of a disk; the last tag, the last LBA of 48 bits, and the last number
--- of 64 bits
+-- the most workers of a run
 abbrev pub most_workers : ℕ
 most_workers = 32
-
-abbrev pub most_depth : ℕ
-most_depth = 32
-
-abbrev pub most_sectors : ℕ
-most_sectors = 131072
-
-abbrev pub last_tag : ℕ
-last_tag = 31
-
-abbrev pub last_lba : ℕ
-last_lba = 281474976710655
-
-abbrev pub last_entry : ℕ
-last_entry = 18446744073709551615
 
 -- the options of `run`, and with its flags the whole
 abbrev pub run_options : PickWords → App
@@ -106,6 +101,13 @@ identify = (with_rule (with_rule (with_rule (new_app (codes "identify"))
     (number_option (codes "sectors") most_sectors))
     (number_option (codes "depth") most_depth))
     (flag (codes "raw"))).top
+
+-- the last tag, and the last LBA of 48 bits
+abbrev pub last_tag : ℕ
+last_tag = 31
+
+abbrev pub last_lba : ℕ
+last_lba = 281474976710655
 
 -- the subcommand `log` with its options
 abbrev pub log : Shape

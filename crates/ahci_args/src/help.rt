@@ -258,3 +258,9 @@ shows what was done before it.
 Examples:
   printf 'disk 8 4\\nwrite 0 3 1 aa\\naccept 0\\nserve 0\\n' | ahci draw > picture.svg
   ahci draw --from 1000 --to 1199 < script.ahci > part.svg";
+
+pub(crate) const TWO_FORMS: &str =
+    "of '--json', '--journal' and '--image' one at most can be given";
+
+pub(crate) const NOT_A_BYTE: &str =
+    "invalid value for '--error <EE>': it is two hexadecimal digits";

@@ -5,14 +5,15 @@ ghost use Rattle.ahci_args.specs.Asking.{AsksFor, AsksReplay, FailsByUsage, HasF
 ghost use Rattle.ahci_args.specs.Usage.{error_byte, error_fault, form_fault, form_in};
 ghost use Rattle.ahci_args.specs.declared.pick.Pick.{Pick};
 
-use crate::command::ahci_command;
-use crate::error_byte::{hex_byte, not_a_byte};
-use crate::forms::{form_by, two_forms};
+use crate::command::{ahci_command, log_command, run_command};
+use crate::error_byte::hex_byte;
+use crate::forms::form_by;
+use crate::help::{NOT_A_BYTE, TWO_FORMS};
 use crate::pick::Pick;
 use crate::request::Asked;
 use crate::run_form::RunForm;
 use clap::error::ErrorKind;
-use clap::{ArgMatches, Error};
+use clap::{ArgMatches, Command, Error};
 use std::alloc::Global;
 
 /// Reads a command line, whose first word is the program's name. Help and the version that were
@@ -41,7 +42,8 @@ fn run_asked(alloc: Global, options: &ArgMatches<'_>) -> Result<Asked, Error>
     ensures faults { FailsBy (form_fault (rows_of (found_of options.now))) result }
 {
     let Some(form) = form_of(options) else {
-        return Err(two_forms(alloc)?);
+        let run = run_command(alloc)?;
+        return Err(usage_fault(run, "ahci run", ErrorKind::ArgumentConflict, TWO_FORMS)?);
     };
     Ok(Asked::Run {
         workers: number(options, "workers") as u32,
@@ -82,15 +84,25 @@ fn log_asked(alloc: Global, options: &ArgMatches<'_>) -> Result<Asked, Error>
     ensures ok { IfOk result (λ asked. IsLogOf (rows_of (found_of options.now)) asked) }
     ensures faults { FailsBy (error_fault (rows_of (found_of options.now))) result }
 {
-    let Some(error) = error(options) else {
-        return Err(not_a_byte(alloc)?);
-    };
+    let error = log_error(alloc, options)?;
     Ok(Asked::Log {
         tag: number(options, "tag") as u8,
         error,
         lba: number(options, "lba"),
         raw: flag(options, "raw"),
     })
+}
+
+/// The error of the log's page. Where `--error` spells no byte, it is a usage fault.
+fn log_error(alloc: Global, options: &ArgMatches<'_>) -> Result<u8, Error>
+    ensures ok { IfOk result (λ byte. error_byte (rows_of (found_of options.now)) ≡ Some byte) }
+    ensures faults { FailsBy (error_fault (rows_of (found_of options.now))) result }
+{
+    if let Some(byte) = error(options) {
+        return Ok(byte);
+    }
+    let log = log_command(alloc)?;
+    Err(usage_fault(log, "ahci log", ErrorKind::ValueValidation, NOT_A_BYTE)?)
 }
 
 /// The trace that its flag asks for.
@@ -160,6 +172,20 @@ fn flag(options: &ArgMatches<'_>, name: &str) -> bool
     ensures { HasFlag (rows_of (found_of options.now)) name.now result }
 {
     options.get_flag(name)
+}
+
+/// A usage fault of a subcommand, which the name stands for in the usage.
+fn usage_fault<'a>(
+    command: Command<'a>,
+    name: &'a str,
+    kind: ErrorKind,
+    text: &str,
+) -> Result<Error, Error>
+    ensures ok { IfOk result (λ e. kind_of e ≡ kind) }
+    ensures err { IfErr result (λ e. kind_of e ≡ ErrorKind.OutOfMemory) }
+{
+    let mut command = command.bin_name(name)?;
+    Ok(command.error(kind, text)?)
 }
 
 /// The usage fault of a word that isn't text in UTF-8, which `asked` can't be given.

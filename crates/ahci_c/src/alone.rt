@@ -1,14 +1,15 @@
 //! The calls that need no port.
 
 ghost use Rattle.std.specs.Prelude.{◌≡◌, length};
-ghost use Rattle.ncq_core.specs.Identify.{identify_page};
-ghost use Rattle.ncq_core.specs.Log.{log_page};
-ghost use Rattle.port_place.specs.Alone.{AnswersCheck, log_refusal, page_refusal};
-ghost use Rattle.port_place.specs.Fises.{AnswersDecode, AnswersEncode, fis_named};
-ghost use Rattle.port_place.specs.Judging.{AnswersJournal};
-ghost use Rattle.port_place.specs.Names.{AnswersText};
-ghost use Rattle.port_place.specs.Over.{Numbered};
-ghost use Rattle.port_place.specs.Told.{Told};
+ghost use Rattle.ncq_core.specs.{Identify.{identify_page}, Log.{log_page}};
+ghost use Rattle.port_place.specs.{
+  Alone.{AnswersCheck, log_refusal, page_refusal},
+  Fises.{AnswersDecode, AnswersEncode, fis_named},
+  Judging.{AnswersJournal},
+  Names.{AnswersText},
+  Over.{Numbered},
+  Told.{Told},
+};
 
 use port_place::{FlatCommand, FlatEntry, FlatFis};
 use std::alloc::Global;

@@ -1,11 +1,7 @@
 //! What the device does.
 
 ghost use Rattle.std.specs.Prelude.{◌≡◌};
-ghost use Rattle.port_place.specs.Done.{HasStepped, Same};
-ghost use Rattle.port_place.specs.Over.{Changes};
-ghost use Rattle.port_place.specs.PlaceView.{view_of};
-ghost use Rattle.port_place.specs.Refusals.{accept_refusal, fail_refusal, serve_refusal};
-ghost use Rattle.port_place.specs.Told.{Told};
+ghost use Rattle.port_place.specs.{Done.{HasStepped, Same}, Over.{Changes}, PlaceView.{view_of}, Refusals.{accept_refusal, fail_refusal, serve_refusal}, Told.{Told}};
 
 use ahci_port::DeviceStep;
 use port_place::{FlatStep, Place, Status};

@@ -2,15 +2,16 @@
 
 ghost use Rattle.std.specs.Prelude.{◌≡◌, None, length};
 ghost use Rattle.ahci_port.specs.PortView.{sectors_in};
-ghost use Rattle.ncq_journal.specs.Numbering.{entry_numbered};
-ghost use Rattle.ncq_journal.specs.Sector.{sector};
-ghost use Rattle.port_place.specs.Done.{IsSets};
-ghost use Rattle.port_place.specs.Flat.{flat_slot};
-ghost use Rattle.port_place.specs.Over.{Reads};
-ghost use Rattle.port_place.specs.PlaceView.{view_of};
-ghost use Rattle.port_place.specs.Refusals.{copy_refusal, received_refusal, with_tag};
-ghost use Rattle.port_place.specs.Seen.{AnswersBytes, AnswersEntry, IsState, written_by};
-ghost use Rattle.port_place.specs.Told.{Told};
+ghost use Rattle.ncq_journal.specs.{Numbering.{entry_numbered}, Sector.{sector}};
+ghost use Rattle.port_place.specs.{
+  Done.{IsSets},
+  Flat.{flat_slot},
+  Over.{Reads},
+  PlaceView.{view_of},
+  Refusals.{copy_refusal, received_refusal, with_tag},
+  Seen.{AnswersBytes, AnswersEntry, IsState, written_by},
+  Told.{Told},
+};
 
 use port_place::{FlatEntry, FlatSets, FlatSlot, FlatState, Place, Status};
 use std::alloc::Global;

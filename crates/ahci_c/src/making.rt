@@ -2,9 +2,7 @@
 
 ghost use Rattle.std.specs.Prelude.{◌*◌, length, replicate};
 ghost use Rattle.ahci_port.specs.PortView.{port_from};
-ghost use Rattle.port_place.specs.Making.{size_refusal};
-ghost use Rattle.port_place.specs.Over.{Empties, Fills};
-ghost use Rattle.port_place.specs.PlaceView.{view_of};
+ghost use Rattle.port_place.specs.{Making.{size_refusal}, Over.{Empties, Fills}, PlaceView.{view_of}};
 
 use port_place::{Place, Status};
 use std::alloc::Global;

@@ -1,13 +1,9 @@
 //! The registers of a port.
 
 ghost use Rattle.std.specs.Prelude.{◌≡◌, ⊤};
-ghost use Rattle.ahci_port.specs.Registers.{acknowledged};
-ghost use Rattle.ahci_port.specs.Writes.{shown};
+ghost use Rattle.ahci_port.specs.{Registers.{acknowledged}, Writes.{shown}};
 ghost use Rattle.ahci_regs.specs.Reading.{read_of};
-ghost use Rattle.port_place.specs.Done.{AnswersRegister};
-ghost use Rattle.port_place.specs.Over.{Changes, Reads, Writes};
-ghost use Rattle.port_place.specs.PlaceView.{view_of};
-ghost use Rattle.port_place.specs.Writing.{AnswersWrite};
+ghost use Rattle.port_place.specs.{Done.{AnswersRegister}, Over.{Changes, Reads, Writes}, PlaceView.{view_of}, Writing.{AnswersWrite}};
 
 use port_place::{FlatWritten, Place, Status};
 use std::alloc::Global;

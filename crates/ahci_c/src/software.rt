@@ -1,15 +1,16 @@
 //! What software does.
 
 ghost use Rattle.std.specs.Prelude.{◌≡◌, length, ⊤};
-ghost use Rattle.ahci_port.specs.PortView.{sectors_in};
-ghost use Rattle.ahci_port.specs.Steps.{IsFlushed, IsIdentified, IsReissued, trimmed};
+ghost use Rattle.ahci_port.specs.{PortView.{sectors_in}, Steps.{IsFlushed, IsIdentified, IsReissued, trimmed}};
 ghost use Rattle.ncq_core.specs.Identify.{identify_page};
-ghost use Rattle.port_place.specs.Asked.{AnswersIssue, AnswersSubmit};
-ghost use Rattle.port_place.specs.Done.{HasCollected, HasRecovered, Same};
-ghost use Rattle.port_place.specs.Over.{Changes};
-ghost use Rattle.port_place.specs.PlaceView.{view_of};
-ghost use Rattle.port_place.specs.Refusals.{collect_refused, flush_refusal, identify_refusal, recover_refused, reissue_refused, trim_refused};
-ghost use Rattle.port_place.specs.Told.{Told, ToldOr};
+ghost use Rattle.port_place.specs.{
+  Asked.{AnswersIssue, AnswersSubmit},
+  Done.{HasCollected, HasRecovered, Same},
+  Over.{Changes},
+  PlaceView.{view_of},
+  Refusals.{collect_refused, flush_refusal, identify_refusal, recover_refused, reissue_refused, trim_refused},
+  Told.{Told, ToldOr},
+};
 
 use port_place::{FlatReply, Place, Status};
 use std::alloc::Global;

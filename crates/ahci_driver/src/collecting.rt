@@ -1,9 +1,7 @@
 ghost use Rattle.std.specs.Prelude.{◌≡◌, ℕ, Some, IsOk, IfOk, IsErrAnd, OnOk, OnErr, MatchOption, length};
 ghost use Rattle.ahci_table.specs.Fit.{IsFit};
-ghost use Rattle.ahci_port.specs.Slots.{bytes_in};
-ghost use Rattle.ahci_port.specs.Steps.{IsCollected};
-ghost use Rattle.ahci_driver.specs.Settled.{answered_as};
-ghost use Rattle.ahci_driver.specs.Tickets.{answer_length, suits, has_length, ticket_refusal};
+ghost use Rattle.ahci_port.specs.{Slots.{bytes_in}, Steps.{IsCollected}};
+ghost use Rattle.ahci_driver.specs.{Settled.{answered_as}, Tickets.{answer_length, suits, has_length, ticket_refusal}};
 
 use crate::ticket::Ticket;
 use ahci_port::{CollectFault, Outcome, Port, Reply};

@@ -1,14 +1,10 @@
 mod working;
 
 ghost use Rattle.std.specs.Prelude.{◌≡◌, true, IfOk, IfErr, OnOk, OnErr, length};
-ghost use Rattle.ncq_journal.specs.Laws.{AllFree};
-ghost use Rattle.ncq_journal.specs.Work.{work_of};
+ghost use Rattle.ncq_journal.specs.{Laws.{AllFree}, Work.{work_of}};
 ghost use Rattle.word_bits.specs.Places.{has_place};
 ghost use Rattle.ahci_port.specs.Headline.{Headline};
-ghost use Rattle.ahci_driver.specs.Pumping.{HasPumped};
-ghost use Rattle.ahci_driver.specs.Tickets.{answer_length};
-ghost use Rattle.ahci_driver.specs.Trimming.{IsKept};
-ghost use Rattle.ahci_driver.specs.Submitting.{HasNotSubmitted, HasReturned, HasSubmitted};
+ghost use Rattle.ahci_driver.specs.{Pumping.{HasPumped}, Tickets.{answer_length}, Trimming.{IsKept}, Submitting.{HasNotSubmitted, HasReturned, HasSubmitted}};
 
 use crate::chooser::Chooser;
 use crate::collecting::collect_locked;

@@ -1,8 +1,7 @@
 ghost use Rattle.std.specs.Prelude.{◌≡◌, IfOk, IfErr, OnErr, length};
 ghost use Rattle.ahci_table.specs.Fit.{IsFit};
 ghost use Rattle.ahci_port.specs.Slots.{bytes_in};
-ghost use Rattle.ahci_driver.specs.Finishing.{HasFinished, HasGotOn};
-ghost use Rattle.ahci_driver.specs.Tickets.{has_length};
+ghost use Rattle.ahci_driver.specs.{Finishing.{HasFinished, HasGotOn}, Tickets.{has_length}};
 
 use crate::chooser::Chooser;
 use crate::collecting::{Answered, take_locked};

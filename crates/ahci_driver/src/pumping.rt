@@ -1,8 +1,7 @@
 ghost use Rattle.std.specs.Prelude.{◌≡◌, false, true, IfOk, OnErr};
 ghost use Rattle.ncq_journal.specs.Halted.{halted, busy};
 ghost use Rattle.word_bits.specs.Places.{bits, IsLowest};
-ghost use Rattle.ahci_port.specs.Looking.{issued_tags, accepted_tags, held_tags};
-ghost use Rattle.ahci_port.specs.Faults.{step_refusal};
+ghost use Rattle.ahci_port.specs.{Looking.{issued_tags, accepted_tags, held_tags}, Faults.{step_refusal}};
 ghost use Rattle.ahci_driver.specs.Pumping.{HasAsked, HasStepped, IsPumped, IsRunning, LeadsTo};
 
 use crate::chooser::{Chooser, lowest_step};

@@ -4,9 +4,11 @@ ghost use Rattle.ncq_journal.specs.Work.{work_of};
 ghost use Rattle.tag_board.specs.Board.{Board};
 ghost use Rattle.ahci_driver.specs.Received.{Received, received_of};
 ghost use Rattle.std.specs.List.{All, list_any};
-ghost use Rattle.ahci_driver.specs.Stopping.{AreAmong};
-ghost use Rattle.ahci_driver.specs.Settled.{IsSettled};
-ghost use Rattle.ahci_driver.specs.Running.{HasRun, IsFirstBad, IsGivenUp, IsLate, IsRefused, IsStill, MayRun, NamesJob, is_lacking, least_lost, lost_by, unsettled, why_stopped};
+ghost use Rattle.ahci_driver.specs.{
+  Stopping.{AreAmong},
+  Settled.{IsSettled},
+  Running.{HasRun, IsFirstBad, IsGivenUp, IsLate, IsRefused, IsStill, MayRun, NamesJob, is_lacking, least_lost, lost_by, unsettled, why_stopped},
+};
 
 use crate::chooser::Chooser;
 use crate::driver::Driver;

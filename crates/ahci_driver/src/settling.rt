@@ -2,10 +2,8 @@
 //! journal, which holds each answer against the claim where it is given.
 
 ghost use Rattle.std.specs.Prelude.{◌≡◌, ◌↔◌, ◌<◌, ◌≤◌, ◌-◌, map, length, false, Some, None, is_some, IsTrue, IfErr, IfOk, OnOk, replicate, slice_index_or, slice_set};
-ghost use Rattle.ncq_journal.specs.Claims.{AreJudged};
-ghost use Rattle.ncq_journal.specs.Work.{work_of};
-ghost use Rattle.ahci_driver.specs.Received.{received_of};
-ghost use Rattle.ahci_driver.specs.Settled.{AnsweredBefore, AreClaimed, AreFit, Fits, IsFirstUnnamed, IsFirstWrong, IsFit, IsSettled, IsUnsettled, claim_of, issued_as};
+ghost use Rattle.ncq_journal.specs.{Claims.{AreJudged}, Work.{work_of}};
+ghost use Rattle.ahci_driver.specs.{Received.{received_of}, Settled.{AnsweredBefore, AreClaimed, AreFit, Fits, IsFirstUnnamed, IsFirstWrong, IsFit, IsSettled, IsUnsettled, claim_of, issued_as}};
 
 use crate::fault::SettleFault;
 use crate::receipt::Receipt;

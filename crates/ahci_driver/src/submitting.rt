@@ -1,12 +1,7 @@
 ghost use Rattle.std.specs.Prelude.{◌≡◌, ◌<◌, None, IfOk, IfErr, OnOk, OnErr};
 ghost use Rattle.ncq_journal.specs.Work.{work_of, sectors_of};
-ghost use Rattle.ahci_table.specs.Build.{Carries};
-ghost use Rattle.ahci_table.specs.Command.{op};
-ghost use Rattle.ahci_table.specs.Defaults.{default_list};
-ghost use Rattle.ahci_table.specs.Fit.{IsFit};
-ghost use Rattle.ahci_port.specs.Faults.{MayTake, RefusesIssue};
-ghost use Rattle.ahci_port.specs.PortView.{next_number};
-ghost use Rattle.ahci_port.specs.Steps.{IsIssued};
+ghost use Rattle.ahci_table.specs.{Build.{Carries}, Command.{op}, Defaults.{default_list}, Fit.{IsFit}};
+ghost use Rattle.ahci_port.specs.{Faults.{MayTake, RefusesIssue}, PortView.{next_number}, Steps.{IsIssued}};
 ghost use Rattle.ahci_driver.specs.Submitting.{IsNotBuilt, buffer_for, default_refusal};
 
 use crate::ticket::Ticket;

@@ -15,18 +15,11 @@ use Rattle.ahci_table.proofs.WindowLemmas.{pieces_inside}
 use Rattle.ncq_core.specs.Serving.{HasMoved, MovesFor, IsWritten}
 use Rattle.sata_fis.specs.Fields.{QueuedFields}
 use Rattle.ahci_port.specs.Moves.{MovedWindow}
-use Rattle.ahci_port.specs.Memory.{IsKept}
+use Rattle.ahci_port.specs.Memory.{IsKept, MemoryState}
 use Rattle.ahci_port.proofs.WorkLemmas.{IsSized}
 
 pub scattered_kept : (old new : WindowState) (offset : ℕ) (from : List ℕ) → IsScattered old offset from new → IsKept old new
-scattered_kept old new offset from h = record {
-  tag_is = h.tag_is;
-  header_is = h.header_is;
-  len_is = h.len_is;
-  pieces_are = h.pieces_are;
-  cfis_is = h.cfis_is;
-  others = h.others;
-}
+scattered_kept old new offset from h = record { tag_is = h.tag_is; header_is = h.header_is; len_is = h.len_is; pieces_are = h.pieces_are; cfis_is = h.cfis_is; others = h.others }
 
 -- a replaced range of a text
 pub replaced_range : (offset : ℕ) (from xs : List ℕ) → replaced offset from xs ≡ replace_range xs offset (offset + length from) from
@@ -38,6 +31,10 @@ joined_len (p ∷ ps) bytes inside =
     length-append (bytes_of p bytes) (joined ps bytes)
     ∙ ap (λ n. n + length (joined ps bytes)) (length-take-le p.len (drop p.at bytes) (let d = length-drop p.at bytes in let h : end_of p ≤ length bytes = inside 0 p (omega arith) in omega arith))
     ∙ ap (λ n. p.len + n) (joined_len ps bytes (λ k d h. inside (suc k) d (omega arith)))
+
+-- a fact of the room behind what has moved, where the memory is the same
+pub room_here : (inside seen : MemoryState) (more : ℕ) → inside ≡ seen → seen.offset + more ≤ length (text seen.window) → inside.offset + more ≤ length (text inside.window)
+room_here inside seen more is room = subst (λ m. m.offset + more ≤ length (text m.window)) (sym is) room
 
 -- the text of a fit window has the bytes of its command's sectors
 pub fit_sized : (w : WindowState) → IsFit w → IsSized w
@@ -55,15 +52,10 @@ kept_same old new fit h same = commutes old old old new old 0 0 [] [] fit (omega
 
 -- a whole text that was put into a window
 pub kept_scattered : (old new : WindowState) (bytes : List ℕ) → IsKept old new → text new ≡ bytes → length bytes ≡ length (text old) → IsScattered old 0 bytes new
-kept_scattered old new bytes h is len = record {
-  text_is = is ∙ sym (append-nil bytes) ∙ ap (λ x. bytes ++ x) (sym (drop_all (0 + length bytes) (text old) (omega arith)));
-  tag_is = h.tag_is;
-  header_is = h.header_is;
-  len_is = h.len_is;
-  pieces_are = h.pieces_are;
-  cfis_is = h.cfis_is;
-  others = h.others;
-}
+kept_scattered old new bytes h is len =
+    let whole : text new ≡ replaced 0 bytes (text old) =
+    is ∙ sym (append-nil bytes) ∙ ap (λ x. bytes ++ x) (sym (drop_all (0 + length bytes) (text old) (omega arith))) in
+    record { text_is = whole; tag_is = h.tag_is; header_is = h.header_is; len_is = h.len_is; pieces_are = h.pieces_are; cfis_is = h.cfis_is; others = h.others }
 
 -- what serving leaves of a window
 pub moved_window : (q : QueuedFields) (old new : WindowState) (image image' : List ℕ) → q ≡ queued_of old → IsFit old

@@ -45,15 +45,17 @@ held_is : (p : Phase) → is_held p ≡ true → p ≡ Held
 held_is Held e = refl
 held_is _ e = absurd (false≢true e)
 
+-- where nothing stands against a call: what would refuse it doesn't hold, and what it needs does
+pub no_reason : {F : Type 0} (against needed : Bool) (x y : F) → cond against (Some x) (cond needed None (Some y)) ≡ None → (against ≡ false) × (needed ≡ true)
+no_reason true needed x y e = absurd (cc)
+no_reason false true x y e = (refl, refl)
+no_reason false false x y e = absurd (cc)
+
 -- what no fault of a reissue says
 pub reissue_may : (port : PortView) (tag : ℕ) → reissue_refusal port tag ≡ None → (phase port.past tag ≡ Held) × (halted port.past ≡ false)
-reissue_may port tag e = by (halted port.past) (is_held (phase port.past tag)) refl refl e
-  where
-    by : (a b : Bool) → halted port.past ≡ a → is_held (phase port.past tag) ≡ b → cond a (Some reissue.Halted) (cond b None (Some reissue.NotHeld)) ≡ None
-        → (phase port.past tag ≡ Held) × (halted port.past ≡ false)
-    by true b p q h = absurd (cc)
-    by false true p q h = (held_is (phase port.past tag) q, p)
-    by false false p q h = absurd (cc)
+reissue_may port tag e =
+    let neither = no_reason (halted port.past) (is_held (phase port.past tag)) reissue.Halted reissue.NotHeld e in
+    (held_is (phase port.past tag) neither.1, neither.0)
 
 pub held_taken : (past : List Entry) (tag : ℕ) → phase past tag ≡ Held → phase past tag ≢ Free
 held_taken past tag e f = absurd (let z : Held ≡ Free = sym e ∙ f in cc)

@@ -82,17 +82,8 @@ stopped_here starting disk regs slots headers past free k = ap is_some k.error_i
 -- the registers alone move
 pub keeps_registers : (starting : List ℕ) (disk : DiskState) (regs moved : PortState) (slots : List (Option SlotState)) (headers : List (List ℕ)) (past : List Entry) (free : ℕ)
     → Keeps starting disk regs slots headers past free → Tracks disk.depth past moved → Keeps starting disk moved slots headers past free
-keeps_registers starting disk regs moved slots headers past free k tracks = record {
-  shape = k.shape;
-  lawful = k.lawful;
-  tracks = tracks;
-  sectors = k.sectors;
-  commands = k.commands;
-  error_is = k.error_is;
-  each = k.each;
-  listed = k.listed;
-  room = k.room;
-}
+keeps_registers starting disk regs moved slots headers past free k tracks =
+    record { shape = k.shape; lawful = k.lawful; tracks = tracks; sectors = k.sectors; commands = k.commands; error_is = k.error_is; each = k.each; listed = k.listed; room = k.room }
 
 pub keeps_acknowledge : (starting : List ℕ) (disk : DiskState) (regs : PortState) (slots : List (Option SlotState)) (headers : List (List ℕ)) (past : List Entry) (free mask : ℕ)
     → Keeps starting disk regs slots headers past free → Keeps starting disk (acknowledged regs mask) slots headers past free

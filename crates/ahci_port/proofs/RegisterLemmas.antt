@@ -196,27 +196,19 @@ tracks_carried plain.Identify d past s k some few out = tracks_pio d past s k so
 tracks_carried plain.ReadLog d past s k some few out = tracks_pio d past s k some few out
 
 -- ST and FRE in the words that stop and start the port
-st_clear : has_place (bits 0x10) 0 ≡ false
+stopping : (has_place (bits 0x10) 0 ≡ false) × (has_place (bits 0x10) 4 ≡ true)
 unfolding bits places
-st_clear = refl
+stopping = (refl, refl)
 
-fre_set : has_place (bits 0x10) 4 ≡ true
+starting : (has_place (bits 0x11) 0 ≡ true) × (has_place (bits 0x11) 4 ≡ true)
 unfolding bits places
-fre_set = refl
-
-st_set : has_place (bits 0x11) 0 ≡ true
-unfolding bits places
-st_set = refl
-
-fre_set_too : has_place (bits 0x11) 4 ≡ true
-unfolding bits places
-fre_set_too = refl
+starting = (refl, refl)
 
 -- ST is cleared, and with it all commands
 stopped_is : (s : PortState) → s.st ≡ true → after_write s 0x118 0x10 ≡ record s { st = false; fre = true; sact = no_places; ci = no_places }
 stopped_is s st =
     write_command s 0x10
-    ∙ ap (λ b. taken s (with_command s b (has_place (bits 0x10) 4))) st_clear ∙ ap (λ b. taken s (with_command s false b)) fre_set
+    ∙ ap (λ b. taken s (with_command s b (has_place (bits 0x10) 4))) stopping.0 ∙ ap (λ b. taken s (with_command s false b)) stopping.1
     ∙ by s.st ∙ ap (λ b. record s { st = false; fre = true; sact = remaining (b && not false) s.sact; ci = remaining (b && not false) s.ci }) st
   where
     by : (b : Bool) → taken s (cond (b && not true) (Err Running) (cond (not b && false && not (s.fre && true)) (Err NotReceiving) (Ok (commanded s false true)))) ≡ commanded s false true
@@ -227,7 +219,7 @@ stopped_is s st =
 started_is : (s : PortState) → s.st ≡ false → s.fre ≡ true → after_write s 0x118 0x11 ≡ record s { st = true; fre = true }
 started_is s st fre =
     write_command s 0x11
-    ∙ ap (λ b. taken s (with_command s b (has_place (bits 0x11) 4))) st_set ∙ ap (λ b. taken s (with_command s true b)) fre_set_too
+    ∙ ap (λ b. taken s (with_command s b (has_place (bits 0x11) 4))) starting.0 ∙ ap (λ b. taken s (with_command s true b)) starting.1
     ∙ ap (λ b. taken s (cond (b && not true) (Err Running) (cond (not b && true && not (s.fre && true)) (Err NotReceiving) (Ok (commanded s true true))))) st
     ∙ ap (λ b. taken s (cond (not (b && true)) (Err NotReceiving) (Ok (commanded s true true)))) fre
     ∙ ap (λ b. record s { st = true; fre = true; sact = remaining (b && not true) s.sact; ci = remaining (b && not true) s.ci }) st

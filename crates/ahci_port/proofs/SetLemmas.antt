@@ -68,19 +68,16 @@ pub ci_fail : (past : List Entry) (t error lba : ℕ) → is_busy (phase past t)
 ci_fail past t error lba busy = stays in_ci (phase past) (phase (Fail t error lba ∷ past)) t
     (ap in_ci (own t (failed (phase past t)) (phase past t)) ∙ (fails (phase past t) busy).1) (λ u apart. other t u (failed (phase past u)) (phase past u) apart)
 
+-- a recovery takes every command out of both sets
+recovers : (p : Phase) → (in_sact (recovered p) ≡ false) × (in_ci (recovered p) ≡ false)
+recovers Free = (refl, refl)
+recovers _ = (refl, refl)
+
 pub sact_recover : (past : List Entry) (t : ℕ) → no_places ≡ sact (Recover t ∷ past)
-sact_recover past t = sym (places_none (λ u. in_sact (recovered (phase past u))) (λ u low. none (phase past u)))
-  where
-    none : (p : Phase) → in_sact (recovered p) ≡ false
-    none Free = refl
-    none _ = refl
+sact_recover past t = sym (places_none (λ u. in_sact (recovered (phase past u))) (λ u low. (recovers (phase past u)).0))
 
 pub ci_recover : (past : List Entry) (t : ℕ) → no_places ≡ ci (Recover t ∷ past)
-ci_recover past t = sym (places_none (λ u. in_ci (recovered (phase past u))) (λ u low. none (phase past u)))
-  where
-    none : (p : Phase) → in_ci (recovered p) ≡ false
-    none Free = refl
-    none _ = refl
+ci_recover past t = sym (places_none (λ u. in_ci (recovered (phase past u))) (λ u low. (recovers (phase past u)).1))
 
 pub sact_collect : (past : List Entry) (t : ℕ) → phase past t ≡ Done → sact past ≡ sact (Collect t ∷ past)
 sact_collect past t done = stays in_sact (phase past) (phase (Collect t ∷ past)) t (ap in_sact (own t Free (phase past t)) ∙ sym (ap in_sact done)) (λ u apart. other t u Free (phase past u) apart)

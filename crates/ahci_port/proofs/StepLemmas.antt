@@ -31,7 +31,7 @@ use Rattle.ahci_port.specs.declared.fault.StepFault.{StepFault}
 use Rattle.ahci_port.specs.declared.fault.StepFault.TheVariants as fault
 use Rattle.ahci_port.proofs.AcceptingLemmas.{request_has}
 use Rattle.ahci_port.proofs.MemoryLemmas.{fit_sized}
-use Rattle.ahci_port.proofs.OwningLemmas.{Owned, owned}
+use Rattle.ahci_port.proofs.OwningLemmas.{Owned, no_reason, owned}
 use Rattle.ahci_port.proofs.ReadingLemmas.{stopped_here}
 use Rattle.ahci_port.proofs.WorkLemmas.{op_lba, op_sectors}
 
@@ -134,10 +134,6 @@ issued_is _ e = absurd (false≢true e)
 
 -- what no refusal of an Accept says
 pub accept_may : (port : PortView) (tag : ℕ) → step_refusal port (step.Accept tag) ≡ None → (phase port.past tag ≡ Issued) × (halted port.past ≡ false)
-accept_may port tag e = by (halted port.past) (is_issued (phase port.past tag)) refl refl e
-  where
-    by : (a b : Bool) → halted port.past ≡ a → is_issued (phase port.past tag) ≡ b → cond a (Some fault.Halted) (cond b None (Some fault.NotIssued)) ≡ None
-        → (phase port.past tag ≡ Issued) × (halted port.past ≡ false)
-    by true b p q h = absurd (cc)
-    by false true p q h = (issued_is (phase port.past tag) q, p)
-    by false false p q h = absurd (cc)
+accept_may port tag e =
+    let neither = no_reason (halted port.past) (is_issued (phase port.past tag)) fault.Halted fault.NotIssued e in
+    (issued_is (phase port.past tag) neither.1, neither.0)

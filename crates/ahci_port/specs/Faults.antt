@@ -40,22 +40,6 @@ use Rattle.ahci_port.specs.declared.step.DeviceStep.TheVariants.{Accept, Serve, 
 abbrev pub most_first : ℕ
 most_first = 2 ^ 63
 
-abbrev pub is_issued : Phase → Bool
-is_issued Issued = true
-is_issued p = false
-
-abbrev pub is_accepted : Phase → Bool
-is_accepted Accepted = true
-is_accepted p = false
-
-abbrev pub is_held : Phase → Bool
-is_held Held = true
-is_held p = false
-
-abbrev pub is_done : Phase → Bool
-is_done Done = true
-is_done p = false
-
 -- why a window of this tag is not looked at
 abbrev pub early_refusal : PortView → ℕ → Option IssueFault
 early_refusal port tag =
@@ -84,6 +68,10 @@ abbrev pub is_of_request : Option Request → ℕ → Bool
 is_of_request None lba = false
 is_of_request (Some r) lba = covers r.work lba
 
+abbrev pub is_accepted : Phase → Bool
+is_accepted Accepted = true
+is_accepted p = false
+
 -- each command of a list of tags is outstanding in the device
 abbrev pub are_accepted : List Entry → List ℕ → Bool
 are_accepted past tags = list_all (λ tag. is_accepted (phase past tag)) tags
@@ -96,6 +84,10 @@ names_twice (tag ∷ tags) = list_any (λ other. nat_eq other tag) tags || names
 -- a list of tags that can't be served together
 abbrev pub is_bad_list : List ℕ → Bool
 is_bad_list tags = nat_eq (length tags) 0 || names_twice tags
+
+abbrev pub is_issued : Phase → Bool
+is_issued Issued = true
+is_issued p = false
 
 -- why the device does not take a step
 abbrev pub step_refusal : PortView → DeviceStep → Option StepFault
@@ -113,6 +105,10 @@ step_refusal port (Fail tag error at) =
 abbrev pub is_owner : Option ℕ → ℕ → Bool
 is_owner None number = false
 is_owner (Some owner) number = nat_eq owner number
+
+abbrev pub is_done : Phase → Bool
+is_done Done = true
+is_done p = false
 
 -- why a request is not collected
 abbrev pub collect_refusal : PortView → ℕ → ℕ → Option CollectFault
@@ -140,6 +136,10 @@ trim_refusal port = if is_vacant port then (if nat_lt most_first (next_number po
 -- why the port does not recover, want of memory aside
 abbrev pub recover_refusal : PortView → Option RecoverFault
 recover_refusal port = if halted port.past then None else Some NotHalted
+
+abbrev pub is_held : Phase → Bool
+is_held Held = true
+is_held p = false
 
 -- why a command is not issued again
 abbrev pub reissue_refusal : PortView → ℕ → Option ReissueFault

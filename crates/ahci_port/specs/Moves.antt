@@ -58,15 +58,8 @@ step_fault_of serve_fault.OutsideCommand = OutsideCommand
 
 -- the slot of a command that is issued
 abbrev pub issued_slot : ℕ → QueuedFields → WindowState → SlotState
-issued_slot place q w = record {
-  place = place;
-  is_write = q.write;
-  lba = q.lba;
-  sectors = q.sectors;
-  phase = phase.Issued;
-  ended = None;
-  window = w;
-}
+issued_slot place q w =
+    record { place = place; is_write = q.write; lba = q.lba; sectors = q.sectors; phase = phase.Issued; ended = None; window = w }
 
 -- the port's fault where the rule of a window is broken
 abbrev pub issue_fault_of : TableFault → IssueFault

@@ -7,20 +7,11 @@ mod stepping;
 mod trimming;
 mod writing;
 
-ghost use Rattle.std.specs.Prelude.{◌≡◌, ◌<◌, ◌≤◌, [], None, length, replicate, IfOk, IfErr, MatchOption, if◌then◌else◌, slice_index_or};
-ghost use Rattle.std.specs.Option.{option_map};
+ghost use Rattle.std.specs.{Prelude.{◌≡◌, ◌<◌, ◌≤◌, [], None, length, replicate, IfOk, IfErr, MatchOption, if◌then◌else◌, slice_index_or}, Option.{option_map}};
 ghost use Rattle.ahci_regs.specs.Reading.{read_of};
 ghost use Rattle.ncq_core.specs.DiskState.{new_fault, new_disk, IsDisk};
-ghost use Rattle.ncq_journal.specs.Halted.{halted};
-ghost use Rattle.ncq_journal.specs.Image.{sector_at};
-ghost use Rattle.ncq_journal.specs.Numbering.{number_of};
-ghost use Rattle.ncq_journal.specs.Owed.{owed};
-ghost use Rattle.ncq_journal.specs.Phase.{phase};
-ghost use Rattle.ncq_journal.specs.Sector.{sector};
-ghost use Rattle.ahci_port.specs.Faults.{AnswersOr, most_first, resume_fault_of, resume_refusal};
-ghost use Rattle.ahci_port.specs.Headline.{Headline};
-ghost use Rattle.ahci_port.specs.PortView.{sectors_in, new_port, owner_of, port_from};
-ghost use Rattle.ahci_port.specs.Registers.{acknowledged};
+ghost use Rattle.ncq_journal.specs.{Halted.{halted}, Image.{sector_at}, Numbering.{number_of}, Owed.{owed}, Phase.{phase}, Sector.{sector}};
+ghost use Rattle.ahci_port.specs.{Faults.{AnswersOr, most_first, resume_fault_of, resume_refusal}, Headline.{Headline}, PortView.{sectors_in, new_port, owner_of, port_from}, Registers.{acknowledged}};
 
 use crate::fault::ResumeFault;
 use crate::slot::{Slot, phase_in, place_in};

@@ -1,18 +1,13 @@
-ghost use Rattle.std.specs.Prelude.{◌≡◌, map, IsSome, None, Some, is_some};
-ghost use Rattle.std.specs.List.{list_any};
-ghost use Rattle.std.specs.Option.{option_copied, option_map};
-ghost use Rattle.ahci_table.specs.Command.{cfis, op, queued_of};
-ghost use Rattle.ahci_table.specs.Fit.{IsFit};
-ghost use Rattle.ahci_table.specs.Prdt.{pieces};
-ghost use Rattle.ahci_table.specs.Text.{text};
+ghost use Rattle.std.specs.{Prelude.{◌≡◌, map, IsSome, None, Some, is_some}, List.{list_any}, Option.{option_copied, option_map}};
+ghost use Rattle.ahci_table.specs.{Command.{cfis, op, queued_of}, Fit.{IsFit}, Prdt.{pieces}, Text.{text}};
 ghost use Rattle.ncq_journal.specs.Lawful.{IsProper};
-ghost use Rattle.ncq_core.specs.DiskFis.{setup_bytes};
-ghost use Rattle.ncq_core.specs.DiskState.{command_of};
-ghost use Rattle.ncq_core.specs.Serving.{HasMoved, serve_fault, served};
-ghost use Rattle.ahci_port.specs.Memory.{IsKept};
-ghost use Rattle.ahci_port.specs.Keeping.{slot_at};
-ghost use Rattle.ahci_port.specs.Slots.{phase_in, read_in, window_in};
-ghost use Rattle.ahci_port.specs.Moves.{issued_slot, outcome_of, served_slot, reissued_slot, accepted_slot, failed_slot, recovered_slot};
+ghost use Rattle.ncq_core.specs.{DiskFis.{setup_bytes}, DiskState.{command_of}, Serving.{HasMoved, serve_fault, served}};
+ghost use Rattle.ahci_port.specs.{
+  Memory.{IsKept},
+  Keeping.{slot_at},
+  Slots.{phase_in, read_in, window_in},
+  Moves.{issued_slot, outcome_of, served_slot, reissued_slot, accepted_slot, failed_slot, recovered_slot},
+};
 
 use crate::ended::Ended;
 use crate::memory::Memory;

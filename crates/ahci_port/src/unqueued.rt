@@ -2,13 +2,10 @@
 //! 4.2.3).
 
 ghost use Rattle.std.specs.Prelude.{◌≡◌};
-ghost use Rattle.ahci_regs.specs.declared.register.Register.TheVariants.{PxCi};
-ghost use Rattle.ahci_regs.specs.RegisterTable.{offset_of};
+ghost use Rattle.ahci_regs.specs.{declared.register.Register.TheVariants.{PxCi}, RegisterTable.{offset_of}};
 ghost use Rattle.ncq_core.specs.Verdict.{verdict};
 ghost use Rattle.ncq_core.specs.declared.taken.Taken.TheVariants as taken;
-ghost use Rattle.ahci_port.specs.Carrying.{HasRead, Passes, area_after, carried, disk_after, told};
-ghost use Rattle.ahci_port.specs.Registers.{after_write};
-ghost use Rattle.ahci_port.specs.Unqueued.{cfis_for, entries_for, header_for, sent_for};
+ghost use Rattle.ahci_port.specs.{Carrying.{HasRead, Passes, area_after, carried, disk_after, told}, Registers.{after_write}, Unqueued.{cfis_for, entries_for, header_for, sent_for}};
 
 use crate::receiving::{receive_pio, receive_register};
 use crate::sent::Sent;

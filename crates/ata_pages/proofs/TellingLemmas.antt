@@ -1,15 +1,14 @@
 -- What the pages tell: each word of an identify page, and the fields of a log's page.
-use Rattle.std.proofs.Common.{◌≡◌, ◌∙◌, ℕ, zero, suc, ◌+◌, ◌-◌, ◌*◌, ◌<◌, ◌≤◌, ◌==◌, ◌&&◌, Bool, true, false, cond, refl, ap, sym, List, [], ◌∷◌, map, arith, codes, nat_lt}
+use Rattle.std.proofs.Common.{◌≡◌, ◌∙◌, ℕ, zero, suc, ◌+◌, ◌-◌, ◌*◌, ◌<◌, ◌≤◌, ◌==◌, ◌&&◌, Bool, true, false, cond, refl, ap, List, [], ◌∷◌, map, arith, codes, nat_lt}
 use Rattle.std.specs.Int.{byte_at, from_le_bytes, w64}
 use Rattle.std.specs.List.{flat_map, list_all, range_with_len}
 use Rattle.std.specs.Prelude.{slice_index}
 use Rattle.std.proofs.lemmas.Bool.Decides.{nat_tests}
 use Rattle.std.proofs.lemmas.Nat.{from_le_bytes-to_le_bytes_8}
-use Rattle.ncq_core.specs.DiskState.{DiskError}
 use Rattle.ncq_core.specs.Identify.{character, identify_page, identify_word, is_within, number_word, text_word, word_bytes}
 use Rattle.ncq_core.specs.Log.{log_page}
 use Rattle.ata_pages.specs.IdentifyText.{word_of}
-use Rattle.ata_pages.specs.Telling.{Tells, TellsError, TellsWords}
+use Rattle.ata_pages.specs.Telling.{TellsError, TellsWords}
 
 -- ---- the words of an identify page
 

@@ -1,5 +1,5 @@
 -- The page that IDENTIFY DEVICE reads, as text (ACS-3, "IDENTIFY DEVICE").
-use Rattle.std.specs.Prelude.{ℕ, ◌+◌, ◌*◌, ◌==◌, ◌||◌, if◌then◌else◌, List, [], ◌∷◌, ◌++◌, slice_index, codes}
+use Rattle.std.specs.Prelude.{ℕ, ◌+◌, ◌*◌, ◌==◌, if◌then◌else◌, List, [], ◌∷◌, ◌++◌, slice_index, codes}
 use Rattle.std.specs.List.{flat_map, range_with_len}
 use Rattle.ncq_core.specs.Identify.{is_within}
 use Rattle.ata_pages.specs.Digits.{last_digits}

@@ -13,6 +13,7 @@ pub(crate) struct ByteLines<'a> {
 impl fmt::Display for ByteLines<'_> {
     ghost output = { λ b. Some (byte_lines b.page.now 512) };
 
+    #[tactic(auto, using(crate::proofs::LineLemmas::no_bytes, crate::proofs::LineLemmas::next_byte))]
     fn fmt<W: fmt::Write>(&self, f: &mut fmt::Formatter<W>) -> fmt::Result {
         for number in 0..512 {
             let value = self.page[number];

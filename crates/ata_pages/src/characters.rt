@@ -17,6 +17,7 @@ pub(crate) struct Characters<'a> {
 impl fmt::Display for Characters<'_> {
     ghost output = { λ c. Some (characters c.page.now c.first c.count) };
 
+    #[tactic(auto, using(crate::proofs::LineLemmas::no_characters, crate::proofs::LineLemmas::next_characters))]
     fn fmt<W: fmt::Write>(&self, f: &mut fmt::Formatter<W>) -> fmt::Result {
         for i in 0..self.count {
             let number = self.first + i;

@@ -13,6 +13,7 @@ pub(crate) struct WordLines<'a> {
 impl fmt::Display for WordLines<'_> {
     ghost output = { λ w. Some (word_lines w.page.now 256) };
 
+    #[tactic(auto, using(crate::proofs::LineLemmas::no_words, crate::proofs::LineLemmas::next_word))]
     fn fmt<W: fmt::Write>(&self, f: &mut fmt::Formatter<W>) -> fmt::Result {
         for number in 0..256 {
             let value = word(self.page, number);

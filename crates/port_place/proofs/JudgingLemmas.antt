@@ -1,16 +1,20 @@
 -- What one pass over a journal knows of each tag.
-use Rattle.std.proofs.Common.{◌≡◌, ℕ, ◌+◌, ◌*◌, ◌/◌, ◌==◌, ◌<◌, ◌≤◌, Bool, true, false, cond, List, [], ◌∷◌, ◌++◌, length, map, take, get_or, replicate, Option, Some, IsSomeAnd, ap, refl, subst, sym, ◌∙◌, arith}
+use Rattle.std.proofs.Common.{◌≡◌, ℕ, ◌+◌, ◌*◌, ◌/◌, ◌==◌, ◌<◌, ◌≤◌, ◌||◌, Bool, true, false, cond, List, [], ◌∷◌, ◌++◌, length, map, take, get_or, replicate, Option, Some, IsSomeAnd, ap, refl, subst, sym, zero-add, ◌∙◌, arith}
 use mathlib.Core.List.{reverse}
+use Rattle.std.specs.List.{list_any, range_with_len}
 use Rattle.std.specs.Option.{option_map}
-use Rattle.std.proofs.lemmas.List.{get_or-replicate, length-replicate, map-append, reverse-append, take_all, take_more}
+use Rattle.std.proofs.lemmas.List.FromFn.{get_or-map-range_with_len, length-map-range_with_len}
+use Rattle.std.proofs.lemmas.List.{ext_get_or, get_or-replicate, length-replicate, map-append, reverse-append, take_all, take_more}
 use Rattle.std.proofs.lemmas.Option.{slice_get_read}
 use Rattle.ncq_journal.specs.Entry.{Entry, Issue, Accept, Complete, Fail, Recover, Reissue, Collect, Unqueued}
-use Rattle.ncq_journal.specs.Phase.{phase, phase_after}
+use Rattle.ncq_journal.specs.Halted.{busy, halted, tags}
+use Rattle.ncq_journal.specs.declared.phase.Phase.{Phase}
+use Rattle.ncq_journal.specs.Phase.{is_busy, is_failed, phase, phase_after}
 use Rattle.ncq_journal.specs.Request.{Request, request}
 use Rattle.ncq_journal.specs.Work.{sectors_of}
 use Rattle.ncq_journal.specs.Lawful.{IsAllowed, IsLawful}
 use Rattle.port_place.specs.Judging.{IsFirstBad, entry_named, journal_named, work_over}
-use Rattle.port_place.specs.Knowing.{AreKnown, known, known_after, nothing_known, span_after, span_of}
+use Rattle.port_place.specs.Knowing.{AreKnown, has_failed, is_waiting, known, known_after, nothing_known, span_after, span_of}
 use Rattle.port_place.specs.declared.flat.FlatEntry.{FlatEntry}
 use Rattle.port_place.specs.declared.known.Known.{Known}
 use Rattle.port_place.specs.declared.named.Span.{Span}
@@ -47,6 +51,26 @@ known_next past tag entry = ap (λ s. record { phase = phase_after tag (phase pa
 -- before the first entry nothing is known of any tag
 pub none_known : AreKnown [] (replicate 32 nothing_known)
 none_known = record { long = refl; each = λ tag low. get_or-replicate 32 tag nothing_known nothing_known low }
+
+-- a test of what is mapped
+any_mapped : {X Y : Type 0} (p : Y → Bool) (f : X → Y) (xs : List X) → list_any p (map f xs) ≡ list_any (λ x. p (f x)) xs
+any_mapped p f [] = refl
+any_mapped p f (x ∷ xs) = ap (λ b. p (f x) || b) (any_mapped p f xs)
+
+-- the phases that are known are those of the 32 tags
+some_known : (p : Phase → Bool) (past : List Entry) (all : List Known) → AreKnown past all → list_any (λ k. p k.phase) all ≡ list_any (λ tag. p (phase past tag)) tags
+unfolding tags
+some_known p past all are =
+    ap (list_any (λ k. p k.phase))
+    (ext_get_or nothing_known all (map (known past) (range_with_len 0 32)) (are.long ∙ sym (length-map-range_with_len (known past) 0 32))
+    (λ tag low. let below : tag < 32 = let long = are.long in omega arith in are.each tag below ∙ sym (get_or-map-range_with_len (known past) 0 32 tag tag nothing_known below (zero-add tag))))
+    ∙ any_mapped (λ k. p k.phase) (known past) (range_with_len 0 32)
+
+pub halted_known : (past : List Entry) (all : List Known) → AreKnown past all → list_any has_failed all ≡ halted past
+halted_known past all are = some_known is_failed past all are
+
+pub busy_known : (past : List Entry) (all : List Known) → AreKnown past all → list_any is_waiting all ≡ busy past
+busy_known past all are = some_known is_busy past all are
 
 -- an event more is an entry more
 journal_push : (events : List FlatEntry) (event : FlatEntry) → journal_named (events ++ event ∷ []) ≡ entry_named event ∷ journal_named events

@@ -41,43 +41,15 @@ bare_fis kind = record {
 
 -- the struct of a FIS
 abbrev pub flat_fis : Fis → FlatFis
-flat_fis (fis.H2d f) = record (bare_fis 0x27) {
-  c = number_if f.c;
-  command = f.command;
-  features = f.features;
-  lba = f.lba;
-  device = f.device;
-  count = f.count;
-  control = f.control;
-}
-flat_fis (fis.D2h f) = record (bare_fis 0x34) {
-  i = number_if f.i;
-  status = f.status;
-  error = f.error;
-  lba = f.lba;
-  device = f.device;
-  count = f.count;
-}
+flat_fis (fis.H2d f) =
+    record (bare_fis 0x27) { c = number_if f.c; command = f.command; features = f.features; lba = f.lba; device = f.device; count = f.count; control = f.control }
+flat_fis (fis.D2h f) =
+    record (bare_fis 0x34) { i = number_if f.i; status = f.status; error = f.error; lba = f.lba; device = f.device; count = f.count }
 flat_fis fis.DmaActivate = bare_fis 0x39
-flat_fis (fis.DmaSetup f) = record (bare_fis 0x41) {
-  a = number_if f.a;
-  i = number_if f.i;
-  d = number_if f.d;
-  tag = f.tag;
-  offset = f.offset;
-  transfer = f.count;
-}
-flat_fis (fis.PioSetup f) = record (bare_fis 0x5F) {
-  i = number_if f.i;
-  d = number_if f.d;
-  status = f.status;
-  error = f.error;
-  lba = f.lba;
-  device = f.device;
-  count = f.count;
-  e_status = f.e_status;
-  bytes = f.bytes;
-}
+flat_fis (fis.DmaSetup f) =
+    record (bare_fis 0x41) { a = number_if f.a; i = number_if f.i; d = number_if f.d; tag = f.tag; offset = f.offset; transfer = f.count }
+flat_fis (fis.PioSetup f) =
+    record (bare_fis 0x5F) { i = number_if f.i; d = number_if f.d; status = f.status; error = f.error; lba = f.lba; device = f.device; count = f.count; e_status = f.e_status; bytes = f.bytes }
 flat_fis (fis.SetBits f) = record (bare_fis 0xA1) { i = number_if f.i; status = f.status; error = f.error; sactive = f.sactive }
 flat_fis (fis.Data xs) = record (bare_fis 0x46) { payload = length xs }
 
@@ -113,17 +85,7 @@ abbrev pub pio_setup_named : FlatFis → Result PioSetupFields Status
 pio_setup_named f =
     if not (is_flag f.i && is_flag f.d) then Err status.BadFlag
     else (if nat_le (2 ^ 48) f.lba then Err status.BadLba
-    else Ok (record {
-      i = f.i == 1;
-      d = f.d == 1;
-      status = f.status;
-      error = f.error;
-      lba = f.lba;
-      device = f.device;
-      count = f.count;
-      e_status = f.e_status;
-      bytes = f.bytes;
-    }))
+    else Ok (record { i = f.i == 1; d = f.d == 1; status = f.status; error = f.error; lba = f.lba; device = f.device; count = f.count; e_status = f.e_status; bytes = f.bytes }))
 
 abbrev pub set_bits_named : FlatFis → Result SetBitsFields Status
 set_bits_named f =

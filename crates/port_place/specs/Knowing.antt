@@ -1,8 +1,8 @@
 -- For proofs: what one pass over a journal knows of each tag.
-use Rattle.std.specs.Prelude.{◌≡◌, ℕ, ◌<◌, ◌==◌, List, [], length, slice_index_or, Option, Some, if◌then◌else◌}
+use Rattle.std.specs.Prelude.{◌≡◌, ℕ, ◌<◌, ◌==◌, Bool, List, [], length, slice_index_or, Option, Some, if◌then◌else◌}
 use Rattle.std.specs.Option.{option_map}
 use Rattle.ncq_journal.specs.Entry.{Entry, Issue}
-use Rattle.ncq_journal.specs.Phase.{phase, phase_after}
+use Rattle.ncq_journal.specs.Phase.{is_busy, is_failed, phase, phase_after}
 use Rattle.ncq_journal.specs.Request.{request}
 use Rattle.ncq_journal.specs.Work.{Work, lba_of, sectors_of}
 use Rattle.port_place.specs.declared.known.Known.{Known}
@@ -23,6 +23,14 @@ span_after tag before entry = before
 
 abbrev pub known_after : ℕ → Known → Entry → Known
 known_after tag before entry = record { phase = phase_after tag before.phase entry; span = span_after tag before.span entry }
+
+-- the tag's command has failed
+abbrev pub has_failed : Known → Bool
+has_failed known = is_failed known.phase
+
+-- it waits for the device or is outstanding in it
+abbrev pub is_waiting : Known → Bool
+is_waiting known = is_busy known.phase
 
 -- before the first entry
 abbrev pub nothing_known : Known

@@ -1,12 +1,9 @@
 //! How answers are taken.
 
-ghost use Rattle.std.specs.Prelude.{◌≡◌, ◌≤◌, length};
+ghost use Rattle.std.specs.Prelude.{◌≡◌, ◌<◌, ◌≤◌, length};
 ghost use Rattle.ahci_port.specs.Slots.{bytes_in};
 ghost use Rattle.ahci_table.specs.Fit.{IsFit};
-ghost use Rattle.port_place.specs.Done.{HasCollected, HasLength};
-ghost use Rattle.port_place.specs.Flat.{begun_with, flat_reply};
-ghost use Rattle.port_place.specs.Refusals.{collect_refused, is_short, slot_refusal};
-ghost use Rattle.port_place.specs.Told.{Told};
+ghost use Rattle.port_place.specs.{Done.{HasCollected, HasLength}, Flat.{begun_with, flat_reply}, Refusals.{collect_refused, is_short, slot_refusal}, Told.{Told}};
 
 use crate::flat::FlatReply;
 use crate::status::Status;
@@ -30,30 +27,24 @@ pub fn collect<A: Allocator>(
     if tag >= 32 {
         return Status::BadTag;
     }
-    take(port, tag as u8, number, reply, out)
-}
-
-/// The same of a tag below 32.
-fn take<A: Allocator>(
-    port: &mut Port<A>,
-    tag: u8,
-    number: u64,
-    reply: &mut FlatReply,
-    out: &mut [u8],
-) -> Status
-    ensures { Told result (slot_refusal port.old tag number (length out.old)) (HasCollected tag number port.old port.new reply.new out.old out.new)
-        ((port.new ≡ port.old) × (reply.new ≡ reply.old) × (out.new ≡ out.old)) }
-{
+    let tag = tag as u8;
     if let Some(refusal) = refusal(port, tag, number, out.len()) {
         return refusal;
     }
+    *reply = taken(port, tag, number, out);
+    Status::Done
+}
+
+/// Takes an answer that nothing stands against.
+fn taken<A: Allocator>(port: &mut Port<A>, tag: u8, number: u64, out: &mut [u8]) -> FlatReply
+    requires tag { tag < 32 }
+    requires free { slot_refusal port.old tag number (length out.old) ≡ None }
+    ensures { HasCollected tag number port.old port.new result out.old out.new }
+{
     port.keeps_its_promise();
     let bytes = port.read_length(tag).unwrap_or(0);
     match port.collect(tag, number) {
-        Ok((ended, window)) => {
-            *reply = copied(&ended, &window, bytes, out);
-            Status::Done
-        }
+        Ok((ended, window)) => copied(&ended, &window, bytes, out),
         // It is the slot's request, and done.
         Err(_) => unreachable!(),
     }

@@ -1,12 +1,8 @@
 //! The entries of a port's journal, by their numbers.
 
 ghost use Rattle.std.specs.Prelude.{◌≡◌, Some};
-ghost use Rattle.ncq_journal.specs.Entry.{Entry, Issue, entry_of};
-ghost use Rattle.ncq_journal.specs.Lawful.{IsProper, IsProperEntry};
-ghost use Rattle.ncq_journal.specs.Numbering.{entry_numbered};
-ghost use Rattle.ncq_journal.specs.Work.{work_of};
-ghost use Rattle.port_place.specs.Flat.{flat_entry, plain_kind};
-ghost use Rattle.port_place.specs.Seen.{AnswersBytes, AnswersEntry, written_by};
+ghost use Rattle.ncq_journal.specs.{Entry.{Entry, Issue, entry_of}, Lawful.{IsProper, IsProperEntry}, Numbering.{entry_numbered}, Work.{work_of}};
+ghost use Rattle.port_place.specs.{Flat.{flat_entry, plain_kind}, Seen.{AnswersBytes, AnswersEntry, written_by}};
 
 use crate::flat::FlatEntry;
 use crate::status::Status;

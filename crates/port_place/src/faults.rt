@@ -1,12 +1,10 @@
-//! The status of each fault of the port.
+//! The statuses of faults. A fault of two reasons, which one call alone has, is told in that call.
 
 ghost use Rattle.std.specs.Prelude.{◌≡◌};
-ghost use Rattle.port_place.specs.Status.{of_fis, of_issue, of_plain, of_recover, of_register, of_reissue, of_step, of_table, of_trim, of_write};
+ghost use Rattle.port_place.specs.Status.{of_fis, of_issue, of_plain, of_register, of_step, of_table, of_write};
 
 use crate::status::Status;
-use ahci_port::{
-    IssueFault, PlainFault, RecoverFault, ReissueFault, StepFault, TrimFault, WriteFault,
-};
+use ahci_port::{IssueFault, PlainFault, StepFault, WriteFault};
 use ahci_regs::RegFault;
 use ahci_table::TableFault;
 use sata_fis::FisFault;
@@ -40,26 +38,6 @@ pub(crate) fn step_status(fault: StepFault) -> Status
     }
 }
 
-/// Why the port did not recover.
-pub(crate) fn recover_status(fault: RecoverFault) -> Status
-    ensures { result ≡ of_recover fault }
-{
-    match fault {
-        RecoverFault::NotHalted => Status::NotHalted,
-        RecoverFault::OutOfMemory => Status::OutOfMemory,
-    }
-}
-
-/// Why a held command was not issued again.
-pub(crate) fn reissue_status(fault: ReissueFault) -> Status
-    ensures { result ≡ of_reissue fault }
-{
-    match fault {
-        ReissueFault::Halted => Status::Halted,
-        ReissueFault::NotHeld => Status::NotHeld,
-    }
-}
-
 /// Why a command that is not queued was not sent.
 pub(crate) fn plain_status(fault: PlainFault) -> Status
     ensures { result ≡ of_plain fault }
@@ -68,16 +46,6 @@ pub(crate) fn plain_status(fault: PlainFault) -> Status
         PlainFault::Halted => Status::Halted,
         PlainFault::QueueBusy => Status::QueueBusy,
         PlainFault::OutOfMemory => Status::OutOfMemory,
-    }
-}
-
-/// Why the journal was not handed out.
-pub(crate) fn trim_status(fault: TrimFault) -> Status
-    ensures { result ≡ of_trim fault }
-{
-    match fault {
-        TrimFault::Busy => Status::Busy,
-        TrimFault::Spent => Status::Spent,
     }
 }
 

@@ -2,8 +2,7 @@
 
 ghost use Rattle.std.specs.Prelude.{◌≡◌, ◌<◌, ◌≤◌, ◌*◌, ◌^◌, false, length, IfOk, None};
 ghost use Rattle.ncq_journal.specs.Work.{lba_of, sectors_of, work_of};
-ghost use Rattle.port_place.specs.Asked.{AnswersIssue, AnswersSubmit, submit_refusal, work_asked};
-ghost use Rattle.port_place.specs.Done.{AnswersCommand, AnswersWindow};
+ghost use Rattle.port_place.specs.{Asked.{AnswersIssue, AnswersSubmit, submit_refusal, work_asked}, Done.{AnswersCommand, AnswersWindow}};
 ghost use Rattle.ahci_table.specs.Refusal.{is_ragged};
 
 use crate::faults::issue_status;
@@ -53,28 +52,10 @@ pub fn submit<A: Allocator + Copy>(
     if let Some(refusal) = submit_refusal(kind, lba, sectors, data) {
         return refusal;
     }
-    command(port, alloc, tag as u8, kind, lba, sectors, data, number)
-}
-
-/// Issues the command of numbers that were looked at.
-fn command<A: Allocator + Copy>(
-    port: &mut Port<A>,
-    alloc: A,
-    tag: u8,
-    kind: u32,
-    lba: u64,
-    sectors: u32,
-    data: &[u8],
-    number: &mut u64,
-) -> Status
-    requires tag { tag < 32 }
-    requires free { submit_refusal kind lba sectors (length data.now) ≡ None }
-    ensures { AnswersCommand tag (work_asked kind lba sectors data.now) result port.old port.new number.old number.new }
-{
     let Ok(op) = asked(alloc, kind, lba, sectors, data) else {
         return Status::OutOfMemory;
     };
-    send(port, alloc, tag, &op, number)
+    send(port, alloc, tag as u8, &op, number)
 }
 
 /// Why no command is made of these numbers.

@@ -1,12 +1,11 @@
 //! A journal told as structs, judged with no port: which events may follow which. It goes over the events once.
 
 ghost use Rattle.std.specs.Prelude.{◌≡◌, ◌↔◌, ◌≤◌, ◌<◌, false, IsTrue, MatchOption};
-ghost use Rattle.ncq_journal.specs.Lawful.{Fails, Fits, IsAllowed, IsLawful, IsProper, MayAccept, MayFail, MayIssue, Refuses};
-ghost use Rattle.port_place.specs.Judging.{AnswersJournal, HasLowTag, IsFirstBad, entry_of, journal_named, work_over};
-ghost use Rattle.port_place.specs.Knowing.{AreKnown};
+ghost use Rattle.ncq_journal.specs.{Halted.{busy, halted}, Lawful.{Fails, Fits, IsAllowed, IsJournalled, IsLawful, IsProper, MayAccept, MayFail, MayIssue, Refuses}};
+ghost use Rattle.port_place.specs.{Judging.{AnswersJournal, HasLowTag, IsFirstBad, entry_of, journal_named, work_over}, Knowing.{AreKnown}};
 
 use crate::flat::FlatEntry;
-use crate::known::{Known, is_busy, is_halted, known_of, known_with, nothing_known};
+use crate::known::{Known, is_halted, known_of, known_with, nothing_known, some_waiting};
 use crate::named::{Deed, Span, named};
 use crate::status::Status;
 use ncq_core::MAX_DEPTH;
@@ -73,9 +72,7 @@ fn may_come(sectors: u32, depth: u32, tags: &[Known; 32], past: &[FlatEntry], ev
             known_of(tags, past, tag).phase == Phase::Held && !is_halted(tags, past)
         }
         Deed::Collect(tag) => known_of(tags, past, tag).phase == Phase::Done,
-        Deed::Plain(command) => {
-            command != Plain::ReadLog && !is_halted(tags, past) && !is_busy(tags, past)
-        }
+        Deed::Plain(command) => may_send(tags, past, command),
     }
 }
 
@@ -158,4 +155,12 @@ fn refuses(sectors: u32, span: Span, error: u8, lba: u64) -> bool
     ensures { IsTrue result ↔ Refuses sectors (work_over false span.lba span.sectors) error lba }
 {
     !fits(sectors, span) && error == 0x10 && lba == span.lba.max(u64::from(sectors))
+}
+
+#[tactic(auto, using(crate::proofs::JudgingLemmas::busy_known))]
+fn may_send(tags: &[Known; 32], past: &[FlatEntry], command: Plain) -> bool
+    requires { AreKnown (journal_named past.now) tags.now }
+    ensures { IsTrue result ↔ IsJournalled command × (halted (journal_named past.now) ≡ false) × (busy (journal_named past.now) ≡ false) }
+{
+    command != Plain::ReadLog && !is_halted(tags, past) && !some_waiting(tags)
 }

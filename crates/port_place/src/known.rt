@@ -1,10 +1,8 @@
 //! What a list of events says of each tag.
 
-ghost use Rattle.std.specs.Prelude.{◌≡◌, ◌<◌, [], ◌∷◌};
-ghost use Rattle.ncq_journal.specs.Halted.{busy, halted};
-ghost use Rattle.ncq_journal.specs.Phase.{phase_after};
-ghost use Rattle.port_place.specs.Judging.{entry_of, journal_named};
-ghost use Rattle.port_place.specs.Knowing.{AreKnown, known, known_after, nothing_known, span_after};
+ghost use Rattle.std.specs.{Prelude.{◌≡◌, ◌<◌, [], ◌∷◌}, List.{list_any}};
+ghost use Rattle.ncq_journal.specs.{Halted.{halted}, Phase.{phase_after}};
+ghost use Rattle.port_place.specs.{Judging.{entry_of, journal_named}, Knowing.{AreKnown, has_failed, is_waiting, known, known_after, nothing_known, span_after}};
 
 use crate::flat::FlatEntry;
 use crate::named::{Deed, Span};
@@ -85,29 +83,24 @@ fn span_after(tag: u8, before: Option<Span>, event: Deed) -> Option<Span>
 }
 
 /// Whether some tag's command has failed, and the port has not recovered.
-#[tactic(auto, using(ncq_journal::proofs::HaltedLemmas::halted_at, ncq_journal::proofs::HaltedLemmas::not_halted))]
+#[tactic(auto, using(crate::proofs::JudgingLemmas::halted_known))]
 pub(crate) fn is_halted(tags: &[Known; 32], past: &[FlatEntry]) -> bool
     requires { AreKnown (journal_named past.now) tags.now }
     ensures { result ≡ halted (journal_named past.now) }
 {
-    for tag in 0..32u8 {
-        if known_of(tags, past, tag).phase.is_failed() {
-            return true;
-        }
-    }
-    false
+    some_failed(tags)
+}
+
+/// Whether some tag's command has failed.
+fn some_failed(tags: &[Known; 32]) -> bool
+    ensures { result ≡ list_any has_failed tags.now }
+{
+    tags.iter().any(|known| known.phase.is_failed())
 }
 
 /// Whether some tag waits for the device or is outstanding in it.
-#[tactic(auto, using(ncq_journal::proofs::HaltedLemmas::busy_at, ncq_journal::proofs::HaltedLemmas::not_busy))]
-pub(crate) fn is_busy(tags: &[Known; 32], past: &[FlatEntry]) -> bool
-    requires { AreKnown (journal_named past.now) tags.now }
-    ensures { result ≡ busy (journal_named past.now) }
+pub(crate) fn some_waiting(tags: &[Known; 32]) -> bool
+    ensures { result ≡ list_any is_waiting tags.now }
 {
-    for tag in 0..32u8 {
-        if known_of(tags, past, tag).phase.is_busy() {
-            return true;
-        }
-    }
-    false
+    tags.iter().any(|known| known.phase.is_busy())
 }

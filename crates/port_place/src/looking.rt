@@ -1,14 +1,10 @@
 //! What can be seen of a port.
 
-ghost use Rattle.std.specs.Prelude.{◌≡◌, length, None};
-ghost use Rattle.std.specs.Option.{unwrap_or};
+ghost use Rattle.std.specs.{Prelude.{◌≡◌, length, None}, Option.{unwrap_or}};
 ghost use Rattle.ahci_port.specs.PortView.{sectors_in};
 ghost use Rattle.ahci_regs.specs.Reading.{read_of};
 ghost use Rattle.ncq_journal.specs.Sector.{sector};
-ghost use Rattle.port_place.specs.Done.{AnswersRegister, IsSets};
-ghost use Rattle.port_place.specs.Flat.{flat_slot, phase_number};
-ghost use Rattle.port_place.specs.Refusals.{copy_refusal, received_refusal, with_tag};
-ghost use Rattle.port_place.specs.Told.{Told};
+ghost use Rattle.port_place.specs.{Done.{AnswersRegister, IsSets}, Flat.{flat_slot, phase_number}, Refusals.{copy_refusal, received_refusal, with_tag}, Told.{Told}};
 
 use crate::faults::register_status;
 use crate::flat::{FlatSets, FlatSlot};

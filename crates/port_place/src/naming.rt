@@ -1,8 +1,7 @@
 //! The statuses by their numbers and names.
 
 ghost use Rattle.std.specs.Prelude.{◌≡◌, ◌++◌, ◌∷◌, [], length, IfSome, MatchOption};
-ghost use Rattle.port_place.specs.Names.{AnswersName, AnswersText, IsNoStatus};
-ghost use Rattle.port_place.specs.Status.{code_of, name_of};
+ghost use Rattle.port_place.specs.{Names.{AnswersName, AnswersText, IsNoStatus}, Status.{code_of, name_of}};
 
 use crate::status::Status;
 

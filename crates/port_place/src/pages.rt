@@ -1,10 +1,8 @@
 //! The pages that a disk tells of itself, of any numbers, with no port.
 
 ghost use Rattle.std.specs.Prelude.{◌≡◌, length};
-ghost use Rattle.ncq_core.specs.Identify.{identify_page};
-ghost use Rattle.ncq_core.specs.Log.{log_page};
-ghost use Rattle.port_place.specs.Alone.{log_refusal, page_refusal};
-ghost use Rattle.port_place.specs.Told.{Told};
+ghost use Rattle.ncq_core.specs.{Identify.{identify_page}, Log.{log_page}};
+ghost use Rattle.port_place.specs.{Alone.{log_refusal, page_refusal}, Told.{Told}};
 
 use crate::status::Status;
 use ncq_core::MAX_DEPTH;

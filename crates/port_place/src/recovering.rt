@@ -1,17 +1,13 @@
 //! How software recovers, issues held commands again, and sends commands that are not queued.
 
 ghost use Rattle.std.specs.Prelude.{◌≡◌, length};
-ghost use Rattle.ahci_port.specs.PortView.{sectors_in};
-ghost use Rattle.ahci_port.specs.Registers.{acknowledged};
-ghost use Rattle.ahci_port.specs.Steps.{IsFlushed, IsIdentified, IsReissued, trimmed};
+ghost use Rattle.ahci_port.specs.{PortView.{sectors_in}, Registers.{acknowledged}, Steps.{IsFlushed, IsIdentified, IsReissued, trimmed}};
 ghost use Rattle.ncq_core.specs.Identify.{identify_page};
-ghost use Rattle.port_place.specs.Done.{HasRecovered, Same};
-ghost use Rattle.port_place.specs.Refusals.{flush_refusal, identify_refusal, recover_refused, reissue_refused, trim_refused};
-ghost use Rattle.port_place.specs.Told.{Told, ToldOr};
+ghost use Rattle.port_place.specs.{Done.{HasRecovered, Same}, Refusals.{flush_refusal, identify_refusal, recover_refused, reissue_refused, trim_refused}, Told.{Told, ToldOr}};
 
-use crate::faults::{plain_status, recover_status, reissue_status, trim_status};
+use crate::faults::plain_status;
 use crate::status::Status;
-use ahci_port::Port;
+use ahci_port::{Port, RecoverFault, ReissueFault, TrimFault};
 use std::alloc::Allocator;
 
 /// Recovers from a failure: `tag` is the one whose command had failed then.
@@ -23,7 +19,8 @@ pub fn recover<A: Allocator>(port: &mut Port<A>, tag: &mut u32) -> Status
             *tag = u32::from(failed);
             Status::Done
         }
-        Err(fault) => recover_status(fault),
+        Err(RecoverFault::NotHalted) => Status::NotHalted,
+        Err(RecoverFault::OutOfMemory) => Status::OutOfMemory,
     }
 }
 
@@ -36,7 +33,8 @@ pub fn reissue<A: Allocator>(port: &mut Port<A>, tag: u32) -> Status
     }
     match port.reissue(tag as u8) {
         Ok(()) => Status::Done,
-        Err(fault) => reissue_status(fault),
+        Err(ReissueFault::Halted) => Status::Halted,
+        Err(ReissueFault::NotHeld) => Status::NotHeld,
     }
 }
 
@@ -86,6 +84,7 @@ pub fn trim<A: Allocator + Copy>(port: &mut Port<A>, entries: &mut u64) -> Statu
             *entries = journal.len();
             Status::Done
         }
-        Err(fault) => trim_status(fault),
+        Err(TrimFault::Busy) => Status::Busy,
+        Err(TrimFault::Spent) => Status::Spent,
     }
 }

@@ -1,12 +1,10 @@
 //! All that can be seen of a port at once.
 
-ghost use Rattle.std.specs.Prelude.{◌≡◌, ◌<◌, ℕ, slice_index_or};
-ghost use Rattle.std.specs.Option.{unwrap_or};
+ghost use Rattle.std.specs.{Prelude.{◌≡◌, ◌<◌, ℕ, slice_index_or}, Option.{unwrap_or}};
 ghost use Rattle.ahci_port.specs.PortView.{owner_of};
 ghost use Rattle.ahci_regs.specs.Reading.{word_at};
 ghost use Rattle.ncq_journal.specs.Phase.{phase};
-ghost use Rattle.port_place.specs.Flat.{phase_number};
-ghost use Rattle.port_place.specs.Seen.{IsState};
+ghost use Rattle.port_place.specs.{Flat.{phase_number}, Seen.{IsState}};
 
 use crate::flat::FlatState;
 use crate::looking::phase_number;

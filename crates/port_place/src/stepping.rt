@@ -1,13 +1,8 @@
 //! What the device does: it accepts commands, serves them and fails them.
 
-ghost use Rattle.std.specs.Prelude.{◌≡◌, ◌≤◌, length};
-ghost use Rattle.std.specs.Option.{option_map};
+ghost use Rattle.std.specs.{Prelude.{◌≡◌, ◌≤◌, length}, Option.{option_map}};
 ghost use Rattle.ahci_port.specs.Faults.{step_refusal};
-ghost use Rattle.port_place.specs.Done.{HasStepped, Same};
-ghost use Rattle.port_place.specs.Flat.{flat_step};
-ghost use Rattle.port_place.specs.Refusals.{accept_refusal, fail_refusal, serve_refusal};
-ghost use Rattle.port_place.specs.Status.{of_step};
-ghost use Rattle.port_place.specs.Told.{Told};
+ghost use Rattle.port_place.specs.{Done.{HasStepped, Same}, Flat.{flat_step}, Refusals.{accept_refusal, fail_refusal, serve_refusal}, Status.{of_step}, Told.{Told}};
 
 use crate::faults::step_status;
 use crate::flat::FlatStep;

@@ -1,11 +1,8 @@
 //! A window as it lies in memory, looked at with no port.
 
 ghost use Rattle.std.specs.Prelude.{◌≡◌, length, None};
-ghost use Rattle.ahci_table.specs.Command.{queued_of};
-ghost use Rattle.ahci_table.specs.Prdt.{pieces};
-ghost use Rattle.port_place.specs.Alone.{AnswersCheck, AnswersWindowCheck, flat_command};
-ghost use Rattle.port_place.specs.Making.{Makes};
-ghost use Rattle.port_place.specs.Refusals.{with_length, with_tag};
+ghost use Rattle.ahci_table.specs.{Command.{queued_of}, Prdt.{pieces}};
+ghost use Rattle.port_place.specs.{Alone.{AnswersCheck, AnswersWindowCheck, flat_command}, Making.{Makes}, Refusals.{with_length, with_tag}};
 
 use crate::faults::table_status;
 use crate::flat::FlatCommand;

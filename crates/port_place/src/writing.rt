@@ -3,8 +3,7 @@
 ghost use Rattle.std.specs.Prelude.{◌≡◌};
 ghost use Rattle.ahci_port.specs.Writes.{shown};
 ghost use Rattle.ahci_regs.specs.Reading.{read_of};
-ghost use Rattle.port_place.specs.Done.{AnswersRegister};
-ghost use Rattle.port_place.specs.Writing.{AnswersWord, AnswersWrite, flat_refused, flat_written};
+ghost use Rattle.port_place.specs.{Done.{AnswersRegister}, Writing.{AnswersWord, AnswersWrite, flat_refused, flat_written}};
 
 use crate::faults::{register_status, write_status};
 use crate::flat::FlatWritten;

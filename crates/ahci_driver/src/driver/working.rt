@@ -3,8 +3,7 @@
 ghost use Rattle.std.specs.Prelude.{◌≡◌, true, IfOk, IfErr, OnOk, length};
 ghost use Rattle.ncq_journal.specs.Work.{work_of};
 ghost use Rattle.word_bits.specs.Places.{has_place};
-ghost use Rattle.ahci_driver.specs.Submitting.{HasNotSubmitted, HasReturned, HasSubmitted};
-ghost use Rattle.ahci_driver.specs.Tickets.{answer_length};
+ghost use Rattle.ahci_driver.specs.{Submitting.{HasNotSubmitted, HasReturned, HasSubmitted}, Tickets.{answer_length}};
 
 use crate::chooser::Chooser;
 use crate::driver::Driver;

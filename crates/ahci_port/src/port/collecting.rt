@@ -2,10 +2,7 @@
 
 ghost use Rattle.std.specs.Prelude.{◌≡◌, Some, IfOk, OnOk, OnErr};
 ghost use Rattle.ahci_table.specs.Fit.{IsFit};
-ghost use Rattle.ahci_port.specs.Faults.{Answers, collect_refusal, reissue_refusal};
-ghost use Rattle.ahci_port.specs.PortView.{window_at};
-ghost use Rattle.ahci_port.specs.Slots.{bytes_in};
-ghost use Rattle.ahci_port.specs.Steps.{IsCollected, IsReissued, answer_to};
+ghost use Rattle.ahci_port.specs.{Faults.{Answers, collect_refusal, reissue_refusal}, PortView.{window_at}, Slots.{bytes_in}, Steps.{IsCollected, IsReissued, answer_to}};
 
 use crate::fault::{CollectFault, ReissueFault};
 use crate::port::{Port, number_at};

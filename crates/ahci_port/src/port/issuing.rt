@@ -1,14 +1,9 @@
 //! How software issues a command.
 
 ghost use Rattle.std.specs.Prelude.{◌≡◌, ◌≢◌, IfOk, IfErr, OnOk};
-ghost use Rattle.ahci_table.specs.Command.{op, queued_of};
-ghost use Rattle.ahci_table.specs.Fit.{IsFit};
-ghost use Rattle.ahci_table.specs.Prdt.{pieces};
+ghost use Rattle.ahci_table.specs.{Command.{op, queued_of}, Fit.{IsFit}, Prdt.{pieces}};
 ghost use Rattle.ncq_journal.specs.Work.{work_of};
-ghost use Rattle.ahci_port.specs.Faults.{RefusesIssue, MayTake, early_refusal};
-ghost use Rattle.ahci_port.specs.Moves.{issue_fault_of};
-ghost use Rattle.ahci_port.specs.PortView.{next_number};
-ghost use Rattle.ahci_port.specs.Steps.{IsIssued};
+ghost use Rattle.ahci_port.specs.{Faults.{RefusesIssue, MayTake, early_refusal}, Moves.{issue_fault_of}, PortView.{next_number}, Steps.{IsIssued}};
 
 use crate::fault::IssueFault;
 use crate::port::{Port, ROOM};

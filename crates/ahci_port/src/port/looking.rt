@@ -1,12 +1,9 @@
 //! What a driver asks a port of. None of these calls takes memory.
 
-ghost use Rattle.std.specs.Prelude.{◌≡◌, ◌≤◌};
-ghost use Rattle.std.specs.Option.{option_copied};
+ghost use Rattle.std.specs.{Prelude.{◌≡◌, ◌≤◌}, Option.{option_copied}};
 ghost use Rattle.word_bits.specs.Places.{bits};
 ghost use Rattle.ncq_journal.specs.Owed.{owed};
-ghost use Rattle.ahci_port.specs.Headline.{Headline};
-ghost use Rattle.ahci_port.specs.Looking.{issued_tags, accepted_tags, held_tags, read_length, HasShape};
-ghost use Rattle.ahci_port.specs.PortView.{window_at};
+ghost use Rattle.ahci_port.specs.{Headline.{Headline}, Looking.{issued_tags, accepted_tags, held_tags, read_length, HasShape}, PortView.{window_at}};
 
 use crate::port::Port;
 use crate::sent::Sent;

@@ -3,12 +3,8 @@
 
 ghost use Rattle.std.specs.Prelude.{◌≡◌, true, IfOk, IfErr, OnOk, OnErr};
 ghost use Rattle.ncq_core.specs.Identify.{identify_page};
-ghost use Rattle.ncq_journal.specs.Lawful.{IsJournalled};
-ghost use Rattle.ncq_journal.specs.Phase.{phase, is_failed};
-ghost use Rattle.ncq_journal.specs.declared.plain.Plain.TheVariants.{Identify};
-ghost use Rattle.ahci_port.specs.Faults.{AnswersOr, recover_refusal, plain_refusal};
-ghost use Rattle.ahci_port.specs.PortView.{sectors_in};
-ghost use Rattle.ahci_port.specs.Steps.{IsCarriedOut, IsRecovered, IsIdentified, IsFlushed};
+ghost use Rattle.ncq_journal.specs.{Lawful.{IsJournalled}, Phase.{phase, is_failed}, declared.plain.Plain.TheVariants.{Identify}};
+ghost use Rattle.ahci_port.specs.{Faults.{AnswersOr, recover_refusal, plain_refusal}, PortView.{sectors_in}, Steps.{IsCarriedOut, IsRecovered, IsIdentified, IsFlushed}};
 
 use crate::fault::{PlainFault, RecoverFault};
 use crate::port::{Port, ROOM};

@@ -2,14 +2,9 @@
 //! by one Set Device Bits FIS (Serial ATA, "Set Device Bits").
 
 ghost use Rattle.std.specs.Prelude.{◌≡◌, ℕ, ◌<◌, IfOk, None, OnErr, Some, length, slice_index};
-ghost use Rattle.ahci_table.specs.Command.{queued_of};
-ghost use Rattle.ahci_table.specs.Fit.{IsFit};
-ghost use Rattle.ncq_core.specs.DiskState.{command_of};
-ghost use Rattle.ncq_core.specs.Serving.{serve_fault};
-ghost use Rattle.ahci_port.specs.Faults.{Answers, are_accepted, is_bad_list, names_twice, step_refusal};
-ghost use Rattle.ahci_port.specs.Registers.{word_of_tags};
-ghost use Rattle.ahci_port.specs.Serving.{CompletesOne};
-ghost use Rattle.ahci_port.specs.Steps.{IsStepped};
+ghost use Rattle.ahci_table.specs.{Command.{queued_of}, Fit.{IsFit}};
+ghost use Rattle.ncq_core.specs.{DiskState.{command_of}, Serving.{serve_fault}};
+ghost use Rattle.ahci_port.specs.{Faults.{Answers, are_accepted, is_bad_list, names_twice, step_refusal}, Registers.{word_of_tags}, Serving.{CompletesOne}, Steps.{IsStepped}};
 
 use crate::fault::StepFault;
 use crate::port::Port;

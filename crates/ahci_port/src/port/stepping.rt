@@ -1,9 +1,7 @@
 //! What the device does with a tag's command: it accepts or refuses it, serves it with others, or fails it.
 
 ghost use Rattle.std.specs.Prelude.{◌≡◌, IfOk, OnErr};
-ghost use Rattle.ahci_port.specs.Faults.{Answers, step_refusal};
-ghost use Rattle.ahci_port.specs.Moves.{step_fault_of};
-ghost use Rattle.ahci_port.specs.Steps.{IsStepped};
+ghost use Rattle.ahci_port.specs.{Faults.{Answers, step_refusal}, Moves.{step_fault_of}, Steps.{IsStepped}};
 
 use crate::fault::StepFault;
 use crate::port::Port;

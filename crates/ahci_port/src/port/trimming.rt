@@ -2,9 +2,7 @@
 
 ghost use Rattle.std.specs.Prelude.{◌≡◌, IfOk, OnErr, OnOk};
 ghost use Rattle.ncq_journal.specs.Laws.{AllFree};
-ghost use Rattle.ahci_port.specs.Faults.{Answers, is_vacant, trim_refusal};
-ghost use Rattle.ahci_port.specs.PortView.{journal_in};
-ghost use Rattle.ahci_port.specs.Steps.{GoesOn, trimmed};
+ghost use Rattle.ahci_port.specs.{Faults.{Answers, is_vacant, trim_refusal}, PortView.{journal_in}, Steps.{GoesOn, trimmed}};
 
 use crate::fault::TrimFault;
 use crate::port::{MOST_FIRST, Port};

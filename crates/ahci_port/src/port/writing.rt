@@ -4,8 +4,10 @@ ghost use Rattle.std.specs.Prelude.{◌≡◌, ◌<◌, ◌≤◌, ◌*◌, ◌&
 ghost use Rattle.ahci_regs.specs.Reading.{read_of};
 ghost use Rattle.ncq_journal.specs.Halted.{halted};
 ghost use Rattle.word_bits.specs.Places.{bits, has_place, minus, only_below, union, word_of};
-ghost use Rattle.ahci_port.specs.Headline.{Headline};
-ghost use Rattle.ahci_port.specs.Writes.{CommandsBelow, CommandsSlot, Leaves, RefusesCi, RefusesSact, RefusesSlot, RefusesStart, RefusesWord, RefusesWrite, Starts, StoresWord, TakesCi, TakesCommand, TakesSact, TakesWrite, keeps_commands, newly_set, share, shown, unannounced};
+ghost use Rattle.ahci_port.specs.{
+  Headline.{Headline},
+  Writes.{CommandsBelow, CommandsSlot, Leaves, RefusesCi, RefusesSact, RefusesSlot, RefusesStart, RefusesWord, RefusesWrite, Starts, StoresWord, TakesCi, TakesCommand, TakesSact, TakesWrite, keeps_commands, newly_set, share, shown, unannounced},
+};
 
 use crate::fault::{IssueFault, ReissueFault, WriteFault};
 use crate::pending::Pending;

@@ -1,13 +1,12 @@
-use Rattle.std.proofs.Common.{◌+◌, ◌-◌, ◌≤◌, length, drop, ap, sym, ◌∙◌, subst, arith}
+use Rattle.std.proofs.Common.{◌+◌, ◌-◌, length, drop, ap, ◌∙◌, arith}
 use Rattle.std.proofs.lemmas.List.{take_all, length-drop}
 use Rattle.ahci_table.specs.Text.{text, replaced}
-use Rattle.ahci_port.proofs.MemoryLemmas.{fit_sized, replaced_range}
+use Rattle.ahci_port.proofs.MemoryLemmas.{fit_sized, replaced_range, room_here}
 use Rattle.ahci_port.proofs.memory.MemoryHost.deliver.Goals as goal
 
 pub overflow_add-self : goal.overflow_add-self
 overflow_add-self g c =
-    let room : c.self.inside.offset + length (drop 4 c.args.fis.now) ≤ length (text c.self.inside.window) =
-    subst (λ m. m.offset + length (drop 4 c.args.fis.now) ≤ length (text m.window)) (sym c.self.view_is) c.requires.room in
+    let room = room_here _ _ (length (drop 4 c.args.fis.now)) c.self.view_is c.requires.room in
     let sized = fit_sized c.self.inside.window c.self.invariant.0 in
     let short = c.self.invariant.2 in
     let all = take_all (length c.args.fis.now - 4) (drop 4 c.args.fis.now) (omega (arith, length-drop 4 c.args.fis.now)) in

@@ -4,8 +4,8 @@ use Rattle.ahci_port.specs.Slots.{bytes_in}
 use Rattle.ahci_port.proofs.CollectingLemmas.{not_refused}
 use Rattle.port_place.specs.Done.{HasLength}
 use Rattle.port_place.specs.Flat.{flat_reply}
-use Rattle.port_place.proofs.CollectingLemmas.{text_read, told_done}
-use Rattle.port_place.proofs.collecting.take.Goals as goal
+use Rattle.port_place.proofs.CollectingLemmas.{text_read}
+use Rattle.port_place.proofs.collecting.taken.Goals as goal
 
 pub copied-requires-clause-len : goal.copied-requires-clause-len
 copied-requires-clause-len g c =
@@ -19,11 +19,10 @@ pub returns : goal.returns
 returns g c =
     let ended = c.in-Ok.ended in
     let bytes = bytes_in ended.outcome c.in-Ok.window in
-    told_done _ _ _ (sym c.refusal.ensures ∙ c.in_default.is)
-    (record {
+    record {
       answer = record { entry = ended.entry; outcome = ended.outcome; bytes = bytes };
       is = c.in-Ok.ensures.reply;
       collected = c.in-Ok.ensures.ok;
       told = c.copied.ensures.reply ∙ ap (λ n. flat_reply n ended.outcome ended.entry (length bytes)) c.in-Ok.ensures.number;
       bytes = c.copied.ensures.out;
-    })
+    }
