@@ -3,25 +3,7 @@ use Rattle.std.proofs.Common.{◌≡◌, ℕ, ◌^◌, ◌<◌, ◌≤◌, Bool,
 use Rattle.std.proofs.lemmas.Bool.{cases_eq, cases_lt}
 use Rattle.std.proofs.lemmas.Nat.{or_of_8, and_le_l}
 use Rattle.word_bits.specs.Places.{bits, has_place, no_places, without_place, union, intersection, minus, only_below}
-use Rattle.word_bits.proofs.PlacesLemmas.{
-  length-no_places,
-  length-without_place,
-  length-union,
-  length-intersection,
-  length-minus,
-  length-only_below,
-  has_place-no_places,
-  has_place-without_same,
-  has_place-without_other,
-  has_place-union,
-  has_place-intersection,
-  has_place-minus,
-  has_place-only_below,
-  has_place-only_below_past,
-  same_sets,
-  and_true,
-  and_false,
-}
+use Rattle.word_bits.proofs.PlacesLemmas.{length-no_places, length-without_place, length-union, length-intersection, length-minus, length-only_below, has_place-no_places, has_place-without_same, has_place-without_other, has_place-union, has_place-intersection, has_place-minus, has_place-only_below, has_place-only_below_past, same_sets, and_true, and_false}
 use Rattle.word_bits.proofs.BitsLemmas.{length-bits, bits_and, bits_zero}
 use Rattle.ahci_regs.specs.PortState.{PortState, IsLawful, IsSlots, IsInterrupts, implemented, first_state}
 use Rattle.ahci_regs.specs.Writing.{remaining}
@@ -135,60 +117,35 @@ interrupts-sdbs = interrupts-bit (2 ^ 3) refl
 pub interrupts-tfes : IsInterrupts tfes
 interrupts-tfes = interrupts-bit (2 ^ 30) refl
 
+pub interrupts_after_fis : (i error : Bool) (own s r : List Bool) → r ≡ raised error tfes (raised i own s) → IsInterrupts own → IsInterrupts s → IsInterrupts r
+interrupts_after_fis i error own s r e h k =
+    interrupts_after error tfes (raised i own s) r e interrupts-tfes (interrupts-raised i own s h k)
+
 -- ---- lawful states
+
+-- where all but the depth and the bases may change
+lawful_with : (s : PortState) (st fre : Bool) (sts err : ℕ) (is ie sact ci : List Bool) → IsLawful s → IsSlots s.depth sact → IsSlots s.depth ci → IsInterrupts is → IsInterrupts ie
+    → (st ≡ true → fre ≡ true) → (st ≡ false → (sact ≡ no_places) × (ci ≡ no_places)) → sts < 256 → err < 256
+    → IsLawful (record s { sact = sact; ci = ci; is = is; ie = ie; st = st; fre = fre; sts = sts; err = err })
+lawful_with s st fre sts err is ie sact ci h of_sact of_ci of_is of_ie receiving stopped below_sts below_err =
+    record { some_slot = h.some_slot; slots = h.slots; sact = of_sact; ci = of_ci; is = of_is; ie = of_ie; receiving = receiving; stopped = stopped; sts = below_sts; err = below_err; clb = h.clb; fb = h.fb }
 
 -- where a FIS replaces the status, raises interrupts and takes commands away
 pub kept_by_fis : (s : PortState) (sts err : ℕ) (is sact ci : List Bool) → IsLawful s → sts < 256 → err < 256 → IsInterrupts is → IsSlots s.depth sact
     → IsSlots s.depth ci → (s.sact ≡ no_places → sact ≡ no_places) → (s.ci ≡ no_places → ci ≡ no_places) → IsLawful (record s { sts = sts; err = err; is = is; sact = sact; ci = ci })
-kept_by_fis s sts err is sact ci h below_sts below_err known slots_sact slots_ci keeps_sact keeps_ci = record {
-  some_slot = h.some_slot;
-  slots = h.slots;
-  sact = slots_sact;
-  ci = slots_ci;
-  is = known;
-  ie = h.ie;
-  receiving = h.receiving;
-  stopped = λ k. (keeps_sact (h.stopped k).0, keeps_ci (h.stopped k).1);
-  sts = below_sts;
-  err = below_err;
-  clb = h.clb;
-  fb = h.fb;
-}
+kept_by_fis s sts err is sact ci h below_sts below_err known slots_sact slots_ci keeps_sact keeps_ci =
+    lawful_with s s.st s.fre sts err is s.ie sact ci h slots_sact slots_ci known h.ie h.receiving (λ k. (keeps_sact (h.stopped k).0, keeps_ci (h.stopped k).1)) below_sts below_err
 
 -- where an interrupt is cleared or enabled
 pub kept_by_interrupts : (s : PortState) (is ie : List Bool) → IsLawful s → IsInterrupts is → IsInterrupts ie → IsLawful (record s { is = is; ie = ie })
-kept_by_interrupts s is ie h known_is known_ie = record {
-  some_slot = h.some_slot;
-  slots = h.slots;
-  sact = h.sact;
-  ci = h.ci;
-  is = known_is;
-  ie = known_ie;
-  receiving = h.receiving;
-  stopped = h.stopped;
-  sts = h.sts;
-  err = h.err;
-  clb = h.clb;
-  fb = h.fb;
-}
+kept_by_interrupts s is ie h known_is known_ie =
+    lawful_with s s.st s.fre s.sts s.err is ie s.sact s.ci h h.sact h.ci known_is known_ie h.receiving h.stopped h.sts h.err
 
 -- where ST, FRE or a slot changes
 pub kept_by_command : (s : PortState) (st fre : Bool) (sact ci : List Bool) → IsLawful s → IsSlots s.depth sact → IsSlots s.depth ci → (st ≡ true → fre ≡ true)
     → (st ≡ false → (sact ≡ no_places) × (ci ≡ no_places)) → IsLawful (record s { st = st; fre = fre; sact = sact; ci = ci })
-kept_by_command s st fre sact ci h slots_sact slots_ci receiving stopped = record {
-  some_slot = h.some_slot;
-  slots = h.slots;
-  sact = slots_sact;
-  ci = slots_ci;
-  is = h.is;
-  ie = h.ie;
-  receiving = receiving;
-  stopped = stopped;
-  sts = h.sts;
-  err = h.err;
-  clb = h.clb;
-  fb = h.fb;
-}
+kept_by_command s st fre sact ci h slots_sact slots_ci receiving stopped =
+    lawful_with s st fre s.sts s.err s.is s.ie sact ci h slots_sact slots_ci h.is h.ie receiving stopped h.sts h.err
 
 pub slots-remaining : (d : ℕ) (stops : Bool) (s : List Bool) → IsSlots d s → IsSlots d (remaining stops s)
 slots-remaining d true s h = slots-none d
@@ -225,20 +182,8 @@ lawful-first depth low high = record {
   fb = record { low = omega arith; aligned = refl };
 }
 
-pub first-fields : (depth is ie : ℕ) → is ≡ 0 → ie ≡ 0 → record {
-  depth = depth;
-  sact = bits 0;
-  ci = bits 0;
-  is = bits is;
-  ie = bits ie;
-  st = false;
-  fre = false;
-  sts = 64;
-  err = 0;
-  clb = 0;
-  fb = 0;
-} ≡ first_state depth
-first-fields depth is ie e f = cc bits_zero
+pub first-fields : (depth is ie : ℕ) → is ≡ 0 → ie ≡ 0 → record (first_state depth) { sact = bits 0; ci = bits 0; is = bits is; ie = bits ie } ≡ first_state depth
+first-fields depth is ie e f = rw (e, f, bits_zero) refl
 
 pub status_after_bits-lt : (sts status : ℕ) → sts < 256 → status < 256 → status_after_bits sts status < 256
 status_after_bits-lt sts status h k =

@@ -2,7 +2,7 @@ ghost use Rattle.std.specs.Prelude.{⊤, ◌≡◌, [], ◌∷◌, codes, bit_an
 ghost use Rattle.word_bits.specs.Places.{bits, has_place, intersection, minus};
 ghost use Rattle.ahci_regs.specs.PortState.{implemented};
 ghost use Rattle.ahci_regs.specs.Reading.{command_word};
-ghost use Rattle.ahci_regs.specs.Receiving.{has_error, is_done, raised, status_after_bits};
+ghost use Rattle.ahci_regs.specs.Receiving.{has_error, is_done, raised, status_after_bits, tfes};
 
 use bitflags::{Flag, Flags, bitflag_items};
 
@@ -42,6 +42,44 @@ impl Flags for Interrupts {
     }
 }
 
+impl Interrupts {
+    /// The interrupts with one more, where it is raised.
+    #[tactic(auto, using(word_bits::proofs::BitsLemmas::bits_or))]
+    pub fn with(self, interrupt: Interrupts, is_raised: bool) -> Interrupts
+        ensures { bits result.0 ≡ raised is_raised (bits interrupt.0) (bits self.0) }
+    {
+        if is_raised {
+            self.union(interrupt)
+        } else {
+            self
+        }
+    }
+
+    /// The interrupts after a FIS: with its own one where its bit I is 1, and with TFES where its status reports an
+    /// error.
+    pub fn after_fis(self, own: Interrupts, i: bool, status: Status) -> Interrupts
+        ensures { bits result.0 ≡ raised (has_error status.0) tfes (raised i (bits own.0) (bits self.0)) }
+    {
+        self.with(own, i).with(Interrupts::TFES, status.has_error())
+    }
+
+    /// The interrupts without those to which software wrote 1.
+    #[tactic(auto, using(word_bits::proofs::BitsLemmas::bits_and_not))]
+    pub fn acknowledged(self, value: u32) -> Interrupts
+        ensures { bits result.0 ≡ minus (bits self.0) (bits value) }
+    {
+        self.difference(Interrupts(value))
+    }
+
+    /// The interrupts of this model that a value names.
+    #[tactic(auto, using(word_bits::proofs::BitsLemmas::bits_and), unfolding(bitflags::specs::Sets::known_from))]
+    pub fn named(value: u32) -> Interrupts
+        ensures { bits result.0 ≡ intersection (bits value) implemented }
+    {
+        Interrupts::from_bits_truncate(value)
+    }
+}
+
 /// Bits of PxCMD (AHCI 1.3.1, section 3.3.7).
 #[derive(Clone, Copy, PartialEq, Eq, Debug)]
 pub struct PortCommand(pub u32);
@@ -74,6 +112,38 @@ impl Flags for PortCommand {
 
     fn from_bits_retain(bits: u32) -> PortCommand {
         PortCommand(bits)
+    }
+}
+
+impl PortCommand {
+    /// PxCMD while ST and FRE are these: CR and FR follow them at once.
+    pub fn of(st: bool, fre: bool) -> PortCommand
+        ensures { result.0 ≡ command_word st fre }
+    {
+        let mut command = PortCommand::empty();
+        if st {
+            command = command.union(PortCommand::ST).union(PortCommand::CR);
+        }
+        if fre {
+            command = command.union(PortCommand::FRE).union(PortCommand::FR);
+        }
+        command
+    }
+
+    /// Whether ST is set.
+    #[tactic(auto, using(crate::proofs::FlagLemmas::test_st))]
+    pub fn starts(self) -> bool
+        ensures { result ≡ has_place (bits self.0) 0 }
+    {
+        self.contains(PortCommand::ST)
+    }
+
+    /// Whether FRE is set.
+    #[tactic(auto, using(crate::proofs::FlagLemmas::test_fre))]
+    pub fn receives(self) -> bool
+        ensures { result ≡ has_place (bits self.0) 4 }
+    {
+        self.contains(PortCommand::FRE)
     }
 }
 
@@ -111,36 +181,6 @@ impl Flags for Status {
     }
 }
 
-impl Interrupts {
-    /// The interrupts with one more, where it is raised.
-    #[tactic(auto, using(word_bits::proofs::BitsLemmas::bits_or))]
-    pub fn with(self, interrupt: Interrupts, is_raised: bool) -> Interrupts
-        ensures { bits result.0 ≡ raised is_raised (bits interrupt.0) (bits self.0) }
-    {
-        if is_raised {
-            self.union(interrupt)
-        } else {
-            self
-        }
-    }
-
-    /// The interrupts without those to which software wrote 1.
-    #[tactic(auto, using(word_bits::proofs::BitsLemmas::bits_and_not))]
-    pub fn acknowledged(self, value: u32) -> Interrupts
-        ensures { bits result.0 ≡ minus (bits self.0) (bits value) }
-    {
-        self.difference(Interrupts(value))
-    }
-
-    /// The interrupts of this model that a value names.
-    #[tactic(auto, using(word_bits::proofs::BitsLemmas::bits_and), unfolding(bitflags::specs::Sets::known_from))]
-    pub fn named(value: u32) -> Interrupts
-        ensures { bits result.0 ≡ intersection (bits value) implemented }
-    {
-        Interrupts::from_bits_truncate(value)
-    }
-}
-
 impl Status {
     /// Whether the status reports an error.
     #[tactic(auto, using(crate::proofs::FlagLemmas::test_err))]
@@ -164,37 +204,5 @@ impl Status {
     {
         let kept = Status::BSY.union(Status::DRQ);
         self.intersection(kept).union(status.difference(kept))
-    }
-}
-
-impl PortCommand {
-    /// PxCMD while ST and FRE are these: CR and FR follow them at once.
-    pub fn of(st: bool, fre: bool) -> PortCommand
-        ensures { result.0 ≡ command_word st fre }
-    {
-        let mut command = PortCommand::empty();
-        if st {
-            command = command.union(PortCommand::ST).union(PortCommand::CR);
-        }
-        if fre {
-            command = command.union(PortCommand::FRE).union(PortCommand::FR);
-        }
-        command
-    }
-
-    /// Whether ST is set.
-    #[tactic(auto, using(crate::proofs::FlagLemmas::test_st))]
-    pub fn starts(self) -> bool
-        ensures { result ≡ has_place (bits self.0) 0 }
-    {
-        self.contains(PortCommand::ST)
-    }
-
-    /// Whether FRE is set.
-    #[tactic(auto, using(crate::proofs::FlagLemmas::test_fre))]
-    pub fn receives(self) -> bool
-        ensures { result ≡ has_place (bits self.0) 4 }
-    {
-        self.contains(PortCommand::FRE)
     }
 }

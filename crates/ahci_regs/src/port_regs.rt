@@ -1,4 +1,4 @@
-ghost use Rattle.std.specs.Prelude.{◌≡◌, ◌≤◌, ◌<◌, true, false, not, ◌&&◌, OnOk, OnErr, IfErr, MatchResult};
+ghost use Rattle.std.specs.Prelude.{◌≡◌, ◌≤◌, ◌<◌, true, false, not, ◌&&◌, nat_eq, Ok, Err, OnOk, OnErr, IfErr, MatchResult, if◌then◌else◌};
 ghost use Rattle.word_bits.specs.Places.{bits, has_place, union, intersection, minus, only_below};
 ghost use Rattle.ahci_regs.specs.PortState.{first_state, implemented};
 ghost use Rattle.ahci_regs.specs.Reading.{capabilities_word, task_file_word, read_of};
@@ -134,10 +134,7 @@ impl PortRegs {
         let status = Status(status);
         self.status = status;
         self.error = error;
-        self.is = self
-            .is
-            .with(Interrupts::DHRS, i)
-            .with(Interrupts::TFES, status.has_error());
+        self.is = self.is.after_fis(Interrupts::DHRS, i, status);
         self.ci = ended(status, tag, self.ci);
     }
 
@@ -149,10 +146,7 @@ impl PortRegs {
         let status = Status(status);
         self.status = self.status.after_bits(status);
         self.error = error;
-        self.is = self
-            .is
-            .with(Interrupts::SDBS, i)
-            .with(Interrupts::TFES, status.has_error());
+        self.is = self.is.after_fis(Interrupts::SDBS, i, status);
         self.sact = lost(self.sact, sactive);
     }
 
@@ -173,10 +167,7 @@ impl PortRegs {
     {
         let status = Status(e_status);
         self.status = status;
-        self.is = self
-            .is
-            .with(Interrupts::PSS, i)
-            .with(Interrupts::TFES, status.has_error());
+        self.is = self.is.after_fis(Interrupts::PSS, i, status);
         self.ci = ended(status, tag, self.ci);
     }
 
@@ -184,11 +175,7 @@ impl PortRegs {
     fn write_clb(&mut self, value: u32) -> Result<(), RegFault>
         ensures { Follows result self.old self.new (with_clb self.old value) }
     {
-        let base = value & !0x3ff;
-        if self.started && base != self.clb {
-            return Err(RegFault::Running);
-        }
-        self.clb = base;
+        self.clb = rebased(self.started, self.clb, value & !0x3ff)?;
         Ok(())
     }
 
@@ -196,11 +183,7 @@ impl PortRegs {
     fn write_fb(&mut self, value: u32) -> Result<(), RegFault>
         ensures { Follows result self.old self.new (with_fb self.old value) }
     {
-        let base = value & !0xff;
-        if self.started && base != self.fb {
-            return Err(RegFault::Running);
-        }
-        self.fb = base;
+        self.fb = rebased(self.started, self.fb, value & !0xff)?;
         Ok(())
     }
 
@@ -282,6 +265,16 @@ fn task_file(status: Status, error: u8) -> u32
     ensures { result ≡ task_file_word status.0 error }
 {
     (u32::from(error) << 8) + u32::from(status.bits())
+}
+
+/// A base address after a write: one that moves is refused while the port runs.
+fn rebased(started: bool, old: u32, base: u32) -> Result<u32, RegFault>
+    ensures { result ≡ (if started && not (nat_eq base old) then Err RegFault.Running else Ok base) }
+{
+    if started && base != old {
+        return Err(RegFault::Running);
+    }
+    Ok(base)
 }
 
 /// The slots of a word after a write of ST: none is left where the port is stopped.

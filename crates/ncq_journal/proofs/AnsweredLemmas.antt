@@ -16,7 +16,7 @@ use Rattle.ncq_journal.specs.Phase.{phase, failed, recovered}
 use Rattle.ncq_journal.specs.Request.{Request, request}
 use Rattle.ncq_journal.specs.Work.{Work, Read, Write}
 use Rattle.ncq_journal.proofs.EntryLemmas.{entry_at-past, entry_at-within, entry_at_cases, first_of-older, first_of-newest, request_is_its_issue}
-use Rattle.ncq_journal.proofs.PhaseLemmas.{cond_at}
+use Rattle.ncq_journal.proofs.PhaseLemmas.{cond_at, of_failing}
 
 or-none : (o : Option Answer) → option_or o None ≡ o
 or-none None = refl
@@ -113,14 +113,7 @@ completed_now s d image past tag r h e =
 
 -- a command that fails has no answer yet
 fails_unanswered : (s : ℕ) (o : Option Request) (p : Phase) (error lba : ℕ) → IsSomeAnd o (λ r. Fails s p r.work error lba) → is_answered p ≡ false
-fails_unanswered s None p error lba h = absurd h
-fails_unanswered s (Some r) Issued error lba h = refl
-fails_unanswered s (Some r) Accepted error lba h = refl
-fails_unanswered s (Some r) Free error lba h = absurd h
-fails_unanswered s (Some r) Rejected error lba h = absurd h
-fails_unanswered s (Some r) Broken error lba h = absurd h
-fails_unanswered s (Some r) Held error lba h = absurd h
-fails_unanswered s (Some r) Done error lba h = absurd h
+fails_unanswered = of_failing (λ p. is_answered p ≡ false) refl refl
 
 -- the answer that a Fail gives to its request
 failed_now : (s d : ℕ) (image : List ℕ) (past : List Entry) (tag error lba : ℕ) (r : Request) → IsLawful s d (Fail tag error lba ∷ past) → request past tag ≡ Some r

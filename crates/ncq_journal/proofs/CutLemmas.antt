@@ -13,13 +13,13 @@ use Rattle.ncq_journal.specs.Entry.{Entry, Issue, Accept, Complete, Fail, Recove
 use Rattle.ncq_journal.specs.Halted.{halted}
 use Rattle.ncq_journal.specs.History.{entry_at}
 use Rattle.ncq_journal.specs.Lawful.{IsAllowed, IsLawful, Fails, Fits}
-use Rattle.ncq_journal.specs.Laws.{AllFree, is_answered, PhaseOfParts, SactOfParts, CiOfParts, DeviceTagsOfParts, HaltedOfParts, BusyOfParts, OwedOfParts, LawfulOfParts, RequestOfParts, AnswerOfParts, AnswerOfEarlier}
+use Rattle.ncq_journal.specs.Laws.{AllFree, is_answered, SaidOfLater, LawfulOfParts, RequestOfParts, AnswerOfParts, AnswerOfEarlier}
 use Rattle.ncq_journal.specs.Numbering.{request_numbered, answer_numbered}
-use Rattle.ncq_journal.specs.Owed.{owed_in}
+use Rattle.ncq_journal.specs.Owed.{owed, owed_in}
 use Rattle.ncq_journal.specs.Phase.{phase, is_failed}
 use Rattle.ncq_journal.specs.Request.{Request, request}
 use Rattle.ncq_journal.specs.Sector.{sector}
-use Rattle.ncq_journal.specs.Tags.{in_sact, in_ci, in_device}
+use Rattle.ncq_journal.specs.Tags.{sact, ci, device_tags, in_sact, in_ci, in_device}
 use Rattle.ncq_journal.specs.Work.{Work, Read, Write}
 use Rattle.word_bits.proofs.PlacesLemmas.{same_places}
 use Rattle.ncq_journal.proofs.AnsweredLemmas.{answered_by_phase, given_none, no_answer_yet, unanswered_is_last}
@@ -28,28 +28,19 @@ use Rattle.ncq_journal.proofs.PartLemmas.{phase_parts, halted_parts, busy_parts,
 use Rattle.ncq_journal.proofs.PhaseLemmas.{owned_has_request, fails_not_free}
 use Rattle.ncq_journal.proofs.TagLemmas.{sum_same}
 
-pub phase_of_parts : PhaseOfParts
-phase_of_parts = phase_parts
-
 -- what a tag's phase alone decides, each tag of both parts decides as after the later one
-pub sact_of_parts : SactOfParts
+pub sact_of_parts : SaidOfLater sact
 sact_of_parts later past free = same_places (λ t. in_sact (phase (later ++ past) t)) (λ t. in_sact (phase later t)) (λ t low. ap in_sact (phase_parts later past t free))
 
-pub ci_of_parts : CiOfParts
+pub ci_of_parts : SaidOfLater ci
 ci_of_parts later past free = same_places (λ t. in_ci (phase (later ++ past) t)) (λ t. in_ci (phase later t)) (λ t low. ap in_ci (phase_parts later past t free))
 
-pub device_tags_of_parts : DeviceTagsOfParts
+pub device_tags_of_parts : SaidOfLater device_tags
 device_tags_of_parts later past free =
     same_places (λ t. in_device (phase (later ++ past) t) && not (halted (later ++ past))) (λ t. in_device (phase later t) && not (halted later))
     (λ t low. ap (λ p. in_device p && not (halted (later ++ past))) (phase_parts later past t free) ∙ ap (λ b. in_device (phase later t) && not b) (halted_parts later past free))
 
-pub halted_of_parts : HaltedOfParts
-halted_of_parts = halted_parts
-
-pub busy_of_parts : BusyOfParts
-busy_of_parts = busy_parts
-
-pub owed_of_parts : OwedOfParts
+pub owed_of_parts : SaidOfLater owed
 owed_of_parts later past free = sum_same (λ t. owed_in (phase later t)) (λ t. owed_in (phase (later ++ past) t)) (λ t. ap owed_in (phase_parts later past t free))
 
 allowed_whole : (s d : ℕ) (later past : List Entry) (entry : Entry) → AllFree past → IsLawful s d later → IsAllowed s d later entry → IsAllowed s d (later ++ past) entry

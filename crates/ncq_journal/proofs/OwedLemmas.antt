@@ -11,7 +11,7 @@ use Rattle.ncq_journal.specs.Laws.{OwedIsFew, OwedMoves, owed_more, owed_less}
 use Rattle.ncq_journal.specs.Owed.{owed, owed_in}
 use Rattle.ncq_journal.specs.Phase.{phase, failed, recovered}
 use Rattle.ncq_journal.specs.Request.{Request, request}
-use Rattle.ncq_journal.proofs.PhaseLemmas.{free_past_depth, fails_not_free}
+use Rattle.ncq_journal.proofs.PhaseLemmas.{free_past_depth, fails_not_free, of_failing}
 use Rattle.ncq_journal.proofs.TagLemmas.{sum_one, sum_le, sum_add}
 use Rattle.std.proofs.lemmas.Bool.{cases_lt}
 
@@ -41,14 +41,7 @@ taken_below s d past t p few h own taken =
     ]
 
 failing : (s : ℕ) (o : Option Request) (p : Phase) (error lba : ℕ) → IsSomeAnd o (λ r. Fails s p r.work error lba) → owed_in (failed p) + owed_less p ≡ owed_in p
-failing s None p error lba h = absurd h
-failing s (Some r) Issued error lba h = refl
-failing s (Some r) Accepted error lba h = refl
-failing s (Some r) Free error lba h = absurd h
-failing s (Some r) Rejected error lba h = absurd h
-failing s (Some r) Broken error lba h = absurd h
-failing s (Some r) Held error lba h = absurd h
-failing s (Some r) Done error lba h = absurd h
+failing = of_failing (λ p. owed_in (failed p) + owed_less p ≡ owed_in p) refl refl
 
 ending : (p : Phase) → owed_in (recovered p) ≡ owed_in p + owed_more p
 ending Free = refl

@@ -1,5 +1,5 @@
 -- Phases, requests and answers of lawful journals, by induction on the journal.
-use Rattle.std.proofs.Common.{◌≡◌, ◌≢◌, ℕ, ◌<◌, ◌≤◌, Bool, true, false, cond, ◌==◌, List, [], ◌∷◌, length, ap, sym, refl, subst, ◌∙◌, Option, None, Some, IsSome, IsSomeAnd, arith, inl, inr}
+use Rattle.std.proofs.Common.{◌≡◌, ◌≢◌, true≢false, eq-eqb, ℕ, ◌<◌, ◌≤◌, Bool, true, false, cond, ◌==◌, List, [], ◌∷◌, length, ap, sym, refl, subst, ◌∙◌, Option, None, Some, IsSome, IsSomeAnd, arith, inl, inr}
 use Rattle.std.proofs.lemmas.Bool.{cond_both, eqb-true, eqb-false, false≢true, cases_lt}
 use Rattle.ncq_journal.specs.declared.phase.Phase.{Phase}
 use Rattle.ncq_journal.specs.declared.phase.Phase.TheVariants.{Free, Issued, Accepted, Held, Done}
@@ -8,6 +8,7 @@ use Rattle.ncq_journal.specs.Lawful.{IsLawful, Fails, Fits}
 use Rattle.ncq_journal.specs.Laws.{OwnedHasRequest}
 use Rattle.ncq_journal.specs.Phase.{phase, failed, recovered, is_failed}
 use Rattle.ncq_journal.specs.Request.{Request, request}
+use Rattle.ncq_journal.specs.Work.{Work}
 
 -- a choice by two tags
 pub cond_at : {X : Type 0} (t tag : ℕ) (x y : X) (P : X → Type 0) → (t ≡ tag → P x) → (t ≢ tag → P y) → P (cond (t == tag) x y)
@@ -27,42 +28,58 @@ pub fails_not_free : (s : ℕ) (o : Option Request) (p : Phase) (error lba : ℕ
 fails_not_free s None p error lba h = absurd h
 fails_not_free s (Some r) p error lba h = λ free. subst (λ q. Fails s q r.work error lba) free h
 
+-- what holds of a command that is issued, and of one that is accepted, holds of one that fails
+pub of_failing : (P : Phase → Type 0) → P Issued → P Accepted → (s : ℕ) (o : Option Request) (p : Phase) (error lba : ℕ) → IsSomeAnd o (λ r. Fails s p r.work error lba) → P p
+of_failing P issued accepted s None p error lba h = absurd h
+of_failing P issued accepted s (Some r) Issued error lba h = issued
+of_failing P issued accepted s (Some r) Accepted error lba h = accepted
+of_failing P issued accepted s (Some r) Free error lba h = absurd h
+of_failing P issued accepted s (Some r) _ error lba h = absurd h
+
 recovered_not_free : (p : Phase) → is_failed p ≡ true → p ≢ Free
 recovered_not_free p failed = λ free. false≢true (sym (ap is_failed free) ∙ failed)
 
+-- a tag is free after a lawful journal of which something holds that held of it before each entry, and that no Issue of
+-- the tag leaves
+free_while : (s d tag : ℕ) (Q : List Entry → Type 0) → ((entry : Entry) (past : List Entry) → Q (entry ∷ past) → Q past)
+    → ((t : ℕ) (work : Work) (past : List Entry) → IsLawful s d (Issue t work ∷ past) → Q (Issue t work ∷ past) → t ≢ tag)
+    → (past : List Entry) → IsLawful s d past → Q past → phase past tag ≡ Free
+free_while s d tag Q older other [] h q = refl
+free_while s d tag Q older other (Issue t work ∷ past) h q =
+    cond_at t tag Issued (phase past tag) (λ p. p ≡ Free) (λ same. absurd (other t work past h q same)) (λ _. free_while s d tag Q older other past h.0 (older _ past q))
+free_while s d tag Q older other (Accept t ∷ past) h q =
+    stays_free past t tag Issued Accepted (free_while s d tag Q older other past h.0 (older _ past q)) h.1.0 (λ e. absurd (cc))
+free_while s d tag Q older other (Complete t ∷ past) h q =
+    stays_free past t tag Accepted Done (free_while s d tag Q older other past h.0 (older _ past q)) h.1.0 (λ e. absurd (cc))
+free_while s d tag Q older other (Fail t error lba ∷ past) h q =
+    stays_free past t tag (phase past t) (failed (phase past tag)) (free_while s d tag Q older other past h.0 (older _ past q)) refl
+    (fails_not_free s (request past t) (phase past t) error lba h.1.1)
+free_while s d tag Q older other (Recover t ∷ past) h q = ap recovered (free_while s d tag Q older other past h.0 (older _ past q))
+free_while s d tag Q older other (Reissue t ∷ past) h q =
+    stays_free past t tag Held Issued (free_while s d tag Q older other past h.0 (older _ past q)) h.1.0 (λ e. absurd (cc))
+free_while s d tag Q older other (Collect t ∷ past) h q =
+    cond_at t tag Free (phase past tag) (λ p. p ≡ Free) (λ _. refl) (λ _. free_while s d tag Q older other past h.0 (older _ past q))
+free_while s d tag Q older other (Unqueued command ∷ past) h q = free_while s d tag Q older other past h.0 (older _ past q)
+
 -- a tag at or above the depth is free
 pub free_past_depth : (s d : ℕ) (past : List Entry) (tag : ℕ) → IsLawful s d past → d ≤ tag → phase past tag ≡ Free
-free_past_depth s d [] tag h l = refl
-free_past_depth s d (Issue t work ∷ past) tag h l =
-    cond_at t tag Issued (phase past tag) (λ p. p ≡ Free) (λ same. absurd (let below : t < d = h.1.0 in omega arith)) (λ _. free_past_depth s d past tag h.0 l)
-free_past_depth s d (Accept t ∷ past) tag h l = stays_free past t tag Issued Accepted (free_past_depth s d past tag h.0 l) h.1.0 (λ e. absurd (cc))
-free_past_depth s d (Complete t ∷ past) tag h l = stays_free past t tag Accepted Done (free_past_depth s d past tag h.0 l) h.1.0 (λ e. absurd (cc))
-free_past_depth s d (Fail t error lba ∷ past) tag h l =
-    let free = free_past_depth s d past tag h.0 l in
-    stays_free past t tag (phase past t) (failed (phase past tag)) free refl (fails_not_free s (request past t) (phase past t) error lba h.1.1)
-free_past_depth s d (Recover t ∷ past) tag h l = ap recovered (free_past_depth s d past tag h.0 l)
-free_past_depth s d (Reissue t ∷ past) tag h l = stays_free past t tag Held Issued (free_past_depth s d past tag h.0 l) h.1.0 (λ e. absurd (cc))
-free_past_depth s d (Collect t ∷ past) tag h l = cond_at t tag Free (phase past tag) (λ p. p ≡ Free) (λ _. refl) (λ _. free_past_depth s d past tag h.0 l)
-free_past_depth s d (Unqueued command ∷ past) tag h l = free_past_depth s d past tag h.0 l
+free_past_depth s d past tag h l =
+    free_while s d tag (λ _. d ≤ tag) (λ entry older q. q) (λ t work older own q same. let below : t < d = own.1.0 in omega arith) past h l
 
-issue_none : (b : Bool) (r : Request) (o : Option Request) (p : Phase) → cond b (Some r) o ≡ None → (o ≡ None → p ≡ Free) → cond b Issued p ≡ Free
-issue_none true r o p none older = absurd (cc)
-issue_none false r o p none older = older none
+issue_none : (b : Bool) (r : Request) (o : Option Request) → cond b (Some r) o ≡ None → (b ≡ false) × (o ≡ None)
+issue_none true r o none = absurd (cc)
+issue_none false r o none = (refl, none)
+
+older_none : (tag : ℕ) (entry : Entry) (past : List Entry) → request (entry ∷ past) tag ≡ None → request past tag ≡ None
+older_none tag (Issue t work) past none = (issue_none (t == tag) _ (request past tag) none).1
+older_none tag (Accept t) past none = none
+older_none tag _ past none = none
 
 -- a tag without a request is free
 pub no_request : (s d : ℕ) (past : List Entry) (tag : ℕ) → IsLawful s d past → request past tag ≡ None → phase past tag ≡ Free
-no_request s d [] tag h none = refl
-no_request s d (Issue t work ∷ past) tag h none =
-    issue_none (t == tag) (record { number = length past; work = work }) (request past tag) (phase past tag) none (no_request s d past tag h.0)
-no_request s d (Accept t ∷ past) tag h none = stays_free past t tag Issued Accepted (no_request s d past tag h.0 none) h.1.0 (λ e. absurd (cc))
-no_request s d (Complete t ∷ past) tag h none = stays_free past t tag Accepted Done (no_request s d past tag h.0 none) h.1.0 (λ e. absurd (cc))
-no_request s d (Fail t error lba ∷ past) tag h none =
-    let free = no_request s d past tag h.0 none in
-    stays_free past t tag (phase past t) (failed (phase past tag)) free refl (fails_not_free s (request past t) (phase past t) error lba h.1.1)
-no_request s d (Recover t ∷ past) tag h none = ap recovered (no_request s d past tag h.0 none)
-no_request s d (Reissue t ∷ past) tag h none = stays_free past t tag Held Issued (no_request s d past tag h.0 none) h.1.0 (λ e. absurd (cc))
-no_request s d (Collect t ∷ past) tag h none = cond_at t tag Free (phase past tag) (λ p. p ≡ Free) (λ _. refl) (λ _. no_request s d past tag h.0 none)
-no_request s d (Unqueued command ∷ past) tag h none = no_request s d past tag h.0 none
+no_request s d past tag h none =
+    free_while s d tag (λ p. request p tag ≡ None) (older_none tag)
+    (λ t work older own q same. absurd (true≢false (sym (eq-eqb t tag same) ∙ (issue_none (t == tag) _ (request older tag) q).0))) past h none
 
 some_unless_none : (o : Option Request) → (o ≡ None → ⊥) → IsSome o
 some_unless_none None h = absurd (h refl)

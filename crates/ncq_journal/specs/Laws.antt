@@ -172,25 +172,9 @@ TwoParts =
 abbrev pub PhaseOfParts : Type 0
 PhaseOfParts = (later past : List Entry) (tag : ℕ) → AllFree past → phase (later ++ past) tag ≡ phase later tag
 
--- so do the tags of PxSACT, those of PxCI and those of the device, and so does whether the port has halted, whether it is busy,
--- and what its requests can still need
-abbrev pub SactOfParts : Type 0
-SactOfParts = (later past : List Entry) → AllFree past → sact (later ++ past) ≡ sact later
-
-abbrev pub CiOfParts : Type 0
-CiOfParts = (later past : List Entry) → AllFree past → ci (later ++ past) ≡ ci later
-
-abbrev pub DeviceTagsOfParts : Type 0
-DeviceTagsOfParts = (later past : List Entry) → AllFree past → device_tags (later ++ past) ≡ device_tags later
-
-abbrev pub HaltedOfParts : Type 0
-HaltedOfParts = (later past : List Entry) → AllFree past → halted (later ++ past) ≡ halted later
-
-abbrev pub BusyOfParts : Type 0
-BusyOfParts = (later past : List Entry) → AllFree past → busy (later ++ past) ≡ busy later
-
-abbrev pub OwedOfParts : Type 0
-OwedOfParts = (later past : List Entry) → AllFree past → owed (later ++ past) ≡ owed later
+-- what is said of a journal is said of both parts where it is said of the later part alone
+abbrev pub SaidOfLater : {X : Type 0} → (List Entry → X) → Type 0
+SaidOfLater says = (later past : List Entry) → AllFree past → says (later ++ past) ≡ says later
 
 -- both parts together are lawful where each is
 abbrev pub LawfulOfParts : Type 0

@@ -2,8 +2,11 @@
 ghost use Rattle.ncq_journal.specs.Laws.{LawfulAtEach, FreePastDepth, OwnedHasRequest, RequestIsItsIssue, AnsweredByPhase, OwedIsFew, OwedMoves};
 ghost use Rattle.ncq_journal.specs.Laws.{WritesItsSectors, OthersWriteNothing, CompletedIsAnswered, FailedIsNotCompleted, CompletedHasThisAnswer};
 ghost use Rattle.ncq_journal.specs.Laws.{FailedHasThisAnswer, UnansweredIsLast, OneHasFailed, HaltedByATag, BusyByATag, DeviceTagsInSact, CiInSact, TwoParts};
-ghost use Rattle.ncq_journal.specs.Laws.{PhaseOfParts, SactOfParts, CiOfParts, DeviceTagsOfParts, HaltedOfParts, BusyOfParts, OwedOfParts, LawfulOfParts, RequestOfParts, AnswerOfParts, AnswerOfEarlier};
+ghost use Rattle.ncq_journal.specs.Laws.{PhaseOfParts, SaidOfLater, LawfulOfParts, RequestOfParts, AnswerOfParts, AnswerOfEarlier};
 ghost use Rattle.ncq_journal.specs.Laws.{NumberOfPlace, NoneBelowFirst, NoneFromEnd, NumbersDiffer};
+ghost use Rattle.ncq_journal.specs.Halted.{halted, busy};
+ghost use Rattle.ncq_journal.specs.Owed.{owed};
+ghost use Rattle.ncq_journal.specs.Tags.{sact, ci, device_tags};
 
 /// A journal is lawful exactly where each of its entries was allowed by the entries before it.
 pub fn a_journal_is_lawful_at_each_entry()
@@ -79,18 +82,20 @@ pub fn a_journal_may_be_cut_where_all_tags_are_free()
 
 /// Where every tag is free between two parts of a journal, the tags of PxSACT, of PxCI and of the device after both are those
 /// after the later one alone, and so is whether the port has halted or is busy, and what its requests can still need.
+#[tactic(auto, using(crate::proofs::CutLemmas::sact_of_parts, crate::proofs::CutLemmas::ci_of_parts, crate::proofs::CutLemmas::device_tags_of_parts, crate::proofs::PartLemmas::halted_parts, crate::proofs::PartLemmas::busy_parts, crate::proofs::CutLemmas::owed_of_parts))]
 pub fn a_cut_leaves_what_the_tags_say()
-    ensures sact { SactOfParts }
-    ensures ci { CiOfParts }
-    ensures device { DeviceTagsOfParts }
-    ensures halted { HaltedOfParts }
-    ensures busy { BusyOfParts }
-    ensures owed { OwedOfParts }
+    ensures sact { SaidOfLater sact }
+    ensures ci { SaidOfLater ci }
+    ensures device { SaidOfLater device_tags }
+    ensures halted { SaidOfLater halted }
+    ensures busy { SaidOfLater busy }
+    ensures owed { SaidOfLater owed }
 {}
 
 /// Where every tag is free between two parts of a journal, what comes later knows of the earlier part by its image and its
 /// length alone: each tag's phase, what may come, each request and each answer is that of the later part, with places that
 /// are counted on from the earlier part's length. And the earlier part's requests keep their answers.
+#[tactic(auto, using(crate::proofs::PartLemmas::phase_parts, crate::proofs::CutLemmas::lawful_of_parts, crate::proofs::CutLemmas::request_of_parts, crate::proofs::CutLemmas::answer_of_earlier))]
 pub fn a_cut_shifts_places_alone()
     ensures phase { PhaseOfParts }
     ensures lawful { LawfulOfParts }
@@ -100,6 +105,7 @@ pub fn a_cut_shifts_places_alone()
 {}
 
 /// The entries of a journal are numbered without a gap from its first number on, and nothing else has one of these numbers.
+#[tactic(auto, using(crate::proofs::NumberLemmas::number_of_place, crate::proofs::NumberLemmas::none_below_first, crate::proofs::NumberLemmas::none_from_end, crate::proofs::NumberLemmas::numbers_differ))]
 pub fn entries_are_numbered_from_the_first()
     ensures place { NumberOfPlace }
     ensures below { NoneBelowFirst }

@@ -1,7 +1,9 @@
-ghost use Rattle.std.specs.Prelude.{◌≡◌};
+ghost use Rattle.std.specs.Prelude.{◌≡◌, Bool};
 ghost use Rattle.ncq_journal.specs.History.{history_of};
+ghost use Rattle.ncq_journal.specs.declared.phase.Phase.{Phase};
+ghost use Rattle.ncq_journal.specs.Phase.{phase};
 ghost use Rattle.ncq_journal.specs.Tags.{sact, ci, device_tags, in_sact, in_ci, in_device};
-ghost use Rattle.word_bits.specs.Places.{bits};
+ghost use Rattle.word_bits.specs.Places.{bits, places};
 
 use crate::event::Event;
 use crate::halted::is_halted;
@@ -30,48 +32,44 @@ fn in_device(phase: Phase) -> bool
     matches!(phase, Phase::Accepted)
 }
 
-/// PxSACT after these events, the oldest first: the tags issued and not completed
-/// (AHCI 1.3.1, section 3.3.13).
-#[tactic(auto, using(crate::proofs::SetLemmas::among_none, crate::proofs::SetLemmas::among_with, crate::proofs::SetLemmas::among_without, crate::proofs::SetLemmas::among_all))]
-pub fn sact_of<A: Allocator>(events: &[Event<A>]) -> u32
-    ensures { bits result ≡ sact (history_of events.now) }
+/// The tags whose phase after these events, the oldest first, is one of some.
+fn tags_in<A: Allocator, F: Fn(Phase) -> bool>(events: &[Event<A>], is_one: F) -> u32
+    requires { F.IsAlwaysCallable is_one }
+    ensures { (q : Phase → Bool) → ((p : Phase) (b : Bool) → F.post is_one p b → b ≡ q p) → bits result ≡ places (λ tag. q (phase (history_of events.now) tag)) }
 {
     let mut word = 0;
     for tag in 0..32u8 {
-        if in_sact(phase_of(events, tag)) {
+        if is_one(phase_of(events, tag)) {
             word = with_bit(word, tag);
         }
     }
     word
+}
+
+/// PxSACT after these events, the oldest first: the tags issued and not completed
+/// (AHCI 1.3.1, section 3.3.13).
+pub fn sact_of<A: Allocator>(events: &[Event<A>]) -> u32
+    ensures { bits result ≡ sact (history_of events.now) }
+{
+    tags_in(events, in_sact)
 }
 
 /// PxCI after these events, the oldest first: the tags issued and not taken by the device
 /// (AHCI 1.3.1, section 3.3.14).
-#[tactic(auto, using(crate::proofs::SetLemmas::among_none, crate::proofs::SetLemmas::among_with, crate::proofs::SetLemmas::among_without, crate::proofs::SetLemmas::among_all))]
 pub fn ci_of<A: Allocator>(events: &[Event<A>]) -> u32
     ensures { bits result ≡ ci (history_of events.now) }
 {
-    let mut word = 0;
-    for tag in 0..32u8 {
-        if in_ci(phase_of(events, tag)) {
-            word = with_bit(word, tag);
-        }
-    }
-    word
+    tags_in(events, in_ci)
 }
 
 /// The tags outstanding in the device after these events, the oldest first: none after an error, until
 /// the port has recovered.
-#[tactic(auto, using(crate::proofs::SetLemmas::among_none, crate::proofs::SetLemmas::among_with, crate::proofs::SetLemmas::among_without, crate::proofs::SetLemmas::among_all))]
 pub fn device_tags_of<A: Allocator>(events: &[Event<A>]) -> u32
     ensures { bits result ≡ device_tags (history_of events.now) }
 {
-    let halted = is_halted(events);
-    let mut word = 0;
-    for tag in 0..32u8 {
-        if in_device(phase_of(events, tag)) && !halted {
-            word = with_bit(word, tag);
-        }
+    if is_halted(events) {
+        0
+    } else {
+        tags_in(events, in_device)
     }
-    word
 }

@@ -1,33 +1,5 @@
 -- How often a tag stands in two sets together, when it moves from one to the other.
-use Rattle.std.proofs.Common.{
-  ◌≡◌,
-  ◌≢◌,
-  ℕ,
-  ◌+◌,
-  ◌^◌,
-  ◌<◌,
-  ◌≤◌,
-  Bool,
-  true,
-  false,
-  true≢false,
-  ◌||◌,
-  if◌then◌else◌,
-  List,
-  length,
-  bit_and,
-  bit_or,
-  sym,
-  ◌∙◌,
-  refl,
-  ap,
-  subst,
-  ⊎_elim,
-  inl,
-  inr,
-  ◌⊎◌,
-  arith,
-}
+use Rattle.std.proofs.Common.{◌≡◌, ◌≢◌, ℕ, ◌+◌, ◌^◌, ◌<◌, ◌≤◌, Bool, true, false, true≢false, ◌||◌, if◌then◌else◌, List, length, bit_and, bit_or, sym, ◌∙◌, refl, ap, subst, ⊎_elim, inl, inr, ◌⊎◌, arith}
 use Rattle.std.specs.Int.{w32, bit_not, bit_at}
 use Rattle.std.proofs.lemmas.Bool.{cases_eq, cases_lt}
 use Rattle.std.proofs.lemmas.Nat.{one_shl, and_le_l, or_of_32}
@@ -78,57 +50,42 @@ has s t e = of_one (has_place s t) e
 pub place-lt : (s : List Bool) (t : ℕ) → length s ≡ 32 → has_place s t ≡ true → t < 32
 place-lt s t l e = ⊎_elim (λ b. b) (λ b. absurd (true≢false (sym e ∙ has_place_past s t (omega arith)))) (cases_lt t 32)
 
--- ---- a tag that was tried
+-- ---- a tag that moves from one set to the other
 
+-- where two sets change at one tag alone, and it stands in them as often as before, each tag does
+moved_stays : (f g s r : List Bool) (t : ℕ) → once g t + once r t ≡ once f t + once s t → ((i : ℕ) → i ≢ t → has_place g i ≡ has_place f i)
+    → ((i : ℕ) → i ≢ t → has_place r i ≡ has_place s i) → (i : ℕ) → once g i + once r i ≡ once f i + once s i
+moved_stays f g s r t here first second i =
+    ⊎_elim (λ q. subst (λ k. once g k + once r k ≡ once f k + once s k) (sym q) here)
+    (λ (q : i ≢ t).
+    let a : once g i ≡ once f i = ap one_if (first i q) in
+    let b : once r i ≡ once s i = ap one_if (second i q) in
+    omega arith)
+    (cases_eq i t)
+
+-- a tag that was tried
 pub tried_stays : (f s : List Bool) (t : ℕ) (had : Bool) → has_place f t ≡ had → length s ≡ 32 → t < 32 → (had ≡ true → has_place s t ≡ false)
     → (i : ℕ) → once (without_place f t) i + once (if had then with_place s t else s) i ≡ once f i + once s i
-tried_stays f s t true e l b apart i =
-    ⊎_elim
-    (λ (q : i ≡ t).
-    let P : ℕ → Type 0 = λ k. once (without_place f t) k + once (with_place s t) k ≡ once f k + once s k in
+tried_stays f s t true e l b apart =
     let w = once-false (without_place f t) t (has_place-without_same f t) in
     let g = once-true (with_place s t) t (has_place-with_same s t (omega arith)) in
     let h = once-true f t e in
     let n = once-false s t (apart refl) in
-    let here : P t = omega arith in
-    subst P (sym q) here)
-    (λ (q : i ≢ t).
-    let w : once (without_place f t) i ≡ once f i = ap one_if (has_place-without_other f t i q) in
-    let g : once (with_place s t) i ≡ once s i = ap one_if (has_place-with_other s t i q) in
-    omega arith)
-    (cases_eq i t)
-tried_stays f s t false e l b apart i =
-    ⊎_elim
-    (λ (q : i ≡ t).
-    let P : ℕ → Type 0 = λ k. once (without_place f t) k + once s k ≡ once f k + once s k in
+    moved_stays f (without_place f t) s (with_place s t) t (omega arith) (has_place-without_other f t) (has_place-with_other s t)
+tried_stays f s t false e l b apart =
     let w = once-false (without_place f t) t (has_place-without_same f t) in
     let h = once-false f t e in
-    let here : P t = omega arith in
-    subst P (sym q) here)
-    (λ (q : i ≢ t).
-    let w : once (without_place f t) i ≡ once f i = ap one_if (has_place-without_other f t i q) in
-    omega arith)
-    (cases_eq i t)
+    moved_stays f (without_place f t) s s t (omega arith) (has_place-without_other f t) (λ i q. refl)
 
--- ---- a tag that is given back
-
+-- a tag that is given back
 pub gave_stays : (f s : List Bool) (t : ℕ) → length f ≡ 32 → t < 32 → has_place f t ≡ false → has_place s t ≡ true
     → (i : ℕ) → once (with_place f t) i + once (without_place s t) i ≡ once f i + once s i
-gave_stays f s t l b free held i =
-    ⊎_elim
-    (λ (q : i ≡ t).
-    let P : ℕ → Type 0 = λ k. once (with_place f t) k + once (without_place s t) k ≡ once f k + once s k in
+gave_stays f s t l b free held =
     let w = once-true (with_place f t) t (has_place-with_same f t (omega arith)) in
     let g = once-false (without_place s t) t (has_place-without_same s t) in
     let h = once-false f t free in
     let n = once-true s t held in
-    let here : P t = omega arith in
-    subst P (sym q) here)
-    (λ (q : i ≢ t).
-    let w : once (with_place f t) i ≡ once f i = ap one_if (has_place-with_other f t i q) in
-    let g : once (without_place s t) i ≡ once s i = ap one_if (has_place-without_other s t i q) in
-    omega arith)
-    (cases_eq i t)
+    moved_stays f (with_place f t) s (without_place s t) t (omega arith) (has_place-with_other f t) (has_place-without_other s t)
 
 -- ---- two sets that have no tag in common
 

@@ -1,33 +1,5 @@
 -- What the table asks of each kind of step.
-use Rattle.std.proofs.Common.{
-  ◌≡◌,
-  ℕ,
-  ◌+◌,
-  ◌^◌,
-  ◌<◌,
-  Bool,
-  true,
-  false,
-  List,
-  [],
-  ◌∷◌,
-  ◌++◌,
-  length,
-  get_or,
-  set,
-  bit_and,
-  bit_or,
-  sym,
-  ◌∙◌,
-  refl,
-  ap,
-  subst,
-  arith,
-  length-set,
-  get_or-set_same,
-  ⊎_elim,
-  true≢false,
-}
+use Rattle.std.proofs.Common.{◌≡◌, ℕ, ◌+◌, ◌^◌, ◌<◌, Bool, true, false, List, [], ◌∷◌, ◌++◌, length, get_or, set, bit_and, bit_or, sym, ◌∙◌, refl, ap, subst, arith, length-set, get_or-set_same, ⊎_elim, true≢false}
 use mathlib.Core.Option.{none, some, some-injective, some-ne-none}
 use lib.ListN.{get_elem?}
 use Rattle.std.specs.Int.{w32, bit_not}

@@ -1,4 +1,9 @@
 //! The rule of the board's word, and the kinds of step that it knows. There are no others.
+
+ghost use Rattle.tag_board.specs.Partition.{IsKept};
+ghost use Rattle.tag_board.specs.Steps.{Loads, Tries, Gives};
+ghost use Rattle.tag_board.specs.View.{blank, joined, spent};
+
 use crate::view::View;
 use atomic_table::{Join, Play, Split, TableRule};
 
@@ -6,9 +11,6 @@ use atomic_table::{Join, Play, Split, TableRule};
 pub struct FreeOrHeld;
 
 impl<S> TableRule<S, View, u32> for FreeOrHeld {
-    ghost use Rattle.tag_board.specs.Partition.{IsKept};
-    ghost use Rattle.tag_board.specs.View.{blank};
-
     ghost holds = { IsKept };
 
     ghost first = { blank };
@@ -18,8 +20,6 @@ impl<S> TableRule<S, View, u32> for FreeOrHeld {
 pub(crate) struct Load;
 
 impl<S> Play<S, View> for Load {
-    ghost use Rattle.tag_board.specs.Steps.{Loads};
-
     ghost then = { Loads };
 }
 
@@ -27,8 +27,6 @@ impl<S> Play<S, View> for Load {
 pub(crate) struct Try;
 
 impl<S> Play<S, View> for Try {
-    ghost use Rattle.tag_board.specs.Steps.{Tries};
-
     ghost then = { Tries };
 }
 
@@ -36,8 +34,6 @@ impl<S> Play<S, View> for Try {
 pub(crate) struct Give;
 
 impl<S> Play<S, View> for Give {
-    ghost use Rattle.tag_board.specs.Steps.{Gives};
-
     ghost then = { Gives };
 }
 
@@ -45,16 +41,12 @@ impl<S> Play<S, View> for Give {
 pub(crate) struct Part;
 
 impl Split<View> for Part {
-    ghost use Rattle.tag_board.specs.View.{blank};
-
     ghost left = { λ v. v };
 
     ghost right = { λ v. blank v.depth };
 }
 
 impl Join<View> for Part {
-    ghost use Rattle.tag_board.specs.View.{joined, spent};
-
     ghost both = { joined };
 
     ghost spent = { spent };

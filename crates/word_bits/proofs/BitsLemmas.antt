@@ -1,98 +1,12 @@
 -- Lemmas on the set of a word's bits.
-use Rattle.std.proofs.Common.{
-  ◌≡◌,
-  ℕ,
-  zero,
-  suc,
-  ◌+◌,
-  ◌-◌,
-  ◌*◌,
-  ◌/◌,
-  ◌%◌,
-  ◌^◌,
-  ◌<◌,
-  ◌≤◌,
-  min,
-  max,
-  Bool,
-  true,
-  false,
-  not,
-  ◌&&◌,
-  ◌||◌,
-  List,
-  [],
-  ◌∷◌,
-  length,
-  nat_eq,
-  bit_and,
-  bit_or,
-  sym,
-  ◌∙◌,
-  refl,
-  ap,
-  subst,
-  ⊎_elim,
-  eq-eqb,
-  ne_eqb,
-  if◌then◌else◌,
-  arith,
-}
+use Rattle.std.proofs.Common.{◌≡◌, ℕ, zero, suc, ◌+◌, ◌-◌, ◌*◌, ◌/◌, ◌%◌, ◌^◌, ◌<◌, ◌≤◌, min, max, Bool, true, false, not, ◌&&◌, ◌||◌, List, [], ◌∷◌, length, nat_eq, bit_and, bit_or, sym, ◌∙◌, refl, ap, subst, ⊎_elim, eq-eqb, ne_eqb, if◌then◌else◌, arith}
 use Rattle.std.specs.Int.{w32, bit_at, bit_not, trailing_zeros, leading_zeros}
 use Rattle.std.proofs.lemmas.Bool.{cases_eq, cases_lt}
 use Rattle.std.proofs.lemmas.Nat.{pow_pos, one_shl, leading_top}
 use Rattle.std.proofs.Math.Nat.{pow-suc}
-use Rattle.std.proofs.lemmas.Nat.Bits.{
-  bit_at-lt,
-  bit_at_lowest,
-  bit_at-suc,
-  bit_at-zero,
-  bit_at_above,
-  bit_at_cat_high,
-  bit_at-trailing_zeros,
-  bit_at_and,
-  bit_at_or,
-  bit_at_not,
-  bit_at-pow_same,
-  bit_at-pow_other,
-  bit_at_ones,
-  bit_at_ones_above,
-  bit_at_set_same,
-  bit_at_set_other,
-  bit_at_clear_same,
-  bit_at_clear_other,
-  same_from_bits_below,
-  shr_and_one,
-  and_pow,
-}
+use Rattle.std.proofs.lemmas.Nat.Bits.{bit_at-lt, bit_at_lowest, bit_at-suc, bit_at-zero, bit_at_above, bit_at_cat_high, bit_at-trailing_zeros, bit_at_and, bit_at_or, bit_at_not, bit_at-pow_same, bit_at-pow_other, bit_at_ones, bit_at_ones_above, bit_at_set_same, bit_at_set_other, bit_at_clear_same, bit_at_clear_other, same_from_bits_below, shr_and_one, and_pow}
 use Rattle.word_bits.specs.Places.{bits, word_of, has_place, no_places, all_places, with_place, without_place, union, intersection, minus, only_below, IsLowest, IsHighest}
-use Rattle.word_bits.proofs.PlacesLemmas.{
-  length-places,
-  length-no_places,
-  length-all_places,
-  length-with_place,
-  length-without_place,
-  length-union,
-  length-intersection,
-  length-minus,
-  length-only_below,
-  has_place_past,
-  has_place-places,
-  has_place-no_places,
-  has_place-all_places,
-  has_place-with_same,
-  has_place-with_other,
-  has_place-without_same,
-  has_place-without_other,
-  has_place-union,
-  has_place-intersection,
-  has_place-minus,
-  has_place-only_below,
-  has_place-only_below_past,
-  same_sets,
-  and_true,
-  and_false,
-}
+use Rattle.word_bits.proofs.PlacesLemmas.{length-places, length-no_places, length-all_places, length-with_place, length-without_place, length-union, length-intersection, length-minus, length-only_below, has_place_past, has_place-places, has_place-no_places, has_place-all_places, has_place-with_same, has_place-with_other, has_place-without_same, has_place-without_other, has_place-union, has_place-intersection, has_place-minus, has_place-only_below, has_place-only_below_past, same_sets, and_true, and_false}
 
 pub length-bits : (w : ℕ) → length (bits w) ≡ 32
 unfolding bits
@@ -112,28 +26,24 @@ bits_by w s l each =
 
 -- ---- the operators on whole words
 
+-- what holds of 0 and of 1 holds of every bit, and so for two of them
+of_bit : (P : ℕ → Type 0) → P 0 → P 1 → (x : ℕ) → x < 2 → P x
+of_bit P none one zero h = none
+of_bit P none one (suc zero) h = one
+of_bit P none one (suc (suc x)) h = absurd (omega arith)
+
+of_bits : (P : ℕ → ℕ → Type 0) → P 0 0 → P 0 1 → P 1 0 → P 1 1 → (x y : ℕ) → x < 2 → y < 2 → P x y
+of_bits P none second first both x y p q =
+    of_bit (λ x. P x y) (of_bit (P 0) none second y q) (of_bit (P 1) first both y q) x p
+
 or_bit : (x y : ℕ) → x < 2 → y < 2 → nat_eq (max x y) 1 ≡ (nat_eq x 1 || nat_eq y 1)
-or_bit zero zero p q = refl
-or_bit zero (suc zero) p q = refl
-or_bit (suc zero) zero p q = refl
-or_bit (suc zero) (suc zero) p q = refl
-or_bit (suc (suc x)) y p q = absurd (omega arith)
-or_bit zero (suc (suc y)) p q = absurd (omega arith)
-or_bit (suc zero) (suc (suc y)) p q = absurd (omega arith)
+or_bit = of_bits (λ x y. nat_eq (max x y) 1 ≡ (nat_eq x 1 || nat_eq y 1)) refl refl refl refl
 
 and_bit : (x y : ℕ) → x < 2 → y < 2 → nat_eq (min x y) 1 ≡ (nat_eq x 1 && nat_eq y 1)
-and_bit zero zero p q = refl
-and_bit zero (suc zero) p q = refl
-and_bit (suc zero) zero p q = refl
-and_bit (suc zero) (suc zero) p q = refl
-and_bit (suc (suc x)) y p q = absurd (omega arith)
-and_bit zero (suc (suc y)) p q = absurd (omega arith)
-and_bit (suc zero) (suc (suc y)) p q = absurd (omega arith)
+and_bit = of_bits (λ x y. nat_eq (min x y) 1 ≡ (nat_eq x 1 && nat_eq y 1)) refl refl refl refl
 
 not_bit : (x : ℕ) → x < 2 → nat_eq (1 - x) 1 ≡ not (nat_eq x 1)
-not_bit zero p = refl
-not_bit (suc zero) p = refl
-not_bit (suc (suc x)) p = absurd (omega arith)
+not_bit = of_bit (λ x. nat_eq (1 - x) 1 ≡ not (nat_eq x 1)) refl refl
 
 -- `a | b`
 pub bits_or : (a b : ℕ) → bits (bit_or a b) ≡ union (bits a) (bits b)
@@ -180,13 +90,7 @@ bits_max = bits_by (2 ^ 32 - 1) all_places length-all_places (λ i h. ap (λ x. 
 -- ---- two words with the same bits are one
 
 same_bit : (x y : ℕ) → x < 2 → y < 2 → nat_eq x 1 ≡ nat_eq y 1 → x ≡ y
-same_bit zero zero p q e = refl
-same_bit zero (suc zero) p q e = cc
-same_bit (suc zero) zero p q e = cc
-same_bit (suc zero) (suc zero) p q e = refl
-same_bit (suc (suc x)) y p q e = absurd (omega arith)
-same_bit zero (suc (suc y)) p q e = absurd (omega arith)
-same_bit (suc zero) (suc (suc y)) p q e = absurd (omega arith)
+same_bit = of_bits (λ x y. nat_eq x 1 ≡ nat_eq y 1 → x ≡ y) (λ e. refl) (λ e. cc) (λ e. cc) (λ e. refl)
 
 pub same_word : (a b : ℕ) → a < 2 ^ 32 → b < 2 ^ 32 → bits a ≡ bits b → a ≡ b
 same_word a b p q e =

@@ -1,14 +1,24 @@
-use Rattle.std.proofs.Common.{◌≡◌, ℕ, Bool, ◌&&◌, not, ap, ◌∙◌, arith}
-use Rattle.word_bits.specs.Places.{places}
+-- An error leaves no tag in the device.
+use Rattle.std.proofs.Common.{◌≡◌, ℕ, true, false, not, ◌&&◌, sym, ap, ◌∙◌}
+use Rattle.std.proofs.lemmas.Bool.{and_right}
+use Rattle.word_bits.proofs.BitsLemmas.{bits_zero}
+use Rattle.word_bits.proofs.PlacesLemmas.{and_true, places_none, same_places}
+use Rattle.ncq_journal.specs.Halted.{halted}
 use Rattle.ncq_journal.specs.History.{history_of}
 use Rattle.ncq_journal.specs.Phase.{phase}
 use Rattle.ncq_journal.specs.Tags.{in_device}
-use Rattle.ncq_journal.proofs.SetLemmas.{among, among_all}
 use Rattle.ncq_journal.proofs.tags.device_tags_of.Goals as goal
 
-pub returns : goal.returns
-returns g c =
-    let p = λ (halted : Bool) (t : ℕ). in_device (phase (history_of c.args.events.now) t) && not halted in
-    let all : c.loop-tag.tag ≡ 32 = omega arith in
-    c.loop-tag.invariant ∙ ap (among (p c.is_halted-halted.result)) all ∙ among_all (p c.is_halted-halted.result)
-    ∙ ap (λ halted. places (p halted)) c.is_halted-halted.ensures
+pub returns-then-is_halted : goal.returns-then-is_halted
+returns-then-is_halted g c =
+    let past = history_of c.args.events.now in
+    let stopped : not (halted past) ≡ false = ap not (sym c.is_halted.ensures ∙ c.if-is_halted.true) in
+    bits_zero ∙ sym (places_none (λ t. in_device (phase past t) && not (halted past)) (λ t h. and_right (in_device (phase past t)) (not (halted past)) stopped))
+
+pub returns-else-is_halted : goal.returns-else-is_halted
+returns-else-is_halted g c =
+    let past = history_of c.args.events.now in
+    let goes : not (halted past) ≡ true = ap not (sym c.is_halted.ensures ∙ c.if-is_halted.false) in
+    c.tags_in.ensures in_device (λ p b h. h.1)
+    ∙ same_places (λ t. in_device (phase past t)) (λ t. in_device (phase past t) && not (halted past))
+    (λ t h. sym (ap (λ b. in_device (phase past t) && b) goes ∙ and_true (in_device (phase past t))))

@@ -3,7 +3,7 @@ use Rattle.std.proofs.Common.{sym, ◌∙◌, subst, arith}
 use Rattle.ahci_regs.specs.PortState.{IsSlots}
 use Rattle.word_bits.specs.Places.{bits}
 use Rattle.ahci_regs.specs.Fields.{state_of}
-use Rattle.ahci_regs.proofs.StateLemmas.{kept_by_fis, interrupts_after, interrupts-sdbs, interrupts-tfes, slots-minus, minus_of_none, status_after_bits-lt}
+use Rattle.ahci_regs.proofs.StateLemmas.{kept_by_fis, interrupts_after_fis, interrupts-sdbs, slots-minus, minus_of_none, status_after_bits-lt}
 use Rattle.ahci_regs.proofs.port_regs.PortRegs.receive_bits.Goals as goal
 
 pub invariant_of-self : goal.invariant_of-self
@@ -13,5 +13,5 @@ invariant_of-self c =
     let lost = bits c.args.sactive in
     let below = status_after_bits-lt s.sts c.args.status h.sts (omega arith) in
     kept_by_fis s _ c.args.error _ _ _ h (omega (arith, below, c.after_bits-self-inside.ensures)) (omega arith)
-    (interrupts_after _ _ _ _ c.with-self-inside.ensures interrupts-tfes (interrupts_after _ _ _ _ c.with.ensures interrupts-sdbs h.is))
+    (interrupts_after_fis _ _ _ _ _ c.after_fis-self-inside.ensures interrupts-sdbs h.is)
     (subst (IsSlots s.depth) (sym c.lost-self-inside.ensures) (slots-minus s.depth s.sact lost h.sact)) h.ci (λ e. c.lost-self-inside.ensures ∙ minus_of_none s.sact lost e) (λ e. e)

@@ -2,7 +2,7 @@
 use Rattle.std.proofs.Common.{sym, ◌∙◌, subst, arith}
 use Rattle.ahci_regs.specs.PortState.{IsSlots}
 use Rattle.ahci_regs.specs.Fields.{state_of}
-use Rattle.ahci_regs.proofs.StateLemmas.{kept_by_fis, interrupts_after, interrupts-dhrs, interrupts-tfes, slots-ended, ended_of_none}
+use Rattle.ahci_regs.proofs.StateLemmas.{kept_by_fis, interrupts_after_fis, interrupts-dhrs, slots-ended, ended_of_none}
 use Rattle.ahci_regs.proofs.port_regs.PortRegs.receive_register.Goals as goal
 
 pub invariant_of-self : goal.invariant_of-self
@@ -10,6 +10,6 @@ invariant_of-self c =
     let s = state_of c.self.inside in
     let h = c.self.invariant in
     kept_by_fis s c.args.status c.args.error _ _ _ h (omega arith) (omega arith)
-    (interrupts_after _ _ _ _ c.with-self-inside.ensures interrupts-tfes (interrupts_after _ _ _ _ c.with.ensures interrupts-dhrs h.is)) h.sact
+    (interrupts_after_fis _ _ _ _ _ c.after_fis-self-inside.ensures interrupts-dhrs h.is) h.sact
     (subst (IsSlots s.depth) (sym c.ended-self-inside.ensures) (slots-ended s.depth c.args.status c.args.tag s.ci h.ci))
     (λ e. e) (λ e. c.ended-self-inside.ensures ∙ ended_of_none c.args.status c.args.tag s.ci e)
