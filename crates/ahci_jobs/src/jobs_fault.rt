@@ -2,6 +2,7 @@ ghost use Rattle.std.specs.Prelude.{◌≡◌};
 ghost use Rattle.ahci_jobs.specs.declared.jobs_fault.JobsFault.TheVariants as the-fault;
 
 use std::alloc::AllocError;
+use streams::OutputFailed;
 
 /// Why a job list is not done to its end.
 #[derive(Clone, Copy, Debug, PartialEq, Eq)]
@@ -20,6 +21,14 @@ pub enum JobsFault {
     Lost(u64),
     /// The system gave no memory.
     OutOfMemory,
+}
+
+impl From<OutputFailed> for JobsFault {
+    ghost from_gives = { λ _ fault. fault ≡ the-fault.Write };
+
+    fn from(_failed: OutputFailed) -> JobsFault {
+        JobsFault::Write
+    }
 }
 
 impl From<AllocError> for JobsFault {

@@ -154,10 +154,7 @@ where
     match done(rt, alloc.clone()?, size, chooser, &jobs) {
         Ok(end) => {
             let text = text_of(alloc, form, size.workers(), &end)?;
-            match writes.write_whole(writer, &text) {
-                Ok(()) => Ok(()),
-                Err(_) => Err(JobsFault::Write),
-            }
+            Ok(writes.write_whole(writer, &text)?)
         }
         Err(fault) => Err(given_up(fault)),
     }
