@@ -53,14 +53,7 @@ fn a_completion_names_its_tags(rt: HostRuntime) {
 #[test]
 fn a_write_is_taken_and_served(rt: HostRuntime) -> Result<(), Fail> {
     let image = [0, 0, 0, 0x5A, 0, 0, 0, 0];
-    plays(
-        &rt,
-        rt.alloc(),
-        (4, 0, 0x5A),
-        A_WRITE.as_slice(),
-        &A_SECTOR,
-        &image,
-    )
+    plays(&rt, rt.alloc(), (4, 0, 0x5A), &A_WRITE, &A_SECTOR, &image)
 }
 
 static AN_ERROR: [Row; 16] = [
@@ -100,7 +93,7 @@ fn an_error_is_told_by_the_log(rt: HostRuntime) -> Result<(), Fail> {
         &rt,
         rt.alloc(),
         (4, 0x77, 0x11),
-        AN_ERROR.as_slice(),
+        &AN_ERROR,
         &QUIET,
         &[0x77; 8],
     )

@@ -4,23 +4,15 @@ mod telling;
 
 use Look::{Byte, Entries, Owed, Stands, Tags};
 use Note::{Accept, Collect, Complete, Fail as Failing, Read, Recover, Reissue, Write};
-use Step::{Answer, Falling, Never, Next, Rising, Shows};
+use Step::{Answer, Failure, Falling, Never, Next, Rising, Shows};
 use ncq_journal::{Outcome, Phase, Plain};
 use std::test::Fail;
 use telling::{Look, Note, Step, tells};
 
-static TWO_WRITES: [Step; 17] = [
-    Next(Write(0, 3, 0xaa)),
-    Next(Write(1, 3, 0xbb)),
-    Next(Accept(0)),
-    Next(Accept(1)),
-    Next(Complete(1)),
-    Next(Complete(0)),
-    Next(Collect(0)),
-    Next(Read(2, 3, 1)),
-    Next(Accept(2)),
-    Next(Complete(2)),
-    Next(Collect(2)),
+static TWO_WRITES: [Step; 9] = [
+    Next(&[Write(0, 3, 0xaa), Write(1, 3, 0xbb)]),
+    Next(&[Accept(0), Accept(1), Complete(1), Complete(0), Collect(0)]),
+    Next(&[Read(2, 3, 1), Accept(2), Complete(2), Collect(2)]),
     Shows(Entries(11)),
     Shows(Byte(3, Some(0xaa))),
     Shows(Owed(1)),
@@ -34,17 +26,10 @@ fn writes_count_in_the_order_of_their_completion(rt: HostRuntime) -> Result<(), 
     tells(&rt, rt.alloc(), 8, 4, TWO_WRITES.as_slice())
 }
 
-static READ_BETWEEN_WRITES: [Step; 13] = [
-    Next(Write(0, 7, 0xaa)),
-    Next(Write(1, 7, 0xbb)),
-    Next(Read(2, 7, 1)),
-    Next(Accept(0)),
-    Next(Accept(1)),
-    Next(Accept(2)),
-    Next(Complete(1)),
-    Next(Complete(2)),
-    Next(Complete(0)),
-    Next(Collect(2)),
+static READ_BETWEEN_WRITES: [Step; 6] = [
+    Next(&[Write(0, 7, 0xaa), Write(1, 7, 0xbb), Read(2, 7, 1)]),
+    Next(&[Accept(0), Accept(1), Accept(2)]),
+    Next(&[Complete(1), Complete(2), Complete(0), Collect(2)]),
     Answer(2, 7, Outcome::Read, Some(0xbb)),
     Shows(Byte(7, Some(0xaa))),
     Shows(Byte(8, None)),
@@ -55,29 +40,17 @@ fn a_read_between_two_writes_has_the_first_completed(rt: HostRuntime) -> Result<
     tells(&rt, rt.alloc(), 8, 3, READ_BETWEEN_WRITES.as_slice())
 }
 
-static STRANGERS: [Step; 23] = [
-    Next(Write(0, 0, 0x11)),
-    Never(Collect(0)),
-    Never(Complete(0)),
-    Never(Read(0, 0, 1)),
-    Never(Read(1, 0, 1)),
-    Next(Accept(0)),
-    Next(Complete(0)),
-    Next(Collect(0)),
-    Never(Collect(0)),
-    Never(Accept(0)),
-    Never(Complete(0)),
-    Never(Read(0, 0, 0)),
-    Never(Read(0, 0, 65_537)),
-    Never(Read(0, 1 << 48, 1)),
-    Next(Read(0, 0, 1)),
-    Never(Complete(0)),
-    Never(Write(0, 0, 0x22)),
-    Never(Write(1, 0, 0x22)),
-    Next(Accept(0)),
-    Never(Accept(0)),
-    Next(Complete(0)),
-    Next(Collect(0)),
+static STRANGERS: [Step; 11] = [
+    Next(&[Write(0, 0, 0x11)]),
+    Never(&[Collect(0), Complete(0), Read(0, 0, 1), Read(1, 0, 1)]),
+    Next(&[Accept(0), Complete(0), Collect(0)]),
+    Never(&[Collect(0), Accept(0), Complete(0)]),
+    Never(&[Read(0, 0, 0), Read(0, 0, 65_537), Read(0, 1 << 48, 1)]),
+    Next(&[Read(0, 0, 1)]),
+    Never(&[Complete(0), Write(0, 0, 0x22), Write(1, 0, 0x22)]),
+    Next(&[Accept(0)]),
+    Never(&[Accept(0)]),
+    Next(&[Complete(0), Collect(0)]),
     Answer(4, 6, Outcome::Read, Some(0x11)),
 ];
 
@@ -86,49 +59,27 @@ fn one_slot_serves_one_request_at_a_time(rt: HostRuntime) -> Result<(), Fail> {
     tells(&rt, rt.alloc(), 8, 1, STRANGERS.as_slice())
 }
 
-const FAILED_AT_7: Outcome = Outcome::Failed {
-    error: 0x40,
-    lba: 7,
-};
-
-static ERROR_IN_A_QUEUE: [Step; 41] = [
-    Next(Read(0, 0, 1)),
-    Next(Read(1, 7, 1)),
-    Next(Write(2, 9, 0x5a)),
-    Next(Accept(0)),
-    Next(Accept(1)),
-    Next(Accept(2)),
-    Never(Failing(1, 0x40, 8)),
-    Never(Recover(1)),
-    Never(Reissue(0)),
-    Never(Note::Plain(Plain::Identify)),
-    Next(Failing(1, 0x40, 7)),
+static ERROR_IN_A_QUEUE: [Step; 24] = [
+    Next(&[Read(0, 0, 1), Read(1, 7, 1), Write(2, 9, 0x5a)]),
+    Next(&[Accept(0), Accept(1), Accept(2)]),
+    Never(&[Failing(1, 0x40, 8), Recover(1), Reissue(0)]),
+    Never(&[Note::Plain(Plain::Identify)]),
+    Next(&[Failing(1, 0x40, 7)]),
     Shows(Tags(7, 0, 0)),
-    Never(Complete(0)),
-    Never(Read(3, 0, 1)),
-    Never(Failing(0, 0x40, 0)),
-    Never(Collect(1)),
-    Never(Recover(0)),
-    Next(Recover(1)),
+    Never(&[Complete(0), Read(3, 0, 1), Failing(0, 0x40, 0)]),
+    Never(&[Collect(1), Recover(0)]),
+    Next(&[Recover(1)]),
     Shows(Tags(0, 0, 0)),
     Shows(Stands(0, Phase::Held)),
     Shows(Stands(1, Phase::Done)),
     Shows(Stands(2, Phase::Held)),
     Shows(Stands(3, Phase::Free)),
     Shows(Owed(9)),
-    Never(Recover(1)),
-    Never(Reissue(1)),
-    Never(Accept(0)),
-    Next(Collect(1)),
-    Next(Reissue(0)),
-    Next(Reissue(2)),
-    Next(Accept(0)),
-    Next(Complete(0)),
-    Next(Accept(2)),
-    Next(Complete(2)),
-    Next(Collect(0)),
-    Next(Collect(2)),
-    Answer(1, 6, FAILED_AT_7, None),
+    Never(&[Recover(1), Reissue(1), Accept(0)]),
+    Next(&[Collect(1), Reissue(0), Reissue(2)]),
+    Next(&[Accept(0), Complete(0), Accept(2), Complete(2)]),
+    Next(&[Collect(0), Collect(2)]),
+    Failure(1, 6, 0x40, 7),
     Answer(0, 12, Outcome::Read, Some(0)),
     Answer(2, 14, Outcome::Wrote, None),
     Shows(Byte(9, Some(0x5a))),
@@ -140,30 +91,16 @@ fn an_error_in_a_queue_fails_one_command_and_holds_the_others(rt: HostRuntime) -
     tells(&rt, rt.alloc(), 1000, 32, ERROR_IN_A_QUEUE.as_slice())
 }
 
-const PAST_THE_END: Outcome = Outcome::Failed {
-    error: 0x10,
-    lba: 8,
-};
-
-static LAST_SECTOR: [Step; 18] = [
-    Next(Read(0, 7, 1)),
-    Next(Accept(0)),
-    Next(Complete(0)),
-    Next(Write(1, 8, 0xff)),
-    Never(Accept(1)),
-    Never(Complete(1)),
-    Never(Failing(1, 0x10, 7)),
-    Never(Failing(1, 0x10, 9)),
-    Never(Failing(1, 0x40, 8)),
-    Next(Failing(1, 0x10, 8)),
+static LAST_SECTOR: [Step; 9] = [
+    Next(&[Read(0, 7, 1), Accept(0), Complete(0), Write(1, 8, 0xff)]),
+    Never(&[Accept(1), Complete(1), Failing(1, 0x10, 7)]),
+    Never(&[Failing(1, 0x10, 9), Failing(1, 0x40, 8)]),
+    Next(&[Failing(1, 0x10, 8)]),
     Shows(Tags(2, 2, 0)),
-    Next(Recover(1)),
-    Next(Collect(1)),
-    Next(Read(1, 7, 2)),
-    Answer(3, 4, PAST_THE_END, None),
-    Never(Accept(1)),
-    Never(Failing(1, 0x10, 7)),
-    Next(Failing(1, 0x10, 8)),
+    Next(&[Recover(1), Collect(1), Read(1, 7, 2)]),
+    Failure(3, 4, 0x10, 8),
+    Never(&[Accept(1), Failing(1, 0x10, 7)]),
+    Next(&[Failing(1, 0x10, 8)]),
 ];
 
 #[test]
@@ -173,30 +110,17 @@ fn a_command_past_the_last_sector_is_refused_when_it_is_accepted(
     tells(&rt, rt.alloc(), 8, 2, LAST_SECTOR.as_slice())
 }
 
-const BROKEN: Outcome = Outcome::Failed {
-    error: 0x84,
-    lba: 0,
-};
-
-static BROKEN_WRITE: [Step; 20] = [
-    Next(Write(0, 0, 0x11)),
-    Next(Write(1, 0, 0x22)),
-    Next(Accept(1)),
-    Never(Failing(0, 0x40, 0)),
-    Never(Note::Plain(Plain::Flush)),
-    Next(Failing(1, 0x84, 0)),
+static BROKEN_WRITE: [Step; 12] = [
+    Next(&[Write(0, 0, 0x11), Write(1, 0, 0x22), Accept(1)]),
+    Never(&[Failing(0, 0x40, 0), Note::Plain(Plain::Flush)]),
+    Next(&[Failing(1, 0x84, 0)]),
     Shows(Tags(3, 1, 0)),
-    Never(Note::Plain(Plain::Flush)),
-    Never(Collect(0)),
-    Next(Recover(1)),
-    Never(Write(1, 0, 0x33)),
-    Never(Note::Plain(Plain::ReadLog)),
-    Next(Note::Plain(Plain::Flush)),
-    Next(Reissue(0)),
-    Next(Accept(0)),
-    Next(Complete(0)),
-    Next(Collect(1)),
-    Answer(1, 3, BROKEN, None),
+    Never(&[Note::Plain(Plain::Flush), Collect(0)]),
+    Next(&[Recover(1)]),
+    Never(&[Write(1, 0, 0x33), Note::Plain(Plain::ReadLog)]),
+    Next(&[Note::Plain(Plain::Flush), Reissue(0)]),
+    Next(&[Accept(0), Complete(0), Collect(1)]),
+    Failure(1, 3, 0x84, 0),
     Answer(0, 8, Outcome::Wrote, None),
     Shows(Byte(0, Some(0x11))),
 ];
@@ -209,15 +133,14 @@ fn a_broken_write_leaves_the_image_and_an_issued_one_is_held(rt: HostRuntime) ->
 /// No tag of 32 is left out.
 const NONE: u8 = 32;
 
-static CROWD: [Step; 15] = [
+static CROWD: [Step; 14] = [
     Rising(NONE, &[Write(0, 0, 1)]),
     Shows(Tags(u32::MAX, u32::MAX, 0)),
     Rising(NONE, &[Accept(0)]),
     Shows(Tags(u32::MAX, 0, u32::MAX)),
-    Next(Failing(17, 0x40, 17)),
+    Next(&[Failing(17, 0x40, 17)]),
     Shows(Tags(u32::MAX, 0, 0)),
-    Next(Recover(17)),
-    Next(Collect(17)),
+    Next(&[Recover(17), Collect(17)]),
     Shows(Owed(124)),
     Rising(17, &[Reissue(0)]),
     Shows(Tags(0xfffd_ffff, 0xfffd_ffff, 0)),

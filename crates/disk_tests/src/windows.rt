@@ -23,8 +23,8 @@ enum Asked {
     Write(usize),
 }
 
-/// A command, a list of pieces, and why no window of tag 0 is built of them, if none is.
-type Refusal = (Asked, &'static [Place], Option<BuildFault>);
+/// A list of pieces, and why no window is built over them, if none is.
+type Refusal = (&'static [Place], Option<BuildFault>);
 
 /// So many bytes, each the low byte of its place plus one.
 fn rising(alloc: Global, len: usize) -> Result<Bytes, AllocError> {
@@ -76,10 +76,15 @@ fn refused(
     Ok(Window::build(alloc, 0, &op, pieces.as_slice()).err())
 }
 
-/// Compares what `build` says to each row.
-fn refuses(rt: &impl Abort, alloc: Global, rows: &[Refusal]) -> Result<(), AllocError> {
-    for (row, (asked, places, fault)) in rows.iter().enumerate() {
-        equal(rt, row, &refused(alloc, *asked, places)?, fault);
+/// Compares what `build` says to a command with the pieces of each row.
+fn refuses(
+    rt: &impl Abort,
+    alloc: Global,
+    asked: Asked,
+    rows: &[Refusal],
+) -> Result<(), AllocError> {
+    for (row, (places, fault)) in rows.iter().enumerate() {
+        equal(rt, row, &refused(alloc, asked, places)?, fault);
     }
     Ok(())
 }

@@ -33,14 +33,7 @@ static FAR: [Row; 3] = [
 
 #[test]
 fn a_far_command_is_refused_at_acceptance(rt: HostRuntime) -> Result<(), Fail> {
-    plays(
-        &rt,
-        rt.alloc(),
-        (32, 0, 0),
-        FAR.as_slice(),
-        &QUIET,
-        &[0; 1000],
-    )
+    plays(&rt, rt.alloc(), (32, 0, 0), &FAR, &QUIET, &[0; 1000])
 }
 
 /// Refused with IDNF at LBA 8.
@@ -88,7 +81,7 @@ static ENDS: [[Row; 2]; 7] = [
 #[test]
 fn the_last_sector_and_one_past_it(rt: HostRuntime) -> Result<(), Fail> {
     for rows in &ENDS {
-        plays(&rt, rt.alloc(), (2, 0, 0), rows.as_slice(), &QUIET, &[0; 8])?;
+        plays(&rt, rt.alloc(), (2, 0, 0), rows, &QUIET, &[0; 8])?;
     }
     Ok(())
 }

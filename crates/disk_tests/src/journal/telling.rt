@@ -42,10 +42,10 @@ pub enum Look {
 /// A row of a story.
 #[derive(Clone, Copy)]
 pub enum Step {
-    /// The event may come next, and does.
-    Next(Note),
-    /// The event may not come next.
-    Never(Note),
+    /// These events may come next, one after the other, and do.
+    Next(&'static [Note]),
+    /// None of these events may come next.
+    Never(&'static [Note]),
     /// Each of 32 tags but one has these events, in rising order.
     Rising(u8, &'static [Note]),
     /// Each of 32 tags but one has these events, in falling order.
@@ -53,6 +53,8 @@ pub enum Step {
     Shows(Look),
     /// The answer of a request by its number: entry, outcome and the first of a read's bytes.
     Answer(u64, u64, Outcome, Option<u8>),
+    /// The answer of a request that failed, by its number: entry, error and LBA.
+    Failure(u64, u64, u8, u64),
 }
 
 impl Note {
@@ -180,8 +182,16 @@ impl Story {
 
     fn goes(&mut self, rt: &impl Abort, row: usize, step: Step) -> Result<(), AllocError> {
         match step {
-            Step::Next(note) => self.next(rt, row, note)?,
-            Step::Never(note) => self.never(rt, row, note)?,
+            Step::Next(notes) => {
+                for note in notes {
+                    self.next(rt, row, *note)?;
+                }
+            }
+            Step::Never(notes) => {
+                for note in notes {
+                    self.never(rt, row, *note)?;
+                }
+            }
             Step::Rising(left_out, notes) => {
                 for tag in 0..32u8 {
                     self.turn(rt, row, tag, left_out, notes)?;
@@ -196,6 +206,11 @@ impl Story {
             Step::Answer(number, entry, outcome, first) => {
                 let answer = self.answer(number)?;
                 equal(rt, row, &answer, &Some((entry, outcome, first)));
+            }
+            Step::Failure(number, entry, error, lba) => {
+                let answer = self.answer(number)?;
+                let outcome = Outcome::Failed { error, lba };
+                equal(rt, row, &answer, &Some((entry, outcome, None)));
             }
         }
         Ok(())

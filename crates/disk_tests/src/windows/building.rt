@@ -1,47 +1,76 @@
 //! The bytes of two windows, and when none is built.
 
-use super::{Asked, Place, Refusal, built, op_of, refuses, rising};
+use super::{Asked, Place, Refusal, built, op_of, refused, refuses, rising};
 use crate::table::{equal, equal_bytes};
+use BuildFault::{
+    BadCount, BadLba, NoPieces, OddPiece, PieceOutside, PiecesOverlap, TooManyPieces, WrongTotal,
+};
 use ahci_table::{BuildFault, Window, default_pieces};
 use std::process::Abort;
 use std::test::Fail;
 
-/// Compares a window's header, and its bytes at some places.
-fn has(rt: &impl Abort, window: &Window, header: &[u8], parts: &[(usize, &[u8])]) {
-    equal_bytes(rt, 0, window.header(), header);
+/// Compares the header of a row's window, and its bytes at some places.
+fn has(rt: &impl Abort, row: usize, window: &Window, header: &[u8], parts: &[(usize, &[u8])]) {
+    equal_bytes(rt, row, 0, window.header(), header);
     for (place, wanted) in parts {
         let end = place.saturating_add(wanted.len());
         let part = window.bytes().get(*place..end).unwrap_or(&[]);
-        equal_bytes(rt, *place, part, wanted);
+        equal_bytes(rt, row, *place, part, wanted);
     }
 }
 
-#[test]
-fn the_bytes_of_a_read_of_eight_sectors(rt: HostRuntime) -> Result<(), Fail> {
-    let op = op_of(rt.alloc(), Asked::Read(0x12_3456_789A, 8))?;
-    let window = Window::build(rt.alloc(), 5, &op, &default_pieces(8))?;
-    let header =
-        b"\x05\x00\x01\x00\x00\x00\x00\x00\x00\x00\x00\x24\x00\x00\x00\x00\x00\x00\x00\x00\x00\x00\x00\x00\x00\x00\x00\x00\x00\x00\x00\x00";
-    let command =
-        b"\x27\x80\x60\x08\x9A\x78\x56\x40\x34\x12\x00\x00\x28\x00\x00\x00\x00\x00\x00\x00";
-    let entry = b"\x00\x10\x00\x24\x00\x00\x00\x00\x00\x00\x00\x00\xFF\x0F\x00\x00";
-    has(&rt, &window, header, &[(0, command), (0x80, entry)]);
-    equal(&rt, 1, &(window.bytes().len(), window.tag()), &(8192, 5));
-    Ok(())
+/// A command by its tag, over the default pieces, and what its window has: header, command, an entry at its place, and length.
+struct Bytes {
+    tag: u8,
+    asked: Asked,
+    sectors: u32,
+    header: &'static [u8; 32],
+    command: &'static [u8; 20],
+    entry: (usize, &'static [u8; 16]),
+    len: usize,
 }
 
-/// The most sectors that one command can have, by 32 pieces of 1 MiB.
+/// A read of eight sectors, and a write of the most that one command can have, by 32 pieces of 1 MiB.
+static OVER_DEFAULT_PIECES: [Bytes; 2] = [
+    Bytes {
+        tag: 5,
+        asked: Asked::Read(0x12_3456_789A, 8),
+        sectors: 8,
+        header: b"\x05\x00\x01\x00\x00\x00\x00\x00\x00\x00\x00\x24\x00\x00\x00\x00\x00\x00\x00\x00\x00\x00\x00\x00\x00\x00\x00\x00\x00\x00\x00\x00",
+        command: b"\x27\x80\x60\x08\x9A\x78\x56\x40\x34\x12\x00\x00\x28\x00\x00\x00\x00\x00\x00\x00",
+        entry: (
+            0x80,
+            b"\x00\x10\x00\x24\x00\x00\x00\x00\x00\x00\x00\x00\xFF\x0F\x00\x00",
+        ),
+        len: 8192,
+    },
+    Bytes {
+        tag: 0,
+        asked: Asked::Write(65_536 * 512),
+        sectors: 65_536,
+        header: b"\x45\x00\x20\x00\x00\x00\x00\x00\x00\x00\x00\x10\x00\x00\x00\x00\x00\x00\x00\x00\x00\x00\x00\x00\x00\x00\x00\x00\x00\x00\x00\x00",
+        command: b"\x27\x80\x61\x00\x00\x00\x00\x40\x00\x00\x00\x00\x00\x00\x00\x00\x00\x00\x00\x00",
+        entry: (
+            0x270,
+            b"\x00\x10\xF0\x11\x00\x00\x00\x00\x00\x00\x00\x00\xFF\xFF\x0F\x00",
+        ),
+        len: 33_558_528,
+    },
+];
+
 #[test]
-fn the_bytes_of_the_longest_write(rt: HostRuntime) -> Result<(), Fail> {
-    let op = op_of(rt.alloc(), Asked::Write(65_536 * 512))?;
-    let window = Window::build(rt.alloc(), 0, &op, &default_pieces(65_536))?;
-    let header =
-        b"\x45\x00\x20\x00\x00\x00\x00\x00\x00\x00\x00\x10\x00\x00\x00\x00\x00\x00\x00\x00\x00\x00\x00\x00\x00\x00\x00\x00\x00\x00\x00\x00";
-    let command =
-        b"\x27\x80\x61\x00\x00\x00\x00\x40\x00\x00\x00\x00\x00\x00\x00\x00\x00\x00\x00\x00";
-    let entry = b"\x00\x10\xF0\x11\x00\x00\x00\x00\x00\x00\x00\x00\xFF\xFF\x0F\x00";
-    has(&rt, &window, header, &[(0, command), (0x270, entry)]);
-    equal(&rt, 1, &window.bytes().len(), &33_558_528);
+fn the_bytes_of_a_read_of_eight_sectors_and_of_the_longest_write(
+    rt: HostRuntime,
+) -> Result<(), Fail> {
+    for (row, bytes) in OVER_DEFAULT_PIECES.iter().enumerate() {
+        assert!(rt; bytes.tag < 32);
+        let op = op_of(rt.alloc(), bytes.asked)?;
+        let window = Window::build(rt.alloc(), bytes.tag, &op, &default_pieces(bytes.sectors))?;
+        let (header, command, (place, entry)) = (bytes.header, bytes.command, bytes.entry);
+        has(&rt, row, &window, header, &[(0, command), (place, entry)]);
+        let found = (window.bytes().len(), window.tag());
+        equal(&rt, row, &found, &(bytes.len, bytes.tag));
+    }
     Ok(())
 }
 
@@ -58,7 +87,7 @@ fn the_bytes_of_a_write_to_three_pieces(rt: HostRuntime) -> Result<(), Fail> {
         (0xE00, b"\x01\x02"),
         (0xC00, b"\x03\x04"),
     ];
-    has(&rt, &window, header, &parts);
+    has(&rt, 0, &window, header, &parts);
     equal(&rt, 1, &window.bytes().len(), &3586);
     Ok(())
 }
@@ -71,73 +100,55 @@ fn the_text_is_what_was_written(rt: HostRuntime) -> Result<(), Fail> {
     };
     let text = window.text(rt.alloc())?;
     let bytes = rising(rt.alloc(), 1024)?;
-    equal_bytes(&rt, 0, text.as_slice(), bytes.as_slice());
+    equal_bytes(&rt, 0, 0, text.as_slice(), bytes.as_slice());
     Ok(())
 }
 
-/// A write of two sectors to lists of pieces.
+/// Lists of pieces for a write of two sectors.
 static LISTS: [Refusal; 8] = [
-    (Asked::Write(1024), &THREE, None),
+    (&THREE, None),
     (
-        Asked::Write(1024),
         &[(0xE00, 2), (0xA00, 510), (0x890, 512)],
-        Some(BuildFault::PiecesOverlap),
+        Some(PiecesOverlap),
     ),
-    (
-        Asked::Write(1024),
-        &[(0xE00, 4), (0xC00, 510), (0x880, 512)],
-        Some(BuildFault::WrongTotal),
-    ),
-    (
-        Asked::Write(1024),
-        &[(0xE00, 2), (0xC00, 510), (0xAE, 512)],
-        Some(BuildFault::PieceOutside),
-    ),
-    (
-        Asked::Write(1024),
-        &[(0xE00, 2), (0xC00, 510), (0xB0, 512)],
-        None,
-    ),
-    (
-        Asked::Write(1024),
-        &[(0xE00, 1), (0xC00, 510), (0x880, 512)],
-        Some(BuildFault::OddPiece),
-    ),
-    (Asked::Write(1024), &[], Some(BuildFault::NoPieces)),
-    (
-        Asked::Write(1024),
-        &[(0x1000, 2); 33],
-        Some(BuildFault::TooManyPieces),
-    ),
+    (&[(0xE00, 4), (0xC00, 510), (0x880, 512)], Some(WrongTotal)),
+    (&[(0xE00, 2), (0xC00, 510), (0xAE, 512)], Some(PieceOutside)),
+    (&[(0xE00, 2), (0xC00, 510), (0xB0, 512)], None),
+    (&[(0xE00, 1), (0xC00, 510), (0x880, 512)], Some(OddPiece)),
+    (&[], Some(NoPieces)),
+    (&[(0x1000, 2); 33], Some(TooManyPieces)),
 ];
 
 #[test]
 fn lists_of_pieces_are_refused_by_the_first_case(rt: HostRuntime) -> Result<(), Fail> {
-    refuses(&rt, rt.alloc(), LISTS.as_slice())?;
+    refuses(&rt, rt.alloc(), Asked::Write(1024), LISTS.as_slice())?;
     Ok(())
 }
 
-/// Rows to which two cases apply, of which the first is told.
-static TWO_CASES: [Refusal; 7] = [
-    (Asked::Read(1 << 48, 0), &[], Some(BuildFault::BadCount)),
-    (Asked::Read(0, 65_537), &[], Some(BuildFault::BadCount)),
-    (Asked::Write(513), &[], Some(BuildFault::BadCount)),
-    (Asked::Read(1 << 48, 1), &[], Some(BuildFault::BadLba)),
-    (Asked::Read(0, 1), &[(1, 512)], Some(BuildFault::OddPiece)),
-    (
-        Asked::Read(0, 1),
-        &[(0x80, 512), (0x80, 512)],
-        Some(BuildFault::PieceOutside),
-    ),
+/// Commands and pieces to which two cases apply, of which the first is told.
+static TWO_CASES: [(Asked, &[Place], BuildFault); 7] = [
+    (Asked::Read(1 << 48, 0), &[], BadCount),
+    (Asked::Read(0, 65_537), &[], BadCount),
+    (Asked::Write(513), &[], BadCount),
+    (Asked::Read(1 << 48, 1), &[], BadLba),
+    (Asked::Read(0, 1), &[(1, 512)], OddPiece),
+    (Asked::Read(0, 1), &[(0x80, 512), (0x80, 512)], PieceOutside),
     (
         Asked::Read(0, 1),
         &[(0x800, 512), (0x800, 512)],
-        Some(BuildFault::PiecesOverlap),
+        PiecesOverlap,
     ),
 ];
 
 #[test]
 fn an_earlier_case_hides_a_later_one(rt: HostRuntime) -> Result<(), Fail> {
-    refuses(&rt, rt.alloc(), TWO_CASES.as_slice())?;
+    for (row, (asked, places, fault)) in TWO_CASES.iter().enumerate() {
+        equal(
+            &rt,
+            row,
+            &refused(rt.alloc(), *asked, places)?,
+            &Some(*fault),
+        );
+    }
     Ok(())
 }

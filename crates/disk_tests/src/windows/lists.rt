@@ -2,6 +2,7 @@
 
 use super::{Asked, Refusal, built, op_of, refuses};
 use crate::table::equal;
+use BuildFault::{OddPiece, PieceOutside, PiecesOverlap, WrongTotal};
 use ahci_table::{BuildFault, Piece, Window, default_pieces};
 use std::test::Fail;
 
@@ -53,89 +54,51 @@ fn pieces_may_come_in_falling_order(rt: HostRuntime) -> Result<(), Fail> {
     Ok(())
 }
 
-/// A read of one sector to two pieces.
+/// Two pieces for a read of one sector.
 static TOUCHING: [Refusal; 7] = [
-    (Asked::Read(0, 1), &[(0x400, 256), (0x500, 256)], None),
-    (Asked::Read(0, 1), &[(0x500, 256), (0x400, 256)], None),
-    (
-        Asked::Read(0, 1),
-        &[(0x400, 258), (0x500, 254)],
-        Some(BuildFault::PiecesOverlap),
-    ),
-    (
-        Asked::Read(0, 1),
-        &[(0x500, 254), (0x400, 258)],
-        Some(BuildFault::PiecesOverlap),
-    ),
-    (
-        Asked::Read(0, 1),
-        &[(0x400, 510), (0x500, 2)],
-        Some(BuildFault::PiecesOverlap),
-    ),
-    (Asked::Read(0, 1), &[(0xA0, 256), (0x500, 256)], None),
-    (
-        Asked::Read(0, 1),
-        &[(0x9E, 256), (0x500, 256)],
-        Some(BuildFault::PieceOutside),
-    ),
+    (&[(0x400, 256), (0x500, 256)], None),
+    (&[(0x500, 256), (0x400, 256)], None),
+    (&[(0x400, 258), (0x500, 254)], Some(PiecesOverlap)),
+    (&[(0x500, 254), (0x400, 258)], Some(PiecesOverlap)),
+    (&[(0x400, 510), (0x500, 2)], Some(PiecesOverlap)),
+    (&[(0xA0, 256), (0x500, 256)], None),
+    (&[(0x9E, 256), (0x500, 256)], Some(PieceOutside)),
 ];
 
 #[test]
 fn pieces_may_touch(rt: HostRuntime) -> Result<(), Fail> {
-    refuses(&rt, rt.alloc(), TOUCHING.as_slice())?;
+    refuses(&rt, rt.alloc(), Asked::Read(0, 1), TOUCHING.as_slice())?;
     Ok(())
 }
 
 static LARGE: [Refusal; 5] = [
     (
-        Asked::Read(0, 1),
         &[(0xFFFF_FFFE, 0x40_0000), (0x400, 512)],
-        Some(BuildFault::PieceOutside),
+        Some(PieceOutside),
     ),
+    (&[(0xFFFF_FFFE, 0xFFFF_FFFE), (0x400, 512)], Some(OddPiece)),
+    (&[(0xFFFF_FFFE, 2), (0xFFFF_FFFE, 2)], Some(PieceOutside)),
+    (&[(0x400, 0x40_0002), (0x1000, 2)], Some(OddPiece)),
     (
-        Asked::Read(0, 1),
-        &[(0xFFFF_FFFE, 0xFFFF_FFFE), (0x400, 512)],
-        Some(BuildFault::OddPiece),
-    ),
-    (
-        Asked::Read(0, 1),
-        &[(0xFFFF_FFFE, 2), (0xFFFF_FFFE, 2)],
-        Some(BuildFault::PieceOutside),
-    ),
-    (
-        Asked::Read(0, 1),
-        &[(0x400, 0x40_0002), (0x1000, 2)],
-        Some(BuildFault::OddPiece),
-    ),
-    (
-        Asked::Read(0, 1),
         &[(0x400, 0x40_0000), (0x80_0000, 0x40_0000)],
-        Some(BuildFault::WrongTotal),
+        Some(WrongTotal),
     ),
 ];
 
 #[test]
 fn sizes_may_pass_32_bits_when_added(rt: HostRuntime) -> Result<(), Fail> {
-    refuses(&rt, rt.alloc(), LARGE.as_slice())?;
+    refuses(&rt, rt.alloc(), Asked::Read(0, 1), LARGE.as_slice())?;
     Ok(())
 }
 
-static PAST_THE_LONGEST: [Refusal; 1] = [(
-    Asked::Read(0, 1),
-    &[(0x0400_0000 - 510, 512)],
-    Some(BuildFault::PieceOutside),
-)];
+static PAST_THE_LONGEST: [Refusal; 1] = [(&[(0x0400_0000 - 510, 512)], Some(PieceOutside))];
 
 #[test]
 fn the_longest_window(rt: HostRuntime) -> Result<(), Fail> {
-    let window = built(
-        rt.alloc(),
-        31,
-        Asked::Read(0, 1),
-        &[(0x0400_0000 - 512, 512)],
-    )?;
+    let one = Asked::Read(0, 1);
+    let window = built(rt.alloc(), 31, one, &[(0x0400_0000 - 512, 512)])?;
     let found = (window.bytes().len(), window.check().err());
     equal(&rt, 0, &found, &(67_108_864, None));
-    refuses(&rt, rt.alloc(), PAST_THE_LONGEST.as_slice())?;
+    refuses(&rt, rt.alloc(), one, PAST_THE_LONGEST.as_slice())?;
     Ok(())
 }

@@ -53,7 +53,7 @@ fn builds(heap: &Heap, (command, pieces): Asked, growth: usize) -> Result<Tried<
 
 #[test]
 fn a_window_is_built_in_one_growth(rt: HostRuntime) -> Result<(), Fail> {
-    tries_each(&rt, rt.alloc(), WINDOWS.as_slice(), builds)
+    tries_each(&rt, rt.alloc(), &WINDOWS, builds)
 }
 
 /// How many bytes of this one a window's text has, where they are all alike.
@@ -94,10 +94,7 @@ fn takes_text(
 
 #[test]
 fn a_text_is_taken_in_one_growth(rt: HostRuntime) -> Result<(), Fail> {
-    tries_each(
-        &rt,
-        rt.alloc(),
-        TEXTS.as_slice(),
-        |heap, call, growth| takes_text(&rt, heap, call, growth),
-    )
+    tries_each(&rt, rt.alloc(), &TEXTS, |heap, call, growth| {
+        takes_text(&rt, heap, call, growth)
+    })
 }

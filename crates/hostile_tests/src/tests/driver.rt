@@ -64,7 +64,7 @@ static BOARDS: [Row<u32, Result<u32, BoardFault>>; 3] = [
 
 #[test]
 fn a_board_is_made_or_leaves_nothing_behind(rt: HostRuntime) -> Result<(), Fail> {
-    tries_each(&rt, rt.alloc(), BOARDS.as_slice(), made)
+    tries_each(&rt, rt.alloc(), &BOARDS, made)
 }
 
 /// A ticket's tag and number, or why there is none.
@@ -171,12 +171,9 @@ fn tries_to_submit<R: Wait + Abort>(
 
 #[test]
 fn a_seat_refused_memory_holds_what_it_held(rt: HostRuntime) -> Result<(), Fail> {
-    tries_each(
-        &rt,
-        rt.alloc(),
-        COMMANDS.as_slice(),
-        |heap, call, growth| tries_to_submit(&rt, heap, call, growth),
-    )
+    tries_each(&rt, rt.alloc(), &COMMANDS, |heap, call, growth| {
+        tries_to_submit(&rt, heap, call, growth)
+    })
 }
 
 const NOT_LOCKED: Result<(u8, u64), IssueFault> = Err(IssueFault::OutOfMemory);
@@ -228,12 +225,9 @@ fn tries_to_submit_locked(
 
 #[test]
 fn under_the_lock_window_and_buffer_come_back(rt: HostRuntime) -> Result<(), Fail> {
-    tries_each(
-        &rt,
-        rt.alloc(),
-        LOCKED.as_slice(),
-        |heap, call, growth| tries_to_submit_locked(&rt, heap, call, growth),
-    )
+    tries_each(&rt, rt.alloc(), &LOCKED, |heap, call, growth| {
+        tries_to_submit_locked(&rt, heap, call, growth)
+    })
 }
 
 /// Pumps a halted port under the lock while growths are refused, and then with memory. A refusal leaves it halted, as it

@@ -56,7 +56,7 @@ fn tried(heap: &Heap, (before, count): Room, growth: usize) -> Result<Tried<Said
 
 #[test]
 fn room_is_asked_for_once_and_exactly(rt: HostRuntime) -> Result<(), Fail> {
-    tries_each(&rt, rt.alloc(), ROOMS.as_slice(), tried)
+    tries_each(&rt, rt.alloc(), &ROOMS, tried)
 }
 
 // The heap has nothing left once the room is made.

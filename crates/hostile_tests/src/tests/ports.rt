@@ -45,7 +45,7 @@ fn made(heap: &Heap, depth: u32, growth: usize) -> Result<Tried<Made>, Fail> {
 
 #[test]
 fn a_port_is_made_or_leaves_nothing_behind(rt: HostRuntime) -> Result<(), Fail> {
-    tries_each(&rt, rt.alloc(), DEPTHS.as_slice(), made)
+    tries_each(&rt, rt.alloc(), &DEPTHS, made)
 }
 
 /// A call of a port that may want memory, on one that has flushed so often before.
@@ -255,12 +255,9 @@ fn tries(rt: &impl Abort, heap: &Heap, call: Call, growth: usize) -> Result<Trie
 
 #[test]
 fn a_port_refused_memory_is_as_it_was_and_goes_on_with_memory(rt: HostRuntime) -> Result<(), Fail> {
-    tries_each(
-        &rt,
-        rt.alloc(),
-        CALLS.as_slice(),
-        |heap, call, growth| tries(&rt, heap, call, growth),
-    )
+    tries_each(&rt, rt.alloc(), &CALLS, |heap, call, growth| {
+        tries(&rt, heap, call, growth)
+    })
 }
 
 /// A port of so many slots whose last tag has failed.

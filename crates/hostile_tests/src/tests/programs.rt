@@ -14,39 +14,42 @@ use std::thread::Threads;
 /// A line of a script with its answer, and how many growths it meets.
 type Line = (&'static str, &'static str, u64);
 
+/// Scripts to whose end all is answered.
+//
 // A disk: its image, the copy of it, the slots (1 for four of them) and the line that is answered. A write: its bytes,
 // which become the journal's, and its window; a read: its window. Room in the journal is made at the first entry, and doubled at the
 // next that has to be sure of it. The first completion: room for a line that may be longer than those before, which is enough
 // for a collected read's too. A collected read: its text.
-static TWO_WRITES: [Line; 14] = [
-    ("disk 8 4\n", "disk 8 4\n", 4),
-    ("write 0 3 1 aa\n", "issued 0\n", 3),
-    ("write 1 3 1 bb\n", "issued 1\n", 3),
-    ("accept 0\n", "accepted 2\n", 0),
-    ("accept 1\n", "accepted 3\n", 0),
-    ("serve 1\n", "completed 4\n", 1),
-    ("serve 0\n", "completed 5\n", 0),
-    ("collect 0 0\n", "wrote 5\n", 0),
-    ("read 2 3 1\n", "issued 7\n", 1),
-    ("accept 2\n", "accepted 8\n", 0),
-    ("serve 2\n", "completed 9\n", 0),
-    ("collect 2 7\n", "read 9 aa\n", 1),
-    ("show 3\n", "sector 3 aa\n", 0),
-    ("journal\n", "journal 11\n", 0),
-];
-
-static A_RECOVERY: [Line; 11] = [
-    ("disk 8 1\n", "disk 8 1\n", 4),
-    ("write 0 3 1 aa\n", "issued 0\n", 3),
-    ("accept 0\n", "accepted 1\n", 0),
-    ("fail 0 40 3\n", "failed 2\n", 0),
-    ("write 1 0 1 aa\n", "refused Halted\n", 0),
-    ("recover\n", "recovered 0\n", 1),
-    ("collect 0 0\n", "failed 2 40 3\n", 0),
-    ("read 0 3 1\n", "issued 5\n", 1),
-    ("accept 0\n", "accepted 6\n", 0),
-    ("serve 0\n", "completed 7\n", 1),
-    ("collect 0 5\n", "read 7 00\n", 1),
+static SCRIPTS: [&[Line]; 2] = [
+    &[
+        ("disk 8 4\n", "disk 8 4\n", 4),
+        ("write 0 3 1 aa\n", "issued 0\n", 3),
+        ("write 1 3 1 bb\n", "issued 1\n", 3),
+        ("accept 0\n", "accepted 2\n", 0),
+        ("accept 1\n", "accepted 3\n", 0),
+        ("serve 1\n", "completed 4\n", 1),
+        ("serve 0\n", "completed 5\n", 0),
+        ("collect 0 0\n", "wrote 5\n", 0),
+        ("read 2 3 1\n", "issued 7\n", 1),
+        ("accept 2\n", "accepted 8\n", 0),
+        ("serve 2\n", "completed 9\n", 0),
+        ("collect 2 7\n", "read 9 aa\n", 1),
+        ("show 3\n", "sector 3 aa\n", 0),
+        ("journal\n", "journal 11\n", 0),
+    ],
+    &[
+        ("disk 8 1\n", "disk 8 1\n", 4),
+        ("write 0 3 1 aa\n", "issued 0\n", 3),
+        ("accept 0\n", "accepted 1\n", 0),
+        ("fail 0 40 3\n", "failed 2\n", 0),
+        ("write 1 0 1 aa\n", "refused Halted\n", 0),
+        ("recover\n", "recovered 0\n", 1),
+        ("collect 0 0\n", "failed 2 40 3\n", 0),
+        ("read 0 3 1\n", "issued 5\n", 1),
+        ("accept 0\n", "accepted 6\n", 0),
+        ("serve 0\n", "completed 7\n", 1),
+        ("collect 0 5\n", "read 7 00\n", 1),
+    ],
 ];
 
 // 32 slots are pushed one by one: 4 growths. A raw window has one, also where it is refused; a refused write or read has none.
@@ -171,10 +174,10 @@ fn replays_each(
 
 #[test]
 fn a_script_refused_memory_has_answered_the_lines_before(rt: HostRuntime) -> Result<(), Fail> {
-    replays_each(&rt, rt.alloc(), TWO_WRITES.as_slice(), Ok(()))?;
-    replays_each(&rt, rt.alloc(), A_RECOVERY.as_slice(), Ok(()))?;
-    let ending = Err(CliFault::Line(11));
-    replays_each(&rt, rt.alloc(), UNQUEUED.as_slice(), ending)
+    for lines in SCRIPTS {
+        replays_each(&rt, rt.alloc(), lines, Ok(()))?;
+    }
+    replays_each(&rt, rt.alloc(), &UNQUEUED, Err(CliFault::Line(11)))
 }
 
 // Each write has its bytes, and the first job the list, which has room for four. Nothing is told before all is done.

@@ -3,8 +3,8 @@ use super::unasked;
 use crate::tests::heap::{Heap, grant_all, refuse_from};
 use crate::tests::shown::look_at;
 use ahci_port::{
-    CollectFault, IssueFault, Outcome, PlainFault, Port, RecoverFault, ReissueFault, Reply,
-    StepFault, Stepped, TrimFault,
+    CollectFault, IssueFault, Outcome, PlainFault, Port, RecoverFault, ReissueFault, StepFault,
+    Stepped, TrimFault,
 };
 use ahci_regs::RegFault;
 use ahci_table::{Window, default_pieces};
@@ -45,8 +45,9 @@ enum Said {
     NotIssued(IssueFault),
     Recovered(Result<u8, RecoverFault>),
     Stepped(Result<Stepped, StepFault>),
-    /// The reply, and the first byte of the window's data.
-    Collected(Result<(Reply, u8), CollectFault>),
+    /// The reply's number, entry and outcome, and the first byte of the window's data.
+    Collected(u64, u64, Outcome, u8),
+    NotCollected(CollectFault),
     Reissued(Result<(), ReissueFault>),
     Flushed(Result<(), PlainFault>),
     Word(Result<u32, RegFault>),
@@ -60,7 +61,7 @@ use Call::{
     Acknowledge, Collect, Entries, Flush, Issue, IssueInVain, Recover, RecoverInVain, Register,
     Reissue, Sector, Step, Trim,
 };
-use Said::{Byte, Collected, NotIssued, Nothing, Number, Trimmed, Word};
+use Said::{Byte, Collected, NotCollected, NotIssued, Nothing, Number, Trimmed, Word};
 use Stepped::{Accepted, Completed, Failed};
 
 /// A call with its answer.
@@ -69,28 +70,18 @@ type Row = (Call, Said);
 static STRANGERS: [Row; 18] = [
     (Issue(0, 0, Some(0x11)), Number(0)),
     (Trim, Trimmed(Err(TrimFault::Busy))),
-    (Collect(0, 0), Collected(Err(CollectFault::NotYet))),
+    (Collect(0, 0), NotCollected(CollectFault::NotYet)),
     (Step(Accept(0)), Said::Stepped(Ok(Accepted(1)))),
     (
         Step(Serve(&[0])),
         Said::Stepped(Ok(Completed { first: 2, count: 1 })),
     ),
-    (
-        Collect(0, 0),
-        Collected(Ok((
-            Reply {
-                number: 0,
-                entry: 2,
-                outcome: Outcome::Wrote,
-            },
-            0x11,
-        ))),
-    ),
+    (Collect(0, 0), Collected(0, 2, Outcome::Wrote, 0x11)),
     (Trim, Trimmed(Ok(4))),
     (Entries, Number(0)),
-    (Collect(0, 0), Collected(Err(CollectFault::Stranger))),
+    (Collect(0, 0), NotCollected(CollectFault::Stranger)),
     (Issue(0, 0, None), Number(4)),
-    (Collect(0, 0), Collected(Err(CollectFault::Stranger))),
+    (Collect(0, 0), NotCollected(CollectFault::Stranger)),
     (
         IssueInVain(1, 0, Some(0x22)),
         NotIssued(IssueFault::NoSuchTag),
@@ -109,17 +100,7 @@ static STRANGERS: [Row; 18] = [
         Step(Serve(&[0])),
         Said::Stepped(Ok(Completed { first: 6, count: 1 })),
     ),
-    (
-        Collect(0, 4),
-        Collected(Ok((
-            Reply {
-                number: 4,
-                entry: 6,
-                outcome: Outcome::Read,
-            },
-            0x11,
-        ))),
-    ),
+    (Collect(0, 4), Collected(4, 6, Outcome::Read, 0x11)),
 ];
 
 static ERROR_IN_A_QUEUE: [Row; 33] = [
@@ -150,17 +131,15 @@ static ERROR_IN_A_QUEUE: [Row; 33] = [
     (RecoverInVain, Said::Recovered(Err(RecoverFault::NotHalted))),
     (
         Collect(1, 1),
-        Collected(Ok((
-            Reply {
-                number: 1,
-                entry: 6,
-                outcome: Outcome::Failed {
-                    error: 0x40,
-                    lba: 7,
-                },
+        Collected(
+            1,
+            6,
+            Outcome::Failed {
+                error: 0x40,
+                lba: 7,
             },
             0,
-        ))),
+        ),
     ),
     (Reissue(1), Said::Reissued(Err(ReissueFault::NotHeld))),
     (Reissue(0), Said::Reissued(Ok(()))),
@@ -181,17 +160,7 @@ static ERROR_IN_A_QUEUE: [Row; 33] = [
             count: 1,
         })),
     ),
-    (
-        Collect(0, 0),
-        Collected(Ok((
-            Reply {
-                number: 0,
-                entry: 12,
-                outcome: Outcome::Read,
-            },
-            0,
-        ))),
-    ),
+    (Collect(0, 0), Collected(0, 12, Outcome::Read, 0)),
     (Sector(9), Byte(0x5A)),
     (Entries, Number(16)),
 ];
@@ -216,17 +185,7 @@ static LISTS: [Row; 12] = [
         Step(Serve(&[2, 1, 0])),
         Said::Stepped(Ok(Completed { first: 6, count: 3 })),
     ),
-    (
-        Collect(1, 1),
-        Collected(Ok((
-            Reply {
-                number: 1,
-                entry: 7,
-                outcome: Outcome::Read,
-            },
-            0x22,
-        ))),
-    ),
+    (Collect(1, 1), Collected(1, 7, Outcome::Read, 0x22)),
     (Sector(3), Byte(0x11)),
 ];
 
@@ -258,13 +217,13 @@ fn issues<'a>(port: &mut Port<&'a Heap>, window: Window<&'a Heap>) -> Said {
 }
 
 fn collects(port: &mut Port<&Heap>, tag: u8, number: u64) -> Said {
-    Collected(match port.collect(tag, number) {
+    match port.collect(tag, number) {
         Ok((reply, window)) => {
-            let byte = window.bytes().get(0x1000).copied();
-            Ok((reply, byte.unwrap_or(0xEE)))
+            let byte = window.bytes().get(0x1000).copied().unwrap_or(0xEE);
+            Collected(reply.number, reply.entry, reply.outcome, byte)
         }
-        Err(fault) => Err(fault),
-    })
+        Err(fault) => NotCollected(fault),
+    }
 }
 
 /// The first byte of a sector.
