@@ -1,5 +1,5 @@
 //! Threads over one board. A second table of owners, apart from the board, notes where two hands have one tag.
-ghost use Rattle.std.specs.Prelude.{◌≡◌};
+ghost use Rattle.std.specs.Prelude.{◌≡◌, ◌≤◌};
 ghost use denote.Param.Send.{IsSync};
 
 use std::alloc::{AllocError, Global};
@@ -117,34 +117,42 @@ fn equal(rt: &impl Abort, found: u64, wanted: u64) {
     assert!(rt; found == wanted, "{found}, not {wanted}");
 }
 
-#[test]
-fn three_threads_claim_a_thousand_times_each(rt: HostRuntime) -> Result<(), Fail> {
-    let owners = Owners::new(rt.alloc())?;
+/// Has so many threads claim tags of a board of so many, each a thousand times, with so many tries. No tag is two threads' at once,
+/// and at the end the seat has none. The answer is how often one was claimed, and the tags that are free at the end.
+fn claimed<R: Threads + Sync + Abort>(
+    rt: &R,
+    alloc: Global,
+    depth: u32,
+    threads: u32,
+    tries: u32,
+) -> Result<(u64, u32), Fail>
+    requires low { 1 ≤ depth }
+    requires high { depth ≤ 32 }
+{
+    let owners = Owners::new(alloc)?;
     let work = Work {
         claims: 1_000,
-        tries: 1_001_000,
+        tries,
     };
-    let (board, seat) = TagBoard::new(rt.alloc(), 3)?;
-    let seat = crew(&rt, &board, seat, &owners, work, 3);
-    equal(&rt, owners.claims.load(SeqCst), 3_000);
-    equal(&rt, owners.clashes.load(SeqCst), 0);
-    equal(&rt, u64::from(seat.held()), 0);
-    equal(&rt, u64::from(board.close(seat)), 7);
+    let (board, seat) = TagBoard::new(alloc, depth)?;
+    let seat = crew(rt, &board, seat, &owners, work, threads);
+    equal(rt, owners.clashes.load(SeqCst), 0);
+    equal(rt, u64::from(seat.held()), 0);
+    Ok((owners.claims.load(SeqCst), board.close(seat)))
+}
+
+#[test]
+fn three_threads_claim_a_thousand_times_each(rt: HostRuntime) -> Result<(), Fail> {
+    let (claims, free) = claimed(&rt, rt.alloc(), 3, 3, 1_001_000)?;
+    equal(&rt, claims, 3_000);
+    equal(&rt, u64::from(free), 7);
     Ok(())
 }
 
 #[test]
 fn eight_threads_over_five_tags_never_share_one(rt: HostRuntime) -> Result<(), Fail> {
-    let owners = Owners::new(rt.alloc())?;
-    let work = Work {
-        claims: 1_000,
-        tries: 1_000,
-    };
-    let (board, seat) = TagBoard::new(rt.alloc(), 5)?;
-    let seat = crew(&rt, &board, seat, &owners, work, 8);
-    assert!(rt; owners.claims.load(SeqCst) > 0);
-    equal(&rt, owners.clashes.load(SeqCst), 0);
-    equal(&rt, u64::from(seat.held()), 0);
-    equal(&rt, u64::from(board.close(seat)), 31);
+    let (claims, free) = claimed(&rt, rt.alloc(), 5, 8, 1_000)?;
+    assert!(rt; claims > 0);
+    equal(&rt, u64::from(free), 31);
     Ok(())
 }

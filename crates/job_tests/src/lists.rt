@@ -8,89 +8,83 @@ use std::sync::Wait;
 use std::test::Fail;
 use std::thread::Threads;
 
-/// A job list, its crew, what it writes, and how it ends.
-type List = (&'static str, Crew, &'static str, Result<(), JobsFault>);
-
-static LISTS: [List; 20] = [
+/// Job lists that are done, each with its crew, and what it writes.
+static DONE: [(&str, Crew, &str); 9] = [
     (
         "write 0 2 11\nwrite 4 1 22\nread 1 1\nread 4 2\n",
         (2, 2, 8),
         "wrote\nwrote\nread 11\nread 22 00\nsector 0 11\nsector 1 11\nsector 4 22\n",
-        Ok(()),
     ),
-    ("", (2, 2, 8), "", Ok(())),
+    ("", (2, 2, 8), ""),
     // The largest disk.
-    ("", (1, 1, 131_072), "", Ok(())),
-    ("# no job\n\n#", (1, 1, 1), "", Ok(())),
-    ("read 0 0\n", (2, 2, 8), "", Err(JobsFault::Job(0))),
+    ("", (1, 1, 131_072), ""),
+    ("# no job\n\n#", (1, 1, 1), ""),
     (
         "read 8 1\nwrite 0 1 33\n",
         (1, 1, 8),
         "failed 10 8\nwrote\nsector 0 33\n",
-        Ok(()),
     ),
-    ("write 0 1 00\n", (1, 1, 1), "wrote\n", Ok(())),
+    ("write 0 1 00\n", (1, 1, 1), "wrote\n"),
     (
         "write 0 65536 00\nwrite 65535 1 5a\nread 65535 1\n",
         (1, 1, 65_536),
         "wrote\nwrote\nread 5a\nsector 65535 5a\n",
-        Ok(()),
     ),
     (
         "# the last line has no line feed\n\nwrite 999 1 Ff",
         (32, 32, 1000),
         "wrote\nsector 999 ff\n",
-        Ok(()),
-    ),
-    // The first fault in the order of the input ends the list, whichever it is.
-    (
-        "read 0 1\nread 0 131073\n",
-        (1, 1, 8),
-        "",
-        Err(JobsFault::Line(2)),
-    ),
-    (
-        "read 0 65537\nread\n",
-        (1, 1, 8),
-        "",
-        Err(JobsFault::Job(0)),
-    ),
-    (
-        "read\nread 0 65537\n",
-        (1, 1, 8),
-        "",
-        Err(JobsFault::Line(1)),
-    ),
-    (
-        "# jobs alone are numbered\nread 0 1\n\nwrite 281474976710656 1 00\n",
-        (1, 1, 8),
-        "",
-        Err(JobsFault::Job(1)),
     ),
     (
         "read 281474976710655 2\n",
         (1, 1, 8),
         "failed 10 281474976710655\n",
-        Ok(()),
     ),
-    ("write 0 1 1\n", (1, 1, 8), "", Err(JobsFault::Line(1))),
-    ("write 0 1\n", (1, 1, 8), "", Err(JobsFault::Line(1))),
-    ("read 0 1 00\n", (1, 1, 8), "", Err(JobsFault::Line(1))),
-    ("read 0  1\n", (1, 1, 8), "", Err(JobsFault::Line(1))),
-    ("disk 8 4\n", (1, 1, 8), "", Err(JobsFault::Line(1))),
-    ("#\u{80}\n", (1, 1, 8), "", Err(JobsFault::Line(1))),
 ];
+
+/// Job lists that a fault ends before anything is written: the first in the order of the input, whichever it is.
+static FAULTY: [(&str, Crew, JobsFault); 11] = [
+    ("read 0 0\n", (2, 2, 8), JobsFault::Job(0)),
+    ("read 0 1\nread 0 131073\n", (1, 1, 8), JobsFault::Line(2)),
+    ("read 0 65537\nread\n", (1, 1, 8), JobsFault::Job(0)),
+    ("read\nread 0 65537\n", (1, 1, 8), JobsFault::Line(1)),
+    (
+        "# jobs alone are numbered\nread 0 1\n\nwrite 281474976710656 1 00\n",
+        (1, 1, 8),
+        JobsFault::Job(1),
+    ),
+    ("write 0 1 1\n", (1, 1, 8), JobsFault::Line(1)),
+    ("write 0 1\n", (1, 1, 8), JobsFault::Line(1)),
+    ("read 0 1 00\n", (1, 1, 8), JobsFault::Line(1)),
+    ("read 0  1\n", (1, 1, 8), JobsFault::Line(1)),
+    ("disk 8 4\n", (1, 1, 8), JobsFault::Line(1)),
+    ("#\u{80}\n", (1, 1, 8), JobsFault::Line(1)),
+];
+
+/// A list is done by a crew, writes this, and ends so.
+fn is_done<H: Threads + Wait + Sync + Abort>(
+    rt: &H,
+    alloc: Global,
+    (list, crew): (&str, Crew),
+    expected: &str,
+    ending: Result<(), JobsFault>,
+) {
+    let mut written = Vec::new(alloc);
+    let mut reader = list.as_bytes();
+    let ended = done(rt, alloc, crew, Low, &mut reader, &mut written);
+    assert!(rt;
+        ended == Some(ending) && written.as_slice() == expected.as_bytes(),
+        "{list}: {ended:?}"
+    );
+}
 
 #[test]
 fn each_list_is_done(rt: HostRuntime) {
-    for (list, crew, expected, ending) in &LISTS {
-        let mut written = Vec::new(rt.alloc());
-        let mut reader = list.as_bytes();
-        let ended = done(&rt, rt.alloc(), *crew, Low, &mut reader, &mut written);
-        assert!(rt;
-            ended == Some(*ending) && written.as_slice() == expected.as_bytes(),
-            "{list}: {ended:?}"
-        );
+    for (list, crew, expected) in DONE {
+        is_done(&rt, rt.alloc(), (list, crew), expected, Ok(()));
+    }
+    for (list, crew, fault) in FAULTY {
+        is_done(&rt, rt.alloc(), (list, crew), "", Err(fault));
     }
 }
 

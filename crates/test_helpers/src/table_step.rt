@@ -10,7 +10,8 @@ pub enum TableStep {
     Accept(u8),
     /// Those from the 33rd on are left out.
     Serve(&'static [u8]),
-    Fail { tag: u8, error: u8, at: u64 },
+    /// A tag fails with an error at an LBA.
+    Fail(u8, u8, u64),
 }
 
 impl TableStep {
@@ -21,7 +22,7 @@ impl TableStep {
         match self {
             TableStep::Accept(tag) => DeviceStep::Accept(tag),
             TableStep::Serve(tags) => DeviceStep::Serve(list_of(tags)),
-            TableStep::Fail { tag, error, at } => DeviceStep::Fail { tag, error, at },
+            TableStep::Fail(tag, error, at) => DeviceStep::Fail { tag, error, at },
         }
     }
 }

@@ -4,6 +4,8 @@ ghost use Rattle.std.specs.Prelude.{◌≡◌};
 
 use crate::tests::common::{Way, is_filled};
 use Call::{Collect, FreeNow, Pump, PumpAll, Stubborn, Submit};
+use Pumped::Stepped;
+use Said::{Collected, Did, Free, Refused, Waits};
 use ahci_driver::{Driver, Pumped, SubmitFault, TagBoard, TagSeat, Ticket};
 use ahci_port::Stepped::{Accepted, Completed, Failed};
 use ahci_port::{CollectFault, IssueFault, Outcome, Port};
@@ -15,11 +17,7 @@ use test_helpers::TableStep::Accept;
 use test_helpers::{Job, TableStep};
 use word_bits::is_set;
 
-const FAILED: TableStep = TableStep::Fail {
-    tag: 0,
-    error: 0x40,
-    at: 1,
-};
+const FAILED: TableStep = TableStep::Fail(0, 0x40, 1);
 
 /// A call of the driver.
 #[derive(Clone, Copy, Debug)]
@@ -42,7 +40,8 @@ enum Call {
 enum Said {
     Ticket(u8, u64),
     Refused(SubmitFault),
-    Pumped(Pumped),
+    /// What a pump did.
+    Did(Pumped),
     /// The reply's number, entry and outcome, how many bytes came, and the first of them.
     Collected(u64, u64, Outcome, usize, Option<u8>),
     Waits(CollectFault),
@@ -85,7 +84,7 @@ impl Story {
     fn pumps<R: Wait>(&mut self, rt: &R, mut chooser: Way) -> Said {
         self.driver
             .pump(rt, &mut chooser)
-            .map_or(Said::Nothing, Said::Pumped)
+            .map_or(Said::Nothing, Said::Did)
     }
 
     fn collects<R: Wait>(&mut self, rt: &R) -> Said {
@@ -112,27 +111,18 @@ impl Story {
 
 static STORY: [(Call, Said); 13] = [
     (Submit(Job::Write(1, 0x77)), Said::Ticket(0, 0)),
-    (Collect, Said::Waits(CollectFault::NotYet)),
-    (Stubborn, Said::Pumped(Pumped::Stepped(Accepted(1)))),
-    (
-        Stubborn,
-        Said::Pumped(Pumped::Stepped(Completed { first: 2, count: 1 })),
-    ),
-    (Stubborn, Said::Pumped(Pumped::Idle)),
-    (Collect, Said::Collected(0, 2, Outcome::Wrote, 0, None)),
-    (FreeNow, Said::Free(3)),
+    (Collect, Waits(CollectFault::NotYet)),
+    (Stubborn, Did(Stepped(Accepted(1)))),
+    (Stubborn, Did(Stepped(Completed { first: 2, count: 1 }))),
+    (Stubborn, Did(Pumped::Idle)),
+    (Collect, Collected(0, 2, Outcome::Wrote, 0, None)),
+    (FreeNow, Free(3)),
     (Submit(Job::Read(1)), Said::Ticket(0, 4)),
-    (Pump, Said::Pumped(Pumped::Stepped(Accepted(5)))),
-    (
-        Pump,
-        Said::Pumped(Pumped::Stepped(Completed { first: 6, count: 1 })),
-    ),
-    (Pump, Said::Pumped(Pumped::Idle)),
-    (
-        Collect,
-        Said::Collected(4, 6, Outcome::Read, 512, Some(0x77)),
-    ),
-    (FreeNow, Said::Free(3)),
+    (Pump, Did(Stepped(Accepted(5)))),
+    (Pump, Did(Stepped(Completed { first: 6, count: 1 }))),
+    (Pump, Did(Pumped::Idle)),
+    (Collect, Collected(4, 6, Outcome::Read, 512, Some(0x77))),
+    (FreeNow, Free(3)),
 ];
 
 fn equal(rt: &impl Abort, call: Call, found: Said, wanted: Said) {
@@ -184,18 +174,12 @@ fn a_write_is_read_back_by_one_seat(rt: HostRuntime) -> Result<(), Fail> {
 static TOGETHER: [(Call, Said); 8] = [
     (Submit(Job::Write(1, 0x77)), Said::Ticket(0, 0)),
     (Submit(Job::Read(1)), Said::Ticket(1, 1)),
-    (PumpAll, Said::Pumped(Pumped::Stepped(Accepted(2)))),
-    (PumpAll, Said::Pumped(Pumped::Stepped(Accepted(3)))),
-    (
-        PumpAll,
-        Said::Pumped(Pumped::Stepped(Completed { first: 4, count: 2 })),
-    ),
-    (PumpAll, Said::Pumped(Pumped::Idle)),
-    (
-        Collect,
-        Said::Collected(1, 5, Outcome::Read, 512, Some(0x77)),
-    ),
-    (FreeNow, Said::Free(2)),
+    (PumpAll, Did(Stepped(Accepted(2)))),
+    (PumpAll, Did(Stepped(Accepted(3)))),
+    (PumpAll, Did(Stepped(Completed { first: 4, count: 2 }))),
+    (PumpAll, Did(Pumped::Idle)),
+    (Collect, Collected(1, 5, Outcome::Read, 512, Some(0x77))),
+    (FreeNow, Free(2)),
 ];
 
 #[test]
@@ -206,17 +190,17 @@ fn all_completes_two_commands_by_one_pump(rt: HostRuntime) -> Result<(), Fail> {
 
 static HALTED: [(Call, Said); 8] = [
     (Submit(Job::Write(1, 0x77)), Said::Ticket(0, 0)),
-    (Pump, Said::Pumped(Pumped::Stepped(Accepted(1)))),
-    (Call::Fail, Said::Pumped(Pumped::Stepped(Failed(2)))),
+    (Pump, Did(Stepped(Accepted(1)))),
+    (Call::Fail, Did(Stepped(Failed(2)))),
     (
         Submit(Job::Read(1)),
-        Said::Refused(SubmitFault::Issue(IssueFault::Halted)),
+        Refused(SubmitFault::Issue(IssueFault::Halted)),
     ),
-    (FreeNow, Said::Free(2)),
-    (Pump, Said::Pumped(Pumped::Recovered(0))),
+    (FreeNow, Free(2)),
+    (Pump, Did(Pumped::Recovered(0))),
     (
         Collect,
-        Said::Collected(
+        Collected(
             0,
             2,
             Outcome::Failed {
@@ -227,7 +211,7 @@ static HALTED: [(Call, Said); 8] = [
             None,
         ),
     ),
-    (FreeNow, Said::Free(3)),
+    (FreeNow, Free(3)),
 ];
 
 #[test]

@@ -181,6 +181,20 @@ fn few(jobs: Jobs, way: Way) -> Setting
     }
 }
 
+/// A run on sectors of zeros.
+fn on_zeros(workers: u32, depth: u32, sectors: usize, jobs: Jobs, way: Way) -> Setting
+    ensures { result.workers ≡ workers }
+{
+    Setting {
+        workers,
+        depth,
+        sectors,
+        byte: 0,
+        jobs,
+        way,
+    }
+}
+
 static IS_SETTLED: [(Look, Said); 1] = [(Look::Settle, Said::Settled)];
 
 static CHANGED: [(Look, Said); 8] = [
@@ -210,11 +224,7 @@ fn workers_settle_whatever_their_choosers_answer(rt: HostRuntime) -> Result<(), 
         Serve(&[0, 0]),
         Serve(RISING),
         Accept(255),
-        TableStep::Fail {
-            tag: 0,
-            error: 0,
-            at: u64::MAX,
-        },
+        TableStep::Fail(0, 0, u64::MAX),
     ];
     for step in STEPS {
         plays(
@@ -267,14 +277,7 @@ static FAILED: [(Look, Said); 6] = [
 
 #[test]
 fn a_failed_write_changes_nothing_and_the_next_job_goes_on(rt: HostRuntime) -> Result<(), Fail> {
-    let setting = Setting {
-        workers: 1,
-        depth: 1,
-        sectors: 8,
-        byte: 0,
-        jobs: Jobs::Pair,
-        way: Way::FailsSecond(0),
-    };
+    let setting = on_zeros(1, 1, 8, Jobs::Pair, Way::FailsSecond(0));
     plays(&rt, rt.alloc(), setting, FAILED.as_slice())
 }
 
@@ -295,14 +298,7 @@ fn fails_alone(rt: &impl Abort, ran: &Ran) {
 fn a_write_past_the_end_fails_alone_in_a_crowd(rt: HostRuntime) -> Result<(), Fail> {
     let alloc = rt.alloc();
     for depth in [32, 3, 1] {
-        let setting = Setting {
-            workers: 32,
-            depth,
-            sectors: 64,
-            byte: 0,
-            jobs: Jobs::Crowd,
-            way: Way::Highest,
-        };
+        let setting = on_zeros(32, depth, 64, Jobs::Crowd, Way::Highest);
         let mut ran = ran_of(&rt, alloc, setting)?;
         fails_alone(&rt, &ran);
         equal(
@@ -344,13 +340,6 @@ static MIXED_UP: [(Look, Said); 7] = [
 
 #[test]
 fn of_four_thousand_jobs_no_receipt_stands_for_another(rt: HostRuntime) -> Result<(), Fail> {
-    let setting = Setting {
-        workers: 8,
-        depth: 8,
-        sectors: 64,
-        byte: 0,
-        jobs: Jobs::Many,
-        way: Way::Lowest,
-    };
+    let setting = on_zeros(8, 8, 64, Jobs::Many, Way::Lowest);
     plays(&rt, rt.alloc(), setting, MIXED_UP.as_slice())
 }

@@ -98,39 +98,6 @@ fn each_line_of_a_trace_as_json_is_one_value(rt: HostRuntime) -> Result<(), Fail
     Ok(())
 }
 
-#[test]
-fn each_growth_may_be_refused(rt: HostRuntime) -> Result<(), Fail> {
-    for tool in TOOLS {
-        each_growth_of(&rt, rt.alloc(), tool)?;
-    }
-    Ok(())
-}
-
-/// Refuses each growth in turn, and all that follow, until none is refused. What is written then is a first part of the whole.
-fn each_growth_of<A: Allocator + Copy>(rt: &impl Abort, alloc: A, tool: Tool) -> Result<(), Fail> {
-    let mut whole = Vec::new(alloc);
-    let mut reader = tool.script();
-    assert!(rt; tool.run(alloc, &mut reader, &mut whole) == Ok(()));
-    for growth in 0..1000u64 {
-        let heap = Refusing::new(alloc);
-        heap.refuse(Refusals::From(growth));
-        let mut reader = tool.script();
-        let mut written = Vec::new(alloc);
-        let how = tool.run(&heap, &mut reader, &mut written);
-        assert!(rt; heap.out() == 0, "{tool:?}, growth {growth}");
-        if heap.refused() == 0 {
-            assert!(rt; growth > 0 && how == Ok(()) && written.as_slice() == whole.as_slice());
-            return Ok(());
-        }
-        let is_part = whole.as_slice().starts_with(written.as_slice());
-        assert!(rt;
-            how == Err(CliFault::OutOfMemory) && is_part,
-            "{tool:?}, growth {growth}: {how:?}"
-        );
-    }
-    Err(Fail::new("it always wants memory"))
-}
-
 /// A reader that gives a few bytes at a time, and fails once so many reads were made.
 #[derive(Drop)]
 struct Failing {
@@ -192,4 +159,37 @@ fn each_byte_may_find_no_room(rt: HostRuntime) {
         let how = tool.run(rt.alloc(), &mut reader, &mut writer);
         assert!(rt; how == Ok(()) && writer.room == 0);
     }
+}
+
+/// Refuses each growth in turn, and all that follow, until none is refused. What is written then is a first part of the whole.
+fn each_growth_of<A: Allocator + Copy>(rt: &impl Abort, alloc: A, tool: Tool) -> Result<(), Fail> {
+    let mut whole = Vec::new(alloc);
+    let mut reader = tool.script();
+    assert!(rt; tool.run(alloc, &mut reader, &mut whole) == Ok(()));
+    for growth in 0..1000u64 {
+        let heap = Refusing::new(alloc);
+        heap.refuse(Refusals::From(growth));
+        let mut reader = tool.script();
+        let mut written = Vec::new(alloc);
+        let how = tool.run(&heap, &mut reader, &mut written);
+        assert!(rt; heap.out() == 0, "{tool:?}, growth {growth}");
+        if heap.refused() == 0 {
+            assert!(rt; growth > 0 && how == Ok(()) && written.as_slice() == whole.as_slice());
+            return Ok(());
+        }
+        let is_part = whole.as_slice().starts_with(written.as_slice());
+        assert!(rt;
+            how == Err(CliFault::OutOfMemory) && is_part,
+            "{tool:?}, growth {growth}: {how:?}"
+        );
+    }
+    Err(Fail::new("it always wants memory"))
+}
+
+#[test]
+fn each_growth_may_be_refused(rt: HostRuntime) -> Result<(), Fail> {
+    for tool in TOOLS {
+        each_growth_of(&rt, rt.alloc(), tool)?;
+    }
+    Ok(())
 }

@@ -3,11 +3,9 @@ use ahci_check::{Place, complaint_of};
 use std::process::Abort;
 use std::test::Fail;
 
-/// A line, and the text of its complaint; empty where there is none.
-type Row = (&'static str, &'static str);
-
-/// Lines after a disk of 8 sectors and 4 slots, each as the third of its script.
-static BEHIND: [Row; 85] = [
+/// Lines after a disk of 8 sectors and 4 slots, each as the third of its script, and the text of its complaint; empty where there is
+/// none.
+static BEHIND: [(&str, &str); 85] = [
     ("", ""),
     ("# Any comment.", ""),
     ("recover", ""),
@@ -152,7 +150,7 @@ const BEHIND_DISK: Place = Place::BehindDisk {
 };
 
 /// First lines.
-static BEFORE: [Row; 11] = [
+static BEFORE: [(&str, &str); 11] = [
     ("recover", "line 3: a command before the disk"),
     ("read 0 0 70000", "line 3: a command before the disk"),
     ("sleep", "line 3, column 1: no such command"),
@@ -183,7 +181,7 @@ fn says<H: Abort>(
     rt: &H,
     alloc: std::alloc::Global,
     place: Place,
-    rows: &[Row],
+    rows: &[(&'static str, &'static str)],
 ) -> Result<(), Fail> {
     for (line, expected) in rows {
         let said = match complaint_of(alloc, place, 3, line.as_bytes())? {

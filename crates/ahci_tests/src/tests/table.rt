@@ -2,9 +2,13 @@
 use std::fmt::Debug;
 use std::process::Abort;
 
-/// Compares what was found at a row of a table with what the row wants.
-pub fn equal<T: PartialEq + Debug>(rt: &impl Abort, row: usize, found: &T, wanted: &T) {
-    assert_eq!(rt; *found, *wanted, "at row {row}");
+/// Compares what was found at a row of a table with what the row wants. The row is told by its number, or by its table and number.
+pub fn equal<L, T>(rt: &impl Abort, row: L, found: &T, wanted: &T)
+where
+    L: Debug + Copy,
+    T: PartialEq + Debug,
+{
+    assert_eq!(rt; *found, *wanted, "at row {row:?}");
 }
 
 /// Compares the bytes that were found at a row of a table with those that the row wants.

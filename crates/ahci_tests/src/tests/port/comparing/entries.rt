@@ -6,32 +6,22 @@ use std::alloc::{AllocError, Global};
 
 /// A copy of an entry.
 pub fn copy_of(alloc: Global, event: &Event) -> Result<Event, AllocError> {
-    Ok(match event {
+    Ok(match *event {
         Event::Issue(tag, Op::Read { lba, sectors }) => Event::Issue(
-            *tag,
-            Op::Read {
-                lba: *lba,
-                sectors: *sectors,
-            },
+            tag,
+            Op::Read { lba, sectors },
         ),
-        Event::Issue(tag, Op::Write { lba, bytes }) => Event::Issue(
-            *tag,
-            Op::Write {
-                lba: *lba,
-                bytes: Bytes::from_vec(bytes.as_slice().to_vec(alloc)?),
-            },
-        ),
-        Event::Accept(tag) => Event::Accept(*tag),
-        Event::Complete(tag) => Event::Complete(*tag),
-        Event::Fail { tag, error, lba } => Event::Fail {
-            tag: *tag,
-            error: *error,
-            lba: *lba,
-        },
-        Event::Recover(tag) => Event::Recover(*tag),
-        Event::Reissue(tag) => Event::Reissue(*tag),
-        Event::Collect(tag) => Event::Collect(*tag),
-        Event::Plain(command) => Event::Plain(*command),
+        Event::Issue(tag, Op::Write { lba, ref bytes }) => {
+            let bytes = Bytes::from_vec(bytes.as_slice().to_vec(alloc)?);
+            Event::Issue(tag, Op::Write { lba, bytes })
+        }
+        Event::Accept(tag) => Event::Accept(tag),
+        Event::Complete(tag) => Event::Complete(tag),
+        Event::Fail { tag, error, lba } => Event::Fail { tag, error, lba },
+        Event::Recover(tag) => Event::Recover(tag),
+        Event::Reissue(tag) => Event::Reissue(tag),
+        Event::Collect(tag) => Event::Collect(tag),
+        Event::Plain(command) => Event::Plain(command),
     })
 }
 

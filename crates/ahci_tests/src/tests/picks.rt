@@ -1,6 +1,6 @@
 //! A job list by the program's own call, with each chooser that the command line can pick. The jobs of two workers are on
 //! sectors of their own, so every run has the same results.
-use crate::table::{equal, equal_bytes};
+use crate::tests::table::{equal, equal_bytes};
 use ahci_cli::{Pick, run_jobs};
 use std::test::Fail;
 

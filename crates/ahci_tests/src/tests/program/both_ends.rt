@@ -1,6 +1,6 @@
 //! Readers and writers that give and take little at once, or fail, and the limits of lines and input.
 use super::{CliFault, Replayed, TWO_WRITES, ends, joined, replay};
-use crate::table::equal;
+use crate::tests::table::equal;
 use std::alloc::{AllocError, Global};
 use std::cell::Cell;
 use std::io;

@@ -1,9 +1,10 @@
 //! Lists of tags that are served by one call, with one Set Device Bits FIS; and lists that are refused whole.
 use super::telling::Row::{
-    Collect, Entries, Issue, Received, Recover, Register, Reissue, Sector, Step,
+    Accepts, Collect, Entries, Failure, Issue, Received, Recover, Register, Reissue, Sector,
+    Serves, Step,
 };
-use super::telling::{Row, goes, goes_on, plays, port_of};
-use ahci_port::Stepped::{Accepted, Completed, Failed};
+use super::telling::{Row, goes, goes_on, port_of};
+use ahci_port::Stepped::{Accepted, Failed};
 use ahci_port::{Outcome, Port, StepFault};
 use std::alloc::Global;
 use std::process::Abort;
@@ -11,19 +12,17 @@ use std::test::Fail;
 use test_helpers::TableStep;
 use test_helpers::TableStep::{Accept, Serve};
 
-static IN_ITS_ORDER: [Row; 18] = [
+pub const IN_ITS_ORDER: &[Row] = &[
     Issue(0, 3, Some(0xAA), Ok(0)),
     Issue(1, 3, Some(0xBB), Ok(1)),
     Issue(2, 3, None, Ok(2)),
-    Step(Accept(0), Ok(Accepted(3))),
-    Step(Accept(1), Ok(Accepted(4))),
-    Step(Accept(2), Ok(Accepted(5))),
+    Accepts(&[0, 1, 2], 3),
     Step(Serve(&[0, 0]), Err(StepFault::BadTags)),
     Step(Serve(&[0, 3, 3]), Err(StepFault::NotAccepted)),
     Step(Serve(&[]), Err(StepFault::BadTags)),
     Step(Serve(&[0, 1, 2, 1]), Err(StepFault::BadTags)),
     Sector(3, 0),
-    Step(Serve(&[1, 2, 0]), Ok(Completed { first: 6, count: 3 })),
+    Serves(&[1, 2, 0], 6, 3),
     Register(0x134, Ok(0)),
     Received(0x58, [0xA1, 0x40, 0x40, 0, 7, 0, 0, 0]),
     Collect(2, 2, Ok((7, Outcome::Read, 0xBB))),
@@ -32,31 +31,15 @@ static IN_ITS_ORDER: [Row; 18] = [
     Sector(3, 0xAA),
 ];
 
-#[test]
-fn a_list_is_served_in_its_order(rt: HostRuntime) -> Result<(), Fail> {
-    plays(&rt, rt.alloc(), 8, 4, IN_ITS_ORDER.as_slice())
-}
-
 /// Tag 1 fails with error 40h at LBA 1.
-const FAIL_1_AT_1: TableStep = TableStep::Fail {
-    tag: 1,
-    error: 0x40,
-    at: 1,
-};
-
-const FAILED_AT_1: Outcome = Outcome::Failed {
-    error: 0x40,
-    lba: 1,
-};
+const FAIL_1_AT_1: TableStep = TableStep::Fail(1, 0x40, 1);
 
 // The held commands are accepted no more, until they are issued again.
-static AFTER_A_FAILURE: [Row; 25] = [
+pub const AFTER_A_FAILURE: &[Row] = &[
     Issue(0, 0, None, Ok(0)),
     Issue(1, 1, None, Ok(1)),
     Issue(2, 2, Some(0x77), Ok(2)),
-    Step(Accept(0), Ok(Accepted(3))),
-    Step(Accept(1), Ok(Accepted(4))),
-    Step(Accept(2), Ok(Accepted(5))),
+    Accepts(&[0, 1, 2], 3),
     Step(FAIL_1_AT_1, Ok(Failed(6))),
     Step(Serve(&[0, 2]), Err(StepFault::Halted)),
     Step(Serve(&[2]), Err(StepFault::Halted)),
@@ -67,27 +50,16 @@ static AFTER_A_FAILURE: [Row; 25] = [
     Step(Serve(&[0, 2]), Err(StepFault::NotAccepted)),
     Reissue(0, Ok(())),
     Reissue(2, Ok(())),
-    Step(Accept(0), Ok(Accepted(10))),
+    Accepts(&[0], 10),
     Step(Serve(&[0, 2]), Err(StepFault::NotAccepted)),
-    Step(Accept(2), Ok(Accepted(11))),
-    Step(
-        Serve(&[2, 0]),
-        Ok(Completed {
-            first: 12,
-            count: 2,
-        }),
-    ),
+    Accepts(&[2], 11),
+    Serves(&[2, 0], 12, 2),
     Received(0x58, [0xA1, 0x40, 0x40, 0, 5, 0, 0, 0]),
     Register(0x134, Ok(0)),
-    Collect(1, 1, Ok((6, FAILED_AT_1, 0))),
+    Failure(1, 1, (6, 0x40, 1), 0),
     Sector(2, 0x77),
     Entries(15),
 ];
-
-#[test]
-fn no_list_is_served_while_a_failure_stands(rt: HostRuntime) -> Result<(), Fail> {
-    plays(&rt, rt.alloc(), 8, 4, AFTER_A_FAILURE.as_slice())
-}
 
 /// A port of 8 sectors and so many slots, whose commands are all accepted. Each is of sector 5: an even tag writes the number
 /// that follows it, an odd tag reads.
@@ -127,13 +99,7 @@ const FALLING_AND_31: &[u8] = &[
 
 static THIRTY_TWO: [Row; 7] = [
     Step(Serve(FALLING_AND_31), Err(StepFault::BadTags)),
-    Step(
-        Serve(FALLING),
-        Ok(Completed {
-            first: 64,
-            count: 32,
-        }),
-    ),
+    Serves(FALLING, 64, 32),
     Register(0x134, Ok(0)),
     Register(0x110, Ok(8)),
     Received(0x58, [0xA1, 0x40, 0x40, 0, 0xFF, 0xFF, 0xFF, 0xFF]),
@@ -158,7 +124,7 @@ fn falling_row(tag: u8) -> Row {
 fn thirty_two_commands_are_served_by_one_call(rt: HostRuntime) -> Result<(), Fail> {
     let alloc = rt.alloc();
     let mut port = full(&rt, alloc, 32)?;
-    goes_on(&rt, alloc, &mut port, THIRTY_TWO.as_slice())?;
+    goes_on(&rt, alloc, &mut port, "32 tags", &THIRTY_TWO)?;
     for tag in 0..32u8 {
         let row = falling_row(tag);
         goes(&rt, alloc, &mut port, usize::from(tag), row)?;
@@ -168,28 +134,16 @@ fn thirty_two_commands_are_served_by_one_call(rt: HostRuntime) -> Result<(), Fai
 
 // Tag 16, in the middle of the list, is done, then free, then issued and not yet accepted.
 static ONE_OF_ANOTHER_PHASE: [Row; 13] = [
-    Step(
-        Serve(&[16]),
-        Ok(Completed {
-            first: 64,
-            count: 1,
-        }),
-    ),
+    Serves(&[16], 64, 1),
     Received(0x58, [0xA1, 0x40, 0x40, 0, 0, 0, 1, 0]),
     Step(Serve(FALLING), Err(StepFault::NotAccepted)),
     Collect(16, 16, Ok((64, Outcome::Wrote, 17))),
     Step(Serve(FALLING), Err(StepFault::NotAccepted)),
     Issue(16, 5, None, Ok(66)),
     Step(Serve(FALLING), Err(StepFault::NotAccepted)),
-    Step(Accept(16), Ok(Accepted(67))),
+    Accepts(&[16], 67),
     Sector(5, 17),
-    Step(
-        Serve(FALLING),
-        Ok(Completed {
-            first: 68,
-            count: 32,
-        }),
-    ),
+    Serves(FALLING, 68, 32),
     Received(0x58, [0xA1, 0x40, 0x40, 0, 0xFF, 0xFF, 0xFF, 0xFF]),
     Collect(16, 66, Ok((83, Outcome::Read, 19))),
     Sector(5, 1),
@@ -198,7 +152,7 @@ static ONE_OF_ANOTHER_PHASE: [Row; 13] = [
 #[test]
 fn a_list_with_a_tag_of_another_phase_is_refused_whole(rt: HostRuntime) -> Result<(), Fail> {
     let mut port = full(&rt, rt.alloc(), 32)?;
-    goes_on(&rt, rt.alloc(), &mut port, ONE_OF_ANOTHER_PHASE.as_slice())
+    goes_on(&rt, rt.alloc(), &mut port, "32 tags", &ONE_OF_ANOTHER_PHASE)
 }
 
 static THIRTY_ONE: [Row; 9] = [
@@ -207,13 +161,7 @@ static THIRTY_ONE: [Row; 9] = [
     Step(Serve(&[30, 31]), Err(StepFault::NotAccepted)),
     Step(Serve(FALLING), Err(StepFault::NotAccepted)),
     Sector(5, 0),
-    Step(
-        Serve(FALLING_FROM_30),
-        Ok(Completed {
-            first: 62,
-            count: 31,
-        }),
-    ),
+    Serves(FALLING_FROM_30, 62, 31),
     Register(0x134, Ok(0)),
     Received(0x58, [0xA1, 0x40, 0x40, 0, 0xFF, 0xFF, 0xFF, 0x7F]),
     Sector(5, 1),
@@ -222,5 +170,5 @@ static THIRTY_ONE: [Row; 9] = [
 #[test]
 fn a_port_of_31_slots_has_no_tag_31(rt: HostRuntime) -> Result<(), Fail> {
     let mut port = full(&rt, rt.alloc(), 31)?;
-    goes_on(&rt, rt.alloc(), &mut port, THIRTY_ONE.as_slice())
+    goes_on(&rt, rt.alloc(), &mut port, "31 tags", &THIRTY_ONE)
 }

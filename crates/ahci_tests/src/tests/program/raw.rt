@@ -1,6 +1,6 @@
 //! Windows of any bytes, as lines of a script.
 use super::{CliFault, ends, replayed};
-use crate::any_window::any_window;
+use crate::tests::any_window::any_window;
 use std::alloc::{AllocError, Global};
 use std::process::Abort;
 use std::test::Fail;

@@ -1,8 +1,8 @@
 //! What a driver writes to the registers, among the port's other calls.
-use super::telling::Row::{Collect, Sector, Step};
+use super::telling::Row::{Accepts, Collect, Failure, Sector, Serves, Step};
 use super::telling::{Row, goes, port_of, window_of};
-use crate::table::equal;
-use ahci_port::Stepped::{Accepted, Completed, Failed};
+use crate::tests::table::equal;
+use ahci_port::Stepped::Failed;
 use ahci_port::Written::{Commanded, Noted, Recovered};
 use ahci_port::{IssueFault, Outcome, Pending, WriteFault, Written};
 use ahci_regs::RegFault;
@@ -10,7 +10,6 @@ use std::alloc::Global;
 use std::process::Abort;
 use std::test::Fail;
 use test_helpers::TableStep;
-use test_helpers::TableStep::{Accept, Serve};
 
 /// A driver's access to a register with its answer, or another call of the port.
 #[derive(Clone, Copy)]
@@ -106,9 +105,9 @@ static QUEUE: [Line; 30] = [
     Write(0x138, 3, Ok(Commanded(3))),
     Read(0x138, Ok(3)),
     Write(0x138, 1, Ok(Commanded(0))),
-    Call(Step(Accept(0), Ok(Accepted(2)))),
+    Call(Accepts(&[0], 2)),
     Read(0x138, Ok(2)),
-    Call(Step(Serve(&[0]), Ok(Completed { first: 3, count: 1 }))),
+    Call(Serves(&[0], 3, 1)),
     Call(Sector(3, 0xAA)),
     Read(0x134, Ok(2)),
     Read(0x110, Ok(8)),
@@ -126,8 +125,8 @@ static QUEUE: [Line; 30] = [
     Read(0x134, Ok(0x0F)),
     Write(0x138, 8, Ok(Commanded(8))),
     Read(0x138, Ok(0x0B)),
-    Call(Step(Accept(3), Ok(Accepted(7)))),
-    Call(Step(Serve(&[3]), Ok(Completed { first: 8, count: 1 }))),
+    Call(Accepts(&[3], 7)),
+    Call(Serves(&[3], 8, 1)),
     Call(Sector(5, 0xBB)),
     Read(0x134, Ok(7)),
 ];
@@ -138,21 +137,12 @@ fn a_driver_issues_by_pxsact_and_pxci(rt: HostRuntime) -> Result<(), Fail> {
 }
 
 /// Tag 1 fails with error 40h at LBA 3.
-const FAIL_1: TableStep = TableStep::Fail {
-    tag: 1,
-    error: 0x40,
-    at: 3,
-};
-
-const FAILED_AT_3: Outcome = Outcome::Failed {
-    error: 0x40,
-    lba: 3,
-};
+const FAIL_1: TableStep = TableStep::Fail(1, 0x40, 3);
 
 static WAY_BACK: [Line; 27] = [
     Write(0x134, 0x0A, Ok(Noted)),
     Write(0x138, 0x0A, Ok(Commanded(0x0A))),
-    Call(Step(Accept(1), Ok(Accepted(2)))),
+    Call(Accepts(&[1], 2)),
     Write(0x118, 0x10, Err(WriteFault::NotHalted)),
     Write(0x118, 0x11, Ok(Noted)),
     Call(Step(FAIL_1, Ok(Failed(3)))),
@@ -172,10 +162,10 @@ static WAY_BACK: [Line; 27] = [
     // Slot 3 is held, and its command is issued again.
     Write(0x134, 8, Ok(Noted)),
     Write(0x138, 8, Ok(Commanded(8))),
-    Call(Step(Accept(3), Ok(Accepted(6)))),
-    Call(Step(Serve(&[3]), Ok(Completed { first: 7, count: 1 }))),
+    Call(Accepts(&[3], 6)),
+    Call(Serves(&[3], 7, 1)),
     Call(Sector(5, 0xBB)),
-    Call(Collect(1, 0, Ok((3, FAILED_AT_3, 0)))),
+    Call(Failure(1, 0, (3, 0x40, 3), 0)),
     Call(Collect(3, 1, Ok((7, Outcome::Wrote, 0xBB)))),
     Read(0x134, Ok(0)),
 ];

@@ -1,9 +1,9 @@
 //! The program as one function: for each kind of command line what it writes, what it says on standard error, and its status.
-use crate::status::status_of;
-use crate::wanted::Wanted;
+use crate::tests::status::status_of;
+use crate::tests::wanted::Wanted;
 use Wanted::{Part, Text};
 use ahci_cli::{WordsFault, program_without_words};
-use cases::{CASES, NOTHING};
+use cases::{CASES, Case, HELPS, NOTHING};
 use std::alloc::Global;
 use std::process::Abort;
 use std::sync::Wait;
@@ -12,16 +12,29 @@ use std::thread::Threads;
 
 mod cases;
 
+/// Compares what the program writes for a command line and an input, what it tells, and its status.
+fn meets<H>(rt: &H, alloc: Global, case: &Case) -> Result<(), Fail>
+where
+    H: Threads + Wait + Sync + Abort,
+{
+    let (line, input, output, errors, status) = case;
+    let mut reader = *input;
+    let mut written = Vec::new(alloc);
+    let mut told = Vec::new(alloc);
+    let ended = status_of(rt, alloc, line, &mut reader, &mut written, &mut told)?;
+    output.meets(rt, line, written.as_slice());
+    errors.meets(rt, line, told.as_slice());
+    assert_eq!(rt; ended, *status, "{line}");
+    Ok(())
+}
+
 #[test]
 fn each_command_line_has_its_output_its_errors_and_its_status(rt: HostRuntime) -> Result<(), Fail> {
-    for (row, (line, input, output, errors, status)) in CASES.iter().enumerate() {
-        let mut reader = *input;
-        let mut written = Vec::new(rt.alloc());
-        let mut told = Vec::new(rt.alloc());
-        let ended = status_of(&rt, rt.alloc(), line, &mut reader, &mut written, &mut told)?;
-        output.meets(&rt, row, written.as_slice());
-        errors.meets(&rt, row, told.as_slice());
-        assert_eq!(rt; ended, *status, "at row {row}");
+    for case in &CASES {
+        meets(&rt, rt.alloc(), case)?;
+    }
+    for (line, input, part) in HELPS {
+        meets(&rt, rt.alloc(), &(line, input, Part(part), NOTHING, 0))?;
     }
     Ok(())
 }
@@ -60,22 +73,25 @@ fn replay_answers_the_journal_of_a_run_with_its_sectors(rt: HostRuntime) -> Resu
 
 #[test]
 fn words_that_can_t_be_read_are_told(rt: HostRuntime) {
-    for (row, (fault, errors, status)) in [
+    for (name, fault, errors, status) in [
         (
+            "not text",
             WordsFault::NotText,
             Part("an argument is not text in UTF-8"),
             2,
         ),
-        (WordsFault::OutOfMemory, Text("ahci: out of memory\n"), 3),
-    ]
-    .iter()
-    .enumerate()
-    {
+        (
+            "out of memory",
+            WordsFault::OutOfMemory,
+            Text("ahci: out of memory\n"),
+            3,
+        ),
+    ] {
         let mut written = Vec::new(rt.alloc());
         let mut told = Vec::new(rt.alloc());
-        let ended = program_without_words(rt.alloc(), *fault, &mut written, &mut told);
-        NOTHING.meets(&rt, row, written.as_slice());
-        errors.meets(&rt, row, told.as_slice());
-        assert_eq!(rt; ended, *status, "at row {row}");
+        let ended = program_without_words(rt.alloc(), fault, &mut written, &mut told);
+        NOTHING.meets(&rt, name, written.as_slice());
+        errors.meets(&rt, name, told.as_slice());
+        assert_eq!(rt; ended, status, "{name}");
     }
 }

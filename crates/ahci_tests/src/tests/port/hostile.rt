@@ -1,7 +1,7 @@
 //! Windows of any bytes, issued.
 use super::telling::{port_of, window_of};
-use crate::any_window::any_window;
-use crate::table::equal;
+use crate::tests::any_window::any_window;
+use crate::tests::table::equal;
 use ahci_port::{DeviceStep, IssueFault, Port, Stepped};
 use ahci_table::Window;
 use std::alloc::{AllocError, Global};

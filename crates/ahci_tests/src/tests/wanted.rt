@@ -12,19 +12,19 @@ pub enum Wanted {
 }
 
 impl Wanted {
-    /// Compares with what was found at a row.
-    pub fn meets(self, rt: &impl Abort, row: usize, found: &[u8]) {
+    /// Compares with what was found at a line of a table.
+    pub fn meets(self, rt: &impl Abort, line: &str, found: &[u8]) {
         match self {
-            Wanted::Text(text) => assert_eq!(rt; found, text.as_bytes(), "at row {row}"),
+            Wanted::Text(text) => assert_eq!(rt; found, text.as_bytes(), "{line}"),
             Wanted::Part(text) => {
                 let has = found
                     .windows(text.len().max(1))
                     .any(|part| part == text.as_bytes());
-                assert!(rt; has, "at row {row}");
+                assert!(rt; has, "{line}");
             }
             Wanted::Page(first) => assert!(rt;
                 found.len() == 512 && found.starts_with(first),
-                "at row {row}"
+                "{line}"
             ),
         }
     }

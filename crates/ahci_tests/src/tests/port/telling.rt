@@ -1,7 +1,7 @@
 //! Calls of a port as the rows of a table.
 ghost use Rattle.std.specs.Prelude.{◌≤◌, ◌<◌};
 
-use crate::table::equal;
+use crate::tests::table::equal;
 use ahci_port::{
     CollectFault, IssueFault, Outcome, PlainFault, Port, RecoverFault, ReissueFault, Reply,
     StepFault, Stepped,
@@ -10,6 +10,7 @@ use ahci_regs::RegFault;
 use ahci_table::{Window, default_pieces};
 use ncq_core::{Bytes, Op};
 use std::alloc::{AllocError, Global};
+use std::fmt::Debug;
 use std::process::Abort;
 use std::test::Fail;
 use test_helpers::TableStep;
@@ -21,8 +22,14 @@ pub enum Row {
     Issue(u8, u64, Option<u8>, Result<u64, IssueFault>),
     /// One that is refused changes nothing that the port shows.
     Step(TableStep, Result<Stepped, StepFault>),
+    /// The device accepts these commands, one after the other, the first of them as this entry.
+    Accepts(&'static [u8], u64),
+    /// It serves them by one call: the first entry, and how many there are.
+    Serves(&'static [u8], u64, u32),
     /// A request by its tag and number: its entry and outcome, and the byte that its window's text is filled with.
     Collect(u8, u64, Result<(u64, Outcome, u8), CollectFault>),
+    /// The same of a command that has failed: its entry, error and LBA, and the byte.
+    Failure(u8, u64, (u64, u8, u64), u8),
     Recover(Result<u8, RecoverFault>),
     Reissue(u8, Result<(), ReissueFault>),
     /// A word of the identify page, low byte first.
@@ -107,6 +114,18 @@ fn collected(
     Ok((reply, Some(byte)))
 }
 
+/// Collects a request by its tag and number, and compares what it answers.
+fn collects<L: Debug + Copy>(
+    rt: &impl Abort,
+    port: &mut Port,
+    row: L,
+    (tag, number): (u8, u64),
+    wanted: Result<(u64, Outcome, u8), CollectFault>,
+) {
+    let found = collect(port, tag, number);
+    equal(rt, row, &found, &collected(number, wanted));
+}
+
 /// A word of the identify page.
 fn identify(port: &mut Port, word: usize) -> Result<[u8; 2], PlainFault> {
     let page = port.identify()?;
@@ -144,24 +163,29 @@ fn look_at(alloc: Global, port: &Port) -> Result<Shown, AllocError> {
     Ok((words, *port.received(), port.journal().len(), image))
 }
 
-/// Lets the device take a step: what it answers, and whether the port shows the same as before.
-fn step(
-    alloc: Global,
-    port: &mut Port,
-    step: TableStep,
-) -> Result<(Result<Stepped, StepFault>, bool), AllocError> {
-    let before = look_at(alloc, port)?;
-    let answer = port.step(step.of_device());
-    let after = look_at(alloc, port)?;
-    Ok((answer, after == before))
-}
-
-/// Makes the call of a row, and compares what it answers.
-pub fn goes(
+/// Lets the device take a step, and compares what it answers. One that is refused changes nothing that the port shows.
+fn steps<L: Debug + Copy>(
     rt: &impl Abort,
     alloc: Global,
     port: &mut Port,
-    row: usize,
+    row: L,
+    step: TableStep,
+    wanted: Result<Stepped, StepFault>,
+) -> Result<(), AllocError> {
+    let before = look_at(alloc, port)?;
+    let answer = port.step(step.of_device());
+    let after = look_at(alloc, port)?;
+    let found = (answer, after == before);
+    equal(rt, row, &found, &(wanted, wanted.is_err()));
+    Ok(())
+}
+
+/// Makes the call of a row, and compares what it answers.
+pub fn goes<L: Debug + Copy>(
+    rt: &impl Abort,
+    alloc: Global,
+    port: &mut Port,
+    row: L,
     call: Row,
 ) -> Result<(), Fail> {
     match call {
@@ -169,13 +193,21 @@ pub fn goes(
             assert!(rt; tag < 32);
             equal(rt, row, &issue(alloc, port, tag, lba, byte)?, &answer);
         }
-        Row::Step(asked, answer) => {
-            let found = step(alloc, port, asked)?;
-            equal(rt, row, &found, &(answer, answer.is_err()));
+        Row::Step(step, answer) => steps(rt, alloc, port, row, step, answer)?,
+        Row::Accepts(tags, first) => {
+            for (index, tag) in tags.iter().enumerate() {
+                let answer = Ok(Stepped::Accepted(first.saturating_add(index as u64)));
+                steps(rt, alloc, port, row, TableStep::Accept(*tag), answer)?;
+            }
         }
-        Row::Collect(tag, number, answer) => {
-            let found = collect(port, tag, number);
-            equal(rt, row, &found, &collected(number, answer));
+        Row::Serves(tags, first, count) => {
+            let answer = Ok(Stepped::Completed { first, count });
+            steps(rt, alloc, port, row, TableStep::Serve(tags), answer)?;
+        }
+        Row::Collect(tag, number, answer) => collects(rt, port, row, (tag, number), answer),
+        Row::Failure(tag, number, (entry, error, lba), byte) => {
+            let answer = Ok((entry, Outcome::Failed { error, lba }, byte));
+            collects(rt, port, row, (tag, number), answer);
         }
         Row::Recover(answer) => equal(rt, row, &port.recover(), &answer),
         Row::Reissue(tag, answer) => equal(rt, row, &port.reissue(tag), &answer),
@@ -194,22 +226,15 @@ pub fn goes(
 }
 
 /// Makes the calls of a table, and compares what they answer.
-pub fn goes_on(rt: &impl Abort, alloc: Global, port: &mut Port, rows: &[Row]) -> Result<(), Fail> {
-    for (number, row) in rows.iter().enumerate() {
-        goes(rt, alloc, port, number, *row)?;
-    }
-    Ok(())
-}
-
-/// Makes the calls of a table on a port over so many sectors of zeros.
-pub fn plays(
+pub fn goes_on(
     rt: &impl Abort,
     alloc: Global,
-    sectors: usize,
-    depth: u32,
+    port: &mut Port,
+    table: &str,
     rows: &[Row],
 ) -> Result<(), Fail> {
-    assert!(rt; sectors <= 131_072);
-    let mut port = port_of(alloc, sectors, depth)?;
-    goes_on(rt, alloc, &mut port, rows)
+    for (number, row) in rows.iter().enumerate() {
+        goes(rt, alloc, port, (table, number), *row)?;
+    }
+    Ok(())
 }

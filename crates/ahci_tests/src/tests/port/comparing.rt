@@ -3,7 +3,7 @@
 mod calls;
 mod entries;
 
-use crate::table::{equal, equal_bytes};
+use crate::tests::table::{equal, equal_bytes};
 use ahci_port::{
     CollectFault, DeviceStep, IssueFault, Outcome, PlainFault, Port, RecoverFault, ReissueFault,
     StepFault, TrimFault,

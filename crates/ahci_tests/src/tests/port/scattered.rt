@@ -1,7 +1,7 @@
 //! Commands whose data lie in many pieces, or are long, served and collected.
 ghost use Rattle.std.specs.Prelude.{◌≤◌};
 
-use crate::table::{equal, equal_bytes};
+use crate::tests::table::{equal, equal_bytes};
 use ahci_port::{DeviceStep, Outcome, Port, Reply, Stepped};
 use ahci_table::{Piece, Window};
 use ncq_core::{Bytes, Op};

@@ -1,6 +1,6 @@
 //! What no clause says: the worked scripts, and the texts of the faults. Hostile input and readers and writers that
 //! fail have modules of their own.
-use crate::table::{equal, equal_bytes};
+use crate::tests::table::{equal, equal_bytes};
 use ahci_cli::{CliFault, replay};
 use std::alloc::{AllocError, Global};
 use std::process::Abort;

@@ -1,0 +1,113 @@
+//! What the command lines of `identify` and `log` are told where they are wrong, and the pages that `ahci_cli` writes.
+use crate::tests::command_line::{Kind, MISSING, RANGE, TWICE, are_told};
+use crate::tests::table::equal;
+use ata_pages::{PageFault, write_identify, write_log};
+use clap::error::ErrorKind;
+use std::test::Fail;
+use test_helpers::Full;
+
+/// What an error byte that is none is told.
+const BYTE: &str = "invalid value for '--error <EE>': it is two hexadecimal digits";
+
+/// Lines that are wrong in one place, after `ahci`.
+static WRONG: [Kind; 5] = [
+    (
+        MISSING,
+        &[
+            ("identify", "--sectors <NUMBER>"),
+            ("identify --sectors 8", "--depth <NUMBER>"),
+            ("log --error 40 --lba 7", "--tag <NUMBER>"),
+            ("log --tag 3 --lba 7", "--error <EE>"),
+            ("log --tag 3 --error 40", "--lba <NUMBER>"),
+        ],
+    ),
+    (
+        RANGE,
+        &[
+            ("identify --sectors 0 --depth 4", "0 is not in 1..=131072"),
+            (
+                "identify --sectors 131073 --depth 4",
+                "131073 is not in 1..=131072",
+            ),
+            ("identify --sectors 8 --depth 0", "0 is not in 1..=32"),
+            ("identify --sectors 8 --depth 33", "33 is not in 1..=32"),
+            ("log --tag 32 --error 40 --lba 7", "32 is not in 0..=31"),
+            (
+                "log --tag=-0 --error 40 --lba 7",
+                "invalid digit found in string",
+            ),
+            (
+                "log --tag 3 --error 40 --lba 281474976710656",
+                "281474976710656 is not in 0..=281474976710655",
+            ),
+            (
+                "log --tag 3 --error 40 --lba 99999999999999999999",
+                "number too large",
+            ),
+            ("log --tag 3 --error 40 --lba 7x", "invalid digit"),
+            ("log --tag 3 --error 4 --lba 7", BYTE),
+            ("log --tag 3 --error 040 --lba 7", BYTE),
+            ("log --tag 3 --error +4 --lba 7", BYTE),
+            ("log --tag 3 --error 4g --lba 7", BYTE),
+            ("log --tag 3 --error=0x40 --lba 7", "Usage: ahci log"),
+            ("log --tag 3 --error= --lba 7", BYTE),
+        ],
+    ),
+    (
+        TWICE,
+        &[
+            ("identify --sectors 8 --depth 4 --depth 4", "--depth"),
+            ("identify --sectors 8 --depth 4 --raw --raw", "--raw"),
+            ("log --tag 3 --error 40 --error 40 --lba 7", "--error"),
+        ],
+    ),
+    (
+        ErrorKind::TooManyValues,
+        &[("identify --sectors 8 --depth 4 --raw=1", "--raw")],
+    ),
+    (
+        ErrorKind::UnknownArgument,
+        &[
+            (
+                "identify --sectors 8 --depth 4 page.bin",
+                "unexpected argument 'page.bin'",
+            ),
+            (
+                "identify --sectors 8 --depth 4 --tag 1",
+                "unexpected argument '--tag'",
+            ),
+        ],
+    ),
+];
+
+#[test]
+fn a_wrong_page_is_told_what_is_wrong(rt: HostRuntime) -> Result<(), Fail> {
+    are_told(&rt, rt.alloc(), "ahci", WRONG.as_slice())
+}
+
+#[test]
+fn a_page_is_written_or_output_has_failed(rt: HostRuntime) {
+    let alloc = rt.alloc();
+    for room in [0, 511, 512] {
+        let wanted = if room == 512 {
+            Ok(())
+        } else {
+            Err(PageFault::Write)
+        };
+        let identified = write_identify(alloc, 8, 4, true, &mut Full { room });
+        equal(&rt, room, &identified, &wanted);
+        let logged = write_log(alloc, 3, 0x40, 7, true, &mut Full { room });
+        equal(&rt, room, &logged, &wanted);
+    }
+    let mut text = Vec::new(alloc);
+    equal(
+        &rt,
+        0,
+        &write_log(alloc, 3, 0x40, 7, false, &mut text),
+        &Ok(()),
+    );
+    assert!(rt;
+        text.as_slice()
+            .starts_with(b"NQ 0, UNL 0, NCQ TAG 3\nLBA 7\nbyte 000  03  ")
+    );
+}
