@@ -1,9 +1,10 @@
-ghost use Rattle.std.specs.Prelude.{◌≡◌, ℕ, Bool, IfErr, IfOk, map};
-ghost use Rattle.std.specs.String.{string_bytes};
+ghost use Rattle.std.specs.{Prelude.{◌≡◌, ℕ, Bool, IfErr, IfOk, map}, String.{string_bytes}};
 ghost use Rattle.clap.specs.Words.{FailsBy, found_of, kind_of, rows_of};
-ghost use Rattle.ahci_args.specs.Asking.{AsksFor, AsksReplay, FailsByUsage, HasFlag, HasNumber, HasPick, IsCheckOf, IsDrawOf, IsIdentifyOf, IsLogOf, IsRunOf, IsTraceOf, TakesBounds, TakesForm, TakesKind, TakesOptions, TakesPlace, TakesSize};
-ghost use Rattle.ahci_args.specs.Usage.{error_byte, error_fault, form_fault, form_in};
-ghost use Rattle.ahci_args.specs.declared.pick.Pick.{Pick};
+ghost use Rattle.ahci_args.specs.{
+  Asking.{AsksFor, AsksReplay, FailsByUsage, HasFlag, HasNumber, HasPick, IsCheckOf, IsDrawOf, IsIdentifyOf, IsLogOf, IsRunOf, IsTraceOf, TakesBounds, TakesForm, TakesKind, TakesOptions, TakesPlace, TakesSize},
+  Usage.{error_byte, error_fault, form_fault, form_in},
+  declared.pick.Pick.{Pick},
+};
 
 use crate::command::{ahci_command, log_command, run_command};
 use crate::error_byte::hex_byte;

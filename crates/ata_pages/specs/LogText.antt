@@ -1,8 +1,9 @@
 -- Page 0 of log 10h as text (ACS-3, "NCQ Command Error log").
-use Rattle.std.specs.Prelude.{ℕ, ◌/◌, ◌%◌, ◌==◌, ◌||◌, not, Bool, if◌then◌else◌, List, [], ◌∷◌, ◌++◌, slice_index, codes}
+use Rattle.std.specs.Prelude.{ℕ, ◌/◌, ◌%◌, ◌==◌, ◌||◌, not, Bool, if◌then◌else◌, List, [], ◌∷◌, ◌++◌, find, slice_index, codes}
 use Rattle.std.specs.Fmt.{decimal}
 use Rattle.std.specs.Int.{from_le_bytes, w64}
 use Rattle.std.specs.List.{flat_map, range_with_len}
+use Rattle.std.specs.Option.{option_map_or}
 use Rattle.ncq_core.specs.Identify.{is_within}
 use Rattle.ata_pages.specs.Digits.{last_digits}
 
@@ -28,23 +29,17 @@ lba_of page =
 abbrev pub is_field : ℕ → Bool
 is_field n = n == 0 || is_within 2 10 n || is_within 12 13 n || n == 511
 
+-- the bytes of the fields that this model has, by what the standard calls them
+abbrev pub byte_names : List (ℕ × List ℕ)
+byte_names =
+    (0, codes "NQ, UNL, NCQ TAG") ∷ (2, codes "Status") ∷ (3, codes "Error")
+    ∷ (4, codes "LBA 7:0") ∷ (5, codes "LBA 15:8") ∷ (6, codes "LBA 23:16") ∷ (7, codes "Device")
+    ∷ (8, codes "LBA 31:24") ∷ (9, codes "LBA 39:32") ∷ (10, codes "LBA 47:40")
+    ∷ (12, codes "Count 7:0") ∷ (13, codes "Count 15:8") ∷ (511, codes "Data structure checksum") ∷ []
+
 -- what the standard calls byte n; bytes of no field that this model has are without a name here
 abbrev pub byte_name : ℕ → List ℕ
-byte_name n =
-    if n == 0 then codes "NQ, UNL, NCQ TAG"
-    else (if n == 2 then codes "Status"
-    else (if n == 3 then codes "Error"
-    else (if n == 4 then codes "LBA 7:0"
-    else (if n == 5 then codes "LBA 15:8"
-    else (if n == 6 then codes "LBA 23:16"
-    else (if n == 7 then codes "Device"
-    else (if n == 8 then codes "LBA 31:24"
-    else (if n == 9 then codes "LBA 39:32"
-    else (if n == 10 then codes "LBA 47:40"
-    else (if n == 12 then codes "Count 7:0"
-    else (if n == 13 then codes "Count 15:8"
-    else (if n == 511 then codes "Data structure checksum"
-    else codes "not set by this model"))))))))))))
+byte_name n = option_map_or (λ row. row.1) (find (λ row. n == row.0) byte_names) (codes "not set by this model")
 
 -- byte n has a line: its value isn't 0, or it is of a field
 abbrev pub is_told : ℕ → ℕ → Bool

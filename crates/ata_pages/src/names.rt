@@ -1,8 +1,7 @@
 //! What the standard calls the words and the bytes of the pages.
 
 ghost use Rattle.std.specs.Prelude.{◌≡◌};
-ghost use Rattle.ata_pages.specs.IdentifyText.{word_name};
-ghost use Rattle.ata_pages.specs.LogText.{byte_name, is_field};
+ghost use Rattle.ata_pages.specs.{IdentifyText.{word_name}, LogText.{byte_name, is_field}};
 
 /// The name of a word (ACS-3, "IDENTIFY DEVICE"). Words that every disk of this model leaves 0 have none here.
 pub(crate) fn word_name(number: usize) -> &'static str

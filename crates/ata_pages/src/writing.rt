@@ -1,7 +1,6 @@
 //! The pages, written as text or as they are.
 
-ghost use Rattle.std.specs.Prelude.{◌≡◌, ◌<◌, ◌≤◌, ◌^◌, ℕ, List, IfErr, OnErr, OnOk, Err, Some, false, take};
-ghost use Rattle.std.specs.Io.KnownBytes.{Appends, Keeps};
+ghost use Rattle.std.specs.{Prelude.{◌≡◌, ◌<◌, ◌≤◌, ◌^◌, ℕ, List, IfErr, OnErr, OnOk, Err, Some, false, take}, Io.KnownBytes.{Appends, Keeps}};
 ghost use Rattle.streams.specs.Ends.{with_flush};
 ghost use Rattle.ata_pages.specs.Output.{WritesAs, identify_output, log_output, output_as};
 

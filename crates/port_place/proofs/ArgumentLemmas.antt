@@ -1,5 +1,5 @@
 -- What remains of a call's reasons once its arguments are looked at.
-use Rattle.std.proofs.Common.{◌≡◌, ℕ, ◌<◌, cond, Option, None, Some, Result, Ok, Err, ap, subst}
+use Rattle.std.proofs.Common.{◌≡◌, ℕ, ◌<◌, cond, Option, None, Some, Ok, Err, ap, subst}
 use Rattle.std.proofs.lemmas.Bool.{eq-eqb, lt-ltb}
 use Rattle.ahci_table.specs.Window.{WindowState}
 use Rattle.port_place.specs.Asked.{AnswersUnless}

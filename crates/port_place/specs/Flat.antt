@@ -1,5 +1,5 @@
 -- What C sees as structs: which numbers stand in them.
-use Rattle.std.specs.Prelude.{ℕ, ◌/◌, List, ◌++◌, length, drop, Option, is_some, Bool, if◌then◌else◌}
+use Rattle.std.specs.Prelude.{ℕ, ◌/◌, List, ◌++◌, length, drop, is_some, Bool, if◌then◌else◌}
 use Rattle.std.specs.Option.{unwrap_or}
 use Rattle.ahci_port.specs.declared.step.Stepped.{Stepped}
 use Rattle.ahci_port.specs.declared.step.Stepped.TheVariants as stepped
