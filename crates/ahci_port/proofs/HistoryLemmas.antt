@@ -13,8 +13,8 @@ use Rattle.ncq_journal.specs.Numbering.{answer_numbered}
 use Rattle.ncq_journal.specs.Phase.{phase, is_failed}
 use Rattle.ncq_journal.specs.Request.{Request, request}
 use Rattle.ncq_journal.specs.Sector.{sector}
-use Rattle.ncq_journal.proofs.CutLemmas.{answer_of_parts, ci_of_parts, device_tags_of_parts, halted_of_parts, lawful_of_parts, phase_of_parts, request_of_parts, sact_of_parts}
-use Rattle.ncq_journal.proofs.PartLemmas.{two_parts}
+use Rattle.ncq_journal.proofs.CutLemmas.{answer_of_parts, ci_of_parts, device_tags_of_parts, lawful_of_parts, request_of_parts, sact_of_parts}
+use Rattle.ncq_journal.proofs.PartLemmas.{halted_parts, phase_parts, two_parts}
 use Rattle.ahci_port.specs.Headline.{Headline, HasWindow, HoldsBytes, IsOfRequest}
 use Rattle.ahci_port.specs.PortView.{PortView, window_at}
 use Rattle.ahci_port.specs.Standing.{last_failure, standing}
@@ -34,7 +34,7 @@ last_of_parts (Unqueued command ∷ later) past P some = last_of_parts later pas
 
 -- the error that stands after both parts is that of the later one
 standing_of_parts : (s d : ℕ) (later past : List Entry) → d ≤ 32 → IsLawful s d later → AllFree past → standing (later ++ past) ≡ standing later
-standing_of_parts s d later past few own free = ap (λ b. cond b (last_failure (later ++ past)) None) (halted_of_parts later past free) ∙ by (halted later) refl
+standing_of_parts s d later past few own free = ap (λ b. cond b (last_failure (later ++ past)) None) (halted_parts later past free) ∙ by (halted later) refl
   where
     by : (b : Bool) → halted later ≡ b → cond (halted later) (last_failure (later ++ past)) None ≡ cond (halted later) (last_failure later) None
     by false e = ap (λ b. cond b (last_failure (later ++ past)) None) e ∙ sym (ap (λ b. cond b (last_failure later) None) e)
@@ -56,14 +56,14 @@ request_of_both s d starting middle later past tag w (Some r) both free cut e h 
     (record {
       work = h.work;
       done = λ is. subst (λ o. IsSomeAnd o (λ a. HoldsBytes a.outcome a.bytes w)) (sym (answer_of_parts s d starting middle later past r.number both free cut))
-          (holds_numbered (length past) w (answer middle later r.number) (h.done (sym (phase_of_parts later past tag free) ∙ is)));
+          (holds_numbered (length past) w (answer middle later r.number) (h.done (sym (phase_parts later past tag free) ∙ is)));
     })
 
 window_of_both : (s d : ℕ) (starting middle : List ℕ) (later past : List Entry) (tag : ℕ) (o : Option WindowState) → IsLawful s d (later ++ past) → AllFree past
     → ((i : ℕ) → sector_at middle i ≡ sector starting past i) → HasWindow middle later tag o → HasWindow starting (later ++ past) tag o
-window_of_both s d starting middle later past tag None both free cut h = phase_of_parts later past tag free ∙ h
+window_of_both s d starting middle later past tag None both free cut h = phase_parts later past tag free ∙ h
 window_of_both s d starting middle later past tag (Some w) both free cut h = (
-  λ e. h.0 (sym (phase_of_parts later past tag free) ∙ e),
+  λ e. h.0 (sym (phase_parts later past tag free) ∙ e),
   h.1,
   h.2,
   request_of_both s d starting middle later past tag w (request later tag) both free cut refl h.3,
