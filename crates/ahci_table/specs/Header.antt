@@ -1,6 +1,6 @@
 -- The command header (AHCI 1.3.1, section 4.2.2 "Command List"), one line a field. P, PMP and PRDBC have no effect here,
 -- and the other bits are reserved.
-use Rattle.std.specs.Prelude.{ℕ, ◌*◌, ◌/◌, ◌%◌, Bool, List}
+use Rattle.std.specs.Prelude.{ℕ, ◌*◌, ◌/◌, ◌%◌, List}
 use Rattle.sata_fis.specs.Places.{byte, bit, number}
 use Rattle.ahci_table.specs.Window.{WindowState}
 use Rattle.ahci_table.specs.declared.header.Header.TheInside.{Inside}

@@ -176,12 +176,12 @@ fn with_data<A: Allocator, B: Allocator>(
         Op::Write { bytes: text, .. } if rises(table.len() as u64, pieces) => {
             lay(table, pieces, text.as_slice())
         }
-        _ => filled(table, op, pieces),
+        _ => written_over_zeros(table, op, pieces),
     }
 }
 
 /// The same for pieces in any order: zeros first, and a write's bytes over them.
-fn filled<A: Allocator, B: Allocator>(
+fn written_over_zeros<A: Allocator, B: Allocator>(
     table: Vec<u8, A>,
     op: &Op<B>,
     pieces: &[Piece],

@@ -1,7 +1,5 @@
-ghost use Rattle.std.specs.Prelude.{◌≡◌, ◌<◌};
-ghost use Rattle.sata_fis.specs.Places.{bit};
-
 use byteorder::{ByteOrder, LittleEndian};
+use sata_fis::is_set;
 use std::marker::Model;
 
 /// The fields of a command header (AHCI 1.3.1, section 4.2.2).
@@ -34,14 +32,6 @@ impl Model for Header {
     ghost view = { λ h. h };
 
     ghost inverse = { λ h. h };
-}
-
-/// Whether a bit of a byte is 1.
-fn is_set(byte: u8, place: u8) -> bool
-    requires { place < 8 }
-    ensures { result ≡ bit place byte }
-{
-    byte >> place & 1 == 1
 }
 
 impl Header {

@@ -1,5 +1,5 @@
 -- Phases, requests and answers of lawful journals, by induction on the journal.
-use Rattle.std.proofs.Common.{◌≡◌, ◌≢◌, true≢false, eq-eqb, ℕ, ◌<◌, ◌≤◌, Bool, true, false, cond, ◌==◌, List, [], ◌∷◌, length, ap, sym, refl, subst, ◌∙◌, Option, None, Some, IsSome, IsSomeAnd, arith, inl, inr}
+use Rattle.std.proofs.Common.{◌≡◌, ◌≢◌, true≢false, eq-eqb, ℕ, ◌<◌, ◌≤◌, Bool, true, false, cond, ◌==◌, List, [], ◌∷◌, ap, sym, refl, subst, ◌∙◌, Option, None, Some, IsSome, IsSomeAnd, arith, inl, inr}
 use Rattle.std.proofs.lemmas.Bool.{cond_both, eqb-true, eqb-false, false≢true, cases_lt}
 use Rattle.ncq_journal.specs.declared.phase.Phase.{Phase}
 use Rattle.ncq_journal.specs.declared.phase.Phase.TheVariants.{Free, Issued, Accepted, Held, Done}

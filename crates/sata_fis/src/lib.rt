@@ -34,6 +34,7 @@ pub use fis::Fis;
 pub use h2d::H2d;
 pub use payload::Payload;
 pub use pio_setup::PioSetup;
+pub use places::is_set;
 pub use queueing::{h2d_of, queued};
 pub use ranges::{is_lba, is_sector_count, is_set_bits_status, is_tag};
 pub use set_bits::SetBits;

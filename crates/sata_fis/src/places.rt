@@ -7,8 +7,8 @@ ghost use Rattle.sata_fis.specs.Places.{bit, flags, lba_at, number};
 use arrayvec::ArrayVec;
 use byteorder::{ByteOrder, LittleEndian};
 
-/// Whether a bit of a byte is 1.
-pub(crate) fn is_set(byte: u8, place: u8) -> bool
+/// Whether the bit at a place of a byte, 0 the lowest, is 1.
+pub fn is_set(byte: u8, place: u8) -> bool
     requires { place < 8 }
     ensures { result ≡ bit place byte }
 {

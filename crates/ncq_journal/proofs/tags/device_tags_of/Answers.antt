@@ -1,5 +1,5 @@
 -- An error leaves no tag in the device.
-use Rattle.std.proofs.Common.{◌≡◌, ℕ, true, false, not, ◌&&◌, sym, ap, ◌∙◌}
+use Rattle.std.proofs.Common.{◌≡◌, true, false, not, ◌&&◌, sym, ap, ◌∙◌}
 use Rattle.std.proofs.lemmas.Bool.{and_right}
 use Rattle.word_bits.proofs.BitsLemmas.{bits_zero}
 use Rattle.word_bits.proofs.PlacesLemmas.{and_true, places_none, same_places}

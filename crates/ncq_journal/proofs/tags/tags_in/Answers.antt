@@ -1,5 +1,5 @@
 -- One tag more, and after the last tag each of the 32 is looked at.
-use Rattle.std.proofs.Common.{◌≡◌, ℕ, true, false, sym, ap, ◌∙◌, arith}
+use Rattle.std.proofs.Common.{◌≡◌, ℕ, sym, ap, ◌∙◌, arith}
 use Rattle.word_bits.specs.Places.{bits, with_place}
 use Rattle.ncq_journal.specs.History.{history_of}
 use Rattle.ncq_journal.specs.Phase.{phase}

@@ -8,7 +8,7 @@ use Rattle.ahci_table.specs.Text.{joined}
 use Rattle.ahci_table.proofs.BuildLemmas.{furthest_covers, table_fits, length-blank, joined-blank}
 use Rattle.ahci_table.proofs.LayingLemmas.{zeros_behind}
 use Rattle.ahci_table.proofs.RefusalLemmas.{free_from, all_behind}
-use Rattle.ahci_table.proofs.building.filled.Goals as goal
+use Rattle.ahci_table.proofs.building.written_over_zeros.Goals as goal
 
 pub zeroed_to-requires : goal.zeroed_to-requires
 zeroed_to-requires g c =
