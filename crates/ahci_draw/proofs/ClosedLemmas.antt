@@ -6,7 +6,7 @@ use Rattle.std.proofs.lemmas.Bool.{and_from, and_parts, eqb-true}
 use Rattle.ahci_draw.specs.Grid.{across, down, grid_text}
 use Rattle.ahci_draw.specs.Heading.{heading_shape, heading_text, width_of}
 use Rattle.ahci_draw.specs.Lanes.{cells_in, device_text, lane_at, lane_text, lanes_text, name_shape, tags_in}
-use Rattle.ahci_draw.specs.Lines.{device_place, front_to, label_of, lane_place, lines_of, sign_place, title_of, within}
+use Rattle.ahci_draw.specs.Lines.{device_place, front_to, is_asked, label_of, lane_place, lines_from, sign_place, title_of}
 use Rattle.ahci_draw.specs.Markup.{IsClosed, Quoted, Text, at, is_plain, is_sheet_byte, reads}
 use Rattle.ahci_draw.specs.Picture.{picture_of, picture_with}
 use Rattle.ahci_draw.specs.Row.{row_at, row_of, row_text, row_top, rows_in, rows_text}
@@ -279,7 +279,5 @@ split_plain [] h = refl
 split_plain (x ∷ sheet) h =
     split_case (x == 10) x (slice_split (λ b. b == 10) sheet) (either_plain (is_plain x) (x == 10) (and_parts _ _ h).0) (split_plain sheet (and_parts _ _ h).1)
 
-pub plain_lines : (from to : ℕ) (sheet : List ℕ) → list_all is_sheet_byte sheet ≡ true → list_all (list_all is_plain) (within from to (lines_of sheet)) ≡ true
-plain_lines from to sheet h =
-    all_drop (list_all is_plain) from (take (to + 1) (lines_of sheet))
-    (all_take (list_all is_plain) (to + 1) (lines_of sheet) (all_filter (list_all is_plain) (λ line. nat_lt 0 (length line)) (slice_split (λ b. b == 10) sheet) (split_plain sheet h)))
+pub plain_lines : (from to : ℕ) (sheet : List ℕ) → list_all is_sheet_byte sheet ≡ true → list_all (list_all is_plain) (lines_from from to sheet) ≡ true
+plain_lines from to sheet h = all_filter (list_all is_plain) (is_asked from to) (slice_split (λ b. b == 10) sheet) (split_plain sheet h)

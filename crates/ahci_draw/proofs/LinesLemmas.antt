@@ -5,7 +5,7 @@ use Rattle.std.specs.Borrow.{Bor}
 use Rattle.std.proofs.lemmas.Bool.{cases_lt}
 use Rattle.std.proofs.lemmas.List.{drop-map, drop-take, get_or-map, length-map, take-map, take_all, take_rest}
 use Rattle.std.proofs.Math.ListN.{drop_of_length-le}
-use Rattle.ahci_draw.specs.Lines.{texts, within}
+use Rattle.ahci_draw.specs.Lines.{texts}
 use Rattle.ahci_draw.specs.Row.{row_of}
 
 abbrev Line : Type 0
@@ -31,28 +31,6 @@ row_short lines row short =
 
 pub row_whole : (lines : List Line) (row : ℕ) → texts (take 100 (take (length lines - 100 * row) (drop (100 * row) lines))) ≡ row_of (texts lines) row
 row_whole lines row = ap (λ l. texts (take 100 l)) (take_rest lines (100 * row)) ∙ texts_to 100 (drop (100 * row) lines) ∙ ap (take 100) (texts_from (100 * row) lines)
-
--- the lines from one to another, where the other is among them, and where it isn't
-pub within_some : (lines : List Line) (from to first : ℕ) → first ≡ from → from ≤ to → texts (take (to + 1 - first) (drop first lines)) ≡ within from to (texts lines)
-within_some lines from to first same low =
-    ap (λ k. texts (take (to + 1 - k) (drop k lines))) same ∙ texts_to (to + 1 - from) (drop from lines) ∙ ap (take (to + 1 - from)) (texts_from from lines)
-    ∙ sym (drop-take from (to + 1 - from) (texts lines)) ∙ ap (λ k. drop from (take k (texts lines))) (sym split)
-  where
-    split : to + 1 ≡ from + (to + 1 - from)
-    split = omega (arith, low)
-
-pub within_rest : (lines : List Line) (from to first : ℕ) → first ≡ min from (length lines) → length lines ≤ to
-    → texts (take (length lines - first) (drop first lines)) ≡ within from to (texts lines)
-within_rest lines from to first is high =
-    ap texts (take_rest lines first) ∙ texts_from first lines ∙ rest (cases_lt from (length lines))
-    ∙ ap (drop from) (sym (take_all (to + 1) (texts lines) (omega (arith, high, texts_count lines))))
-  where
-    rest : (from < length lines) ⊎ (length lines ≤ from) → drop first (texts lines) ≡ drop from (texts lines)
-    rest (inl low) = let same : first ≡ from = omega (arith, is, low) in ap (λ k. drop k (texts lines)) same
-    rest (inr past) =
-        let here : length (texts lines) ≤ first = omega (arith, is, past, texts_count lines) in
-        let there : length (texts lines) ≤ from = omega (arith, past, texts_count lines) in
-        drop_of_length-le (texts lines) here ∙ sym (drop_of_length-le (texts lines) there)
 
 -- the text of the line at a place
 pub line_at : (lines : List Line) (place : ℕ) (other : Line) → place < length lines → slice_index_or (texts lines) place [] ≡ (get_or lines place other).now

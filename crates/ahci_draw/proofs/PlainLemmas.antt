@@ -21,7 +21,7 @@ use Rattle.ncq_journal.specs.declared.plain.Plain.TheVariants.{Identify, Flush, 
 use Rattle.ahci_draw.specs.Drawn.{IsSheet, IsSheetTo, picture_lines}
 use Rattle.ahci_draw.specs.Entries.{entries_text, line_of, moved_by}
 use Rattle.ahci_draw.specs.Line.{cell, cell_at, cells, entry_line, lane_of, sign_of}
-use Rattle.ahci_draw.specs.Lines.{lines_of, within}
+use Rattle.ahci_draw.specs.Lines.{lines_from}
 use Rattle.ahci_draw.specs.Markup.{IsClosed, is_plain, is_sheet_byte}
 use Rattle.ahci_draw.specs.Mark.{mark_of}
 use Rattle.ahci_draw.specs.Sheet.{added_between, sheet_text}
@@ -192,7 +192,7 @@ of_replayed_to r s fault.Write sheet h = absurd h
 of_replayed_to r s fault.OutOfMemory sheet h = absurd h
 
 closed_sheet : (from to : ℕ) (sheet : List ℕ) → OfSheet sheet → IsClosed (picture_lines from to sheet)
-closed_sheet from to sheet h = closed_picture (within from to (lines_of sheet)) (plain_lines from to sheet h)
+closed_sheet from to sheet h = closed_picture (lines_from from to sheet) (plain_lines from to sheet h)
 
 pub closed_whole : (from to : ℕ) (r s : Option (List ℕ)) (sheet : List ℕ) → IsSheet r s sheet → IsClosed (picture_lines from to sheet)
 closed_whole from to r s sheet h = closed_sheet from to sheet (of_replayed r s sheet h)

@@ -2,7 +2,7 @@
 use Rattle.std.specs.Prelude.{ℕ, List, ◌++◌, codes, length}
 use Rattle.ahci_draw.specs.Heading.{heading_text}
 use Rattle.ahci_draw.specs.Lanes.{tags_in}
-use Rattle.ahci_draw.specs.Lines.{lines_of, within}
+use Rattle.ahci_draw.specs.Lines.{lines_from}
 use Rattle.ahci_draw.specs.Row.{rows_text}
 
 -- the picture of these lines, each of which is an entry, with lanes for these tags
@@ -13,6 +13,6 @@ picture_with tags lines = heading_text (length lines) (length tags) ++ (rows_tex
 abbrev pub picture_of : List (List ℕ) → List ℕ
 picture_of lines = picture_with (tags_in lines) lines
 
--- the picture of a sheet's entries from one to another, without its last line feed
+-- the picture of a sheet's entries from one number to another, without its last line feed
 abbrev pub picture_text : (from to : ℕ) → List ℕ → List ℕ
-picture_text from to sheet = picture_of (within from to (lines_of sheet))
+picture_text from to sheet = picture_of (lines_from from to sheet)

@@ -5,7 +5,7 @@ ghost use Rattle.ahci_draw.specs.Lines.{texts};
 ghost use Rattle.ahci_draw.specs.Picture.{picture_of, picture_text, picture_with};
 
 use crate::lanes::tags_in;
-use crate::sheet::{lines_of, within};
+use crate::sheet::lines_from;
 use crate::text::Text;
 use std::alloc::{AllocError, Allocator};
 
@@ -33,7 +33,7 @@ fn picture_of<A: Allocator + Copy>(alloc: A, lines: &[&[u8]]) -> Result<Vec<u8, 
     picture_with(alloc, &tags, lines)
 }
 
-/// The picture of a sheet's entries from one to another, without its last line feed.
+/// The picture of a sheet's entries from one number to another, without its last line feed.
 pub(crate) fn picture_text<A: Allocator + Copy>(
     alloc: A,
     from: u64,
@@ -42,6 +42,5 @@ pub(crate) fn picture_text<A: Allocator + Copy>(
 ) -> Result<Vec<u8, A>, AllocError>
     ensures { IfOk result (λ text. text.items ≡ picture_text from to sheet.now) }
 {
-    let lines = lines_of(alloc, sheet)?;
-    picture_of(alloc, within(&lines, from, to))
+    picture_of(alloc, &lines_from(alloc, from, to, sheet)?)
 }

@@ -1,8 +1,9 @@
 //! The lines of a sheet, and what stands in a line.
 
-ghost use Rattle.std.specs.Prelude.{◌≡◌, ◌<◌, ◌==◌, IfOk, IfSome, length, nat_lt, position, slice_index};
-ghost use Rattle.ahci_draw.specs.Lines.{label_of, lines_of, texts, title_of, within};
+ghost use Rattle.std.specs.Prelude.{◌≡◌, ◌<◌, ◌==◌, IfOk, IfSome, length, position, slice_index};
+ghost use Rattle.ahci_draw.specs.Lines.{is_asked, label_of, lines_from, texts, title_of};
 
+use ahci_script::decimal;
 use std::alloc::{AllocError, Allocator};
 
 /// The places in a line after the letters of the 32 tags.
@@ -13,37 +14,6 @@ pub(crate) const SIGN: usize = 33;
 pub(crate) const LANE: usize = 34;
 
 const TITLE: usize = 35;
-
-/// A line that isn't empty is that of an entry.
-fn has_bytes(line: &[u8]) -> bool
-    ensures { result ≡ nat_lt 0 (length line.now) }
-{
-    !line.is_empty()
-}
-
-/// The lines of the entries that are told.
-pub(crate) fn lines_of<A: Allocator>(alloc: A, sheet: &[u8]) -> Result<Vec<&[u8], A>, AllocError>
-    ensures { IfOk result (λ lines. texts lines.items ≡ lines_of sheet.now) }
-{
-    sheet
-        .split(|byte| *byte == b'\n')
-        .filter(|line| has_bytes(line))
-        .collect(alloc)
-}
-
-/// The lines of the entries from one to another, by their numbers.
-pub(crate) fn within<'a, 'b>(lines: &'b [&'a [u8]], from: u64, to: u64) -> &'b [&'a [u8]]
-    ensures { texts result.now ≡ within from to (texts lines.now) }
-{
-    let first = (from as usize).min(lines.len());
-    if (to as usize) < first {
-        return &[];
-    }
-    if (to as usize) < lines.len() {
-        return &lines[first..to as usize + 1];
-    }
-    &lines[first..]
-}
 
 /// The byte at a place of a line; 0 after its end.
 pub(crate) fn byte_at(line: &[u8], place: usize) -> u8
@@ -81,4 +51,29 @@ pub(crate) fn label_of(title: &[u8]) -> &[u8]
         Some(end) => &title[..end],
         None => title,
     }
+}
+
+/// Whether a line is that of an entry whose number is one from `from` to `to`.
+fn is_asked(line: &[u8], from: u64, to: u64) -> bool
+    ensures { result ≡ is_asked from to line.now }
+{
+    match decimal(label_of(title_of(line))) {
+        Ok(number) => from <= number && number <= to,
+        Err(_) => false,
+    }
+}
+
+/// The lines of the entries from one number to another, both of them too.
+pub(crate) fn lines_from<A: Allocator>(
+    alloc: A,
+    from: u64,
+    to: u64,
+    sheet: &[u8],
+) -> Result<Vec<&[u8], A>, AllocError>
+    ensures { IfOk result (λ lines. texts lines.items ≡ lines_from from to sheet.now) }
+{
+    sheet
+        .split(|byte| *byte == b'\n')
+        .filter(|line| is_asked(line, from, to))
+        .collect(alloc)
 }

@@ -27,6 +27,7 @@ pub use grammar::read_line;
 pub use hex_bytes::HexBytes;
 pub use job::{Job, JobLine, read_job};
 pub use line::{Line, ScriptCommand};
+pub use number::decimal;
 pub use output::Output;
 pub use raw_window::RawWindow;
 pub use refusal::{Refusal, name};

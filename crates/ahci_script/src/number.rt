@@ -9,7 +9,10 @@ ghost use Rattle.ahci_script.specs.Number.{below, byte_of, decimal_of, decimal_v
 use crate::fault::Fault;
 
 /// A decimal number: 1 to 20 digits, whose value fits 64 bits.
-pub(crate) fn decimal(word: &[u8]) -> Result<u64, Fault>
+///
+/// # Errors
+/// `NotDecimal`, then `LongNumber`, then `WideNumber`: the first case that holds.
+pub fn decimal(word: &[u8]) -> Result<u64, Fault>
     ensures { result ≡ decimal_of word.now }
 {
     if word.is_empty() || !is_digits(word) {

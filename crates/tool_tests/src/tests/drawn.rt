@@ -1,4 +1,4 @@
-//! Pictures of more than one row, and of every lane.
+//! Pictures of more than one row, of every lane, and of entries by their numbers.
 use ahci_draw::draw;
 use std::alloc::Global;
 use std::test::Fail;
@@ -24,11 +24,11 @@ fn crowd(alloc: Global) -> Result<Vec<u8>, Fail> {
     Ok(script)
 }
 
-/// Whether a picture of a script has this text.
-fn has(alloc: Global, script: &[u8], text: &str) -> bool {
+/// Whether a picture of a script's entries from one number to another has this text.
+fn has(alloc: Global, script: &[u8], (from, to): (u64, u64), text: &str) -> bool {
     let mut reader = script;
     let mut written = Vec::new(alloc);
-    let ended = draw(alloc, 0, u64::MAX, &mut reader, &mut written);
+    let ended = draw(alloc, from, to, &mut reader, &mut written);
     let wanted = text.as_bytes();
     ended == Ok(())
         && written
@@ -39,7 +39,31 @@ fn has(alloc: Global, script: &[u8], text: &str) -> bool {
 #[test]
 fn a_picture_may_have_many_rows_and_every_lane(rt: HostRuntime) -> Result<(), Fail> {
     let alloc = rt.alloc();
-    assert!(rt; has(alloc, &rounds(alloc, 64)?, "entries: 256, tags: 1"));
-    assert!(rt; has(alloc, &crowd(alloc)?, "entries: 32, tags: 32"));
+    let all = (0, u64::MAX);
+    assert!(rt; has(alloc, &rounds(alloc, 64)?, all, "entries: 256, tags: 1"));
+    assert!(rt; has(alloc, &crowd(alloc)?, all, "entries: 32, tags: 32"));
+    Ok(())
+}
+
+/// A journal that begins with entry 100, and is trimmed after its second entry.
+static NUMBERED: &[u8] = b"disk 8 4 100\nflush\nflush\ntrim\nflush\n";
+
+/// The numbers of the first and of the last entry that are asked for, and how many are drawn.
+static ASKED: [((u64, u64), &str); 7] = [
+    ((0, u64::MAX), "entries: 3, tags: 0"),
+    ((0, 99), "entries: 0, tags: 0"),
+    ((0, 100), "entries: 1, tags: 0"),
+    ((101, 101), "entries: 1, tags: 0"),
+    ((101, 102), "entries: 2, tags: 0"),
+    ((102, 101), "entries: 0, tags: 0"),
+    ((103, u64::MAX), "entries: 0, tags: 0"),
+];
+
+#[test]
+fn entries_are_drawn_by_their_numbers(rt: HostRuntime) -> Result<(), Fail> {
+    let alloc = rt.alloc();
+    for (numbers, text) in ASKED {
+        assert!(rt; has(alloc, NUMBERED, numbers, text), "{numbers:?}");
+    }
     Ok(())
 }

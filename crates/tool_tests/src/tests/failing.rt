@@ -1,4 +1,4 @@
-//! A trace, as text and as JSON, a picture and a check of one script where memory, the input or the output fails.
+//! A trace, as text and as JSON, a picture, and checks of a script where memory, the input or the output fails.
 use ahci_check::{Form, check, check_jobs};
 use ahci_cli::CliFault;
 use ahci_draw::draw;
