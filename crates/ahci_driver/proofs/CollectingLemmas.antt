@@ -12,14 +12,14 @@ use Rattle.ahci_port.specs.Looking.{read_length}
 use Rattle.ahci_port.specs.PortView.{PortView, window_at}
 use Rattle.ahci_port.specs.Steps.{answer_to}
 use Rattle.ahci_port.proofs.TextLengthLemmas.{reads_text}
-use Rattle.ahci_driver.specs.Tickets.{has_length, suits}
+use Rattle.ahci_driver.specs.Tickets.{has_length, is_as_long}
 
--- the text of a finished read has the length of a buffer that suits it
+-- the text of a finished read has the length of a buffer as long as it
 pub text_length : (port : PortView) (tag number n : ℕ) (w : WindowState) (a : Answer) → Headline port → collect_refusal port tag number ≡ None
-    → answer_to port number ≡ Some a → window_at port tag ≡ Some w → suits (read_length port.past tag) n ≡ true → has_length a.outcome w n
+    → answer_to port number ≡ Some a → window_at port tag ≡ Some w → is_as_long (read_length port.past tag) n ≡ true → has_length a.outcome w n
 text_length port tag number n w a h none e here fits = by a.outcome refl
   where
     by : (o : Outcome) → a.outcome ≡ o → has_length o w n
-    by outcome.Read r = eqb-true (length (text w)) n (sym (ap (λ o. suits o n) (reads_text port tag number w a h none e here r)) ∙ fits)
+    by outcome.Read r = eqb-true (length (text w)) n (sym (ap (λ o. is_as_long o n) (reads_text port tag number w a h none e here r)) ∙ fits)
     by outcome.Wrote r = tt
     by (outcome.Failed error lba) r = tt

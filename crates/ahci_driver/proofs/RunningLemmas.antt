@@ -121,7 +121,7 @@ lost_below : {T : Type 0} (n : ℕ) (ends : List (Result T Stop)) → AreAmong n
 lost_below n [] h = All-nil (λ job. job < n)
 lost_below n (Ok t ∷ ends) h = lost_below n ends (All-tail (λ end. IfErr end (IsStopAmong n)) (Ok t) ends h)
 lost_below n (Err stop.OutOfMemory ∷ ends) h = lost_below n ends (All-tail (λ end. IfErr end (IsStopAmong n)) (Err stop.OutOfMemory) ends h)
-lost_below n (Err stop.Told ∷ ends) h = lost_below n ends (All-tail (λ end. IfErr end (IsStopAmong n)) (Err stop.Told) ends h)
+lost_below n (Err stop.FlagRaised ∷ ends) h = lost_below n ends (All-tail (λ end. IfErr end (IsStopAmong n)) (Err stop.FlagRaised) ends h)
 lost_below n (Err (stop.Lost job) ∷ ends) h =
     All-cons (λ j. j < n) job (filter_map lost_by ends) (All-head (λ end. IfErr end (IsStopAmong n)) (Err (stop.Lost job)) ends h)
     (lost_below n ends (All-tail (λ end. IfErr end (IsStopAmong n)) (Err (stop.Lost job)) ends h))

@@ -7,6 +7,8 @@ use Rattle.ahci_driver.specs.declared.fault.SubmitFault.{SubmitFault}
 use Rattle.ahci_driver.specs.declared.fault.SubmitFault.TheVariants as submit
 use Rattle.ahci_driver.specs.declared.worker.Stop.{Stop}
 use Rattle.ahci_driver.specs.declared.worker.Stop.TheVariants.{OutOfMemory, Lost}
+use Rattle.ahci_driver.specs.declared.unfinished.Unfinished.{Unfinished}
+use Rattle.ahci_driver.specs.declared.unfinished.Unfinished.TheVariants as unfinished
 
 -- why a worker stops at a job that was not submitted; none, where it is to be tried again
 abbrev pub stop_at : SubmitFault → ℕ → Option Stop
@@ -16,6 +18,12 @@ stop_at (submit.Issue issue.SlotOwned) job = None
 stop_at (submit.Issue issue.OutOfMemory) job = Some OutOfMemory
 stop_at (submit.Build build.OutOfMemory) job = Some OutOfMemory
 stop_at fault job = Some (Lost job)
+
+-- why a worker stops at a job that has no answer; none, where it is to wait for it
+abbrev pub stop_waiting : Unfinished → ℕ → Option Stop
+stop_waiting unfinished.OutOfMemory job = Some OutOfMemory
+stop_waiting unfinished.Stranger job = Some (Lost job)
+stop_waiting unfinished.NotYet job = None
 
 -- a worker that stops at a job loses no other one
 abbrev pub IsStopAt : ℕ → Stop → Type 0

@@ -17,9 +17,9 @@ pub record TicketView : Type 0 where
   pub buffer : List ℕ
 
 -- a read has the length of the buffer; where nothing is read, any buffer will do
-abbrev pub suits : Option ℕ → ℕ → Bool
-suits None n = true
-suits (Some len) n = nat_eq len n
+abbrev pub is_as_long : Option ℕ → ℕ → Bool
+is_as_long None n = true
+is_as_long (Some len) n = nat_eq len n
 
 -- where a read has finished, the text of its window has this length
 abbrev pub has_length : Outcome → WindowState → ℕ → Type 0
@@ -34,4 +34,4 @@ answer_length o n = 0
 -- why the request of a ticket is not collected: a read of another length is none of the ticket's
 abbrev pub ticket_refusal : PortView → TicketView → Option CollectFault
 ticket_refusal port t =
-    if suits (read_length port.past t.tag) (length t.buffer) then collect_refusal port t.tag t.number else Some Stranger
+    if is_as_long (read_length port.past t.tag) (length t.buffer) then collect_refusal port t.tag t.number else Some Stranger

@@ -1,7 +1,7 @@
 ghost use Rattle.std.specs.Prelude.{◌≡◌, ℕ, Some, IsOk, IfOk, IsErrAnd, OnOk, OnErr, MatchOption, length};
 ghost use Rattle.ahci_table.specs.Fit.{IsFit};
 ghost use Rattle.ahci_port.specs.{Slots.{bytes_in}, Steps.{IsCollected}};
-ghost use Rattle.ahci_driver.specs.{Settled.{answered_as}, Tickets.{answer_length, suits, has_length, ticket_refusal}};
+ghost use Rattle.ahci_driver.specs.{Settled.{answered_as}, Tickets.{answer_length, is_as_long, has_length, ticket_refusal}};
 
 use crate::ticket::Ticket;
 use ahci_port::{CollectFault, Outcome, Port, Reply};
@@ -9,8 +9,8 @@ use ahci_table::Window;
 use std::alloc::Allocator;
 
 /// Whether the buffer has the length of what is read; where nothing is read, any buffer will do.
-fn suits(read: Option<u64>, buffer: &[u8]) -> bool
-    ensures { result ≡ suits read (length buffer.now) }
+fn is_as_long(read: Option<u64>, buffer: &[u8]) -> bool
+    ensures { result ≡ is_as_long read (length buffer.now) }
 {
     match read {
         Some(len) => len == buffer.len() as u64,
@@ -19,7 +19,11 @@ fn suits(read: Option<u64>, buffer: &[u8]) -> bool
 }
 
 /// The bytes of a finished read, which are its window's text, in the buffer; no bytes otherwise.
-fn filled<A: Allocator>(outcome: Outcome, window: &Window<A>, mut buffer: Vec<u8, A>) -> Vec<u8, A>
+fn bytes_in<A: Allocator>(
+    outcome: Outcome,
+    window: &Window<A>,
+    mut buffer: Vec<u8, A>,
+) -> Vec<u8, A>
     requires fit { IsFit window.now }
     requires len { has_length outcome window.now (length buffer.items) }
     ensures text { result.items ≡ bytes_in outcome window.now }
@@ -54,7 +58,7 @@ impl<A: Allocator> Answered<A> {
             window,
             buffer,
         } = self;
-        (reply, filled(reply.outcome, &window, buffer))
+        (reply, bytes_in(reply.outcome, &window, buffer))
     }
 }
 
@@ -77,7 +81,7 @@ pub(crate) fn take_locked<A: Allocator>(
 {
     port.journal();
     let read = port.read_length(ticket.tag);
-    if !suits(read, &ticket.buffer) {
+    if !is_as_long(read, &ticket.buffer) {
         return Err((ticket, CollectFault::Stranger));
     }
     let (reply, window) = match port.collect(ticket.tag, ticket.number) {

@@ -3,7 +3,7 @@ mod working;
 ghost use Rattle.std.specs.Prelude.{◌≡◌, true, IfOk, IfErr, OnOk, OnErr, length};
 ghost use Rattle.ncq_journal.specs.{Laws.{AllFree}, Work.{work_of}};
 ghost use Rattle.word_bits.specs.Places.{has_place};
-ghost use Rattle.ahci_port.specs.Headline.{Headline};
+ghost use Rattle.ahci_port.specs.{Faults.{Answers, trim_refusal}, Headline.{Headline}, PortView.{journal_in}, Steps.{trimmed}};
 ghost use Rattle.ahci_driver.specs.{Pumping.{HasPumped}, Tickets.{answer_length}, Trimming.{IsKept}, Submitting.{HasNotSubmitted, HasReturned, HasSubmitted}};
 
 use crate::chooser::Chooser;
@@ -107,6 +107,10 @@ impl<A: Allocator> Driver<A> {
 
 /// What `trim` does once it has the lock.
 fn trim_locked<A: Allocator + Copy>(port: &mut Port<A>) -> Result<Journal<A>, TrimFault>
+    ensures journal { IfOk result (λ journal. journal ≡ journal_in port.old) }
+    ensures trimmed { OnOk result (port.new ≡ trimmed port.old) }
+    ensures fault { Answers result (trim_refusal port.old) }
+    ensures err { OnErr result (port.new ≡ port.old) }
     ensures free { IfOk result (λ journal. AllFree journal.past) }
     ensures lawful { IfOk result (λ journal. IsKept journal.past) }
 {

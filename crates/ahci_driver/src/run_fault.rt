@@ -1,7 +1,8 @@
 use crate::fault::SettleFault;
 
-/// Why a run gave up its port. `NotFresh` and `BadJob` are found before a thread starts, in this order; the others
-/// after all workers have ended, in this order.
+/// Why a run gave up its port. `NotFresh` and `BadJob` are found first, in this order, before a thread starts; `Lost`, `Foreign`
+/// and `Unsettled` after all workers have ended, in this order. `OutOfMemory` is found wherever a growth was refused, and before
+/// `Lost` where it stopped a worker.
 #[derive(Clone, Copy, Debug, PartialEq, Eq)]
 pub enum RunFault {
     /// The port's journal isn't empty.

@@ -1,5 +1,6 @@
-//! Whether a run is settled: one pass over the receipts, which notes what each claims to have been answered, and one over the
-//! journal, which holds each answer against the claim where it is given.
+//! Whether a run is settled: one pass over the receipts, which notes what each claims to have been answered, one over the journal,
+//! which holds each answer against the claim where it is given, and one over each again, for a claim that failed and for a command
+//! without a receipt.
 
 ghost use Rattle.std.specs.Prelude.{◌≡◌, ◌↔◌, ◌<◌, ◌≤◌, ◌-◌, map, length, false, Some, None, is_some, IsTrue, IfErr, IfOk, OnOk, replicate, slice_index_or, slice_set};
 ghost use Rattle.ncq_journal.specs.{Claims.{AreJudged}, Work.{work_of}};
@@ -250,7 +251,7 @@ fn unclaimed<A: Allocator, B: Allocator>(
 
 /// Whether the run with these jobs and receipts, by so many workers, is settled against the port's journal: each job
 /// was issued once, its receipt is the journal's answer, and it was answered before its worker's next job was issued;
-/// and nothing else was issued. It goes once over the journal and twice over the receipts, and copies no byte of them.
+/// and nothing else was issued. It goes twice over the journal and twice over the receipts, and copies no byte of them.
 ///
 /// # Errors
 /// The first case of `SettleFault` that holds.

@@ -1,6 +1,6 @@
 ghost use Rattle.std.specs.Prelude.{◌≡◌, ◌≤◌, length, true, IfErr, IfOk};
 ghost use Rattle.word_bits.specs.Places.{has_place};
-ghost use Rattle.ahci_driver.specs.Stopping.{IsStopAmong, IsStopAt, stop_at};
+ghost use Rattle.ahci_driver.specs.Stopping.{IsStopAmong, IsStopAt, stop_at, stop_waiting};
 
 use crate::chooser::Chooser;
 use crate::driver::Driver;
@@ -28,7 +28,7 @@ pub(crate) enum Stop {
     /// The port refused this job in a way that the driver's own protocol excludes.
     Lost(usize),
     /// Another worker has raised the flag.
-    Told,
+    FlagRaised,
 }
 
 /// One worker of a run: job i is that of worker i mod `workers`.
@@ -58,6 +58,17 @@ fn stop_at(fault: SubmitFault, job: usize) -> Option<Stop>
         SubmitFault::Build(BuildFault::OutOfMemory) | SubmitFault::Issue(IssueFault::OutOfMemory) =>
             Some(Stop::OutOfMemory),
         SubmitFault::Build(_) | SubmitFault::Issue(_) => Some(Stop::Lost(job)),
+    }
+}
+
+/// Why a worker stops at a job that has no answer; none, where it is to wait for it.
+fn stop_waiting(unfinished: Unfinished, job: usize) -> Option<Stop>
+    ensures { result ≡ stop_waiting unfinished job }
+{
+    match unfinished {
+        Unfinished::OutOfMemory => Some(Stop::OutOfMemory),
+        Unfinished::Stranger => Some(Stop::Lost(job)),
+        Unfinished::NotYet => None,
     }
 }
 
@@ -116,7 +127,7 @@ impl<'a, A: Allocator + Clone, C: Chooser, G: Gate> Worker<'a, A, C, G> {
     {
         for _ in rt.forever() {
             if self.flag.load(SeqCst) {
-                return Err(Stop::Told);
+                return Err(Stop::FlagRaised);
             }
             let Ok(alloc) = self.alloc.clone() else {
                 return Err(Stop::OutOfMemory);
@@ -146,16 +157,19 @@ impl<'a, A: Allocator + Clone, C: Chooser, G: Gate> Worker<'a, A, C, G> {
     {
         for _ in rt.forever() {
             if self.flag.load(SeqCst) {
-                return Err(Stop::Told);
+                return Err(Stop::FlagRaised);
             }
             match self
                 .driver
                 .finish(rt, &mut self.seat, &mut self.chooser, ticket)
             {
                 Ok(finished) => return Ok(finished),
-                Err((_, Unfinished::Stranger)) => return Err(Stop::Lost(job)),
-                Err((_, Unfinished::OutOfMemory)) => return Err(Stop::OutOfMemory),
-                Err((waiting, Unfinished::NotYet)) => ticket = waiting,
+                Err((waiting, unfinished)) => {
+                    if let Some(stop) = stop_waiting(unfinished, job) {
+                        return Err(stop);
+                    }
+                    ticket = waiting;
+                }
             }
         }
         unreachable!()

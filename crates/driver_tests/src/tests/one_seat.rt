@@ -1,14 +1,13 @@
-//! One thread with one seat: the worked story of a write and a read, two commands that are completed together, and one that is
-//! submitted while the port is halted.
+//! One thread with one seat, as tables of calls: stories of commands that are done, that fail or are issued again, and each refusal.
 ghost use Rattle.std.specs.Prelude.{◌≡◌};
 
 use crate::tests::common::{Way, is_filled};
-use Call::{Collect, FreeNow, Pump, PumpAll, Stubborn, Submit};
+use Call::{Claim, Collect, FreeNow, Pump, PumpAll, Stubborn, Submit, Trim};
 use Pumped::Stepped;
-use Said::{Collected, Did, Free, Refused, Waits};
+use Said::{Claimed, Collected, Did, Free, Refused, Trimmed, Waits};
 use ahci_driver::{Driver, Pumped, SubmitFault, TagBoard, TagSeat, Ticket};
 use ahci_port::Stepped::{Accepted, Completed, Failed};
-use ahci_port::{CollectFault, IssueFault, Outcome, Port};
+use ahci_port::{CollectFault, IssueFault, Outcome, Port, TrimFault};
 use std::alloc::{AllocError, Global};
 use std::process::Abort;
 use std::sync::Wait;
@@ -32,6 +31,9 @@ enum Call {
     /// With a chooser that always fails tag 0 at sector 1.
     Fail,
     Collect,
+    /// Of a tag alone, as `submit` does before all else.
+    Claim,
+    Trim,
     FreeNow,
 }
 
@@ -45,6 +47,9 @@ enum Said {
     /// The reply's number, entry and outcome, how many bytes came, and the first of them.
     Collected(u64, u64, Outcome, usize, Option<u8>),
     Waits(CollectFault),
+    Claimed(Option<u8>),
+    /// How many entries were handed out.
+    Trimmed(Result<u64, TrimFault>),
     Free(u32),
     Nothing,
 }
@@ -77,6 +82,8 @@ impl Story {
             Call::PumpAll => self.pumps(rt, Way::All),
             Call::Fail => self.pumps(rt, Way::Always(FAILED)),
             Call::Collect => self.collects(rt),
+            Call::Claim => Said::Claimed(self.driver.board().claim(&mut self.seat).ok()),
+            Call::Trim => Said::Trimmed(self.driver.trim(rt).map(|journal| journal.len())),
             Call::FreeNow => Said::Free(self.driver.board().free_now(&mut self.seat)),
         })
     }
@@ -109,6 +116,11 @@ impl Story {
     }
 }
 
+/// PxIS, of which no call of the driver clears a bit, and its bit of a Set Device Bits FIS.
+const PXIS: u32 = 0x110;
+
+const SDBS: u32 = 0x8;
+
 static STORY: [(Call, Said); 13] = [
     (Submit(Job::Write(1, 0x77)), Said::Ticket(0, 0)),
     (Collect, Waits(CollectFault::NotYet)),
@@ -132,10 +144,16 @@ fn equal(rt: &impl Abort, call: Call, found: Said, wanted: Said) {
     );
 }
 
-fn one_driver(alloc: Global) -> Result<Story, Fail> {
+/// A port with two slots, whose journal's first entry has this number.
+fn one_port(alloc: Global, first: u64) -> Result<Port, Fail> {
     let image = vec![in alloc; 0x5a; 4096]?;
-    let port = Port::new(alloc, image, 2)?;
-    let (board, seat) = TagBoard::new(alloc, 2)?;
+    Ok(Port::resume(alloc, image, 2, first)?)
+}
+
+/// A driver of a port, all of whose tags are free.
+fn over(alloc: Global, port: Port) -> Result<Story, Fail> {
+    port.shape();
+    let (board, seat) = TagBoard::new(alloc, port.depth())?;
     Ok(Story {
         driver: Driver::new(port, board),
         seat,
@@ -144,12 +162,21 @@ fn one_driver(alloc: Global) -> Result<Story, Fail> {
 }
 
 /// Makes these calls, in this order.
-fn plays<R: Wait + Abort>(rt: &R, alloc: Global, calls: &[(Call, Said)]) -> Result<Story, Fail> {
-    let mut story = one_driver(alloc)?;
+fn goes_on<R: Wait + Abort>(
+    rt: &R,
+    alloc: Global,
+    mut story: Story,
+    calls: &[(Call, Said)],
+) -> Result<Story, Fail> {
     for (call, wanted) in calls {
         equal(rt, *call, story.goes(rt, alloc, *call)?, *wanted);
     }
     Ok(story)
+}
+
+/// Makes these calls on a driver of a new port.
+fn plays<R: Wait + Abort>(rt: &R, alloc: Global, calls: &[(Call, Said)]) -> Result<Story, Fail> {
+    goes_on(rt, alloc, over(alloc, one_port(alloc, 0)?)?, calls)
 }
 
 #[test]
@@ -162,6 +189,7 @@ fn a_write_is_read_back_by_one_seat(rt: HostRuntime) -> Result<(), Fail> {
     let (port, board) = driver.into_parts();
     assert!(rt; board.close(seat) == 3);
     assert!(rt; port.journal().len() == 8);
+    assert!(rt; port.register(PXIS) == Ok(SDBS));
     let mut sector = [0; 512];
     assert!(rt; port.sectors() == 8);
     port.starting(1, &mut sector);
@@ -217,5 +245,101 @@ static HALTED: [(Call, Said); 8] = [
 #[test]
 fn a_halted_port_takes_no_command(rt: HostRuntime) -> Result<(), Fail> {
     let _story = plays(&rt, rt.alloc(), HALTED.as_slice())?;
+    Ok(())
+}
+
+static ISSUED_AGAIN: [(Call, Said); 10] = [
+    (Submit(Job::Write(1, 0x77)), Said::Ticket(0, 0)),
+    (Submit(Job::Read(1)), Said::Ticket(1, 1)),
+    (Pump, Did(Stepped(Accepted(2)))),
+    (Call::Fail, Did(Stepped(Failed(3)))),
+    (Pump, Did(Pumped::Recovered(0))),
+    (Pump, Did(Pumped::Reissued(1))),
+    (Pump, Did(Stepped(Accepted(6)))),
+    (Pump, Did(Stepped(Completed { first: 7, count: 1 }))),
+    (Pump, Did(Pumped::Idle)),
+    (Collect, Collected(1, 7, Outcome::Read, 512, Some(0x5a))),
+];
+
+#[test]
+fn a_held_command_is_issued_again_by_a_pump_of_its_own(rt: HostRuntime) -> Result<(), Fail> {
+    let _story = plays(&rt, rt.alloc(), ISSUED_AGAIN.as_slice())?;
+    Ok(())
+}
+
+/// The last number that a journal may begin with.
+const LAST: u64 = 1 << 63;
+
+static SPENT: [(Call, Said); 7] = [
+    (Trim, Trimmed(Ok(0))),
+    (Submit(Job::Write(1, 0x77)), Said::Ticket(0, LAST)),
+    (Trim, Trimmed(Err(TrimFault::Busy))),
+    (Pump, Did(Stepped(Accepted(LAST + 1)))),
+    (
+        Pump,
+        Did(Stepped(Completed {
+            first: LAST + 2,
+            count: 1,
+        })),
+    ),
+    (Collect, Collected(LAST, LAST + 2, Outcome::Wrote, 0, None)),
+    (Trim, Trimmed(Err(TrimFault::Spent))),
+];
+
+#[test]
+fn a_busy_port_and_a_spent_one_are_not_trimmed(rt: HostRuntime) -> Result<(), Fail> {
+    let alloc = rt.alloc();
+    let story = over(alloc, one_port(alloc, LAST)?)?;
+    let _story = goes_on(&rt, alloc, story, SPENT.as_slice())?;
+    Ok(())
+}
+
+static TAKEN: [(Call, Said); 2] = [
+    (
+        Submit(Job::Read(1)),
+        Refused(SubmitFault::Issue(IssueFault::SlotOwned)),
+    ),
+    (FreeNow, Free(3)),
+];
+
+#[test]
+fn a_slot_that_was_owned_before_takes_no_command(rt: HostRuntime) -> Result<(), Fail> {
+    let alloc = rt.alloc();
+    let submitted = [(Submit(Job::Write(1, 0x77)), Said::Ticket(0, 0))];
+    let Story {
+        driver,
+        seat: _,
+        ticket: _,
+    } = plays(&rt, alloc, submitted.as_slice())?;
+    let (port, _board) = driver.into_parts();
+    let _story = goes_on(&rt, alloc, over(alloc, port)?, TAKEN.as_slice())?;
+    Ok(())
+}
+
+/// Stories of a driver, whose slot 0 has no request, and a read that is done.
+static ANOTHERS: [&[(Call, Said)]; 2] = [
+    &[(Claim, Claimed(Some(0)))],
+    &[
+        (Submit(Job::Read(1)), Said::Ticket(0, 0)),
+        (Pump, Did(Stepped(Accepted(1)))),
+        (Pump, Did(Stepped(Completed { first: 2, count: 1 }))),
+    ],
+];
+
+#[test]
+fn a_ticket_of_another_driver_is_a_stranger(rt: HostRuntime) -> Result<(), Fail> {
+    let alloc = rt.alloc();
+    let submitted = [(Submit(Job::Write(1, 0x77)), Said::Ticket(0, 0))];
+    for calls in ANOTHERS {
+        let Story {
+            driver: _,
+            seat: _,
+            ticket,
+        } = plays(&rt, alloc, submitted.as_slice())?;
+        let mut story = plays(&rt, alloc, calls)?;
+        story.ticket = ticket;
+        let said = story.goes(&rt, alloc, Collect)?;
+        equal(&rt, Collect, said, Waits(CollectFault::Stranger));
+    }
     Ok(())
 }

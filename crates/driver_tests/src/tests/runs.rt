@@ -58,6 +58,8 @@ enum Look {
     /// The byte that a receipt's one sector is filled with.
     Byte(usize),
     Entries,
+    /// PxIS.
+    Interrupts,
     /// One byte of a receipt's bytes becomes another.
     Change(usize),
     Swap(usize, usize),
@@ -74,6 +76,7 @@ enum Said {
     Reply(Option<Reply>),
     Byte(Option<u8>),
     Entries(u64),
+    Interrupts(Option<u32>),
     Done,
 }
 
@@ -86,6 +89,7 @@ impl Ran {
             Look::Reply(index) => Said::Reply(self.end.replies.get(index).map(|it| it.reply)),
             Look::Byte(index) => Said::Byte(self.end.replies.get(index).and_then(byte_of)),
             Look::Entries => Said::Entries(self.end.port.journal().len()),
+            Look::Interrupts => Said::Interrupts(self.end.port.register(0x110).ok()),
             _ => self.edit(alloc, look)?,
         })
     }
@@ -197,7 +201,11 @@ fn on_zeros(workers: u32, depth: u32, sectors: usize, jobs: Jobs, way: Way) -> S
 
 static IS_SETTLED: [(Look, Said); 1] = [(Look::Settle, Said::Settled)];
 
-static CHANGED: [(Look, Said); 8] = [
+/// PxIS's bit of a Set Device Bits FIS, by which each command was completed.
+const SDBS: u32 = 0x8;
+
+static CHANGED: [(Look, Said); 9] = [
+    (Look::Interrupts, Said::Interrupts(Some(SDBS))),
     (Look::Byte(5), Said::Byte(Some(0x5a))),
     (Look::Byte(11), Said::Byte(Some(0x5a))),
     (Look::Settle, Said::Settled),

@@ -41,6 +41,7 @@ fn a_run_goes_on_where_a_trimmed_one_has_ended(rt: HostRuntime) -> Result<(), Fa
     let entries = port.journal().len();
     let (port, journal) = trimmed(&rt, alloc, port)?;
     assert!(rt; entries > 0 && journal.len() == entries && port.journal().is_empty());
+    assert!(rt; port.register(0x110) == Ok(0x8), "PxIS has no longer SDBS");
     let end = goes(&rt, alloc, port)?;
     for receipt in &end.replies {
         assert!(rt;
