@@ -8,7 +8,7 @@ use Rattle.ahci_driver.specs.declared.run_fault.RunFault.TheVariants as of_run
 use Rattle.ahci_port.specs.PortView.{PortView}
 use Rattle.ahci_script.specs.Jobs.{job_line_of}
 use Rattle.ahci_jobs.specs.declared.jobs_fault.JobsFault.{JobsFault}
-use Rattle.ahci_jobs.specs.declared.jobs_fault.JobsFault.TheVariants.{Line, Job, Read, Write, Unsettled, Lost, OutOfMemory}
+use Rattle.ahci_jobs.specs.declared.jobs_fault.JobsFault.TheVariants.{Write, Unsettled, Lost, OutOfMemory}
 use Rattle.ahci_script.specs.declared.job.JobLine.{JobLine}
 use Rattle.ahci_script.specs.declared.job.JobLine.TheVariants.{Skip, Do}
 use Rattle.ncq_journal.specs.Lawful.{IsProper}

@@ -8,11 +8,9 @@ ghost use Rattle.ahci_jobs.specs.JobList.{IsGood, IsLineFault, command_for, comm
 
 use crate::jobs_fault::JobsFault;
 use ahci_script::{Job, JobLine, read_job};
+use ncq_core::SECTOR;
 use ncq_journal::{Bytes, LBA_LIMIT, MAX_COUNT, Op};
 use std::alloc::{AllocError, Allocator};
-
-/// How many bytes a sector has.
-pub(crate) const SECTOR: usize = 512;
 
 /// Whether a job's command can be issued.
 fn is_good(job: Job) -> bool

@@ -9,11 +9,11 @@ ghost use Rattle.ahci_jobs.specs.RunJobs.{EndsRun, RunsJobs, blank_port, fault_o
 use crate::form::Form;
 use crate::job_list::listed;
 use crate::jobs_fault::JobsFault;
-use crate::making::SECTOR;
 use crate::run_size::RunSize;
 use crate::telling::text_of;
 use ahci_driver::{Chooser, Open, RunEnd, RunFault, run};
 use ahci_port::Port;
+use ncq_core::SECTOR;
 use ncq_journal::Op;
 use std::alloc::{AllocError, Allocator};
 use std::io::{Read, Write};

@@ -10,13 +10,13 @@ ghost use Rattle.ahci_jobs.specs.Forms.{job_in, jobs_in, parts_of, pieces_of, se
 ghost use Rattle.ahci_jobs.specs.Results.{fed, is_blank, line_for};
 
 use crate::form::Form;
-use crate::making::SECTOR;
 use crate::objects::{push_object, push_sector_object};
 use crate::script::script;
 use ahci_driver::{Receipt, RunEnd};
 use ahci_port::{Outcome, Port};
 use ahci_script::ResultLine;
 use ahci_script::growing::{push, push_result};
+use ncq_core::SECTOR;
 use std::alloc::{AllocError, Allocator};
 
 /// The line of a job's receipt.

@@ -18,15 +18,12 @@ use ahci_port::{IssueFault, Port};
 use ahci_script::{RawWindow, Refusal, ScriptAnswer, ScriptCommand};
 use ahci_table::{BuildFault, Piece, Window, default_pieces};
 use arrayvec::ArrayVec;
-use ncq_core::MAX_SECTORS;
+use ncq_core::{MAX_SECTORS, SECTOR};
 use ncq_journal::{Bytes, LBA_LIMIT, MAX_COUNT, Op, Phase};
 use std::alloc::{AllocError, Allocator};
 
-/// How many bytes a sector has.
-const SECTOR: usize = 512;
-
 /// Sectors that are filled with one byte.
-pub(crate) fn filled<A: Allocator>(
+pub(crate) fn uniform_sectors<A: Allocator>(
     alloc: A,
     sectors: u32,
     fill: u8,
@@ -74,7 +71,7 @@ pub(crate) fn write<A: Allocator + Copy>(
     if let Some(refusal) = against(port, tag, lba, sectors) {
         return Ok(ScriptAnswer::Refused(refusal));
     }
-    let bytes = Bytes::from_vec(filled(alloc.clone()?, sectors, fill)?);
+    let bytes = Bytes::from_vec(uniform_sectors(alloc.clone()?, sectors, fill)?);
     issue(port, alloc, tag, Op::Write { lba, bytes })
 }
 

@@ -17,7 +17,7 @@ pub(crate) struct Script<'t, T, A: Allocator> {
 }
 
 impl<'t, T: Teller<A>, A: Allocator + Copy> Script<'t, T, A> {
-    ghost use Rattle.std.specs.Prelude.{◌≡◌, [], IfErr, None, OnOk};
+    ghost use Rattle.std.specs.Prelude.{◌≡◌, ◌<◌, [], IfErr, None, OnOk, length};
     ghost use Rattle.ahci_replay.specs.Place.{place};
     ghost use Rattle.ahci_replay.specs.Transcript.{Answers, RefusesLine};
 
@@ -42,6 +42,7 @@ impl<'t, T: Teller<A>, A: Allocator + Copy> Script<'t, T, A> {
     ) -> Result<(), ScriptFault>
         ensures ok { OnOk result (Answers T.telling number (place (W.contents writer.old) self.old.output self.old.session self.old.writes.failed) line.now
             (place (W.contents writer.new) self.new.output self.new.session self.new.writes.failed)) }
+        ensures bounded { OnOk result (length self.new.output < 16384) }
         ensures err { IfErr result (RefusesLine T.telling (place (W.contents writer.old) self.old.output self.old.session self.old.writes.failed) number line.now
             (place (W.contents writer.new) self.new.output self.new.session self.new.writes.failed)) }
     {

@@ -7,7 +7,7 @@ ghost use Rattle.ahci_script.specs.Said.{said};
 ghost use Rattle.ahci_replay.specs.Commands.{MakesDisk, MayLack, MayRun, Runs, is_in_place};
 ghost use Rattle.ahci_replay.specs.Refusals.{disk_refusal};
 
-use crate::issuing::filled;
+use crate::issuing::uniform_sectors;
 use crate::running::run_on;
 use crate::unanswered::Unanswered;
 use ahci_port::{MOST_FIRST, Port, ResumeFault};
@@ -100,7 +100,7 @@ impl<A: Allocator + Copy> Session<A> {
         if number > MOST_FIRST {
             return Ok(ScriptAnswer::Refused(Refusal::BadFirst));
         }
-        let image = filled(self.alloc.clone()?, sectors as u32, 0)?;
+        let image = uniform_sectors(self.alloc.clone()?, sectors as u32, 0)?;
         match Port::resume(self.alloc.clone()?, image, depth as u32, number) {
             Ok(port) => {
                 self.port = Some(port);

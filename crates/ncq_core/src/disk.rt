@@ -25,7 +25,10 @@ use std::alloc::{Allocator, Global};
 use std::marker::Model;
 use word_bits::with_bit;
 
-/// How many sectors of 512 bytes a disk has at most.
+/// How many bytes a sector has (ACS-3, "Logical sector").
+pub const SECTOR: usize = 512;
+
+/// How many sectors a disk has at most.
 pub const MAX_SECTORS: u32 = 131_072;
 
 /// How many slots a disk has at most.
@@ -68,7 +71,7 @@ impl<A: Allocator> Disk<A> {
         ensures err { IfErr result (λ e. new_fault image.items depth ≡ Some e) }
     {
         let len = image.len();
-        if len == 0 || len % 512 != 0 || len / 512 > MAX_SECTORS as usize {
+        if len == 0 || len % SECTOR != 0 || len / SECTOR > MAX_SECTORS as usize {
             return Err(DiskFault::BadSize);
         }
         if depth == 0 || depth > MAX_DEPTH {
@@ -96,7 +99,7 @@ impl<A: Allocator> Disk<A> {
         ensures sectors { result ≡ disk_sectors self.now }
         ensures disk { IsDisk self.now }
     {
-        (self.image.len() / 512) as u32
+        (self.image.len() / SECTOR) as u32
     }
 
     /// How many tags there are.
@@ -193,7 +196,7 @@ fn page_over(len: usize, depth: u32) -> [u8; 512]
     requires shallow { depth ≤ most_depth }
     ensures { result ≡ identify_page (len / 512) depth }
 {
-    identify_page((len / 512) as u32, depth)
+    identify_page((len / SECTOR) as u32, depth)
 }
 
 /// No command at any of the 32 tags.
