@@ -1,6 +1,7 @@
 -- How a trace as JSON ends at a fault: after the objects of the lines before it stands an object that tells the fault.
 use Rattle.std.specs.Prelude.{◌≡◌, ℕ, List, [], ◌∷◌, ◌++◌, codes, Option, ⊤}
 use Rattle.std.specs.Io.KnownBytes.{Appends}
+use Rattle.streams.specs.Ends.{WrittenSoFar, with_failed_write, with_flush}
 use Rattle.ahci_replay.specs.Transcript.{ReplayedTo, WritesPart}
 use Rattle.ahci_replay.specs.declared.script_fault.ScriptFault.{ScriptFault}
 use Rattle.ahci_replay.specs.declared.script_fault.ScriptFault.TheVariants as fault
@@ -39,6 +40,12 @@ abbrev pub TellsFault : ScriptFault → Option (List ℕ) → Option (List ℕ) 
 TellsFault f before after fault.OutOfMemory = after ≡ before
 TellsFault f before after fault.Write = WritesPart before after (fault_line f)
 TellsFault f before after g = (g ≡ f) × Appends before after (fault_line f)
+
+-- how its writes went: it was flushed; or a write or a flush failed, and that is the fault; or none was tried, for want of memory
+abbrev pub TellWrites : WrittenSoFar → WrittenSoFar → ScriptFault → Type 0
+TellWrites old new fault.OutOfMemory = new ≡ old
+TellWrites old new fault.Write = new ≡ with_failed_write old
+TellWrites old new g = new ≡ with_flush old
 
 -- the end after a fault, and how the trace ends then: where output or memory is wanting, nothing more is told
 abbrev pub Closes : ScriptFault → Option (List ℕ) → Option (List ℕ) → ScriptFault → Type 0

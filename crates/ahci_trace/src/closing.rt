@@ -1,7 +1,7 @@
 //! The end of a trace as JSON at a fault.
 
 ghost use Rattle.std.specs.Prelude.{◌≡◌, ◌++◌, IfOk, OnOk};
-ghost use Rattle.ahci_trace.specs.Closing.{Closes, IsTold, TellsFault, fault_line, fault_object, fault_word};
+ghost use Rattle.ahci_trace.specs.Closing.{Closes, IsTold, TellWrites, TellsFault, fault_line, fault_object, fault_word};
 
 use crate::as_json::member::Member;
 use crate::as_json::tokens::Tokens;
@@ -55,14 +55,16 @@ fn tell_fault<W: Write, A: Allocator + Copy>(
     alloc: A,
     fault: ScriptFault,
     writer: &mut W,
+    writes: &mut Writes,
 ) -> ScriptFault
     requires { IsTold fault }
-    ensures { TellsFault fault (W.contents writer.old) (W.contents writer.new) result }
+    ensures told { TellsFault fault (W.contents writer.old) (W.contents writer.new) result }
+    ensures writes { TellWrites writes.old writes.new result }
 {
     let Ok(text) = fault_line(alloc, fault) else {
         return ScriptFault::OutOfMemory;
     };
-    match Writes::new().write_whole(writer, &text) {
+    match writes.write_whole(writer, &text) {
         Ok(()) => fault,
         Err(_) => ScriptFault::Write,
     }
@@ -78,7 +80,9 @@ pub(crate) fn close<W: Write, A: Allocator + Copy>(
     ensures { Closes fault (W.contents writer.old) (W.contents writer.new) result }
 {
     match fault {
-        ScriptFault::Line(_) | ScriptFault::Read => tell_fault(alloc, fault, writer),
+        ScriptFault::Line(_) | ScriptFault::Read => {
+            tell_fault(alloc, fault, writer, &mut Writes::new())
+        }
         ScriptFault::Write | ScriptFault::OutOfMemory => fault,
     }
 }
