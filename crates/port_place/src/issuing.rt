@@ -10,11 +10,9 @@ use crate::status::Status;
 use crate::windows::window_of;
 use ahci_port::Port;
 use ahci_table::{BuildFault, Window, default_pieces};
+use ncq_core::SECTOR;
 use ncq_journal::{Bytes, LBA_LIMIT, MAX_COUNT, Op};
 use std::alloc::{AllocError, Allocator};
-
-/// How many bytes a sector has.
-const SECTOR: usize = 512;
 
 /// Issues the command of a window: its header, and the memory from the tag's base on. `number` is the request's then.
 pub fn issue<A: Allocator + Copy>(

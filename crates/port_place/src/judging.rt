@@ -157,7 +157,7 @@ fn refuses(sectors: u32, span: Span, error: u8, lba: u64) -> bool
     !fits(sectors, span) && error == 0x10 && lba == span.lba.max(u64::from(sectors))
 }
 
-/// Whether a command that isn't queued may be sent: the port runs, and no tag waits for the device.
+/// Whether a command that isn't queued may be sent: the port runs, and no tag waits for the device or is outstanding in it.
 #[tactic(auto, using(crate::proofs::JudgingLemmas::busy_known))]
 fn may_send(tags: &[Known; 32], past: &[FlatEntry], command: Plain) -> bool
     requires { AreKnown (journal_named past.now) tags.now }

@@ -6,11 +6,8 @@ ghost use Rattle.port_place.specs.Making.{Makes, size_refusal};
 
 use crate::status::Status;
 use ahci_port::{MOST_FIRST, Port};
-use ncq_core::{MAX_DEPTH, MAX_SECTORS};
+use ncq_core::{MAX_DEPTH, MAX_SECTORS, SECTOR};
 use std::alloc::Allocator;
-
-/// How many bytes a sector has.
-const SECTOR: usize = 512;
 
 /// A port over a copy of an image, whose journal's first entry has the number `first`. Size, depth and number are looked at
 /// before memory is asked for.
