@@ -34,6 +34,7 @@ use Rattle.ahci_trace.specs.Closing.{TracedTo}
 use Rattle.ahci_trace.specs.Json.{json_line}
 use Rattle.ahci_trace.specs.Text.{trace_text}
 use Rattle.ata_pages.specs.Output.{identify_output, log_output}
+use Rattle.streams.specs.Ends.{WrittenSoFar, with_failed_write, with_flush}
 
 -- bytes that a reader has left, or that a writer holds, where they are known
 abbrev pub Known : Type 0
@@ -117,6 +118,11 @@ Does (Log tag error lba raw) s outcome = DidPage (log_output tag error lba raw) 
 -- the text was written, or, where a write failed, a first part of it
 abbrev pub IsTold : Known → Known → List ℕ → Type 0
 IsTold before after text = (n : ℕ) × Appends before after (take n text)
+
+-- the whole text was written and flushed; or a write or a flush failed, and a first part of it was written
+abbrev pub IsWritten : Known → Known → List ℕ → WrittenSoFar → WrittenSoFar → Type 0
+IsWritten before after text old new =
+    (Appends before after text × (new ≡ with_flush old)) ⊎ (IsTold before after text × (new ≡ with_failed_write old))
 
 -- of a good outcome nothing is told, of a fault its text
 abbrev pub Tells : Known → Known → Result Bool CliFault → Type 0

@@ -3,7 +3,7 @@
 ghost use Rattle.clap.specs.Words.{kind_of};
 ghost use Rattle.std.specs.Prelude.{◌≡◌, OnErr, OnOk};
 ghost use Rattle.streams.specs.Ends.{with_failed_write, with_flush};
-ghost use Rattle.ahci_cli.specs.Program.{Ends, IsShown, IsTold, Rejects, Says};
+ghost use Rattle.ahci_cli.specs.Program.{Ends, IsShown, IsTold, IsWritten, Rejects, Says};
 
 use crate::fault::CliFault;
 use crate::fault_text::text_of;
@@ -24,17 +24,19 @@ pub(crate) fn end<E: Write>(outcome: Result<bool, CliFault>, errors: &mut E) -> 
         Ok(false) => 0,
         Ok(true) => 1,
         Err(fault) => {
-            tell(text_of(fault).as_str().as_bytes(), errors);
+            let text = text_of(fault);
+            tell(text.as_str().as_bytes(), errors, &mut Writes::new());
             fault.status()
         }
     }
 }
 
 /// Writes a text, as far as it can be written.
-fn tell<E: Write>(text: &[u8], errors: &mut E)
-    ensures { IsTold (E.contents errors.old) (E.contents errors.new) text.now }
+fn tell<E: Write>(text: &[u8], errors: &mut E, writes: &mut Writes)
+    ensures told { IsTold (E.contents errors.old) (E.contents errors.new) text.now }
+    ensures whole { IsWritten (E.contents errors.old) (E.contents errors.new) text.now writes.old writes.new }
 {
-    let _ = Writes::new().write_whole(errors, text);
+    let _ = writes.write_whole(errors, text);
 }
 
 /// What the parser of the command line has to say: help and the version on the writer, a wrong command line on the errors.
@@ -76,7 +78,7 @@ fn reject<E: Write>(alloc: Global, error: &Error, errors: &mut E) -> u8
 {
     match format!(in alloc; "{error}") {
         Ok(text) => {
-            tell(text.as_bytes(), errors);
+            tell(text.as_bytes(), errors, &mut Writes::new());
             USAGE
         }
         Err(_) => end(Err(CliFault::OutOfMemory), errors),

@@ -13,6 +13,6 @@ mod words_fault;
 pub use ahci_args::{Asked, Pick, RunForm, asked, not_text};
 pub use fault::CliFault;
 pub use jobs::run_jobs;
-pub use running::{program, program_without_words};
+pub use running::{program, program_with, program_without_words};
 pub use scripts::replay;
 pub use words_fault::WordsFault;

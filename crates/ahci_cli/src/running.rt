@@ -1,6 +1,6 @@
 //! The program: what the words of a command line ask for, done over a reader and two writers.
 
-ghost use Rattle.std.specs.Prelude.{map, ◌≡◌};
+ghost use Rattle.std.specs.Prelude.{map, ◌≡◌, IfErr, IfOk, OnErr};
 ghost use Rattle.std.specs.String.{string_bytes};
 ghost use Rattle.ahci_cli.specs.Program.{Does, HasRanges, Runs, RunsWithout, form_of_check, streams};
 
@@ -60,6 +60,34 @@ pub fn program_without_words<W: Write, E: Write>(
             Ok(error) | Err(error) => explain(alloc, &error, writer, errors),
         },
         WordsFault::OutOfMemory => end(Err(CliFault::OutOfMemory), errors),
+    }
+}
+
+/// The program with the words of its command line, or with why they could not be read: `program`, or `program_without_words`,
+/// which reads nothing.
+pub fn program_with<H, R, W, E>(
+    rt: &H,
+    alloc: Global,
+    words: Result<Vec<String>, WordsFault>,
+    reader: &mut R,
+    writer: &mut W,
+    errors: &mut E,
+) -> u8
+where
+    H: Threads + Wait + Sync,
+    R: Read,
+    W: Write,
+    E: Write,
+    ensures words { IfOk words (λ words. Runs (map string_bytes words.items)
+        (streams (R.remaining reader.old) (R.remaining reader.new) (W.contents writer.old) (W.contents writer.new))
+        (E.contents errors.old) (E.contents errors.new) result) }
+    ensures unread { OnErr words (R.remaining reader.new ≡ R.remaining reader.old) }
+    ensures without { IfErr words (λ fault. RunsWithout fault
+        (W.contents writer.old) (W.contents writer.new) (E.contents errors.old) (E.contents errors.new) result) }
+{
+    match words {
+        Ok(words) => program(rt, alloc, words.as_slice(), reader, writer, errors),
+        Err(fault) => program_without_words(alloc, fault, writer, errors),
     }
 }
 

@@ -1,4 +1,4 @@
-//! What the command lines of `identify` and `log` are told where they are wrong, and the pages that `ahci_cli` writes.
+//! What the command lines of `identify` and `log` are told where they are wrong, and the pages that `ata_pages` writes.
 use crate::tests::command_line::{Kind, MISSING, RANGE, TWICE, are_told};
 use crate::tests::table::equal;
 use ata_pages::{PageFault, write_identify, write_log};
@@ -49,7 +49,7 @@ static WRONG: [Kind; 5] = [
             ("log --tag 3 --error 040 --lba 7", BYTE),
             ("log --tag 3 --error +4 --lba 7", BYTE),
             ("log --tag 3 --error 4g --lba 7", BYTE),
-            ("log --tag 3 --error=0x40 --lba 7", "Usage: ahci log"),
+            ("log --tag 3 --error=0x40 --lba 7", "Usage: ahci log [OPTIONS] --tag <NUMBER> --error <EE> --lba <NUMBER>"),
             ("log --tag 3 --error= --lba 7", BYTE),
         ],
     ),
