@@ -32,6 +32,7 @@ pub(crate) fn end<E: Write>(outcome: Result<bool, CliFault>, errors: &mut E) -> 
 }
 
 /// Writes a text, as far as it can be written.
+#[tactic(auto, using(crate::proofs::ProgramLemmas::told, crate::proofs::ProgramLemmas::written))]
 fn tell<E: Write>(text: &[u8], errors: &mut E, writes: &mut Writes)
     ensures told { IsTold (E.contents errors.old) (E.contents errors.new) text.now }
     ensures whole { IsWritten (E.contents errors.old) (E.contents errors.new) text.now writes.old writes.new }
