@@ -7,4 +7,4 @@ use Rattle.ahci_cli.specs.declared.words_fault.WordsFault.TheVariants as fault
 -- by the kind of the system's error: there is no memory, or a word is no text
 abbrev pub words_fault : ErrorKind → WordsFault
 words_fault kind.OutOfMemory = fault.OutOfMemory
-words_fault other = fault.NotText
+words_fault _ = fault.NotText
