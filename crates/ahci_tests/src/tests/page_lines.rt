@@ -49,7 +49,10 @@ static WRONG: [Kind; 5] = [
             ("log --tag 3 --error 040 --lba 7", BYTE),
             ("log --tag 3 --error +4 --lba 7", BYTE),
             ("log --tag 3 --error 4g --lba 7", BYTE),
-            ("log --tag 3 --error=0x40 --lba 7", "Usage: ahci log [OPTIONS] --tag <NUMBER> --error <EE> --lba <NUMBER>"),
+            (
+                "log --tag 3 --error=0x40 --lba 7",
+                "Usage: ahci log [OPTIONS] --tag <NUMBER> --error <EE> --lba <NUMBER>",
+            ),
             ("log --tag 3 --error= --lba 7", BYTE),
         ],
     ),

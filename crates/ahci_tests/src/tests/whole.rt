@@ -77,7 +77,9 @@ fn words_that_can_t_be_read_are_told(rt: HostRuntime) {
         (
             "not text",
             WordsFault::NotText,
-            Text("error: an argument is not text in UTF-8\n\nUsage: ahci <COMMAND>\n\nFor more information, try '--help'.\n"),
+            Text(
+                "error: an argument is not text in UTF-8\n\nUsage: ahci <COMMAND>\n\nFor more information, try '--help'.\n",
+            ),
             2,
         ),
         (
