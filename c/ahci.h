@@ -323,9 +323,9 @@ uint32_t ahci_port_received(ahci_port *port, uint8_t *out, size_t out_bytes);
 uint32_t ahci_port_issue(ahci_port *port, uint32_t tag, const uint8_t *header, size_t header_bytes, const uint8_t *memory, size_t memory_bytes, uint64_t *number);
 
 /* Issues a read or a write of `sectors` sectors from `lba` on, in a window that the library lays out: pieces of 4,096 bytes
-   for up to 256 sectors, and of 1 MiB for more. A write has 512 * sectors bytes of data; of a read `data` is not looked at.
+   for up to 256 sectors, and of 1 MiB for more. A write has 512 * sectors bytes of payload; that of a read is not looked at.
    AHCI_BAD_TAG, AHCI_BAD_KIND, AHCI_BAD_COUNT, AHCI_BAD_LBA, then as of ahci_port_issue. */
-uint32_t ahci_port_submit(ahci_port *port, uint32_t tag, uint32_t kind, uint64_t lba, uint32_t sectors, const uint8_t *data, size_t data_bytes, uint64_t *number);
+uint32_t ahci_port_submit(ahci_port *port, uint32_t tag, uint32_t kind, uint64_t lba, uint32_t sectors, const uint8_t *payload, size_t payload_bytes, uint64_t *number);
 
 /* The device takes a tag's command: a D2H Register FIS. One that passes the last sector it fails with error 10h: *done tells
    which. It takes no memory. AHCI_BAD_TAG, AHCI_HALTED, AHCI_NOT_ISSUED. */

@@ -1,5 +1,5 @@
 //! The command line, as its parser is told of it.
-ghost use Rattle.std.specs.Prelude.{◌≡◌, [], IfErr, IfOk, codes, false, pos};
+ghost use Rattle.std.specs.Prelude.{◌≡◌, [], IfErr, IfOk, false, pos};
 ghost use Rattle.clap.specs.{Words.{app_of, kind_of, rule_of, shape_of}, declared.builder.command.Command.TheViews.{out-Command as fields_of}};
 ghost use Rattle.ahci_args.specs.CommandLine.{IsAhci, IsPickOption, IsRun, IsRunOptions, bound_option, check, draw, error_option, flag, identify, index_option, log, number_option, replay, top, trace};
 

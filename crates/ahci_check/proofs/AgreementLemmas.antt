@@ -14,7 +14,7 @@ use Rattle.ahci_check.specs.Judges.{judge_after}
 use Rattle.ahci_check.specs.Sheets.{Sheet, judged_from, with_next}
 use Rattle.ahci_check.specs.declared.judge.Judge.TheVariants.{OfScript}
 use Rattle.streams.specs.Unread.{whole}
-use Rattle.ahci_check.specs.declared.place.Place.TheVariants.{BeforeDisk, BehindDisk}
+use Rattle.ahci_check.specs.declared.place.Place.TheVariants.{BeforeDisk, AfterDisk}
 use Rattle.ahci_port.specs.PortView.{PortView, port_from, sectors_in}
 use Rattle.ahci_port.specs.Steps.{Appends, IsStepped, IsTaken, TakenBy, passes_end}
 use Rattle.ahci_port.specs.declared.step.DeviceStep.{DeviceStep}
@@ -87,16 +87,16 @@ disk_alike words sectors depth first =
     none_alike (sectors == 0) (nat_lt most_disk_sectors sectors) (depth == 0) (nat_lt most_depth depth) (nat_lt most_first (unwrap_or first 0)) _ _ _ _ _ _ _ _ refl refl refl refl refl
 
 -- a disk of so many sectors has them
-sized : (sectors depth : ℕ) (first : Option ℕ) → BehindDisk sectors depth ≡ place_of (Some (port_from (unwrap_or first 0) (replicate (sectors * 512) 0) depth))
+sized : (sectors depth : ℕ) (first : Option ℕ) → AfterDisk sectors depth ≡ place_of (Some (port_from (unwrap_or first 0) (replicate (sectors * 512) 0) depth))
 sized sectors depth first =
     let count : sectors * 512 / 512 ≡ sectors = omega arith in
-    ap (λ n. BehindDisk n depth) (sym (ap (λ n. n / 512) (length-replicate (sectors * 512) 0) ∙ count))
+    ap (λ n. AfterDisk n depth) (sym (ap (λ n. n / 512) (length-replicate (sectors * 512) 0) ∙ count))
 
 made : (refusal : Option Refusal) (b : Bool) (sectors depth : ℕ) (first : Option ℕ) (next : Option PortView) (said : Said) → b ≡ is_none refusal
-    → MakesDisk refusal sectors depth first next said → cond b (BehindDisk sectors depth) BeforeDisk ≡ place_of next
-made (Some refusal) b sectors depth first next said is does = ap (λ t. cond t (BehindDisk sectors depth) BeforeDisk) is ∙ sym (ap place_of does.0)
+    → MakesDisk refusal sectors depth first next said → cond b (AfterDisk sectors depth) BeforeDisk ≡ place_of next
+made (Some refusal) b sectors depth first next said is does = ap (λ t. cond t (AfterDisk sectors depth) BeforeDisk) is ∙ sym (ap place_of does.0)
 made None b sectors depth first next said is does =
-    ap (λ t. cond t (BehindDisk sectors depth) BeforeDisk) is ∙ sized sectors depth first ∙ sym (ap place_of does.0)
+    ap (λ t. cond t (AfterDisk sectors depth) BeforeDisk) is ∙ sized sectors depth first ∙ sym (ap place_of does.0)
 
 first_run : (line : List ℕ) (c : ScriptCommand) (next : Option PortView) (said : Said) → Runs None c next said → place_by BeforeDisk line (Ok (Run c)) ≡ place_of next
 first_run line (command.Disk sectors depth first) next said ran =
@@ -111,7 +111,7 @@ record SameSize (old new : PortView) : Type 0 where
   depth : new.depth ≡ old.depth
 
 place_stays : (old new : PortView) → SameSize old new → place_of (Some old) ≡ place_of (Some new)
-place_stays old new same = ap (λ n. BehindDisk (n / 512) old.depth) (sym same.sectors) ∙ ap (λ d. BehindDisk (sectors_in new) d) (sym same.depth)
+place_stays old new same = ap (λ n. AfterDisk (n / 512) old.depth) (sym same.sectors) ∙ ap (λ d. AfterDisk (sectors_in new) d) (sym same.depth)
 
 unchanged : (old new : PortView) → new ≡ old → SameSize old new
 unchanged old new same = record { sectors = ap (λ (p : PortView). length p.starting) same; depth = ap (λ (p : PortView). p.depth) same }

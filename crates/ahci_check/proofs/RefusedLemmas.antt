@@ -46,7 +46,7 @@ use Rattle.ahci_check.proofs.AgreementLemmas.{disk_alike}
 use Rattle.ahci_check.proofs.WindowLemmas.{fit_has_none}
 use Rattle.ahci_check.specs.Agreement.{place_of}
 use Rattle.ahci_check.specs.Complaints.{is_in_place, is_language, misplaced, of_excess, of_reading}
-use Rattle.ahci_check.specs.Limits.{count_excess, excess_at, excess_behind, excess_in, far_tag, fail_excess, raw_excess, register_excess, sector_excess, tag_excess, transfer_excess, twice_among, window_excess}
+use Rattle.ahci_check.specs.Limits.{count_excess, excess_at, excess_after_disk, excess_in, far_tag, fail_excess, raw_excess, register_excess, sector_excess, tag_excess, transfer_excess, twice_among, window_excess}
 use Rattle.ahci_check.specs.Refused.{IsPort, IsRefusal, PortRefuses}
 use Rattle.ahci_check.specs.Windows.{table_fault}
 use Rattle.ahci_check.specs.declared.complaint.Complaint.{Complaint}
@@ -219,7 +219,7 @@ show_refused port words lba e is =
 
 -- ---- every command
 
-refused : (port new : PortView) (words : List ℕ) (c : ScriptCommand) (said : Said) (e : Excess) → Headline port → excess_behind (sectors_in port) port.depth words c ≡ Some e
+refused : (port new : PortView) (words : List ℕ) (c : ScriptCommand) (said : Said) (e : Excess) → Headline port → excess_after_disk (sectors_in port) port.depth words c ≡ Some e
     → RunsOn port c new said → Refuses port new said
 refused port new words (command.Write tag lba count fill) said e h is ran =
     answered (issue_refusal port tag lba count) port new said _ (issue_refused port words tag lba count e is) ran

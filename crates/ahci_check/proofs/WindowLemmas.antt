@@ -72,8 +72,8 @@ EntryParts start first last e =
 
 entry_decides : (start first last : ℕ) (e : EntryFields) → Decides (is_entry start first last e) (IsEntry start first last e)
 entry_decides start first last e =
-    Decides-like (is_entry start first last e) (λ (t : EntryParts start first last e). record { even = t.0; low = t.1.0; odd = t.1.1.0; behind = t.1.1.1.0; within = t.1.1.1.1 })
-    (λ (h : IsEntry start first last e). (h.even, (h.low, (h.odd, (h.behind, h.within)))))
+    Decides-like (is_entry start first last e) (λ (t : EntryParts start first last e). record { even = t.0; low = t.1.0; odd = t.1.1.0; after = t.1.1.1.0; within = t.1.1.1.1 })
+    (λ (h : IsEntry start first last e). (h.even, (h.low, (h.odd, (h.after, h.within)))))
     (Decides-and _ _ (Decides-eqb (e.dba % 2) 0) (Decides-and _ _ (Decides-eqb e.dbau 0) (Decides-and _ _ (Decides-eqb (e.dbc % 2) 1)
     (Decides-and _ _ (at_most (start + first) e.dba) (at_most (e.dba + e.dbc + 1) (start + last))))))
 

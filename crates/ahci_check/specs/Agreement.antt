@@ -4,14 +4,14 @@ use Rattle.ahci_check.specs.Complaints.{complaint_in, ends_replay, first_wrong}
 use Rattle.ahci_check.specs.Sheets.{Sheet, judged_from}
 use Rattle.ahci_check.specs.declared.judge.Judge.TheVariants.{OfScript}
 use Rattle.ahci_check.specs.declared.place.Place.{Place}
-use Rattle.ahci_check.specs.declared.place.Place.TheVariants.{BeforeDisk, BehindDisk}
+use Rattle.ahci_check.specs.declared.place.Place.TheVariants.{BeforeDisk, AfterDisk}
 use Rattle.ahci_port.specs.PortView.{PortView, sectors_in}
 use Rattle.ahci_replay.specs.Transcript.{Adds, Telling, placed}
 
 -- where a line stands that finds this port, or none: the port says how many sectors and slots there are
 abbrev pub place_of : Option PortView → Place
 place_of None = BeforeDisk
-place_of (Some port) = BehindDisk (sectors_in port) port.depth
+place_of (Some port) = AfterDisk (sectors_in port) port.depth
 
 -- a line's complaint is one of the language exactly where replay has no such line on the port
 abbrev pub StopAlike : Type 0

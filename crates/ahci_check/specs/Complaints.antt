@@ -13,7 +13,7 @@ use Rattle.ahci_check.specs.Limits.{disk_excess, excess_in}
 use Rattle.ahci_check.specs.declared.complaint.Complaint.{Complaint}
 use Rattle.ahci_check.specs.declared.excess.Excess.{Excess}
 use Rattle.ahci_check.specs.declared.place.Place.{Place}
-use Rattle.ahci_check.specs.declared.place.Place.TheVariants.{BeforeDisk, BehindDisk}
+use Rattle.ahci_check.specs.declared.place.Place.TheVariants.{BeforeDisk, AfterDisk}
 use Rattle.ahci_check.specs.declared.rule.Rule.{Rule}
 use Rattle.ahci_check.specs.declared.rule.Rule.TheVariants.{Language, Port}
 
@@ -21,13 +21,13 @@ use Rattle.ahci_check.specs.declared.rule.Rule.TheVariants.{Language, Port}
 abbrev pub is_in_place : Place → ScriptCommand → Bool
 is_in_place BeforeDisk (command.Disk sectors depth first) = true
 is_in_place BeforeDisk c = false
-is_in_place (BehindDisk s d) (command.Disk sectors depth first) = false
-is_in_place (BehindDisk s d) c = true
+is_in_place (AfterDisk s d) (command.Disk sectors depth first) = false
+is_in_place (AfterDisk s d) c = true
 
 -- the rule that a command breaks which isn't in place
 abbrev pub misplaced : Place → Fault
 misplaced BeforeDisk = fault.BeforeDisk
-misplaced (BehindDisk sectors depth) = fault.SecondDisk
+misplaced (AfterDisk sectors depth) = fault.SecondDisk
 
 -- the line is one of the language, and a command of it is in place
 abbrev pub stands_at : Place → Option Line → Bool
@@ -83,7 +83,7 @@ IsColumn line column = (1 ≤ column) × (column ≤ length line + 1)
 -- the place after a line that was read: the first disk whose numbers pass no limit opens it
 abbrev pub place_by : Place → List ℕ → Result Line Breach → Place
 place_by BeforeDisk line (Ok (Run (command.Disk sectors depth first))) =
-    if is_none (disk_excess (after_first line) sectors depth first) then BehindDisk sectors depth else BeforeDisk
+    if is_none (disk_excess (after_first line) sectors depth first) then AfterDisk sectors depth else BeforeDisk
 place_by place line read = place
 
 abbrev pub place_after : Place → List ℕ → Place

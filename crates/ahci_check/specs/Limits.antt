@@ -22,7 +22,7 @@ use Rattle.ahci_check.specs.declared.excess.Excess.{Excess}
 use Rattle.ahci_check.specs.declared.limit.Limit.{Limit}
 use Rattle.ahci_check.specs.declared.limit.Limit.TheVariants as limit
 use Rattle.ahci_check.specs.declared.place.Place.{Place}
-use Rattle.ahci_check.specs.declared.place.Place.TheVariants.{BeforeDisk, BehindDisk}
+use Rattle.ahci_check.specs.declared.place.Place.TheVariants.{BeforeDisk, AfterDisk}
 
 -- a limit is passed where this end of a line begins
 abbrev pub excess_at : List ℕ → Limit → Option Excess
@@ -98,18 +98,18 @@ register_excess words (Err reg.Unaligned) = excess_at words limit.Unaligned
 register_excess words (Err fault) = excess_at words limit.NoSuchRegister
 
 -- the first limit that a line's words pass, after a disk of so many sectors and slots
-abbrev pub excess_behind : ℕ → ℕ → List ℕ → ScriptCommand → Option Excess
-excess_behind sectors depth words (command.Write tag lba count fill) = transfer_excess depth words tag lba count
-excess_behind sectors depth words (command.Read tag lba count) = transfer_excess depth words tag lba count
-excess_behind sectors depth words (command.Raw tag window) = raw_excess depth words (window_of tag window)
-excess_behind sectors depth words (command.Accept tag) = tag_excess depth words tag
-excess_behind sectors depth words (command.Serve tags) = tags_excess depth words tags.items
-excess_behind sectors depth words (command.Fail tag error lba) = fail_excess sectors depth words tag lba
-excess_behind sectors depth words (command.Collect tag number) = tag_excess depth words tag
-excess_behind sectors depth words (command.Reissue tag) = tag_excess depth words tag
-excess_behind sectors depth words (command.Reg off) = register_excess words (register_at off)
-excess_behind sectors depth words (command.Show lba) = sector_excess sectors words lba
-excess_behind sectors depth words c = None
+abbrev pub excess_after_disk : ℕ → ℕ → List ℕ → ScriptCommand → Option Excess
+excess_after_disk sectors depth words (command.Write tag lba count fill) = transfer_excess depth words tag lba count
+excess_after_disk sectors depth words (command.Read tag lba count) = transfer_excess depth words tag lba count
+excess_after_disk sectors depth words (command.Raw tag window) = raw_excess depth words (window_of tag window)
+excess_after_disk sectors depth words (command.Accept tag) = tag_excess depth words tag
+excess_after_disk sectors depth words (command.Serve tags) = tags_excess depth words tags.items
+excess_after_disk sectors depth words (command.Fail tag error lba) = fail_excess sectors depth words tag lba
+excess_after_disk sectors depth words (command.Collect tag number) = tag_excess depth words tag
+excess_after_disk sectors depth words (command.Reissue tag) = tag_excess depth words tag
+excess_after_disk sectors depth words (command.Reg off) = register_excess words (register_at off)
+excess_after_disk sectors depth words (command.Show lba) = sector_excess sectors words lba
+excess_after_disk sectors depth words c = None
 
 -- and before it
 abbrev pub excess_before : List ℕ → ScriptCommand → Option Excess
@@ -118,4 +118,4 @@ excess_before words c = None
 
 abbrev pub excess_in : Place → List ℕ → ScriptCommand → Option Excess
 excess_in BeforeDisk line c = excess_before (after_first line) c
-excess_in (BehindDisk sectors depth) line c = excess_behind sectors depth (after_first line) c
+excess_in (AfterDisk sectors depth) line c = excess_after_disk sectors depth (after_first line) c

@@ -1,7 +1,6 @@
 //! A complaint as one JSON object.
 
 ghost use Rattle.std.specs.Prelude.{◌≡◌, ◌∷◌, ◌++◌, [], IfOk, OnOk};
-ghost use Rattle.json.specs.Print.{print};
 ghost use Rattle.ahci_check.specs.Json.{column_token, complaint_json, complaint_object, fault_name, kind_name, limit_name, rule_name};
 ghost use Rattle.ahci_check.specs.Texts.{rule_text};
 

@@ -3,7 +3,7 @@
 ghost use Rattle.std.specs.Prelude.{◌≡◌, IfOk};
 ghost use Rattle.ahci_regs.specs.RegisterTable.{register_at};
 ghost use Rattle.ahci_script.specs.Lines.{HasSmallTag};
-ghost use Rattle.ahci_check.specs.Limits.{count_excess, disk_excess, excess_at, excess_behind, excess_in, fail_excess, register_excess, sector_excess, tag_excess, transfer_excess};
+ghost use Rattle.ahci_check.specs.Limits.{count_excess, disk_excess, excess_at, excess_after_disk, excess_in, fail_excess, register_excess, sector_excess, tag_excess, transfer_excess};
 
 use crate::limit::Limit;
 use crate::place::Place;
@@ -45,8 +45,8 @@ pub(crate) fn excess_of<A: Allocator>(
 {
     let words = after_first(line);
     match (place, command) {
-        (Place::BehindDisk { sectors, depth }, _) => {
-            excess_behind(alloc, sectors, depth, words, command)
+        (Place::AfterDisk { sectors, depth }, _) => {
+            excess_after_disk(alloc, sectors, depth, words, command)
         }
         (
             Place::BeforeDisk,
@@ -61,7 +61,7 @@ pub(crate) fn excess_of<A: Allocator>(
 }
 
 /// The first limit that a line passes after a disk of so many sectors and slots.
-fn excess_behind<A: Allocator>(
+fn excess_after_disk<A: Allocator>(
     alloc: A,
     sectors: u64,
     depth: u64,
@@ -69,7 +69,7 @@ fn excess_behind<A: Allocator>(
     command: &ScriptCommand<'_>,
 ) -> Result<Option<Excess>, AllocError>
     requires { HasSmallTag command.now }
-    ensures { IfOk result (λ excess. excess ≡ excess_behind sectors depth words.now command.now) }
+    ensures { IfOk result (λ excess. excess ≡ excess_after_disk sectors depth words.now command.now) }
 {
     match command {
         ScriptCommand::Write {

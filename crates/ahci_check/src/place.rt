@@ -9,7 +9,7 @@ use ahci_script::{Breach, Fault, Line, ScriptCommand, after_first, read_line};
 pub enum Place {
     BeforeDisk,
     /// After a disk of so many sectors, on a port of so many slots.
-    BehindDisk { sectors: u64, depth: u64 },
+    AfterDisk { sectors: u64, depth: u64 },
 }
 
 impl Place {
@@ -37,7 +37,7 @@ impl Place {
                     ),
                 ),
             ) if disk_excess(after_first(line), *sectors, *depth, *first).is_none() =>
-                Place::BehindDisk {
+                Place::AfterDisk {
                     sectors: *sectors,
                     depth: *depth,
                 },
@@ -51,7 +51,7 @@ impl Place {
     {
         match self {
             Place::BeforeDisk => matches!(command, ScriptCommand::Disk { .. }),
-            Place::BehindDisk { .. } => !matches!(command, ScriptCommand::Disk { .. }),
+            Place::AfterDisk { .. } => !matches!(command, ScriptCommand::Disk { .. }),
         }
     }
 
@@ -61,7 +61,7 @@ impl Place {
     {
         match self {
             Place::BeforeDisk => Fault::BeforeDisk,
-            Place::BehindDisk { .. } => Fault::SecondDisk,
+            Place::AfterDisk { .. } => Fault::SecondDisk,
         }
     }
 }

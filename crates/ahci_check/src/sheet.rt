@@ -33,7 +33,7 @@ impl<A: Allocator> Model for Sheet<A> {
 }
 
 impl<A: Allocator + Clone> Sheet<A> {
-    ghost use Rattle.std.specs.Prelude.{◌≡◌, ◌≤◌, ◌↔◌, ◌++◌, false, true, [], length, IfErr, IfOk, IsTrue, OnErr, OnOk, Some};
+    ghost use Rattle.std.specs.Prelude.{◌≡◌, ◌<◌, ◌≤◌, ◌↔◌, ◌++◌, false, true, [], length, IfErr, IfOk, IsTrue, OnErr, OnOk, Some};
     ghost use Rattle.std.specs.Io.KnownBytes.{Appends};
     ghost use Rattle.streams.specs.Ends.{with_failed_write, with_flush};
     ghost use Rattle.ahci_replay.specs.Transcript.{WritesPart};
@@ -84,6 +84,7 @@ impl<A: Allocator + Clone> Sheet<A> {
         ensures ok { OnOk result (Tells (stand (W.contents writer.old) self.old) complaint next (stand (W.contents writer.new) self.new)) }
         ensures err { IfErr result (λ fault. FailsTelling (stand (W.contents writer.old) self.old) complaint fault (stand (W.contents writer.new) self.new)) }
         ensures sent { has_to_be_sent ≡ true → OnOk result (self.new.waiting ≡ []) }
+        ensures bounded { OnOk result (length self.new.waiting < 16384) }
     {
         self.put(complaint, next)?;
         if !has_to_be_sent && !self.is_full() {

@@ -2,7 +2,7 @@
 use Rattle.std.proofs.Common.{◌≡◌, ℕ, ◌==◌, Bool, true, false, List, [], ◌∷◌, ap, sym, ◌∙◌, refl, cond, not, nat_le, arith, ◌||◌, ◌&&◌, inl, inr}
 use Rattle.std.specs.List.{list_all}
 use Rattle.std.proofs.lemmas.Bool.{and_from, and_parts, cases_Bool, leb-true, le-leb, ne_eqb}
-use Rattle.ahci_draw.specs.Markup.{Emptied, Ending, Begun, IsClosed, Keyed, Named, Place, Quoted, Reader, Spaced, Text, Unquoted, Valued, Wrong, after, at, behind, is_character, is_name, is_plain, reads, wrong}
+use Rattle.ahci_draw.specs.Markup.{Emptied, Ending, Begun, IsClosed, Keyed, Named, Place, Quoted, Reader, Spaced, Text, Unquoted, Valued, Wrong, after, at, after_name, is_character, is_name, is_plain, reads, wrong}
 
 -- a byte that is none of these is none of a tag's
 other_than : (b k : ℕ) → is_character b ≡ false → is_character k ≡ true → (b == k) ≡ false
@@ -46,20 +46,20 @@ neither : {X : Type 0} (a : Bool) (x y z : X) → a ≡ false → y ≡ z → co
 neither true x y z other h = absurd (cc)
 neither false x y z other h = h
 
-wrong_behind : (name : List ℕ) (opened : List (List ℕ)) (b : ℕ) → is_character b ≡ false → behind name opened b ≡ wrong
-wrong_behind name opened b other =
+wrong_after_name : (name : List ℕ) (opened : List (List ℕ)) (b : ℕ) → is_character b ≡ false → after_name name opened b ≡ wrong
+wrong_after_name name opened b other =
     neither (b == 32) _ _ _ (other_than b 32 other refl) (neither (b == 47) _ _ _ (other_than b 47 other refl) (neither (b == 62) _ _ _ (other_than b 62 other refl) refl))
 
 wrong_after : (place : Place) (opened : List (List ℕ)) (b : ℕ) → is_character b ≡ false → after place opened b ≡ wrong
 wrong_after Text opened b other =
     neither (b == 60) _ _ _ (other_than b 60 other refl) (neither (is_plain b || (b == 10)) _ _ _ (not_or _ _ (not_plain b other) (other_than b 10 other refl)) refl)
 wrong_after Begun opened b other = neither (b == 47) _ _ _ (other_than b 47 other refl) (neither (is_name b) _ _ _ (not_name b other) refl)
-wrong_after (Named name) opened b other = neither (is_name b) _ _ _ (not_name b other) (wrong_behind name opened b other)
+wrong_after (Named name) opened b other = neither (is_name b) _ _ _ (not_name b other) (wrong_after_name name opened b other)
 wrong_after (Spaced name) opened b other = neither (is_name b) _ _ _ (not_name b other) refl
 wrong_after (Keyed name) opened b other = neither (is_name b) _ _ _ (not_name b other) (neither (b == 61) _ _ _ (other_than b 61 other refl) refl)
 wrong_after (Valued name) opened b other = neither (b == 39) _ _ _ (other_than b 39 other refl) refl
 wrong_after (Quoted name) opened b other = neither (b == 39) _ _ _ (other_than b 39 other refl) (neither (is_plain b) _ _ _ (not_plain b other) refl)
-wrong_after (Unquoted name) opened b other = wrong_behind name opened b other
+wrong_after (Unquoted name) opened b other = wrong_after_name name opened b other
 wrong_after Emptied opened b other = neither (b == 62) _ _ _ (other_than b 62 other refl) refl
 wrong_after (Ending name) opened b other = neither (b == 62) _ _ _ (other_than b 62 other refl) (neither (is_name b) _ _ _ (not_name b other) refl)
 wrong_after Wrong opened b other = refl

@@ -1,10 +1,8 @@
 -- What stands in the lines of a sheet, by their places.
-use Rattle.std.proofs.Common.{◌≡◌, ℕ, ◌+◌, ◌-◌, ◌*◌, ◌<◌, ◌≤◌, List, [], ◌∷◌, ap, sym, ◌∙◌, refl, arith, length, take, drop, get_or, map, min, length-drop, inl, inr, ◌⊎◌}
+use Rattle.std.proofs.Common.{◌≡◌, ℕ, ◌-◌, ◌*◌, ◌<◌, List, [], ◌∷◌, ap, sym, ◌∙◌, refl, arith, length, take, drop, get_or, map, length-drop}
 use Rattle.std.specs.Prelude.{slice_index_or}
 use Rattle.std.specs.Borrow.{Bor}
-use Rattle.std.proofs.lemmas.Bool.{cases_lt}
-use Rattle.std.proofs.lemmas.List.{drop-map, drop-take, get_or-map, length-map, take-map, take_all, take_rest}
-use Rattle.std.proofs.Math.ListN.{drop_of_length-le}
+use Rattle.std.proofs.lemmas.List.{drop-map, get_or-map, length-map, take-map, take_all, take_rest}
 use Rattle.ahci_draw.specs.Lines.{texts}
 use Rattle.ahci_draw.specs.Row.{row_of}
 

@@ -1,5 +1,5 @@
 -- How a run ends whose script was replayed to its end, or to a fault of its own.
-use Rattle.std.proofs.Common.{◌≡◌, List, [], ℕ, Option, Some, Result, Ok, Err, OnOk, IfErr, Bool, true, inl, inr, subst, sym}
+use Rattle.std.proofs.Common.{◌≡◌, List, [], ℕ, Option, Some, Result, Ok, Err, OnOk, IfErr, true, inl, inr, subst, sym}
 use Rattle.std.specs.Result.{result_and}
 use Rattle.std.specs.Io.KnownBytes.{Appends}
 use Rattle.ahci_replay.specs.Transcript.{Replayed, ReplayedTo}

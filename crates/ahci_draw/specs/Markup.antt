@@ -58,20 +58,20 @@ closed name [] = wrong
 closed name (innermost ∷ opened) = if same name innermost then at Text opened else wrong
 
 -- after the name or an attribute of a start tag
-abbrev pub behind : List ℕ → List (List ℕ) → ℕ → Reader
-behind name opened byte =
+abbrev pub after_name : List ℕ → List (List ℕ) → ℕ → Reader
+after_name name opened byte =
     if byte == 32 then at (Spaced name) opened else (if byte == 47 then at Emptied opened else (if byte == 62 then at Text (name ∷ opened) else wrong))
 
 -- where a reader stands after one more byte
 abbrev pub after : Place → List (List ℕ) → ℕ → Reader
 after Text opened byte = if byte == 60 then at Begun opened else (if is_plain byte || (byte == 10) then at Text opened else wrong)
 after Begun opened byte = if byte == 47 then at (Ending []) opened else (if is_name byte then at (Named (byte ∷ [])) opened else wrong)
-after (Named name) opened byte = if is_name byte then at (Named (byte ∷ name)) opened else behind name opened byte
+after (Named name) opened byte = if is_name byte then at (Named (byte ∷ name)) opened else after_name name opened byte
 after (Spaced name) opened byte = if is_name byte then at (Keyed name) opened else wrong
 after (Keyed name) opened byte = if is_name byte then at (Keyed name) opened else (if byte == 61 then at (Valued name) opened else wrong)
 after (Valued name) opened byte = if byte == 39 then at (Quoted name) opened else wrong
 after (Quoted name) opened byte = if byte == 39 then at (Unquoted name) opened else (if is_plain byte then at (Quoted name) opened else wrong)
-after (Unquoted name) opened byte = behind name opened byte
+after (Unquoted name) opened byte = after_name name opened byte
 after Emptied opened byte = if byte == 62 then at Text opened else wrong
 after (Ending name) opened byte = if byte == 62 then closed name opened else (if is_name byte then at (Ending (byte ∷ name)) opened else wrong)
 after Wrong opened byte = wrong

@@ -1,6 +1,6 @@
 //! The line of an entry in the sheet: a byte for each thing that is drawn, and the entry in words.
 
-ghost use Rattle.std.specs.Prelude.{◌≡◌, ◌∷◌, ◌++◌, OnOk};
+ghost use Rattle.std.specs.Prelude.{◌≡◌, ◌++◌, OnOk};
 ghost use Rattle.ncq_journal.specs.Entry.{entry_of};
 ghost use Rattle.ncq_journal.specs.Work.{work_of};
 ghost use Rattle.ahci_draw.specs.Line.{cell, cells, entry_line, issue_sign, lane_of, plain_sign, sign_of};

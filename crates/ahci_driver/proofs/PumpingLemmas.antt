@@ -22,7 +22,7 @@ use Rattle.ahci_port.specs.Looking.{issued_tags, accepted_tags, held_tags}
 use Rattle.ahci_port.specs.PortView.{PortView}
 use Rattle.ahci_port.specs.Steps.{IsStepped}
 use Rattle.ahci_driver.specs.Choosing.{IsLowestStep, IsOne}
-use Rattle.ahci_driver.specs.Pumping.{HasAsked, HasPumped, IsPumped, LeadsTo}
+use Rattle.ahci_driver.specs.Pumping.{HasAsked, HasGotOn, HasPumped, IsPumped, LeadsTo}
 use Rattle.ahci_driver.specs.declared.fault.PumpFault.{PumpFault}
 use Rattle.ahci_driver.specs.declared.pumped.Pumped.{Pumped}
 
@@ -138,3 +138,7 @@ pub pumped_some : {C : Type 0} (gives : C → ℕ → ℕ → DeviceStep → C �
     → IfOk x (λ p. IsPumped old new p) → IfOk x (λ p. HasAsked gives before after old new p) → IfOk x (HasPumped gives before after)
 pumped_some gives before after old new (Ok p) pumped asked = record { old = old; new = new; pumped = pumped; asked = asked }
 pumped_some gives before after old new (Err fault) pumped asked = tt
+
+-- a pump that is known is some pump
+pub got_on : {C : Type 0} (gives : C → ℕ → ℕ → DeviceStep → C → Type 0) (before after : C) (p : Pumped) → HasPumped gives before after p → HasGotOn gives before after
+got_on gives before after p pumped = (p, pumped)

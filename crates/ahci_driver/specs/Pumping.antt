@@ -57,3 +57,7 @@ pub record HasPumped {C : Type 0} (gives : C → ℕ → ℕ → DeviceStep → 
   pub new : PortView
   pub pumped : IsPumped old new p
   pub asked : HasAsked gives before after old new p
+
+-- the same, whatever the pump did
+abbrev pub HasGotOn : {C : Type 0} → (C → ℕ → ℕ → DeviceStep → C → Type 0) → C → C → Type 0
+HasGotOn gives before after = (p : Pumped) × HasPumped gives before after p

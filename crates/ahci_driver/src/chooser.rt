@@ -1,5 +1,5 @@
-ghost use Rattle.std.specs.{Prelude.{◌≡◌, ℕ}, List.{filter, range_with_len}};
-ghost use Rattle.word_bits.specs.Places.{bits, has_place};
+ghost use Rattle.std.specs.Prelude.{◌≡◌, ℕ};
+ghost use Rattle.word_bits.specs.Places.{bits};
 ghost use Rattle.ahci_port.specs.declared.step.DeviceStep.{DeviceStep};
 ghost use Rattle.ahci_driver.specs.Choosing.{IsStepOfAll, IsHighestStep, IsLowestStep, tags_in};
 

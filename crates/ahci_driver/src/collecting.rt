@@ -1,4 +1,4 @@
-ghost use Rattle.std.specs.Prelude.{◌≡◌, ℕ, Some, IsOk, IfOk, IsErrAnd, OnOk, OnErr, MatchOption, length};
+ghost use Rattle.std.specs.Prelude.{◌≡◌, Some, IsOk, IfOk, IsErrAnd, OnOk, OnErr, MatchOption, length};
 ghost use Rattle.ahci_table.specs.Fit.{IsFit};
 ghost use Rattle.ahci_port.specs.{Slots.{bytes_in}, Steps.{IsCollected}};
 ghost use Rattle.ahci_driver.specs.{Settled.{answered_as}, Tickets.{answer_length, is_as_long, has_length, ticket_refusal}};

@@ -1,7 +1,5 @@
 ghost use Rattle.std.specs.Prelude.{◌≡◌, ◌≢◌, ◌↔◌, ◌⊎◌, ◌≤◌, map, length, vec_len, Err, IfOk, IfErr, IfSome, IsTrue, List, MatchOption, None, OnOk, Some};
-ghost use denote.Param.Send.{IsSync, IsSend, Frees};
 ghost use Rattle.ncq_journal.specs.Work.{work_of};
-ghost use Rattle.tag_board.specs.Board.{Board};
 ghost use Rattle.ahci_driver.specs.Received.{Received, received_of};
 ghost use Rattle.std.specs.List.{All, list_any};
 ghost use Rattle.ahci_driver.specs.{

@@ -8,6 +8,7 @@ use crate::ticket::Ticket;
 use ahci_port::{IssueFault, Port};
 use ahci_table::{BuildFault, Piece, Window, default_pieces};
 use arrayvec::ArrayVec;
+use ncq_core::SECTOR;
 use ncq_journal::{Bytes, Op};
 use std::alloc::{AllocError, Allocator};
 
@@ -161,7 +162,7 @@ fn buffer_for<A: Allocator>(alloc: A, op: &Op<A>) -> Result<Vec<u8, A>, AllocErr
     ensures { IfOk result (λ v. v.items ≡ buffer_for (work_of op.now)) }
 {
     match op {
-        Op::Read { sectors, .. } => Vec::from_elem(alloc, 0, *sectors as usize * 512),
+        Op::Read { sectors, .. } => Vec::from_elem(alloc, 0, *sectors as usize * SECTOR),
         Op::Write { .. } => Ok(Vec::new(alloc)),
     }
 }

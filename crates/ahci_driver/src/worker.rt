@@ -1,5 +1,6 @@
-ghost use Rattle.std.specs.Prelude.{◌≡◌, ◌≤◌, length, true, IfErr, IfOk};
+ghost use Rattle.std.specs.Prelude.{◌≡◌, ◌≤◌, length, true, IfErr, IfOk, OnOk};
 ghost use Rattle.word_bits.specs.Places.{has_place};
+ghost use Rattle.ahci_driver.specs.Pumping.{HasGotOn};
 ghost use Rattle.ahci_driver.specs.Stopping.{IsStopAmong, IsStopAt, stop_at, stop_waiting};
 
 use crate::chooser::Chooser;
@@ -176,14 +177,17 @@ impl<'a, A: Allocator + Clone, C: Chooser, G: Gate> Worker<'a, A, C, G> {
     }
 
     /// Lets the port get on. A worker that finds nothing to do lets others go first.
+    #[tactic(auto, using(crate::proofs::PumpingLemmas::got_on))]
     fn pump<R: Wait>(&mut self, rt: &R) -> Result<(), Stop>
         ensures seat { self.new.seat ≡ self.old.seat }
+        ensures asked { OnOk result (HasGotOn C.gives self.old.chooser self.new.chooser) }
         ensures stop { IfErr result (λ stop. stop ≡ Stop.OutOfMemory) }
     {
-        match self.driver.pump(rt, &mut self.chooser) {
-            Ok(Pumped::Idle) => thread::yield_now(),
-            Ok(_) => {}
-            Err(_) => return Err(Stop::OutOfMemory),
+        let Ok(pumped) = self.driver.pump(rt, &mut self.chooser) else {
+            return Err(Stop::OutOfMemory);
+        };
+        if let Pumped::Idle = pumped {
+            thread::yield_now();
         }
         Ok(())
     }

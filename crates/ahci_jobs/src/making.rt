@@ -1,6 +1,6 @@
 //! The command of a job, and the jobs of a line.
 
-ghost use Rattle.std.specs.Prelude.{◌≡◌, ◌++◌, ◌↔◌, ◌∷◌, [], length, map, IfErr, IfOk, IsTrue, None, OnErr, OnOk, Some};
+ghost use Rattle.std.specs.Prelude.{◌≡◌, ◌++◌, ◌↔◌, ◌∷◌, [], length, map, IfErr, IfOk, IsTrue, OnErr, OnOk, Some};
 ghost use Rattle.ahci_script.specs.Jobs.{job_line_of};
 ghost use Rattle.ncq_journal.specs.Lawful.{IsProper};
 ghost use Rattle.ncq_journal.specs.Work.{work_of};

@@ -1,7 +1,6 @@
 //! A journal as a script.
 
 ghost use Rattle.std.specs.Prelude.{◌≡◌, ◌∷◌, [], ◌++◌, ℕ, List, IfOk, OnOk, length};
-ghost use Rattle.ahci_port.specs.PortView.{sectors_in};
 ghost use Rattle.ncq_journal.specs.Entry.{Entry, entry_of};
 ghost use Rattle.ncq_journal.specs.History.{history_of};
 ghost use Rattle.ncq_journal.specs.Work.{work_of};

@@ -2,7 +2,6 @@
 //! journal.
 
 ghost use Rattle.std.specs.Prelude.{◌≡◌, ◌++◌, ◌<◌, ◌≤◌, IfOk, OnOk, map};
-ghost use Rattle.ncq_journal.specs.Sector.{sector};
 ghost use Rattle.ahci_port.specs.PortView.{sectors_in};
 ghost use Rattle.ahci_script.specs.Results.{told};
 ghost use Rattle.ahci_driver.specs.Received.{received_of};

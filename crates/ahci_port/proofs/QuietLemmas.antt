@@ -14,7 +14,7 @@ use Rattle.ncq_journal.specs.Halted.{halted, busy}
 use Rattle.ncq_journal.specs.Lawful.{IsJournalled}
 use Rattle.ncq_journal.specs.Phase.{phase, is_failed, is_busy}
 use Rattle.ncq_journal.specs.Tags.{sact, ci, in_sact, in_ci, in_device}
-use Rattle.ncq_core.specs.Verdict.{verdict, command_in, stopped_verdict, running_verdict, by_kind, plain_verdict, idle_verdict, aborted, passed}
+use Rattle.ncq_core.specs.Verdict.{verdict, command_in, stopped_verdict, running_verdict, by_kind, idle_verdict, aborted, passed}
 use Rattle.ncq_core.specs.Verdict as verdict
 use Rattle.ncq_journal.proofs.HaltedLemmas.{not_busy}
 use Rattle.ncq_journal.proofs.PhaseLemmas.{below_depth}

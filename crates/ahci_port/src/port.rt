@@ -7,7 +7,7 @@ mod stepping;
 mod trimming;
 mod writing;
 
-ghost use Rattle.std.specs.{Prelude.{◌≡◌, ◌<◌, ◌≤◌, [], None, length, replicate, IfOk, IfErr, MatchOption, if◌then◌else◌, slice_index_or}, Option.{option_map}};
+ghost use Rattle.std.specs.Prelude.{◌≡◌, ◌<◌, ◌≤◌, None, length, replicate, IfOk};
 ghost use Rattle.ahci_regs.specs.Reading.{read_of};
 ghost use Rattle.ncq_core.specs.DiskState.{new_fault, new_disk, IsDisk};
 ghost use Rattle.ncq_journal.specs.{Halted.{halted}, Image.{sector_at}, Numbering.{number_of}, Owed.{owed}, Phase.{phase}, Sector.{sector}};

@@ -1,4 +1,4 @@
-ghost use Rattle.std.specs.Prelude.{⊤, ◌≡◌, [], ◌∷◌, codes, bit_and, bit_or, if◌then◌else◌};
+ghost use Rattle.std.specs.Prelude.{⊤, ◌≡◌, [], ◌∷◌, codes};
 ghost use Rattle.word_bits.specs.Places.{bits, has_place, intersection, minus};
 ghost use Rattle.ahci_regs.specs.PortState.{implemented};
 ghost use Rattle.ahci_regs.specs.Reading.{command_word};

@@ -13,7 +13,7 @@ use Rattle.ahci_port.specs.PortView.{PortView, is_free, next_number}
 use Rattle.ncq_journal.specs.Halted.{halted}
 use Rattle.ncq_journal.specs.Phase.{phase}
 use Rattle.ncq_journal.specs.declared.phase.Phase.{Phase}
-use Rattle.ncq_journal.specs.declared.phase.Phase.TheVariants.{Free, Issued, Accepted, Rejected, Broken, Held, Done}
+use Rattle.ncq_journal.specs.declared.phase.Phase.TheVariants.{Free, Issued}
 use Rattle.ahci_script.specs.Said.{Said}
 use Rattle.ahci_script.specs.Said as says
 use Rattle.ahci_replay.specs.Commands.{AnswersWindow, is_issued, is_refused, RefusedOr, issue_said}

@@ -1,16 +1,12 @@
 //! How a script's commands are issued: by a window over the default pieces, or by one of any bytes.
 
-ghost use Rattle.std.specs.Prelude.{◌≡◌, ◌<◌, ◌≤◌, ◌*◌, ◌^◌, false, length, IfOk, IsErr, IsOkAnd, None, OnErr, MatchOption, replicate};
-ghost use Rattle.std.specs.Option.{option_map};
+ghost use Rattle.std.specs.Prelude.{◌≡◌, ◌<◌, ◌≤◌, ◌*◌, ◌^◌, false, IfOk, IsErr, IsOkAnd, None, OnErr, MatchOption, replicate};
 ghost use Rattle.ncq_journal.specs.Work.{work_of, lba_of, sectors_of};
-ghost use Rattle.ahci_port.specs.Faults.{early_refusal};
-ghost use Rattle.ahci_port.specs.Steps.{IsIssued};
 ghost use Rattle.ahci_script.specs.Said.{said, Issued};
 ghost use Rattle.ahci_table.specs.Defaults.{default_list};
-ghost use Rattle.ahci_table.specs.Fit.{IsFit};
 ghost use Rattle.ahci_table.specs.Refusal.{is_ragged};
 ghost use Rattle.ahci_replay.specs.Commands.{AnswersWindow, HasIssued, MayLackOn, RefusedOr, RunsOn, issue_said};
-ghost use Rattle.ahci_replay.specs.Refusals.{issue_refusal, joined, of_issue};
+ghost use Rattle.ahci_replay.specs.Refusals.{issue_refusal};
 
 use crate::reading::read_window;
 use crate::refusals::issue_refusal;

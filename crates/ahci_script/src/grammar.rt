@@ -49,6 +49,16 @@ fn command(line: &[u8]) -> Result<ScriptCommand<'_>, Breach>
     named(line, name, words)
 }
 
+/// A command, after whose words nothing is left.
+fn alone<'a>(words: Words<'a>, command: ScriptCommand<'a>) -> Result<ScriptCommand<'a>, Breach>
+    requires { HasSmallTag command }
+    ensures command { result ≡ alone command.entry words.entry }
+    ensures tag { IfOk result (λ command. HasSmallTag command) }
+{
+    words.end()?;
+    Ok(command)
+}
+
 /// The commands of requests, and all others.
 #[tactic(auto, unfolding(crate::specs::Lines::named))]
 fn named<'a>(line: &[u8], name: &[u8], words: Words<'a>) -> Result<ScriptCommand<'a>, Breach>
@@ -127,30 +137,6 @@ pub(crate) fn unnamed(line: &[u8], name: &[u8]) -> Breach
     }
 }
 
-/// A command, after whose words nothing is left.
-fn alone<'a>(words: Words<'a>, command: ScriptCommand<'a>) -> Result<ScriptCommand<'a>, Breach>
-    requires { HasSmallTag command }
-    ensures command { result ≡ alone command.entry words.entry }
-    ensures tag { IfOk result (λ command. HasSmallTag command) }
-{
-    words.end()?;
-    Ok(command)
-}
-
-fn disk(words: Words<'_>) -> Result<ScriptCommand<'_>, Breach>
-    ensures command { result ≡ disk_of words.entry }
-    ensures tag { IfOk result (λ command. HasSmallTag command) }
-{
-    let (sectors, words) = words.number()?;
-    let (depth, words) = words.number()?;
-    let first = words.number_if_any()?;
-    Ok(ScriptCommand::Disk {
-        sectors,
-        depth,
-        first,
-    })
-}
-
 fn write(words: Words<'_>) -> Result<ScriptCommand<'_>, Breach>
     ensures command { result ≡ write_of words.entry }
     ensures tag { IfOk result (λ command. HasSmallTag command) }
@@ -192,6 +178,53 @@ fn raw(words: Words<'_>) -> Result<ScriptCommand<'_>, Breach>
     })
 }
 
+fn collect(words: Words<'_>) -> Result<ScriptCommand<'_>, Breach>
+    ensures command { result ≡ collect_of words.entry }
+    ensures tag { IfOk result (λ command. HasSmallTag command) }
+{
+    let (tag, words) = words.tag()?;
+    let (number, words) = words.number()?;
+    alone(words, ScriptCommand::Collect { tag, number })
+}
+
+fn reissue(words: Words<'_>) -> Result<ScriptCommand<'_>, Breach>
+    ensures command { result ≡ reissue_of words.entry }
+    ensures tag { IfOk result (λ command. HasSmallTag command) }
+{
+    let (tag, words) = words.tag()?;
+    alone(words, ScriptCommand::Reissue { tag })
+}
+
+fn disk(words: Words<'_>) -> Result<ScriptCommand<'_>, Breach>
+    ensures command { result ≡ disk_of words.entry }
+    ensures tag { IfOk result (λ command. HasSmallTag command) }
+{
+    let (sectors, words) = words.number()?;
+    let (depth, words) = words.number()?;
+    let first = words.number_if_any()?;
+    Ok(ScriptCommand::Disk {
+        sectors,
+        depth,
+        first,
+    })
+}
+
+fn identify(words: Words<'_>) -> Result<ScriptCommand<'_>, Breach>
+    ensures command { result ≡ identify_of words.entry }
+    ensures tag { IfOk result (λ command. HasSmallTag command) }
+{
+    let (word, words) = words.page_word()?;
+    alone(words, ScriptCommand::Identify { word })
+}
+
+fn show(words: Words<'_>) -> Result<ScriptCommand<'_>, Breach>
+    ensures command { result ≡ show_of words.entry }
+    ensures tag { IfOk result (λ command. HasSmallTag command) }
+{
+    let (lba, words) = words.number()?;
+    alone(words, ScriptCommand::Show { lba })
+}
+
 fn accept(words: Words<'_>) -> Result<ScriptCommand<'_>, Breach>
     ensures command { result ≡ accept_of words.entry }
     ensures tag { IfOk result (λ command. HasSmallTag command) }
@@ -218,23 +251,6 @@ fn fail(words: Words<'_>) -> Result<ScriptCommand<'_>, Breach>
     alone(words, ScriptCommand::Fail { tag, error, lba })
 }
 
-fn collect(words: Words<'_>) -> Result<ScriptCommand<'_>, Breach>
-    ensures command { result ≡ collect_of words.entry }
-    ensures tag { IfOk result (λ command. HasSmallTag command) }
-{
-    let (tag, words) = words.tag()?;
-    let (number, words) = words.number()?;
-    alone(words, ScriptCommand::Collect { tag, number })
-}
-
-fn reissue(words: Words<'_>) -> Result<ScriptCommand<'_>, Breach>
-    ensures command { result ≡ reissue_of words.entry }
-    ensures tag { IfOk result (λ command. HasSmallTag command) }
-{
-    let (tag, words) = words.tag()?;
-    alone(words, ScriptCommand::Reissue { tag })
-}
-
 fn reg(words: Words<'_>) -> Result<ScriptCommand<'_>, Breach>
     ensures command { result ≡ reg_of words.entry }
     ensures tag { IfOk result (λ command. HasSmallTag command) }
@@ -249,20 +265,4 @@ fn ack(words: Words<'_>) -> Result<ScriptCommand<'_>, Breach>
 {
     let (mask, words) = words.register()?;
     alone(words, ScriptCommand::Ack { mask })
-}
-
-fn identify(words: Words<'_>) -> Result<ScriptCommand<'_>, Breach>
-    ensures command { result ≡ identify_of words.entry }
-    ensures tag { IfOk result (λ command. HasSmallTag command) }
-{
-    let (word, words) = words.page_word()?;
-    alone(words, ScriptCommand::Identify { word })
-}
-
-fn show(words: Words<'_>) -> Result<ScriptCommand<'_>, Breach>
-    ensures command { result ≡ show_of words.entry }
-    ensures tag { IfOk result (λ command. HasSmallTag command) }
-{
-    let (lba, words) = words.number()?;
-    alone(words, ScriptCommand::Show { lba })
 }

@@ -65,15 +65,15 @@ pub(crate) fn tag(word: &[u8]) -> Result<u8, Fault>
     }
 }
 
-/// A number of sectors is below this: the largest disk has 131,072.
-const SECTORS_LIMIT: u64 = 131_073;
+/// So many sectors the largest disk has.
+const MAX_SECTORS: u64 = 131_072;
 
 /// A number of sectors: a decimal number from 0 to 131,072.
 pub(crate) fn sectors(word: &[u8]) -> Result<u32, Fault>
     ensures { result ≡ sectors_of word.now }
 {
     let number = decimal(word)?;
-    if number < SECTORS_LIMIT {
+    if number <= MAX_SECTORS {
         Ok(number as u32)
     } else {
         Err(Fault::LargeCount(number))

@@ -100,6 +100,18 @@ impl<'a> Words<'a> {
         placed(text, others, page_word(word))
     }
 
+    /// A decimal number, where a word is left, and nothing after it.
+    pub(crate) fn number_if_any(self) -> Result<Option<u64>, Breach>
+        ensures { result ≡ number_if_any self.entry }
+    {
+        if self.rest.is_none() {
+            return Ok(None);
+        }
+        let (number, words) = self.number()?;
+        words.end()?;
+        Ok(Some(number))
+    }
+
     /// A byte, by two hexadecimal digits.
     #[tactic(auto, unfolding(crate::specs::Words::word_of))]
     pub(crate) fn byte(self) -> Result<(u8, Words<'a>), Breach>
@@ -134,18 +146,6 @@ impl<'a> Words<'a> {
     {
         let (text, word, others) = self.next()?;
         placed(text, others, hex_bytes(word))
-    }
-
-    /// A decimal number, where a word is left, and nothing after it.
-    pub(crate) fn number_if_any(self) -> Result<Option<u64>, Breach>
-        ensures { result ≡ number_if_any self.entry }
-    {
-        if self.rest.is_none() {
-            return Ok(None);
-        }
-        let (number, words) = self.number()?;
-        words.end()?;
-        Ok(Some(number))
     }
 }
 

@@ -197,7 +197,7 @@ entry_good start first last p aligned even behind inside =
     let at = even.at in
     let len = even.len in
     let some = even.some in
-    record { even = omega arith; low = refl; odd = omega arith; behind = omega arith; within = omega arith }
+    record { even = omega arith; low = refl; odd = omega arith; after = omega arith; within = omega arith }
 
 pub fit_built : (tag : ℕ) (work : Work) (ps : List Piece) (w : WindowState) → tag < 32 → IsFree work ps → IsBuilt tag work ps w → IsFit w
 fit_built tag work ps w low f b =

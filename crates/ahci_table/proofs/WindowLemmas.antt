@@ -33,13 +33,13 @@ pub pieces_inside : (w : WindowState) → HasEntries w → All (λ p. end_of p �
 pieces_inside w h = each_piece w (λ p. end_of p ≤ length w.bytes) (λ i below. inside (base w.tag) (table_end w) (length w.bytes) (entry_of w i) (h i below))
   where
     inside : (start first last : ℕ) (e : EntryFields) → IsEntry start first last e → end_of (piece_of start e) ≤ last
-    inside start first last e f = let a = f.behind in let b = f.within in omega arith
+    inside start first last e f = let a = f.after in let b = f.within in omega arith
 
 pub pieces_behind : (w : WindowState) → HasEntries w → All (λ p. table_end w ≤ p.at) (pieces w)
 pieces_behind w h = each_piece w (λ p. table_end w ≤ p.at) (λ i below. behind (base w.tag) (table_end w) (length w.bytes) (entry_of w i) (h i below))
   where
     behind : (start first last : ℕ) (e : EntryFields) → IsEntry start first last e → first ≤ (piece_of start e).at
-    behind start first last e f = let a = f.behind in omega arith
+    behind start first last e f = let a = f.after in omega arith
 
 -- a place before all pieces is in none
 pub none_before : (t x : ℕ) (ps : List Piece) → All (λ p. t ≤ p.at) ps → x < t → in_some x ps ≡ false

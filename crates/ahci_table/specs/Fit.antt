@@ -40,7 +40,7 @@ pub record IsEntry (start first last : ℕ) (e : EntryFields) : Type 0 where
   pub even : e.dba % 2 ≡ 0
   pub low : e.dbau ≡ 0
   pub odd : e.dbc % 2 ≡ 1
-  pub behind : start + first ≤ e.dba
+  pub after : start + first ≤ e.dba
   pub within : e.dba + e.dbc + 1 ≤ start + last
 
 -- each entry of the PRDT does so between the end of the command table and the end of the window

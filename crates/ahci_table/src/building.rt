@@ -1,5 +1,5 @@
 ghost use Rattle.std.specs.Prelude.{◌≡◌, ◌<◌, ◌≤◌, ◌+◌, ◌-◌, ◌*◌, ℕ, false, true, ◌++◌, ◌^◌, length, [], None, IfOk, IfErr, IsErrAnd, MatchOption, replicate};
-ghost use Rattle.std.specs.List.{All, flat_map};
+ghost use Rattle.std.specs.List.{All};
 ghost use Rattle.sata_fis.specs.Command.{h2d_for};
 ghost use Rattle.sata_fis.specs.Encoding.{h2d_bytes};
 ghost use Rattle.ncq_journal.specs.Image.{is_write};

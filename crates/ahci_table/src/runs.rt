@@ -3,7 +3,7 @@
 ghost use Rattle.std.specs.Prelude.{◌≡◌, ◌+◌, ◌≤◌, ℕ, true, false, length, take, drop, IfOk};
 ghost use Rattle.std.specs.List.{All};
 ghost use Rattle.sata_fis.specs.Places.{byte};
-ghost use Rattle.ahci_table.specs.Piece.{are_apart, end_of, total};
+ghost use Rattle.ahci_table.specs.Piece.{are_apart, end_of};
 ghost use Rattle.ahci_table.specs.Scatter.{in_some};
 ghost use Rattle.ahci_table.specs.Text.{joined, replaced};
 

@@ -8,12 +8,12 @@ use Rattle.std.proofs.lemmas.List.Folds.{list_all-append}
 use Rattle.std.proofs.lemmas.List.Concat.{flat_map-cons}
 use Rattle.ahci_regs.specs.RegisterTable.{name_of}
 use Rattle.ahci_regs.specs.declared.register.Register.{Register}
-use Rattle.ahci_regs.specs.declared.register.Register.TheVariants.{Cap, Ghc, Pi, Vs, PxClb, PxClbu, PxFb, PxFbu, PxIs, PxIe, PxCmd, PxTfd, PxSig, PxSsts, PxSctl, PxSerr, PxSact, PxCi}
+use Rattle.ahci_regs.specs.declared.register.Register.TheVariants.{Cap}
 use Rattle.ahci_replay.specs.Transcript.{no_line, one_more}
 use Rattle.ahci_script.specs.Answers.{answer_text, hex_of}
 use Rattle.ahci_script.specs.declared.line.Line.TheVariants as line
 use Rattle.ncq_journal.specs.declared.phase.Phase.{Phase}
-use Rattle.ncq_journal.specs.declared.phase.Phase.TheVariants.{Free, Issued, Accepted, Rejected, Broken, Held, Done}
+use Rattle.ncq_journal.specs.declared.phase.Phase.TheVariants.{Free}
 use Rattle.ncq_journal.specs.declared.plain.Plain.{Plain}
 use Rattle.ncq_journal.specs.declared.plain.Plain.TheVariants.{Identify, Flush, ReadLog}
 use Rattle.ncq_core.specs.DiskFis.{activate_bytes, setup_bytes}

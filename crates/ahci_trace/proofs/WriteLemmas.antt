@@ -5,7 +5,7 @@ use Rattle.std.proofs.lemmas.Bool.Decides.{nat_tests}
 use Rattle.ahci_port.specs.Faults.{are_accepted, is_bad_list}
 use Rattle.ahci_port.specs.PortView.{PortView}
 use Rattle.ahci_port.specs.Registers.{issued}
-use Rattle.ahci_port.specs.Steps.{Appends, IsIssued, IsServed, IsTaken, TakenBy, first_lacking, passes_end}
+use Rattle.ahci_port.specs.Steps.{Appends, IsIssued, IsServed, IsTaken, TakenBy, passes_end}
 use Rattle.ahci_port.specs.declared.step.Stepped.{Stepped}
 use Rattle.ahci_regs.specs.PortState.{PortState}
 use Rattle.ahci_regs.specs.declared.register.Register.TheVariants.{PxSact, PxCi}

@@ -1,5 +1,5 @@
 -- The writes that are told of a command have moved the port's registers, with what the device then sent.
-use Rattle.std.specs.Prelude.{◌≡◌, ℕ, ◌<◌, List, [], Option, None, Some}
+use Rattle.std.specs.Prelude.{◌≡◌, ◌<◌, List, [], Option, Some}
 use Rattle.std.specs.List.{fold}
 use Rattle.ahci_port.specs.Carrying as port
 use Rattle.ahci_port.specs.PortView.{PortView}

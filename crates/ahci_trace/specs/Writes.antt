@@ -1,6 +1,6 @@
 -- The registers that software writes for a command, one after the other (AHCI 1.3.1, sections 5.5.1, "Building a Command", and
 -- 6.2.2, the recovery of a port whose command has failed). What an acknowledgement writes is said by its own line.
-use Rattle.std.specs.Prelude.{ℕ, ◌^◌, nat_lt, if◌then◌else◌, List, [], ◌∷◌, Option, None, Some}
+use Rattle.std.specs.Prelude.{ℕ, ◌^◌, nat_lt, if◌then◌else◌, List, [], ◌∷◌, Option, Some}
 use Rattle.ahci_regs.specs.declared.register.Register.{Register}
 use Rattle.ahci_regs.specs.declared.register.Register.TheVariants.{PxIs, PxCmd, PxSerr, PxSact, PxCi}
 use Rattle.ahci_trace.specs.declared.appended.Happened.{Happened}

@@ -1,7 +1,5 @@
 ghost use Rattle.std.specs.Prelude.{◌≡◌, IfOk};
-ghost use Rattle.std.specs.Option.{option_map};
 ghost use Rattle.ncq_journal.specs.Entry.{entry_of};
-ghost use Rattle.ncq_journal.specs.Numbering.{entry_numbered};
 ghost use Rattle.ahci_trace.specs.Entries.{appended_at, new_entries, newest, what_of};
 
 use crate::mark::Mark;

@@ -1,4 +1,4 @@
-ghost use Rattle.std.specs.Prelude.{◌≡◌, ◌↔◌, ◌≤◌, IsTrue};
+ghost use Rattle.std.specs.Prelude.{◌↔◌, ◌≤◌, IsTrue};
 ghost use Rattle.ncq_journal.specs.Entry.{entry_of};
 ghost use Rattle.ncq_journal.specs.History.{history_of};
 ghost use Rattle.ncq_journal.specs.Lawful.{AllProper, IsAllowed, IsLawful, IsProper, MayIssue, MayAccept, MayFail, Fails, Refuses};

@@ -1,7 +1,7 @@
 //! The entries of a port's journal, by their numbers.
 
 ghost use Rattle.std.specs.Prelude.{◌≡◌, Some};
-ghost use Rattle.ncq_journal.specs.{Entry.{Entry, Issue, entry_of}, Lawful.{IsProper, IsProperEntry}, Numbering.{entry_numbered}, Work.{work_of}};
+ghost use Rattle.ncq_journal.specs.{Entry.{Issue, entry_of}, Lawful.{IsProper, IsProperEntry}, Numbering.{entry_numbered}, Work.{work_of}};
 ghost use Rattle.port_place.specs.{Flat.{flat_entry, plain_kind}, Seen.{AnswersBytes, AnswersEntry, written_by}};
 
 use crate::flat::FlatEntry;

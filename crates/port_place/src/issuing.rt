@@ -39,26 +39,26 @@ pub fn submit<A: Allocator + Copy>(
     kind: u32,
     lba: u64,
     sectors: u32,
-    data: &[u8],
+    payload: &[u8],
     number: &mut u64,
 ) -> Status
-    ensures { AnswersSubmit tag kind lba sectors data.now result port.old port.new number.old number.new }
+    ensures { AnswersSubmit tag kind lba sectors payload.now result port.old port.new number.old number.new }
 {
     if tag >= 32 {
         return Status::BadTag;
     }
-    if let Some(refusal) = submit_refusal(kind, lba, sectors, data) {
+    if let Some(refusal) = submit_refusal(kind, lba, sectors, payload) {
         return refusal;
     }
-    let Ok(op) = asked(alloc, kind, lba, sectors, data) else {
+    let Ok(op) = asked(alloc, kind, lba, sectors, payload) else {
         return Status::OutOfMemory;
     };
     send(port, alloc, tag as u8, &op, number)
 }
 
 /// Why no command is made of these numbers.
-fn submit_refusal(kind: u32, lba: u64, sectors: u32, data: &[u8]) -> Option<Status>
-    ensures { result ≡ submit_refusal kind lba sectors (length data.now) }
+fn submit_refusal(kind: u32, lba: u64, sectors: u32, payload: &[u8]) -> Option<Status>
+    ensures { result ≡ submit_refusal kind lba sectors (length payload.now) }
 {
     if kind > 1 {
         return Some(Status::BadKind);
@@ -66,7 +66,7 @@ fn submit_refusal(kind: u32, lba: u64, sectors: u32, data: &[u8]) -> Option<Stat
     if sectors == 0 || sectors > MAX_COUNT {
         return Some(Status::BadCount);
     }
-    if kind == 1 && data.len() != SECTOR * sectors as usize {
+    if kind == 1 && payload.len() != SECTOR * sectors as usize {
         return Some(Status::BadCount);
     }
     if lba >= LBA_LIMIT {
@@ -81,15 +81,15 @@ fn asked<A: Allocator>(
     kind: u32,
     lba: u64,
     sectors: u32,
-    data: &[u8],
+    payload: &[u8],
 ) -> Result<Op<A>, AllocError>
     requires { kind ≤ 1 }
-    ensures { IfOk result (λ o. work_of o ≡ work_asked kind lba sectors data.now) }
+    ensures { IfOk result (λ o. work_of o ≡ work_asked kind lba sectors payload.now) }
 {
     if kind == 0 {
         return Ok(Op::Read { lba, sectors });
     }
-    let bytes = Bytes::from_vec(Vec::from_slice(alloc, data)?);
+    let bytes = Bytes::from_vec(Vec::from_slice(alloc, payload)?);
     Ok(Op::Write { lba, bytes })
 }
 

@@ -1,6 +1,6 @@
 //! How ports are made.
 
-ghost use Rattle.std.specs.Prelude.{◌≡◌, ◌*◌, ◌<◌, ◌≤◌, length, replicate, None};
+ghost use Rattle.std.specs.Prelude.{◌≡◌, ◌*◌, ◌<◌, length, replicate, None};
 ghost use Rattle.ahci_port.specs.PortView.{port_from};
 ghost use Rattle.port_place.specs.Making.{Makes, size_refusal};
 

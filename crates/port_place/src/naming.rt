@@ -1,6 +1,6 @@
 //! The statuses by their numbers and names.
 
-ghost use Rattle.std.specs.Prelude.{◌≡◌, ◌++◌, ◌∷◌, [], length, IfSome, MatchOption};
+ghost use Rattle.std.specs.Prelude.{◌≡◌, MatchOption};
 ghost use Rattle.port_place.specs.{Names.{AnswersName, AnswersText, IsNoStatus}, Status.{code_of, name_of}};
 
 use crate::status::Status;

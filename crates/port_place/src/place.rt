@@ -61,9 +61,9 @@ impl Place {
         }
     }
 
-    /// A place without a port.
+    /// A place without a port, in which this is half written.
     #[tactic(auto, unfolding(crate::specs::PlaceView::view_of))]
-    fn without(heap: Global, pending: Pending) -> Place
+    pub fn without(heap: Global, pending: Pending) -> Place
         ensures { view_of result ≡ record { port = None; pending = pending } }
     {
         Place {

@@ -1,7 +1,7 @@
 //! A window as it lies in memory, looked at with no port.
 
 ghost use Rattle.std.specs.Prelude.{◌≡◌, length, None};
-ghost use Rattle.ahci_table.specs.{Command.{queued_of}, Prdt.{pieces}};
+ghost use Rattle.ahci_table.specs.Prdt.{pieces};
 ghost use Rattle.port_place.specs.{Alone.{AnswersCheck, AnswersWindowCheck, flat_command}, Making.{Makes}, Refusals.{with_length, with_tag}};
 
 use crate::faults::table_status;

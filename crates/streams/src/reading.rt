@@ -25,8 +25,7 @@ impl<A: Allocator> Reading<A> {
     ghost use Rattle.std.specs.Prelude.{◌≡◌, ◌<◌, ◌≤◌, [], length, false, true, IfErr, IfOk, OnOk};
     ghost use Rattle.streams.specs.Reading.{MayEnd, ReadsAs, last_of};
     ghost use Rattle.streams.specs.Standing.{Ends, Halts, HasRead, left_in, stand};
-    ghost use Rattle.streams.specs.Unread.{found_of, shown, unfinished};
-    ghost use Rattle.streams.specs.declared.input.TheConstants.{LINE_LIMIT};
+    ghost use Rattle.streams.specs.Unread.{shown};
 
     /// No byte came yet.
     fn new(alloc: A) -> Result<Self, AllocError>

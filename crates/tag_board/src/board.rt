@@ -1,5 +1,5 @@
-ghost use Rattle.std.specs.Prelude.{◌≡◌, ℕ, ◌+◌, ◌<◌, ◌≤◌, true, false, [], ◌∷◌, IfOk, OnErr};
-ghost use Rattle.word_bits.specs.Places.{bits, has_place, no_places, with_place, without_place, union};
+ghost use Rattle.std.specs.Prelude.{◌≡◌, ℕ, ◌<◌, ◌≤◌, true, false, ◌∷◌, IfOk, OnErr};
+ghost use Rattle.word_bits.specs.Places.{bits, has_place, with_place, without_place, union};
 ghost use Rattle.tag_board.specs.View.{missed};
 ghost use Rattle.tag_board.specs.Partition.{Stands};
 ghost use Rattle.tag_board.specs.Board.{view_of, newcomer, IsFreeBeside};

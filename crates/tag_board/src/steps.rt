@@ -1,6 +1,5 @@
 //! The steps on the board's word, on plain seats of the table.
-ghost use Rattle.std.specs.Prelude.{◌≡◌, ◌<◌, ◌≤◌, ◌^◌, true, false, length, bit_and, bit_or};
-ghost use Rattle.std.specs.Int.{w32, bit_not};
+ghost use Rattle.std.specs.Prelude.{◌≡◌, ◌<◌, true, false, length};
 ghost use Rattle.word_bits.specs.Places.{bits, has_place};
 ghost use Rattle.tag_board.specs.View.{after_seen, after_tried, after_gave};
 ghost use Rattle.tag_board.specs.Partition.{Stands};

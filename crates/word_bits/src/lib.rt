@@ -1,8 +1,8 @@
 //! The set of a 32-bit word's bits, as the contracts of the crates above see it.
 #![tactic(auto)]
 
-ghost use Rattle.std.specs.Prelude.{◌≡◌, ℕ, ◌-◌, ◌^◌, ◌<◌, ◌≤◌, MatchOption};
-ghost use Rattle.word_bits.specs.Places.{bits, has_place, no_places, all_places, with_place, without_place, union, intersection, minus, only_below, IsLowest, IsHighest};
+ghost use Rattle.std.specs.Prelude.{◌≡◌, ◌-◌, ◌^◌, ◌<◌, ◌≤◌, MatchOption};
+ghost use Rattle.word_bits.specs.Places.{bits, has_place, no_places, all_places, with_place, without_place, only_below, IsLowest, IsHighest};
 
 /// The word in which the bit of one place, below 32, is alone.
 #[tactic(auto, using(crate::proofs::BitsLemmas::bits_one))]

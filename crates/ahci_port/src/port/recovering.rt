@@ -1,7 +1,7 @@
 //! How software recovers from a failure, and sends commands that are not queued, by slot 0 (AHCI 1.3.1, section 6.2.2;
 //! ACS-3, READ LOG EXT, IDENTIFY DEVICE and FLUSH CACHE EXT).
 
-ghost use Rattle.std.specs.Prelude.{◌≡◌, true, IfOk, IfErr, OnOk, OnErr};
+ghost use Rattle.std.specs.Prelude.{◌≡◌, true, IfOk, OnOk, OnErr};
 ghost use Rattle.ncq_core.specs.Identify.{identify_page};
 ghost use Rattle.ncq_journal.specs.{Lawful.{IsJournalled}, Phase.{phase, is_failed}, declared.plain.Plain.TheVariants.{Identify}};
 ghost use Rattle.ahci_port.specs.{Faults.{AnswersOr, recover_refusal, plain_refusal}, PortView.{sectors_in}, Steps.{IsCarriedOut, IsRecovered, IsIdentified, IsFlushed}};

@@ -5,10 +5,10 @@ ghost use Rattle.ahci_port.specs.{Faults.{Answers, step_refusal}, Moves.{step_fa
 
 use crate::fault::StepFault;
 use crate::port::Port;
-use crate::receiving::{receive_bits, receive_register, receive_setup};
+use crate::receiving::{receive_bits, receive_register};
 use crate::step::{DeviceStep, Stepped};
 use ncq_core::laws::the_disks_answers_are_these_bytes;
-use ncq_core::{Disk, ServeFault, Taken};
+use ncq_core::{ServeFault, Taken};
 use ncq_journal::{Event, Phase};
 use std::alloc::Allocator;
 use word_bits::place;

@@ -1,6 +1,6 @@
 //! The page that IDENTIFY DEVICE reads (ACS-3, "IDENTIFY DEVICE").
 
-ghost use Rattle.std.specs.Prelude.{◌≡◌, ◌<◌, ◌≤◌, length};
+ghost use Rattle.std.specs.Prelude.{◌≡◌, ◌<◌, ◌≤◌};
 ghost use Rattle.ncq_core.specs.Identify.{text_word, number_word, identify_word, identify_page};
 
 /// Word `number` of a text, which spaces follow. The first of its two characters is the high byte.

@@ -1,6 +1,6 @@
 //! Page 0 of log 10h (ACS-3, "NCQ Command Error log").
 
-ghost use Rattle.std.specs.Prelude.{◌≡◌, ◌<◌, ◌^◌, length};
+ghost use Rattle.std.specs.Prelude.{◌≡◌, ◌<◌, ◌^◌};
 ghost use Rattle.ncq_core.specs.Log.{log_head, log_page, checksum};
 
 /// The byte that makes the sum of these and itself 0 modulo 256.

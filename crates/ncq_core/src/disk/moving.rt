@@ -1,7 +1,7 @@
 //! Data FISes between the disk and a host (Serial ATA, "Data FIS" and "DMA Activate FIS"). Each has 8,192 bytes of
 //! payload, the last one the rest. Every byte is copied once here: into a Data FIS, or out of one.
 
-ghost use Rattle.std.specs.Prelude.{◌≡◌, ◌+◌, ◌*◌, ◌/◌, ◌%◌, ◌≤◌, ◌++◌, length, take, drop, slice_range};
+ghost use Rattle.std.specs.Prelude.{◌≡◌, ◌+◌, ◌*◌, ◌/◌, ◌≤◌, ◌++◌, length, take, drop, slice_range};
 ghost use Rattle.std.specs.List.{replace_range};
 ghost use Rattle.sata_fis.specs.Encoding.{data_head_bytes};
 ghost use Rattle.sata_fis.specs.Payload.{IsPayload};

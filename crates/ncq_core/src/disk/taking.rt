@@ -1,7 +1,6 @@
 //! How the disk takes the bytes of a command.
 
 ghost use Rattle.std.specs.Prelude.{◌≡◌, false, Some};
-ghost use Rattle.ncq_core.specs.DiskState.{IsDisk};
 ghost use Rattle.ncq_core.specs.Verdict.{verdict, command_in, queued_verdict, plain_verdict, stopped_verdict, idle_verdict, accepted, not_found, is_read_log, is_taken_tag, is_past_end, is_busy};
 
 use crate::disk::Disk;

@@ -1,5 +1,5 @@
 //! What is claimed of all requests' answers, held against the events in one pass, with an image that is changed in place.
-ghost use Rattle.std.specs.Prelude.{◌≡◌, ◌↔◌, ◌*◌, ◌/◌, ◌<◌, ◌≤◌, Bool, IfOk, IsSome, IsTrue, None, Some, [], false, length, replicate, slice_index_or, slice_set};
+ghost use Rattle.std.specs.Prelude.{◌≡◌, ◌↔◌, ◌*◌, ◌/◌, ◌<◌, ◌≤◌, IfOk, IsSome, IsTrue, None, Some, [], false, length, replicate, slice_index_or, slice_set};
 ghost use Rattle.std.specs.Option.{option_map};
 ghost use Rattle.ncq_journal.specs.Claims.{AreJudged, Holds};
 ghost use Rattle.ncq_journal.specs.History.{history_of};

@@ -1,4 +1,4 @@
-use Rattle.std.proofs.Common.{◌≡◌, ◌∙◌, MatchOption, None, Some, ap, subst, sym}
+use Rattle.std.proofs.Common.{◌≡◌, ◌∙◌, MatchOption, None, ap, subst, sym}
 use Rattle.ahci_port.specs.PortView.{next_number}
 use Rattle.ahci_port.specs.Steps.{IsIssued}
 use Rattle.ahci_script.specs.Said.{Issued, said}

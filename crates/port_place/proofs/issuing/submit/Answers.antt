@@ -8,8 +8,8 @@ use Rattle.port_place.proofs.issuing.submit.Goals as goal
 pub returns : goal.returns
 returns g c =
     let a = c.args in
-    let against = submit_refusal a.kind a.lba a.sectors (length a.data.now) in
-    let work = work_asked a.kind a.lba a.sectors a.data.now in
+    let against = submit_refusal a.kind a.lba a.sectors (length a.payload.now) in
+    let work = work_asked a.kind a.lba a.sectors a.payload.now in
     subst
     (λ reason. AnswersUnless reason c.send.result (AnswersCommand a.tag work c.send.result a.port.now c.send.new.port a.number.now c.send.new.number)
     (Same a.port.now c.send.new.port a.number.now c.send.new.number))
