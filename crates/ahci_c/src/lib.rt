@@ -21,6 +21,8 @@ mod looking;
 mod making;
 mod registers;
 mod software;
+#[cfg(test)]
+mod tests;
 
 /// The library's version: major, minor and patch, a byte each.
 #[unsafe(no_mangle)]

@@ -44,16 +44,16 @@ pub extern "C" fn ahci_port_submit(
     kind: u32,
     lba: u64,
     sectors: u32,
-    data: &[u8],
+    payload: &[u8],
     number: &mut u64,
 ) -> u32
     ensures { Changes result (view_of port.old) (view_of port.new) (number.new ≡ number.old)
-        (λ answer old new. AnswersSubmit tag kind lba sectors data.now answer old new number.old number.new) }
+        (λ answer old new. AnswersSubmit tag kind lba sectors payload.now answer old new number.old number.new) }
 {
     over!(
         port,
         heap,
-        |held| port_place::submit(&mut held, heap, tag, kind, lba, sectors, data, number)
+        |held| port_place::submit(&mut held, heap, tag, kind, lba, sectors, payload, number)
     )
 }
 

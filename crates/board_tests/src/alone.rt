@@ -1,7 +1,6 @@
 //! One thread with two seats: the worked story, and boards of several depths.
 ghost use Rattle.std.specs.Prelude.{◌≡◌};
 
-use std::alloc::Global;
 use std::process::Abort;
 use std::test::Fail;
 use tag_board::{Full, TagBoard, TagSeat};

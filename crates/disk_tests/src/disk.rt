@@ -8,7 +8,8 @@ mod sizes;
 
 use crate::table::equal;
 use memory::{Link, QUIET};
-use ncq_core::{Disk, Plain, ServeFault, Taken};
+use ncq_core::{Disk, ServeFault, Taken};
+use ncq_journal::Plain;
 use rig::Call::{Fail as Failing, Queue, ReadLog, Serve, Take, TakeShort};
 use rig::{ABORTED, ACCEPTED, FLUSH, IDENTIFY, READ_LOG, Row, WRITE, plays};
 use std::test::Fail;

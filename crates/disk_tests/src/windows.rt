@@ -6,7 +6,7 @@ mod moving;
 
 use crate::table::equal;
 use ahci_table::{BuildFault, Piece, Window};
-use ncq_core::{Bytes, Op};
+use ncq_journal::{Bytes, Op};
 use std::alloc::{AllocError, Global};
 use std::process::Abort;
 use std::test::Fail;

@@ -1,6 +1,7 @@
 mod beginnings;
 mod choosers;
 mod common;
+mod contended;
 mod gates;
 mod jobs;
 mod one_seat;

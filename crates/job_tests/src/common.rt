@@ -1,6 +1,4 @@
 //! A job list, done by a crew.
-ghost use Rattle.std.specs.Prelude.{◌≤◌};
-
 use ahci_driver::Chooser;
 use ahci_jobs::{Form, JobsFault, RunSize, run_jobs};
 use std::alloc::Global;

@@ -2,60 +2,23 @@
 use ahci_driver::Low;
 use ahci_jobs::{Form, JobsFault, RunSize, run_jobs};
 use std::alloc::{AllocError, Global};
-use std::io;
-use std::io::{Read, Write};
 use std::process::Abort;
 use std::sync::Wait;
 use std::test::Fail;
 use std::thread::Threads;
+use test_helpers::{ReadFailure, Source};
 
 static LIST: &[u8] = b"write 0 2 11\nwrite 4 1 22\nread 1 1\nread 4 2\n";
 
 static TOLD: &[u8] = b"wrote\nwrote\nread 11\nread 22 00\nsector 0 11\nsector 1 11\nsector 4 22\n";
 
-/// A reader that gives its bytes one by one, and then fails.
-#[derive(Drop)]
-struct Broken<'a> {
-    bytes: &'a [u8],
-}
-
-impl Read for Broken<'_> {
-    fn read(&mut self, buf: &mut [u8]) -> io::Result<usize> {
-        if self.bytes.is_empty() {
-            return Err(io::Error::from(io::ErrorKind::Interrupted));
-        }
-        let count = buf.len().min(1);
-        buf[..count].copy_from_slice(&self.bytes[..count]);
-        self.bytes = &self.bytes[count..];
-        Ok(count)
-    }
-}
-
-/// A writer that takes so many bytes, and then none.
-#[derive(Drop)]
-struct Full {
-    written: Vec<u8>,
-    room: usize,
-}
-
-impl Write for Full {
-    fn write(&mut self, buf: &[u8]) -> io::Result<usize> {
-        let count = self.room.min(buf.len());
-        self.written.extend_from_slice(&buf[..count])?;
-        self.room -= count;
-        Ok(count)
-    }
-
-    fn flush(&mut self) -> io::Result<()> {
-        Ok(())
-    }
-}
-
 #[test]
 fn a_reader_may_fail_after_any_byte(rt: HostRuntime) {
     for count in 0..=LIST.len() {
-        let mut reader = Broken {
+        let mut reader = Source {
             bytes: &LIST[..count],
+            step: 1,
+            failure: ReadFailure::AtTheEnd,
         };
         let mut written = Vec::new(rt.alloc());
         let ended = run_jobs(
@@ -82,12 +45,11 @@ fn writes<R: Threads + Wait + Sync + Abort>(
     size: RunSize,
     told: &[u8],
     room: usize,
-) {
-    let mut writer = Full {
-        written: Vec::new(alloc),
-        room,
-    };
+) -> Result<(), AllocError> {
+    let mut written = vec![in alloc; 0u8; room]?;
+    let mut writer = written.as_mut_slice();
     let ended = run_jobs(rt, alloc, size, Low, Form::Text, &mut list, &mut writer);
+    let left = writer.len();
     let taken = room.min(told.len());
     let expected = if taken < told.len() {
         Err(JobsFault::Write)
@@ -95,16 +57,18 @@ fn writes<R: Threads + Wait + Sync + Abort>(
         Ok(())
     };
     assert!(rt;
-        ended == expected && writer.written.as_slice() == &told[..taken],
+        ended == expected && left == room - taken && written.starts_with(&told[..taken]),
         "room for {room} bytes: {ended:?}"
     );
+    Ok(())
 }
 
 #[test]
-fn a_writer_may_take_any_number_of_bytes(rt: HostRuntime) {
+fn a_writer_may_take_any_number_of_bytes(rt: HostRuntime) -> Result<(), Fail> {
     for room in 0..=TOLD.len() {
-        writes(&rt, rt.alloc(), LIST, RunSize::new(2, 2, 8), TOLD, room);
+        writes(&rt, rt.alloc(), LIST, RunSize::new(2, 2, 8), TOLD, room)?;
     }
+    Ok(())
 }
 
 /// The text of a read of so many sectors of zeros, and of a write, whose first sector is not all zero then.
@@ -123,7 +87,7 @@ fn a_writer_may_fail_before_all_results_are_made(rt: HostRuntime) -> Result<(), 
     let told = long_text(&rt, 8192)?;
     // More than 16,384 bytes are sent before the write is told.
     for room in [0, 1, 16_384, 24_580, 24_581, 24_586, 24_598, 24_599] {
-        writes(&rt, rt.alloc(), list, RunSize::new(1, 1, 8192), &told, room);
+        writes(&rt, rt.alloc(), list, RunSize::new(1, 1, 8192), &told, room)?;
     }
     Ok(())
 }

@@ -1,31 +1,64 @@
-//! Pages that are written: in which form, to writers that take little, and without memory.
+//! Pages that are written: in which form, to writers that take little or fail, and without memory.
 use crate::texts::TAG_3;
 use ata_pages::{IdentifyText, PageFault, write_identify, write_log};
 use ncq_core::{identify_page, log_page};
 use refusing_allocator::{Refusals, Refusing};
+use std::alloc::Global;
 use std::io;
 use std::io::Write;
+use std::process::Abort;
 use std::test::Fail;
 
-/// A writer that takes at most `step` bytes at once, so many in all, and then none.
+/// How a writer fails.
+#[derive(Clone, Copy, Debug, PartialEq, Eq)]
+enum Failure {
+    Write,
+    TakesNone,
+    Flush,
+}
+
+/// A writer that takes at most seven bytes at once. Once it took so many in all it fails so often, and then goes on.
 #[derive(Drop)]
 struct Sink {
     written: Vec<u8>,
-    step: usize,
     room: usize,
-    fails_to_flush: bool,
+    failure: Failure,
+    times: u32,
+}
+
+/// More often than a writer is asked.
+const ALWAYS: u32 = u32::MAX;
+
+impl Sink {
+    /// Whether a call fails that may fail.
+    fn fails(&mut self) -> bool {
+        let fails = self.written.len() == self.room && self.times > 0;
+        if fails {
+            self.times = self.times.saturating_sub(1);
+        }
+        fails
+    }
 }
 
 impl Write for Sink {
     fn write(&mut self, buf: &[u8]) -> io::Result<usize> {
-        let count = self.step.min(self.room).min(buf.len());
+        if self.failure != Failure::Flush && self.fails() {
+            return match self.failure {
+                Failure::TakesNone => Ok(0),
+                _ => Err(io::Error::from(io::ErrorKind::Interrupted)),
+            };
+        }
+        let count = match self.room.saturating_sub(self.written.len()) {
+            0 => 7,
+            left => left.min(7),
+        };
+        let count = count.min(buf.len());
         self.written.extend_from_slice(&buf[..count])?;
-        self.room -= count;
         Ok(count)
     }
 
     fn flush(&mut self) -> io::Result<()> {
-        if self.fails_to_flush {
+        if self.failure == Failure::Flush && self.fails() {
             return Err(io::Error::from(io::ErrorKind::Other));
         }
         Ok(())
@@ -57,40 +90,48 @@ fn a_log_is_written_as_text_or_as_its_bytes(rt: HostRuntime) -> Result<(), Fail>
     Ok(())
 }
 
+/// Writes a log to a writer that fails so often once it took so many bytes. What it took then is all that is written.
+fn fails_after(rt: &impl Abort, alloc: Global, failure: Failure, times: u32, room: usize) {
+    let mut writer = Sink {
+        written: Vec::new(alloc),
+        room,
+        failure,
+        times,
+    };
+    let ended = write_log(alloc, 3, 0x40, 7, false, &mut writer);
+    let wanted = if room == TAG_3.len() && failure != Failure::Flush {
+        Ok(())
+    } else {
+        Err(PageFault::Write)
+    };
+    assert_eq!(rt; ended, wanted, "{failure:?} {times}, room {room}");
+    assert!(rt;
+        writer.written.as_slice() == &TAG_3.as_bytes()[..room.min(TAG_3.len())],
+        "{failure:?} {times}, room {room}"
+    );
+}
+
 #[test]
 fn a_writer_may_take_any_number_of_bytes(rt: HostRuntime) {
     for room in 0..=TAG_3.len() {
-        let mut writer = Sink {
-            written: Vec::new(rt.alloc()),
-            step: 7,
-            room,
-            fails_to_flush: false,
-        };
-        let ended = write_log(rt.alloc(), 3, 0x40, 7, false, &mut writer);
-        let wanted = if room == TAG_3.len() {
-            Ok(())
-        } else {
-            Err(PageFault::Write)
-        };
-        assert_eq!(rt; ended, wanted, "with room for {room} bytes");
-        assert!(rt;
-            writer.written.as_slice() == &TAG_3.as_bytes()[..room],
-            "with room for {room} bytes"
-        );
+        fails_after(&rt, rt.alloc(), Failure::TakesNone, ALWAYS, room);
+    }
+}
+
+#[test]
+fn nothing_is_written_after_a_write_that_failed_once(rt: HostRuntime) {
+    for failure in [Failure::Write, Failure::TakesNone] {
+        for room in 0..=TAG_3.len() {
+            fails_after(&rt, rt.alloc(), failure, 1, room);
+        }
     }
 }
 
 #[test]
 fn what_is_not_flushed_is_not_written(rt: HostRuntime) {
-    let mut writer = Sink {
-        written: Vec::new(rt.alloc()),
-        step: 512,
-        room: 512,
-        fails_to_flush: true,
-    };
-    let ended = write_identify(rt.alloc(), 8, 4, true, &mut writer);
-    assert_eq!(rt; ended, Err(PageFault::Write));
-    assert_eq!(rt; writer.written.len(), 512);
+    for times in [1, ALWAYS] {
+        fails_after(&rt, rt.alloc(), Failure::Flush, times, TAG_3.len());
+    }
 }
 
 #[test]

@@ -1,4 +1,4 @@
-use ncq_core::{Bytes, Op};
+use ncq_journal::{Bytes, Op};
 use std::alloc::{AllocError, Allocator};
 
 /// A job of one sector: its LBA, and the byte of a write.

@@ -1,12 +1,19 @@
-//! What several crates of tests share: steps of the device that stand in a table, jobs of one sector, and a writer with little room.
+//! What several crates of tests share: steps of the device that stand in a table, jobs of one sector,
+//! and readers and a writer that fail.
 #![tactic(auto)]
 
 mod failing;
+mod filling;
 mod full;
 mod job;
+mod read_failure;
+mod source;
 mod table_step;
 
 pub use failing::{FAIL_0, FAIL_1, FAIL_1_AT_7, FAIL_1_AT_8};
+pub use filling::byte_of;
 pub use full::Full;
 pub use job::{Job, TWELVE, ops_of};
+pub use read_failure::ReadFailure;
+pub use source::Source;
 pub use table_step::{RISING, TableStep};

@@ -7,10 +7,11 @@ mod scattered;
 mod telling;
 mod writing;
 
-use ahci_port::{Outcome, PlainFault};
+use ahci_port::PlainFault;
 use ahci_regs::RegFault;
 use errors::{ERROR_IN_A_QUEUE, HELD, LAST_SECTOR};
 use lists::{AFTER_A_FAILURE, IN_ITS_ORDER};
+use ncq_journal::Outcome;
 use std::test::Fail;
 use telling::Row::{
     Accepts, Acknowledge, Collect, Entries, Flush, Identify, Issue, Received, Register, Sector,

@@ -1,8 +1,8 @@
 //! The program as one function: for each kind of command line what it writes, what it says on standard error, and its status.
 use crate::tests::status::status_of;
-use crate::tests::wanted::Wanted;
-use Wanted::{Part, Text};
+use crate::tests::wanted::Wanted::{Part, Text};
 use ahci_cli::{WordsFault, program_without_words};
+use ahci_script::{Line, ScriptCommand, read_line};
 use cases::{CASES, Case, HELPS, NOTHING};
 use std::alloc::Global;
 use std::process::Abort;
@@ -68,6 +68,44 @@ fn replay_answers_the_journal_of_a_run_with_its_sectors(rt: HostRuntime) -> Resu
         .windows(7)
         .any(|part| part == b"refused".as_slice());
     assert!(rt; !refused);
+    Ok(())
+}
+
+/// How many commands the device accepts in a script; none where a tag waits then that is to come before.
+fn accepted(script: &[u8], highest: bool) -> Option<u32> {
+    let (mut waiting, mut count) = (0u32, 0u32);
+    for line in script.split(|byte| *byte == b'\n') {
+        match read_line(line) {
+            Ok(Line::Run(ScriptCommand::Read { tag, .. })) => waiting |= 1 << (tag % 32),
+            Ok(Line::Run(ScriptCommand::Accept { tag })) => {
+                let bit = 1 << (tag % 32);
+                waiting &= !bit;
+                let before = if highest { !(bit - 1) } else { bit - 1 };
+                if waiting & before != 0 {
+                    return None;
+                }
+                count = count.saturating_add(1);
+            }
+            _ => {}
+        }
+    }
+    Some(count)
+}
+
+// Eight workers mostly have more than one command waiting.
+#[test]
+fn the_device_accepts_the_tag_that_the_words_pick(rt: HostRuntime) -> Result<(), Fail> {
+    let line = "ahci run --workers 8 --depth 8 --sectors 8 --journal --pick";
+    let mut jobs = Vec::new(rt.alloc());
+    for _ in 0..400u32 {
+        jobs.extend_from_slice(b"read 0 1\n")?;
+    }
+    for (pick, highest) in [("low", false), ("high", true)] {
+        let line = format!(in rt.alloc(); "{line} {pick}")?;
+        let script = output_of(&rt, rt.alloc(), line.as_str(), jobs.as_slice())?;
+        let count = accepted(script.as_slice(), highest);
+        assert_eq!(rt; count, Some(400), "{pick}");
+    }
     Ok(())
 }
 

@@ -2,7 +2,8 @@
 //! that are none.
 use super::rig::{ABORTED, ACCEPTED, FAR_READ, FLUSH, IDENTIFY, READ_LOG, WRITE, disk_of, queued};
 use crate::table::equal;
-use ncq_core::{Disk, Plain, Taken};
+use ncq_core::{Disk, Taken};
+use ncq_journal::Plain;
 use std::alloc::Global;
 use std::process::Abort;
 use std::test::Fail;

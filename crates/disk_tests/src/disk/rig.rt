@@ -7,6 +7,7 @@ use ncq_core::{Disk, ServeFault, Taken};
 use std::alloc::Global;
 use std::process::Abort;
 use std::test::Fail;
+use test_helpers::byte_of;
 
 /// WRITE FPDMA QUEUED, 1 sector at LBA 3, tag 1.
 pub const WRITE: [u8; 20] = [
@@ -102,16 +103,6 @@ fn page_of(bytes: &[(usize, u8)]) -> [u8; 512] {
     page
 }
 
-/// All bytes are this one.
-pub fn is_filled(bytes: &[u8], wanted: u8) -> bool {
-    for byte in bytes {
-        if *byte != wanted {
-            return false;
-        }
-    }
-    true
-}
-
 /// A disk, and the host that it moves data with.
 #[derive(Drop)]
 pub struct Rig {
@@ -168,11 +159,7 @@ impl Rig {
             return None;
         }
         self.disk.copy(lba, &mut sector);
-        if is_filled(&sector, sector[0]) {
-            Some(sector[0])
-        } else {
-            None
-        }
+        byte_of(&sector)
     }
 
     /// Compares the first byte of each sector, all of whose bytes are alike.

@@ -3,11 +3,12 @@ ghost use Rattle.std.specs.Prelude.{◌≤◌};
 
 use super::memory::{Link, QUIET};
 use super::rig::Call::{Serve, Take};
-use super::rig::{ACCEPTED, Rig, is_filled, queued};
+use super::rig::{ACCEPTED, Rig, queued};
 use crate::table::equal;
 use std::alloc::Global;
 use std::process::Abort;
 use std::test::Fail;
+use test_helpers::byte_of;
 
 /// Sectors, features of the command, Data FISes, length of the last, and the byte count in the DMA Setup.
 type Size = (usize, u16, usize, usize, [u8; 4]);
@@ -77,8 +78,8 @@ fn moves(rt: &impl Abort, alloc: Global, write: bool, device: u8, size: Size) ->
     equal(
         rt,
         sectors,
-        &(is_filled(first, moved), is_filled(rest, 0x33)),
-        &(true, true),
+        &(byte_of(first), byte_of(rest)),
+        &(Some(moved), Some(0x33)),
     );
     let last = sectors as u64;
     for (lba, byte) in [(0, 0x22), (1, moved), (last, moved), (last + 1, 0x22)] {

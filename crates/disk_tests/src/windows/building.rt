@@ -11,11 +11,11 @@ use std::test::Fail;
 
 /// Compares the header of a row's window, and its bytes at some places.
 fn has(rt: &impl Abort, row: usize, window: &Window, header: &[u8], parts: &[(usize, &[u8])]) {
-    equal_bytes(rt, row, 0, window.header(), header);
+    equal_bytes(rt, (row, "header"), window.header(), header);
     for (place, wanted) in parts {
         let end = place.saturating_add(wanted.len());
         let part = window.bytes().get(*place..end).unwrap_or(&[]);
-        equal_bytes(rt, row, *place, part, wanted);
+        equal_bytes(rt, (row, *place), part, wanted);
     }
 }
 
@@ -100,7 +100,7 @@ fn the_text_is_what_was_written(rt: HostRuntime) -> Result<(), Fail> {
     };
     let text = window.text(rt.alloc())?;
     let bytes = rising(rt.alloc(), 1024)?;
-    equal_bytes(&rt, 0, 0, text.as_slice(), bytes.as_slice());
+    equal_bytes(&rt, 0, text.as_slice(), bytes.as_slice());
     Ok(())
 }
 

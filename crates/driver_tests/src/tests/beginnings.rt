@@ -4,7 +4,7 @@ ghost use Rattle.std.specs.Prelude.{◌≡◌, ◌≤◌, vec_len, IfOk};
 use crate::tests::common::{Way, crowd};
 use ahci_driver::{Open, RunFault, run};
 use ahci_port::Port;
-use ncq_core::Op;
+use ncq_journal::Op;
 use std::alloc::Global;
 use std::process::Abort;
 use std::sync::Wait;

@@ -1,4 +1,4 @@
-//! What the tests share: choosers, and what receipts hold.
+//! What the tests share: choosers, what receipts hold, bits of PxIS, and a wait for another thread.
 ghost use Rattle.std.specs.Prelude.{◌≡◌, ◌≤◌, vec_len, IfOk};
 
 use ahci_driver::{All, Chooser, High, Low, Receipt};
@@ -6,6 +6,9 @@ use ahci_port::DeviceStep;
 use arrayvec::ArrayVec;
 use std::alloc::{AllocError, Global};
 use std::process::Abort;
+use std::sync::atomic::AtomicBool;
+use std::sync::atomic::Ordering::SeqCst;
+use std::thread;
 use test_helpers::{FAIL_0, TableStep};
 
 /// A chooser for each worker, all of one way.
@@ -92,6 +95,15 @@ fn random_list(digits: u64) -> ArrayVec<u8, 32> {
     tags
 }
 
+/// PxIS, of which a recovery alone clears bits: all of them, before it reads the log (AHCI 1.3.1, section 6.2.2).
+pub const PXIS: u32 = 0x110;
+
+/// Its bit of a Set Device Bits FIS, by which commands are completed (section 3.3.5).
+pub const SDBS: u32 = 0x8;
+
+/// Its bit of a PIO Setup FIS, by which READ LOG EXT is answered.
+pub const PSS: u32 = 0x2;
+
 /// Whether so many bytes are all the same one.
 pub fn is_filled(bytes: &[u8], len: usize, byte: u8) -> bool {
     bytes.len() == len && bytes.iter().all(|b| *b == byte)
@@ -102,4 +114,16 @@ pub fn byte_of(receipt: &Receipt) -> Option<u8> {
     let bytes = receipt.bytes.as_slice();
     let first = *bytes.first()?;
     is_filled(bytes, 512, first).then_some(first)
+}
+
+/// Waits until another thread has raised a flag, and answers whether it has. It does not wait for ever: where threads can't be
+/// made, nobody raises it.
+pub fn waits_for(flag: &AtomicBool) -> bool {
+    for _ in 0..1_000_000u32 {
+        if flag.load(SeqCst) {
+            return true;
+        }
+        thread::yield_now();
+    }
+    false
 }

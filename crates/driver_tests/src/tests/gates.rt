@@ -1,7 +1,7 @@
 //! When a run calls its gate: one that makes a job wait for another worker's, and one that notes what the device has done.
 ghost use Rattle.std.specs.Prelude.{◌≤◌};
 
-use crate::tests::common::{Way, crowd};
+use crate::tests::common::{Way, crowd, waits_for};
 use crate::tests::jobs::{Jobs, commands};
 use ahci_driver::{Chooser, Gate, Low, run};
 use ahci_port::{DeviceStep, Port};
@@ -11,7 +11,6 @@ use std::sync::Wait;
 use std::sync::atomic::Ordering::SeqCst;
 use std::sync::atomic::{AtomicBool, AtomicU32};
 use std::test::Fail;
-use std::thread;
 use std::thread::Threads;
 use test_helpers::{Job, ops_of};
 
@@ -26,15 +25,8 @@ struct Waits {
 
 impl Gate for Waits {
     fn before(&self, job: usize) {
-        if job != self.first {
-            return;
-        }
-        for _ in 0..1_000_000u32 {
-            if self.answered.load(SeqCst) {
-                self.met.store(true, SeqCst);
-                return;
-            }
-            thread::yield_now();
+        if job == self.first && waits_for(&self.answered) {
+            self.met.store(true, SeqCst);
         }
     }
 

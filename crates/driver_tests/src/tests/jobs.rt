@@ -1,5 +1,5 @@
 //! The jobs of the runs.
-use ncq_core::Op;
+use ncq_journal::Op;
 use std::alloc::{AllocError, Global};
 use test_helpers::{Job, TWELVE};
 

@@ -1,13 +1,14 @@
 //! One thread with one seat, as tables of calls: stories of commands that are done, that fail or are issued again, and each refusal.
 ghost use Rattle.std.specs.Prelude.{◌≡◌};
 
-use crate::tests::common::{Way, is_filled};
+use crate::tests::common::{PSS, PXIS, SDBS, Way, is_filled};
 use Call::{Claim, Collect, FreeNow, Pump, PumpAll, Stubborn, Submit, Trim};
 use Pumped::Stepped;
 use Said::{Claimed, Collected, Did, Free, Refused, Trimmed, Waits};
 use ahci_driver::{Driver, Pumped, SubmitFault, TagBoard, TagSeat, Ticket};
 use ahci_port::Stepped::{Accepted, Completed, Failed};
-use ahci_port::{CollectFault, IssueFault, Outcome, Port, TrimFault};
+use ahci_port::{CollectFault, IssueFault, Port, TrimFault};
+use ncq_journal::Outcome;
 use std::alloc::{AllocError, Global};
 use std::process::Abort;
 use std::sync::Wait;
@@ -116,11 +117,6 @@ impl Story {
     }
 }
 
-/// PxIS, of which no call of the driver clears a bit, and its bit of a Set Device Bits FIS.
-const PXIS: u32 = 0x110;
-
-const SDBS: u32 = 0x8;
-
 static STORY: [(Call, Said); 13] = [
     (Submit(Job::Write(1, 0x77)), Said::Ticket(0, 0)),
     (Collect, Waits(CollectFault::NotYet)),
@@ -179,6 +175,27 @@ fn plays<R: Wait + Abort>(rt: &R, alloc: Global, calls: &[(Call, Said)]) -> Resu
     goes_on(rt, alloc, over(alloc, one_port(alloc, 0)?)?, calls)
 }
 
+/// Makes these calls on a driver of a new port, whose PxIS has this word then.
+fn leaves<R: Wait + Abort>(
+    rt: &R,
+    alloc: Global,
+    calls: &[(Call, Said)],
+    interrupts: u32,
+) -> Result<(), Fail> {
+    let Story {
+        driver,
+        seat: _,
+        ticket: _,
+    } = plays(rt, alloc, calls)?;
+    let (port, _board) = driver.into_parts();
+    let found = port.register(PXIS);
+    assert!(rt;
+        found == Ok(interrupts),
+        "PxIS is {found:?}, not {interrupts}"
+    );
+    Ok(())
+}
+
 #[test]
 fn a_write_is_read_back_by_one_seat(rt: HostRuntime) -> Result<(), Fail> {
     let Story {
@@ -212,8 +229,19 @@ static TOGETHER: [(Call, Said); 8] = [
 
 #[test]
 fn all_completes_two_commands_by_one_pump(rt: HostRuntime) -> Result<(), Fail> {
-    let _story = plays(&rt, rt.alloc(), TOGETHER.as_slice())?;
-    Ok(())
+    leaves(&rt, rt.alloc(), TOGETHER.as_slice(), SDBS)
+}
+
+static SUBMITTED_AFTER: [(Call, Said); 4] = [
+    (Submit(Job::Write(1, 0x77)), Said::Ticket(0, 0)),
+    (Pump, Did(Stepped(Accepted(1)))),
+    (Pump, Did(Stepped(Completed { first: 2, count: 1 }))),
+    (Submit(Job::Read(1)), Said::Ticket(1, 3)),
+];
+
+#[test]
+fn a_command_is_submitted_without_acknowledging_the_last_one(rt: HostRuntime) -> Result<(), Fail> {
+    leaves(&rt, rt.alloc(), SUBMITTED_AFTER.as_slice(), SDBS)
 }
 
 static HALTED: [(Call, Said); 8] = [
@@ -244,8 +272,7 @@ static HALTED: [(Call, Said); 8] = [
 
 #[test]
 fn a_halted_port_takes_no_command(rt: HostRuntime) -> Result<(), Fail> {
-    let _story = plays(&rt, rt.alloc(), HALTED.as_slice())?;
-    Ok(())
+    leaves(&rt, rt.alloc(), HALTED.as_slice(), PSS)
 }
 
 static ISSUED_AGAIN: [(Call, Said); 10] = [
@@ -263,8 +290,7 @@ static ISSUED_AGAIN: [(Call, Said); 10] = [
 
 #[test]
 fn a_held_command_is_issued_again_by_a_pump_of_its_own(rt: HostRuntime) -> Result<(), Fail> {
-    let _story = plays(&rt, rt.alloc(), ISSUED_AGAIN.as_slice())?;
-    Ok(())
+    leaves(&rt, rt.alloc(), ISSUED_AGAIN.as_slice(), PSS | SDBS)
 }
 
 /// The last number that a journal may begin with.

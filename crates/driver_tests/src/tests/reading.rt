@@ -1,7 +1,7 @@
 //! A read of two sectors that differ.
 use ahci_driver::{Driver, Low, TagBoard};
-use ahci_port::{Outcome, Port};
-use ncq_core::Op;
+use ahci_port::Port;
+use ncq_journal::{Op, Outcome};
 use std::process::Abort;
 use std::test::Fail;
 

@@ -1,11 +1,11 @@
 //! Whole runs, and what `settle` says of receipts that were changed afterwards.
 ghost use Rattle.std.specs.Prelude.{◌≡◌, ◌≤◌, vec_len, IfOk};
 
-use crate::tests::common::{Way, byte_of, crowd};
+use crate::tests::common::{PSS, PXIS, SDBS, Way, byte_of, crowd};
 use crate::tests::jobs::{Jobs, commands};
 use ahci_driver::{Open, Receipt, RunEnd, SettleFault, run, settle};
-use ahci_port::{Outcome, Port, Reply};
-use ncq_core::{Bytes, Op};
+use ahci_port::{Port, Reply};
+use ncq_journal::{Bytes, Op, Outcome};
 use std::alloc::{AllocError, Global};
 use std::process::Abort;
 use std::sync::Wait;
@@ -58,7 +58,7 @@ enum Look {
     /// The byte that a receipt's one sector is filled with.
     Byte(usize),
     Entries,
-    /// PxIS.
+    /// The word of PxIS.
     Interrupts,
     /// One byte of a receipt's bytes becomes another.
     Change(usize),
@@ -89,7 +89,7 @@ impl Ran {
             Look::Reply(index) => Said::Reply(self.end.replies.get(index).map(|it| it.reply)),
             Look::Byte(index) => Said::Byte(self.end.replies.get(index).and_then(byte_of)),
             Look::Entries => Said::Entries(self.end.port.journal().len()),
-            Look::Interrupts => Said::Interrupts(self.end.port.register(0x110).ok()),
+            Look::Interrupts => Said::Interrupts(self.end.port.register(PXIS).ok()),
             _ => self.edit(alloc, look)?,
         })
     }
@@ -201,9 +201,6 @@ fn on_zeros(workers: u32, depth: u32, sectors: usize, jobs: Jobs, way: Way) -> S
 
 static IS_SETTLED: [(Look, Said); 1] = [(Look::Settle, Said::Settled)];
 
-/// PxIS's bit of a Set Device Bits FIS, by which each command was completed.
-const SDBS: u32 = 0x8;
-
 static CHANGED: [(Look, Said); 9] = [
     (Look::Interrupts, Said::Interrupts(Some(SDBS))),
     (Look::Byte(5), Said::Byte(Some(0x5a))),
@@ -257,7 +254,8 @@ fn a_run_of_no_jobs_leaves_the_port_alone(rt: HostRuntime) -> Result<(), Fail> {
     plays(&rt, rt.alloc(), setting, NOTHING_TO_DO.as_slice())
 }
 
-static FAILED: [(Look, Said); 6] = [
+static FAILED: [(Look, Said); 7] = [
+    (Look::Interrupts, Said::Interrupts(Some(PSS | SDBS))),
     (Look::Receipts, Said::Receipts(2)),
     (
         Look::Reply(0),

@@ -3,7 +3,7 @@ use crate::tests::heap::Heap;
 use crate::tests::shown::SECTORS;
 use ahci_port::Port;
 use ahci_table::{Window, default_pieces};
-use ncq_core::{Bytes, Op};
+use ncq_journal::{Bytes, Op};
 use std::alloc::AllocError;
 use std::test::Fail;
 

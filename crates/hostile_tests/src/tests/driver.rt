@@ -13,13 +13,13 @@ use ahci_driver::{
 };
 use ahci_port::{IssueFault, Port};
 use ahci_table::BuildFault;
-use ncq_core::Op;
+use ncq_journal::Op;
 use std::process::Abort;
 use std::sync::Wait;
 use std::test::Fail;
 
 /// How many bytes the window of one sector has.
-const WINDOW: u64 = 0x1200;
+pub const WINDOW: u64 = 0x1200;
 
 /// A board's tags, or why there is none.
 fn made(heap: &Heap, depth: u32, growth: usize) -> Result<Tried<Result<u32, BoardFault>>, Fail> {

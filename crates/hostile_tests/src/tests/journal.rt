@@ -2,7 +2,7 @@
 use crate::tests::heap::{
     Asked, Heap, Row, Tried, equal, grant_all, growths_of, refuse_from, tries_each,
 };
-use ncq_core::{Event, Journal};
+use ncq_journal::{Event, Journal};
 use refusing_allocator::Refusing;
 use std::mem::size_of;
 use std::test::Fail;

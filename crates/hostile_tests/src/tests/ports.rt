@@ -6,7 +6,7 @@ use crate::tests::journal::ROOM;
 use crate::tests::shown::{Shown, look_at};
 use ahci_port::{DeviceStep, DiskFault, IssueFault, PlainFault, Port, RecoverFault, Stepped};
 use ahci_table::{Window, default_pieces};
-use ncq_core::Op;
+use ncq_journal::Op;
 use std::process::Abort;
 use std::test::Fail;
 

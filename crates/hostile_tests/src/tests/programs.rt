@@ -2,6 +2,8 @@
 //! status 3.
 use crate::tests::heap::{Asked, Heap, equal, growths_of, refuse_from};
 use ahci_cli::{CliFault, Pick, replay, run_jobs};
+use ahci_driver::Low;
+use ahci_jobs::{Form, RunSize};
 use refusing_allocator::Refusing;
 use std::alloc::{AllocError, Global};
 use std::io;
@@ -19,7 +21,7 @@ type Line = (&'static str, &'static str, u64);
 // A disk: its image, the copy of it, the slots (1 for four of them) and the line that is answered. A write: its bytes,
 // which become the journal's, and its window; a read: its window. Room in the journal is made at the first entry, and doubled at the
 // next that has to be sure of it. The first completion: room for a line that may be longer than those before, which is enough
-// for a collected read's too. A collected read: its text.
+// for a collected read's too. A collected read: its text. A trim takes the journal's room along, so that it is made anew.
 static SCRIPTS: [&[Line]; 2] = [
     &[
         ("disk 8 4\n", "disk 8 4\n", 4),
@@ -49,6 +51,8 @@ static SCRIPTS: [&[Line]; 2] = [
         ("accept 0\n", "accepted 6\n", 0),
         ("serve 0\n", "completed 7\n", 1),
         ("collect 0 5\n", "read 7 00\n", 1),
+        ("trim\n", "trimmed 9\n", 0),
+        ("flush\n", "flushed\n", 1),
     ],
 ];
 
@@ -227,5 +231,32 @@ fn a_list_refused_memory_tells_nothing(rt: HostRuntime) -> Result<(), Fail> {
         );
         assert!(rt; written.as_slice() == text, "growth {growth}");
     }
+    Ok(())
+}
+
+/// Does the list, and tells its run as the bytes of the disk: how many are written, and the requests for memory and their bytes.
+fn told_as_image<R: Threads + Wait + Sync>(
+    rt: &R,
+    alloc: Global,
+    size: RunSize,
+) -> Result<(usize, u64, u64), Fail> {
+    let heap = Refusing::new(alloc);
+    let mut reader = Lines {
+        lines: LIST.as_slice(),
+    };
+    let mut written = Vec::new(alloc);
+    ahci_jobs::run_jobs(rt, &heap, size, Low, Form::Image, &mut reader, &mut written)?;
+    Ok((written.len(), heap.requests(), heap.bytes()))
+}
+
+// All of the text is asked for at once. Beside it a sector stands in the disk, in the port's copy of it, in that of the run and in
+// that of its settling.
+#[test]
+fn a_disk_is_told_in_memory_of_its_size(rt: HostRuntime) -> Result<(), Fail> {
+    let (len, growths, bytes) = told_as_image(&rt, rt.alloc(), RunSize::new(2, 2, 8))?;
+    assert_eq!(rt; (len, growths), (8 * 512, LIST_GROWTHS - 1));
+    let (len, growths, more) = told_as_image(&rt, rt.alloc(), RunSize::new(2, 2, 16))?;
+    assert_eq!(rt; (len, growths), (16 * 512, LIST_GROWTHS - 1));
+    assert_eq!(rt; more.saturating_sub(bytes), 5 * 8 * 512);
     Ok(())
 }

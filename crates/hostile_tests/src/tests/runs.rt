@@ -1,11 +1,14 @@
 //! Runs of workers in which a growth is refused: each ends as want of memory, with all its threads, and gives back what it
-//! took.
+//! took; and how many bytes a run asks for.
 use crate::tests::commands::port_of;
+use crate::tests::driver::WINDOW;
 use crate::tests::heap::{Heap, equal, grant_all};
 use crate::tests::jobs::{Jobs, Way, crowd};
-use ahci_driver::{Gate, Open, RunFault, run};
+use crate::tests::settling::CLAIMED;
+use ahci_driver::{Gate, Open, Receipt, RunFault, run};
 use refusing_allocator::{Refusals, Refusing};
 use std::alloc::Global;
+use std::mem::size_of;
 use std::process::Abort;
 use std::sync::Wait;
 use std::sync::atomic::AtomicU32;
@@ -88,6 +91,9 @@ struct Ended {
     left: u64,
 }
 
+/// How a run ended, and how many bytes it asked for.
+type Ran = (Ended, u64);
+
 /// Runs once. The port is the run's own, and its jobs are lent.
 fn runs<R: Threads + Wait + Sync, G: Gate>(
     rt: &R,
@@ -95,7 +101,7 @@ fn runs<R: Threads + Wait + Sync, G: Gate>(
     setting: Setting,
     refusals: Refusals,
     gate: &G,
-) -> Result<Ended, Fail> {
+) -> Result<Ran, Fail> {
     let workers = setting.workers;
     if workers < 1 || workers > 32 {
         return Err(Fail::new("no workers"));
@@ -113,12 +119,15 @@ fn runs<R: Threads + Wait + Sync, G: Gate>(
         0 => Some(heap.requests()),
         _ => None,
     };
+    let bytes = heap.bytes();
     grant_all(heap);
-    Ok(Ended {
+    let left = heap.out().saturating_sub(before);
+    let ended = Ended {
         how,
         requests,
-        left: heap.out().saturating_sub(before),
-    })
+        left,
+    };
+    Ok((ended, bytes))
 }
 
 /// What is wanted where requests from this number on are refused.
@@ -147,7 +156,7 @@ fn refuses_each<R: Threads + Wait + Sync + Abort>(
         let wanted = wanted(setting, growth);
         for refusals in [Refusals::From(growth), Refusals::Only(growth)] {
             let heap = Refusing::new(alloc);
-            let found = runs(rt, &heap, setting, refusals, &Open)?;
+            let (found, _bytes) = runs(rt, &heap, setting, refusals, &Open)?;
             equal(rt, &(setting, refusals), growth as usize, &found, &wanted);
             assert!(rt; heap.out() == 0);
         }
@@ -159,6 +168,50 @@ fn refuses_each<R: Threads + Wait + Sync + Abort>(
 fn a_run_refused_memory_ends_with_all_its_threads(rt: HostRuntime) -> Result<(), Fail> {
     for setting in SETTINGS {
         refuses_each(&rt, rt.alloc(), setting)?;
+    }
+    Ok(())
+}
+
+/// How many bytes a receipt has.
+const RECEIPT: u64 = size_of::<Receipt<&'static Heap>>() as u64;
+
+/// How many bytes ten more jobs take, but for their workers' receipts: ten windows, each with a buffer or a copy of a sector, forty
+/// entries that are settled, and ten receipts in the order of the jobs.
+const MORE: u64 = 10 * (WINDOW + 512) + 40 * CLAIMED + 10 * RECEIPT;
+
+// Workers, tags, and how many bytes more are asked for by twelve jobs than by two. Each worker makes room for the receipts of an
+// equal share of the jobs, rounded up.
+static SHARES: [(u32, u32, u64); 3] = [
+    (1, 1, MORE + (12 - 2) * RECEIPT),
+    (2, 2, MORE + 2 * (6 - 1) * RECEIPT),
+    (4, 1, MORE + 4 * (3 - 1) * RECEIPT),
+];
+
+/// How many bytes a run asks for.
+fn bytes_of<R: Threads + Wait + Sync>(
+    rt: &R,
+    alloc: Global,
+    (workers, depth): (u32, u32),
+    jobs: Jobs,
+) -> Result<u64, Fail> {
+    let setting = Setting {
+        workers,
+        depth,
+        jobs,
+        way: Way::Lowest,
+        growths: 0,
+        entries: 0,
+    };
+    let (_ended, bytes) = runs(rt, &Refusing::new(alloc), setting, Refusals::None, &Open)?;
+    Ok(bytes)
+}
+
+#[test]
+fn a_run_asks_for_the_bytes_of_its_jobs(rt: HostRuntime) -> Result<(), Fail> {
+    for (workers, depth, more) in SHARES {
+        let few = bytes_of(&rt, rt.alloc(), (workers, depth), Jobs::Pair)?;
+        let many = bytes_of(&rt, rt.alloc(), (workers, depth), Jobs::Few)?;
+        assert_eq!(rt; many.saturating_sub(few), more, "{workers} workers");
     }
     Ok(())
 }
@@ -229,7 +282,7 @@ fn all_workers_end_where_one_stops_with_the_only_tag(rt: HostRuntime) -> Result<
             growth,
             come: AtomicU32::new(0),
         };
-        let found = runs(&rt, &heap, setting, Refusals::None, &gate)?;
+        let (found, _bytes) = runs(&rt, &heap, setting, Refusals::None, &gate)?;
         equal(&rt, &setting, growth as usize, &found, &wanted);
         assert!(rt; heap.out() == 0);
     }

@@ -5,9 +5,10 @@ use crate::tests::commands::port_of;
 use crate::tests::heap::{Asked, Heap, Tried, equal, grant_all, growths_of, refuse_from};
 use crate::tests::jobs::{Jobs, Way, crowd};
 use ahci_driver::{Open, RunEnd, SettleFault, run, settle};
-use ncq_core::Op;
+use ncq_journal::{Claim, Op};
 use refusing_allocator::Refusing;
 use std::alloc::Global;
+use std::mem::size_of;
 use std::process::Abort;
 use std::sync::Wait;
 use std::test::Fail;
@@ -50,7 +51,7 @@ impl<'a> Ran<'a> {
     fn tries(&self, heap: &Heap, growth: usize) -> Tried<Result<(), SettleFault>> {
         refuse_from(heap, growth);
         let said = self.settles(heap);
-        let mut tried = Tried::of(said, growths_of(heap), 0);
+        let mut tried = Tried::of(said, growths_of(heap), heap.bytes());
         grant_all(heap);
         if said.is_err() {
             tried.again = Some(self.settles(heap));
@@ -59,10 +60,10 @@ impl<'a> Ran<'a> {
     }
 }
 
-/// What is wanted of a settled run that meets so many growths, where one is refused.
-fn wanted(growths: usize, growth: usize) -> Tried<Result<(), SettleFault>> {
+/// What is wanted of a settled run that meets so many growths for so many bytes, where one is refused.
+fn wanted(growths: usize, bytes: u64, growth: usize) -> Tried<Result<(), SettleFault>> {
     if growth == growths {
-        return Tried::of(Ok(()), Asked::Granted(growth as u64), 0);
+        return Tried::of(Ok(()), Asked::Granted(growth as u64), bytes);
     }
     Tried {
         said: Err(SettleFault::OutOfMemory),
@@ -72,28 +73,39 @@ fn wanted(growths: usize, growth: usize) -> Tried<Result<(), SettleFault>> {
     }
 }
 
-/// Jobs, workers, and how many growths the settling meets.
-type Row = (Jobs, u32, usize);
+/// How many bytes the image of four sectors and the requests of two tags have.
+const FIXED: u64 = 4 * 512 + 2 * size_of::<Option<u64>>() as u64;
 
-// The image, the requests, and, where there are entries, the claims, and which of them hold.
-static ROWS: [Row; 3] = [(Jobs::None, 3, 2), (Jobs::Pair, 1, 4), (Jobs::Few, 4, 4)];
+/// How many bytes the settling of an entry takes: what is claimed of it, and whether that holds.
+pub const CLAIMED: u64 = size_of::<Option<Claim<'static>>>() as u64 + 1;
+
+/// Jobs, workers, how many growths the settling meets, and how many bytes it asks for.
+type Row = (Jobs, u32, usize, u64);
+
+// The image, the requests, and, where there are entries, the claims, and which of them hold. Each job has four entries.
+static ROWS: [Row; 3] = [
+    (Jobs::None, 3, 2, FIXED),
+    (Jobs::Pair, 1, 4, FIXED + 8 * CLAIMED),
+    (Jobs::Few, 4, 4, FIXED + 48 * CLAIMED),
+];
 
 /// Settles a run with each growth refused in turn.
-fn settles_each(rt: &impl Abort, alloc: Global, ran: &Ran<'_>, growths: usize) {
+fn settles_each(rt: &impl Abort, alloc: Global, ran: &Ran<'_>, growths: usize, bytes: u64) {
     for growth in 0..=growths {
         let heap = Refusing::new(alloc);
         let found = ran.tries(&heap, growth);
-        equal(rt, &ran.workers, growth, &found, &wanted(growths, growth));
+        let wanted = wanted(growths, bytes, growth);
+        equal(rt, &ran.workers, growth, &found, &wanted);
         assert!(rt; heap.out() == 0);
     }
 }
 
 #[test]
 fn a_run_is_settled_or_memory_is_wanted(rt: HostRuntime) -> Result<(), Fail> {
-    for (jobs, workers, growths) in ROWS {
+    for (jobs, workers, growths, bytes) in ROWS {
         let heap = Refusing::new(rt.alloc());
         let ran = run_of(&rt, &heap, jobs, workers)?;
-        settles_each(&rt, rt.alloc(), &ran, growths);
+        settles_each(&rt, rt.alloc(), &ran, growths, bytes);
     }
     Ok(())
 }

@@ -1,11 +1,11 @@
 //! The calls that may want memory: what they answer where it is refused, and that the port is as it was then; and those that
-//! take none, over an allocator that has none left.
+//! take none, over an allocator that has none left; and which of these give some back.
 use crate::tests::guest::{HEADER, list, window, windows};
 use crate::tests::heap::{Heap, look_at, port_of, refuse_from};
 use ahci_port::{Pending, Port};
 use port_place::{
     FlatCommand, FlatReply, FlatStep, FlatWritten, Status, accept, collect, entry_bytes, fail,
-    flush, identify, issue, recover, serve, submit, window_check, write_register,
+    flush, identify, issue, recover, serve, submit, trim, window_check, write_register,
 };
 use refusing_allocator::{Refusals, Refusing};
 use std::alloc::Global;
@@ -162,6 +162,30 @@ fn what_follows_an_issue_asks_for_no_memory(rt: HostRuntime) -> Result<(), Fail>
     assert_eq!(rt; runs(&mut port, &mut out), wanted);
     assert!(rt; out == [0xAB; 512]);
     assert_eq!(rt; heap.requests(), 0);
+    Ok(())
+}
+
+/// How many blocks more are out than there were.
+fn held(heap: &Heap, before: u64) -> u64 {
+    heap.out().saturating_sub(before)
+}
+
+// While a write waits, its window is held, and in the journal its bytes and the room of its four entries.
+#[test]
+fn a_collected_window_and_a_trimmed_journal_give_their_memory_back(
+    rt: HostRuntime,
+) -> Result<(), Fail> {
+    let heap = Refusing::new(rt.alloc());
+    let mut port = port_of(&heap)?;
+    let before = heap.out();
+    assert_eq!(rt; submits(&heap, &mut port, 1), Status::Done);
+    let waiting = held(&heap, before);
+    let _said = runs(&mut port, &mut [0; 512]);
+    let collected = held(&heap, before);
+    let mut entries = 0;
+    assert_eq!(rt; trim(&mut port, &mut entries), Status::Done);
+    let trimmed = held(&heap, before);
+    assert_eq!(rt; (entries, waiting, collected, trimmed), (4, 3, 2, 0));
     Ok(())
 }
 

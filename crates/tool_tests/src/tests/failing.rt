@@ -1,16 +1,16 @@
-//! A trace, as text and as JSON, a picture, and checks of a script where memory, the input or the output fails.
+//! A trace, as text and as JSON, a picture, and checks of a script where memory, the input or the output fails; and how much
+//! memory they ask for.
 use ahci_check::{Form, check, check_jobs};
 use ahci_cli::CliFault;
 use ahci_draw::draw;
 use ahci_trace::{trace, trace_json};
 use json::{Scratch, is_valid};
 use refusing_allocator::{Refusals, Refusing};
-use std::alloc::Allocator;
-use std::io;
+use std::alloc::{Allocator, Global};
 use std::io::{Read, Write};
 use std::process::Abort;
 use std::test::Fail;
-use test_helpers::Full;
+use test_helpers::{Full, ReadFailure, Source};
 
 #[derive(Clone, Copy, Debug, PartialEq, Eq)]
 enum Tool {
@@ -98,46 +98,63 @@ fn each_line_of_a_trace_as_json_is_one_value(rt: HostRuntime) -> Result<(), Fail
     Ok(())
 }
 
-/// A reader that gives a few bytes at a time, and fails once so many reads were made.
-#[derive(Drop)]
-struct Failing {
-    left: &'static [u8],
-    reads: u32,
+/// Those of the first bytes of a script that are whole lines.
+fn whole_lines(script: &[u8], count: usize) -> &[u8] {
+    let mut end = 0;
+    for index in 0..count.min(script.len()) {
+        if script[index] == b'\n' {
+            end = index.saturating_add(1);
+        }
+    }
+    &script[..end.min(script.len())]
 }
 
-impl Read for Failing {
-    fn read(&mut self, buf: &mut [u8]) -> io::Result<usize> {
-        if self.reads == 0 {
-            return Err(io::Error::from(io::ErrorKind::Other));
-        }
-        self.reads -= 1;
-        let count = self.left.len().min(buf.len()).min(16);
-        buf[..count].copy_from_slice(&self.left[..count]);
-        self.left = &self.left[count..];
-        Ok(count)
+/// Gives a tool its script by 16 bytes at once until a read fails: what is written is what the lines come to that came whole.
+fn fails_reading(
+    rt: &impl Abort,
+    alloc: Global,
+    tool: Tool,
+    reads: u32,
+    failure: ReadFailure,
+) -> Result<(), Fail> {
+    let mut written = Vec::new(alloc);
+    let mut reader = Source {
+        bytes: tool.script(),
+        step: 16,
+        failure,
+    };
+    let how = tool.run(alloc, &mut reader, &mut written);
+    // One read for 16 bytes, and one at the end.
+    let all = tool.script().len() / 16 + 2;
+    let wanted = if (reads as usize) < all {
+        Err(tool.faults().0)
+    } else {
+        Ok(())
+    };
+    assert!(rt; how == wanted, "{tool:?}, {failure:?}: {how:?}");
+    let mut lines = whole_lines(tool.script(), (reads as usize).saturating_mul(16));
+    let mut answers = Vec::new(alloc);
+    let _how = tool.run(alloc, &mut lines, &mut answers);
+    if tool == Tool::Json && wanted.is_err() {
+        answers.extend_from_slice(b"{\"fault\":\"input failed\"}\n")?;
     }
+    assert!(rt;
+        written.as_slice() == answers.as_slice(),
+        "{tool:?}, {failure:?}"
+    );
+    Ok(())
 }
 
 #[test]
-fn each_read_may_fail(rt: HostRuntime) {
+fn each_read_may_fail_for_good_or_once(rt: HostRuntime) -> Result<(), Fail> {
     for tool in TOOLS {
-        // One read for 16 bytes, and one at the end.
-        let all = tool.script().len() / 16 + 2;
         for reads in 0..12u32 {
-            let mut written = Vec::new(rt.alloc());
-            let mut reader = Failing {
-                left: tool.script(),
-                reads,
-            };
-            let how = tool.run(rt.alloc(), &mut reader, &mut written);
-            let wanted = if (reads as usize) < all {
-                Err(tool.faults().0)
-            } else {
-                Ok(())
-            };
-            assert!(rt; how == wanted, "{tool:?}, {reads} reads: {how:?}");
+            for failure in [ReadFailure::After(reads), ReadFailure::Once(reads)] {
+                fails_reading(&rt, rt.alloc(), tool, reads, failure)?;
+            }
         }
     }
+    Ok(())
 }
 
 #[test]
@@ -192,4 +209,44 @@ fn each_growth_may_be_refused(rt: HostRuntime) -> Result<(), Fail> {
         each_growth_of(&rt, rt.alloc(), tool)?;
     }
     Ok(())
+}
+
+/// The room of an input: for a line, and for what comes at once.
+const INPUT: u64 = 4096 + 16384;
+
+#[test]
+fn an_input_without_a_line_wants_its_room_alone(rt: HostRuntime) {
+    for tool in TOOLS {
+        // A picture of nothing is a text too.
+        if tool != Tool::Draw {
+            let heap = Refusing::new(rt.alloc());
+            let mut reader = b"".as_slice();
+            let _how = tool.run(&heap, &mut reader, &mut Full { room: 0 });
+            assert_eq!(rt; (heap.requests(), heap.bytes()), (1, INPUT), "{tool:?}");
+        }
+    }
+}
+
+impl Tool {
+    /// How many bytes it may ask for beside its input's room. A text that it puts together has less than 4 KiB, and that of a
+    /// check less than 256 bytes; there are up to three of them, and one that grows asks for less than four times its length in
+    /// all. A disk of 8 sectors stands in memory twice; its slots, its journal and its windows have less than 8 KiB together.
+    fn most_beside(self) -> u64 {
+        match self {
+            Tool::Trace | Tool::Json | Tool::Draw => 12 * 4096 + 2 * 8 * 512 + 8192,
+            Tool::Check | Tool::CheckJson | Tool::CheckJobs => 12 * 256,
+        }
+    }
+}
+
+#[test]
+fn a_tool_asks_for_memory_by_the_size_of_its_disk_and_its_text(rt: HostRuntime) {
+    for tool in TOOLS {
+        let heap = Refusing::new(rt.alloc());
+        let mut reader = tool.script();
+        let mut written = Vec::new(rt.alloc());
+        assert!(rt; tool.run(&heap, &mut reader, &mut written) == Ok(()));
+        let beside = heap.bytes().saturating_sub(INPUT);
+        assert!(rt; beside <= tool.most_beside(), "{tool:?}: {beside}");
+    }
 }

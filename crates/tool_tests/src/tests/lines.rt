@@ -144,7 +144,7 @@ static BEHIND: [(&str, &str); 85] = [
 ];
 
 /// Where they stand.
-const BEHIND_DISK: Place = Place::BehindDisk {
+const BEHIND_DISK: Place = Place::AfterDisk {
     sectors: 8,
     depth: 4,
 };

@@ -63,7 +63,7 @@ fn line_of(alloc: Global, fis: &str, entry: &str, data: usize) -> Result<String,
 
 #[test]
 fn each_window_breaks_the_rule_beside_it(rt: HostRuntime) -> Result<(), Fail> {
-    let place = Place::BehindDisk {
+    let place = Place::AfterDisk {
         sectors: 8,
         depth: 4,
     };
@@ -81,7 +81,7 @@ fn each_window_breaks_the_rule_beside_it(rt: HostRuntime) -> Result<(), Fail> {
 /// A line whose tag is past the slots, or that has no window, wants no memory: it is judged before a byte of one is read.
 #[test]
 fn a_line_that_is_judged_by_its_numbers_wants_no_memory(rt: HostRuntime) -> Result<(), Fail> {
-    let place = Place::BehindDisk {
+    let place = Place::AfterDisk {
         sectors: 8,
         depth: 4,
     };

@@ -5,16 +5,16 @@ mod entries;
 
 use crate::tests::table::{equal, equal_bytes};
 use ahci_port::{
-    CollectFault, DeviceStep, IssueFault, Outcome, PlainFault, Port, RecoverFault, ReissueFault,
-    StepFault, TrimFault,
+    CollectFault, DeviceStep, IssueFault, PlainFault, Port, RecoverFault, ReissueFault, StepFault,
+    TrimFault,
 };
 use ahci_regs::RegFault;
 use ahci_table::{Window, default_pieces};
 use calls::{Call, Command, Fault, Picks, SECTORS, is_vacant, names_twice};
 use entries::{appends, copy_of, entries_of};
-use ncq_core::{
-    Bytes, Event, Op, Phase, answer_of, ci_of, device_tags_of, is_busy, is_covered, is_halted,
-    is_lawful, owed_by, phase_of, request_of, sact_of, sector_of,
+use ncq_journal::{
+    Bytes, Event, Op, Outcome, Phase, answer_of, ci_of, device_tags_of, is_busy, is_covered,
+    is_halted, is_lawful, owed_by, phase_of, request_of, sact_of, sector_of,
 };
 use std::alloc::{AllocError, Global};
 use std::process::Abort;

@@ -4,9 +4,8 @@ use super::telling::Row::{
     Accepts, Collect, Failure, Flush, Issue, Recover, Register, Reissue, Sector, Serves, Step,
 };
 use ahci_port::Stepped::Failed;
-use ahci_port::{
-    CollectFault, IssueFault, Outcome, PlainFault, RecoverFault, ReissueFault, StepFault,
-};
+use ahci_port::{CollectFault, IssueFault, PlainFault, RecoverFault, ReissueFault, StepFault};
+use ncq_journal::Outcome;
 use test_helpers::TableStep::{Accept, Serve};
 use test_helpers::{FAIL_0, FAIL_1, FAIL_1_AT_7, FAIL_1_AT_8};
 

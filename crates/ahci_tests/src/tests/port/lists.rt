@@ -5,7 +5,8 @@ use super::telling::Row::{
 };
 use super::telling::{Row, goes, goes_on, port_of};
 use ahci_port::Stepped::{Accepted, Failed};
-use ahci_port::{Outcome, Port, StepFault};
+use ahci_port::{Port, StepFault};
+use ncq_journal::Outcome;
 use std::alloc::Global;
 use std::process::Abort;
 use std::test::Fail;

@@ -1,10 +1,8 @@
 //! Commands whose data lie in many pieces, or are long, served and collected.
-ghost use Rattle.std.specs.Prelude.{◌≤◌};
-
 use crate::tests::table::{equal, equal_bytes};
-use ahci_port::{DeviceStep, Outcome, Port, Reply, Stepped};
+use ahci_port::{DeviceStep, Port, Reply, Stepped};
 use ahci_table::{Piece, Window};
-use ncq_core::{Bytes, Op};
+use ncq_journal::{Bytes, Op, Outcome};
 use std::alloc::{AllocError, Global};
 use std::process::Abort;
 use std::test::Fail;

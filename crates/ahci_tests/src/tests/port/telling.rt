@@ -3,17 +3,17 @@ ghost use Rattle.std.specs.Prelude.{◌≤◌, ◌<◌};
 
 use crate::tests::table::equal;
 use ahci_port::{
-    CollectFault, IssueFault, Outcome, PlainFault, Port, RecoverFault, ReissueFault, Reply,
-    StepFault, Stepped,
+    CollectFault, IssueFault, PlainFault, Port, RecoverFault, ReissueFault, Reply, StepFault,
+    Stepped,
 };
 use ahci_regs::RegFault;
 use ahci_table::{Window, default_pieces};
-use ncq_core::{Bytes, Op};
+use ncq_journal::{Op, Outcome};
 use std::alloc::{AllocError, Global};
 use std::fmt::Debug;
 use std::process::Abort;
 use std::test::Fail;
-use test_helpers::TableStep;
+use test_helpers::{Job, TableStep, byte_of};
 
 /// A call of a port with its answer, or something that the port shows.
 #[derive(Clone, Copy)]
@@ -54,13 +54,11 @@ pub fn port_of(alloc: Global, sectors: usize, depth: u32) -> Result<Port, Fail>
 
 /// What a command of one sector asks: a write of sectors filled with a byte, or a read where there is none.
 fn op_of(alloc: Global, lba: u64, byte: Option<u8>) -> Result<Op, AllocError> {
-    Ok(match byte {
-        Some(byte) => Op::Write {
-            lba,
-            bytes: Bytes::from_vec(vec![in alloc; byte; 512]?),
-        },
-        None => Op::Read { lba, sectors: 1 },
-    })
+    let job = match byte {
+        Some(byte) => Job::Write(lba, byte),
+        None => Job::Read(lba),
+    };
+    job.op(alloc)
 }
 
 /// The window of a command of one sector, over the default pieces.
@@ -85,12 +83,6 @@ fn issue(
         Ok(number) => Ok(number),
         Err((_, fault)) => Err(fault),
     })
-}
-
-/// The byte that all of these are.
-fn byte_of(bytes: &[u8]) -> Option<u8> {
-    let first = *bytes.first()?;
-    bytes.iter().all(|byte| *byte == first).then_some(first)
 }
 
 /// The reply of a request, and the byte that its window's text is filled with.

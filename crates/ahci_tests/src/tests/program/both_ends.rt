@@ -7,26 +7,7 @@ use std::io;
 use std::io::{Read, Write};
 use std::process::Abort;
 use std::test::Fail;
-
-/// A reader that gives at most `step` bytes at once, and fails after its bytes where it must.
-#[derive(Drop)]
-struct Source<'a> {
-    bytes: &'a [u8],
-    step: usize,
-    fails: bool,
-}
-
-impl Read for Source<'_> {
-    fn read(&mut self, buf: &mut [u8]) -> io::Result<usize> {
-        if self.bytes.is_empty() && self.fails {
-            return Err(io::Error::from(io::ErrorKind::Interrupted));
-        }
-        let count = self.step.min(self.bytes.len()).min(buf.len());
-        buf[..count].copy_from_slice(&self.bytes[..count]);
-        self.bytes = &self.bytes[count..];
-        Ok(count)
-    }
-}
+use test_helpers::{ReadFailure, Source};
 
 /// How a writer fails.
 #[derive(Clone, Copy)]
@@ -71,7 +52,16 @@ impl Write for Sink {
 
 /// What a script comes to that is given in steps, and after which a read fails where it must.
 fn from_source(alloc: Global, bytes: &[u8], step: usize, fails: bool) -> Replayed {
-    let mut reader = Source { bytes, step, fails };
+    let failure = if fails {
+        ReadFailure::AtTheEnd
+    } else {
+        ReadFailure::Never
+    };
+    let mut reader = Source {
+        bytes,
+        step,
+        failure,
+    };
     let mut written = Vec::new(alloc);
     let outcome = replay(alloc, &mut reader, &mut written);
     (written, outcome)
@@ -250,7 +240,7 @@ fn to_sink(
     let mut reader = Source {
         bytes: script,
         step: 40,
-        fails: false,
+        failure: ReadFailure::Never,
     };
     let mut writer = Sink {
         written: Vec::new(alloc),

@@ -2,7 +2,6 @@
 use super::{CliFault, ends, replayed};
 use crate::tests::any_window::any_window;
 use std::alloc::{AllocError, Global};
-use std::process::Abort;
 use std::test::Fail;
 
 /// The first byte of a header, byte 12 of CFIS, and how many bytes the window has.

@@ -1,7 +1,8 @@
 //! A disk alone, over an image in memory of the heap.
 use super::unasked;
 use crate::tests::heap::{Heap, refuse_from};
-use ncq_core::{Disk, Plain, ServeFault, Taken};
+use ncq_core::{Disk, ServeFault, Taken};
+use ncq_journal::Plain;
 use refusing_allocator::Refusing;
 use std::process::Abort;
 use std::test::Fail;

@@ -8,7 +8,8 @@ use ahci_driver::{
     Driver, High, Low, Pumped, SubmitFault, TagBoard, TagSeat, Ticket, collect_locked, pump_locked,
     submit_locked,
 };
-use ahci_port::{CollectFault, Outcome, Reply, Stepped};
+use ahci_port::{CollectFault, Reply, Stepped};
+use ncq_journal::Outcome;
 use refusing_allocator::Refusing;
 use std::process::Abort;
 use std::sync::Wait;

@@ -8,7 +8,7 @@ use ahci_port::{
 };
 use ahci_regs::RegFault;
 use ahci_table::{Window, default_pieces};
-use ncq_core::{Bytes, Op};
+use ncq_journal::{Bytes, Op};
 use refusing_allocator::Refusing;
 use std::process::Abort;
 use std::test::Fail;

@@ -1,12 +1,12 @@
 //! The calls of a run, as a generator picks them.
-ghost use Rattle.std.specs.Prelude.{◌<◌, ◌≤◌};
+ghost use Rattle.std.specs.Prelude.{◌<◌};
 
 use ahci_port::{
     CollectFault, DeviceStep, IssueFault, PlainFault, Port, RecoverFault, ReissueFault, StepFault,
     TrimFault,
 };
 use arrayvec::ArrayVec;
-use ncq_core::{Event, Phase, phase_of, request_of};
+use ncq_journal::{Event, Phase, phase_of, request_of};
 
 /// How many sectors the disk of a run has.
 pub const SECTORS: u32 = 24;

@@ -1,7 +1,7 @@
 //! The entries of a run.
 use super::calls::Call;
 use ahci_port::DeviceStep;
-use ncq_core::{Bytes, Event, Op, Plain};
+use ncq_journal::{Bytes, Event, Op, Plain};
 use std::alloc::{AllocError, Global};
 
 /// A copy of an entry.
