@@ -17,6 +17,7 @@ from typing import List, Tuple
 
 TOP = os.path.dirname(os.path.dirname(os.path.realpath(__file__)))
 HEADER = "c/ahci.h"
+ALONE = "crates/ahci_c/src/alone.rt"
 STATUS = "crates/port_place/src/status.rt"
 PYTHON = "python/ahci.py"
 PLACE = "crates/port_place/src/place.rt"
@@ -118,6 +119,13 @@ class CheckHeader(unittest.TestCase):
         line = self.line("ahci_port_register")
         first, _, last = line.partition("(")[2].rpartition(", ")
         self.differs([(HEADER, line, line.replace(f"{first}, {last}", f"{last[:-2]}, {first});"))], "ahci_port_register: ")
+
+    def test_arguments_of_one_type_are_told_apart(self) -> None:
+        self.differs([(ALONE, "ahci_identify_page(sectors: u32, depth: u32,", "ahci_identify_page(depth: u32, sectors: u32,")], "ahci_identify_page: ")
+
+    def test_a_length_is_that_of_the_array_before_it(self) -> None:
+        line = self.line("ahci_port_received")
+        self.differs([(HEADER, line, line.replace("out_bytes", "in_bytes"))], "ahci_port_received: ")
 
     def test_the_fields_of_a_struct_are_compared(self) -> None:
         with open(os.path.join(self.room, HEADER), encoding="utf-8") as it:
