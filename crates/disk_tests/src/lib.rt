@@ -1,5 +1,5 @@
-//! Tests of what no contract says, over the public calls of `ncq_journal`, `ncq_core` and `ahci_table`. They stand in a crate
-//! of their own, so that no other crate is proved twice.
+//! Tests of what no contract says, of the disk and its journal, over the public calls of `ncq_journal` and `ncq_core`. They stand
+//! in a crate of their own, so that no other crate is proved twice.
 #![tactic(auto)]
 
 #[cfg(test)]
@@ -8,5 +8,3 @@ mod disk;
 mod journal;
 #[cfg(test)]
 mod table;
-#[cfg(test)]
-mod windows;
