@@ -220,7 +220,7 @@ static int made(void)
 }
 
 /* A flush and a recovery after some short journals: memory for entries is asked for ahead, and not by each call. */
-static int behind_some_entries(void)
+static int after_some_entries(void)
 {
     const uint8_t nothing = 0;
     int lacking = 0;
@@ -239,7 +239,7 @@ static int story(void)
 {
     ahci_port port = AHCI_PORT_EMPTY;
     uint64_t number = 99, entries;
-    int lacking = made() + alone() + behind_some_entries();
+    int lacking = made() + alone() + after_some_entries();
     TRY(&port, image, ahci_port_new(&port, image, sizeof image, 32));
     TRY(&port, number, ahci_port_submit(&port, 0, AHCI_WRITE, 3, 1, data, sizeof data, &number));
     looks(&port);

@@ -90,8 +90,8 @@ long_fault_by c a v h takes =
     if takes then option_fault c false a v h else (if is_some v then TooManyValues ∷ [] else react_fault c false a [] h)
 
 abbrev short_fault_by : List Rule → Rule → Text → Held → (Held → Kinds) → Bool → Kinds
-short_fault_by c a rest h behind takes =
-    if takes then option_fault c false a (attached_value rest) h else or_else (react_fault c false a [] h) (behind (reacted c a [] h))
+short_fault_by c a rest h later takes =
+    if takes then option_fault c false a (attached_value rest) h else or_else (react_fault c false a [] h) (later (reacted c a [] h))
 
 module _ (c : List Rule) (only : HasOptionsOnly c) where
   pub settled_fits : (h : Held) → settle_fault c false h ≡ [] → AreRowsOf c h.rows → AreRowsOf c (settled c h).rows
@@ -128,13 +128,13 @@ module _ (c : List Rule) (only : HasOptionsOnly c) where
       go true e = value_fits a v h (kind a refl) e f
       go false e = bare_fits a v h (kind a refl) e f
 
-  short_fits : (found : Option Rule) (rest : Text) (h : Held) (behind : Held → Kinds) (more : Held → Held × Outcome) → ((a : Rule) → found ≡ Some a → Fits c a)
-      → ((g : Held) → behind g ≡ [] → AreRowsOf c g.rows → AreRowsOf c (more g).0.rows)
-      → short_fault c false found rest h behind ≡ [] → AreRowsOf c h.rows → AreRowsOf c (short_met c found rest h more).0.rows
-  short_fits None rest h behind more kind after e f = cc
-  short_fits (Some a) rest h behind more kind after e f = go (takes_values a) e
+  short_fits : (found : Option Rule) (rest : Text) (h : Held) (later : Held → Kinds) (more : Held → Held × Outcome) → ((a : Rule) → found ≡ Some a → Fits c a)
+      → ((g : Held) → later g ≡ [] → AreRowsOf c g.rows → AreRowsOf c (more g).0.rows)
+      → short_fault c false found rest h later ≡ [] → AreRowsOf c h.rows → AreRowsOf c (short_met c found rest h more).0.rows
+  short_fits None rest h later more kind after e f = cc
+  short_fits (Some a) rest h later more kind after e f = go (takes_values a) e
     where
-      go : (b : Bool) → short_fault_by c a rest h behind b ≡ [] → AreRowsOf c (if b then option_met c a (attached_value rest) h else more (reacted c a [] h)).0.rows
+      go : (b : Bool) → short_fault_by c a rest h later b ≡ [] → AreRowsOf c (if b then option_met c a (attached_value rest) h else more (reacted c a [] h)).0.rows
       go true e = value_fits a (attached_value rest) h (kind a refl) e f
       go false e = after (reacted c a [] h) (second_none _ _ e) (reacted_fits a [] h (kind a refl) (first_none _ _ e) f)
 

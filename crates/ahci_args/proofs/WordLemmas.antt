@@ -98,8 +98,8 @@ module _ (picks : PickWords) where
   entered_at_word : (name : Text) (words : List Text) → StopsAt name → built_fault whole nothing_held (name ∷ words) ≡ [] → entered_fault whole (Some (name, words)) ≡ []
   entered_at_word name words stops e = subst (λ (o : Option (Text × List Text)). entered_fault whole o ≡ []) (stops words) (below name words e)
 
-  behind_replay : (words : List Text) → built_fault whole nothing_held (codes "replay" ∷ words) ≡ [] → (words ≡ []) ⊎ (words ≡ codes "--" ∷ [])
-  behind_replay words e =
+  after_replay : (words : List Text) → built_fault whole nothing_held (codes "replay" ∷ words) ≡ [] → (words ≡ []) ⊎ (words ≡ codes "--" ∷ [])
+  after_replay words e =
       leaf_words leaf leaf_asks words (first_none _ _ (entered_at_word (codes "replay") words stops_at_replay e))
 
   entered_no_fault : (s : Subcommand) (words : List Text) → entered_fault whole (Some (name_of s, words)) ≡ [] → HasNoFault (leaf_of picks s) words
@@ -107,17 +107,17 @@ module _ (picks : PickWords) where
       each_has (λ s. entered_fault whole (Some (name_of s, words)) ≡ [] → HasNoFault (leaf_of picks s) words)
       (λ e. e) (λ e. e) (λ e. e) (λ e. e) (λ e. e) (λ e. e) s
 
-  behind : (s : Subcommand) (words : List Text) → built_fault whole nothing_held (name_of s ∷ words) ≡ [] → HasNoFault (leaf_of picks s) words
-  behind s words e = entered_no_fault s words (entered_at_word (name_of s) words (stops s) e)
+  after_name : (s : Subcommand) (words : List Text) → built_fault whole nothing_held (name_of s ∷ words) ≡ [] → HasNoFault (leaf_of picks s) words
+  after_name s words e = entered_no_fault s words (entered_at_word (name_of s) words (stops s) e)
 
-  behind_help : (words : List Text) → built_fault whole nothing_held (codes "help" ∷ words) ≡ [] → ⊥
+  after_help : (words : List Text) → built_fault whole nothing_held (codes "help" ∷ words) ≡ [] → ⊥
   unfolding clap_on_literals
-  behind_help words e = cc
+  after_help words e = cc
 
-  behind_dashes : (words : List Text) → built_fault whole nothing_held (codes "--" ∷ words) ≡ [] → ⊥
+  after_dashes : (words : List Text) → built_fault whole nothing_held (codes "--" ∷ words) ≡ [] → ⊥
   unfolding clap_on_literals
-  behind_dashes [] e = cc
-  behind_dashes (word ∷ words) e = cc
+  after_dashes [] e = cc
+  after_dashes (word ∷ words) e = cc
 
 -- ---- the words that are taken
 
@@ -151,7 +151,7 @@ module _ (picks : PickWords) (word : Text) (words : List Text) (e : built_fault 
         record {
           rest = words;
           are = ap (λ (w : Text). w ∷ words) (sym ((bytes_eq-Decides (name_of s) word).0 is));
-          no_fault = behind picks s words (known (name_of s) is);
+          no_fault = after_name picks s words (known (name_of s) is);
         },
       )
 
@@ -161,17 +161,17 @@ module _ (picks : PickWords) (word : Text) (words : List Text) (e : built_fault 
       → bytes_eq (codes "help") word ≡ h → bytes_eq word (codes "--") ≡ d → IsTaken picks (word ∷ words)
   unfolding clap_on_literals
   by_name true r i l t k w h d is _ _ _ _ _ _ _ _ =
-      inl (with_replay word words ((bytes_eq-Decides (codes "replay") word).0 is) (behind_replay picks words (known (codes "replay") is)))
+      inl (with_replay word words ((bytes_eq-Decides (codes "replay") word).0 is) (after_replay picks words (known (codes "replay") is)))
   by_name false true i l t k w h d _ is _ _ _ _ _ _ _ = line Runs is
   by_name false false true l t k w h d _ _ is _ _ _ _ _ _ = line Identifies is
   by_name false false false true t k w h d _ _ _ is _ _ _ _ _ = line Logs is
   by_name false false false false true k w h d _ _ _ _ is _ _ _ _ = line Traces is
   by_name false false false false false true w h d _ _ _ _ _ is _ _ _ = line Checks is
   by_name false false false false false false true h d _ _ _ _ _ _ is _ _ = line Draws is
-  by_name false false false false false false false true d _ _ _ _ _ _ _ is _ = absurd (behind_help picks words (known (codes "help") is))
+  by_name false false false false false false false true d _ _ _ _ _ _ _ is _ = absurd (after_help picks words (known (codes "help") is))
   by_name false false false false false false false false true _ _ _ _ _ _ _ _ is =
       let dashes : word ≡ codes "--" = (bytes_eq-Decides word (codes "--")).0 is in
-      absurd (behind_dashes picks words (subst (λ (w : Text). built_fault (whole picks) nothing_held (w ∷ words) ≡ []) dashes e))
+      absurd (after_dashes picks words (subst (λ (w : Text). built_fault (whole picks) nothing_held (w ∷ words) ≡ []) dashes e))
   by_name false false false false false false false false false a r i l t k w h d =
       absurd (turn_stops (whole picks).top (top_asks picks) (names picks) word (rw (a, r, i, l, t, k, w, h) refl) d (first_none _ _ (first_none _ _ e)))
 

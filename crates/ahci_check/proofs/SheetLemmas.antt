@@ -35,8 +35,8 @@ abbrev begun : Desk → Sheet
 begun desk = made desk.form desk.judge desk.found desk.waiting
 
 -- a sheet after other text
-abbrev behind : List ℕ → Sheet → Sheet
-behind text sheet = made sheet.form sheet.judge sheet.found (text ++ sheet.text)
+abbrev after : List ℕ → Sheet → Sheet
+after text sheet = made sheet.form sheet.judge sheet.found (text ++ sheet.text)
 
 -- a sheet is told, which begins with what waited, and some first part of it is written
 record Told (p : Stand) (sheet : Sheet) (q : Stand) : Type 0 where
@@ -46,26 +46,26 @@ record Told (p : Stand) (sheet : Sheet) (q : Stand) : Type 0 where
   found_is : q.desk.found ≡ sheet.found
 
 -- such a sheet is the one that begins with what waits then, after what was written
-split : (p q : Stand) (sheet : Sheet) (h : Told p sheet q) → sheet ≡ behind h.sends.sent (begun q.desk)
+split : (p q : Stand) (sheet : Sheet) (h : Told p sheet q) → sheet ≡ after h.sends.sent (begun q.desk)
 split p q sheet h =
     ap (λ x. made x sheet.judge sheet.found sheet.text) (sym h.form_is) ∙ ap (λ x. made q.desk.form x sheet.found sheet.text) (sym h.judge_is)
     ∙ ap (λ x. made q.desk.form q.desk.judge x sheet.text) (sym h.found_is) ∙ ap (λ x. made q.desk.form q.desk.judge q.desk.found x) h.sends.said
 
-behind_next : (text : List ℕ) (sheet : Sheet) (n : ℕ) (found : Begins) → with_next (behind text sheet) n found ≡ behind text (with_next sheet n found)
-behind_next text sheet n found =
+after_next : (text : List ℕ) (sheet : Sheet) (n : ℕ) (found : Begins) → with_next (after text sheet) n found ≡ after text (with_next sheet n found)
+after_next text sheet n found =
     ap (λ x. made sheet.form (next_judge sheet.judge found) (sheet.found || is_some (said_of sheet.judge n found)) x) (append_assoc text sheet.text (told sheet.form (said_of sheet.judge n found)))
 
-behind_all : (text : List ℕ) (sheet : Sheet) (n : ℕ) (lines : Lines) → judged_from n (behind text sheet) lines ≡ behind text (judged_from n sheet lines)
-behind_all text sheet n [] = refl
-behind_all text sheet n (line ∷ more) =
-    ap (λ s. judged_from (n + 1) s more) (behind_next text sheet n (whole line)) ∙ behind_all text (with_next sheet n (whole line)) (n + 1) more
+after_all : (text : List ℕ) (sheet : Sheet) (n : ℕ) (lines : Lines) → judged_from n (after text sheet) lines ≡ after text (judged_from n sheet lines)
+after_all text sheet n [] = refl
+after_all text sheet n (line ∷ more) =
+    ap (λ s. judged_from (n + 1) s more) (after_next text sheet n (whole line)) ∙ after_all text (with_next sheet n (whole line)) (n + 1) more
 
 -- what comes is told
 step : (p q : Stand) (n : ℕ) (found : Begins) → Judges p n found q → Told p (with_next (begun p.desk) n found) q
 step p q n found h = record { sends = h.sends; form_is = h.form_same; judge_is = h.judge_is; found_is = h.found_is }
 
 -- more is told
-more_told : (p q r : Stand) (sheet : Sheet) (F : Sheet → Sheet) → ((text : List ℕ) (s : Sheet) → F (behind text s) ≡ behind text (F s)) → Told p sheet q → Told q (F (begun q.desk)) r
+more_told : (p q r : Stand) (sheet : Sheet) (F : Sheet → Sheet) → ((text : List ℕ) (s : Sheet) → F (after text s) ≡ after text (F s)) → Told p sheet q → Told q (F (begun q.desk)) r
     → Told p (F sheet) r
 more_told p q r sheet F moves h k =
     let sent = h.sends.sent in
@@ -147,10 +147,10 @@ own f a b n lines (reading.more_input s k t more u takes others) = own f t b k m
 all_told : {S : Type 0} (f : S → Stand) (a b : S) (n : ℕ) (lines : Lines) → Taken (Goes f) a n lines b → Told (f a) (judged_from n (begun (f a).desk) lines) (f b)
 all_told f _ _ n _ (reading.nothing s k) = nothing_told (f s)
 all_told f _ b n _ (reading.one_more s k first t more u fed takes others) =
-    more_told (f s) (f t) (f b) (with_next (begun (f s).desk) k (whole first)) (λ x. judged_from (k + 1) x more) (λ text x. behind_all text x (k + 1) more) (step (f s) (f t) k (whole first) takes)
+    more_told (f s) (f t) (f b) (with_next (begun (f s).desk) k (whole first)) (λ x. judged_from (k + 1) x more) (λ text x. after_all text x (k + 1) more) (step (f s) (f t) k (whole first) takes)
     (all_told f t b (k + 1) more others)
 all_told f _ b n lines (reading.more_input s k t more u takes others) =
-    more_told (f s) (f t) (f b) (begun (f s).desk) (λ x. judged_from k x more) (λ text x. behind_all text x k more) (sent_before (f s) (f t) k takes) (all_told f t b k more others)
+    more_told (f s) (f t) (f b) (begun (f s).desk) (λ x. judged_from k x more) (λ text x. after_all text x k more) (sent_before (f s) (f t) k takes) (all_told f t b k more others)
 
 -- no line was judged, and nothing waits
 abbrev IsNew : Stand → Type 0
@@ -175,7 +175,7 @@ first_judged f P Q r a new g h = record {
 found_told : (p q r : Stand) (form : Form) (judge : Judge) (lines : Lines) (found : Begins) → Told p (sheet_of form judge lines) q → Judges q (length lines + 1) found r
     → Told p (with_found form judge lines found) r
 found_told p q r form judge lines found h takes =
-    more_told p q r (sheet_of form judge lines) (λ x. with_next x (length lines + 1) found) (λ text x. behind_next text x (length lines + 1) found) h (step q r (length lines + 1) found takes)
+    more_told p q r (sheet_of form judge lines) (λ x. with_next x (length lines + 1) found) (λ text x. after_next text x (length lines + 1) found) h (step q r (length lines + 1) found takes)
 
 -- ---- a whole input
 
@@ -267,7 +267,7 @@ next_part p q d sheet n found told part =
     (record {
       sent = told.sends.sent;
       written = told.sends.written;
-      said = ap (λ (s : Sheet). s.text) (ap (λ s. with_next s n found) (split p q sheet told) ∙ behind_next told.sends.sent (begun q.desk) n found);
+      said = ap (λ (s : Sheet). s.text) (ap (λ s. with_next s n found) (split p q sheet told) ∙ after_next told.sends.sent (begun q.desk) n found);
     }) part
 
 pub output_failed : {S : Type 0} (f : S → Stand) (stop : Stopped CheckFault) (r s : Known) (a b : S) → IsNew (f a) → is_of_output (fault_of stop) ≡ true

@@ -32,7 +32,7 @@ joined_len (p ∷ ps) bytes inside =
     ∙ ap (λ n. n + length (joined ps bytes)) (length-take-le p.len (drop p.at bytes) (let d = length-drop p.at bytes in let h : end_of p ≤ length bytes = inside 0 p (omega arith) in omega arith))
     ∙ ap (λ n. p.len + n) (joined_len ps bytes (λ k d h. inside (suc k) d (omega arith)))
 
--- a fact of the room behind what has moved, where the memory is the same
+-- a fact of the room after what has moved, where the memory is the same
 pub room_here : (inside seen : MemoryState) (more : ℕ) → inside ≡ seen → seen.offset + more ≤ length (text seen.window) → inside.offset + more ≤ length (text inside.window)
 room_here inside seen more is room = subst (λ m. m.offset + more ≤ length (text m.window)) (sym is) room
 

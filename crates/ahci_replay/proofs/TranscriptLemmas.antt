@@ -46,13 +46,13 @@ sends_text c d waiting left text p =
 pub sent_all : (c d e : Known) (waiting left : Text) → Sends c d waiting left → Appends d e left → Appends c e waiting
 sent_all c d e waiting left p rest = subst (Appends c e) (sym p.said) (Appends-trans c d e p.sent left p.written rest)
 
-take_behind : (c d e : Known) (sent left : Text) (count : ℕ) → Appends c d sent → Appends d e (take count left) → Appends c e (take (length sent + count) (sent ++ left))
-take_behind c d e sent left count p q = rw (take-append-add sent left count) (Appends-trans c d e sent (take count left) p q)
+take_after : (c d e : Known) (sent left : Text) (count : ℕ) → Appends c d sent → Appends d e (take count left) → Appends c e (take (length sent + count) (sent ++ left))
+take_after c d e sent left count p q = rw (take-append-add sent left count) (Appends-trans c d e sent (take count left) p q)
 
 -- some first part of what was left is written
 pub sent_part : (c d e : Known) (waiting left : Text) → Sends c d waiting left → WritesPart d e left → WritesPart c e waiting
 sent_part c d e waiting left p rest =
-    (length p.sent + rest.0, subst (λ l. Appends c e (take (length p.sent + rest.0) l)) (sym p.said) (take_behind c d e p.sent left rest.0 p.written rest.1))
+    (length p.sent + rest.0, subst (λ l. Appends c e (take (length p.sent + rest.0) l)) (sym p.said) (take_after c d e p.sent left rest.0 p.written rest.1))
 
 -- ---- what lines add
 

@@ -15,9 +15,9 @@ use Rattle.ahci_table.specs.Prdt.{entry_place}
 use Rattle.ahci_table.specs.Scatter.{in_some}
 use Rattle.ahci_table.specs.Text.{bytes_of, joined, replaced}
 use Rattle.ahci_table.specs.Window.{base}
-use Rattle.ahci_table.proofs.LayingLemmas.{joined-laid, length-laid, others-laid, zeros_behind}
+use Rattle.ahci_table.proofs.LayingLemmas.{joined-laid, length-laid, others-laid, zeros_after}
 use Rattle.ahci_table.proofs.PartLemmas.{drop-append, same_part}
-use Rattle.ahci_table.proofs.RefusalLemmas.{IsFree, all_behind, not_false}
+use Rattle.ahci_table.proofs.RefusalLemmas.{IsFree, all_after, not_false}
 use Rattle.ahci_table.proofs.WindowLemmas.{none_before}
 
 -- one entry more
@@ -90,15 +90,15 @@ built tag work ps header bytes table f h is len moved others =
     let n = furthest ps - length table in
     let t = entry_place (length ps) in
     let front : length table ≡ t = ap length is ∙ length-table tag work ps in
-    let behind = all_behind work ps f in
-    let fits : t ≤ furthest ps = table_fits t ps f.has behind in
+    let after = all_after work ps f in
+    let fits : t ≤ furthest ps = table_fits t ps f.has after in
     let whole : length (table ++ replicate n 0) ≡ furthest ps = length-append table (replicate n 0)
     ∙ ap (λ k. length table + k) (length-replicate n 0) ∙ (let e : length table + n ≡ furthest ps = omega arith in e) in
     record {
       tag_is = refl;
       header_is = h;
       table_is = same_part 0 t bytes (table ++ replicate n 0) (len ∙ sym whole)
-          (λ x l u. others x (none_before t x ps behind (omega arith)) ∙ sym (zeros_behind table n x)) ∙ take_at table (replicate n 0) t front ∙ is;
+          (λ x l u. others x (none_before t x ps after (omega arith)) ∙ sym (zeros_after table n x)) ∙ take_at table (replicate n 0) t front ∙ is;
       end_is = len;
       data_is = moved;
       gaps = λ x l e. others x e ∙ get_or_past table x 0 (omega arith);
@@ -109,16 +109,16 @@ pub length-blank : (table : List ℕ) (work : Work) (ps : List Piece) → IsFree
     → length (table ++ replicate (furthest ps - length table) 0) ≡ furthest ps
 length-blank table work ps f front =
     let n = furthest ps - length table in
-    let fits : entry_place (length ps) ≤ furthest ps = table_fits (entry_place (length ps)) ps f.has (all_behind work ps f) in
+    let fits : entry_place (length ps) ≤ furthest ps = table_fits (entry_place (length ps)) ps f.has (all_after work ps f) in
     length-append table (replicate n 0) ∙ ap (λ k. length table + k) (length-replicate n 0) ∙ (let e : length table + n ≡ furthest ps = omega arith in e)
 
 pub joined-blank : (table : List ℕ) (work : Work) (ps : List Piece) → IsFree work ps → length table ≡ entry_place (length ps)
     → joined ps (table ++ replicate (furthest ps - length table) 0) ≡ replicate (512 * sectors_of work) 0
 joined-blank table work ps f front =
     let n = furthest ps - length table in
-    let fits : entry_place (length ps) ≤ furthest ps = table_fits (entry_place (length ps)) ps f.has (all_behind work ps f) in
+    let fits : entry_place (length ps) ≤ furthest ps = table_fits (entry_place (length ps)) ps f.has (all_after work ps f) in
     let end : furthest ps ≡ length table + n = omega arith in
-    joined-zeros table n ps (subst (λ t. All (λ p. t ≤ p.at) ps) (sym front) (all_behind work ps f))
+    joined-zeros table n ps (subst (λ t. All (λ p. t ≤ p.at) ps) (sym front) (all_after work ps f))
     (subst (λ e. All (λ p. end_of p ≤ e) ps) end (furthest_covers ps))
     ∙ ap (λ m. replicate m 0) f.sum
 
@@ -138,7 +138,7 @@ pub is_laid : (lba : ℕ) (ps : List Piece) (table text bytes : List ℕ) → Is
     → rises (length table) ps ≡ true → bytes ≡ table ++ laid (length table) ps text → IsLaid ps table text bytes
 is_laid lba ps table text bytes f front r is =
     let sum = write_sum lba text ps f in
-    let fits : entry_place (length ps) ≤ furthest ps = table_fits (entry_place (length ps)) ps f.has (all_behind (Write lba text) ps f) in
+    let fits : entry_place (length ps) ≤ furthest ps = table_fits (entry_place (length ps)) ps f.has (all_after (Write lba text) ps f) in
     let end = length-laid (length table) ps text r sum in
     record {
       len = ap length is ∙ length-append table (laid (length table) ps text) ∙ end ∙ (let e : max (length table) (furthest ps) ≡ furthest ps = omega arith in e);

@@ -36,8 +36,8 @@ needed n zero a some all = let none : a * 0 ≡ 0 = omega arith in absurd (omega
 needed n (suc k) a some all = omega arith
 
 -- the piece of so many sectors after those that other pieces have
-abbrev piece_behind : ℕ → ℕ → ℕ → Piece
-piece_behind n a x = record { at = 0x1000 + 512 * x; len = 512 * min (n - x) a }
+abbrev piece_after : ℕ → ℕ → ℕ → Piece
+piece_after n a x = record { at = 0x1000 + 512 * x; len = 512 * min (n - x) a }
 
 abbrev pieces_from : ℕ → ℕ → ℕ → ℕ → List Piece
 pieces_from n a s k = map (default_piece n a) (range_with_len s k)
@@ -76,9 +76,9 @@ not_zero a l = by (nat_eq a 0) refl
     by true e = let same = eqb-true a 0 e in absurd (omega (arith, same, l))
 
 -- a piece begins and ends at even places, and has some bytes and no more than DBC can count
-piece_fine : (n a x : ℕ) → 1 ≤ a → a ≤ 2048 → x < n → is_odd (piece_behind n a x) ≡ false
+piece_fine : (n a x : ℕ) → 1 ≤ a → a ≤ 2048 → x < n → is_odd (piece_after n a x) ≡ false
 piece_fine n a x has small within =
-    let p = piece_behind n a x in
+    let p = piece_after n a x in
     let at : nat_eq (p.at % 2) 0 ≡ true = is_eq (p.at % 2) 0 (omega arith) in
     let even : nat_eq (p.len % 2) 0 ≡ true = is_eq (p.len % 2) 0 (omega arith) in
     let some : nat_eq p.len 0 ≡ false = not_zero p.len (omega (arith, has, within)) in
@@ -86,18 +86,18 @@ piece_fine n a x has small within =
     rw (at, even, some, most) refl
 
 -- a piece lies after a table of at most 32 entries and ends before the longest window's end
-piece_inside : (n a x k : ℕ) → n ≤ most_sectors → k ≤ 32 → x < n → is_outside k (piece_behind n a x) ≡ false
+piece_inside : (n a x k : ℕ) → n ≤ most_sectors → k ≤ 32 → x < n → is_outside k (piece_after n a x) ≡ false
 piece_inside n a x k most few within =
-    let p = piece_behind n a x in
-    let behind : nat_lt p.at (entry_place k) ≡ false = not_below p.at (entry_place k) (omega (arith, few)) in
+    let p = piece_after n a x in
+    let after : nat_lt p.at (entry_place k) ≡ false = not_below p.at (entry_place k) (omega (arith, few)) in
     let inside : nat_lt 67108864 (end_of p) ≡ false = not_below 67108864 (end_of p) (omega (arith, most, within)) in
-    rw (behind, inside) refl
+    rw (after, inside) refl
 
 -- a piece that begins after so many sectors more shares no byte with the first
-beside : (n a x y : ℕ) → x + a ≤ y → is_apart (piece_behind n a x) (piece_behind n a y) ≡ true
-beside n a x y behind =
-    let before : nat_le (end_of (piece_behind n a x)) (0x1000 + 512 * y) ≡ true = is_le _ _ (omega (arith, behind)) in
-    ap (λ b. b || nat_le (end_of (piece_behind n a y)) (0x1000 + 512 * x)) before
+beside : (n a x y : ℕ) → x + a ≤ y → is_apart (piece_after n a x) (piece_after n a y) ≡ true
+beside n a x y after =
+    let before : nat_le (end_of (piece_after n a x)) (0x1000 + 512 * y) ≡ true = is_le _ _ (omega (arith, after)) in
+    ap (λ b. b || nat_le (end_of (piece_after n a y)) (0x1000 + 512 * x)) before
 
 -- where the next piece begins
 next : (a s : ℕ) → a * (s + 1) ≡ a * s + a

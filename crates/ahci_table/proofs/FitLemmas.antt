@@ -25,7 +25,7 @@ use Rattle.ahci_table.specs.Prdt.{EntryFields, entry_at, entry_of, entry_place, 
 use Rattle.ahci_table.specs.Text.{joined, text}
 use Rattle.ahci_table.specs.Window.{WindowState, base}
 use Rattle.ahci_table.proofs.BuildLemmas.{furthest_covers, furthest_within, table_fits}
-use Rattle.ahci_table.proofs.RefusalLemmas.{IsFree, IsEven, all_behind, all_below, all_even}
+use Rattle.ahci_table.proofs.RefusalLemmas.{IsFree, IsEven, all_after, all_below, all_even}
 
 -- the header's fields
 abbrev pub fields : Bool → ℕ → ℕ → HeaderFields
@@ -193,7 +193,7 @@ carries_built tag work ps w low f b =
 
 -- an entry that was written is a good one
 entry_good : (start first last : ℕ) (p : Piece) → start % 2 ≡ 0 → IsEven p → first ≤ p.at → end_of p ≤ last → IsEntry start first last (entry_with start p)
-entry_good start first last p aligned even behind inside =
+entry_good start first last p aligned even after inside =
     let at = even.at in
     let len = even.len in
     let some = even.some in
@@ -206,9 +206,9 @@ fit_built tag work ps w low f b =
     let q = queued_back tag work ps w low f b in
     let list = pieces_back tag work ps w low f b in
     let count : (header_of w).prdtl ≡ n = ap (λ h. h.prdtl) hdr in
-    let behind = all_behind work ps f in
+    let after = all_after work ps f in
     let below = all_below work ps f in
-    let fits : entry_place n ≤ furthest ps = table_fits (entry_place n) ps f.has behind in
+    let fits : entry_place n ≤ furthest ps = table_fits (entry_place n) ps f.has after in
     let within : furthest ps ≤ 0x04000000 = furthest_within 0x04000000 ps below in
     let len : length w.bytes ≡ furthest ps = b.end_is in
     let has = f.has in
@@ -245,7 +245,7 @@ fit_built tag work ps w low f b =
             subst (λ t. IsEntry (base t) (table_end w) (length w.bytes) (entry_of w i)) (sym b.tag_is)
             (subst (λ e. IsEntry (base tag) (table_end w) (length w.bytes) e) (sym (entry_written tag work ps w i d low f b inside))
             (entry_good (base tag) (table_end w) (length w.bytes) (get_or ps i d) (omega arith) (all_even work ps f i d inside)
-            (let e : entry_place n ≤ (get_or ps i d).at = behind i d inside in omega arith)
+            (let e : entry_place n ≤ (get_or ps i d).at = after i d inside in omega arith)
             (let e : end_of (get_or ps i d) ≤ furthest ps = furthest_covers ps i d inside in omega arith)));
         apart = ap are_apart list ∙ f.apart;
         whole = ap total list ∙ f.sum ∙ ap (λ (a : QueuedFields). 512 * a.sectors) (sym q);

@@ -82,7 +82,7 @@ covered x p ps e from =
     elim (cases_lt x (end_of p)) [
       | inl inside ↦ absurd (false≢true (sym (or_parts (covers x p) (in_some x ps) e).0
           ∙ and_from (leb p.at x) (ltb x (end_of p)) (le-leb p.at x from) (lt-ltb x (end_of p) inside)))
-      | inr behind ↦ behind
+      | inr after ↦ after
     ]
 
 zero_in : (m i : ℕ) → get_or {A = ℕ} (replicate m 0) i 0 ≡ 0
@@ -92,10 +92,10 @@ zero_in m i = elim (cases_lt i m) [
 ]
 
 -- a byte that no piece covers is zero, where it is after what was there
-zero_behind : (front : List ℕ) (end : ℕ) (ps : List Piece) (text : List ℕ) (x : ℕ) → length front ≡ end → rises end ps ≡ true
+zero_after : (front : List ℕ) (end : ℕ) (ps : List Piece) (text : List ℕ) (x : ℕ) → length front ≡ end → rises end ps ≡ true
     → total ps ≡ length text → in_some x ps ≡ false → end ≤ x → get_or (front ++ laid end ps text) x 0 ≡ 0
-zero_behind front end [] text x is r sum e behind = get_or_past (front ++ []) x 0 (let n = length-append front [] in omega arith)
-zero_behind front end (p ∷ ps) text x is r sum e behind =
+zero_after front end [] text x is r sum e after = get_or_past (front ++ []) x 0 (let n = length-append front [] in omega arith)
+zero_after front end (p ∷ ps) text x is r sum e after =
     let from : end ≤ p.at = begins end p ps r in
     let gap : List ℕ = replicate (p.at - end) 0 in
     let own = take p.len text in
@@ -105,9 +105,9 @@ zero_behind front end (p ∷ ps) text x is r sum e behind =
     let lead : length (front ++ gap) ≡ p.at = before_own front end p.at is from in
     elim (cases_lt x p.at) [
       | inl early ↦ ap (λ z. get_or z x 0) (apart front gap own rest)
-          ∙ get_or_append_left (front ++ gap) (own ++ rest) 0 x (omega arith) ∙ get_or-append_right front gap end x 0 is behind ∙ zero_in (p.at - end) (x - end)
+          ∙ get_or_append_left (front ++ gap) (own ++ rest) 0 x (omega arith) ∙ get_or-append_right front gap end x 0 is after ∙ zero_in (p.at - end) (x - end)
       | inr late ↦ ap (λ z. get_or z x 0) (regroup front gap own rest)
-          ∙ zero_behind ((front ++ gap) ++ own) (end_of p) ps left x (with_own front end p own is from own_is) (others_rise end p ps r) (left_over p ps text sum)
+          ∙ zero_after ((front ++ gap) ++ own) (end_of p) ps left x (with_own front end p own is from own_is) (others_rise end p ps r) (left_over p ps text sum)
           (or_parts (covers x p) (in_some x ps) e).1 (covered x p ps e late)
     ]
 
@@ -117,12 +117,12 @@ pub others-laid : (front : List ℕ) (ps : List Piece) (text : List ℕ) (x : �
 others-laid front ps text x r sum e =
     elim (cases_lt x (length front)) [
       | inl early ↦ get_or_append_left front (laid (length front) ps text) 0 x early
-      | inr late ↦ zero_behind front (length front) ps text x refl r sum e late ∙ sym (get_or_past front x 0 late)
+      | inr late ↦ zero_after front (length front) ps text x refl r sum e late ∙ sym (get_or_past front x 0 late)
     ]
 
 -- zeros after a list are as nothing there
-pub zeros_behind : (front : List ℕ) (m x : ℕ) → get_or (front ++ replicate m 0) x 0 ≡ get_or front x 0
-zeros_behind front m x =
+pub zeros_after : (front : List ℕ) (m x : ℕ) → get_or (front ++ replicate m 0) x 0 ≡ get_or front x 0
+zeros_after front m x =
     elim (cases_lt x (length front)) [
       | inl early ↦ get_or_append_left front (replicate m 0) 0 x early
       | inr late ↦ get_or-append_right front (replicate m 0) (length front) x 0 refl late ∙ zero_in m (x - length front) ∙ sym (get_or_past front x 0 late)

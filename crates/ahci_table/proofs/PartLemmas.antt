@@ -99,10 +99,10 @@ replaced-append skip lead count from xs ys l c =
             ∙ sym (ap (λ k. replaced k (take count from) xs ++ replaced (skip - lead) (drop count from) ys) here
             ∙ ap (λ k. replaced skip (take count from) xs ++ replaced k (drop count from) ys) zero_left)
       ]
-      | inr behind ↦
+      | inr after ↦
           let end : lead ≡ length xs = omega arith in
           let none : count ≡ 0 = omega arith in
-          replaced_right skip from xs ys behind
+          replaced_right skip from xs ys after
           ∙ sym (ap (λ k. replaced lead (take k from) xs ++ replaced (skip - lead) (drop k from) ys) none
           ∙ ap (λ k. replaced k [] xs ++ replaced (skip - k) from ys) end
           ∙ ap (λ z. z ++ replaced (skip - length xs) from ys) (whole xs))
@@ -151,7 +151,7 @@ put_outside a k xs ys x d len fits (inl below) =
     sym (get_or-take a (put_mid a k xs ys) x d below)
     ∙ ap (λ z. get_or z x d) (take-put_mid_below a k xs ys a (omega arith) (omega arith))
     ∙ get_or-take a xs x d below
-put_outside a k xs ys x d len fits (inr behind) =
+put_outside a k xs ys x d len fits (inr after) =
     let e : a + k + (x - (a + k)) ≡ x = omega arith in
     ap (λ i. get_or (put_mid a k xs ys) i d) (sym e)
     ∙ sym (get_or-drop (a + k) (put_mid a k xs ys) (x - (a + k)) d)

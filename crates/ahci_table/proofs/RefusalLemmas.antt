@@ -120,8 +120,8 @@ even_from p e =
 pub all_even : (work : Work) (ps : List Piece) → IsFree work ps → All IsEven ps
 all_even work ps f = none_of is_odd IsEven even_from ps f.fine
 
-pub all_behind : (work : Work) (ps : List Piece) → IsFree work ps → All (λ p. entry_place (length ps) ≤ p.at) ps
-all_behind work ps f =
+pub all_after : (work : Work) (ps : List Piece) → IsFree work ps → All (λ p. entry_place (length ps) ≤ p.at) ps
+all_after work ps f =
     none_of (is_outside (length ps)) (λ p. entry_place (length ps) ≤ p.at)
     (λ p e. le_from p.at (entry_place (length ps)) ((or_parts (ltb p.at (entry_place (length ps))) (ltb most_bytes (end_of p)) e).0)) ps f.inside
 

@@ -34,7 +34,7 @@ not_covered x p e =
       | inl below ↦ inl below
       | inr from ↦ elim (cases_lt x (end_of p)) [
         | inl inside ↦ absurd (false≢true (sym e ∙ and_from (leb p.at x) (ltb x (end_of p)) (le-leb p.at x from) (lt-ltb x (end_of p) inside)))
-        | inr behind ↦ inr behind
+        | inr after ↦ inr after
       ]
     ]
 
@@ -44,7 +44,7 @@ apart_sides p q e =
     elim (cases_lt q.at (end_of p)) [
       | inl one ↦ elim (cases_lt p.at (end_of q)) [
         | inl two ↦ absurd (false≢true (sym (or_from (leb (end_of p) q.at) (leb (end_of q) p.at) (lt-leb (end_of p) q.at one) (lt-leb (end_of q) p.at two)) ∙ e))
-        | inr behind ↦ inr behind
+        | inr after ↦ inr after
       ]
       | inr before ↦ inl before
     ]
@@ -96,7 +96,7 @@ scattered_outside (p ∷ ps) skip from bytes x h e =
   where
     out : (lead count : ℕ) → lead + count ≤ p.len → (x < p.at) ⊎ (end_of p ≤ x) → (x < p.at + lead) ⊎ (p.at + lead + count ≤ x)
     out lead count within (inl before) = inl (omega arith)
-    out lead count within (inr behind) = inr (omega arith)
+    out lead count within (inr after) = inr (omega arith)
 
 -- what is copied into a piece changes no piece apart from it
 joined_apart : (p : Piece) (qs : List Piece) (a k : ℕ) (bytes ys : List ℕ) → list_all (is_apart p) qs ≡ true → length ys ≡ k
@@ -111,7 +111,7 @@ joined_apart p (q ∷ qs) a k bytes ys e len low high inside =
   where
     out : (x : ℕ) → q.at ≤ x → x < q.at + q.len → (end_of p ≤ q.at) ⊎ (end_of q ≤ p.at) → (x < a) ⊎ (a + k ≤ x)
     out x from to (inl before) = inr (omega arith)
-    out x from to (inr behind) = inl (omega arith)
+    out x from to (inr after) = inl (omega arith)
 
 pub length-bytes_of : (p : Piece) (bytes : List ℕ) → end_of p ≤ length bytes → length (bytes_of p bytes) ≡ p.len
 length-bytes_of p bytes h = let d : length (drop p.at bytes) ≡ length bytes - p.at = length-drop p.at bytes in length-take-le p.len (drop p.at bytes) (omega arith)

@@ -35,11 +35,11 @@ pieces_inside w h = each_piece w (λ p. end_of p ≤ length w.bytes) (λ i below
     inside : (start first last : ℕ) (e : EntryFields) → IsEntry start first last e → end_of (piece_of start e) ≤ last
     inside start first last e f = let a = f.after in let b = f.within in omega arith
 
-pub pieces_behind : (w : WindowState) → HasEntries w → All (λ p. table_end w ≤ p.at) (pieces w)
-pieces_behind w h = each_piece w (λ p. table_end w ≤ p.at) (λ i below. behind (base w.tag) (table_end w) (length w.bytes) (entry_of w i) (h i below))
+pub pieces_after : (w : WindowState) → HasEntries w → All (λ p. table_end w ≤ p.at) (pieces w)
+pieces_after w h = each_piece w (λ p. table_end w ≤ p.at) (λ i below. starts_after (base w.tag) (table_end w) (length w.bytes) (entry_of w i) (h i below))
   where
-    behind : (start first last : ℕ) (e : EntryFields) → IsEntry start first last e → first ≤ (piece_of start e).at
-    behind start first last e f = let a = f.after in omega arith
+    starts_after : (start first last : ℕ) (e : EntryFields) → IsEntry start first last e → first ≤ (piece_of start e).at
+    starts_after start first last e f = let a = f.after in omega arith
 
 -- a place before all pieces is in none
 pub none_before : (t x : ℕ) (ps : List Piece) → All (λ p. t ≤ p.at) ps → x < t → in_some x ps ≡ false
@@ -134,7 +134,7 @@ pub scattered_window : (w : WindowState) (offset : ℕ) (from bytes : List ℕ) 
     → joined (pieces w) bytes ≡ replaced offset from (text w) → ((x : ℕ) → in_some x (pieces w) ≡ false → get_or bytes x 0 ≡ get_or w.bytes x 0)
     → IsScattered w offset from (with_bytes w bytes) × IsFit (with_bytes w bytes)
 scattered_window w offset from bytes f len moved others =
-    let h : Agrees w bytes = record { len = len; table = λ x below. others x (none_before (table_end w) x (pieces w) (pieces_behind w f.listed.entries) below) } in
+    let h : Agrees w bytes = record { len = len; table = λ x below. others x (none_before (table_end w) x (pieces w) (pieces_after w f.listed.entries) below) } in
     let list = agree_pieces w bytes h in (
       record {
         text_is = ap (λ ps. joined ps bytes) list ∙ moved;

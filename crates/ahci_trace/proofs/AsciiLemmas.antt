@@ -32,8 +32,8 @@ word_ascii (b ∷ more) h =
     let parts = and_parts (nat_lt b 128) (is_ascii more) h in
     IsAscii-cons b more (below b parts.0) (word_ascii more parts.1)
 
-behind : (word text : List ℕ) → is_ascii word ≡ true → IsAscii text → IsAscii (word ++ text)
-behind word text h q = IsAscii-append word text (word_ascii word h) q
+word_then : (word text : List ℕ) → is_ascii word ≡ true → IsAscii text → IsAscii (word ++ text)
+word_then word text h q = IsAscii-append word text (word_ascii word h) q
 
 -- ---- the text of a line
 
@@ -78,7 +78,7 @@ hex_text_ascii (b ∷ bytes) =
 -- ---- answers
 
 space : (text : List ℕ) → IsAscii text → IsAscii (32 ∷ text)
-space text q = behind (32 ∷ []) text refl q
+space text q = word_then (32 ∷ []) text refl q
 
 numbers_ascii : (numbers : List ℕ) → IsAscii (numbers_text numbers)
 numbers_ascii [] = IsAscii-nil
@@ -100,25 +100,25 @@ number_then : (n : ℕ) (text : List ℕ) → IsAscii text → IsAscii (decimal 
 number_then n text q = IsAscii-append (decimal n) text (decimal_ascii n) q
 
 pub answer_ascii : (s : Said) → IsAscii (answer_text s)
-answer_ascii (Disk sectors depth None) = behind (codes "disk ") _ refl (number_then sectors _ (space _ (decimal_ascii depth)))
-answer_ascii (Disk sectors depth (Some first)) = behind (codes "disk ") _ refl (number_then sectors _ (space _ (number_then depth _ (space _ (decimal_ascii first)))))
-answer_ascii (Issued entry) = behind (codes "issued ") _ refl (decimal_ascii entry)
-answer_ascii (Accepted entry) = behind (codes "accepted ") _ refl (decimal_ascii entry)
-answer_ascii (Completed first end) = behind (codes "completed") _ refl (numbers_ascii (entries_between first end))
-answer_ascii (FailedStep entry) = behind (codes "failed ") _ refl (decimal_ascii entry)
-answer_ascii (Wrote entry) = behind (codes "wrote ") _ refl (decimal_ascii entry)
-answer_ascii (Read entry bytes) = behind (codes "read ") _ refl (number_then entry _ (sectors_ascii bytes (length bytes / 512)))
+answer_ascii (Disk sectors depth None) = word_then (codes "disk ") _ refl (number_then sectors _ (space _ (decimal_ascii depth)))
+answer_ascii (Disk sectors depth (Some first)) = word_then (codes "disk ") _ refl (number_then sectors _ (space _ (number_then depth _ (space _ (decimal_ascii first)))))
+answer_ascii (Issued entry) = word_then (codes "issued ") _ refl (decimal_ascii entry)
+answer_ascii (Accepted entry) = word_then (codes "accepted ") _ refl (decimal_ascii entry)
+answer_ascii (Completed first end) = word_then (codes "completed") _ refl (numbers_ascii (entries_between first end))
+answer_ascii (FailedStep entry) = word_then (codes "failed ") _ refl (decimal_ascii entry)
+answer_ascii (Wrote entry) = word_then (codes "wrote ") _ refl (decimal_ascii entry)
+answer_ascii (Read entry bytes) = word_then (codes "read ") _ refl (number_then entry _ (sectors_ascii bytes (length bytes / 512)))
 answer_ascii (Failed entry error lba) =
     let sector = space (decimal lba) (decimal_ascii lba) in
     let fault = IsAscii-append (hex_of 2 error) (codes " " ++ decimal lba) (hex_ascii 2 error) sector in
-    behind (codes "failed ") _ refl (number_then entry (codes " " ++ (hex_of 2 error ++ (codes " " ++ decimal lba))) (space (hex_of 2 error ++ (codes " " ++ decimal lba)) fault))
-answer_ascii (Recovered tag) = behind (codes "recovered ") _ refl (decimal_ascii tag)
-answer_ascii (Reissued tag) = behind (codes "reissued ") _ refl (decimal_ascii tag)
+    word_then (codes "failed ") _ refl (number_then entry (codes " " ++ (hex_of 2 error ++ (codes " " ++ decimal lba))) (space (hex_of 2 error ++ (codes " " ++ decimal lba)) fault))
+answer_ascii (Recovered tag) = word_then (codes "recovered ") _ refl (decimal_ascii tag)
+answer_ascii (Reissued tag) = word_then (codes "reissued ") _ refl (decimal_ascii tag)
 answer_ascii (Register value) = hex_ascii 8 value
 answer_ascii Acked = word_ascii (codes "acked") refl
-answer_ascii (Word word value) = behind (codes "word ") _ refl (number_then word (codes " " ++ hex_of 4 value) (space (hex_of 4 value) (hex_ascii 4 value)))
+answer_ascii (Word word value) = word_then (codes "word ") _ refl (number_then word (codes " " ++ hex_of 4 value) (space (hex_of 4 value) (hex_ascii 4 value)))
 answer_ascii Flushed = word_ascii (codes "flushed") refl
-answer_ascii (Sector lba byte) = behind (codes "sector ") _ refl (number_then lba (codes " " ++ hex_of 2 byte) (space (hex_of 2 byte) (hex_ascii 2 byte)))
-answer_ascii (Journal entries) = behind (codes "journal ") _ refl (decimal_ascii entries)
-answer_ascii (Trimmed entries) = behind (codes "trimmed ") _ refl (decimal_ascii entries)
-answer_ascii (Refused refusal) = behind (codes "refused ") _ refl (word_ascii (name_of refusal) (name_ascii refusal))
+answer_ascii (Sector lba byte) = word_then (codes "sector ") _ refl (number_then lba (codes " " ++ hex_of 2 byte) (space (hex_of 2 byte) (hex_ascii 2 byte)))
+answer_ascii (Journal entries) = word_then (codes "journal ") _ refl (decimal_ascii entries)
+answer_ascii (Trimmed entries) = word_then (codes "trimmed ") _ refl (decimal_ascii entries)
+answer_ascii (Refused refusal) = word_then (codes "refused ") _ refl (word_ascii (name_of refusal) (name_ascii refusal))

@@ -139,8 +139,8 @@ Closes text = (line : List ℕ) × (text ≡ line ++ 10 ∷ []) × (is_line line
 feed : Closes (10 ∷ [])
 feed = ([], refl, refl)
 
-behind : (a text : List ℕ) → is_line a ≡ true → Closes text → Closes (a ++ text)
-behind a text p c = (a ++ c.0, ap (λ t. a ++ t) c.1 ∙ sym (append_assoc a c.0 (10 ∷ [])), line-append a c.0 p c.2)
+part_then : (a text : List ℕ) → is_line a ≡ true → Closes text → Closes (a ++ text)
+part_then a text p c = (a ++ c.0, ap (λ t. a ++ t) c.1 ∙ sym (append_assoc a c.0 (10 ∷ [])), line-append a c.0 p c.2)
 
 indented : (text : List ℕ) → Closes text → AreNotes (32 ∷ 32 ∷ text)
 indented text c = subst (λ t. AreNotes (32 ∷ 32 ∷ t)) (sym c.1) (a_note c.0 [] c.2 no_note)
@@ -159,16 +159,16 @@ flat_notes f each (x ∷ xs) = subst AreNotes (sym (flat_map-cons f x xs)) (AreN
 entry_notes : (e : Appended) → AreNotes (entry_text e)
 entry_notes e =
     indented (codes "entry " ++ (decimal e.number ++ (codes ": " ++ (what_text e.what ++ 10 ∷ []))))
-    (behind (codes "entry ") _ refl (behind (decimal e.number) _ (decimal-line e.number) (behind (codes ": ") _ refl (behind (what_text e.what) _ (what-line e.what) feed))))
+    (part_then (codes "entry ") _ refl (part_then (decimal e.number) _ (decimal-line e.number) (part_then (codes ": ") _ refl (part_then (what_text e.what) _ (what-line e.what) feed))))
 
 write_notes : (w : RegisterWrite) → AreNotes (write_text w)
 write_notes w =
     indented (codes "wrote " ++ (name_of w.register ++ (codes " " ++ (hex_of 8 w.word ++ 10 ∷ []))))
-    (behind (codes "wrote ") _ refl (behind (name_of w.register) _ (register-line w.register).0 (behind (codes " ") _ refl (behind (hex_of 8 w.word) _ (hex-line 8 w.word) feed))))
+    (part_then (codes "wrote ") _ refl (part_then (name_of w.register) _ (register-line w.register).0 (part_then (codes " ") _ refl (part_then (hex_of 8 w.word) _ (hex-line 8 w.word) feed))))
 
 named_notes : (name bytes : List ℕ) → is_line name ≡ true → AreNotes (named_text (32 ∷ 32 ∷ name) bytes)
 unfolding named_text
-named_notes name bytes h = indented (name ++ (bytes_text bytes ++ 10 ∷ [])) (behind name _ h (behind (bytes_text bytes) _ (bytes-line bytes) feed))
+named_notes name bytes h = indented (name ++ (bytes_text bytes ++ 10 ∷ [])) (part_then name _ h (part_then (bytes_text bytes) _ (bytes-line bytes) feed))
 
 sent_notes : (sent : Option SentBytes) → AreNotes (sent_text sent)
 sent_notes None = no_note
@@ -185,8 +185,8 @@ fis_notes name (Some bytes) h = named_notes name bytes h
 data_notes : (name : List ℕ) (bytes : ℕ) → is_line name ≡ true → AreNotes (data_line (32 ∷ 32 ∷ name) bytes)
 data_notes name bytes h =
     indented (name ++ (bytes_text data_head_bytes ++ (codes ", " ++ (decimal bytes ++ (codes " bytes" ++ 10 ∷ [])))))
-    (behind name _ h (behind (bytes_text data_head_bytes) _ (bytes-line data_head_bytes) (behind (codes ", ") _ refl
-    (behind (decimal bytes) _ (decimal-line bytes) (behind (codes " bytes") _ refl feed)))))
+    (part_then name _ h (part_then (bytes_text data_head_bytes) _ (bytes-line data_head_bytes) (part_then (codes ", ") _ refl
+    (part_then (decimal bytes) _ (decimal-line bytes) (part_then (codes " bytes") _ refl feed)))))
 
 moved_notes : (write : Bool) (bytes : ℕ) → AreNotes (data_text write bytes)
 moved_notes true bytes =
@@ -216,13 +216,13 @@ received_notes r =
 change_notes : (c : Change) → AreNotes (change_text c)
 change_notes c =
     indented (name_of c.register ++ (codes " " ++ (hex_of 8 c.word ++ (bits_text c.register c.word ++ 10 ∷ []))))
-    (behind (name_of c.register) _ (register-line c.register).0 (behind (codes " ") _ refl (behind (hex_of 8 c.word) _ (hex-line 8 c.word)
-    (behind (bits_text c.register c.word) _ (bits-line c.register c.word) feed))))
+    (part_then (name_of c.register) _ (register-line c.register).0 (part_then (codes " ") _ refl (part_then (hex_of 8 c.word) _ (hex-line 8 c.word)
+    (part_then (bits_text c.register c.word) _ (bits-line c.register c.word) feed))))
 
 slot_notes : (s : OwnedSlot) → AreNotes (slot_text s)
 slot_notes s =
     indented (codes "slot " ++ (decimal s.tag ++ (codes " " ++ (phase_name s.phase ++ 10 ∷ []))))
-    (behind (codes "slot ") _ refl (behind (decimal s.tag) _ (decimal-line s.tag) (behind (codes " ") _ refl (behind (phase_name s.phase) _ (phase-line s.phase) feed))))
+    (part_then (codes "slot ") _ refl (part_then (decimal s.tag) _ (decimal-line s.tag) (part_then (codes " ") _ refl (part_then (phase_name s.phase) _ (phase-line s.phase) feed))))
 
 told_notes : (t : Told) → AreNotes (told_text t)
 told_notes t =

@@ -28,18 +28,18 @@ module _ (base : ℕ) (some : 0 < base) where
   shorter count n small = div_below n base (base ^ count) some (rw pow-suc at small)
 
   -- digits after zeros, up to the width
-  abbrev behind_zeros : ℕ → List ℕ → List ℕ → List ℕ
-  behind_zeros width rest ds = replicate (width + length rest - length ds) 48 ++ ds
+  abbrev after_zeros : ℕ → List ℕ → List ℕ → List ℕ
+  after_zeros width rest ds = replicate (width + length rest - length ds) 48 ++ ds
 
   filled : (count fuel n : ℕ) (rest : List ℕ) → 0 < count → count ≤ fuel → n < base ^ count
-      → behind_zeros count rest (digits_onto fuel base false n rest) ≡ last_digits base count n ++ rest
+      → after_zeros count rest (digits_onto fuel base false n rest) ≡ last_digits base count n ++ rest
   filled zero fuel n rest wide enough small = absurd (omega arith)
   filled (suc count) fuel n rest wide enough small =
       let glyph = digit_glyph false (n % base) in
       elim (cases_eq (n / base) 0) [
         | inl last ↦
             let fewer : suc count + length rest - length (glyph ∷ rest) ≡ count = omega arith in
-            ap (behind_zeros (suc count) rest) (digits_onto_last base false n rest fuel (omega arith) last)
+            ap (after_zeros (suc count) rest) (digits_onto_last base false n rest fuel (omega arith) last)
             ∙ ap (λ m. replicate m 48 ++ glyph ∷ rest) fewer
             ∙ sym (append_assoc (replicate count 48) (glyph ∷ []) rest)
             ∙ ap (λ xs. (xs ++ glyph ∷ []) ++ rest) (sym (no_digits count))
@@ -49,7 +49,7 @@ module _ (base : ℕ) (some : 0 < base) where
             let left : 0 < count = first_left count (n / base) low more in
             let same : suc count + length rest ≡ count + length (glyph ∷ rest) = omega arith in
             let onto = digits_onto (fuel - 1) base false (n / base) (glyph ∷ rest) in
-            ap (behind_zeros (suc count) rest) (digits_onto_step base false n rest fuel (omega arith) more)
+            ap (after_zeros (suc count) rest) (digits_onto_step base false n rest fuel (omega arith) more)
             ∙ ap (λ m. replicate (m - length onto) 48 ++ onto) same
             ∙ filled count (fuel - 1) (n / base) (glyph ∷ rest) left (omega arith) low
             ∙ sym (append_assoc (last_digits base count (n / base)) (glyph ∷ []) rest)

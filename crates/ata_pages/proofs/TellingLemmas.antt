@@ -13,8 +13,8 @@ use Rattle.ata_pages.specs.Telling.{TellsError, TellsWords}
 -- ---- the words of an identify page
 
 -- two bytes before others
-behind_two : (x y : ℕ) (bytes : List ℕ) (i : ℕ) → word_of (x ∷ y ∷ bytes) (suc i) ≡ word_of bytes i
-behind_two x y bytes i =
+after_two : (x y : ℕ) (bytes : List ℕ) (i : ℕ) → word_of (x ∷ y ∷ bytes) (suc i) ≡ word_of bytes i
+after_two x y bytes i =
     let low : 2 * suc i ≡ suc (suc (2 * i)) = omega arith in
     let high : 2 * suc i + 1 ≡ suc (suc (2 * i + 1)) = omega arith in
     ap (λ m. slice_index (x ∷ y ∷ bytes) m + 256 * slice_index (x ∷ y ∷ bytes) (2 * suc i + 1)) low
@@ -27,7 +27,7 @@ at_number word first zero i within = absurd (omega arith)
 at_number word first (suc count) zero within = ap (λ n. byte_at 0 (word n) + 256 * byte_at 1 (word n)) {x = first} (omega arith)
 at_number word first (suc count) (suc i) within =
     let next : first + 1 + i ≡ first + suc i = omega arith in
-    behind_two (byte_at 0 (word first)) (byte_at 1 (word first)) (flat_map word_bytes (map word (range_with_len (first + 1) count))) i
+    after_two (byte_at 0 (word first)) (byte_at 1 (word first)) (flat_map word_bytes (map word (range_with_len (first + 1) count))) i
     ∙ at_number word (first + 1) count i (omega arith)
     ∙ ap (λ n. byte_at 0 (word n) + 256 * byte_at 1 (word n)) next
 

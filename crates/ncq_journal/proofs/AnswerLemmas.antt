@@ -27,16 +27,16 @@ sectors_more image past lba n =
     ap (flat_map (sector image past)) (range_more lba n) ∙ flat_map-append (sector image past) (range_with_len lba n) ((lba + n) ∷ [])
     ∙ ap (λ t. sectors_at image past lba n ++ t) (append-nil (sector image past (lba + n)))
 
-All-behind : (later past : List Entry) → AllProper (later ++ past) → AllProper past
-All-behind [] past h = h
-All-behind (entry ∷ later) past h =
-    All-behind later past (λ k d below. h (suc k) d (let b : k < length (later ++ past) = below in omega arith))
+All-after : (later past : List Entry) → AllProper (later ++ past) → AllProper past
+All-after [] past h = h
+All-after (entry ∷ later) past h =
+    All-after later past (λ k d below. h (suc k) d (let b : k < length (later ++ past) = below in omega arith))
 
 -- the first events of a journal whose commands are proper
 pub proper_first : {A : _} (events : List (Event A)) (n : ℕ) → AllProper (history_of events) → AllProper (history_of (take n events))
 proper_first events n h =
     let whole = sym (ap history_of (take-append-drop n events)) ∙ history-append (take n events) (drop n events) in
-    All-behind (history_of (drop n events)) (history_of (take n events)) (subst AllProper whole h)
+    All-after (history_of (drop n events)) (history_of (take n events)) (subst AllProper whole h)
 
 -- an entry of such a journal issues a command that can be issued
 pub proper_entry : (past : List Entry) (k : ℕ) (entry : Entry) → AllProper past → entry_at past k ≡ Some entry → IsProperEntry entry

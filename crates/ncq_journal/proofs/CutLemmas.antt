@@ -88,14 +88,14 @@ request_of_parts (Reissue t ∷ later) past tag r e = request_of_parts later pas
 request_of_parts (Collect t ∷ later) past tag r e = request_of_parts later past tag r e
 request_of_parts (Unqueued c ∷ later) past tag r e = request_of_parts later past tag r e
 
-slice_get-behind : {X : Type 0} (xs ys : List X) (k : ℕ) → slice_get (xs ++ ys) (length xs + k) ≡ slice_get ys k
-slice_get-behind [] ys k = ap (slice_get ys) (let e : 0 + k ≡ k = omega arith in e)
-slice_get-behind (x ∷ xs) ys k = ap (slice_get (x ∷ (xs ++ ys))) (let e : suc (length xs) + k ≡ suc (length xs + k) = omega arith in e) ∙ slice_get-behind xs ys k
+slice_get-after : {X : Type 0} (xs ys : List X) (k : ℕ) → slice_get (xs ++ ys) (length xs + k) ≡ slice_get ys k
+slice_get-after [] ys k = ap (slice_get ys) (let e : 0 + k ≡ k = omega arith in e)
+slice_get-after (x ∷ xs) ys k = ap (slice_get (x ∷ (xs ++ ys))) (let e : suc (length xs) + k ≡ suc (length xs + k) = omega arith in e) ∙ slice_get-after xs ys k
 
 entry_at-parts : (later past : List Entry) (k : ℕ) → entry_at (later ++ past) (length past + k) ≡ entry_at later k
 entry_at-parts later past k =
     ap (λ xs. slice_get xs (length past + k)) (reverse-append later past) ∙ ap (λ n. slice_get (reverse past ++ reverse later) (n + k)) (sym (length-reverse past))
-    ∙ slice_get-behind (reverse past) (reverse later) k
+    ∙ slice_get-after (reverse past) (reverse later) k
 
 -- each sector of a run the same
 same_sectors : (f g : ℕ → List ℕ) → ((i : ℕ) → f i ≡ g i) → (run : List ℕ) → flat_map f run ≡ flat_map g run

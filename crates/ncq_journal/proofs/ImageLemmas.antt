@@ -47,9 +47,9 @@ sector_at-put_mid lba n k xs ys part len fits s =
       | inr from ↦ elim (cases_lt s (lba + n)) [
         | inl inside ↦ within from inside
             ∙ sym (cond-true _ (sector_at ys (s - lba)) (sector_at xs s) (and_from (leb lba s) (ltb s (lba + n)) (le-leb lba s from) (lt-ltb s (lba + n) inside)))
-        | inr behind ↦
+        | inr after ↦
             ap (take 512) (drop-put_mid (lba * 512) k xs ys (512 * s) (omega arith) (omega arith) (omega arith))
-            ∙ sym (cond-false _ (sector_at ys (s - lba)) (sector_at xs s) (and_right (leb lba s) (ltb s (lba + n)) (le-ltb s (lba + n) behind)))
+            ∙ sym (cond-false _ (sector_at ys (s - lba)) (sector_at xs s) (and_right (leb lba s) (ltb s (lba + n)) (le-ltb s (lba + n) after)))
       ]
     ]
   where

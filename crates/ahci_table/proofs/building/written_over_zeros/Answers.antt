@@ -6,8 +6,8 @@ use Rattle.ahci_table.specs.Piece.{furthest}
 use Rattle.ahci_table.specs.Prdt.{entry_place}
 use Rattle.ahci_table.specs.Text.{joined}
 use Rattle.ahci_table.proofs.BuildLemmas.{furthest_covers, table_fits, length-blank, joined-blank}
-use Rattle.ahci_table.proofs.LayingLemmas.{zeros_behind}
-use Rattle.ahci_table.proofs.RefusalLemmas.{free_from, all_behind}
+use Rattle.ahci_table.proofs.LayingLemmas.{zeros_after}
+use Rattle.ahci_table.proofs.RefusalLemmas.{free_from, all_after}
 use Rattle.ahci_table.proofs.building.written_over_zeros.Goals as goal
 
 pub zeroed_to-requires : goal.zeroed_to-requires
@@ -15,7 +15,7 @@ zeroed_to-requires g c =
     let work = work_of c.args.op.now in
     let ps = c.args.pieces.now in
     let f = free_from work ps c.requires.free in
-    let fits : entry_place (length ps) ≤ furthest ps = table_fits (entry_place (length ps)) ps f.has (all_behind work ps f) in
+    let fits : entry_place (length ps) ≤ furthest ps = table_fits (entry_place (length ps)) ps f.has (all_after work ps f) in
     rw (c.requires.table, c.furthest.ensures) fits
 
 pub fill-requires-clause-inside : goal.fill-requires-clause-inside
@@ -45,5 +45,5 @@ returns g c =
     rw after (record {
       len = len;
       text = c.fill.ensures.text;
-      others = λ x e. rw blank at c.fill.ensures.others x e ∙ zeros_behind c.args.table.items (furthest ps - length c.args.table.items) x;
+      others = λ x e. rw blank at c.fill.ensures.others x e ∙ zeros_after c.args.table.items (furthest ps - length c.args.table.items) x;
     })
