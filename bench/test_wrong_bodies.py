@@ -4,7 +4,7 @@
     bench/test_wrong_bodies.py
 
 Of that program a body `{ 0 }` is refused by a clause of its own function, `{ 2 }` by a stored proof, `{ 3 }` by a name in a stored proof, and
-`{ 4 }` by a clause of a caller; any other is proved.
+`{ 4 }` by a clause of a caller; any other is proved. A function `same` may stand in each of two more files.
 """
 from __future__ import annotations
 
@@ -18,18 +18,22 @@ import unittest
 from typing import Dict, List
 
 TOP = os.path.dirname(os.path.dirname(os.path.realpath(__file__)))
+SAME = "fn same() -> u8\n    ensures { result }\n{ 1 }\n"
 SOURCE = "fn one() -> u8\n    ensures { result }\n{ 1 }\n\nfn two() -> u8\n    ensures { result }\n{ 9 }\n"
 RT = '''\
     #!/usr/bin/env python3
     import os
     name = os.path.basename(os.getcwd())
-    text = open("src/lib.rt", encoding="utf-8").read()
+    functions = [("src/lib.rt", "one", 2), ("src/lib.rt", "two", 4), ("src/part/left.rt", "part::left::same", 2), ("src/part/right.rt", "part::right::same", 2)]
     refused = False
-    for function, body in (("one", text.split("{")[2].split("}")[0].strip()), ("two", text.split("{")[4].split("}")[0].strip())):
-        line = 1 if function == "one" else 5
+    for file, function, at in functions:
+        if not os.path.exists(file):
+            continue
+        body = open(file, encoding="utf-8").read().split("{")[at].split("}")[0].strip()
+        line = 5 if function == "two" else 1
         refused |= body in "0234"
         if body == "0":
-            print(f"note: src/lib.rt:{line}:1: it is not proved that what the function ensures holds")
+            print(f"note: {file}:{line}:1: it is not proved that what the function ensures holds")
             print(f"fn {name}::{function}: no proof: `search` did not prove `returns`")
         elif body in "23":
             print(f"./proofs/{function}/Answers.antt:3:5: error: " + ("`returns`: the goal does not follow" if body == "2" else "`returns`: `gone` is not in scope"))
@@ -62,8 +66,8 @@ class WrongBodies(unittest.TestCase):
         with open(at, "w", encoding="utf-8") as it:
             it.write(text)
 
-    def edit(self, name: str, old: str, new: str, folder: str = "wrong-bodies") -> None:
-        self.write(f"crates/low/{folder}/{name}.edit", f"file: src/lib.rt\nold: {old}\nnew: {new}\n")
+    def edit(self, name: str, old: str, new: str, folder: str = "wrong-bodies", file: str = "src/lib.rt") -> None:
+        self.write(f"crates/low/{folder}/{name}.edit", f"file: {file}\nold: {old}\nnew: {new}\n")
 
     def run_with(self, *words: str) -> "subprocess.CompletedProcess[str]":
         found = {**os.environ, "PATH": f"{self.room}/bin:{os.environ['PATH']}"}
@@ -98,6 +102,14 @@ class WrongBodies(unittest.TestCase):
         ran = self.run_with()
         self.assertEqual((0, ["1 refused, 0 not refused"]), (ran.returncode, self.said_of(ran)))
         self.assertRegex(ran.stdout, r"\| low \| 1 \| 1 \| 1 \| ")
+
+    def test_a_function_of_the_same_name_refuses_no_other(self) -> None:
+        self.write("crates/low/src/part/left.rt", SAME)
+        self.write("crates/low/src/part/right.rt", SAME)
+        self.edit("left_is_7", "{ 1 }", "{ 7 }", file="src/part/left.rt")
+        self.edit("right_is_0", "{ 1 }", "{ 0 }", file="src/part/right.rt")
+        ran = self.run_with()
+        self.assertEqual((1, ["low/left_is_7: NOT REFUSED: the crate is still proved", "1 refused, 1 not refused"]), (ran.returncode, self.said_of(ran)))
 
     def test_stored_proofs_and_names_alone_are_hollow(self) -> None:
         self.edit("one_is_2", "{ 1 }", "{ 2 }")
