@@ -23,6 +23,9 @@ SOURCE = "fn one() -> u8\n    ensures { result }\n{ 1 }\n\nfn two() -> u8\n    e
 RT = '''\
     #!/usr/bin/env python3
     import os
+    import sys
+    if sys.argv[1:] != ["check", "--jobs", os.environ["JOBS"]]:
+        raise SystemExit("called by other words: " + " ".join(sys.argv[1:]))
     name = os.path.basename(os.getcwd())
     functions = [("src/lib.rt", "one", 2), ("src/lib.rt", "two", 4), ("src/part/left.rt", "part::left::same", 2), ("src/part/right.rt", "part::right::same", 2)]
     refused = False
@@ -69,8 +72,8 @@ class WrongBodies(unittest.TestCase):
     def edit(self, name: str, old: str, new: str, folder: str = "wrong-bodies", file: str = "src/lib.rt") -> None:
         self.write(f"crates/low/{folder}/{name}.edit", f"file: {file}\nold: {old}\nnew: {new}\n")
 
-    def run_with(self, *words: str) -> "subprocess.CompletedProcess[str]":
-        found = {**os.environ, "PATH": f"{self.room}/bin:{os.environ['PATH']}"}
+    def run_with(self, *words: str, jobs: str = "1") -> "subprocess.CompletedProcess[str]":
+        found = {**os.environ, "PATH": f"{self.room}/bin:{os.environ['PATH']}", "JOBS": jobs}
         return subprocess.run([sys.executable, os.path.join(self.top, "bench/wrong_bodies"), *words], env=found, capture_output=True, text=True, check=False)
 
     def said_of(self, ran: "subprocess.CompletedProcess[str]") -> List[str]:
@@ -164,6 +167,10 @@ class WrongBodies(unittest.TestCase):
         ran = self.run_with("--only", "one")
         self.assertEqual((0, ["1 refused, 0 not refused"]), (ran.returncode, self.said_of(ran)))
         self.assertEqual(1, self.run_with("--only", "three").returncode)
+
+    def test_a_check_takes_as_many_processors_as_it_is_given(self) -> None:
+        self.edit("one_is_0", "{ 1 }", "{ 0 }")
+        self.assertEqual(["1 refused, 0 not refused"], self.said_of(self.run_with("--jobs", "3", jobs="3")))
 
     def test_a_crate_that_is_missing_is_told(self) -> None:
         self.assertIn("wrong_bodies: there is no crate high", self.run_with("high").stderr)
