@@ -17,3 +17,5 @@ pub mod PassEventLemmas
 pub mod ClaimLemmas
 pub mod CutLemmas
 pub mod NumberLemmas
+pub mod FilledLemmas
+pub mod KindLemmas

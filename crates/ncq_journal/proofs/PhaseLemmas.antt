@@ -36,7 +36,7 @@ of_failing P issued accepted s (Some r) Accepted error lba h = accepted
 of_failing P issued accepted s (Some r) Free error lba h = absurd h
 of_failing P issued accepted s (Some r) _ error lba h = absurd h
 
-recovered_not_free : (p : Phase) → is_failed p ≡ true → p ≢ Free
+pub recovered_not_free : (p : Phase) → is_failed p ≡ true → p ≢ Free
 recovered_not_free p failed = λ free. false≢true (sym (ap is_failed free) ∙ failed)
 
 -- a tag is free after a lawful journal of which something holds that held of it before each entry, and that no Issue of

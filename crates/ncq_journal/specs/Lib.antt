@@ -1,6 +1,7 @@
 pub mod Answer
 pub mod Claims
 pub mod Entry
+pub mod EventKind
 pub mod Halted
 pub mod HeldBytes
 pub mod History
@@ -13,5 +14,6 @@ pub mod Passing
 pub mod Phase
 pub mod Request
 pub mod Sector
+pub mod TagState
 pub mod Tags
 pub mod Work

@@ -1,3 +1,6 @@
+ghost use Rattle.std.specs.Prelude.{◌≡◌};
+
+use crate::event_kind::EventKind;
 use crate::op::Op;
 use crate::plain::Plain;
 use std::alloc::{Allocator, Global};
@@ -22,4 +25,33 @@ pub enum Event<A: Allocator = Global> {
     Collect(u8),
     /// A command that is not queued, from beginning to end.
     Plain(Plain),
+}
+
+impl<A: Allocator> Event<A> {
+    ghost use Rattle.ncq_journal.specs.{Entry.{entry_of}, EventKind.{kind_of}};
+
+    /// What the event says, without the bytes of a write.
+    pub fn kind(&self) -> EventKind
+        ensures { result ≡ kind_of (entry_of self.now) }
+    {
+        match self {
+            Event::Issue(tag, op) => EventKind::Issue {
+                tag: *tag,
+                write: op.is_write(),
+                lba: op.lba(),
+                sectors: op.sectors(),
+            },
+            Event::Accept(tag) => EventKind::Accept(*tag),
+            Event::Complete(tag) => EventKind::Complete(*tag),
+            Event::Fail { tag, error, lba } => EventKind::Fail {
+                tag: *tag,
+                error: *error,
+                lba: *lba,
+            },
+            Event::Recover(tag) => EventKind::Recover(*tag),
+            Event::Reissue(tag) => EventKind::Reissue(*tag),
+            Event::Collect(tag) => EventKind::Collect(*tag),
+            Event::Plain(command) => EventKind::Plain(*command),
+        }
+    }
 }

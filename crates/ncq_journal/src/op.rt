@@ -1,5 +1,5 @@
 ghost use Rattle.std.specs.Prelude.{◌≡◌};
-ghost use Rattle.ncq_journal.specs.Work.{work_of, lba_of, sectors_of};
+ghost use Rattle.ncq_journal.specs.{Image.{is_write}, Work.{work_of, lba_of, sectors_of}};
 
 use crate::bytes::Bytes;
 use std::alloc::{Allocator, Global};
@@ -31,5 +31,12 @@ impl<A: Allocator> Op<A> {
             Op::Read { sectors, .. } => u64::from(*sectors),
             Op::Write { bytes, .. } => bytes.as_slice().len() as u64 / 512,
         }
+    }
+
+    /// Whether data goes to the disk.
+    pub fn is_write(&self) -> bool
+        ensures { result ≡ is_write (work_of self.now) }
+    {
+        matches!(self, Op::Write { .. })
     }
 }

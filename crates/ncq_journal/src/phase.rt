@@ -4,6 +4,7 @@ ghost use Rattle.ncq_journal.specs.Phase.{phase, phase_after};
 ghost use Rattle.ncq_journal.specs.Entry.{entry_of};
 
 use crate::event::Event;
+use crate::event_kind::phase_after_kind;
 use std::alloc::Allocator;
 
 /// Where a tag's command stands (AHCI 1.3.1, "Native Command Queuing" and section 6.2.2).
@@ -65,18 +66,11 @@ impl Phase {
 }
 
 /// The phase of a tag after one more event, where it had this one before.
+#[tactic(auto, using(crate::proofs::KindLemmas::phase_after_of_kind))]
 pub fn phase_after<A: Allocator>(tag: u8, before: Phase, event: &Event<A>) -> Phase
     ensures { result ≡ phase_after tag before (entry_of event.now) }
 {
-    match event {
-        Event::Issue(t, _) | Event::Reissue(t) if *t == tag => Phase::Issued,
-        Event::Accept(t) if *t == tag => Phase::Accepted,
-        Event::Complete(t) if *t == tag => Phase::Done,
-        Event::Collect(t) if *t == tag => Phase::Free,
-        Event::Fail { tag: t, .. } if *t == tag => before.failed(),
-        Event::Recover(_) => before.recovered(),
-        _ => before,
-    }
+    phase_after_kind(tag, before, event.kind())
 }
 
 /// The phase of a tag after these events, the oldest first.
