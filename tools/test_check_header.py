@@ -18,10 +18,10 @@ from typing import List, Tuple
 TOP = os.path.dirname(os.path.dirname(os.path.realpath(__file__)))
 HEADER = "c/ahci.h"
 ALONE = "crates/ahci_c/src/alone.rt"
-STATUS = "crates/port_place/src/status.rt"
+STATUS = "crates/ahci_ffi/src/status.rt"
 PYTHON = "python/ahci.py"
-PLACE = "crates/port_place/src/place.rt"
-READ = ["tools/check_header", HEADER, PYTHON, "crates/ahci_c/src", "crates/port_place/src"]
+PLACE = "crates/ahci_ffi/src/place.rt"
+READ = ["tools/check_header", HEADER, PYTHON, "crates/ahci_c/src", "crates/ahci_ffi/src"]
 
 Change = Tuple[str, str, str]  # a file, an old text that stands there once, and the new one
 

@@ -2,7 +2,7 @@
 
 ghost use Rattle.std.specs.Prelude.{◌≡◌, length};
 ghost use Rattle.ncq_core.specs.{Identify.{identify_page}, Log.{log_page}};
-ghost use Rattle.port_place.specs.{
+ghost use Rattle.ahci_ffi.specs.{
   Alone.{AnswersCheck, log_refusal, page_refusal},
   Fises.{AnswersDecode, AnswersEncode, fis_named},
   Judging.{AnswersJournal},
@@ -11,7 +11,7 @@ ghost use Rattle.port_place.specs.{
   Told.{Told},
 };
 
-use port_place::{FlatCommand, FlatEntry, FlatFis};
+use ahci_ffi::{FlatCommand, FlatEntry, FlatFis};
 use std::alloc::Global;
 
 /// Reads a FIS.
@@ -19,7 +19,7 @@ use std::alloc::Global;
 pub extern "C" fn ahci_fis_decode(bytes: &[u8], fis: &mut FlatFis) -> u32
     ensures { Numbered result (λ answer. AnswersDecode bytes.now answer fis.old fis.new) }
 {
-    port_place::fis_decode(bytes, fis).code()
+    ahci_ffi::fis_decode(bytes, fis).code()
 }
 
 /// Writes a FIS, with this payload where it is Data.
@@ -32,7 +32,7 @@ pub extern "C" fn ahci_fis_encode(
 ) -> u32
     ensures { Numbered result (λ answer. AnswersEncode (fis_named fis.now payload.now) answer out.old out.new length.old length.new) }
 {
-    port_place::fis_encode(fis, payload, out, length).code()
+    ahci_ffi::fis_encode(fis, payload, out, length).code()
 }
 
 /// Whether a port would take a window, and what it asks for then.
@@ -46,7 +46,7 @@ pub extern "C" fn ahci_window_check(
 ) -> u32
     ensures { Numbered result (λ answer. AnswersCheck tag header.now memory.now answer command.old command.new) }
 {
-    port_place::window_check(heap, tag, header, memory, command).code()
+    ahci_ffi::window_check(heap, tag, header, memory, command).code()
 }
 
 /// Copies the page of IDENTIFY DEVICE of a disk.
@@ -54,7 +54,7 @@ pub extern "C" fn ahci_window_check(
 pub extern "C" fn ahci_identify_page(sectors: u32, depth: u32, out: &mut [u8]) -> u32
     ensures { Numbered result (λ answer. Told answer (page_refusal depth (length out.old)) (out.new ≡ identify_page sectors depth) (out.new ≡ out.old)) }
 {
-    port_place::identify_page(sectors, depth, out).code()
+    ahci_ffi::identify_page(sectors, depth, out).code()
 }
 
 /// Copies page 0 of log 10h after an error.
@@ -62,7 +62,7 @@ pub extern "C" fn ahci_identify_page(sectors: u32, depth: u32, out: &mut [u8]) -
 pub extern "C" fn ahci_log_page(tag: u32, error: u8, lba: u64, out: &mut [u8]) -> u32
     ensures { Numbered result (λ answer. Told answer (log_refusal tag lba (length out.old)) (out.new ≡ log_page (record { tag = tag; error = error; lba = lba })) (out.new ≡ out.old)) }
 {
-    port_place::log_page(tag, error, lba, out).code()
+    ahci_ffi::log_page(tag, error, lba, out).code()
 }
 
 /// Looks at events as a journal from its beginning on: which may follow which.
@@ -75,7 +75,7 @@ pub extern "C" fn ahci_journal_check(
 ) -> u32
     ensures { Numbered result (λ answer. AnswersJournal sectors depth events.now answer first_bad.old first_bad.new) }
 {
-    port_place::journal_check(sectors, depth, events, first_bad).code()
+    ahci_ffi::journal_check(sectors, depth, events, first_bad).code()
 }
 
 /// The name of the status of a number.
@@ -83,5 +83,5 @@ pub extern "C" fn ahci_journal_check(
 pub extern "C" fn ahci_status_text(status: u32, out: &mut [u8], length: &mut usize) -> u32
     ensures { Numbered result (λ answer. AnswersText status answer out.old out.new length.old length.new) }
 {
-    port_place::status_text(status, out, length).code()
+    ahci_ffi::status_text(status, out, length).code()
 }

@@ -1,10 +1,10 @@
 //! What the device does.
 
 ghost use Rattle.std.specs.Prelude.{◌≡◌};
-ghost use Rattle.port_place.specs.{Done.{HasStepped, Same}, Over.{Changes}, PlaceView.{view_of}, Refusals.{accept_refusal, fail_refusal, serve_refusal}, Told.{Told}};
+ghost use Rattle.ahci_ffi.specs.{Done.{HasStepped, Same}, Over.{Changes}, PlaceView.{view_of}, Refusals.{accept_refusal, fail_refusal, serve_refusal}, Told.{Told}};
 
 use ahci_port::DeviceStep;
-use port_place::{FlatStep, Place, Status};
+use ahci_ffi::{FlatStep, Place, Status};
 use std::alloc::Global;
 
 /// The device takes a tag's command.
@@ -18,7 +18,7 @@ pub extern "C" fn ahci_port_accept(
     ensures { Changes result (view_of port.old) (view_of port.new) (done.new ≡ done.old)
         (λ answer old new. Told answer (accept_refusal old tag) (HasStepped (DeviceStep.Accept tag) old new done.new) (Same old new done.old done.new)) }
 {
-    over!(port, heap, |held| port_place::accept(&mut held, tag, done))
+    over!(port, heap, |held| ahci_ffi::accept(&mut held, tag, done))
 }
 
 /// The device serves the commands of some tags, in the list's order.
@@ -32,7 +32,7 @@ pub extern "C" fn ahci_port_serve(
     ensures { Changes result (view_of port.old) (view_of port.new) (done.new ≡ done.old)
         (λ answer old new. Told answer (serve_refusal old tags.now) (HasStepped (DeviceStep.Serve (record { items = tags.now })) old new done.new) (Same old new done.old done.new)) }
 {
-    over!(port, heap, |held| port_place::serve(&mut held, tags, done))
+    over!(port, heap, |held| ahci_ffi::serve(&mut held, tags, done))
 }
 
 /// The device fails a tag's accepted command.
@@ -51,6 +51,6 @@ pub extern "C" fn ahci_port_fail(
     over!(
         port,
         heap,
-        |held| port_place::fail(&mut held, tag, error, lba, done)
+        |held| ahci_ffi::fail(&mut held, tag, error, lba, done)
     )
 }

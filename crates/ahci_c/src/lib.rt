@@ -1,6 +1,6 @@
-//! The port for C: one export a call, over the place that C owns. What each call does stands in `port_place`; here the port is
+//! The port for C: one export a call, over the place that C owns. What each call does stands in `ahci_ffi`; here the port is
 //! taken out of its place, the call is made, and the port put back. `c/ahci.h` declares the same for C.
-#![tactic(auto, using(port_place::proofs::OverLemmas::none_changes, port_place::proofs::OverLemmas::none_reads, port_place::proofs::OverLemmas::none_writes, port_place::proofs::OverLemmas::some_changes, port_place::proofs::OverLemmas::some_reads, port_place::proofs::OverLemmas::some_writes))]
+#![tactic(auto, using(ahci_ffi::proofs::OverLemmas::none_changes, ahci_ffi::proofs::OverLemmas::none_reads, ahci_ffi::proofs::OverLemmas::none_writes, ahci_ffi::proofs::OverLemmas::some_changes, ahci_ffi::proofs::OverLemmas::some_reads, ahci_ffi::proofs::OverLemmas::some_writes))]
 
 ghost use Rattle.std.specs.Prelude.{◌≡◌};
 

@@ -3,7 +3,7 @@
 ghost use Rattle.std.specs.Prelude.{◌≡◌, None, length};
 ghost use Rattle.ahci_port.specs.PortView.{sectors_in};
 ghost use Rattle.ncq_journal.specs.{Numbering.{entry_numbered}, Sector.{sector}};
-ghost use Rattle.port_place.specs.{
+ghost use Rattle.ahci_ffi.specs.{
   Done.{IsSets},
   Flat.{flat_slot},
   Over.{Reads},
@@ -13,7 +13,7 @@ ghost use Rattle.port_place.specs.{
   Told.{Told},
 };
 
-use port_place::{FlatEntry, FlatSets, FlatSlot, FlatState, Place, Status};
+use ahci_ffi::{FlatEntry, FlatSets, FlatSlot, FlatState, Place, Status};
 use std::alloc::Global;
 
 /// How many slots there are.
@@ -22,7 +22,7 @@ pub extern "C" fn ahci_port_depth(port: &mut Place, heap: Global, depth: &mut u3
     ensures { Reads result (view_of port.old) (view_of port.new) (depth.new ≡ depth.old)
         (λ answer port. (answer ≡ Status.Done) × (depth.new ≡ port.depth)) }
 {
-    over!(port, heap, |held| port_place::depth(&held, depth))
+    over!(port, heap, |held| ahci_ffi::depth(&held, depth))
 }
 
 /// How many sectors the disk has.
@@ -31,7 +31,7 @@ pub extern "C" fn ahci_port_sectors(port: &mut Place, heap: Global, sectors: &mu
     ensures { Reads result (view_of port.old) (view_of port.new) (sectors.new ≡ sectors.old)
         (λ answer port. (answer ≡ Status.Done) × (sectors.new ≡ sectors_in port)) }
 {
-    over!(port, heap, |held| port_place::sectors(&held, sectors))
+    over!(port, heap, |held| ahci_ffi::sectors(&held, sectors))
 }
 
 /// Copies the received FIS area.
@@ -40,7 +40,7 @@ pub extern "C" fn ahci_port_received(port: &mut Place, heap: Global, out: &mut [
     ensures { Reads result (view_of port.old) (view_of port.new) (out.new ≡ out.old)
         (λ answer port. Told answer (received_refusal (length out.old)) (out.new ≡ port.area) (out.new ≡ out.old)) }
 {
-    over!(port, heap, |held| port_place::received(&held, out))
+    over!(port, heap, |held| ahci_ffi::received(&held, out))
 }
 
 /// Which tags wait for what.
@@ -49,7 +49,7 @@ pub extern "C" fn ahci_port_tag_sets(port: &mut Place, heap: Global, sets: &mut 
     ensures { Reads result (view_of port.old) (view_of port.new) (sets.new ≡ sets.old)
         (λ answer port. (answer ≡ Status.Done) × IsSets port sets.new) }
 {
-    over!(port, heap, |held| port_place::tag_sets(&held, sets))
+    over!(port, heap, |held| ahci_ffi::tag_sets(&held, sets))
 }
 
 /// One slot.
@@ -63,7 +63,7 @@ pub extern "C" fn ahci_port_slot(
     ensures { Reads result (view_of port.old) (view_of port.new) (slot.new ≡ slot.old)
         (λ answer port. Told answer (with_tag tag None) (slot.new ≡ flat_slot port tag) (slot.new ≡ slot.old)) }
 {
-    over!(port, heap, |held| port_place::slot(&held, tag, slot))
+    over!(port, heap, |held| ahci_ffi::slot(&held, tag, slot))
 }
 
 /// Copies a sector as it is now.
@@ -72,7 +72,7 @@ pub extern "C" fn ahci_port_copy(port: &mut Place, heap: Global, lba: u64, out: 
     ensures { Reads result (view_of port.old) (view_of port.new) (out.new ≡ out.old)
         (λ answer port. Told answer (copy_refusal port lba (length out.old)) (out.new ≡ sector port.starting port.past lba) (out.new ≡ out.old)) }
 {
-    over!(port, heap, |held| port_place::copy(&held, lba, out))
+    over!(port, heap, |held| ahci_ffi::copy(&held, lba, out))
 }
 
 /// The entry of a number of the journal.
@@ -86,7 +86,7 @@ pub extern "C" fn ahci_port_entry(
     ensures { Reads result (view_of port.old) (view_of port.new) (entry.new ≡ entry.old)
         (λ answer port. AnswersEntry (entry_numbered port.first port.past number) answer entry.old entry.new) }
 {
-    over!(port, heap, |held| port_place::entry(&held, number, entry))
+    over!(port, heap, |held| ahci_ffi::entry(&held, number, entry))
 }
 
 /// Copies the bytes of the write that the entry of a number has issued.
@@ -103,7 +103,7 @@ pub extern "C" fn ahci_port_entry_bytes(
     over!(
         port,
         heap,
-        |held| port_place::entry_bytes(&held, number, out)
+        |held| ahci_ffi::entry_bytes(&held, number, out)
     )
 }
 
@@ -113,5 +113,5 @@ pub extern "C" fn ahci_port_state(port: &mut Place, heap: Global, state: &mut Fl
     ensures { Reads result (view_of port.old) (view_of port.new) (state.new ≡ state.old)
         (λ answer port. (answer ≡ Status.Done) × IsState port state.new) }
 {
-    over!(port, heap, |held| port_place::state(&held, state))
+    over!(port, heap, |held| ahci_ffi::state(&held, state))
 }

@@ -2,9 +2,9 @@
 
 ghost use Rattle.std.specs.Prelude.{◌*◌, length, replicate};
 ghost use Rattle.ahci_port.specs.PortView.{port_from};
-ghost use Rattle.port_place.specs.{Making.{size_refusal}, Over.{Empties, Fills}, PlaceView.{view_of}};
+ghost use Rattle.ahci_ffi.specs.{Making.{size_refusal}, Over.{Empties, Fills}, PlaceView.{view_of}};
 
-use port_place::{Place, Status};
+use ahci_ffi::{Place, Status};
 use std::alloc::Global;
 
 /// Makes a port over a copy of an image, in an empty place.
@@ -15,7 +15,7 @@ pub extern "C" fn ahci_port_new(port: &mut Place, heap: Global, image: &[u8], de
     if port.is_full() {
         return Status::PortThere.code();
     }
-    port.fill(port_place::make(heap, image, depth, 0))
+    port.fill(ahci_ffi::make(heap, image, depth, 0))
 }
 
 /// The same over a disk of zeros.
@@ -31,7 +31,7 @@ pub extern "C" fn ahci_port_new_zeros(
     if port.is_full() {
         return Status::PortThere.code();
     }
-    port.fill(port_place::make_zeros(heap, sectors, depth))
+    port.fill(ahci_ffi::make_zeros(heap, sectors, depth))
 }
 
 /// The same over a copy of an image, where the journal's first entry has the number `first`.
@@ -48,7 +48,7 @@ pub extern "C" fn ahci_port_resume(
     if port.is_full() {
         return Status::PortThere.code();
     }
-    port.fill(port_place::make(heap, image, depth, first))
+    port.fill(ahci_ffi::make(heap, image, depth, first))
 }
 
 /// Frees a port, and leaves its place empty.

@@ -3,9 +3,9 @@
 ghost use Rattle.std.specs.Prelude.{◌≡◌, ⊤};
 ghost use Rattle.ahci_port.specs.{Registers.{acknowledged}, Writes.{shown}};
 ghost use Rattle.ahci_regs.specs.Reading.{read_of};
-ghost use Rattle.port_place.specs.{Done.{AnswersRegister}, Over.{Changes, Reads, Writes}, PlaceView.{view_of}, Writing.{AnswersWrite}};
+ghost use Rattle.ahci_ffi.specs.{Done.{AnswersRegister}, Over.{Changes, Reads, Writes}, PlaceView.{view_of}, Writing.{AnswersWrite}};
 
-use port_place::{FlatWritten, Place, Status};
+use ahci_ffi::{FlatWritten, Place, Status};
 use std::alloc::Global;
 
 /// Reads the register at an offset.
@@ -19,7 +19,7 @@ pub extern "C" fn ahci_port_register(
     ensures { Reads result (view_of port.old) (view_of port.new) (word.new ≡ word.old)
         (λ answer port. AnswersRegister (read_of port.registers offset) answer word.old word.new) }
 {
-    over!(port, heap, |held| port_place::register(&held, offset, word))
+    over!(port, heap, |held| ahci_ffi::register(&held, offset, word))
 }
 
 /// Software acknowledges interrupts.
@@ -28,7 +28,7 @@ pub extern "C" fn ahci_port_acknowledge(port: &mut Place, heap: Global, mask: u3
     ensures { Changes result (view_of port.old) (view_of port.new) ⊤
         (λ answer old new. (answer ≡ Status.Done) × (new ≡ record old { registers = acknowledged old.registers mask })) }
 {
-    over!(port, heap, |held| port_place::acknowledge(&mut held, mask))
+    over!(port, heap, |held| ahci_ffi::acknowledge(&mut held, mask))
 }
 
 /// Takes a word that a driver writes to the register at an offset.
@@ -49,7 +49,7 @@ pub extern "C" fn ahci_port_write_register(
         return Status::NoPort.code();
     };
     let mut pending = port.pending();
-    let answer = port_place::write_register(
+    let answer = ahci_ffi::write_register(
         &mut held,
         &mut pending,
         offset,
@@ -75,6 +75,6 @@ pub extern "C" fn ahci_port_read_register(
     over!(
         port,
         heap,
-        |held| port_place::read_register(&held, &port.pending(), offset, word)
+        |held| ahci_ffi::read_register(&held, &port.pending(), offset, word)
     )
 }

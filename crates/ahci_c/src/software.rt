@@ -3,7 +3,7 @@
 ghost use Rattle.std.specs.Prelude.{◌≡◌, length, ⊤};
 ghost use Rattle.ahci_port.specs.{PortView.{sectors_in}, Steps.{IsFlushed, IsIdentified, IsReissued, trimmed}};
 ghost use Rattle.ncq_core.specs.Identify.{identify_page};
-ghost use Rattle.port_place.specs.{
+ghost use Rattle.ahci_ffi.specs.{
   Asked.{AnswersIssue, AnswersSubmit},
   Done.{HasCollected, HasRecovered, Same},
   Over.{Changes},
@@ -12,7 +12,7 @@ ghost use Rattle.port_place.specs.{
   Told.{Told, ToldOr},
 };
 
-use port_place::{FlatReply, Place, Status};
+use ahci_ffi::{FlatReply, Place, Status};
 use std::alloc::Global;
 
 /// Issues the command of a window as it lies in memory.
@@ -31,7 +31,7 @@ pub extern "C" fn ahci_port_issue(
     over!(
         port,
         heap,
-        |held| port_place::issue(&mut held, heap, tag, header, memory, number)
+        |held| ahci_ffi::issue(&mut held, heap, tag, header, memory, number)
     )
 }
 
@@ -53,7 +53,7 @@ pub extern "C" fn ahci_port_submit(
     over!(
         port,
         heap,
-        |held| port_place::submit(&mut held, heap, tag, kind, lba, sectors, payload, number)
+        |held| ahci_ffi::submit(&mut held, heap, tag, kind, lba, sectors, payload, number)
     )
 }
 
@@ -63,7 +63,7 @@ pub extern "C" fn ahci_port_recover(port: &mut Place, heap: Global, tag: &mut u3
     ensures { Changes result (view_of port.old) (view_of port.new) (tag.new ≡ tag.old)
         (λ answer old new. ToldOr answer (recover_refused old) (HasRecovered old new tag.new) (Same old new tag.old tag.new)) }
 {
-    over!(port, heap, |held| port_place::recover(&mut held, tag))
+    over!(port, heap, |held| ahci_ffi::recover(&mut held, tag))
 }
 
 /// Software issues a held command again.
@@ -72,7 +72,7 @@ pub extern "C" fn ahci_port_reissue(port: &mut Place, heap: Global, tag: u32) ->
     ensures { Changes result (view_of port.old) (view_of port.new) ⊤
         (λ answer old new. Told answer (reissue_refused old tag) (IsReissued tag old new) (new ≡ old)) }
 {
-    over!(port, heap, |held| port_place::reissue(&mut held, tag))
+    over!(port, heap, |held| ahci_ffi::reissue(&mut held, tag))
 }
 
 /// Takes the answer of a request, and frees its slot.
@@ -91,7 +91,7 @@ pub extern "C" fn ahci_port_collect(
     over!(
         port,
         heap,
-        |held| port_place::collect(&mut held, tag, number, reply, out)
+        |held| ahci_ffi::collect(&mut held, tag, number, reply, out)
     )
 }
 
@@ -101,7 +101,7 @@ pub extern "C" fn ahci_port_identify(port: &mut Place, heap: Global, out: &mut [
     ensures { Changes result (view_of port.old) (view_of port.new) (out.new ≡ out.old)
         (λ answer old new. ToldOr answer (identify_refusal old (length out.old)) (IsIdentified old new × (out.new ≡ identify_page (sectors_in old) old.depth)) (Same old new out.old out.new)) }
 {
-    over!(port, heap, |held| port_place::identify(&mut held, out))
+    over!(port, heap, |held| ahci_ffi::identify(&mut held, out))
 }
 
 /// Sends FLUSH CACHE EXT.
@@ -110,7 +110,7 @@ pub extern "C" fn ahci_port_flush(port: &mut Place, heap: Global) -> u32
     ensures { Changes result (view_of port.old) (view_of port.new) ⊤
         (λ answer old new. ToldOr answer (flush_refusal old) (IsFlushed old new) (new ≡ old)) }
 {
-    over!(port, heap, |held| port_place::flush(&mut held))
+    over!(port, heap, |held| ahci_ffi::flush(&mut held))
 }
 
 /// Throws the journal away where every slot is free.
@@ -119,5 +119,5 @@ pub extern "C" fn ahci_port_trim(port: &mut Place, heap: Global, entries: &mut u
     ensures { Changes result (view_of port.old) (view_of port.new) (entries.new ≡ entries.old)
         (λ answer old new. Told answer (trim_refused old) ((new ≡ trimmed old) × (entries.new ≡ length old.past)) (Same old new entries.old entries.new)) }
 {
-    over!(port, heap, |held| port_place::trim(&mut held, entries))
+    over!(port, heap, |held| ahci_ffi::trim(&mut held, entries))
 }

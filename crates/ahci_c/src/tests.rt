@@ -8,7 +8,7 @@ use crate::software::{
     ahci_port_flush, ahci_port_identify, ahci_port_issue, ahci_port_recover, ahci_port_submit,
 };
 use ahci_port::Pending;
-use port_place::{FlatCommand, FlatStep, FlatWritten, Place};
+use ahci_ffi::{FlatCommand, FlatStep, FlatWritten, Place};
 use std::alloc::Global;
 use std::test::Fail;
 

@@ -36,7 +36,7 @@ use Rattle.ahci_script.specs.declared.line.Line.{Line}
 use Rattle.ahci_script.specs.declared.line.Line.TheVariants.{Skip, Run}
 use Rattle.ahci_script.specs.declared.line.ScriptCommand.{ScriptCommand}
 use Rattle.ahci_script.specs.declared.line.ScriptCommand.TheVariants as command
-use Rattle.ahci_script.specs.declared.refusal.Refusal.{Refusal}
+use Rattle.port_refusal.specs.declared.refusal.Refusal.{Refusal}
 use Rattle.ahci_check.specs.Agreement.{CheckAgrees, place_of}
 
 -- ---- where a line may stand

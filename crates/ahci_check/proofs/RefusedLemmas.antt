@@ -30,7 +30,9 @@ use Rattle.ahci_port.specs.declared.fault.ReissueFault.TheVariants as reissue
 use Rattle.ahci_port.specs.declared.fault.StepFault.TheVariants as step
 use Rattle.ahci_replay.specs.Commands.{AnswersWindow, MakesDisk, RefusedOr, Runs, RunsOn, window_of}
 use Rattle.ahci_replay.specs.Commands as runs
-use Rattle.ahci_replay.specs.Refusals.{disk_refusal, issue_refusal, joined, of_collect, of_issue, of_reissue, of_step, refusal_on, register_refusal, show_refusal}
+use Rattle.ahci_port.specs.Refusals.{of_collect, of_reissue, of_step}
+use Rattle.ahci_port.specs.declared.fault.SubmitFault.TheVariants as submit
+use Rattle.ahci_replay.specs.Refusals.{disk_refusal, issue_refusal, joined, of_issue, of_submit, refusal_on, register_refusal, show_refusal}
 use Rattle.ahci_script.specs.Lines.{reading}
 use Rattle.ahci_script.specs.Said.{Said}
 use Rattle.ahci_script.specs.Words.{after_first}
@@ -39,8 +41,8 @@ use Rattle.ahci_script.specs.declared.line.Line.{Line}
 use Rattle.ahci_script.specs.declared.line.Line.TheVariants.{Skip, Run}
 use Rattle.ahci_script.specs.declared.line.ScriptCommand.{ScriptCommand}
 use Rattle.ahci_script.specs.declared.line.ScriptCommand.TheVariants as command
-use Rattle.ahci_script.specs.declared.refusal.Refusal.{Refusal}
-use Rattle.ahci_script.specs.declared.refusal.Refusal.TheVariants as name
+use Rattle.port_refusal.specs.declared.refusal.Refusal.{Refusal}
+use Rattle.port_refusal.specs.declared.refusal.Refusal.TheVariants as name
 use Rattle.ahci_table.specs.Window.{WindowState}
 use Rattle.ahci_check.proofs.AgreementLemmas.{disk_alike}
 use Rattle.ahci_check.proofs.WindowLemmas.{fit_has_none}
@@ -177,19 +179,19 @@ fail_why port words tag lba e h is taken =
 -- ---- a command that is issued
 
 count_refused : (a b c : Bool) (early : Option IssueFault) (x y z : Option Excess) (e : Excess) → cond a x (cond b y (cond c z None)) ≡ Some e
-    → is_some (cond (a || b) (Some name.BadCount) (cond c (Some name.BadLba) (joined (option_map of_issue early)))) ≡ true
+    → is_some (joined (option_map of_submit (cond (a || b) (Some submit.BadCount) (cond c (Some submit.BadLba) (option_map submit.Issue early))))) ≡ true
 count_refused true b c early x y z e is = refl
 count_refused false true c early x y z e is = refl
 count_refused false false true early x y z e is = refl
 count_refused false false false early x y z e is = absurd (cc)
 
 tag_refused : (a b c h d : Bool) (other : Option IssueFault) → d ≡ true
-    → is_some (cond (a || b) (Some name.BadCount) (cond c (Some name.BadLba) (joined (option_map of_issue (cond h (Some issue.Halted) (cond d (Some issue.NoSuchTag) other)))))) ≡ true
+    → is_some (joined (option_map of_submit (cond (a || b) (Some submit.BadCount) (cond c (Some submit.BadLba) (option_map submit.Issue (cond h (Some issue.Halted) (cond d (Some issue.NoSuchTag) other))))))) ≡ true
 tag_refused true b c h d other is = refl
 tag_refused false true c h d other is = refl
 tag_refused false false true h d other is = refl
 tag_refused false false false true d other is = refl
-tag_refused false false false false d other is = ap (λ t. is_some (joined (option_map of_issue (cond t (Some issue.NoSuchTag) other)))) is
+tag_refused false false false false d other is = ap (λ t. is_some (joined (option_map of_submit (option_map submit.Issue (cond t (Some issue.NoSuchTag) other))))) is
 
 issue_refused : (port : PortView) (words : List ℕ) (tag lba count : ℕ) (e : Excess) → transfer_excess port.depth words tag lba count ≡ Some e → is_some (issue_refusal port tag lba count) ≡ true
 issue_refused port words tag lba count e is =

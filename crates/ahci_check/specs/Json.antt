@@ -3,7 +3,9 @@ use Rattle.std.specs.Prelude.{ℕ, List, [], ◌∷◌, Option, None, Some, code
 use Rattle.std.specs.Fmt.{decimal}
 use Rattle.ahci_script.specs.declared.fault.Fault.{Fault}
 use Rattle.ahci_script.specs.declared.fault.Fault.TheVariants as fault
-use Rattle.ahci_table.specs.declared.fault.TableFault.TheVariants as table
+use Rattle.ahci_table.specs.Refusals.{of_table}
+use Rattle.port_refusal.specs.Names.{name_of}
+use Rattle.port_refusal.specs.declared.refusal.Refusal.TheVariants as refusal
 use Rattle.json.specs.Print.{print}
 use Rattle.json.specs.Token.{Token, begin_object, end_object, key, string, number, null}
 use Rattle.ahci_check.specs.Texts.{rule_text}
@@ -57,13 +59,10 @@ limit_name (limit.ManySlots depth) = codes "ManySlots"
 limit_name (limit.LargeFirst first) = codes "LargeFirst"
 limit_name (limit.FarTag tag depth) = codes "FarTag"
 limit_name (limit.TagTwice tag) = codes "TagTwice"
-limit_name (limit.NoSuchSector lba sectors) = codes "NoSuchSector"
-limit_name (limit.Window table.BadHeader) = codes "BadHeader"
-limit_name (limit.Window table.BadCommand) = codes "BadCommand"
-limit_name (limit.Window table.WrongTag) = codes "WrongTag"
-limit_name (limit.Window table.BadList) = codes "BadList"
-limit_name limit.Unaligned = codes "Unaligned"
-limit_name limit.NoSuchRegister = codes "NoSuchRegister"
+limit_name (limit.NoSuchSector lba sectors) = name_of refusal.NoSuchSector
+limit_name (limit.Window fault) = name_of (of_table fault)
+limit_name limit.Unaligned = name_of refusal.Unaligned
+limit_name limit.NoSuchRegister = name_of refusal.NoSuchRegister
 
 abbrev pub rule_name : Rule → List ℕ
 rule_name (Language fault) = fault_name fault

@@ -8,8 +8,8 @@ use crate::complaint::Complaint;
 use crate::limit::Limit;
 use crate::rule::Rule;
 use ahci_script::Fault;
-use ahci_table::TableFault;
 use json::Writer;
+use port_refusal::Refusal;
 use std::alloc::{AllocError, Allocator};
 
 /// The text of a complaint's object.
@@ -113,7 +113,7 @@ fn fault_name(fault: Fault) -> &'static str
     }
 }
 
-/// The name of a limit of the port: a window's is that of the port's refusal.
+/// The name of a limit of the port, where the port has a refusal for it the refusal's.
 fn limit_name(limit: Limit) -> &'static str
     ensures { result.now ≡ limit_name limit }
 {
@@ -128,12 +128,9 @@ fn limit_name(limit: Limit) -> &'static str
         Limit::LargeFirst(_) => "LargeFirst",
         Limit::FarTag(_, _) => "FarTag",
         Limit::TagTwice(_) => "TagTwice",
-        Limit::NoSuchSector(_, _) => "NoSuchSector",
-        Limit::Window(TableFault::BadHeader) => "BadHeader",
-        Limit::Window(TableFault::BadCommand) => "BadCommand",
-        Limit::Window(TableFault::WrongTag) => "WrongTag",
-        Limit::Window(TableFault::BadList) => "BadList",
-        Limit::Unaligned => "Unaligned",
-        Limit::NoSuchRegister => "NoSuchRegister",
+        Limit::NoSuchSector(_, _) => Refusal::NoSuchSector.name(),
+        Limit::Window(fault) => Refusal::from(fault).name(),
+        Limit::Unaligned => Refusal::Unaligned.name(),
+        Limit::NoSuchRegister => Refusal::NoSuchRegister.name(),
     }
 }

@@ -1,4 +1,4 @@
-mod working;
+mod finishing;
 
 ghost use Rattle.std.specs.Prelude.{◌≡◌, true, IfOk, IfErr, OnOk, OnErr, length};
 ghost use Rattle.ncq_journal.specs.{Laws.{AllFree}, Work.{work_of}};
@@ -11,7 +11,7 @@ use crate::collecting::collect_locked;
 use crate::fault::{PumpFault, SubmitFault};
 use crate::pumped::Pumped;
 use crate::pumping::pump_locked;
-use crate::submitting::{prepared, submit_locked};
+use crate::ready::Ready;
 use crate::ticket::Ticket;
 use ahci_port::{CollectFault, Port, Reply, TrimFault};
 use ncq_journal::{Journal, Op};
@@ -54,7 +54,7 @@ impl<A: Allocator> Driver<A> {
     {
         let Driver { port, board } = self;
         let port = port.into_inner();
-        port.journal();
+        port.keeps_its_promise();
         (port, board)
     }
 
@@ -132,12 +132,12 @@ impl<A: Allocator + Copy> Driver<A> {
 }
 
 impl<A: Allocator + Clone> Driver<A> {
-    /// Submits a command: a tag is claimed, the window is built over the default pieces and the buffer for the answer
-    /// is reserved before the lock is taken. On a fault the tag is given back.
+    /// Submits a command: a tag is claimed, the window is built over the default pieces, the buffer for the answer is reserved, and
+    /// what the journal keeps of the command is copied, all before the lock is taken. On a fault the tag is given back.
     ///
     /// # Errors
     /// `NoTag` where each tag was found taken when it was tried; `Build` where no window is built for the command, or
-    /// memory for it or for the buffer was refused; `Issue` where the port didn't issue it.
+    /// memory for it, for the buffer or for the copy was refused; `Issue` where the port didn't issue it.
     #[tactic(auto, using(crate::proofs::SubmittingLemmas::given_back, crate::proofs::SubmittingLemmas::fit_refused))]
     pub fn submit(
         &self,
@@ -154,13 +154,11 @@ impl<A: Allocator + Clone> Driver<A> {
         let Ok(tag) = self.board.claim(seat) else {
             return Err(SubmitFault::NoTag);
         };
-        let fault = match prepared(alloc, tag, op) {
-            Ok((window, buffer)) => {
-                match submit_locked(&mut self.port.lock(rt), window, buffer) {
-                    Ok(ticket) => return Ok(ticket),
-                    Err((_, _, fault)) => SubmitFault::Issue(fault),
-                }
-            }
+        let fault = match Ready::new(alloc, tag, op) {
+            Ok(ready) => match ready.submit_locked(&mut self.port.lock(rt)) {
+                Ok(ticket) => return Ok(ticket),
+                Err(fault) => SubmitFault::Issue(fault),
+            },
             Err(fault) => SubmitFault::Build(fault),
         };
         self.board.give_back(seat, tag);

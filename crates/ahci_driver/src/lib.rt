@@ -10,6 +10,7 @@ mod finishing;
 mod gate;
 mod pumped;
 mod pumping;
+mod ready;
 mod receipt;
 mod run_fault;
 mod running;

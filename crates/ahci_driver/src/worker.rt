@@ -133,7 +133,7 @@ impl<'a, A: Allocator + Clone, C: Chooser, G: Gate> Worker<'a, A, C, G> {
             let Ok(alloc) = self.alloc.clone() else {
                 return Err(Stop::OutOfMemory);
             };
-            match self.driver.start(rt, alloc, &mut self.seat, op) {
+            match self.driver.submit(rt, alloc, &mut self.seat, op) {
                 Ok(ticket) => return Ok(ticket),
                 Err(fault) => {
                     if let Some(stop) = stop_at(fault, job) {

@@ -1,5 +1,6 @@
 -- What a port has that issues a command.
-use Rattle.std.proofs.Common.{◌≡◌, ℕ, ◌*◌, ◌/◌, ◌^◌, ◌<◌, ◌≤◌, Bool, true, false, cond, List, length, leb, sym, refl, ◌∙◌, subst, Option, None, Some, arith}
+use Rattle.std.proofs.Common.{◌≡◌, ℕ, ◌*◌, ◌/◌, ◌^◌, ◌<◌, ◌≤◌, Bool, true, false, cond, ◌||◌, nat_eq, ltb, List, length, leb, sym, refl, ◌∙◌, subst, Option, None, Some, arith}
+use Rattle.std.specs.Option.{option_map}
 use Rattle.std.proofs.lemmas.Bool.{false≢true, leb-false}
 use Rattle.ahci_table.specs.Command.{op, queued_of}
 use Rattle.ahci_table.specs.Fit.{Breaks, IsFit}
@@ -13,12 +14,14 @@ use Rattle.ncq_journal.specs.Entry.{Entry}
 use Rattle.ncq_journal.specs.Halted.{halted}
 use Rattle.ncq_journal.specs.Lawful.{IsProper, most_sectors}
 use Rattle.ncq_journal.specs.Phase.{phase}
-use Rattle.ahci_port.specs.Faults.{MayTake, RefusesIssue, early_refusal}
+use Rattle.ahci_port.specs.Faults.{MayTake, RefusesIssue, early_refusal, submit_refusal}
 use Rattle.ahci_port.specs.Keeping.{HasSlot}
 use Rattle.ahci_port.specs.Moves.{issue_fault_of}
 use Rattle.ahci_port.specs.PortView.{PortView, is_free}
 use Rattle.ahci_port.specs.Slots.{SlotState}
+use Rattle.ahci_port.specs.declared.fault.IssueFault.{IssueFault}
 use Rattle.ahci_port.specs.declared.fault.IssueFault.TheVariants as issue
+use Rattle.ahci_port.specs.declared.fault.SubmitFault.TheVariants as submit
 use Rattle.ahci_port.proofs.MemoryLemmas.{fit_sized}
 use Rattle.ahci_port.proofs.WorkLemmas.{op_read, op_write}
 
@@ -36,6 +39,17 @@ early_may port tag e = by (halted port.past) (leb port.depth tag) (is_free (phas
     by false true x p q r h = absurd (cc)
     by false false true p q r h = record { running = p; below = leb-false port.depth tag q; free = free_is (phase port.past tag) r }
     by false false false p q r h = absurd (cc)
+
+-- a command that may be submitted is one that the port takes
+pub submit_may : (port : PortView) (tag lba sectors : ℕ) → submit_refusal port tag lba sectors ≡ None → MayTake port tag
+submit_may port tag lba sectors e =
+    early_may port tag (by (nat_eq sectors 0 || ltb most_sectors sectors) (leb (2 ^ 48) lba) (early_refusal port tag) e)
+  where
+    by : (a b : Bool) (early : Option IssueFault) → cond a (Some submit.BadCount) (cond b (Some submit.BadLba) (option_map submit.Issue early)) ≡ None → early ≡ None
+    by true b early h = absurd (cc)
+    by false true early h = absurd (cc)
+    by false false None h = refl
+    by false false (Some fault) h = absurd (cc)
 
 -- a window that breaks a rule is refused for it
 pub refuses_rule : (port : PortView) (w : WindowState) (f : TableFault) → MayTake port w.tag → Breaks w f → RefusesIssue port w (issue_fault_of f)

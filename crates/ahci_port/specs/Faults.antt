@@ -15,10 +15,14 @@ use Rattle.ncq_journal.specs.Entry.{Entry}
 use Rattle.ncq_journal.specs.Halted.{halted, busy}
 use Rattle.ncq_journal.specs.Image.{covers}
 use Rattle.ncq_journal.specs.Phase.{phase}
+use Rattle.ncq_journal.specs.Lawful.{most_sectors}
 use Rattle.ncq_journal.specs.Request.{Request, request}
+use Rattle.ncq_journal.specs.Work.{Work, is_ragged, lba_of, sectors_of}
 use Rattle.ahci_port.specs.PortView.{PortView, is_free, next_number, owner_of}
 use Rattle.ahci_port.specs.declared.fault.IssueFault.{IssueFault}
 use Rattle.ahci_port.specs.declared.fault.IssueFault.TheVariants as issue
+use Rattle.ahci_port.specs.declared.fault.SubmitFault.{SubmitFault}
+use Rattle.ahci_port.specs.declared.fault.SubmitFault.TheVariants as submit
 use Rattle.ahci_port.specs.declared.fault.StepFault.{StepFault}
 use Rattle.ahci_port.specs.declared.fault.StepFault.TheVariants as step_fault
 use Rattle.ahci_port.specs.declared.fault.CollectFault.{CollectFault}
@@ -45,6 +49,16 @@ abbrev pub early_refusal : PortView → ℕ → Option IssueFault
 early_refusal port tag =
     if halted port.past then Some issue.Halted
     else (if nat_le port.depth tag then Some issue.NoSuchTag else (if is_free (phase port.past tag) then None else Some issue.SlotOwned))
+
+-- why a command of so many sectors from an LBA on is not submitted for a tag, memory aside
+abbrev pub submit_refusal : PortView → (tag lba sectors : ℕ) → Option SubmitFault
+submit_refusal port tag lba sectors =
+    if nat_eq sectors 0 || nat_lt most_sectors sectors then Some submit.BadCount
+    else (if nat_le (2 ^ 48) lba then Some submit.BadLba else option_map submit.Issue (early_refusal port tag))
+
+-- the same of a command: the bytes of a write are whole sectors
+abbrev pub op_refusal : PortView → (tag : ℕ) → Work → Option SubmitFault
+op_refusal port tag work = if is_ragged work then Some submit.BadCount else submit_refusal port tag (lba_of work) (sectors_of work)
 
 -- the port takes a command for this tag, if its window is fit
 pub record MayTake (port : PortView) (tag : ℕ) : Type 0 where

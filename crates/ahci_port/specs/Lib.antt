@@ -6,6 +6,7 @@ pub mod Looking
 pub mod Memory
 pub mod Moves
 pub mod PortView
+pub mod Refusals
 pub mod Registers
 pub mod Serving
 pub mod Slots

@@ -4,7 +4,9 @@
 use Rattle.std.specs.Prelude.{◌≡◌, ◌≢◌, ℕ, ◌+◌, ◌<◌, ◌≤◌, max, Bool, true, false, nat_lt, List, [], ◌∷◌, ◌++◌, length, take, Option, None, Some, IsSomeAnd, slice_index, slice_set}
 use Rattle.std.specs.List.{fold}
 use Rattle.std.specs.Option.{option_and_then, option_map}
+use Rattle.ahci_table.specs.Build.{IsBuilt}
 use Rattle.ahci_table.specs.Command.{op, queued_of}
+use Rattle.ahci_table.specs.Defaults.{default_list}
 use Rattle.ahci_table.specs.Scatter.{IsScattered}
 use Rattle.ahci_table.specs.Window.{WindowState}
 use Rattle.ncq_journal.specs.declared.plain.Plain.{Plain}
@@ -16,7 +18,7 @@ use Rattle.ncq_journal.specs.Lawful.{IsLawful, end_of}
 use Rattle.ncq_journal.specs.Numbering.{answer_numbered, place_of}
 use Rattle.ncq_journal.specs.Request.{request}
 use Rattle.ncq_journal.specs.Sector.{sector}
-use Rattle.ncq_journal.specs.Work.{Work, Read, Write, lba_of}
+use Rattle.ncq_journal.specs.Work.{Work, Read, Write, lba_of, sectors_of}
 use Rattle.ahci_port.specs.Carrying.{area_after, carried}
 use Rattle.ahci_port.specs.Headline.{Headline}
 use Rattle.ahci_port.specs.PortView.{PortView, next_number, sectors_in, window_at, put_at, setup_place, pio_place, register_place, bits_place}
@@ -64,6 +66,12 @@ pub record IsIssued (w : WindowState) (old new : PortView) : Type 0 where
   pub registers_are : new.registers ≡ registers.issued old.registers w.tag
   pub area_same : new.area ≡ old.area
   pub windows_are : new.windows ≡ slice_set old.windows w.tag (Some w)
+
+-- a command is submitted: it is issued by a window over the default pieces
+pub record IsSubmitted (tag : ℕ) (work : Work) (old new : PortView) : Type 0 where
+  pub window : WindowState
+  pub built : IsBuilt tag work (default_list (sectors_of work)) window
+  pub issued : IsIssued window old new
 
 -- the device takes a command: a D2H Register FIS
 pub record IsAccepted (tag : ℕ) (old new : PortView) (answer : Stepped) : Type 0 where

@@ -21,6 +21,18 @@ pub enum IssueFault {
     OutOfMemory,
 }
 
+/// Why a command was not submitted. The cases are tested in this order, and then those of an issue.
+#[derive(Clone, Copy, Debug, PartialEq, Eq)]
+pub enum SubmitFault {
+    /// The command has no sectors or over 65,536, or the bytes of a write aren't whole sectors.
+    BadCount,
+    /// The LBA doesn't fit 48 bits.
+    BadLba,
+    /// The port did not issue it: `Halted`, `NoSuchTag`, `SlotOwned`, or `OutOfMemory` where room for the window or for the
+    /// request's entries was refused.
+    Issue(IssueFault),
+}
+
 /// Why the device did not take a step. The cases are tested in this order.
 #[derive(Clone, Copy, Debug, PartialEq, Eq)]
 pub enum StepFault {

@@ -8,6 +8,7 @@ mod memory;
 mod pending;
 mod port;
 mod receiving;
+mod refusing;
 mod reply;
 mod sent;
 mod slot;
@@ -17,14 +18,17 @@ mod tag_sets;
 mod unqueued;
 mod written;
 
+pub use ahci_regs::RegFault;
+pub use ahci_table::{BuildFault, Piece, Window, default_pieces};
 pub use fault::{
     CollectFault, IssueFault, PlainFault, RecoverFault, ReissueFault, ResumeFault, StepFault,
-    TrimFault, WriteFault,
+    SubmitFault, TrimFault, WriteFault,
 };
 pub use ncq_core::DiskFault;
-pub use ncq_journal::Outcome;
+pub use ncq_journal::{Bytes, Event, EventKind, Journal, Op, Outcome, Phase, Plain};
 pub use pending::Pending;
 pub use port::{MOST_FIRST, Port};
+pub use port_refusal::Refusal;
 pub use reply::Reply;
 pub use sent::Sent;
 pub use step::{DeviceStep, Stepped};

@@ -4,6 +4,7 @@ mod looking;
 mod recovering;
 mod serving;
 mod stepping;
+mod submitting;
 mod trimming;
 mod writing;
 

@@ -1,3 +1,8 @@
+use port_refusal::Refusal;
+use std::error::Error;
+use std::fmt;
+use std::fmt::{Display, Formatter, Write};
+
 /// Why a register access is refused, in the order in which the rules are tested.
 #[derive(Clone, Copy, PartialEq, Eq, Debug)]
 pub enum RegFault {
@@ -12,3 +17,28 @@ pub enum RegFault {
     /// A write that would clear PxCMD.FRE, or move PxCLB or PxFB, while PxCMD.ST is 1.
     Running,
 }
+
+impl From<RegFault> for Refusal {
+    ghost use Rattle.std.specs.Prelude.{◌≡◌};
+    ghost use Rattle.ahci_regs.specs.Refusals.{of_register};
+
+    ghost from_gives = { λ fault refusal. refusal ≡ of_register fault };
+
+    fn from(fault: RegFault) -> Refusal {
+        match fault {
+            RegFault::Unaligned => Refusal::Unaligned,
+            RegFault::NoSuchRegister => Refusal::NoSuchRegister,
+            RegFault::NotStarted => Refusal::NotStarted,
+            RegFault::NotReceiving => Refusal::NotReceiving,
+            RegFault::Running => Refusal::Running,
+        }
+    }
+}
+
+impl Display for RegFault {
+    fn fmt<W: Write>(&self, f: &mut Formatter<W>) -> Result<(), fmt::Error> {
+        Refusal::from(*self).fmt(f)
+    }
+}
+
+impl Error for RegFault {}

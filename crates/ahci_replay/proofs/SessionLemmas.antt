@@ -8,12 +8,13 @@ use Rattle.ahci_port.specs.PortView.{PortView}
 use Rattle.ahci_port.specs.Steps.{IsCollected, answer_to}
 use Rattle.ahci_script.specs.Said.{Said}
 use Rattle.ahci_script.specs.Said as says
-use Rattle.ahci_script.specs.declared.refusal.Refusal.{Refusal}
-use Rattle.ahci_script.specs.declared.refusal.Refusal.TheVariants as name
+use Rattle.port_refusal.specs.declared.refusal.Refusal.{Refusal}
+use Rattle.port_refusal.specs.declared.refusal.Refusal.TheVariants as name
 use Rattle.ncq_core.specs.DiskState.{most_depth, most_disk_sectors}
 use Rattle.ncq_journal.specs.declared.outcome.Outcome.{Outcome}
 use Rattle.ahci_replay.specs.Commands.{HasCollected, RefusedOr, outcome_said}
-use Rattle.ahci_replay.specs.Refusals.{disk_refusal, joined, of_collect}
+use Rattle.ahci_port.specs.Refusals.{of_collect}
+use Rattle.ahci_replay.specs.Refusals.{disk_refusal, joined}
 
 -- what follows for the value of an Ok
 pub if_ok_from : {T E : Type 0} (r : Result T E) (P Q : T → Type 0) → IfOk r P → ((x : T) → P x → Q x) → IfOk r Q

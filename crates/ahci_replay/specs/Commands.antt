@@ -16,7 +16,7 @@ use Rattle.ahci_script.specs.Said as says
 use Rattle.ahci_script.specs.declared.line.ScriptCommand.{ScriptCommand}
 use Rattle.ahci_script.specs.declared.line.ScriptCommand.TheVariants as command
 use Rattle.ahci_script.specs.declared.raw_window.RawWindow.{RawWindow}
-use Rattle.ahci_script.specs.declared.refusal.Refusal.{Refusal}
+use Rattle.port_refusal.specs.declared.refusal.Refusal.{Refusal}
 use Rattle.ahci_table.specs.Build.{IsBuilt}
 use Rattle.ahci_table.specs.Defaults.{default_list}
 use Rattle.ahci_table.specs.Fit.{IsFit}

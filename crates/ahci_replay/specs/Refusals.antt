@@ -1,76 +1,40 @@
 -- Why the port refuses a script's command, as the answer shows it. Want of memory is left aside: it is never shown.
-use Rattle.std.specs.Prelude.{ℕ, ◌^◌, ◌||◌, nat_eq, nat_le, nat_lt, if◌then◌else◌, Option, Some, None, Result, Ok, Err}
+use Rattle.std.specs.Prelude.{ℕ, ◌||◌, nat_eq, nat_lt, if◌then◌else◌, Option, Some, None, Result, Ok, Err}
 use Rattle.std.specs.Option.{option_map, unwrap_or}
-use Rattle.ahci_port.specs.Faults.{early_refusal, step_refusal, collect_refusal, recover_refusal, reissue_refusal, plain_refusal, trim_refusal, most_first}
+use Rattle.ahci_port.specs.Faults.{submit_refusal, step_refusal, collect_refusal, recover_refusal, reissue_refusal, plain_refusal, trim_refusal, most_first}
 use Rattle.ahci_port.specs.PortView.{PortView, sectors_in}
+use Rattle.ahci_port.specs.Refusals.{of_collect, of_reissue, of_step, of_trim, of_issue as port_of_issue, of_plain as port_of_plain, of_recover as port_of_recover, of_submit as port_of_submit}
 use Rattle.ahci_port.specs.declared.fault.IssueFault.{IssueFault}
-use Rattle.ahci_port.specs.declared.fault.IssueFault.TheVariants as issue
-use Rattle.ahci_port.specs.declared.fault.StepFault.{StepFault}
-use Rattle.ahci_port.specs.declared.fault.StepFault.TheVariants as step
-use Rattle.ahci_port.specs.declared.fault.CollectFault.{CollectFault}
-use Rattle.ahci_port.specs.declared.fault.CollectFault.TheVariants as collect
+use Rattle.ahci_port.specs.declared.fault.SubmitFault.{SubmitFault}
 use Rattle.ahci_port.specs.declared.fault.RecoverFault.{RecoverFault}
-use Rattle.ahci_port.specs.declared.fault.RecoverFault.TheVariants as recover
-use Rattle.ahci_port.specs.declared.fault.ReissueFault.{ReissueFault}
-use Rattle.ahci_port.specs.declared.fault.ReissueFault.TheVariants as reissue
-use Rattle.ahci_port.specs.declared.fault.TrimFault.{TrimFault}
-use Rattle.ahci_port.specs.declared.fault.TrimFault.TheVariants as trim
 use Rattle.ahci_port.specs.declared.fault.PlainFault.{PlainFault}
-use Rattle.ahci_port.specs.declared.fault.PlainFault.TheVariants as plain
 use Rattle.ahci_port.specs.declared.step.DeviceStep.TheVariants as device
 use Rattle.ahci_regs.specs.Reading.{read_of}
 use Rattle.ahci_regs.specs.declared.fault.RegFault.{RegFault}
-use Rattle.ahci_regs.specs.declared.fault.RegFault.TheVariants as reg
+use Rattle.ahci_regs.specs.Refusals.{of_register}
 use Rattle.ahci_script.specs.declared.line.ScriptCommand.{ScriptCommand}
 use Rattle.ahci_script.specs.declared.line.ScriptCommand.TheVariants as command
-use Rattle.ahci_script.specs.declared.refusal.Refusal.{Refusal}
-use Rattle.ahci_script.specs.declared.refusal.Refusal.TheVariants as refused
+use Rattle.port_refusal.specs.declared.refusal.Refusal.{Refusal}
+use Rattle.port_refusal.specs.declared.refusal.Refusal.TheVariants as refused
 use Rattle.ncq_core.specs.DiskState.{most_depth, most_disk_sectors}
-use Rattle.ncq_journal.specs.Lawful.{most_sectors}
 
--- a fault by the name that is shown
+-- a refusal as it is shown: memory that is lacking never is
+abbrev pub shown : Refusal → Option Refusal
+shown refused.OutOfMemory = None
+shown refusal = Some refusal
+
+-- a fault as it is shown
 abbrev pub of_issue : IssueFault → Option Refusal
-of_issue issue.Halted = Some refused.Halted
-of_issue issue.NoSuchTag = Some refused.NoSuchTag
-of_issue issue.SlotOwned = Some refused.SlotOwned
-of_issue issue.BadHeader = Some refused.BadHeader
-of_issue issue.BadCommand = Some refused.BadCommand
-of_issue issue.WrongTag = Some refused.WrongTag
-of_issue issue.BadList = Some refused.BadList
-of_issue issue.OutOfMemory = None
+of_issue fault = shown (port_of_issue fault)
 
-abbrev pub of_step : StepFault → Refusal
-of_step step.Halted = refused.Halted
-of_step step.NotIssued = refused.NotIssued
-of_step step.NotAccepted = refused.NotAccepted
-of_step step.OutsideCommand = refused.OutsideCommand
-of_step step.BadTags = refused.BadTags
-
-abbrev pub of_collect : CollectFault → Refusal
-of_collect collect.Stranger = refused.Stranger
-of_collect collect.NotYet = refused.NotYet
+abbrev pub of_submit : SubmitFault → Option Refusal
+of_submit fault = shown (port_of_submit fault)
 
 abbrev pub of_recover : RecoverFault → Option Refusal
-of_recover recover.NotHalted = Some refused.NotHalted
-of_recover recover.OutOfMemory = None
-
-abbrev pub of_reissue : ReissueFault → Refusal
-of_reissue reissue.Halted = refused.Halted
-of_reissue reissue.NotHeld = refused.NotHeld
+of_recover fault = shown (port_of_recover fault)
 
 abbrev pub of_plain : PlainFault → Option Refusal
-of_plain plain.Halted = Some refused.Halted
-of_plain plain.QueueBusy = Some refused.QueueBusy
-of_plain plain.OutOfMemory = None
-
-abbrev pub of_trim : TrimFault → Refusal
-of_trim trim.Busy = refused.Busy
-of_trim trim.Spent = refused.Spent
-
--- a read of a register has no other fault
-abbrev pub of_register : RegFault → Refusal
-of_register reg.Unaligned = refused.Unaligned
-of_register fault = refused.NoSuchRegister
+of_plain fault = shown (port_of_plain fault)
 
 -- a refusal that may be none
 abbrev pub joined : Option (Option Refusal) → Option Refusal
@@ -85,12 +49,9 @@ disk_refusal sectors depth first =
     else if nat_lt most_first (unwrap_or first 0) then Some refused.BadFirst
     else None
 
--- why a command of so many sectors from an LBA on is not issued: its window is built first
+-- why a command of so many sectors from an LBA on is not issued
 abbrev pub issue_refusal : PortView → ℕ → ℕ → ℕ → Option Refusal
-issue_refusal port tag lba sectors =
-    if nat_eq sectors 0 || nat_lt most_sectors sectors then Some refused.BadCount
-    else if nat_le (2 ^ 48) lba then Some refused.BadLba
-    else joined (option_map of_issue (early_refusal port tag))
+issue_refusal port tag lba sectors = joined (option_map of_submit (submit_refusal port tag lba sectors))
 
 -- why a register is not read
 abbrev pub register_refusal : Result ℕ RegFault → Option Refusal

@@ -1,21 +1,18 @@
 //! How a script's commands are issued: by a window over the default pieces, or by one of any bytes.
 
-ghost use Rattle.std.specs.Prelude.{◌≡◌, ◌<◌, ◌≤◌, ◌*◌, ◌^◌, false, IfOk, IsErr, IsOkAnd, None, OnErr, MatchOption, replicate};
-ghost use Rattle.ncq_journal.specs.Work.{work_of, lba_of, sectors_of};
-ghost use Rattle.ahci_script.specs.Said.{said, Issued};
-ghost use Rattle.ahci_table.specs.Defaults.{default_list};
-ghost use Rattle.ahci_table.specs.Refusal.{is_ragged};
-ghost use Rattle.ahci_replay.specs.Commands.{AnswersWindow, HasIssued, MayLackOn, RefusedOr, RunsOn, issue_said};
-ghost use Rattle.ahci_replay.specs.Refusals.{issue_refusal};
+ghost use Rattle.std.specs.Prelude.{◌≡◌, ◌<◌, ◌≤◌, ◌*◌, false, IfOk, IsErr, IsOkAnd, None, OnErr, MatchOption, replicate};
+ghost use Rattle.ncq_journal.specs.Work.{work_of, is_ragged, lba_of, sectors_of};
+ghost use Rattle.ahci_port.specs.Faults.{submit_refusal};
+ghost use Rattle.ahci_script.specs.Said.{said};
+ghost use Rattle.ahci_replay.specs.Commands.{AnswersWindow, HasIssued, MayLackOn, RunsOn, issue_said};
 
 use crate::reading::read_window;
-use crate::refusals::issue_refusal;
+use crate::refused::refused;
 use ahci_port::{IssueFault, Port};
-use ahci_script::{RawWindow, Refusal, ScriptAnswer, ScriptCommand};
-use ahci_table::{BuildFault, Piece, Window, default_pieces};
-use arrayvec::ArrayVec;
+use ahci_script::{RawWindow, ScriptAnswer, ScriptCommand};
+use ahci_table::Window;
 use ncq_core::{MAX_SECTORS, SECTOR};
-use ncq_journal::{Bytes, LBA_LIMIT, MAX_COUNT, Op, Phase};
+use ncq_journal::{Bytes, Op};
 use std::alloc::{AllocError, Allocator};
 
 /// Sectors that are filled with one byte.
@@ -30,27 +27,7 @@ pub(crate) fn uniform_sectors<A: Allocator>(
     vec![in alloc; fill; sectors as usize * SECTOR]
 }
 
-/// What stands against a command: its count, its address, and then what the port says of its tag. All of it can be known before
-/// a window is built, so a refused command makes none.
-fn against<A: Allocator>(port: &Port<A>, tag: u8, lba: u64, sectors: u32) -> Option<Refusal>
-    ensures { result ≡ issue_refusal port.now tag lba sectors }
-{
-    if sectors == 0 || sectors > MAX_COUNT {
-        Some(Refusal::BadCount)
-    } else if lba >= LBA_LIMIT {
-        Some(Refusal::BadLba)
-    } else if port.halted() {
-        Some(Refusal::Halted)
-    } else if u32::from(tag) >= port.depth() {
-        Some(Refusal::NoSuchTag)
-    } else if matches!(port.phase(tag), Phase::Free) {
-        None
-    } else {
-        Some(Refusal::SlotOwned)
-    }
-}
-
-/// Issues a write.
+/// Issues a write. A command that is refused needs no data.
 pub(crate) fn write<A: Allocator + Copy>(
     port: &mut Port<A>,
     alloc: &A,
@@ -64,17 +41,16 @@ pub(crate) fn write<A: Allocator + Copy>(
     ensures err { OnErr result (port.new ≡ port.old) }
     ensures lacking { OnErr result (MayLackOn port.old (ScriptCommand.Write tag lba sectors fill)) }
 {
-    if let Some(refusal) = against(port, tag, lba, sectors) {
-        return Ok(ScriptAnswer::Refused(refusal));
+    if let Some(fault) = port.submit_fault(tag, lba, u64::from(sectors)) {
+        return refused(fault.into());
     }
-    let bytes = Bytes::from_vec(uniform_sectors(alloc.clone()?, sectors, fill)?);
-    issue(port, alloc, tag, Op::Write { lba, bytes })
+    let bytes = Bytes::from_vec(uniform_sectors(*alloc, sectors, fill)?);
+    submit(port, tag, Op::Write { lba, bytes })
 }
 
 /// Issues a read.
 pub(crate) fn read<A: Allocator + Copy>(
     port: &mut Port<A>,
-    alloc: &A,
     tag: u8,
     lba: u64,
     sectors: u32,
@@ -84,45 +60,26 @@ pub(crate) fn read<A: Allocator + Copy>(
     ensures err { OnErr result (port.new ≡ port.old) }
     ensures lacking { OnErr result (MayLackOn port.old (ScriptCommand.Read tag lba sectors)) }
 {
-    if let Some(refusal) = against(port, tag, lba, sectors) {
-        return Ok(ScriptAnswer::Refused(refusal));
+    if let Some(fault) = port.submit_fault(tag, lba, u64::from(sectors)) {
+        return refused(fault.into());
     }
-    issue(port, alloc, tag, Op::Read { lba, sectors })
+    submit(port, tag, Op::Read { lba, sectors })
 }
 
-/// The pieces that serve for a command where nothing else is asked for.
-fn pieces_of<A: Allocator>(op: &Op<A>) -> ArrayVec<Piece, 32>
-    requires { sectors_of (work_of op.now) < 2 ^ 32 }
-    ensures { result.items ≡ default_list (sectors_of (work_of op.now)) }
-{
-    default_pieces(op.sectors() as u32)
-}
-
-/// Issues a command by a window over the default pieces; the command itself goes into the journal. Nothing stands against it
-/// (`against`).
-fn issue<A: Allocator + Copy>(
+/// Submits a command that has no fault.
+fn submit<A: Allocator + Copy>(
     port: &mut Port<A>,
-    alloc: &A,
     tag: u8,
     op: Op<A>,
 ) -> Result<ScriptAnswer<A>, AllocError>
-    requires tag { tag < 32 }
-    requires small { sectors_of (work_of op) < 2 ^ 32 }
     requires whole { is_ragged (work_of op) ≡ false }
-    requires free { issue_refusal port.old tag (lba_of (work_of op)) (sectors_of (work_of op)) ≡ None }
-    ensures ok { IfOk result (λ answer.
-        RefusedOr (issue_refusal port.old tag (lba_of (work_of op)) (sectors_of (work_of op)))
-        port.old port.new (said answer) (HasIssued tag (work_of op) port.old port.new (said answer))) }
+    requires free { submit_refusal port.old tag (lba_of (work_of op)) (sectors_of (work_of op)) ≡ None }
+    ensures ok { IfOk result (λ answer. HasIssued tag (work_of op) port.old port.new (said answer)) }
     ensures err { OnErr result (port.new ≡ port.old) }
 {
-    let pieces = pieces_of(&op);
-    match Window::build(alloc.clone()?, tag, &op, &pieces) {
-        Ok(window) => told(port.issue_asked(window, op)),
-        Err(fault) => match fault {
-            BuildFault::OutOfMemory => Err(AllocError),
-            // Its count and address were looked at, and the default pieces serve every count.
-            _ => unreachable!(),
-        },
+    match port.submit_tested(tag, op) {
+        Ok(number) => Ok(ScriptAnswer::Issued(number)),
+        Err(_op) => Err(AllocError),
     }
 }
 
@@ -137,7 +94,7 @@ pub(crate) fn issue_raw<A: Allocator + Copy>(
     ensures ok { IfOk result (λ answer. RunsOn port.old (ScriptCommand.Raw tag window.now) port.new (said answer)) }
     ensures err { OnErr result (port.new ≡ port.old) }
 {
-    issue_window(port, read_window(alloc.clone()?, tag, window)?)
+    issue_window(port, read_window(*alloc, tag, window)?)
 }
 
 /// Issues a window.
@@ -159,9 +116,6 @@ fn told<A: Allocator>(
 {
     match issued {
         Ok(number) => Ok(ScriptAnswer::Issued(number)),
-        Err((_window, fault)) => match issue_refusal(fault) {
-            Some(refusal) => Ok(ScriptAnswer::Refused(refusal)),
-            None => Err(AllocError),
-        },
+        Err((_window, fault)) => refused(fault.into()),
     }
 }

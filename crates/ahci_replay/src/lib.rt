@@ -5,7 +5,7 @@ mod answering;
 mod issuing;
 mod lines;
 mod reading;
-mod refusals;
+mod refused;
 mod replaying;
 mod running;
 mod script;

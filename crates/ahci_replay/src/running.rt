@@ -2,18 +2,15 @@
 
 ghost use Rattle.std.specs.Prelude.{◌≡◌, IfErr, IfOk, None, OnErr, Some, false};
 ghost use Rattle.std.specs.Option.{option_map};
-ghost use Rattle.ahci_port.specs.Faults.{step_refusal};
+ghost use Rattle.ahci_port.specs.{Faults.{step_refusal}, Refusals.{of_step}};
 ghost use Rattle.ahci_script.specs.Lines.{HasSmallTag};
 ghost use Rattle.ahci_script.specs.Said.{said};
 ghost use Rattle.ahci_replay.specs.Commands.{HasStepped, MayLackOn, MayRunOn, RefusedOr, RunsOn, is_in_place, word_in};
-ghost use Rattle.ahci_replay.specs.Refusals.{of_step, refusal_on};
+ghost use Rattle.ahci_replay.specs.Refusals.{refusal_on};
 
 use crate::answering::{collected, stepped};
 use crate::issuing::{issue_raw, read, write};
-use crate::refusals::{
-    collect_refusal, plain_refusal, recover_refusal, register_refusal, reissue_refusal,
-    step_refusal, trim_refusal,
-};
+use crate::refused::refused;
 use crate::unanswered::Unanswered;
 use ahci_port::{DeviceStep, Port};
 use ahci_script::{Refusal, ScriptAnswer, ScriptCommand};
@@ -41,7 +38,7 @@ pub(crate) fn run_on<A: Allocator + Copy>(
             sectors,
             fill,
         } => Ok(write(port, alloc, tag, lba, sectors, fill)?),
-        ScriptCommand::Read { tag, lba, sectors } => Ok(read(port, alloc, tag, lba, sectors)?),
+        ScriptCommand::Read { tag, lba, sectors } => Ok(read(port, tag, lba, sectors)?),
         ScriptCommand::Raw { tag, window } => Ok(issue_raw(port, alloc, tag, &window)?),
         ScriptCommand::Accept { tag } => Ok(step(port, DeviceStep::Accept(tag))),
         ScriptCommand::Serve { tags } => Ok(step(port, DeviceStep::Serve(tags))),
@@ -70,7 +67,7 @@ fn step<A: Allocator + Copy>(port: &mut Port<A>, step: DeviceStep) -> ScriptAnsw
 {
     match port.step(step) {
         Ok(done) => stepped(done, port.journal().end()),
-        Err(fault) => ScriptAnswer::Refused(step_refusal(fault)),
+        Err(fault) => ScriptAnswer::Refused(fault.into()),
     }
 }
 
@@ -84,10 +81,9 @@ fn collect<A: Allocator + Copy>(
     ensures ok { IfOk result (λ answer. RunsOn port.old (ScriptCommand.Collect tag number) port.new (said answer)) }
     ensures err { OnErr result (MayRunOn port.old (ScriptCommand.Collect tag number) port.new) }
 {
-    let alloc = alloc.clone()?;
     match port.collect(tag, number) {
-        Ok((reply, window)) => collected(alloc, reply, &window),
-        Err(fault) => Ok(ScriptAnswer::Refused(collect_refusal(fault))),
+        Ok((reply, window)) => collected(*alloc, reply, &window),
+        Err(fault) => Ok(ScriptAnswer::Refused(fault.into())),
     }
 }
 
@@ -100,10 +96,7 @@ fn recover<A: Allocator + Copy>(port: &mut Port<A>) -> Result<ScriptAnswer<A>, A
 {
     match port.recover() {
         Ok(tag) => Ok(ScriptAnswer::Recovered(tag)),
-        Err(fault) => match recover_refusal(fault) {
-            Some(refusal) => Ok(ScriptAnswer::Refused(refusal)),
-            None => Err(AllocError),
-        },
+        Err(fault) => refused(fault.into()),
     }
 }
 
@@ -113,7 +106,7 @@ fn reissue<A: Allocator + Copy>(port: &mut Port<A>, tag: u8) -> ScriptAnswer<A>
 {
     match port.reissue(tag) {
         Ok(()) => ScriptAnswer::Reissued(tag),
-        Err(fault) => ScriptAnswer::Refused(reissue_refusal(fault)),
+        Err(fault) => ScriptAnswer::Refused(fault.into()),
     }
 }
 
@@ -132,10 +125,7 @@ fn identify<A: Allocator + Copy>(
             let value = word_in(&page, word);
             Ok(ScriptAnswer::Word { word, value })
         }
-        Err(fault) => match plain_refusal(fault) {
-            Some(refusal) => Ok(ScriptAnswer::Refused(refusal)),
-            None => Err(AllocError),
-        },
+        Err(fault) => refused(fault.into()),
     }
 }
 
@@ -156,10 +146,7 @@ fn flush<A: Allocator + Copy>(port: &mut Port<A>) -> Result<ScriptAnswer<A>, All
 {
     match port.flush() {
         Ok(()) => Ok(ScriptAnswer::Flushed),
-        Err(fault) => match plain_refusal(fault) {
-            Some(refusal) => Ok(ScriptAnswer::Refused(refusal)),
-            None => Err(AllocError),
-        },
+        Err(fault) => refused(fault.into()),
     }
 }
 
@@ -173,7 +160,7 @@ fn trim<A: Allocator + Copy>(port: &mut Port<A>) -> ScriptAnswer<A>
     port.shape();
     match port.trim() {
         Ok(journal) => ScriptAnswer::Trimmed(journal.len()),
-        Err(fault) => ScriptAnswer::Refused(trim_refusal(fault)),
+        Err(fault) => ScriptAnswer::Refused(fault.into()),
     }
 }
 
@@ -183,7 +170,7 @@ fn register<A: Allocator + Copy>(port: &Port<A>, off: u32) -> ScriptAnswer<A>
 {
     match port.register(off) {
         Ok(word) => ScriptAnswer::Register(word),
-        Err(fault) => ScriptAnswer::Refused(register_refusal(fault)),
+        Err(fault) => ScriptAnswer::Refused(fault.into()),
     }
 }
 

@@ -3,8 +3,7 @@ use Rattle.std.specs.Prelude.{ℕ, zero, suc, ◌+◌, ◌-◌, ◌*◌, ◌/◌
 use Rattle.std.specs.Fmt.{decimal, digit_glyph}
 use Rattle.std.specs.List.{range_with_len}
 use Rattle.ahci_script.specs.Said.{Said, Disk, Issued, Accepted, Completed, FailedStep, Wrote, Read, Failed, Recovered, Reissued, Register, Acked, Word, Flushed, Sector, Journal, Trimmed, Refused}
-use Rattle.ahci_script.specs.declared.refusal.Refusal.{Refusal}
-use Rattle.ahci_script.specs.declared.refusal.Refusal.TheVariants as the-refusal
+use Rattle.port_refusal.specs.Names.{name_of}
 
 -- the last digits of a number as hexadecimal ones, in lower case
 abbrev pub hex_of : ℕ → ℕ → List ℕ
@@ -29,35 +28,6 @@ sector_text bytes i = 32 ∷ hex_of 2 (slice_index bytes (512 * i))
 abbrev pub sectors_text : List ℕ → ℕ → List ℕ
 sectors_text bytes zero = []
 sectors_text bytes (suc n) = sectors_text bytes n ++ sector_text bytes n
-
--- the refusal's name
-abbrev pub name_of : Refusal → List ℕ
-name_of the-refusal.BadSize = codes "BadSize"
-name_of the-refusal.BadDepth = codes "BadDepth"
-name_of the-refusal.BadFirst = codes "BadFirst"
-name_of the-refusal.BadCount = codes "BadCount"
-name_of the-refusal.BadLba = codes "BadLba"
-name_of the-refusal.NoSuchTag = codes "NoSuchTag"
-name_of the-refusal.SlotOwned = codes "SlotOwned"
-name_of the-refusal.BadHeader = codes "BadHeader"
-name_of the-refusal.BadCommand = codes "BadCommand"
-name_of the-refusal.WrongTag = codes "WrongTag"
-name_of the-refusal.BadList = codes "BadList"
-name_of the-refusal.Halted = codes "Halted"
-name_of the-refusal.NotIssued = codes "NotIssued"
-name_of the-refusal.NotAccepted = codes "NotAccepted"
-name_of the-refusal.BadTags = codes "BadTags"
-name_of the-refusal.OutsideCommand = codes "OutsideCommand"
-name_of the-refusal.NotHalted = codes "NotHalted"
-name_of the-refusal.NotHeld = codes "NotHeld"
-name_of the-refusal.QueueBusy = codes "QueueBusy"
-name_of the-refusal.Stranger = codes "Stranger"
-name_of the-refusal.NotYet = codes "NotYet"
-name_of the-refusal.Unaligned = codes "Unaligned"
-name_of the-refusal.NoSuchRegister = codes "NoSuchRegister"
-name_of the-refusal.NoSuchSector = codes "NoSuchSector"
-name_of the-refusal.Busy = codes "Busy"
-name_of the-refusal.Spent = codes "Spent"
 
 -- an answer, without its line feed
 abbrev pub answer_text : Said → List ℕ

@@ -2,7 +2,7 @@
 use Rattle.std.specs.Prelude.{ℕ, List, Option}
 use Rattle.ahci_script.specs.declared.answer.ScriptAnswer.{ScriptAnswer}
 use Rattle.ahci_script.specs.declared.answer.ScriptAnswer.TheVariants as code
-use Rattle.ahci_script.specs.declared.refusal.Refusal.{Refusal}
+use Rattle.port_refusal.specs.declared.refusal.Refusal.{Refusal}
 
 pub data Said : Type 0 where
   Disk : (sectors depth : ℕ) (first : Option ℕ) → Said

@@ -1,4 +1,4 @@
-use crate::refusal::Refusal;
+use port_refusal::Refusal;
 use std::alloc::{Allocator, Global};
 
 /// What a command answers. It becomes text where it is written, by `Output::put`. Contracts see it as a `Said`.

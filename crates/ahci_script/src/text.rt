@@ -6,7 +6,6 @@ ghost use Rattle.ahci_script.specs.Answers.{answer_text, entries_between, hex_of
 ghost use Rattle.ahci_script.specs.Said.{Disk, said};
 
 use crate::answer::ScriptAnswer;
-use crate::refusal::name;
 use itoa::Buffer;
 use std::alloc::Allocator;
 
@@ -93,7 +92,7 @@ fn push_answer<T: Allocator, A: Allocator>(text: &mut Vec<u8, T>, answer: &Scrip
         ScriptAnswer::Trimmed(entries) => push_number(text, b"trimmed ", *entries),
         ScriptAnswer::Refused(refusal) => {
             push(text, b"refused ");
-            push(text, name(*refusal).as_bytes());
+            push(text, refusal.name().as_bytes());
         }
     }
 }

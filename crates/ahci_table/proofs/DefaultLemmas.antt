@@ -9,10 +9,10 @@ use Rattle.std.proofs.lemmas.List.FromFn.{length-map-range_with_len}
 use Rattle.ahci_table.specs.Defaults.{default_list, default_piece, sectors_apiece}
 use Rattle.ahci_table.specs.Piece.{are_apart, end_of, is_apart, total}
 use Rattle.ahci_table.specs.Prdt.{entry_place}
-use Rattle.ahci_table.specs.Refusal.{has_bad_count, is_odd, is_outside, is_ragged, list_refusal}
+use Rattle.ahci_table.specs.Refusal.{has_bad_count, is_odd, is_outside, list_refusal}
 use Rattle.ahci_table.specs.declared.piece.Piece.{Piece}
 use Rattle.ncq_journal.specs.Lawful.{most_sectors}
-use Rattle.ncq_journal.specs.Work.{Work, sectors_of}
+use Rattle.ncq_journal.specs.Work.{Work, sectors_of, is_ragged}
 
 -- how many pieces a command needs, of so many sectors each
 pub record IsEnough (n a k : ℕ) : Type 0 where

@@ -188,6 +188,7 @@ carries_built tag work ps w low f b =
     record {
       tag_is = b.tag_is;
       op_is = ap (λ (a : QueuedFields). cond a.write (Write a.lba (text w)) (Read a.lba a.sectors)) q ∙ work_back tag work (text w) moved;
+      queued_is = q;
       pieces_are = list;
     }
 

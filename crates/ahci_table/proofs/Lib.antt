@@ -9,3 +9,4 @@ pub mod BuildLemmas
 pub mod FitLemmas
 pub mod LawLemmas
 pub mod DefaultLemmas
+pub mod ProperLemmas

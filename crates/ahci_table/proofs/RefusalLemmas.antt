@@ -4,13 +4,13 @@ use Rattle.std.proofs.Common.{length, Option, Some, None, ap, sym, refl, ◌∙�
 use Rattle.std.specs.List.{All, list_any}
 use Rattle.std.proofs.lemmas.Bool.{cases_lt, or_parts, eqb-true, lt-ltb, le-leb, false≢true}
 use Rattle.ncq_journal.specs.Lawful.{most_sectors}
-use Rattle.ncq_journal.specs.Work.{Work, lba_of, sectors_of}
+use Rattle.ncq_journal.specs.Work.{Work, lba_of, sectors_of, is_ragged}
 use Rattle.ahci_table.specs.declared.piece.Piece.{Piece}
 use Rattle.ahci_table.specs.declared.fault.BuildFault.{BuildFault}
 use Rattle.ahci_table.specs.declared.fault.BuildFault.TheVariants.{BadCount, BadLba, NoPieces, TooManyPieces, OddPiece, PieceOutside, PiecesOverlap, WrongTotal}
 use Rattle.ahci_table.specs.Piece.{end_of, are_apart, total}
 use Rattle.ahci_table.specs.Prdt.{entry_place}
-use Rattle.ahci_table.specs.Refusal.{has_bad_count, is_ragged, is_odd, is_outside, list_refusal, refusal}
+use Rattle.ahci_table.specs.Refusal.{has_bad_count, is_odd, is_outside, list_refusal, refusal}
 use Rattle.ahci_table.specs.Window.{most_bytes}
 
 pub record IsFree (work : Work) (ps : List Piece) : Type 0 where

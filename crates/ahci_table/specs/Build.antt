@@ -14,7 +14,7 @@ use Rattle.ahci_table.specs.Piece.{furthest}
 use Rattle.ahci_table.specs.Window.{WindowState, base}
 use Rattle.ahci_table.specs.Prdt.{pieces, entry_place}
 use Rattle.ahci_table.specs.Text.{joined}
-use Rattle.ahci_table.specs.Command.{op}
+use Rattle.ahci_table.specs.Command.{op, queued_of}
 use Rattle.ahci_table.specs.Scatter.{in_some}
 
 -- a dword, its low byte first
@@ -63,4 +63,5 @@ pub record IsBuilt (tag : ℕ) (work : Work) (ps : List Piece) (w : WindowState)
 pub record Carries (tag : ℕ) (work : Work) (ps : List Piece) (w : WindowState) : Type 0 where
   pub tag_is : w.tag ≡ tag
   pub op_is : op w ≡ work
+  pub queued_is : queued_of w ≡ queued_for tag work
   pub pieces_are : pieces w ≡ ps

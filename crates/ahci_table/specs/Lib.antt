@@ -7,6 +7,7 @@ pub mod Command
 pub mod Fit
 pub mod Scatter
 pub mod Refusal
+pub mod Refusals
 pub mod Laying
 pub mod Build
 pub mod Defaults

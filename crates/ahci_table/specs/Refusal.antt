@@ -2,18 +2,13 @@
 use Rattle.std.specs.Prelude.{ℕ, ◌*◌, ◌%◌, ◌^◌, Bool, false, ◌||◌, not, nat_eq, nat_le, nat_lt, List, length, Option, Some, None, if◌then◌else◌}
 use Rattle.std.specs.List.{list_any}
 use Rattle.ncq_journal.specs.Lawful.{most_sectors}
-use Rattle.ncq_journal.specs.Work.{Work, Read, Write, lba_of, sectors_of}
+use Rattle.ncq_journal.specs.Work.{Work, is_ragged, lba_of, sectors_of}
 use Rattle.ahci_table.specs.declared.piece.Piece.{Piece}
 use Rattle.ahci_table.specs.declared.fault.BuildFault.{BuildFault}
 use Rattle.ahci_table.specs.declared.fault.BuildFault.TheVariants.{BadCount, BadLba, NoPieces, TooManyPieces, OddPiece, PieceOutside, PiecesOverlap, WrongTotal}
 use Rattle.ahci_table.specs.Piece.{end_of, are_apart, total}
 use Rattle.ahci_table.specs.Window.{most_bytes}
 use Rattle.ahci_table.specs.Prdt.{entry_place}
-
--- the bytes of a write aren't whole sectors of 512 bytes
-abbrev pub is_ragged : Work → Bool
-is_ragged (Read lba sectors) = false
-is_ragged (Write lba bytes) = not (nat_eq (length bytes % 512) 0)
 
 -- no sectors, too many, or not whole ones
 abbrev pub has_bad_count : Work → Bool

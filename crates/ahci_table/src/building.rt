@@ -2,19 +2,21 @@ ghost use Rattle.std.specs.Prelude.{◌≡◌, ◌<◌, ◌≤◌, ◌+◌, ◌-
 ghost use Rattle.std.specs.List.{All};
 ghost use Rattle.sata_fis.specs.Command.{h2d_for};
 ghost use Rattle.sata_fis.specs.Encoding.{h2d_bytes};
-ghost use Rattle.ncq_journal.specs.Image.{is_write};
-ghost use Rattle.ncq_journal.specs.Work.{work_of, lba_of, sectors_of};
+ghost use Rattle.ncq_journal.specs.{Lawful.{IsProper}, Work.{work_of, lba_of, sectors_of, is_ragged}};
 ghost use Rattle.ahci_table.specs.Build.{IsBuilt, Carries, data_for, header_for, entry_for, table_for, queued_for};
+ghost use Rattle.ahci_table.specs.Defaults.{default_list};
 ghost use Rattle.ahci_table.specs.Fit.{IsFit};
 ghost use Rattle.ahci_table.specs.Piece.{are_apart, end_of, furthest};
 ghost use Rattle.ahci_table.specs.Prdt.{entry_place};
-ghost use Rattle.ahci_table.specs.Refusal.{is_ragged, refusal};
+ghost use Rattle.ahci_table.specs.Refusal.{refusal};
 ghost use Rattle.sata_fis.specs.Places.{byte};
 ghost use Rattle.ahci_table.specs.Scatter.{in_some};
 ghost use Rattle.ahci_table.specs.Text.{joined};
 ghost use Rattle.ahci_table.specs.Window.{base, most_bytes};
 
 use crate::checking::base;
+use crate::command::Command;
+use crate::defaults::default_pieces;
 use crate::fault::BuildFault;
 use crate::laying::{lay, rises};
 use crate::list::furthest;
@@ -27,25 +29,33 @@ use ncq_journal::Op;
 use sata_fis::{Fis, Queued, h2d_of};
 use std::alloc::{AllocError, Allocator};
 
-/// Whether the data goes to the device.
-fn is_write<A: Allocator>(op: &Op<A>) -> bool
-    ensures { result ≡ is_write (work_of op.now) }
-{
-    matches!(op, Op::Write { .. })
-}
-
 /// The header of a command with so many pieces.
 fn header_for<A: Allocator>(tag: u8, op: &Op<A>, pieces: u16) -> [u8; 32]
     requires { tag < 32 }
     ensures { result ≡ header_for tag (work_of op.now) pieces }
 {
-    let flags = if is_write(op) { 0x45 } else { 0x05 };
-    let [low, high] = pieces.to_le_bytes();
-    let [b0, b1, b2, b3] = base(tag).to_le_bytes();
-    [
-        flags, 0, low, high, 0, 0, 0, 0, b0, b1, b2, b3, 0, 0, 0, 0, 0, 0, 0, 0, 0, 0, 0, 0, 0, 0,
-        0, 0, 0, 0, 0, 0,
-    ]
+    let mut header = [0; 32];
+    header[0] = if op.is_write() { 0x45 } else { 0x05 };
+    header[2..4].copy_from_slice(&pieces.to_le_bytes());
+    header[8..12].copy_from_slice(&base(tag).to_le_bytes());
+    header
+}
+
+/// The queued command.
+fn queued_for<A: Allocator>(tag: u8, op: &Op<A>) -> Queued
+    requires tag { tag < 32 }
+    requires lba { lba_of (work_of op.now) < 2 ^ 48 }
+    requires some { 1 ≤ sectors_of (work_of op.now) }
+    requires most { sectors_of (work_of op.now) ≤ 65536 }
+    ensures { result ≡ queued_for tag (work_of op.now) }
+{
+    Queued {
+        write: op.is_write(),
+        tag,
+        lba: op.lba(),
+        sectors: op.sectors() as u32,
+        fua: false,
+    }
 }
 
 /// The bytes of the command FIS.
@@ -56,14 +66,7 @@ fn command_fis<A: Allocator>(tag: u8, op: &Op<A>) -> ArrayVec<u8, 28>
     requires most { sectors_of (work_of op.now) ≤ 65536 }
     ensures { result.items ≡ h2d_bytes (h2d_for (queued_for tag (work_of op.now))) }
 {
-    let queued = Queued {
-        write: is_write(op),
-        tag,
-        lba: op.lba(),
-        sectors: op.sectors() as u32,
-        fua: false,
-    };
-    Fis::H2d(h2d_of(&queued)).encode()
+    Fis::H2d(h2d_of(&queued_for(tag, op))).encode()
 }
 
 /// The PRDT entry of a piece.
@@ -102,6 +105,26 @@ impl<A: Allocator> Window<A> {
             Ok(window) => Ok(window),
             Err(_) => Err(BuildFault::OutOfMemory),
         }
+    }
+
+    /// The window of a command over the default pieces, and the command as `check` answers it.
+    pub fn over_default_pieces<B: Allocator>(
+        alloc: A,
+        tag: u8,
+        op: &Op<B>,
+    ) -> Result<(Self, Command), AllocError>
+        requires tag { tag < 32 }
+        requires proper { IsProper (work_of op.now) }
+        ensures bytes { IfOk result (λ made. IsBuilt tag (work_of op.now) (default_list (sectors_of (work_of op.now))) made.0) }
+        ensures carries { IfOk result (λ made. Carries tag (work_of op.now) (default_list (sectors_of (work_of op.now))) made.0) }
+        ensures fit { IfOk result (λ made. IsFit made.0) }
+        ensures queued { IfOk result (λ made. made.1.queued ≡ queued_for tag (work_of op.now)) }
+        ensures pieces { IfOk result (λ made. made.1.pieces.items ≡ default_list (sectors_of (work_of op.now))) }
+    {
+        let pieces = default_pieces(op.sectors() as u32);
+        let window = Self::written(alloc, tag, op, &pieces)?;
+        let queued = queued_for(tag, op);
+        Ok((window, Command { queued, pieces }))
     }
 
     /// The window of a command that nothing stands against.

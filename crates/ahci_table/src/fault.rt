@@ -1,23 +1,38 @@
+use port_refusal::Refusal;
+use std::error::Error as StdError;
+use std::fmt;
+use std::fmt::{Display, Formatter, Write};
+use thiserror::Error;
+
 /// Why no window is built. The cases are tested in this order.
-#[derive(Clone, Copy, Debug, PartialEq, Eq)]
+#[derive(Clone, Copy, Debug, PartialEq, Eq, Error)]
 pub enum BuildFault {
     /// The command has no sectors or over 65,536, or the bytes of a write aren't whole sectors of 512 bytes.
+    #[error("not 1 to 65,536 whole sectors")]
     BadCount,
     /// The LBA doesn't fit 48 bits.
+    #[error("the LBA does not fit 48 bits")]
     BadLba,
     /// There are no pieces.
+    #[error("there are no pieces")]
     NoPieces,
     /// There are over 32 pieces.
+    #[error("there are over 32 pieces")]
     TooManyPieces,
     /// A piece has an odd place, an odd length, no bytes or over 4,194,304.
+    #[error("a piece has an odd place, an odd length, no bytes or over 4,194,304")]
     OddPiece,
     /// A piece begins before the end of the command table, or ends past 67,108,864.
+    #[error("a piece begins before the end of the command table, or ends past 67,108,864")]
     PieceOutside,
     /// Two pieces share a byte.
+    #[error("two pieces share a byte")]
     PiecesOverlap,
     /// The lengths don't add up to the command's bytes.
+    #[error("the pieces' lengths do not add up to the command's bytes")]
     WrongTotal,
     /// A growth was refused.
+    #[error("out of memory")]
     OutOfMemory,
 }
 
@@ -35,3 +50,27 @@ pub enum TableFault {
     /// bytes.
     BadList,
 }
+
+impl From<TableFault> for Refusal {
+    ghost use Rattle.std.specs.Prelude.{◌≡◌};
+    ghost use Rattle.ahci_table.specs.Refusals.{of_table};
+
+    ghost from_gives = { λ fault refusal. refusal ≡ of_table fault };
+
+    fn from(fault: TableFault) -> Refusal {
+        match fault {
+            TableFault::BadHeader => Refusal::BadHeader,
+            TableFault::BadCommand => Refusal::BadCommand,
+            TableFault::WrongTag => Refusal::WrongTag,
+            TableFault::BadList => Refusal::BadList,
+        }
+    }
+}
+
+impl Display for TableFault {
+    fn fmt<W: Write>(&self, f: &mut Formatter<W>) -> Result<(), fmt::Error> {
+        Refusal::from(*self).fmt(f)
+    }
+}
+
+impl StdError for TableFault {}

@@ -3,7 +3,7 @@
 ghost use Rattle.std.specs.Prelude.{◌≡◌, ◌<◌, ◌≤◌, ◌^◌, length};
 ghost use Rattle.std.specs.List.{list_any};
 ghost use Rattle.ncq_journal.specs.Work.{work_of};
-ghost use Rattle.ahci_table.specs.Refusal.{has_bad_count, is_ragged, is_odd, is_outside, list_refusal, refusal};
+ghost use Rattle.ahci_table.specs.Refusal.{has_bad_count, is_odd, is_outside, list_refusal, refusal};
 
 use crate::fault::BuildFault;
 use crate::list::{are_apart, total};
@@ -12,21 +12,11 @@ use crate::window::MAX_BYTES;
 use ncq_journal::{LBA_LIMIT, MAX_COUNT, Op};
 use std::alloc::Allocator;
 
-/// Whether the bytes of a write aren't whole sectors.
-fn is_ragged<A: Allocator>(op: &Op<A>) -> bool
-    ensures { result ≡ is_ragged (work_of op.now) }
-{
-    match op {
-        Op::Read { .. } => false,
-        Op::Write { bytes, .. } => bytes.as_slice().len() % 512 != 0,
-    }
-}
-
 /// Whether there are no sectors, too many, or not whole ones.
 fn has_bad_count<A: Allocator>(op: &Op<A>) -> bool
     ensures { result ≡ has_bad_count (work_of op.now) }
 {
-    op.sectors() == 0 || op.sectors() > u64::from(MAX_COUNT) || is_ragged(op)
+    op.sectors() == 0 || op.sectors() > u64::from(MAX_COUNT) || op.is_ragged()
 }
 
 /// Whether a piece has an odd place, an odd length, no bytes, or more than an entry can count.

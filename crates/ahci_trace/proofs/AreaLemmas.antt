@@ -14,10 +14,11 @@ use Rattle.ahci_port.specs.declared.fault.StepFault.TheVariants as step_fault
 use Rattle.ahci_port.specs.declared.step.Stepped.{Stepped}
 use Rattle.ahci_replay.specs.Commands.{AnswersWindow, RefusedOr}
 use Rattle.ahci_replay.specs.Commands as answers
-use Rattle.ahci_replay.specs.Refusals.{of_step, refusal_on}
+use Rattle.ahci_port.specs.Refusals.{of_step}
+use Rattle.ahci_replay.specs.Refusals.{refusal_on}
 use Rattle.ahci_script.specs.Said.{Said}
 use Rattle.ahci_script.specs.declared.line.ScriptCommand.TheVariants as command
-use Rattle.ahci_script.specs.declared.refusal.Refusal.{Refusal}
+use Rattle.port_refusal.specs.declared.refusal.Refusal.{Refusal}
 use Rattle.ahci_table.specs.Command.{queued_of}
 use Rattle.ahci_table.specs.Window.{WindowState}
 use Rattle.ncq_core.specs.DiskFis.{accepted_bytes, completed_bytes, failed_bytes, flushed_bytes, not_found_bytes, pio_bytes, setup_bytes}
@@ -31,7 +32,7 @@ use Rattle.ncq_journal.specs.declared.phase.Phase.TheVariants as phases
 use Rattle.ncq_journal.specs.declared.plain.Plain.TheVariants as plain
 use Rattle.ahci_trace.proofs.NewestLemmas.{last_completed, told_by, unrefused_serve}
 use Rattle.ahci_trace.specs.Area.{IsOfTold, TellsReceived}
-use Rattle.ahci_trace.specs.Entries.{what_of}
+use Rattle.ncq_journal.specs.EventKind.{kind_of}
 use Rattle.ahci_trace.specs.Trace.{told_between}
 use Rattle.ahci_trace.specs.Received.{failed_in, received_by}
 
@@ -119,7 +120,7 @@ module _ (old new : PortView) (i : ℕ) (size : length old.area ≡ 256) (outsid
 
   -- no FIS that this entry tells has the byte
   untold : (entry : Entry) (more : List Entry) → new.first ≡ old.first → new.past ≡ entry ∷ more → length old.past ≤ length more
-      → ¬ (IsOfTold (received_by (Some (what_of entry)) new) i)
+      → ¬ (IsOfTold (received_by (Some (kind_of entry)) new) i)
   untold entry more first past grown = subst (λ n. ¬ (IsOfTold (received_by n new) i)) (told_by old new entry more first past grown) outside
 
   same_area : new.area ≡ old.area → Kept

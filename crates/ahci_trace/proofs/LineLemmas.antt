@@ -27,8 +27,8 @@ use Rattle.ahci_trace.specs.Text.{bytes_text, change_text, data_line, data_text,
 use Rattle.ahci_trace.specs.Trace.{Told, told_between}
 use Rattle.ahci_trace.specs.Transfers.{payloads_of}
 use Rattle.ahci_trace.specs.declared.appended.Appended.{Appended}
-use Rattle.ahci_trace.specs.declared.appended.Happened.{Happened}
-use Rattle.ahci_trace.specs.declared.appended.Happened.TheVariants as what
+use Rattle.ncq_journal.specs.declared.event_kind.EventKind.{EventKind}
+use Rattle.ncq_journal.specs.declared.event_kind.EventKind.TheVariants as what
 use Rattle.ahci_trace.specs.declared.change.Change.{Change}
 use Rattle.ahci_trace.specs.declared.owned.OwnedSlot.{OwnedSlot}
 use Rattle.ahci_trace.specs.declared.received.Received.{Received}
@@ -109,11 +109,11 @@ names-line any set (n ∷ more) h =
 bits-line : (r : Register) (word : ℕ) → is_line (bits_text r word) ≡ true
 bits-line r word = names-line false (bits word) (bits_of r) (register-line r).1
 
-kind-line : (w : Happened) → is_line (kind_name w) ≡ true
+kind-line : (w : EventKind) → is_line (kind_name w) ≡ true
 kind-line (what.Plain command) = plain-line command
 kind-line _ = refl
 
-details-line : (w : Happened) → is_line (details_text w) ≡ true
+details-line : (w : EventKind) → is_line (details_text w) ≡ true
 details-line (what.Issue tag write lba sectors) =
     line-append (decimal tag) (direction write ++ (decimal lba ++ (codes " " ++ decimal sectors))) (decimal-line tag)
     (line-append (direction write) (decimal lba ++ (codes " " ++ decimal sectors)) (direction-line write)
@@ -128,7 +128,7 @@ details-line (what.Reissue tag) = decimal-line tag
 details-line (what.Collect tag) = decimal-line tag
 details-line (what.Plain command) = refl
 
-what-line : (w : Happened) → is_line (what_text w) ≡ true
+what-line : (w : EventKind) → is_line (what_text w) ≡ true
 what-line w = line-append (kind_name w) (details_text w) (kind-line w) (details-line w)
 
 -- ---- a text that ends in its only line feed

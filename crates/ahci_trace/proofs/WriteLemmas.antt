@@ -14,18 +14,19 @@ use Rattle.ahci_replay.specs.Commands as answers
 use Rattle.ahci_replay.specs.Refusals.{refusal_on}
 use Rattle.ahci_script.specs.Said.{Said}
 use Rattle.ahci_script.specs.declared.line.ScriptCommand.TheVariants as command
-use Rattle.ahci_script.specs.declared.refusal.Refusal.{Refusal}
+use Rattle.port_refusal.specs.declared.refusal.Refusal.{Refusal}
 use Rattle.ahci_table.specs.Window.{WindowState}
 use Rattle.ncq_journal.specs.Entry.{Entry, Complete}
 use Rattle.ncq_journal.specs.Halted.{halted}
 use Rattle.ncq_journal.specs.Request.{Request, request}
 use Rattle.ncq_journal.specs.Work.{Work}
 use Rattle.ahci_trace.proofs.NewestLemmas.{last_completed, nothing_new, told_by, unrefused_serve}
-use Rattle.ahci_trace.specs.Entries.{newest, what_of}
+use Rattle.ncq_journal.specs.EventKind.{kind_of}
+use Rattle.ahci_trace.specs.Entries.{newest}
 use Rattle.ahci_trace.specs.Mark.{mark_of}
 use Rattle.ahci_trace.specs.Moves.{Moves, TellsWrites, ToldMove, after_writes}
 use Rattle.ahci_trace.specs.Writes.{issuing, write, writes_by}
-use Rattle.ahci_trace.specs.declared.appended.Happened.{Happened}
+use Rattle.ncq_journal.specs.declared.event_kind.EventKind.{EventKind}
 
 -- PxSACT and then PxCI are the port's two writes
 issued_by : (s : PortState) (tag : ℕ) → tag < 32 → issued s tag ≡ after_writes s (issuing tag)
@@ -35,12 +36,12 @@ issued_by s tag low = ap (λ b. after_writes s (cond b (write PxSact (2 ^ tag) �
     is_low = grind (arith, nat_tests)
 
 module _ (old new : PortView) where
-  by : (last : Option Happened) → newest (mark_of (Some old)) new.first new.past ≡ last → Moves (writes_by last) last old.registers new.registers → ToldMove old new
+  by : (last : Option EventKind) → newest (mark_of (Some old)) new.first new.past ≡ last → Moves (writes_by last) last old.registers new.registers → ToldMove old new
   by last is moves = subst (λ l. Moves (writes_by l) l old.registers new.registers) (sym is) moves
 
   -- one entry was appended
-  appended : (entry : Entry) → Appends old new entry → Moves (writes_by (Some (what_of entry))) (Some (what_of entry)) old.registers new.registers → ToldMove old new
-  appended entry is moves = by (Some (what_of entry)) (told_by old new entry old.past is.first_same is.past_is (omega arith)) moves
+  appended : (entry : Entry) → Appends old new entry → Moves (writes_by (Some (kind_of entry))) (Some (kind_of entry)) old.registers new.registers → ToldMove old new
+  appended entry is moves = by (Some (kind_of entry)) (told_by old new entry old.past is.first_same is.past_is (omega arith)) moves
 
   -- none was
   still : new.first + length new.past ≤ old.first + length old.past → ToldMove old new
@@ -52,7 +53,7 @@ module _ (old new : PortView) where
   served : {tags : List ℕ} {answer : Stepped} → is_bad_list tags ≡ false → IsServed tags old new answer → ToldMove old new
   served {tags} good is =
       let last = last_completed old.past tags good in
-      by (Some (what_of (Complete last.0))) (told_by old new (Complete last.0) last.1 is.appended.first_same (is.appended.past_is ∙ last.2) last.3) refl
+      by (Some (kind_of (Complete last.0))) (told_by old new (Complete last.0) last.1 is.appended.first_same (is.appended.past_is ∙ last.2) last.3) refl
 
   taken : (passes : Bool) (tag : ℕ) (w : Work) (answer : Stepped) → TakenBy passes tag w old new answer → ToldMove old new
   taken true tag w answer is = appended _ is.appended refl

@@ -3,30 +3,17 @@
 use Rattle.std.specs.Prelude.{ℕ, ◌-◌, List, length, filter_map, max, nat_le, if◌then◌else◌, Option, None}
 use Rattle.std.specs.List.{range_with_len}
 use Rattle.std.specs.Option.{option_map}
-use Rattle.ncq_journal.specs.Entry.{Entry, Issue, Accept, Complete, Fail, Recover, Reissue, Collect, Unqueued}
-use Rattle.ncq_journal.specs.Image.{is_write}
+use Rattle.ncq_journal.specs.Entry.{Entry}
+use Rattle.ncq_journal.specs.EventKind.{kind_of}
 use Rattle.ncq_journal.specs.Numbering.{entry_numbered, number_of}
-use Rattle.ncq_journal.specs.Work.{lba_of, sectors_of}
 use Rattle.ahci_trace.specs.declared.appended.Appended.{Appended}
-use Rattle.ahci_trace.specs.declared.appended.Happened.{Happened}
-use Rattle.ahci_trace.specs.declared.appended.Happened.TheVariants as what
+use Rattle.ncq_journal.specs.declared.event_kind.EventKind.{EventKind}
 use Rattle.ahci_trace.specs.declared.mark.Mark.{Mark}
-
--- what an entry says, without a write's bytes
-abbrev pub what_of : Entry → Happened
-what_of (Issue tag work) = what.Issue tag (is_write work) (lba_of work) (sectors_of work)
-what_of (Accept tag) = what.Accept tag
-what_of (Complete tag) = what.Complete tag
-what_of (Fail tag error lba) = what.Fail tag error lba
-what_of (Recover tag) = what.Recover tag
-what_of (Reissue tag) = what.Reissue tag
-what_of (Collect tag) = what.Collect tag
-what_of (Unqueued command) = what.Plain command
 
 -- the entry of a number, where there is one
 abbrev pub appended_at : ℕ → List Entry → ℕ → Option Appended
 appended_at first past number =
-    option_map (λ entry. record { number = number; what = what_of entry }) (entry_numbered first past number)
+    option_map (λ entry. record { number = number; what = kind_of entry }) (entry_numbered first past number)
 
 -- the entries from a number on, each with its number, the oldest first
 abbrev pub entries_from : ℕ → ℕ → List Entry → List Appended
@@ -38,6 +25,6 @@ abbrev pub new_entries : Mark → ℕ → List Entry → List Appended
 new_entries mark first past = entries_from (max mark.end first) first past
 
 -- the newest of them, where there is one
-abbrev pub newest : Mark → ℕ → List Entry → Option Happened
+abbrev pub newest : Mark → ℕ → List Entry → Option EventKind
 newest mark first past =
-    if nat_le (number_of first (length past)) mark.end then None else option_map what_of (entry_numbered first past (number_of first (length past) - 1))
+    if nat_le (number_of first (length past)) mark.end then None else option_map kind_of (entry_numbered first past (number_of first (length past) - 1))

@@ -17,8 +17,8 @@ use Rattle.ahci_trace.specs.Sent.{SentBytes}
 use Rattle.ahci_trace.specs.Trace.{Told, told_between}
 use Rattle.ahci_trace.specs.Transfers.{payloads_of}
 use Rattle.ahci_trace.specs.declared.appended.Appended.{Appended}
-use Rattle.ahci_trace.specs.declared.appended.Happened.{Happened}
-use Rattle.ahci_trace.specs.declared.appended.Happened.TheVariants as what
+use Rattle.ncq_journal.specs.declared.event_kind.EventKind.{EventKind}
+use Rattle.ncq_journal.specs.declared.event_kind.EventKind.TheVariants as what
 use Rattle.ahci_trace.specs.declared.as_json.member.Member.{Member}
 use Rattle.ahci_trace.specs.declared.as_json.value.Value.{Value}
 use Rattle.ahci_trace.specs.declared.as_json.value.Value.TheVariants as value
@@ -63,12 +63,12 @@ abbrev pub object : List Token → List Token
 object members = begin_object ∷ (members ++ end_object ∷ [])
 
 -- the kind of an entry, in one word
-abbrev pub kind_word : Happened → List ℕ
+abbrev pub kind_word : EventKind → List ℕ
 kind_word (what.Plain ReadLog) = codes "read_log"
 kind_word kind = kind_name kind
 
 -- what an entry says
-unfoldable pub what_members : Happened → List Token
+unfoldable pub what_members : EventKind → List Token
 what_members (what.Issue tag write lba sectors) =
     number_member (codes "tag") tag ++ (boolean_member (codes "write") write ++ (number_member (codes "lba") lba ++ number_member (codes "sectors") sectors))
 what_members (what.Accept tag) = number_member (codes "tag") tag

@@ -12,8 +12,8 @@ use Rattle.ahci_script.specs.declared.line.ScriptCommand.{ScriptCommand}
 use Rattle.ahci_trace.specs.Entries.{newest}
 use Rattle.ahci_trace.specs.Trace.{told_between}
 use Rattle.ahci_trace.specs.Mark.{mark_of}
-use Rattle.ahci_trace.specs.declared.appended.Happened.{Happened}
-use Rattle.ahci_trace.specs.declared.appended.Happened.TheVariants as what
+use Rattle.ncq_journal.specs.declared.event_kind.EventKind.{EventKind}
+use Rattle.ncq_journal.specs.declared.event_kind.EventKind.TheVariants as what
 use Rattle.ahci_trace.specs.declared.register_write.RegisterWrite.{RegisterWrite}
 
 -- the registers after some writes
@@ -22,7 +22,7 @@ after_writes s writes = fold (λ s w. after_write s (offset_of w.register) w.wor
 
 -- the writes of the command whose newest entry this is, and what the device sends at once, lead from the old registers to the new
 -- ones; a queued command is answered later. A command that the device begins, or that only collects, has no writes
-abbrev pub Moves : List RegisterWrite → Option Happened → PortState → PortState → Type 0
+abbrev pub Moves : List RegisterWrite → Option EventKind → PortState → PortState → Type 0
 Moves writes (Some (what.Issue tag write lba sectors)) old new = tag < 32 → new ≡ after_writes old writes
 Moves writes (Some (what.Reissue tag)) old new = tag < 32 → new ≡ after_writes old writes
 Moves writes (Some (what.Recover tag)) old new = new ≡ read_data (after_writes old writes)

@@ -7,8 +7,8 @@ use Rattle.ncq_journal.specs.declared.phase.Phase.{Phase}
 use Rattle.ncq_journal.specs.declared.phase.Phase.TheVariants.{Rejected}
 use Rattle.ncq_journal.specs.declared.plain.Plain.TheVariants.{Flush}
 use Rattle.ahci_trace.specs.Sent.{bytes_at}
-use Rattle.ahci_trace.specs.declared.appended.Happened.{Happened}
-use Rattle.ahci_trace.specs.declared.appended.Happened.TheVariants as what
+use Rattle.ncq_journal.specs.declared.event_kind.EventKind.{EventKind}
+use Rattle.ncq_journal.specs.declared.event_kind.EventKind.TheVariants as what
 use Rattle.ahci_trace.specs.declared.received.Received.{Received}
 
 abbrev pub nothing_received : Received
@@ -36,7 +36,7 @@ failed_in Rejected area = register_came area
 failed_in p area = set_bits_came area
 
 -- what was received by the command whose newest entry this is
-abbrev pub received_by : Option Happened → PortView → Received
+abbrev pub received_by : Option EventKind → PortView → Received
 received_by (Some (what.Accept tag)) port = register_came port.area
 received_by (Some (what.Complete tag)) port = data_moved port.area
 received_by (Some (what.Fail tag error lba)) port = failed_in (phase port.past tag) port.area

@@ -5,8 +5,8 @@ use Rattle.ahci_port.specs.PortView.{PortView, window_at}
 use Rattle.ahci_port.specs.declared.sent.Sent as port
 use Rattle.ahci_table.specs.Prdt.{entry_place}
 use Rattle.ahci_table.specs.Window.{WindowState}
-use Rattle.ahci_trace.specs.declared.appended.Happened.{Happened}
-use Rattle.ahci_trace.specs.declared.appended.Happened.TheVariants as what
+use Rattle.ncq_journal.specs.declared.event_kind.EventKind.{EventKind}
+use Rattle.ncq_journal.specs.declared.event_kind.EventKind.TheVariants as what
 use Rattle.ahci_trace.specs.declared.sent.SentCommand.{SentCommand}
 
 pub record SentBytes : Type 0 where
@@ -46,7 +46,7 @@ of_unqueued sent = record { header = sent.header; cfis = sent.cfis; entries = en
 
 -- what was sent by the command whose newest entry this is: a window that is issued, now or again; or what slot 0 sent for a
 -- command that is not queued, which a recovery has too, to read the log of the error
-abbrev pub sent_by : Option Happened → PortView → Option SentBytes
+abbrev pub sent_by : Option EventKind → PortView → Option SentBytes
 sent_by (Some (what.Issue tag write lba sectors)) p = option_map of_window (window_at p tag)
 sent_by (Some (what.Reissue tag)) p = option_map of_window (window_at p tag)
 sent_by (Some (what.Recover tag)) p = Some (of_unqueued p.sent)

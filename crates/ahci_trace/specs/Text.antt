@@ -17,8 +17,8 @@ use Rattle.ahci_trace.specs.Sent.{SentBytes}
 use Rattle.ahci_trace.specs.Trace.{Told, told_between}
 use Rattle.ahci_trace.specs.Transfers.{payloads_of}
 use Rattle.ahci_trace.specs.declared.appended.Appended.{Appended}
-use Rattle.ahci_trace.specs.declared.appended.Happened.{Happened}
-use Rattle.ahci_trace.specs.declared.appended.Happened.TheVariants as what
+use Rattle.ncq_journal.specs.declared.event_kind.EventKind.{EventKind}
+use Rattle.ncq_journal.specs.declared.event_kind.EventKind.TheVariants as what
 use Rattle.ahci_trace.specs.declared.change.Change.{Change}
 use Rattle.ahci_trace.specs.declared.owned.OwnedSlot.{OwnedSlot}
 use Rattle.ahci_trace.specs.declared.received.Received.{Received}
@@ -51,7 +51,7 @@ direction true = codes " write "
 direction false = codes " read "
 
 -- the kind of an entry
-abbrev pub kind_name : Happened → List ℕ
+abbrev pub kind_name : EventKind → List ℕ
 kind_name (what.Issue tag write lba sectors) = codes "issue"
 kind_name (what.Accept tag) = codes "accept"
 kind_name (what.Complete tag) = codes "complete"
@@ -62,7 +62,7 @@ kind_name (what.Collect tag) = codes "collect"
 kind_name (what.Plain command) = plain_name command
 
 -- what an entry says of its command
-abbrev pub details_text : Happened → List ℕ
+abbrev pub details_text : EventKind → List ℕ
 details_text (what.Issue tag write lba sectors) =
     codes " " ++ (decimal tag ++ (direction write ++ (decimal lba ++ (codes " " ++ decimal sectors))))
 details_text (what.Accept tag) = codes " " ++ decimal tag
@@ -74,7 +74,7 @@ details_text (what.Collect tag) = codes " " ++ decimal tag
 details_text (what.Plain command) = []
 
 -- what an entry says
-abbrev pub what_text : Happened → List ℕ
+abbrev pub what_text : EventKind → List ℕ
 what_text happened = kind_name happened ++ details_text happened
 
 -- a new entry, by its number

@@ -9,8 +9,8 @@ use Rattle.sata_fis.specs.Fields.{QueuedFields}
 use Rattle.sata_fis.specs.Layout.{h2d_at}
 use Rattle.ahci_trace.specs.Sent.{bytes_at}
 use Rattle.ahci_trace.specs.declared.appended.Appended.{Appended}
-use Rattle.ahci_trace.specs.declared.appended.Happened.{Happened}
-use Rattle.ahci_trace.specs.declared.appended.Happened.TheVariants as what
+use Rattle.ncq_journal.specs.declared.event_kind.EventKind.{EventKind}
+use Rattle.ncq_journal.specs.declared.event_kind.EventKind.TheVariants as what
 
 -- the queued command that a Register FIS - Host to Device asks for, where these bytes are one
 abbrev pub asked_in : List ℕ → Option QueuedFields
@@ -21,7 +21,7 @@ abbrev pub command_of : WindowState → Option QueuedFields
 command_of w = asked_in (bytes_at 20 w.bytes 0)
 
 -- the command that an entry completes: that of its slot's window
-abbrev pub completed_by : PortView → Happened → Option QueuedFields
+abbrev pub completed_by : PortView → EventKind → Option QueuedFields
 completed_by port (what.Complete tag) = option_and_then command_of (window_at port tag)
 completed_by port happened = None
 

@@ -3,8 +3,8 @@
 use Rattle.std.specs.Prelude.{ℕ, ◌^◌, nat_lt, if◌then◌else◌, List, [], ◌∷◌, Option, Some}
 use Rattle.ahci_regs.specs.declared.register.Register.{Register}
 use Rattle.ahci_regs.specs.declared.register.Register.TheVariants.{PxIs, PxCmd, PxSerr, PxSact, PxCi}
-use Rattle.ahci_trace.specs.declared.appended.Happened.{Happened}
-use Rattle.ahci_trace.specs.declared.appended.Happened.TheVariants as what
+use Rattle.ncq_journal.specs.declared.event_kind.EventKind.{EventKind}
+use Rattle.ncq_journal.specs.declared.event_kind.EventKind.TheVariants as what
 use Rattle.ahci_trace.specs.declared.register_write.RegisterWrite.{RegisterWrite}
 
 abbrev pub write : Register → ℕ → RegisterWrite
@@ -23,7 +23,7 @@ abbrev pub recovering : List RegisterWrite
 recovering = write PxCmd 0x10 ∷ write PxSerr 0xffffffff ∷ write PxIs 0xffffffff ∷ write PxCmd 0x11 ∷ sending
 
 -- what software has written for the command whose newest entry this is
-abbrev pub writes_by : Option Happened → List RegisterWrite
+abbrev pub writes_by : Option EventKind → List RegisterWrite
 writes_by (Some (what.Issue tag write lba sectors)) = issuing tag
 writes_by (Some (what.Reissue tag)) = issuing tag
 writes_by (Some (what.Recover tag)) = recovering

@@ -3,22 +3,21 @@
 ghost use Rattle.std.specs.Prelude.{◌≡◌};
 ghost use Rattle.ahci_trace.specs.Text.{kind_name, phase_name, plain_name};
 
-use crate::appended::Happened;
-use ncq_journal::{Phase, Plain};
+use ncq_journal::{EventKind, Phase, Plain};
 
 /// The name of an entry's kind.
-pub(crate) fn kind_name(what: Happened) -> &'static str
+pub(crate) fn kind_name(what: EventKind) -> &'static str
     ensures { result.now ≡ kind_name what }
 {
     match what {
-        Happened::Issue { .. } => "issue",
-        Happened::Accept(_) => "accept",
-        Happened::Complete(_) => "complete",
-        Happened::Fail { .. } => "fail",
-        Happened::Recover(_) => "recover",
-        Happened::Reissue(_) => "reissue",
-        Happened::Collect(_) => "collect",
-        Happened::Plain(plain) => plain_name(plain),
+        EventKind::Issue { .. } => "issue",
+        EventKind::Accept(_) => "accept",
+        EventKind::Complete(_) => "complete",
+        EventKind::Fail { .. } => "fail",
+        EventKind::Recover(_) => "recover",
+        EventKind::Reissue(_) => "reissue",
+        EventKind::Collect(_) => "collect",
+        EventKind::Plain(plain) => plain_name(plain),
     }
 }
 

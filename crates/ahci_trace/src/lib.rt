@@ -27,7 +27,7 @@ mod tracing;
 mod transfer;
 mod words;
 
-pub use appended::{Appended, Happened};
+pub use appended::Appended;
 pub use change::Change;
 pub use command_trace::CommandTrace;
 pub use mark::Mark;

@@ -1,10 +1,9 @@
 ghost use Rattle.std.specs.Prelude.{◌≡◌};
 ghost use Rattle.ahci_trace.specs.Received.{data_moved, nothing_received, page_came, received_by, register_came, set_bits_came};
 
-use crate::appended::Happened;
 use crate::sent::bytes_at;
 use ahci_port::Port;
-use ncq_journal::{Phase, Plain};
+use ncq_journal::{EventKind, Phase, Plain};
 use std::alloc::Allocator;
 
 /// The FISes that a command has brought into the received FIS area, byte by byte (AHCI 1.3.1, section 4.2.1). Of a command
@@ -74,19 +73,19 @@ fn page_came(area: &[u8; 256]) -> Received
 }
 
 /// What was received by the command whose newest entry this is.
-pub(crate) fn received_by<A: Allocator>(newest: Option<Happened>, port: &Port<A>) -> Received
+pub(crate) fn received_by<A: Allocator>(newest: Option<EventKind>, port: &Port<A>) -> Received
     ensures { result ≡ received_by newest port.now }
 {
     let area = port.received();
     match newest {
-        Some(Happened::Accept(_)) => register_came(area),
-        Some(Happened::Complete(_)) => data_moved(area),
-        Some(Happened::Fail { tag, .. }) => match port.phase(tag) {
+        Some(EventKind::Accept(_)) => register_came(area),
+        Some(EventKind::Complete(_)) => data_moved(area),
+        Some(EventKind::Fail { tag, .. }) => match port.phase(tag) {
             Phase::Rejected => register_came(area),
             _ => set_bits_came(area),
         },
-        Some(Happened::Recover(_)) => page_came(area),
-        Some(Happened::Plain(command)) => match command {
+        Some(EventKind::Recover(_)) => page_came(area),
+        Some(EventKind::Plain(command)) => match command {
             Plain::Flush => register_came(area),
             Plain::Identify | Plain::ReadLog => page_came(area),
         },

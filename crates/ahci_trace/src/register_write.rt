@@ -1,8 +1,8 @@
 ghost use Rattle.std.specs.Prelude.{◌≡◌, ◌<◌, IfOk};
 ghost use Rattle.ahci_trace.specs.Writes.{issuing, recovering, sending, write, writes_by};
 
-use crate::appended::Happened;
 use ahci_regs::Register;
+use ncq_journal::EventKind;
 use std::alloc::{AllocError, Allocator};
 use word_bits::place;
 
@@ -79,15 +79,15 @@ fn recovering<A: Allocator>(alloc: A) -> Result<Vec<RegisterWrite, A>, AllocErro
 /// What software has written to the registers for the command whose newest entry this is, one after the other.
 pub(crate) fn writes_by<A: Allocator>(
     alloc: A,
-    newest: Option<Happened>,
+    newest: Option<EventKind>,
 ) -> Result<Vec<RegisterWrite, A>, AllocError>
     ensures { IfOk result (λ list. list.items ≡ writes_by newest) }
 {
     match newest {
-        Some(Happened::Issue { tag, .. }) => issuing(alloc, tag),
-        Some(Happened::Reissue(tag)) => issuing(alloc, tag),
-        Some(Happened::Recover(_)) => recovering(alloc),
-        Some(Happened::Plain(_)) => sending(alloc),
+        Some(EventKind::Issue { tag, .. }) => issuing(alloc, tag),
+        Some(EventKind::Reissue(tag)) => issuing(alloc, tag),
+        Some(EventKind::Recover(_)) => recovering(alloc),
+        Some(EventKind::Plain(_)) => sending(alloc),
         _ => Ok(Vec::new(alloc)),
     }
 }

@@ -2,9 +2,9 @@ ghost use Rattle.std.specs.Prelude.{◌≡◌, ◌+◌, IfOk};
 ghost use Rattle.std.specs.Option.{option_map};
 ghost use Rattle.ahci_trace.specs.Sent.{bytes_at, entries_in, entries_listed, of_unqueued, of_window, prdtl_of, sent_by, shown};
 
-use crate::appended::Happened;
 use ahci_port::{Port, Sent};
 use ahci_table::Window;
+use ncq_journal::EventKind;
 use std::alloc::{AllocError, Allocator, Global};
 
 /// What software put where the device found it: the command header, CFIS and the PRDT's entries (AHCI 1.3.1, sections 4.2.2
@@ -91,17 +91,17 @@ fn of_unqueued<A: Allocator>(alloc: A, sent: &Sent) -> Result<SentCommand<A>, Al
 /// What was sent by the command whose newest entry this is.
 pub(crate) fn sent_by<A: Allocator, B: Allocator>(
     alloc: B,
-    newest: Option<Happened>,
+    newest: Option<EventKind>,
     port: &Port<A>,
 ) -> Result<Option<SentCommand<B>>, AllocError>
     ensures { IfOk result (λ sent. option_map shown sent ≡ sent_by newest port.now) }
 {
     match newest {
-        Some(Happened::Issue { tag, .. } | Happened::Reissue(tag)) => match port.window(tag) {
+        Some(EventKind::Issue { tag, .. } | EventKind::Reissue(tag)) => match port.window(tag) {
             Some(window) => Ok(Some(of_window(alloc, window)?)),
             None => Ok(None),
         },
-        Some(Happened::Recover(_) | Happened::Plain(_)) => {
+        Some(EventKind::Recover(_) | EventKind::Plain(_)) => {
             Ok(Some(of_unqueued(alloc, port.sent())?))
         }
         _ => Ok(None),

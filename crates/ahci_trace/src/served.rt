@@ -2,11 +2,12 @@ ghost use Rattle.std.specs.Prelude.{◌≡◌, length, IfOk};
 ghost use Rattle.ncq_core.specs.DiskFis.{setup_bytes};
 ghost use Rattle.ahci_trace.specs.Transfers.{asked_in, command_of, completed_by, payloads_of, served};
 
-use crate::appended::{Appended, Happened};
+use crate::appended::Appended;
 use crate::sent::bytes_at;
 use ahci_port::Port;
 use ahci_table::Window;
 use arrayvec::ArrayVec;
+use ncq_journal::EventKind;
 use sata_fis::{DmaSetup, Fis, Queued, decode, queued};
 use std::alloc::{AllocError, Allocator};
 
@@ -32,11 +33,11 @@ fn command_of<A: Allocator>(window: &Window<A>) -> Option<Queued>
 }
 
 /// The command that an entry completes, whose window its slot still has.
-fn completed_by<A: Allocator>(what: Happened, port: &Port<A>) -> Option<Queued>
+fn completed_by<A: Allocator>(what: EventKind, port: &Port<A>) -> Option<Queued>
     ensures { result ≡ completed_by port.now what }
 {
     match what {
-        Happened::Complete(tag) => command_of(port.window(tag)?),
+        EventKind::Complete(tag) => command_of(port.window(tag)?),
         _ => None,
     }
 }

@@ -6,7 +6,7 @@ ghost use Rattle.ahci_trace.specs.Sent.{shown};
 ghost use Rattle.ahci_trace.specs.Text.{change_text, command_text, direction, entry_text, fis_text, page_text, prdt_text, received_text, sent_text, slot_text, told_text, what_text, write_text};
 ghost use Rattle.ahci_trace.specs.Trace.{told};
 
-use crate::appended::{Appended, Happened};
+use crate::appended::Appended;
 use crate::change::Change;
 use crate::command_trace::CommandTrace;
 use crate::kinds::{kind_name, phase_name};
@@ -20,6 +20,7 @@ use crate::sent::SentCommand;
 use crate::text::push_named;
 use crate::transfer::push_data;
 use ahci_script::growing::{push, push_byte, push_number, push_word};
+use ncq_journal::EventKind;
 use std::alloc::{AllocError, Allocator};
 
 /// The text of a trace.
@@ -48,13 +49,13 @@ fn direction(write: bool) -> &'static [u8]
 }
 
 /// What an entry says.
-impl Note for Happened {
+impl Note for EventKind {
     ghost note = { what_text };
 
     fn push_to<A: Allocator + Copy>(&self, text: &mut Vec<u8, A>) -> Result<(), AllocError> {
         push(text, kind_name(*self).as_bytes())?;
         match *self {
-            Happened::Issue {
+            EventKind::Issue {
                 tag,
                 write,
                 lba,
@@ -64,17 +65,17 @@ impl Note for Happened {
                 push_number(text, direction(write), lba)?;
                 push_number(text, b" ", sectors)
             }
-            Happened::Accept(tag)
-            | Happened::Complete(tag)
-            | Happened::Recover(tag)
-            | Happened::Reissue(tag)
-            | Happened::Collect(tag) => push_number(text, b" ", u64::from(tag)),
-            Happened::Fail { tag, error, lba } => {
+            EventKind::Accept(tag)
+            | EventKind::Complete(tag)
+            | EventKind::Recover(tag)
+            | EventKind::Reissue(tag)
+            | EventKind::Collect(tag) => push_number(text, b" ", u64::from(tag)),
+            EventKind::Fail { tag, error, lba } => {
                 push_number(text, b" ", u64::from(tag))?;
                 push_byte(text, error)?;
                 push_number(text, b" ", lba)
             }
-            Happened::Plain(_) => Ok(()),
+            EventKind::Plain(_) => Ok(()),
         }
     }
 }

@@ -3,6 +3,7 @@ pub mod DiskLaws
 pub mod DiskState
 pub mod Identify
 pub mod Log
+pub mod Refusals
 pub mod Serving
 pub mod Verdict
 pub mod VerdictTable

@@ -1,3 +1,8 @@
+use port_refusal::Refusal;
+use std::error::Error;
+use std::fmt;
+use std::fmt::{Display, Formatter, Write};
+
 /// Why no disk was made. The cases are tested in this order.
 #[derive(Clone, Copy, Debug, PartialEq, Eq)]
 pub enum DiskFault {
@@ -8,3 +13,26 @@ pub enum DiskFault {
     /// Room for the image or the journal was refused.
     OutOfMemory,
 }
+
+impl From<DiskFault> for Refusal {
+    ghost use Rattle.std.specs.Prelude.{◌≡◌};
+    ghost use Rattle.ncq_core.specs.Refusals.{of_disk};
+
+    ghost from_gives = { λ fault refusal. refusal ≡ of_disk fault };
+
+    fn from(fault: DiskFault) -> Refusal {
+        match fault {
+            DiskFault::BadSize => Refusal::BadSize,
+            DiskFault::BadDepth => Refusal::BadDepth,
+            DiskFault::OutOfMemory => Refusal::OutOfMemory,
+        }
+    }
+}
+
+impl Display for DiskFault {
+    fn fmt<W: Write>(&self, f: &mut Formatter<W>) -> Result<(), fmt::Error> {
+        Refusal::from(*self).fmt(f)
+    }
+}
+
+impl Error for DiskFault {}

@@ -1,5 +1,5 @@
 -- What a queued command asks of the disk (ACS-3, READ FPDMA QUEUED and WRITE FPDMA QUEUED), without the code's buffers.
-use Rattle.std.specs.Prelude.{ℕ, ◌/◌, List, length}
+use Rattle.std.specs.Prelude.{ℕ, ◌/◌, ◌%◌, Bool, false, not, nat_eq, List, length}
 use Rattle.ncq_journal.specs.declared.op.Op.{Op}
 use Rattle.ncq_journal.specs.declared.op.Op.TheVariants as code
 
@@ -22,3 +22,8 @@ lba_of (Write lba bytes) = lba
 abbrev pub sectors_of : Work → ℕ
 sectors_of (Read lba sectors) = sectors
 sectors_of (Write lba bytes) = length bytes / 512
+
+-- the bytes of a write aren't whole sectors of 512 bytes
+abbrev pub is_ragged : Work → Bool
+is_ragged (Read lba sectors) = false
+is_ragged (Write lba bytes) = not (nat_eq (length bytes % 512) 0)

@@ -1,5 +1,5 @@
 ghost use Rattle.std.specs.Prelude.{◌≡◌};
-ghost use Rattle.ncq_journal.specs.{Image.{is_write}, Work.{work_of, lba_of, sectors_of}};
+ghost use Rattle.ncq_journal.specs.{Image.{is_write}, Work.{work_of, is_ragged, lba_of, sectors_of}};
 
 use crate::bytes::Bytes;
 use std::alloc::{Allocator, Global};
@@ -38,5 +38,15 @@ impl<A: Allocator> Op<A> {
         ensures { result ≡ is_write (work_of self.now) }
     {
         matches!(self, Op::Write { .. })
+    }
+
+    /// Whether it is a write whose bytes aren't whole sectors.
+    pub fn is_ragged(&self) -> bool
+        ensures { result ≡ is_ragged (work_of self.now) }
+    {
+        match self {
+            Op::Read { .. } => false,
+            Op::Write { bytes, .. } => bytes.as_slice().len() % 512 != 0,
+        }
     }
 }

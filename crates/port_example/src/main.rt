@@ -1,16 +1,12 @@
 //! The port as a library: three commands in its queue, an error in the middle one, what the registers say, and the way out.
 #![tactic(auto)]
 
-ghost use Rattle.std.specs.Prelude.{◌≡◌, ◌<◌, Ok, IfOk};
+ghost use Rattle.std.specs.Prelude.{◌<◌};
 ghost use Rattle.ahci_port.specs.Headline.{Headline};
 
-use ahci_port::{DeviceStep, Outcome, Port, Stepped};
-use ahci_table::{Window, default_pieces};
-use anyhow::anyhow;
+use ahci_port::{Bytes, DeviceStep, Op, Outcome, Port, Stepped};
 use arrayvec::ArrayVec;
-use ncq_core::{Bytes, Op};
 use std::alloc::Global;
-use std::fmt::Debug;
 
 /// The registers that a driver looks at after an interrupt (AHCI 1.3.1, section 3.3 "Port Registers").
 const PX_IS: u32 = 0x110;
@@ -27,7 +23,7 @@ const UNCORRECTABLE: u8 = 0x40;
 fn main(rt: HostRuntime) -> anyhow::Result<()> {
     let alloc = rt.alloc();
     let image = filled(alloc, 1000, 0)?;
-    let mut port = taken(Port::new(alloc, image, 32))?;
+    let mut port = Port::new(alloc, image, 32)?;
     let numbers = fail(&rt, &mut port)?;
     recover(&rt, &mut port, numbers[1])?;
     finish(&rt, &mut port, numbers)?;
@@ -47,17 +43,17 @@ fn main(rt: HostRuntime) -> anyhow::Result<()> {
 /// Three commands are in the queue when the second fails. The answer is their requests' numbers.
 fn fail(rt: &HostRuntime, port: &mut Port) -> anyhow::Result<[u64; 3]> {
     let alloc = rt.alloc();
-    let first = issue(alloc, port, 0, &Op::Read { lba: 0, sectors: 1 })?;
-    let second = issue(alloc, port, 1, &Op::Read { lba: 7, sectors: 1 })?;
+    let first = submit(port, 0, Op::Read { lba: 0, sectors: 1 })?;
+    let second = submit(port, 1, Op::Read { lba: 7, sectors: 1 })?;
     let bytes = Bytes::from_vec(filled(alloc, 1, 0x5A)?);
-    let third = issue(alloc, port, 2, &Op::Write { lba: 9, bytes })?;
+    let third = submit(port, 2, Op::Write { lba: 9, bytes })?;
     println!(rt; "requests {first}, {second} and {third} are issued")?;
     accept(port)?;
-    taken(port.step(DeviceStep::Fail {
+    port.step(DeviceStep::Fail {
         tag: 1,
         error: UNCORRECTABLE,
         at: 7,
-    }))?;
+    })?;
     println!(rt; "the second has failed")?;
     show(rt, port)?;
     Ok([first, second, third])
@@ -65,7 +61,7 @@ fn fail(rt: &HostRuntime, port: &mut Port) -> anyhow::Result<[u64; 3]> {
 
 /// The port recovers, and the failed request is answered.
 fn recover(rt: &HostRuntime, port: &mut Port, failed: u64) -> anyhow::Result<()> {
-    let tag = taken(port.recover())?;
+    let tag = port.recover()?;
     println!(rt; "recovered: tag {tag} had failed")?;
     show(rt, port)?;
     collect(rt, port, tag, failed)
@@ -74,14 +70,14 @@ fn recover(rt: &HostRuntime, port: &mut Port, failed: u64) -> anyhow::Result<()>
 /// The commands that the error ended are issued again, and end well: the device serves tag 2, then tag 0, and completes both
 /// by one Set Device Bits FIS.
 fn finish(rt: &HostRuntime, port: &mut Port, numbers: [u64; 3]) -> anyhow::Result<()> {
-    taken(port.reissue(0))?;
-    taken(port.reissue(2))?;
+    port.reissue(0)?;
+    port.reissue(2)?;
     println!(rt; "the others are issued again")?;
     accept(port)?;
     let mut tags = ArrayVec::new();
     tags.push(2);
     tags.push(0);
-    if let Stepped::Completed { first, count } = taken(port.step(DeviceStep::Serve(tags)))? {
+    if let Stepped::Completed { first, count } = port.step(DeviceStep::Serve(tags))? {
         println!(rt; "one FIS completes {count} commands, from entry {first} on")?;
     }
     show(rt, port)?;
@@ -105,30 +101,17 @@ fn filled(alloc: Global, sectors: usize, byte: u8) -> anyhow::Result<Vec<u8>>
     Ok(image)
 }
 
-/// What a call answers. None of this story's is refused but by want of memory.
-fn taken<T: Drop, E: Debug + Drop>(answer: Result<T, E>) -> anyhow::Result<T>
-    ensures { IfOk result (λ value. answer ≡ Ok value) }
-{
-    answer.map_err(|fault| anyhow!("{fault:?}"))
-}
-
-/// Builds a command's window and issues it. The answer is the request's number.
-fn issue(alloc: Global, port: &mut Port, tag: u8, op: &Op) -> anyhow::Result<u64>
-    requires { tag < 32 }
-{
-    let window = taken(Window::build(alloc, tag, op, &default_pieces(1)))?;
-    match port.issue(window) {
-        Ok(number) => Ok(number),
-        Err((_, fault)) => Err(anyhow!("{fault:?}")),
-    }
+/// Submits a command. The answer is the request's number.
+fn submit(port: &mut Port, tag: u8, op: Op) -> anyhow::Result<u64> {
+    Ok(port.submit(tag, op).map_err(|(_op, fault)| fault)?)
 }
 
 /// The device accepts every command that waits for it: tags with a bit in PxCI.
 fn accept(port: &mut Port) -> anyhow::Result<()> {
-    let waiting = taken(port.register(PX_CI))?;
+    let waiting = port.register(PX_CI)?;
     for tag in 0..32u8 {
         if waiting >> tag & 1 == 1 {
-            taken(port.step(DeviceStep::Accept(tag)))?;
+            port.step(DeviceStep::Accept(tag))?;
         }
     }
     Ok(())
@@ -136,10 +119,10 @@ fn accept(port: &mut Port) -> anyhow::Result<()> {
 
 /// Prints what a driver sees.
 fn show(rt: &HostRuntime, port: &Port) -> anyhow::Result<()> {
-    let status = taken(port.register(PX_TFD))?;
-    let outstanding = taken(port.register(PX_SACT))?;
-    let waiting = taken(port.register(PX_CI))?;
-    let interrupts = taken(port.register(PX_IS))?;
+    let status = port.register(PX_TFD)?;
+    let outstanding = port.register(PX_SACT)?;
+    let waiting = port.register(PX_CI)?;
+    let interrupts = port.register(PX_IS)?;
     println!(rt;
         "  PxTFD {status:08x}, PxSACT {outstanding:08x}, PxCI {waiting:08x}, PxIS {interrupts:08x}"
     )?;
@@ -148,7 +131,7 @@ fn show(rt: &HostRuntime, port: &Port) -> anyhow::Result<()> {
 
 /// Takes a request's answer and prints it.
 fn collect(rt: &HostRuntime, port: &mut Port, tag: u8, number: u64) -> anyhow::Result<()> {
-    let (reply, window) = taken(port.collect(tag, number))?;
+    let (reply, window) = port.collect(tag, number)?;
     match reply.outcome {
         Outcome::Read => {
             let text = window.text(rt.alloc())?;

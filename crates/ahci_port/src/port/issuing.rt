@@ -67,7 +67,7 @@ impl<A: Allocator> Port<A> {
         }
     }
 
-    /// The command of a window that nothing stands against. This and `enter` stand inline in both calls, so that the command with its
+    /// The command of a window that nothing stands against. This and `enter` are inline in each call, so that the command with its
     /// list of pieces is not moved.
     #[inline(always)]
     fn command_of(&self, window: &Window<A>) -> Result<Command, IssueFault>
@@ -107,7 +107,7 @@ impl<A: Allocator + Clone> Port<A> {
             Err(fault) => return Err((window, fault)),
         };
         match op_of(&self.alloc, &window, &command.queued, &command.pieces) {
-            Ok(op) => self.enter(window, command, op),
+            Ok(op) => self.entered(window, command, op),
             Err(_) => Err((window, IssueFault::OutOfMemory)),
         }
     }
@@ -130,14 +130,14 @@ impl<A: Allocator + Clone> Port<A> {
         ensures err { IfErr result (λ e. (e.0 ≡ window) × (self.new ≡ self.old)) }
     {
         match self.command_of(&window) {
-            Ok(command) => self.enter(window, command, asked),
+            Ok(command) => self.entered(window, command, asked),
             Err(fault) => Err((window, fault)),
         }
     }
 
-    /// Issues a command that nothing stands against: its window goes into the slot, and what it asks into the journal.
+    /// Issues a command that nothing stands against, as `enter` does; where memory is refused, its window comes back.
     #[inline(always)]
-    fn enter(
+    fn entered(
         &mut self,
         window: Window<A>,
         command: Command,
@@ -153,9 +153,35 @@ impl<A: Allocator + Clone> Port<A> {
         ensures fault { IfErr result (λ e. e.1 ≡ IssueFault.OutOfMemory) }
         ensures err { IfErr result (λ e. (e.0 ≡ window) × (self.new ≡ self.old)) }
     {
+        match self.enter(window, command, asked) {
+            Ok(number) => Ok(number),
+            Err((window, _asked)) => Err((window, IssueFault::OutOfMemory)),
+        }
+    }
+
+    /// Issues a command that nothing stands against: its window goes into the slot, and what it asks into the journal.
+    ///
+    /// # Errors
+    /// Window and command come back where room for the request's entries was refused.
+    #[inline(always)]
+    pub(super) fn enter(
+        &mut self,
+        window: Window<A>,
+        command: Command,
+        asked: Op<A>,
+    ) -> Result<u64, (Window<A>, Op<A>)>
+        requires taken { MayTake self.old window.tag }
+        requires fit { IsFit window }
+        requires queued { command.queued ≡ queued_of window }
+        requires pieces { command.pieces.items ≡ pieces window }
+        requires asked { work_of asked ≡ op window }
+        ensures number { IfOk result (λ n. n ≡ next_number self.old) }
+        ensures issued { OnOk result (IsIssued window self.old self.new) }
+        ensures err { IfErr result (λ e. (e.0 ≡ window) × (e.1 ≡ asked) × (self.new ≡ self.old)) }
+    {
         let tag = window.tag();
         let Ok(()) = self.journal.reserve(ROOM) else {
-            return Err((window, IssueFault::OutOfMemory));
+            return Err((window, asked));
         };
         let place = self.journal.len();
         let number = self.journal.end();

@@ -5,30 +5,30 @@ use super::item::Item;
 use super::member::Member;
 use super::tokens::Tokens;
 use super::value::Value;
-use crate::appended::{Appended, Happened};
+use crate::appended::Appended;
 use crate::kinds::kind_name;
 use json::Token;
-use ncq_journal::Plain;
+use ncq_journal::{EventKind, Plain};
 use std::alloc::{AllocError, Allocator};
 
 /// The kind of an entry, in one word.
-fn kind_word(what: Happened) -> &'static str
+fn kind_word(what: EventKind) -> &'static str
     ensures { result.now ≡ kind_word what }
 {
     match what {
-        Happened::Plain(Plain::ReadLog) => "read_log",
+        EventKind::Plain(Plain::ReadLog) => "read_log",
         _ => kind_name(what),
     }
 }
 
 /// What an entry says.
-impl Item for Happened {
+impl Item for EventKind {
     ghost value = { what_members };
 
     #[tactic(auto, unfolding(crate::specs::Json::what_members))]
     fn put<A: Allocator + Copy>(&self, tokens: &mut Tokens<A>) -> Result<(), AllocError> {
         match *self {
-            Happened::Issue {
+            EventKind::Issue {
                 tag,
                 write,
                 lba,
@@ -39,17 +39,17 @@ impl Item for Happened {
                 Member("lba", Value::Number(lba)),
                 Member("sectors", Value::Number(sectors)),
             ]),
-            Happened::Accept(tag)
-            | Happened::Complete(tag)
-            | Happened::Recover(tag)
-            | Happened::Reissue(tag)
-            | Happened::Collect(tag) => Member("tag", Value::Number(tag as u64)).put(tokens),
-            Happened::Fail { tag, error, lba } => tokens.put_each(&[
+            EventKind::Accept(tag)
+            | EventKind::Complete(tag)
+            | EventKind::Recover(tag)
+            | EventKind::Reissue(tag)
+            | EventKind::Collect(tag) => Member("tag", Value::Number(tag as u64)).put(tokens),
+            EventKind::Fail { tag, error, lba } => tokens.put_each(&[
                 Member("tag", Value::Number(tag as u64)),
                 Member("error", Value::Byte(error)),
                 Member("lba", Value::Number(lba)),
             ]),
-            Happened::Plain(_) => Ok(()),
+            EventKind::Plain(_) => Ok(()),
         }
     }
 }

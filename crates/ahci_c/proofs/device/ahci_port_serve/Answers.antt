@@ -1,5 +1,5 @@
 use Rattle.std.proofs.Common.{Some, ap, sym, ◌∙◌}
-use Rattle.port_place.proofs.OverLemmas.{some_changes}
+use Rattle.ahci_ffi.proofs.OverLemmas.{some_changes}
 use Rattle.ahci_c.proofs.device.ahci_port_serve.Goals as goal
 
 pub returns : goal.returns

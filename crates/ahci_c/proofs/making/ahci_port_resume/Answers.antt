@@ -1,5 +1,5 @@
 use Rattle.std.proofs.Common.{sym, ◌∙◌}
-use Rattle.port_place.proofs.OverLemmas.{filled}
+use Rattle.ahci_ffi.proofs.OverLemmas.{filled}
 use Rattle.ahci_c.proofs.MakingLemmas.{is_empty}
 use Rattle.ahci_c.proofs.making.ahci_port_resume.Goals as goal
 

@@ -4,15 +4,15 @@ use Rattle.ahci_port.specs.Slots.{bytes_in}
 use Rattle.ahci_script.specs.Said.{said}
 use Rattle.ahci_script.specs.declared.line.ScriptCommand.TheVariants.{Collect}
 use Rattle.ahci_replay.specs.Commands.{RunsOn, outcome_said}
-use Rattle.ahci_replay.specs.Refusals.{of_collect}
+use Rattle.ahci_port.specs.Refusals.{of_collect}
 use Rattle.ahci_replay.proofs.SessionLemmas.{collects, if_ok_from, on_err, refused}
 use Rattle.ahci_replay.proofs.running.collect.Goals as goal
 
 pub returns-in-Err-clause-ok : goal.returns-in-Err-clause-ok
 returns-in-Err-clause-ok g c =
     let a = c.args in
-    refused _ c.in-Err.fault (collect_refusal a.port.now a.tag a.number) of_collect c.collect_refusal.result a.port.now
-    c.collect.new.self _ c.in-Err.ensures.fault c.collect_refusal.ensures c.in-Err.ensures.err
+    refused _ c.in-Err.fault (collect_refusal a.port.now a.tag a.number) of_collect c.into.result a.port.now
+    c.collect.new.self _ c.in-Err.ensures.fault c.into.ensures c.in-Err.ensures.err
 
 pub returns-in-Ok-clause-ok : goal.returns-in-Ok-clause-ok
 returns-in-Ok-clause-ok g c =

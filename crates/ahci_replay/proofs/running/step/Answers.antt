@@ -1,7 +1,7 @@
 use Rattle.ahci_port.specs.Faults.{step_refusal}
 use Rattle.ahci_script.specs.Said.{said}
 use Rattle.ahci_replay.specs.Commands.{HasStepped}
-use Rattle.ahci_replay.specs.Refusals.{of_step}
+use Rattle.ahci_port.specs.Refusals.{of_step}
 use Rattle.ahci_replay.proofs.SessionLemmas.{carried_out}
 use Rattle.ahci_replay.proofs.running.step.Goals as goal
 

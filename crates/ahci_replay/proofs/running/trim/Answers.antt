@@ -1,6 +1,6 @@
 use Rattle.ahci_port.specs.Faults.{trim_refusal}
 use Rattle.ahci_script.specs.Said as says
-use Rattle.ahci_replay.specs.Refusals.{of_trim}
+use Rattle.ahci_port.specs.Refusals.{of_trim}
 use Rattle.std.proofs.Common.{ap, ◌∙◌, length}
 use Rattle.ahci_replay.proofs.SessionLemmas.{carried_out, refused}
 use Rattle.ahci_replay.proofs.running.trim.Goals as goal
@@ -14,5 +14,5 @@ returns-in-Ok g c =
 pub returns-in-Err : goal.returns-in-Err
 returns-in-Err g c =
     let a = c.args in
-    refused _ c.in-Err.fault (trim_refusal a.port.now) of_trim c.trim_refusal.result a.port.now
-    c.trim.new.self _ c.in-Err.ensures.fault c.trim_refusal.ensures c.in-Err.ensures.err
+    refused _ c.in-Err.fault (trim_refusal a.port.now) of_trim c.into.result a.port.now
+    c.trim.new.self _ c.in-Err.ensures.fault c.into.ensures c.in-Err.ensures.err

@@ -1,0 +1,122 @@
+ghost use Rattle.std.specs.Prelude.{◌≡◌, ◌<◌, None, IfOk, IfErr, OnOk, OnErr};
+ghost use Rattle.ncq_journal.specs.Work.{work_of, sectors_of};
+ghost use Rattle.ahci_table.specs.{Build.{Carries}, Command.{op}, Defaults.{default_list}, Fit.{IsFit}};
+ghost use Rattle.ahci_port.specs.{Faults.{RefusesIssue}, PortView.{next_number}, Steps.{IsIssued}};
+ghost use Rattle.ahci_driver.specs.Submitting.{IsNotBuilt, buffer_for, default_refusal};
+
+use crate::ticket::Ticket;
+use ahci_port::{IssueFault, Port};
+use ahci_table::{BuildFault, Piece, Window, default_pieces};
+use arrayvec::ArrayVec;
+use ncq_core::SECTOR;
+use ncq_journal::{Bytes, Op};
+use std::alloc::{AllocError, Allocator};
+
+/// A command that is ready to be issued: its window, what the journal keeps of it, and the buffer for its answer. All of it is
+/// made before the port's lock is taken.
+#[derive(Drop)]
+pub(crate) struct Ready<A: Allocator> {
+    window: Window<A>,
+    asked: Op<A>,
+    buffer: Vec<u8, A>,
+}
+
+impl<A: Allocator + Clone> Ready<A> {
+    /// A command, in a window over the default pieces.
+    ///
+    /// # Errors
+    /// Those of `Window::build`; also `OutOfMemory` where memory for the buffer or the copy was refused.
+    pub(crate) fn new(alloc: A, tag: u8, op: &Op<A>) -> Result<Self, BuildFault>
+        requires { tag < 32 }
+        ensures carries { IfOk result (λ r. Carries tag (work_of op.now) (default_list (sectors_of (work_of op.now))) r.window) }
+        ensures fit { IfOk result (λ r. IsFit r.window) }
+        ensures asked { IfOk result (λ r. work_of r.asked ≡ work_of op.now) }
+        ensures buffer { IfOk result (λ r. r.buffer.items ≡ buffer_for (work_of op.now)) }
+        ensures built { OnOk result (default_refusal (work_of op.now) ≡ None) }
+        ensures fault { IfErr result (IsNotBuilt (work_of op.now)) }
+    {
+        let (spare, other): (Result<A, AllocError>, Result<A, AllocError>) = (
+            alloc.clone(),
+            alloc.clone(),
+        );
+        let window = Window::build(alloc, tag, op, &pieces_for(op))?;
+        let (Ok(spare), Ok(other)) = (spare, other) else {
+            return Err(BuildFault::OutOfMemory);
+        };
+        let Ok(buffer) = buffer_for(spare, op) else {
+            return Err(BuildFault::OutOfMemory);
+        };
+        match copied(other, op) {
+            Ok(asked) => Ok(Ready {
+                window,
+                asked,
+                buffer,
+            }),
+            Err(_) => Err(BuildFault::OutOfMemory),
+        }
+    }
+
+    /// Issues the command, on a port whose lock is held. What is asked goes into the journal as it is.
+    ///
+    /// # Errors
+    /// Those of `Port::issue_asked`.
+    pub(crate) fn submit_locked(self, port: &mut Port<A>) -> Result<Ticket<A>, IssueFault>
+        requires { work_of self.asked ≡ op self.window }
+        ensures ticket { IfOk result (λ t. t ≡ record { tag = self.window.tag; number = next_number port.old; buffer = self.buffer.items }) }
+        ensures issued { OnOk result (IsIssued self.window port.old port.new) }
+        ensures fault { IfErr result (RefusesIssue port.old self.window) }
+        ensures err { OnErr result (port.new ≡ port.old) }
+    {
+        let Ready {
+            window,
+            asked,
+            buffer,
+        } = self;
+        let tag = window.tag();
+        match port.issue_asked(window, asked) {
+            Ok(number) => Ok(Ticket {
+                tag,
+                number,
+                buffer,
+            }),
+            Err((_window, fault)) => Err(fault),
+        }
+    }
+}
+
+/// The default pieces of a command. A count that 32 bits don't hold has none, and neither has the largest that they hold.
+#[tactic(auto, using(crate::proofs::SubmittingLemmas::capped))]
+fn pieces_for<A: Allocator>(op: &Op<A>) -> ArrayVec<Piece, 32>
+    ensures { result.items ≡ default_list (sectors_of (work_of op.now)) }
+{
+    default_pieces(op.sectors().min(u64::from(u32::MAX)) as u32)
+}
+
+/// A copy of a command.
+fn copied<A: Allocator>(alloc: A, op: &Op<A>) -> Result<Op<A>, AllocError>
+    ensures { IfOk result (λ copy. work_of copy ≡ work_of op.now) }
+{
+    match op {
+        Op::Read { lba, sectors } => Ok(Op::Read {
+            lba: *lba,
+            sectors: *sectors,
+        }),
+        Op::Write { lba, bytes } => {
+            let bytes = Vec::from_slice(alloc, bytes.as_slice())?;
+            Ok(Op::Write {
+                lba: *lba,
+                bytes: Bytes::from_vec(bytes),
+            })
+        }
+    }
+}
+
+/// As many zeros as a command reads bytes.
+fn buffer_for<A: Allocator>(alloc: A, op: &Op<A>) -> Result<Vec<u8, A>, AllocError>
+    ensures { IfOk result (λ v. v.items ≡ buffer_for (work_of op.now)) }
+{
+    match op {
+        Op::Read { sectors, .. } => Vec::from_elem(alloc, 0, *sectors as usize * SECTOR),
+        Op::Write { .. } => Ok(Vec::new(alloc)),
+    }
+}

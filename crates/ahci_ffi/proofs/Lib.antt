@@ -1,0 +1,6 @@
+pub mod ArgumentLemmas
+pub mod CollectingLemmas
+pub mod EntryLemmas
+pub mod IssuingLemmas
+pub mod OverLemmas
+pub mod Walks

@@ -1,0 +1,43 @@
+-- A journal given as structs: which events may follow which, with no port (AHCI 1.3.1, "Native Command Queuing" and section 6.2.2).
+use Rattle.std.specs.Prelude.{◌≡◌, ℕ, ◌<◌, ◌==◌, nat_le, nat_lt, List, if◌then◌else◌}
+use Rattle.ncq_journal.specs.EventKind.{IsFirstUnlawful, journal_of}
+use Rattle.ncq_journal.specs.Lawful.{IsLawful}
+use Rattle.ncq_journal.specs.declared.event_kind.EventKind.{EventKind}
+use Rattle.ncq_journal.specs.declared.event_kind.EventKind.TheVariants as kind
+use Rattle.ncq_journal.specs.declared.plain.Plain.TheVariants.{Identify, Flush, ReadLog}
+use Rattle.ahci_ffi.specs.Alone.{depth_refusal}
+use Rattle.ahci_ffi.specs.Asked.{AnswersUnless}
+use Rattle.ahci_ffi.specs.declared.flat.FlatEntry.{FlatEntry}
+use Rattle.ahci_ffi.specs.declared.status.Status.{Status}
+use Rattle.ahci_ffi.specs.declared.status.Status.TheVariants as status
+
+-- what names no event is as an event that no journal has
+abbrev pub nameless : EventKind
+nameless = kind.Plain ReadLog
+
+-- the event of each kind that names a tag. An error is one byte
+abbrev pub tagged : FlatEntry → (tag : ℕ) → EventKind
+tagged e tag =
+    if nat_le e.kind 1 then kind.Issue tag (e.kind == 1) e.lba e.sectors
+    else (if e.kind == 2 then kind.Accept tag
+    else (if e.kind == 3 then kind.Complete tag
+    else (if e.kind == 4 then (if nat_lt e.error 256 then kind.Fail tag e.error e.lba else nameless)
+    else (if e.kind == 5 then kind.Recover tag
+    else (if e.kind == 6 then kind.Reissue tag
+    else (if e.kind == 7 then kind.Collect tag else nameless))))))
+
+-- the event that a struct names, with a tag below 32 where its kind has one
+abbrev pub kind_named : FlatEntry → EventKind
+kind_named e =
+    if e.kind == 8 then kind.Plain Identify
+    else (if e.kind == 9 then kind.Plain Flush
+    else (if nat_lt e.tag 32 then tagged e e.tag else nameless))
+
+-- events were looked at: all are lawful; or the place of the first that can't come where it is
+pub data AnswersEvents (s d : ℕ) (events : List FlatEntry) (answer : Status) (before after : ℕ) : Type 0 where
+  is_lawful : answer ≡ status.Done → IsLawful s d (journal_of kind_named events) → after ≡ before → AnswersEvents s d events answer before after
+  is_bad : answer ≡ status.NotAllowed → IsFirstUnlawful kind_named s d events after → AnswersEvents s d events answer before after
+
+-- the depth is looked at first
+abbrev pub AnswersJournal : (s d : ℕ) → List FlatEntry → Status → (before after : ℕ) → Type 0
+AnswersJournal s d events answer before after = AnswersUnless (depth_refusal d) answer (AnswersEvents s d events answer before after) (after ≡ before)

@@ -1,0 +1,16 @@
+pub mod Alone
+pub mod Asked
+pub mod Done
+pub mod Fises
+pub mod Flat
+pub mod Held
+pub mod Judging
+pub mod Making
+pub mod Names
+pub mod Over
+pub mod PlaceView
+pub mod Refusals
+pub mod Seen
+pub mod Status
+pub mod Told
+pub mod Writing

@@ -1,0 +1,112 @@
+//! How software issues a command: by a window as it lies in memory, or by one that is laid out here.
+
+ghost use Rattle.std.specs.Prelude.{◌≡◌, ◌≤◌, length, IfOk};
+ghost use Rattle.ncq_journal.specs.Work.{work_of};
+ghost use Rattle.ahci_ffi.specs.{Asked.{AnswersIssue, HasSubmitted, kind_refusal, submit_refused, work_asked}, Done.{AnswersWindow, Same}, Told.{ToldOr}};
+
+use crate::status::Status;
+use crate::windows::window_of;
+use ahci_port::Port;
+use ahci_table::Window;
+use ncq_core::SECTOR;
+use ncq_journal::{Bytes, Op};
+use port_refusal::Refusal;
+use std::alloc::{AllocError, Allocator};
+
+/// Issues the command of a window: its header, and the memory from the tag's base on. `number` is the request's then.
+pub fn issue<A: Allocator + Copy>(
+    port: &mut Port<A>,
+    alloc: A,
+    tag: u32,
+    header: &[u8],
+    memory: &[u8],
+    number: &mut u64,
+) -> Status
+    ensures { AnswersIssue tag header.now memory.now result port.old port.new number.old number.new }
+{
+    match window_of(alloc, tag, header, memory) {
+        Ok(window) => hand_in(port, window, number),
+        Err(refusal) => refusal,
+    }
+}
+
+/// Issues a read or a write of whole sectors, in a window over the default pieces. `number` is the request's then. All that can be
+/// wrong is looked at before memory is asked for.
+pub fn submit<A: Allocator + Copy>(
+    port: &mut Port<A>,
+    alloc: A,
+    tag: u32,
+    kind: u32,
+    lba: u64,
+    sectors: u32,
+    payload: &[u8],
+    number: &mut u64,
+) -> Status
+    ensures { ToldOr result (submit_refused port.old tag kind lba sectors (length payload.now))
+        (HasSubmitted tag kind lba sectors payload.now port.old port.new number.new) (Same port.old port.new number.old number.new) }
+{
+    if tag >= 32 {
+        return Status::BadTag;
+    }
+    if let Some(refusal) = kind_refusal(kind, sectors, payload) {
+        return refusal;
+    }
+    let tag = tag as u8;
+    if let Some(fault) = port.submit_fault(tag, lba, u64::from(sectors)) {
+        return Status::Refused(fault.into());
+    }
+    let Ok(op) = asked(alloc, kind, lba, sectors, payload) else {
+        return Status::Refused(Refusal::OutOfMemory);
+    };
+    match port.submit_tested(tag, op) {
+        Ok(issued) => {
+            *number = issued;
+            Status::Done
+        }
+        Err(_op) => Status::Refused(Refusal::OutOfMemory),
+    }
+}
+
+/// Why no command is made of these arguments.
+fn kind_refusal(kind: u32, sectors: u32, payload: &[u8]) -> Option<Status>
+    ensures { result ≡ kind_refusal kind sectors (length payload.now) }
+{
+    if kind > 1 {
+        return Some(Status::BadKind);
+    }
+    if kind == 1 && payload.len() != SECTOR * sectors as usize {
+        return Some(Status::Refused(Refusal::BadCount));
+    }
+    None
+}
+
+/// The command: 0 reads, 1 writes.
+fn asked<A: Allocator>(
+    alloc: A,
+    kind: u32,
+    lba: u64,
+    sectors: u32,
+    payload: &[u8],
+) -> Result<Op<A>, AllocError>
+    requires { kind ≤ 1 }
+    ensures { IfOk result (λ o. work_of o ≡ work_asked kind lba sectors payload.now) }
+{
+    if kind == 0 {
+        return Ok(Op::Read { lba, sectors });
+    }
+    let bytes = Bytes::from_vec(Vec::from_slice(alloc, payload)?);
+    Ok(Op::Write { lba, bytes })
+}
+
+/// Hands a window to the port.
+fn hand_in<A: Allocator + Copy>(port: &mut Port<A>, window: Window<A>, number: &mut u64) -> Status
+    ensures { AnswersWindow window result port.old port.new number.old number.new }
+{
+    match port.issue(window) {
+        Ok(issued) => {
+            *number = issued;
+            Status::Done
+        }
+        Err((_window, fault)) => Status::Refused(fault.into()),
+    }
+}

@@ -1,0 +1,86 @@
+//! How software recovers, issues held commands again, and sends commands that are not queued.
+
+ghost use Rattle.std.specs.Prelude.{◌≡◌, length};
+ghost use Rattle.ahci_port.specs.{PortView.{sectors_in}, Registers.{acknowledged}, Steps.{IsFlushed, IsIdentified, IsReissued, trimmed}};
+ghost use Rattle.ncq_core.specs.Identify.{identify_page};
+ghost use Rattle.ahci_ffi.specs.{Done.{HasRecovered, Same}, Refusals.{flush_refusal, identify_refusal, recover_refused, reissue_refused, trim_refused}, Told.{Told, ToldOr}};
+
+use crate::status::Status;
+use ahci_port::Port;
+use std::alloc::Allocator;
+
+/// Recovers from a failure: `tag` is the one whose command had failed then.
+pub fn recover<A: Allocator>(port: &mut Port<A>, tag: &mut u32) -> Status
+    ensures { ToldOr result (recover_refused port.old) (HasRecovered port.old port.new tag.new) (Same port.old port.new tag.old tag.new) }
+{
+    match port.recover() {
+        Ok(failed) => {
+            *tag = u32::from(failed);
+            Status::Done
+        }
+        Err(fault) => Status::Refused(fault.into()),
+    }
+}
+
+/// Issues a held command again.
+pub fn reissue<A: Allocator>(port: &mut Port<A>, tag: u32) -> Status
+    ensures { Told result (reissue_refused port.old tag) (IsReissued tag port.old port.new) (port.new ≡ port.old) }
+{
+    if tag >= 32 {
+        return Status::BadTag;
+    }
+    match port.reissue(tag as u8) {
+        Ok(()) => Status::Done,
+        Err(fault) => Status::Refused(fault.into()),
+    }
+}
+
+/// Sends IDENTIFY DEVICE, and copies its page.
+pub fn identify<A: Allocator>(port: &mut Port<A>, out: &mut [u8]) -> Status
+    ensures { ToldOr result (identify_refusal port.old (length out.old))
+        (IsIdentified port.old port.new × (out.new ≡ identify_page (sectors_in port.old) port.old.depth)) (Same port.old port.new out.old out.new) }
+{
+    if out.len() != 512 {
+        return Status::WrongLength;
+    }
+    match port.identify() {
+        Ok(page) => {
+            out.copy_from_slice(&page);
+            Status::Done
+        }
+        Err(fault) => Status::Refused(fault.into()),
+    }
+}
+
+/// Sends FLUSH CACHE EXT.
+pub fn flush<A: Allocator>(port: &mut Port<A>) -> Status
+    ensures { ToldOr result (flush_refusal port.old) (IsFlushed port.old port.new) (port.new ≡ port.old) }
+{
+    match port.flush() {
+        Ok(()) => Status::Done,
+        Err(fault) => Status::Refused(fault.into()),
+    }
+}
+
+/// Software acknowledges interrupts.
+pub fn acknowledge<A: Allocator>(port: &mut Port<A>, mask: u32) -> Status
+    ensures done { result ≡ Status.Done }
+    ensures port { port.new ≡ record port.old { registers = acknowledged port.old.registers mask } }
+{
+    port.acknowledge(mask);
+    Status::Done
+}
+
+/// Throws the journal away, with its memory: `entries` is how many it had.
+pub fn trim<A: Allocator + Copy>(port: &mut Port<A>, entries: &mut u64) -> Status
+    ensures { Told result (trim_refused port.old) ((port.new ≡ trimmed port.old) × (entries.new ≡ length port.old.past))
+        (Same port.old port.new entries.old entries.new) }
+{
+    match port.trim() {
+        Ok(journal) => {
+            *entries = journal.len();
+            Status::Done
+        }
+        Err(fault) => Status::Refused(fault.into()),
+    }
+}

@@ -1,6 +1,0 @@
-use Rattle.std.proofs.Common.{refl}
-use Rattle.port_place.specs.Done.{is_refused}
-use Rattle.port_place.proofs.issuing.hand_in.Goals as goal
-
-pub returns-in-Err : goal.returns-in-Err
-returns-in-Err g c = is_refused c.in-Err.fault c.issue_status.ensures c.in-Err.ensures.fault c.in-Err.ensures.err.1 refl

@@ -1,9 +1,0 @@
-use Rattle.std.proofs.Common.{refl}
-use Rattle.port_place.specs.Writing.{is_refused, is_taken}
-use Rattle.port_place.proofs.writing.write_word.Goals as goal
-
-pub returns-in-Ok : goal.returns-in-Ok
-returns-in-Ok g c = is_taken c.in-Ok.did refl c.in-Ok.ensures.ok c.flat_written.ensures
-
-pub returns-in-Err : goal.returns-in-Err
-returns-in-Err g c = is_refused c.in-Err.fault c.write_status.ensures c.in-Err.ensures.fault c.in-Err.ensures.err c.flat_refused.ensures

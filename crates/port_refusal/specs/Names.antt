@@ -1,0 +1,37 @@
+-- The names of refusals, as a script's answer and C's status show them.
+use Rattle.std.specs.Prelude.{ℕ, List, codes}
+use Rattle.port_refusal.specs.declared.refusal.Refusal.{Refusal}
+use Rattle.port_refusal.specs.declared.refusal.Refusal.TheVariants as refusal
+
+abbrev pub name_of : Refusal → List ℕ
+name_of refusal.BadSize = codes "BadSize"
+name_of refusal.BadDepth = codes "BadDepth"
+name_of refusal.BadFirst = codes "BadFirst"
+name_of refusal.BadCount = codes "BadCount"
+name_of refusal.BadLba = codes "BadLba"
+name_of refusal.NoSuchTag = codes "NoSuchTag"
+name_of refusal.SlotOwned = codes "SlotOwned"
+name_of refusal.BadHeader = codes "BadHeader"
+name_of refusal.BadCommand = codes "BadCommand"
+name_of refusal.WrongTag = codes "WrongTag"
+name_of refusal.BadList = codes "BadList"
+name_of refusal.Halted = codes "Halted"
+name_of refusal.NotIssued = codes "NotIssued"
+name_of refusal.NotAccepted = codes "NotAccepted"
+name_of refusal.BadTags = codes "BadTags"
+name_of refusal.OutsideCommand = codes "OutsideCommand"
+name_of refusal.NotHalted = codes "NotHalted"
+name_of refusal.NotHeld = codes "NotHeld"
+name_of refusal.QueueBusy = codes "QueueBusy"
+name_of refusal.Stranger = codes "Stranger"
+name_of refusal.NotYet = codes "NotYet"
+name_of refusal.Unaligned = codes "Unaligned"
+name_of refusal.NoSuchRegister = codes "NoSuchRegister"
+name_of refusal.NotStarted = codes "NotStarted"
+name_of refusal.NotReceiving = codes "NotReceiving"
+name_of refusal.Running = codes "Running"
+name_of refusal.NotQueued = codes "NotQueued"
+name_of refusal.NoSuchSector = codes "NoSuchSector"
+name_of refusal.Busy = codes "Busy"
+name_of refusal.Spent = codes "Spent"
+name_of refusal.OutOfMemory = codes "OutOfMemory"
