@@ -89,7 +89,7 @@ class CheckHeader(unittest.TestCase):
         self.differs([(PYTHON, "    OUT_OF_MEMORY = 3\n", "    OUT_OF_MEMORY = 3\n    TIRED = 99\n")], "AHCI_TIRED: the header has None, Status of python/ahci.py has 99")
 
     def test_a_number_that_two_statuses_have_is_told(self) -> None:
-        self.differs([(HEADER, "AHCI_OUT_OF_MEMORY = 3", "AHCI_OUT_OF_MEMORY = 2"), (STATUS, "OutOfMemory = 3,", "OutOfMemory = 2,"),
+        self.differs([(HEADER, "AHCI_OUT_OF_MEMORY = 3", "AHCI_OUT_OF_MEMORY = 2"), (STATUS, "Refusal::OutOfMemory => 3,", "Refusal::OutOfMemory => 2,"),
                       (PYTHON, "    OUT_OF_MEMORY = 3", "    OUT_OF_MEMORY = 2")], "two statuses have one number")
 
     def test_the_place_of_a_port_is_compared(self) -> None:

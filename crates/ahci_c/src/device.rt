@@ -1,9 +1,8 @@
 //! What the device does.
 
 ghost use Rattle.std.specs.Prelude.{◌≡◌};
-ghost use Rattle.ahci_ffi.specs.{Done.{HasStepped, Same}, Over.{Changes}, PlaceView.{view_of}, Refusals.{accept_refusal, fail_refusal, serve_refusal}, Told.{Told}};
+ghost use Rattle.ahci_ffi.specs.{Calls.{AnswersAccept, AnswersFail, AnswersServe}, Over.{Changes}, PlaceView.{view_of}};
 
-use ahci_port::DeviceStep;
 use ahci_ffi::{FlatStep, Place, Status};
 use std::alloc::Global;
 
@@ -16,7 +15,7 @@ pub extern "C" fn ahci_port_accept(
     done: &mut FlatStep,
 ) -> u32
     ensures { Changes result (view_of port.old) (view_of port.new) (done.new ≡ done.old)
-        (λ answer old new. Told answer (accept_refusal old tag) (HasStepped (DeviceStep.Accept tag) old new done.new) (Same old new done.old done.new)) }
+        (λ answer old new. AnswersAccept tag answer old new done.old done.new) }
 {
     over!(port, heap, |held| ahci_ffi::accept(&mut held, tag, done))
 }
@@ -30,7 +29,7 @@ pub extern "C" fn ahci_port_serve(
     done: &mut FlatStep,
 ) -> u32
     ensures { Changes result (view_of port.old) (view_of port.new) (done.new ≡ done.old)
-        (λ answer old new. Told answer (serve_refusal old tags.now) (HasStepped (DeviceStep.Serve (record { items = tags.now })) old new done.new) (Same old new done.old done.new)) }
+        (λ answer old new. AnswersServe tags.now answer old new done.old done.new) }
 {
     over!(port, heap, |held| ahci_ffi::serve(&mut held, tags, done))
 }
@@ -46,7 +45,7 @@ pub extern "C" fn ahci_port_fail(
     done: &mut FlatStep,
 ) -> u32
     ensures { Changes result (view_of port.old) (view_of port.new) (done.new ≡ done.old)
-        (λ answer old new. Told answer (fail_refusal old tag error lba) (HasStepped (DeviceStep.Fail tag error lba) old new done.new) (Same old new done.old done.new)) }
+        (λ answer old new. AnswersFail tag error lba answer old new done.old done.new) }
 {
     over!(
         port,

@@ -100,11 +100,7 @@ pub extern "C" fn ahci_port_entry_bytes(
     ensures { Reads result (view_of port.old) (view_of port.new) (out.new ≡ out.old)
         (λ answer port. AnswersBytes (written_by (entry_numbered port.first port.past number)) answer out.old out.new) }
 {
-    over!(
-        port,
-        heap,
-        |held| ahci_ffi::entry_bytes(&held, number, out)
-    )
+    over!(port, heap, |held| ahci_ffi::entry_bytes(&held, number, out))
 }
 
 /// All that can be seen of a port at once.

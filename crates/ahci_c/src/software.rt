@@ -1,15 +1,11 @@
 //! What software does.
 
-ghost use Rattle.std.specs.Prelude.{◌≡◌, length, ⊤};
-ghost use Rattle.ahci_port.specs.{PortView.{sectors_in}, Steps.{IsFlushed, IsIdentified, IsReissued, trimmed}};
-ghost use Rattle.ncq_core.specs.Identify.{identify_page};
+ghost use Rattle.std.specs.Prelude.{◌≡◌, ⊤};
 ghost use Rattle.ahci_ffi.specs.{
-  Asked.{AnswersIssue, AnswersSubmit},
-  Done.{HasCollected, HasRecovered, Same},
+  Asked.{AnswersIssue},
+  Calls.{AnswersCollect, AnswersFlush, AnswersIdentify, AnswersRecover, AnswersReissue, AnswersSubmit, AnswersTrim},
   Over.{Changes},
   PlaceView.{view_of},
-  Refusals.{collect_refused, flush_refusal, identify_refusal, recover_refused, reissue_refused, trim_refused},
-  Told.{Told, ToldOr},
 };
 
 use ahci_ffi::{FlatReply, Place, Status};
@@ -61,7 +57,7 @@ pub extern "C" fn ahci_port_submit(
 #[unsafe(no_mangle)]
 pub extern "C" fn ahci_port_recover(port: &mut Place, heap: Global, tag: &mut u32) -> u32
     ensures { Changes result (view_of port.old) (view_of port.new) (tag.new ≡ tag.old)
-        (λ answer old new. ToldOr answer (recover_refused old) (HasRecovered old new tag.new) (Same old new tag.old tag.new)) }
+        (λ answer old new. AnswersRecover answer old new tag.old tag.new) }
 {
     over!(port, heap, |held| ahci_ffi::recover(&mut held, tag))
 }
@@ -70,7 +66,7 @@ pub extern "C" fn ahci_port_recover(port: &mut Place, heap: Global, tag: &mut u3
 #[unsafe(no_mangle)]
 pub extern "C" fn ahci_port_reissue(port: &mut Place, heap: Global, tag: u32) -> u32
     ensures { Changes result (view_of port.old) (view_of port.new) ⊤
-        (λ answer old new. Told answer (reissue_refused old tag) (IsReissued tag old new) (new ≡ old)) }
+        (λ answer old new. AnswersReissue tag answer old new) }
 {
     over!(port, heap, |held| ahci_ffi::reissue(&mut held, tag))
 }
@@ -86,7 +82,7 @@ pub extern "C" fn ahci_port_collect(
     out: &mut [u8],
 ) -> u32
     ensures { Changes result (view_of port.old) (view_of port.new) ((reply.new ≡ reply.old) × (out.new ≡ out.old))
-        (λ answer old new. Told answer (collect_refused old tag number (length out.old)) (HasCollected tag number old new reply.new out.old out.new) ((new ≡ old) × (reply.new ≡ reply.old) × (out.new ≡ out.old))) }
+        (λ answer old new. AnswersCollect tag number answer old new reply.old reply.new out.old out.new) }
 {
     over!(
         port,
@@ -99,7 +95,7 @@ pub extern "C" fn ahci_port_collect(
 #[unsafe(no_mangle)]
 pub extern "C" fn ahci_port_identify(port: &mut Place, heap: Global, out: &mut [u8]) -> u32
     ensures { Changes result (view_of port.old) (view_of port.new) (out.new ≡ out.old)
-        (λ answer old new. ToldOr answer (identify_refusal old (length out.old)) (IsIdentified old new × (out.new ≡ identify_page (sectors_in old) old.depth)) (Same old new out.old out.new)) }
+        (λ answer old new. AnswersIdentify answer old new out.old out.new) }
 {
     over!(port, heap, |held| ahci_ffi::identify(&mut held, out))
 }
@@ -108,7 +104,7 @@ pub extern "C" fn ahci_port_identify(port: &mut Place, heap: Global, out: &mut [
 #[unsafe(no_mangle)]
 pub extern "C" fn ahci_port_flush(port: &mut Place, heap: Global) -> u32
     ensures { Changes result (view_of port.old) (view_of port.new) ⊤
-        (λ answer old new. ToldOr answer (flush_refusal old) (IsFlushed old new) (new ≡ old)) }
+        (λ answer old new. AnswersFlush answer old new) }
 {
     over!(port, heap, |held| ahci_ffi::flush(&mut held))
 }
@@ -117,7 +113,7 @@ pub extern "C" fn ahci_port_flush(port: &mut Place, heap: Global) -> u32
 #[unsafe(no_mangle)]
 pub extern "C" fn ahci_port_trim(port: &mut Place, heap: Global, entries: &mut u64) -> u32
     ensures { Changes result (view_of port.old) (view_of port.new) (entries.new ≡ entries.old)
-        (λ answer old new. Told answer (trim_refused old) ((new ≡ trimmed old) × (entries.new ≡ length old.past)) (Same old new entries.old entries.new)) }
+        (λ answer old new. AnswersTrim answer old new entries.old entries.new) }
 {
     over!(port, heap, |held| ahci_ffi::trim(&mut held, entries))
 }

@@ -7,8 +7,8 @@ use crate::registers::ahci_port_write_register;
 use crate::software::{
     ahci_port_flush, ahci_port_identify, ahci_port_issue, ahci_port_recover, ahci_port_submit,
 };
-use ahci_port::Pending;
 use ahci_ffi::{FlatCommand, FlatStep, FlatWritten, Place};
+use ahci_port::Pending;
 use std::alloc::Global;
 use std::test::Fail;
 

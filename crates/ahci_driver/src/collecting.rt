@@ -79,7 +79,7 @@ pub(crate) fn take_locked<A: Allocator>(
     ensures fault { MatchOption (ticket_refusal port.old ticket) (IsOk result) (λ f. IsErrAnd result (λ e. (e.0 ≡ ticket) × (e.1 ≡ f))) }
     ensures err { OnErr result (port.new ≡ port.old) }
 {
-    port.journal();
+    port.keeps_its_promise();
     let read = port.read_length(ticket.tag);
     if !is_as_long(read, &ticket.buffer) {
         return Err((ticket, CollectFault::Stranger));

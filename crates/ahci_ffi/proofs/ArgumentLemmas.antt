@@ -24,7 +24,7 @@ on_window None w window answer answered same is so = subst answered is so
 on_window (Some reason) w window answer answered same is so = absurd (cc)
 
 -- none was made
-pub no_window : (reason : Option Status) (refusal : Status) (made : WindowState → Type 0) (answered same : Type 0)
-    → Makes reason (Err refusal) made → (refusal ≡ (status.Refused refusal.OutOfMemory) → answered) → same → AnswersUnless reason refusal answered same
-no_window None refusal made answered same is lacks s = lacks is
-no_window (Some reason) refusal made answered same is lacks s = let told : refusal ≡ reason = cc in (told, s)
+pub no_window : (reason : Option Status) (answer : Status) (made : WindowState → Type 0) (answered same : Type 0)
+    → Makes reason (Err answer) made → (answer ≡ status.Refused refusal.OutOfMemory → answered) → same → AnswersUnless reason answer answered same
+no_window None answer made answered same is lacks s = lacks is
+no_window (Some reason) answer made answered same is lacks s = let told : answer ≡ reason = cc in (told, s)

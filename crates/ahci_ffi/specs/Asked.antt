@@ -2,9 +2,8 @@
 use Rattle.std.specs.Prelude.{◌≡◌, ℕ, ◌*◌, ◌&&◌, not, nat_eq, nat_lt, List, length, Option, None, Some, if◌then◌else◌}
 use Rattle.std.specs.Option.{option_or}
 use Rattle.ahci_port.specs.Faults.{submit_refusal}
-use Rattle.ahci_port.specs.PortView.{PortView, next_number}
+use Rattle.ahci_port.specs.PortView.{PortView}
 use Rattle.ahci_port.specs.Refusals.{of_submit}
-use Rattle.ahci_port.specs.Steps.{IsSubmitted}
 use Rattle.ahci_table.specs.Window.{WindowState}
 use Rattle.ncq_journal.specs.Work.{Work, Read, Write}
 use Rattle.ahci_ffi.specs.Done.{AnswersWindow, Same}
@@ -43,7 +42,3 @@ submit_refused port tag kind lba sectors bytes =
 -- kind 0 reads, kind 1 writes
 abbrev pub work_asked : (kind lba sectors : ℕ) → List ℕ → Work
 work_asked kind lba sectors bytes = if nat_eq kind 0 then Read lba sectors else Write lba bytes
-
--- a command is submitted, and its number told
-abbrev pub HasSubmitted : (tag kind lba sectors : ℕ) → List ℕ → (old new : PortView) → (after : ℕ) → Type 0
-HasSubmitted tag kind lba sectors bytes old new after = IsSubmitted tag (work_asked kind lba sectors bytes) old new × (after ≡ next_number old)

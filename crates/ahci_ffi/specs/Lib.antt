@@ -1,5 +1,6 @@
 pub mod Alone
 pub mod Asked
+pub mod Calls
 pub mod Done
 pub mod Fises
 pub mod Flat

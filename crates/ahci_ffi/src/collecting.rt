@@ -3,7 +3,7 @@
 ghost use Rattle.std.specs.Prelude.{◌≡◌, ◌<◌, ◌≤◌, length};
 ghost use Rattle.ahci_port.specs.Slots.{bytes_in};
 ghost use Rattle.ahci_table.specs.Fit.{IsFit};
-ghost use Rattle.ahci_ffi.specs.{Done.{HasCollected, HasLength}, Flat.{begun_with, flat_reply}, Refusals.{collect_refused, is_short, slot_refusal}, Told.{Told}};
+ghost use Rattle.ahci_ffi.specs.{Calls.{AnswersCollect}, Done.{HasCollected, HasLength}, Flat.{begun_with, flat_reply}, Refusals.{is_short, slot_refusal}};
 
 use crate::flat::FlatReply;
 use crate::status::Status;
@@ -22,8 +22,7 @@ pub fn collect<A: Allocator>(
     reply: &mut FlatReply,
     out: &mut [u8],
 ) -> Status
-    ensures { Told result (collect_refused port.old tag number (length out.old)) (HasCollected tag number port.old port.new reply.new out.old out.new)
-        ((port.new ≡ port.old) × (reply.new ≡ reply.old) × (out.new ≡ out.old)) }
+    ensures { AnswersCollect tag number result port.old port.new reply.old reply.new out.old out.new }
 {
     if tag >= 32 {
         return Status::BadTag;

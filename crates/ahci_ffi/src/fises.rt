@@ -2,13 +2,14 @@
 
 ghost use Rattle.std.specs.Prelude.{◌≡◌, ◌++◌, ◌==◌, ◌^◌, nat_le, Ok, Err, if◌then◌else◌};
 ghost use Rattle.sata_fis.specs.Encoding.{encoded};
+ghost use Rattle.ahci_ffi.specs.Status.{of_fis};
 ghost use Rattle.ahci_ffi.specs.Fises.{AnswersDecode, AnswersEncode, PutsAll, bare_fis, d2h_named, data_named, dma_setup_named, fis_named, flat_fis, h2d_named, is_flag, pio_setup_named, set_bits_named};
 
 use crate::flat::FlatFis;
 use crate::status::Status;
 use port_refusal::Refusal;
 use sata_fis::{
-    D2h, DmaSetup, Fis, H2d, Payload, PioSetup, SetBits, data_head, decode, is_lba,
+    D2h, DmaSetup, Fis, FisFault, H2d, Payload, PioSetup, SetBits, data_head, decode, is_lba,
     is_set_bits_status, is_tag,
 };
 
@@ -158,7 +159,7 @@ fn flag(byte: u8) -> Result<bool, Status>
 
 /// An LBA, where it fits 48 bits.
 fn lba(lba: u64) -> Result<u64, Status>
-    ensures { result ≡ (if nat_le (2 ^ 48) lba then Err Status.BadLba else Ok lba) }
+    ensures { result ≡ (if nat_le (2 ^ 48) lba then Err (Status.Refused Refusal.BadLba) else Ok lba) }
 {
     if is_lba(lba) {
         Ok(lba)

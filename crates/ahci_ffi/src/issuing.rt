@@ -2,7 +2,7 @@
 
 ghost use Rattle.std.specs.Prelude.{◌≡◌, ◌≤◌, length, IfOk};
 ghost use Rattle.ncq_journal.specs.Work.{work_of};
-ghost use Rattle.ahci_ffi.specs.{Asked.{AnswersIssue, HasSubmitted, kind_refusal, submit_refused, work_asked}, Done.{AnswersWindow, Same}, Told.{ToldOr}};
+ghost use Rattle.ahci_ffi.specs.{Asked.{AnswersIssue, kind_refusal, work_asked}, Calls.{AnswersSubmit}, Done.{AnswersWindow}};
 
 use crate::status::Status;
 use crate::windows::window_of;
@@ -42,8 +42,7 @@ pub fn submit<A: Allocator + Copy>(
     payload: &[u8],
     number: &mut u64,
 ) -> Status
-    ensures { ToldOr result (submit_refused port.old tag kind lba sectors (length payload.now))
-        (HasSubmitted tag kind lba sectors payload.now port.old port.new number.new) (Same port.old port.new number.old number.new) }
+    ensures { AnswersSubmit tag kind lba sectors payload.now result port.old port.new number.old number.new }
 {
     if tag >= 32 {
         return Status::BadTag;

@@ -1,9 +1,8 @@
 //! How software recovers, issues held commands again, and sends commands that are not queued.
 
-ghost use Rattle.std.specs.Prelude.{◌≡◌, length};
-ghost use Rattle.ahci_port.specs.{PortView.{sectors_in}, Registers.{acknowledged}, Steps.{IsFlushed, IsIdentified, IsReissued, trimmed}};
-ghost use Rattle.ncq_core.specs.Identify.{identify_page};
-ghost use Rattle.ahci_ffi.specs.{Done.{HasRecovered, Same}, Refusals.{flush_refusal, identify_refusal, recover_refused, reissue_refused, trim_refused}, Told.{Told, ToldOr}};
+ghost use Rattle.std.specs.Prelude.{◌≡◌};
+ghost use Rattle.ahci_port.specs.Registers.{acknowledged};
+ghost use Rattle.ahci_ffi.specs.Calls.{AnswersFlush, AnswersIdentify, AnswersRecover, AnswersReissue, AnswersTrim};
 
 use crate::status::Status;
 use ahci_port::Port;
@@ -11,7 +10,7 @@ use std::alloc::Allocator;
 
 /// Recovers from a failure: `tag` is the one whose command had failed then.
 pub fn recover<A: Allocator>(port: &mut Port<A>, tag: &mut u32) -> Status
-    ensures { ToldOr result (recover_refused port.old) (HasRecovered port.old port.new tag.new) (Same port.old port.new tag.old tag.new) }
+    ensures { AnswersRecover result port.old port.new tag.old tag.new }
 {
     match port.recover() {
         Ok(failed) => {
@@ -24,7 +23,7 @@ pub fn recover<A: Allocator>(port: &mut Port<A>, tag: &mut u32) -> Status
 
 /// Issues a held command again.
 pub fn reissue<A: Allocator>(port: &mut Port<A>, tag: u32) -> Status
-    ensures { Told result (reissue_refused port.old tag) (IsReissued tag port.old port.new) (port.new ≡ port.old) }
+    ensures { AnswersReissue tag result port.old port.new }
 {
     if tag >= 32 {
         return Status::BadTag;
@@ -37,8 +36,7 @@ pub fn reissue<A: Allocator>(port: &mut Port<A>, tag: u32) -> Status
 
 /// Sends IDENTIFY DEVICE, and copies its page.
 pub fn identify<A: Allocator>(port: &mut Port<A>, out: &mut [u8]) -> Status
-    ensures { ToldOr result (identify_refusal port.old (length out.old))
-        (IsIdentified port.old port.new × (out.new ≡ identify_page (sectors_in port.old) port.old.depth)) (Same port.old port.new out.old out.new) }
+    ensures { AnswersIdentify result port.old port.new out.old out.new }
 {
     if out.len() != 512 {
         return Status::WrongLength;
@@ -54,7 +52,7 @@ pub fn identify<A: Allocator>(port: &mut Port<A>, out: &mut [u8]) -> Status
 
 /// Sends FLUSH CACHE EXT.
 pub fn flush<A: Allocator>(port: &mut Port<A>) -> Status
-    ensures { ToldOr result (flush_refusal port.old) (IsFlushed port.old port.new) (port.new ≡ port.old) }
+    ensures { AnswersFlush result port.old port.new }
 {
     match port.flush() {
         Ok(()) => Status::Done,
@@ -73,8 +71,7 @@ pub fn acknowledge<A: Allocator>(port: &mut Port<A>, mask: u32) -> Status
 
 /// Throws the journal away, with its memory: `entries` is how many it had.
 pub fn trim<A: Allocator + Copy>(port: &mut Port<A>, entries: &mut u64) -> Status
-    ensures { Told result (trim_refused port.old) ((port.new ≡ trimmed port.old) × (entries.new ≡ length port.old.past))
-        (Same port.old port.new entries.old entries.new) }
+    ensures { AnswersTrim result port.old port.new entries.old entries.new }
 {
     match port.trim() {
         Ok(journal) => {

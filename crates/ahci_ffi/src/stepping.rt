@@ -2,7 +2,7 @@
 
 ghost use Rattle.std.specs.Prelude.{◌≡◌, ◌≤◌, length};
 ghost use Rattle.ahci_port.specs.{Faults.{step_refusal}, Refusals.{of_step}};
-ghost use Rattle.ahci_ffi.specs.{Done.{HasStepped, Same}, Flat.{flat_step}, Refusals.{accept_refusal, fail_refusal, serve_refusal}, Status.{refused}, Told.{Told}};
+ghost use Rattle.ahci_ffi.specs.{Calls.{AnswersAccept, AnswersFail, AnswersServe}, Done.{HasStepped, Same}, Flat.{flat_step}, Status.{refused}, Told.{Told}};
 
 use crate::flat::FlatStep;
 use crate::status::Status;
@@ -15,8 +15,7 @@ const MOST_TAGS: usize = 32;
 
 /// The device takes a tag's command, or fails it where it passes the last sector.
 pub fn accept<A: Allocator>(port: &mut Port<A>, tag: u32, done: &mut FlatStep) -> Status
-    ensures { Told result (accept_refusal port.old tag) (HasStepped (DeviceStep.Accept tag) port.old port.new done.new)
-        (Same port.old port.new done.old done.new) }
+    ensures { AnswersAccept tag result port.old port.new done.old done.new }
 {
     if tag >= 32 {
         return Status::BadTag;
@@ -26,8 +25,7 @@ pub fn accept<A: Allocator>(port: &mut Port<A>, tag: u32, done: &mut FlatStep) -
 
 /// The device serves the commands of some tags, in the list's order.
 pub fn serve<A: Allocator>(port: &mut Port<A>, tags: &[u8], done: &mut FlatStep) -> Status
-    ensures { Told result (serve_refusal port.old tags.now) (HasStepped (DeviceStep.Serve (record { items = tags.now })) port.old port.new done.new)
-        (Same port.old port.new done.old done.new) }
+    ensures { AnswersServe tags.now result port.old port.new done.old done.new }
 {
     if tags.len() > MOST_TAGS {
         return Status::TooManyTags;
@@ -53,8 +51,7 @@ pub fn fail<A: Allocator>(
     lba: u64,
     done: &mut FlatStep,
 ) -> Status
-    ensures { Told result (fail_refusal port.old tag error lba) (HasStepped (DeviceStep.Fail tag error lba) port.old port.new done.new)
-        (Same port.old port.new done.old done.new) }
+    ensures { AnswersFail tag error lba result port.old port.new done.old done.new }
 {
     if tag >= 32 {
         return Status::BadTag;

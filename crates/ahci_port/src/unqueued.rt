@@ -29,11 +29,11 @@ fn entries_for(plain: Plain) -> u8
 fn header_for(plain: Plain) -> [u8; 32]
     ensures { result ≡ header_for plain }
 {
-    let entries = entries_for(plain);
-    [
-        5, 0, entries, 0, 0, 0, 0, 0, 0, 0, 2, 0, 0, 0, 0, 0, 0, 0, 0, 0, 0, 0, 0, 0, 0, 0, 0, 0,
-        0, 0, 0, 0,
-    ]
+    let mut header = [0; 32];
+    header[0] = 5;
+    header[2] = entries_for(plain);
+    header[10] = 2;
+    header
 }
 
 /// The command FIS (ACS-3, IDENTIFY DEVICE, FLUSH CACHE EXT, and READ LOG EXT for page 0 of log 10h).

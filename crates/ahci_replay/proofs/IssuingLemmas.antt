@@ -1,5 +1,5 @@
 -- What is answered of an issue.
-use Rattle.std.proofs.Common.{◌≡◌, Option, Some, None, Result, Ok, Err, IfOk, IfErr, IsErr, IsOkAnd, OnOk, OnErr, MatchOption, refl, sym, ap, ◌∙◌}
+use Rattle.std.proofs.Common.{◌≡◌, ℕ, Option, Some, None, Result, Ok, Err, IfOk, IfErr, IsErr, IsOkAnd, OnOk, OnErr, MatchOption, refl, sym, ap, ◌∙◌}
 use Rattle.std.specs.Option.{option_map}
 use Rattle.std.proofs.lemmas.Bool.{true≢false}
 use Rattle.ahci_replay.specs.Refusals.{of_issue}

@@ -158,7 +158,7 @@ abbrev pub MayLackOn : PortView → ScriptCommand → Type 0
 MayLackOn port (command.Write tag lba sectors fill) = refusal_on port (command.Write tag lba sectors fill) ≡ None
 MayLackOn port (command.Read tag lba sectors) = refusal_on port (command.Read tag lba sectors) ≡ None
 MayLackOn port (command.Raw tag window) = Unit {0}
-MayLackOn port (command.Collect tag number) = Unit {0}
+MayLackOn port (command.Collect tag number) = refusal_on port (command.Collect tag number) ≡ None
 MayLackOn port command.Recover = refusal_on port command.Recover ≡ None
 MayLackOn port (command.Identify word) = refusal_on port (command.Identify word) ≡ None
 MayLackOn port command.Flush = refusal_on port command.Flush ≡ None

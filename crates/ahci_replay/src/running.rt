@@ -80,6 +80,7 @@ fn collect<A: Allocator + Copy>(
 ) -> Result<ScriptAnswer<A>, AllocError>
     ensures ok { IfOk result (λ answer. RunsOn port.old (ScriptCommand.Collect tag number) port.new (said answer)) }
     ensures err { OnErr result (MayRunOn port.old (ScriptCommand.Collect tag number) port.new) }
+    ensures lacking { OnErr result (refusal_on port.old (ScriptCommand.Collect tag number) ≡ None) }
 {
     match port.collect(tag, number) {
         Ok((reply, window)) => collected(*alloc, reply, &window),

@@ -4,5 +4,5 @@ use Rattle.ahci_ffi.proofs.naming.status_text.Goals as goal
 
 pub returns-in-Some : goal.returns-in-Some
 returns-in-Some c =
-    is_named c.in-Some._status c.in-Some.ensures.0
-    (subst (λ name. AnswersName name c.put_name.result c.args.out.now c.put_name.new.out c.args.len.now c.put_name.new.len) (c.as_bytes.ensures.value ∙ c.in-Some.ensures.1) c.put_name.ensures)
+    is_named c.in-Some.status c.in-Some.ensures
+    (subst (λ name. AnswersName name c.put_name.result c.args.out.now c.put_name.new.out c.args.len.now c.put_name.new.len) (c.as_bytes.ensures.value ∙ c.name.ensures) c.put_name.ensures)

@@ -1,4 +1,5 @@
-use Rattle.std.proofs.Common.{refl}
+use Rattle.std.proofs.Common.{ap, refl}
+use Rattle.ahci_ffi.specs.declared.status.Status.TheVariants.{Refused}
 use Rattle.ahci_ffi.specs.Writing.{is_refused, is_taken}
 use Rattle.ahci_ffi.proofs.writing.write_word.Goals as goal
 
@@ -6,4 +7,4 @@ pub returns-in-Ok : goal.returns-in-Ok
 returns-in-Ok g c = is_taken c.in-Ok.did refl c.in-Ok.ensures.ok c.flat_written.ensures
 
 pub returns-in-Err : goal.returns-in-Err
-returns-in-Err g c = is_refused c.in-Err.fault c.write_status.ensures c.in-Err.ensures.fault c.in-Err.ensures.err c.flat_refused.ensures
+returns-in-Err g c = is_refused c.in-Err.fault (ap (λ reason. Refused reason) c.into.ensures) c.in-Err.ensures.fault c.in-Err.ensures.err c.flat_refused.ensures
