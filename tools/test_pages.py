@@ -1,7 +1,7 @@
 #!/usr/bin/env python3
-"""Sees that bench/pages finds each kind of fault, in a small repository of its own.
+"""Sees that tools/pages finds each kind of fault, in a small repository of its own.
 
-    bench/test_pages.py
+    tools/test_pages.py
 """
 from __future__ import annotations
 
@@ -37,8 +37,8 @@ class Pages(unittest.TestCase):
         self.addCleanup(shutil.rmtree, self.room)
         for path, text in FILES.items():
             self.write(path, text)
-        os.makedirs(os.path.join(self.room, "bench"))
-        shutil.copy(os.path.join(TOP, "bench/pages"), os.path.join(self.room, "bench/pages"))
+        os.makedirs(os.path.join(self.room, "tools"))
+        shutil.copy(os.path.join(TOP, "tools/pages"), os.path.join(self.room, "tools/pages"))
         subprocess.run(["git", "init", "-q"], cwd=self.room, check=True)
 
     def write(self, path: str, text: str) -> None:
@@ -52,7 +52,7 @@ class Pages(unittest.TestCase):
             return it.read()
 
     def run_with(self, *words: str) -> "subprocess.CompletedProcess[str]":
-        return subprocess.run([sys.executable, os.path.join(self.room, "bench/pages"), *words], capture_output=True, text=True, check=False)
+        return subprocess.run([sys.executable, os.path.join(self.room, "tools/pages"), *words], capture_output=True, text=True, check=False)
 
     def finds(self, faults: List[str]) -> None:
         """The faults are these, each a line, and the count of all pages and faults comes last."""
@@ -112,7 +112,7 @@ class Pages(unittest.TestCase):
 
     def test_sizes_are_those_of_the_files(self) -> None:
         self.after("crates/low/specs/Sum.antt", "-- a sum\n", "-- a sum\n-- of two\n",
-                   "docs/PROOFS.md:11: the sizes are | low | 4 | 2 | 1 | 1 | 1 | (bench/pages --sizes writes them)")
+                   "docs/PROOFS.md:11: the sizes are | low | 4 | 2 | 1 | 1 | 1 | (tools/pages --sizes writes them)")
 
     def test_sizes_can_be_written(self) -> None:
         self.write("crates/low/specs/Sum.antt", "-- a sum\n-- of two\n")
