@@ -3,6 +3,7 @@ mod choosers;
 mod common;
 mod contended;
 mod gates;
+mod job_lists;
 mod jobs;
 mod one_seat;
 mod reading;

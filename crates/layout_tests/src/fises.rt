@@ -1,14 +1,15 @@
 //! FISes as bytes and as values: examples, every length and every change of one byte.
+mod asking;
 mod checker;
 mod examples;
 
 use crate::table::{equal, equal_bytes};
 use arrayvec::ArrayVec;
 use checker::agrees;
-use examples::{READ, answers, commands};
+use examples::{EXAMPLES, Said, fis_of};
 use sata_fis::{
-    Fis, FisFault, H2d, Payload, Queued, SetBits, data_head, decode, h2d_of, is_lba,
-    is_sector_count, is_set_bits_status, is_tag, queued,
+    Fis, FisFault, Payload, SetBits, data_head, decode, is_lba, is_sector_count,
+    is_set_bits_status, is_tag,
 };
 use std::alloc::{AllocError, Global};
 use std::process::Abort;
@@ -34,13 +35,16 @@ fn written(fis: &Fis<'_>) -> Option<ArrayVec<u8, 28>> {
     }
 }
 
-/// Whether the bytes are read as the FIS, and the FIS is written as the bytes.
-fn reads_and_writes(bytes: &[u8], fis: &Fis<'_>) -> bool {
+/// Whether the bytes are read as the FIS that says this, and the FIS is written as the bytes.
+fn reads_and_writes(bytes: &[u8], said: Said) -> bool {
+    let Some(fis) = fis_of(said) else {
+        return false;
+    };
     let is_read = match decode(bytes) {
-        Ok(found) => found == *fis,
+        Ok(found) => found == fis,
         Err(_) => false,
     };
-    let is_written = match written(fis) {
+    let is_written = match written(&fis) {
         Some(list) => list.as_slice() == bytes,
         None => true,
     };
@@ -49,11 +53,8 @@ fn reads_and_writes(bytes: &[u8], fis: &Fis<'_>) -> bool {
 
 #[test]
 fn each_example_is_read_and_written_again(rt: HostRuntime) {
-    for (bytes, fis) in commands() {
-        assert!(rt; reads_and_writes(bytes, &fis), "at {bytes:?}");
-    }
-    for (bytes, fis) in answers() {
-        assert!(rt; reads_and_writes(bytes, &fis), "at {bytes:?}");
+    for (name, bytes, said) in &EXAMPLES {
+        assert!(rt; reads_and_writes(bytes, *said), "{name}: {bytes:?}");
     }
 }
 
@@ -118,10 +119,10 @@ fn bytes_begin_with_one_of_seven_types(rt: HostRuntime) {
     }
 }
 
-fn shorter_is_wrong(rt: &impl Abort, bytes: &[u8]) {
+fn shorter_is_wrong(rt: &impl Abort, name: &str, bytes: &[u8]) {
     for len in 1..bytes.len() {
         let fault = decode(&bytes[..len]).err();
-        equal(rt, len, &fault, &Some(FisFault::WrongLength(len)));
+        equal(rt, (name, len), &fault, &Some(FisFault::WrongLength(len)));
     }
 }
 
@@ -138,7 +139,12 @@ fn is_read(bytes: &[u8]) -> bool {
 }
 
 /// Reads the bytes with each byte changed to each value. After byte 0 no value is refused.
-fn each_change_is_read(rt: &impl Abort, alloc: Global, bytes: &[u8]) -> Result<(), AllocError> {
+fn each_change_is_read(
+    rt: &impl Abort,
+    alloc: Global,
+    name: &str,
+    bytes: &[u8],
+) -> Result<(), AllocError> {
     for place in 0..bytes.len() {
         let mut text = Vec::from_slice(alloc, bytes)?;
         for value in 0..=u8::MAX {
@@ -146,7 +152,7 @@ fn each_change_is_read(rt: &impl Abort, alloc: Global, bytes: &[u8]) -> Result<(
                 *byte = value;
             }
             let is_refused = place == 0 && decode(&text).is_err();
-            assert!(rt; is_refused || is_read(&text), "at {text:?}");
+            assert!(rt; is_refused || is_read(&text), "{name}: at {text:?}");
         }
     }
     Ok(())
@@ -154,13 +160,9 @@ fn each_change_is_read(rt: &impl Abort, alloc: Global, bytes: &[u8]) -> Result<(
 
 #[test]
 fn each_prefix_and_each_changed_byte_is_read_field_by_field(rt: HostRuntime) -> Result<(), Fail> {
-    for (bytes, _) in commands() {
-        shorter_is_wrong(&rt, bytes);
-        each_change_is_read(&rt, rt.alloc(), bytes)?;
-    }
-    for (bytes, _) in answers() {
-        shorter_is_wrong(&rt, bytes);
-        each_change_is_read(&rt, rt.alloc(), bytes)?;
+    for (name, bytes, _) in &EXAMPLES {
+        shorter_is_wrong(&rt, name, bytes);
+        each_change_is_read(&rt, rt.alloc(), name, bytes)?;
     }
     Ok(())
 }
@@ -181,145 +183,6 @@ fn busy_and_request_bits_do_not_come_through(rt: HostRuntime) {
         Fis::SetBits(bits).encode().as_slice(),
         &[0xA1, 0, 0x77, 0, 0, 0, 0, 0],
     );
-}
-
-/// What `READ` asks.
-fn asked() -> Queued {
-    Queued {
-        write: false,
-        tag: 5,
-        lba: 0x12_3456_789A,
-        sectors: 8,
-        fua: false,
-    }
-}
-
-/// Commands, and what they ask.
-fn asking() -> [(H2d, Option<Queued>); 12] {
-    let asked = asked();
-    let write = Queued {
-        write: true,
-        ..asked
-    };
-    let tag = Queued { tag: 6, ..asked };
-    let most = Queued {
-        sectors: 65_536,
-        ..asked
-    };
-    let fua = Queued { fua: true, ..asked };
-    [
-        (READ, Some(asked)),
-        (
-            H2d {
-                features: 0,
-                ..READ
-            },
-            Some(most),
-        ),
-        (
-            H2d {
-                command: 0x61,
-                ..READ
-            },
-            Some(write),
-        ),
-        (
-            H2d {
-                count: 0x30,
-                ..READ
-            },
-            Some(tag),
-        ),
-        (
-            H2d {
-                count: 0xC030,
-                ..READ
-            },
-            Some(tag),
-        ),
-        (
-            H2d {
-                count: 0x37,
-                ..READ
-            },
-            Some(tag),
-        ),
-        (
-            H2d {
-                device: 0xC0,
-                ..READ
-            },
-            Some(fua),
-        ),
-        (
-            H2d {
-                device: 0x4F,
-                ..READ
-            },
-            Some(asked),
-        ),
-        (
-            H2d {
-                control: 0xFF,
-                ..READ
-            },
-            Some(asked),
-        ),
-        (
-            H2d {
-                device: 0x80,
-                ..READ
-            },
-            None,
-        ),
-        (
-            H2d {
-                command: 0xEC,
-                ..READ
-            },
-            None,
-        ),
-        (H2d { c: false, ..READ }, None),
-    ]
-}
-
-/// What is asked, and the command that asks it.
-fn asked_by() -> [(Queued, H2d); 3] {
-    let most = Queued {
-        sectors: 65_536,
-        ..asked()
-    };
-    let fua = Queued {
-        fua: true,
-        ..asked()
-    };
-    [
-        (asked(), READ),
-        (
-            most,
-            H2d {
-                features: 0,
-                ..READ
-            },
-        ),
-        (
-            fua,
-            H2d {
-                device: 0xC0,
-                ..READ
-            },
-        ),
-    ]
-}
-
-#[test]
-fn a_queued_command_is_asked_for_by_the_standards_fields(rt: HostRuntime) {
-    for (row, (h2d, wanted)) in asking().iter().enumerate() {
-        equal(&rt, row, &queued(h2d), wanted);
-    }
-    for (row, (wanted, h2d)) in asked_by().iter().enumerate() {
-        equal(&rt, row, &h2d_of(wanted), h2d);
-    }
 }
 
 #[test]

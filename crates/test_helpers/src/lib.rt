@@ -1,4 +1,4 @@
-//! What several crates of tests share: steps of the device that stand in a table, jobs of one sector,
+//! What several crates of tests share: steps of the device that stand in a table, jobs of one sector, a window of any bytes,
 //! and readers and a writer that fail.
 #![tactic(auto)]
 
@@ -9,6 +9,7 @@ mod job;
 mod read_failure;
 mod source;
 mod table_step;
+mod window_parts;
 
 pub use failing::{FAIL_0, FAIL_1, FAIL_1_AT_7, FAIL_1_AT_8};
 pub use filling::byte_of;
@@ -17,3 +18,4 @@ pub use job::{Job, TWELVE, ops_of};
 pub use read_failure::ReadFailure;
 pub use source::Source;
 pub use table_step::{RISING, TableStep};
+pub use window_parts::any_window;

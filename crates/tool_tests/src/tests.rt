@@ -1,5 +1,6 @@
 mod drawn;
 mod failing;
 mod lines;
+mod pages;
 mod scripts;
 mod windows;

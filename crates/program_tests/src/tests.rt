@@ -1,10 +1,8 @@
-mod any_window;
 mod command_line;
 mod failing_ends;
 mod help_lines;
 mod page_lines;
 mod picks;
-mod port;
 mod program;
 mod right_lines;
 mod run_lines;

@@ -1,7 +1,7 @@
 #!/usr/bin/env python3
-"""Sees that bench/wrong_bodies tells what refused an edit, and notes it, with a small program in the place of `rt`.
+"""Sees that tools/wrong_bodies tells what refused an edit, and notes it, with a small program in the place of `rt`.
 
-    bench/test_wrong_bodies.py
+    tools/test_wrong_bodies.py
 
 Of that program a body `{ 0 }` is refused by a clause of its own function, `{ 2 }` by a stored proof, `{ 3 }` by a name in a stored proof, and
 `{ 4 }` by a clause of a caller; any other is proved. A function `same` may stand in each of two more files.
@@ -55,8 +55,8 @@ class WrongBodies(unittest.TestCase):
         self.room = tempfile.mkdtemp(prefix="test-wrong-bodies-")
         self.addCleanup(shutil.rmtree, self.room)
         self.top = os.path.join(self.room, "top")
-        os.makedirs(os.path.join(self.top, "bench"))
-        shutil.copy(os.path.join(TOP, "bench/wrong_bodies"), os.path.join(self.top, "bench/wrong_bodies"))
+        os.makedirs(os.path.join(self.top, "tools"))
+        shutil.copy(os.path.join(TOP, "tools/wrong_bodies"), os.path.join(self.top, "tools/wrong_bodies"))
         self.write("crates/low/src/lib.rt", SOURCE)
         os.makedirs(os.path.join(self.room, "bin"))
         with open(os.path.join(self.room, "bin/rt"), "w", encoding="utf-8") as rt:
@@ -74,14 +74,14 @@ class WrongBodies(unittest.TestCase):
 
     def run_with(self, *words: str, jobs: str = "1") -> "subprocess.CompletedProcess[str]":
         found = {**os.environ, "PATH": f"{self.room}/bin:{os.environ['PATH']}", "JOBS": jobs}
-        return subprocess.run([sys.executable, os.path.join(self.top, "bench/wrong_bodies"), *words], env=found, capture_output=True, text=True, check=False)
+        return subprocess.run([sys.executable, os.path.join(self.top, "tools/wrong_bodies"), *words], env=found, capture_output=True, text=True, check=False)
 
     def said_of(self, ran: "subprocess.CompletedProcess[str]") -> List[str]:
         """What is said after the table."""
         return [it for it in ran.stdout.splitlines() if not it.startswith("|") and it]
 
     def tried(self) -> Dict[str, List[str]]:
-        with open(os.path.join(self.top, "bench/wrong_bodies.tried"), encoding="utf-8") as text:
+        with open(os.path.join(self.top, "tools/wrong_bodies.tried"), encoding="utf-8") as text:
             rows = [line.rstrip("\n").split("\t") for line in text if not line.startswith("#")]
         return {row[0]: row[3:] for row in rows}
 
@@ -137,7 +137,7 @@ class WrongBodies(unittest.TestCase):
         self.edit("one_is_0", "{ 1 }", "{ 0 }", "must-fail")
         self.edit("two_is_2", "{ 9 }", "{ 2 }")
         self.run_with("low")
-        self.assertFalse(os.path.exists(os.path.join(self.top, "bench/wrong_bodies.tried")))
+        self.assertFalse(os.path.exists(os.path.join(self.top, "tools/wrong_bodies.tried")))
         self.run_with("--all", "low")
         self.assertEqual({"low": ["2", "1", "two_is_2", "-"]}, self.tried())
         ran = self.run_with("--stale")

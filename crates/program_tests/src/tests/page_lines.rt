@@ -1,10 +1,7 @@
-//! What the command lines of `identify` and `log` are told where they are wrong, and the pages that `ata_pages` writes.
+//! What the command lines of `identify` and `log` are told where they are wrong.
 use crate::tests::command_line::{Kind, MISSING, RANGE, TWICE, are_told};
-use crate::tests::table::equal;
-use ata_pages::{PageFault, write_identify, write_log};
 use clap::error::ErrorKind;
 use std::test::Fail;
-use test_helpers::Full;
 
 /// What an error byte that is none is told.
 const BYTE: &str = "invalid value for '--error <EE>': it is two hexadecimal digits";
@@ -86,31 +83,4 @@ static WRONG: [Kind; 5] = [
 #[test]
 fn a_wrong_page_is_told_what_is_wrong(rt: HostRuntime) -> Result<(), Fail> {
     are_told(&rt, rt.alloc(), "ahci", WRONG.as_slice())
-}
-
-#[test]
-fn a_page_is_written_or_output_has_failed(rt: HostRuntime) {
-    let alloc = rt.alloc();
-    for room in [0, 511, 512] {
-        let wanted = if room == 512 {
-            Ok(())
-        } else {
-            Err(PageFault::Write)
-        };
-        let identified = write_identify(alloc, 8, 4, true, &mut Full { room });
-        equal(&rt, room, &identified, &wanted);
-        let logged = write_log(alloc, 3, 0x40, 7, true, &mut Full { room });
-        equal(&rt, room, &logged, &wanted);
-    }
-    let mut text = Vec::new(alloc);
-    equal(
-        &rt,
-        0,
-        &write_log(alloc, 3, 0x40, 7, false, &mut text),
-        &Ok(()),
-    );
-    assert!(rt;
-        text.as_slice()
-            .starts_with(b"NQ 0, UNL 0, NCQ TAG 3\nLBA 7\nbyte 000  03  ")
-    );
 }

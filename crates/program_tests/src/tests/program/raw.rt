@@ -1,8 +1,8 @@
 //! Windows of any bytes, as lines of a script.
 use super::{CliFault, ends, replayed};
-use crate::tests::any_window::any_window;
 use std::alloc::{AllocError, Global};
 use std::test::Fail;
+use test_helpers::any_window;
 
 /// The first byte of a header, byte 12 of CFIS, and how many bytes the window has.
 type Bytes = (u8, u8, usize);

@@ -1,5 +1,5 @@
 //! Pages that are written: in which form, to writers that take little or fail, and without memory.
-use crate::texts::TAG_3;
+use super::texts::TAG_3;
 use ata_pages::{IdentifyText, PageFault, write_identify, write_log};
 use ncq_core::{identify_page, log_page};
 use refusing_allocator::{Refusals, Refusing};
@@ -8,6 +8,7 @@ use std::io;
 use std::io::Write;
 use std::process::Abort;
 use std::test::Fail;
+use test_helpers::Full;
 
 /// How a writer fails.
 #[derive(Clone, Copy, Debug, PartialEq, Eq)]
@@ -147,4 +148,26 @@ fn a_text_wants_memory_and_raw_bytes_want_none(rt: HostRuntime) {
     assert!(rt; told.len() == 512 && heap.requests() == 0);
     assert_eq!(rt; write_identify(&heap, 8, 4, true, &mut told), Ok(()));
     assert!(rt; told.len() == 1024 && heap.requests() == 0);
+}
+
+#[test]
+fn a_page_is_written_or_output_has_failed(rt: HostRuntime) {
+    let alloc = rt.alloc();
+    for room in [0, 511, 512] {
+        let wanted = if room == 512 {
+            Ok(())
+        } else {
+            Err(PageFault::Write)
+        };
+        let identified = write_identify(alloc, 8, 4, true, &mut Full { room });
+        assert_eq!(rt; identified, wanted, "with room for {room}");
+        let logged = write_log(alloc, 3, 0x40, 7, true, &mut Full { room });
+        assert_eq!(rt; logged, wanted, "with room for {room}");
+    }
+    let mut text = Vec::new(alloc);
+    assert_eq!(rt; write_log(alloc, 3, 0x40, 7, false, &mut text), Ok(()));
+    assert!(rt;
+        text.as_slice()
+            .starts_with(b"NQ 0, UNL 0, NCQ TAG 3\nLBA 7\nbyte 000  03  ")
+    );
 }

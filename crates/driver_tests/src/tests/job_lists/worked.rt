@@ -1,5 +1,5 @@
 //! Worked job lists: what is written, or the fault that ends them.
-use crate::common::{Crew, done};
+use super::crews::{Crew, done};
 use ahci_driver::{All, Chooser, High, Low};
 use ahci_jobs::JobsFault;
 use std::alloc::{AllocError, Global};

@@ -1,23 +1,15 @@
 //! The port in use: each call once with memory, and the worked rows.
-mod comparing;
-mod errors;
-mod hostile;
-mod lists;
-mod scattered;
-mod telling;
-mod writing;
-
-use ahci_port::PlainFault;
-use ahci_regs::RegFault;
-use errors::{ERROR_IN_A_QUEUE, HELD, LAST_SECTOR};
-use lists::{AFTER_A_FAILURE, IN_ITS_ORDER};
-use ncq_journal::Outcome;
-use std::test::Fail;
-use telling::Row::{
+use super::errors::{ERROR_IN_A_QUEUE, HELD, LAST_SECTOR};
+use super::lists::{AFTER_A_FAILURE, IN_ITS_ORDER};
+use super::telling::Row::{
     Accepts, Acknowledge, Collect, Entries, Flush, Identify, Issue, Received, Register, Sector,
     Serves,
 };
-use telling::{Row, goes_on, port_of};
+use super::telling::{Row, goes_on, port_of};
+use ahci_port::PlainFault;
+use ahci_regs::RegFault;
+use ncq_journal::Outcome;
+use std::test::Fail;
 
 const REGISTERS: &[Row] = &[
     Issue(0, 1, Some(0xAA), Ok(0)),

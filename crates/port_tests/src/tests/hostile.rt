@@ -1,12 +1,12 @@
 //! Windows of any bytes, issued.
 use super::telling::{port_of, window_of};
-use crate::tests::any_window::any_window;
 use crate::tests::table::equal;
 use ahci_port::{DeviceStep, IssueFault, Port, Stepped};
 use ahci_table::Window;
 use std::alloc::{AllocError, Global};
 use std::process::Abort;
 use std::test::Fail;
+use test_helpers::any_window;
 
 /// What a port of four slots did before.
 #[derive(Clone, Copy, Debug)]

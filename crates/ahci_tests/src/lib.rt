@@ -1,6 +1,0 @@
-//! Tests of what no contract says, over the public calls of `ahci_port`, `ahci_args`, `ahci_cli` and `ata_pages`. They stand in a
-//! crate of their own, so that no other crate is proved twice.
-#![tactic(auto)]
-
-#[cfg(test)]
-mod tests;

@@ -1,0 +1,9 @@
+mod comparing;
+mod errors;
+mod hostile;
+mod lists;
+mod scattered;
+mod stories;
+mod table;
+mod telling;
+mod writing;
