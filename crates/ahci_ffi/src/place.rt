@@ -1,3 +1,5 @@
+//! The place that C has for a port, and how a port is taken out and put back.
+
 ghost use Rattle.std.specs.Prelude.{◌≡◌, is_some};
 
 use crate::bare::Bare;

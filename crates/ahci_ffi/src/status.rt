@@ -1,3 +1,5 @@
+//! The statuses, with their numbers and names.
+
 ghost use Rattle.std.specs.Prelude.{◌≡◌, MatchOption};
 ghost use Rattle.ahci_ffi.specs.{Names.{IsNoStatus}, Status.{code_of, name_of, refused_code}};
 

@@ -1,3 +1,5 @@
+//! Why each call of a port is refused, an enum a call, in the order of its tests.
+
 use ahci_regs::RegFault;
 
 /// Why a command was not issued. The cases are tested in this order.

@@ -1,3 +1,5 @@
+//! The memory that the disk moves a command's data in: the host side of a Data FIS.
+
 use ahci_table::{Piece, Window};
 use arrayvec::ArrayVec;
 use ncq_core::Host;

@@ -1,3 +1,5 @@
+//! The port: what it holds, how one is made, and the calls that read it.
+
 mod collecting;
 mod issuing;
 mod looking;

@@ -1,3 +1,5 @@
+//! One tag's request, changed in place, and the slots of a port.
+
 ghost use Rattle.std.specs.{Prelude.{◌≡◌, map, IsSome, None, Some, is_some}, List.{list_any}, Option.{option_copied, option_map}};
 ghost use Rattle.ahci_table.specs.{Command.{cfis, op, queued_of}, Fit.{IsFit}, Prdt.{pieces}, Text.{text}};
 ghost use Rattle.ncq_journal.specs.Lawful.{IsProper};

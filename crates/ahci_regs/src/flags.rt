@@ -1,3 +1,5 @@
+//! The bits of PxIS, PxCMD and PxTFD that this model has.
+
 ghost use Rattle.std.specs.Prelude.{⊤, ◌≡◌, [], ◌∷◌, codes};
 ghost use Rattle.word_bits.specs.Places.{bits, has_place, intersection, minus};
 ghost use Rattle.ahci_regs.specs.PortState.{implemented};

@@ -1,3 +1,5 @@
+//! The registers of a port, and what reads, writes and received FISes do to them.
+
 ghost use Rattle.std.specs.Prelude.{◌≡◌, ◌≤◌, ◌<◌, true, false, not, ◌&&◌, nat_eq, Ok, Err, OnOk, OnErr, IfErr, MatchResult, if◌then◌else◌};
 ghost use Rattle.word_bits.specs.Places.{bits, has_place, union, intersection, minus, only_below};
 ghost use Rattle.ahci_regs.specs.PortState.{first_state, implemented};

@@ -1,3 +1,5 @@
+//! The registers by their offsets and names (AHCI 1.3.1, sections 3.1 and 3.3).
+
 ghost use Rattle.std.specs.Prelude.{◌≡◌, IfOk};
 ghost use Rattle.ahci_regs.specs.RegisterTable.{name_of, offset_of, register_at, registers};
 

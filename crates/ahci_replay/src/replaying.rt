@@ -1,3 +1,5 @@
+//! A whole script, from its reader to its writer.
+
 ghost use Rattle.std.specs.Prelude.{◌≡◌, [], IfErr, None, OnOk};
 ghost use Rattle.streams.specs.Ends.{with_flush};
 ghost use Rattle.ahci_replay.specs.Transcript.{ReadsTo, Replayed, ReplayedTo, WritesTo, answers_alone};

@@ -1,3 +1,5 @@
+//! A script that runs: it takes lines, and tells their answers.
+
 use crate::lines::answer_line;
 use crate::script_fault::ScriptFault;
 use crate::session::Session;

@@ -1,3 +1,5 @@
+//! Who tells the answers of a script.
+
 use ahci_port::Port;
 use ahci_script::{Output, ScriptAnswer};
 use std::alloc::{AllocError, Allocator};

@@ -1,3 +1,5 @@
+//! How a window is laid out: command header, command table, data.
+
 ghost use Rattle.std.specs.Prelude.{◌≡◌, ◌<◌, ◌≤◌, ◌+◌, ◌-◌, ◌*◌, ℕ, false, true, ◌++◌, ◌^◌, length, [], None, IfOk, IfErr, IsErrAnd, MatchOption, replicate};
 ghost use Rattle.std.specs.List.{All};
 ghost use Rattle.sata_fis.specs.Command.{h2d_for};

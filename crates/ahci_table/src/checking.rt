@@ -1,3 +1,5 @@
+//! How a window is checked, rule by rule.
+
 ghost use Rattle.std.specs.Prelude.{◌≡◌, ◌*◌, ◌<◌, ◌↔◌, length, IsTrue, IsSome, IfSome, IfOk, IfErr};
 ghost use Rattle.ahci_table.specs.Command.{queued_of};
 ghost use Rattle.ahci_table.specs.Fit.{HasHeader, HasCommand, HasEntries, HasList, IsEntry, IsFit, Breaks};

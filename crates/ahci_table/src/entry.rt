@@ -1,3 +1,5 @@
+//! One entry of a PRDT (AHCI 1.3.1, section 4.2.3).
+
 ghost use Rattle.std.specs.Prelude.{◌≡◌, ◌+◌, ◌≤◌, length};
 ghost use Rattle.sata_fis.specs.Places.{number};
 

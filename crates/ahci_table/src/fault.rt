@@ -1,3 +1,5 @@
+//! Why no window is built, and which rule a window breaks.
+
 use port_refusal::Refusal;
 use std::error::Error as StdError;
 use std::fmt;

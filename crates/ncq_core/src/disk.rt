@@ -1,3 +1,5 @@
+//! The queueing disk: its image, its outstanding tags, its error.
+
 mod answers;
 mod error;
 mod identify;

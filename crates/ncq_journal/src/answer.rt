@@ -1,3 +1,5 @@
+//! How a journal answers a request.
+
 mod claims;
 
 ghost use Rattle.std.specs.Prelude.{◌≡◌, ◌^◌, ◌<◌, IfOk, Some};

@@ -1,3 +1,5 @@
+//! What an event says, without the bytes of a write.
+
 ghost use Rattle.std.specs.Prelude.{◌≡◌, ◌↔◌, IsTrue};
 ghost use Rattle.ncq_journal.specs.{EventKind.{HasLowTag, entry_of_kind}, Phase.{phase_after}};
 ghost use Rattle.ncq_journal.specs.declared.event_kind.EventKind.{EventKind};

@@ -1,3 +1,5 @@
+//! The journal: events that are numbered, and room for more.
+
 ghost use Rattle.std.specs.Prelude.{◌≡◌, ◌+◌, ◌^◌, ◌<◌, ◌≤◌, ◌∷◌, [], length, nat_eq, max, OnOk, OnErr, IsOk};
 ghost use Rattle.std.specs.Option.{option_map, option_copied};
 ghost use Rattle.ncq_journal.specs.Entry.{entry_of};

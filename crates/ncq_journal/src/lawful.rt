@@ -1,3 +1,5 @@
+//! Which event may come next, and which journals can come about: the plain definitions.
+
 ghost use Rattle.std.specs.Prelude.{◌↔◌, ◌≤◌, IsTrue};
 ghost use Rattle.ncq_journal.specs.Entry.{entry_of};
 ghost use Rattle.ncq_journal.specs.History.{history_of};

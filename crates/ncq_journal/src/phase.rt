@@ -1,3 +1,5 @@
+//! Where a tag's command stands after some events.
+
 ghost use Rattle.std.specs.Prelude.{◌≡◌};
 ghost use Rattle.ncq_journal.specs.History.{history_of};
 ghost use Rattle.ncq_journal.specs.Phase.{phase, phase_after};

@@ -1,3 +1,5 @@
+//! What a tag was last issued for.
+
 ghost use Rattle.std.specs.Prelude.{◌≡◌};
 ghost use Rattle.ncq_journal.specs.History.{history_of};
 ghost use Rattle.ncq_journal.specs.Request.{request};

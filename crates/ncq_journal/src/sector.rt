@@ -1,3 +1,5 @@
+//! Sectors of an image, and those that a journal leaves.
+
 ghost use Rattle.std.specs.Prelude.{◌≡◌, ◌+◌, ◌*◌, ◌/◌, ◌≤◌, length, take, drop};
 ghost use Rattle.ncq_journal.specs.History.{history_of};
 ghost use Rattle.ncq_journal.specs.Image.{sector_at, covers, IsWrittenOver};

@@ -1,3 +1,5 @@
+//! The words of PxSACT, PxCI and the outstanding tags that a journal gives.
+
 ghost use Rattle.std.specs.Prelude.{◌≡◌, Bool};
 ghost use Rattle.ncq_journal.specs.History.{history_of};
 ghost use Rattle.ncq_journal.specs.declared.phase.Phase.{Phase};

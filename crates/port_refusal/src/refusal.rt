@@ -1,3 +1,5 @@
+//! The reasons for which calls on a port are refused.
+
 ghost use Rattle.std.specs.Prelude.{◌≡◌, ◌≤◌, length};
 
 use thiserror::Error;

@@ -6,4 +6,5 @@ mod scattered;
 mod stories;
 mod table;
 mod telling;
+mod texts;
 mod writing;

@@ -1,3 +1,5 @@
+//! How an allocator that refuses counts what it is asked for.
+
 use std::sync::atomic::{AtomicU64, Ordering};
 
 /// What was asked for since a counter was set, and which requests are refused. It may be read and set while other threads

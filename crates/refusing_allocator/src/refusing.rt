@@ -1,3 +1,5 @@
+//! An allocator over another one, which refuses some requests.
+
 use crate::counter::{Counter, refuses, returns};
 use std::alloc::{AllocError, Allocator};
 

@@ -1,3 +1,5 @@
+//! FIS bytes as values.
+
 ghost use Rattle.std.specs.Prelude.{◌≡◌, List, length, ℕ, bit_and, Result, Ok, IfOk, IfErr};
 ghost use Rattle.sata_fis.specs.declared.fis.Fis.{Fis};
 ghost use Rattle.sata_fis.specs.declared.fault.FisFault.{FisFault};

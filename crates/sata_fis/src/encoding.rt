@@ -1,3 +1,5 @@
+//! Values as FIS bytes.
+
 ghost use Rattle.std.specs.Prelude.{◌≡◌, ◌++◌, ℕ, List, Result, Ok};
 ghost use Rattle.sata_fis.specs.declared.fis.Fis.{Fis};
 ghost use Rattle.sata_fis.specs.declared.fis.Fis.TheVariants.{Data};

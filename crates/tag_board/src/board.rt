@@ -1,3 +1,5 @@
+//! The board of free tags, which threads share without a lock.
+
 ghost use Rattle.std.specs.Prelude.{◌≡◌, ℕ, ◌<◌, ◌≤◌, true, false, ◌∷◌, IfOk, OnErr};
 ghost use Rattle.word_bits.specs.Places.{bits, has_place, with_place, without_place, union};
 ghost use Rattle.tag_board.specs.View.{missed};

@@ -4,7 +4,9 @@ use crate::tests::commands::{Command, image_of, op_of, port_of, window_of};
 use crate::tests::heap::{Heap, Row, Tried, equal, grant_all, growths_of, refuse_from, tries_each};
 use crate::tests::journal::ROOM;
 use crate::tests::shown::{Shown, look_at};
-use ahci_port::{DeviceStep, DiskFault, IssueFault, PlainFault, Port, RecoverFault, Stepped};
+use ahci_port::{
+    DeviceStep, DiskFault, IssueFault, PlainFault, Port, RecoverFault, Stepped, SubmitFault,
+};
 use ahci_table::{Window, default_pieces};
 use ncq_journal::Op;
 use std::process::Abort;
@@ -54,6 +56,7 @@ enum Call {
     Issue(Command, u8),
     /// What the command asks is handed over.
     IssueAsked(Command, u8),
+    Submit(Command, u8),
     Identify(u8),
     Flush(u8),
 }
@@ -63,23 +66,27 @@ enum Call {
 enum Said {
     Issued(u64),
     NotIssued(IssueFault),
+    NotSubmitted(SubmitFault),
     /// Word 75 of the page: the depth less one.
     Word([u8; 2]),
     Flushed,
     NotSent(PlainFault),
 }
 
-use Call::{Flush, Identify, Issue, IssueAsked};
+use Call::{Flush, Identify, Issue, IssueAsked, Submit};
 use Command::{LongWrite, Read, UrgentRead, Write};
-use Said::{Flushed, Issued, NotIssued, NotSent, Word};
+use Said::{Flushed, Issued, NotIssued, NotSent, NotSubmitted, Word};
 
 const NOT_ISSUED: Said = NotIssued(IssueFault::OutOfMemory);
+
+const NOT_SUBMITTED: Said = NotSubmitted(SubmitFault::Issue(IssueFault::OutOfMemory));
 
 const NOT_SENT: Said = NotSent(PlainFault::OutOfMemory);
 
 // A write has a copy of its bytes, which is the first growth, where they are not handed over. Room is for 129 entries beyond
 // those that stand: a new journal makes 129, one with an entry makes twice as many, and that is room enough for the next ones.
-static CALLS: [Row<Call, Said>; 16] = [
+// The window of a command that is submitted ends 4,096 bytes past the end of its data.
+static CALLS: [Row<Call, Said>; 20] = [
     Row(Issue(Read(0), 0), &[NOT_ISSUED], Issued(0), ROOM),
     Row(Issue(Read(5), 1), &[NOT_ISSUED], Issued(1), 2 * ROOM),
     Row(Issue(Read(31), 3), &[], Issued(3), 0),
@@ -105,6 +112,30 @@ static CALLS: [Row<Call, Said>; 16] = [
         2 * ROOM,
     ),
     Row(IssueAsked(Write(31, 0x11), 2), &[], Issued(2), 0),
+    Row(
+        Submit(Read(0), 0),
+        &[NOT_SUBMITTED; 2],
+        Issued(0),
+        4_608 + ROOM,
+    ),
+    Row(
+        Submit(Write(5, 0x11), 1),
+        &[NOT_SUBMITTED; 2],
+        Issued(1),
+        4_608 + 2 * ROOM,
+    ),
+    Row(
+        Submit(Write(31, 0x11), 2),
+        &[NOT_SUBMITTED],
+        Issued(2),
+        4_608,
+    ),
+    Row(
+        Submit(LongWrite(31, 7), 3),
+        &[NOT_SUBMITTED],
+        Issued(3),
+        135_168,
+    ),
     Row(Identify(0), &[NOT_SENT], Word([31, 0]), ROOM),
     Row(Identify(1), &[NOT_SENT], Word([31, 0]), 2 * ROOM),
     Row(Identify(2), &[], Word([31, 0]), 0),
@@ -219,6 +250,40 @@ fn tries_to_issue_asked<'a>(
     Ok(tried_issue(rt, heap, port, answer, &copy, &before))
 }
 
+/// What is said of a command that is submitted.
+fn said_of(answer: Result<u64, SubmitFault>) -> Said {
+    match answer {
+        Ok(number) => Issued(number),
+        Err(fault) => NotSubmitted(fault),
+    }
+}
+
+/// Submits a command while growths are refused, and then with memory the one that came back.
+fn tries_to_submit<'a>(
+    rt: &impl Abort,
+    heap: &'a Heap,
+    port: &mut Port<&'a Heap>,
+    command: Command,
+    growth: usize,
+) -> Result<Tried<Said>, Fail> {
+    let asked = op_of(heap, command)?;
+    let before = (look_at(port), heap.out());
+    refuse_from(heap, growth);
+    let answer = port.submit(command.tag(), asked);
+    let (met, bytes) = (growths_of(heap), heap.bytes());
+    grant_all(heap);
+    let (asked, fault) = match answer {
+        Ok(number) => return Ok(Tried::of(Issued(number), met, bytes)),
+        Err(refused) => refused,
+    };
+    let left = (look_at(port), heap.out());
+    equal(rt, &command, growth, &left, &before);
+    let mut tried = Tried::of(NotSubmitted(fault), met, bytes);
+    let again = port.submit(command.tag(), asked);
+    tried.again = Some(said_of(again.map_err(|(_op, fault)| fault)));
+    Ok(tried)
+}
+
 /// A port of 32 slots that has flushed so often.
 fn flushed<'a>(heap: &'a Heap, often: u8) -> Result<Port<&'a Heap>, Fail> {
     let mut port = port_of(heap, 32)?;
@@ -230,12 +295,14 @@ fn flushed<'a>(heap: &'a Heap, often: u8) -> Result<Port<&'a Heap>, Fail> {
 
 fn tries(rt: &impl Abort, heap: &Heap, call: Call, growth: usize) -> Result<Tried<Said>, Fail> {
     match call {
-        Call::Issue(command, often) | Call::IssueAsked(command, often) => {
+        Call::Issue(command, often)
+        | Call::IssueAsked(command, often)
+        | Call::Submit(command, often) => {
             let mut port = flushed(heap, often)?;
-            let tried = if matches!(call, Call::Issue(..)) {
-                tries_to_issue(rt, heap, &mut port, command, growth)?
-            } else {
-                tries_to_issue_asked(rt, heap, &mut port, command, growth)?
+            let tried = match call {
+                Call::Issue(..) => tries_to_issue(rt, heap, &mut port, command, growth)?,
+                Call::Submit(..) => tries_to_submit(rt, heap, &mut port, command, growth)?,
+                _ => tries_to_issue_asked(rt, heap, &mut port, command, growth)?,
             };
             let owned = (port.owner(command.tag()), port.journal().len());
             let number = u64::from(often);

@@ -1,6 +1,6 @@
 //! An allocator that refuses, and ports in its memory.
-use ahci_port::Port;
 use ahci_ffi::{FlatState, Status, make_zeros, state};
+use ahci_port::Port;
 use refusing_allocator::{Refusals, Refusing};
 use std::alloc::Global;
 use std::test::Fail;

@@ -2,11 +2,11 @@
 //! take none, over an allocator that has none left; and which of these give some back.
 use crate::tests::guest::{HEADER, list, window, windows};
 use crate::tests::heap::{Heap, look_at, port_of, refuse_from};
-use ahci_port::{Pending, Port};
 use ahci_ffi::{
     FlatCommand, FlatReply, FlatStep, FlatWritten, Status, accept, collect, entry_bytes, fail,
     flush, identify, issue, recover, serve, submit, trim, window_check, write_register,
 };
+use ahci_port::{Pending, Port};
 use port_refusal::Refusal;
 use refusing_allocator::{Refusals, Refusing};
 use std::alloc::Global;
@@ -217,7 +217,10 @@ fn asks_for_room(rt: &impl Abort, alloc: Global, is_driver: bool) -> Result<(), 
     assert_eq!(rt; halted(&heap, &mut port), [Status::Done; 3]);
     let before = look_at(&port);
     refuse_from(&heap, 0);
-    assert_eq!(rt; recovers(&mut port, is_driver), (Status::Refused(Refusal::OutOfMemory), 9));
+    assert_eq!(rt;
+        recovers(&mut port, is_driver),
+        (Status::Refused(Refusal::OutOfMemory), 9)
+    );
     assert!(rt; look_at(&port) == before);
     heap.refuse(Refusals::None);
     assert_eq!(rt; recovers(&mut port, is_driver), (Status::Done, 1));

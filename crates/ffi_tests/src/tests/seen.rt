@@ -1,7 +1,7 @@
 //! What can be seen of a port on which a write of sector 3 was issued by tag 1.
 use crate::tests::heap::{Heap, SECTORS, look_at, port_of};
-use ahci_port::Port;
 use ahci_ffi::{FlatEntry, Status, entry, entry_bytes, submit};
+use ahci_port::Port;
 use refusing_allocator::Refusing;
 use std::test::Fail;
 

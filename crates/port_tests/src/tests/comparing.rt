@@ -6,10 +6,9 @@ mod entries;
 use crate::tests::table::{equal, equal_bytes};
 use ahci_port::{
     CollectFault, DeviceStep, IssueFault, PlainFault, Port, RecoverFault, ReissueFault, StepFault,
-    TrimFault,
+    SubmitFault, TrimFault,
 };
 use ahci_regs::RegFault;
-use ahci_table::{Window, default_pieces};
 use calls::{Call, Command, Fault, Picks, SECTORS, is_vacant, names_twice};
 use entries::{appends, copy_of, entries_of};
 use ncq_journal::{
@@ -201,17 +200,15 @@ impl Story {
     }
 
     fn issue(&mut self, rt: &impl Abort, command: Command) -> Result<Option<IssueFault>, Fail> {
-        let Command { tag, sectors, .. } = command;
-        assert!(rt; tag < 32);
-        assert!(rt; sectors <= 256);
+        let tag = command.tag;
         let op = op_of(self.alloc, command)?;
-        let window = Window::build(self.alloc, tag, &op, &default_pieces(sectors))?;
-        match self.port.issue(window) {
+        match self.port.submit(tag, op) {
             Ok(number) => {
                 equal(rt, self.events.len(), &number, &self.end());
                 Ok(None)
             }
-            Err((_, fault)) => Ok(Some(fault)),
+            Err((_, SubmitFault::Issue(fault))) => Ok(Some(fault)),
+            Err((_, fault)) => Err(Fail::from(fault)),
         }
     }
 

@@ -4,7 +4,7 @@ ghost use Rattle.std.specs.Prelude.{◌≤◌, ◌<◌};
 use crate::tests::table::equal;
 use ahci_port::{
     CollectFault, IssueFault, PlainFault, Port, RecoverFault, ReissueFault, Reply, StepFault,
-    Stepped,
+    Stepped, SubmitFault,
 };
 use ahci_regs::RegFault;
 use ahci_table::{Window, default_pieces};
@@ -69,20 +69,19 @@ pub fn window_of(alloc: Global, tag: u8, lba: u64, byte: Option<u8>) -> Result<W
     Ok(Window::build(alloc, tag, &op, &default_pieces(1))?)
 }
 
-/// Issues a command, and answers its number.
-fn issue(
+/// Submits a command, and answers its number.
+fn submit(
     alloc: Global,
     port: &mut Port,
     tag: u8,
     lba: u64,
     byte: Option<u8>,
-) -> Result<Result<u64, IssueFault>, Fail>
-    requires { tag < 32 }
-{
-    Ok(match port.issue(window_of(alloc, tag, lba, byte)?) {
-        Ok(number) => Ok(number),
-        Err((_, fault)) => Err(fault),
-    })
+) -> Result<Result<u64, IssueFault>, Fail> {
+    match port.submit(tag, op_of(alloc, lba, byte)?) {
+        Ok(number) => Ok(Ok(number)),
+        Err((_, SubmitFault::Issue(fault))) => Ok(Err(fault)),
+        Err((_, fault)) => Err(Fail::from(fault)),
+    }
 }
 
 /// The reply of a request, and the byte that its window's text is filled with.
@@ -182,8 +181,7 @@ pub fn goes<L: Debug + Copy>(
 ) -> Result<(), Fail> {
     match call {
         Row::Issue(tag, lba, byte, answer) => {
-            assert!(rt; tag < 32);
-            equal(rt, row, &issue(alloc, port, tag, lba, byte)?, &answer);
+            equal(rt, row, &submit(alloc, port, tag, lba, byte)?, &answer);
         }
         Row::Step(step, answer) => steps(rt, alloc, port, row, step, answer)?,
         Row::Accepts(tags, first) => {
