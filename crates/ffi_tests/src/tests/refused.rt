@@ -25,11 +25,11 @@ enum Call {
     Check,
 }
 
-// How many requests each makes of a new port: a read its window and the journal's room; a write its bytes and the journal's
-// copy of them too; a window that is issued, also by a bit of PxCI, its copy and the journal's room; a check the window's copy.
+// How many requests each makes of a new port: a read its window and the journal's room; a write its bytes too, which the journal
+// keeps as they are; a window that is issued, also by a bit of PxCI, its copy and the journal's room; a check the window's copy.
 static CALLS: [(Call, u64); 7] = [
     (Call::Read, 2),
-    (Call::Write, 4),
+    (Call::Write, 3),
     (Call::Issue, 2),
     (Call::Command, 2),
     (Call::Identify, 1),
