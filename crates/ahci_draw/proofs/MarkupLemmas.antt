@@ -3,7 +3,7 @@ use Rattle.std.proofs.Common.{◌≡◌, ℕ, suc, zero, ◌/◌, ◌%◌, ◌<�
 use Rattle.std.specs.Fmt.{decimal, digit_glyph, digits, digits_onto}
 use Rattle.std.specs.List.{flat_map, list_all}
 use Rattle.std.proofs.lemmas.Bool.{and_from, and_parts, not-true}
-use Rattle.ahci_script.specs.Answers.{hex_of}
+use Rattle.streams.specs.Text.{hex_of}
 use Rattle.ahci_draw.specs.Markup.{Reader, Text, Quoted, after, at, is_plain, reads, wrong}
 
 -- ---- plain bytes

@@ -8,7 +8,7 @@ use Rattle.ahci_port.specs.PortView.{PortView, next_number}
 use Rattle.ahci_replay.specs.Transcript.{Adds, RunsLine, no_line, one_more}
 use Rattle.ahci_replay.specs.declared.script_fault.ScriptFault.{ScriptFault}
 use Rattle.ahci_replay.specs.declared.script_fault.ScriptFault.TheVariants as fault
-use Rattle.ahci_script.specs.Answers.{hex_of}
+use Rattle.streams.specs.Text.{hex_of}
 use Rattle.ahci_script.specs.Said.{Said}
 use Rattle.ahci_script.specs.declared.line.Line.{Line}
 use Rattle.ahci_script.specs.declared.line.Line.TheVariants as line

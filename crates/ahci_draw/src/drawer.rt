@@ -2,12 +2,13 @@ ghost use Rattle.std.specs.Prelude.{◌≡◌};
 ghost use Rattle.ahci_draw.specs.Mark.{mark_of};
 ghost use Rattle.ahci_draw.specs.Sheet.{sheet_text};
 
+use crate::entries::push_added;
 use crate::mark::Mark;
-use crate::text::Text;
 use ahci_port::Port;
 use ahci_replay::Teller;
 use ahci_script::{Output, ScriptAnswer};
 use std::alloc::{AllocError, Allocator};
+use streams::TextBuffer;
 
 /// Tells of each answer which entries its command has added, on the sheet from which the picture is made.
 #[derive(Drop)]
@@ -32,9 +33,9 @@ impl<A: Allocator + Copy> Drawer<A> {
         ensures { IfOk result (λ text. (before : Option PortView) → mark.now ≡ mark_of before
             → text.items ≡ added_between before (option_copied port.entry)) }
     {
-        let mut text = Text::new(self.alloc);
+        let mut text = TextBuffer::new(self.alloc);
         if let Some(port) = port {
-            text.push_added(mark, port)?;
+            push_added(&mut text, mark, port)?;
         }
         Ok(text.into_bytes())
     }

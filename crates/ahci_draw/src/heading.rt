@@ -5,8 +5,9 @@ ghost use Rattle.ahci_draw.specs.Heading.{heading_text, width_of};
 ghost use Rattle.ahci_draw.specs.Row.{row_top, rows_in};
 
 use crate::row::{row_top, rows_in};
-use crate::text::{Piece, Text};
+use crate::text::{Piece, push_pieces};
 use std::alloc::{AllocError, Allocator};
+use streams::TextBuffer;
 
 /// The end of the frame's tag, and what colours and signs mean.
 static KEY: &[u8] =
@@ -30,15 +31,20 @@ fn width_of(columns: usize) -> u128
     (12 * (columns.min(100) as u128) + 80).max(640)
 }
 
-impl<A: Allocator> Text<A> {
-    /// Appends what stands before the rows, where there are so many columns and lanes.
-    pub(crate) fn push_heading(&mut self, columns: usize, lanes: usize) -> Result<(), AllocError>
-        requires { lanes ≤ 32 }
-        ensures { OnOk result (self.new ≡ self.old ++ heading_text columns lanes) }
-    {
-        let width = width_of(columns);
-        let height = row_top(lanes, rows_in(columns));
-        self.push_pieces(&[
+/// Appends what stands before the rows, where there are so many columns and lanes.
+pub(crate) fn push_heading<A: Allocator>(
+    text: &mut TextBuffer<A>,
+    columns: usize,
+    lanes: usize,
+) -> Result<(), AllocError>
+    requires { lanes ≤ 32 }
+    ensures { OnOk result (text.new.bytes ≡ text.old.bytes ++ heading_text columns lanes) }
+{
+    let width = width_of(columns);
+    let height = row_top(lanes, rows_in(columns));
+    push_pieces(
+        text,
+        &[
             Piece::Numbered(b"<svg xmlns='http://www.w3.org/2000/svg' width='", width),
             Piece::Numbered(b"' height='", height),
             Piece::Numbered(b"' viewBox='0 0 ", width),
@@ -50,6 +56,6 @@ impl<A: Allocator> Text<A> {
             ),
             Piece::Numbered(b", tags: ", lanes as u128),
             Piece::Word(b"</text></g>"),
-        ])
-    }
+        ],
+    )
 }

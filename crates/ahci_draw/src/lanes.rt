@@ -6,9 +6,11 @@ ghost use Rattle.ahci_draw.specs.Lanes.{cells_in, device_text, has_lane, is_told
 ghost use Rattle.ahci_draw.specs.Lines.{texts};
 
 use crate::sheet::{DEVICE, LANE, byte_at};
-use crate::strip::Strip;
-use crate::text::{Text, letter};
+use crate::signs::push_signs;
+use crate::strip::{Strip, push_runs};
+use crate::text::{letter, push_number};
 use std::alloc::{AllocError, Allocator};
+use streams::TextBuffer;
 
 /// Whether an entry tells of a tag: the tag is not free after it, or it is the entry's own.
 fn is_told(line: &[u8], tag: usize) -> bool
@@ -56,43 +58,55 @@ fn cells_in<A: Allocator>(alloc: A, lines: &[&[u8]], place: usize) -> Result<Vec
     bytes_at(alloc, lines, place)
 }
 
-impl<A: Allocator + Copy> Text<A> {
-    /// Appends the lane of a tag, after so many others.
-    #[tactic(auto, unfolding(crate::specs::Lanes::lane_text))]
-    fn push_lane(&mut self, lines: &[&[u8]], lane: usize, tag: usize) -> Result<(), AllocError>
-        ensures { OnOk result (self.new ≡ self.old ++ lane_text (texts lines.now) lane tag) }
-    {
-        let cells = cells_in(self.alloc(), lines, tag)?;
-        self.push_number(b"\n<text x='36' y='", 16 * (lane as u128) + 35)?;
-        self.push_number(b"'>tag ", tag as u128)?;
-        self.push(b"</text>")?;
-        self.push_runs(Strip::Lane(lane), &cells)?;
-        self.push_signs(letter(tag), 16 * (lane as u128) + 35, lines)
-    }
+/// Appends the lane of a tag, after so many others.
+#[tactic(auto, unfolding(crate::specs::Lanes::lane_text))]
+fn push_lane<A: Allocator + Copy>(
+    text: &mut TextBuffer<A>,
+    lines: &[&[u8]],
+    lane: usize,
+    tag: usize,
+) -> Result<(), AllocError>
+    ensures { OnOk result (text.new.bytes ≡ text.old.bytes ++ lane_text (texts lines.now) lane tag) }
+{
+    let cells = cells_in(text.alloc(), lines, tag)?;
+    push_number(text, b"\n<text x='36' y='", 16 * (lane as u128) + 35)?;
+    push_number(text, b"'>tag ", tag as u128)?;
+    text.push(b"</text>")?;
+    push_runs(text, Strip::Lane(lane), &cells)?;
+    push_signs(text, letter(tag), 16 * (lane as u128) + 35, lines)
+}
 
-    /// Appends the lanes of these tags.
-    #[tactic(auto, unfolding(crate::specs::Lanes::lanes_text))]
-    pub(crate) fn push_lanes(&mut self, tags: &[usize], lines: &[&[u8]]) -> Result<(), AllocError>
-        ensures { OnOk result (self.new ≡ self.old ++ lanes_text tags.now (texts lines.now)) }
-    {
-        for lane in 0..tags.len() {
-            self.push_lane(lines, lane, tags[lane])?;
-        }
-        Ok(())
+/// Appends the lanes of these tags.
+#[tactic(auto, unfolding(crate::specs::Lanes::lanes_text))]
+pub(crate) fn push_lanes<A: Allocator + Copy>(
+    text: &mut TextBuffer<A>,
+    tags: &[usize],
+    lines: &[&[u8]],
+) -> Result<(), AllocError>
+    ensures { OnOk result (text.new.bytes ≡ text.old.bytes ++ lanes_text tags.now (texts lines.now)) }
+{
+    for lane in 0..tags.len() {
+        push_lane(text, lines, lane, tags[lane])?;
     }
+    Ok(())
+}
 
-    /// Appends the row of the device, below so many lanes.
-    #[tactic(auto, unfolding(crate::specs::Lanes::device_text))]
-    pub(crate) fn push_device(&mut self, lanes: usize, lines: &[&[u8]]) -> Result<(), AllocError>
-        ensures { OnOk result (self.new ≡ self.old ++ device_text lanes (texts lines.now)) }
-    {
-        let cells = cells_in(self.alloc(), lines, DEVICE)?;
-        self.push_number(
-            b"\n<g fill='#579'><text x='36' y='",
-            19 * (lanes as u128) + 30,
-        )?;
-        self.push(b"'>in device</text>")?;
-        self.push_runs(Strip::Device(lanes), &cells)?;
-        self.push(b"</g>")
-    }
+/// Appends the row of the device, below so many lanes.
+#[tactic(auto, unfolding(crate::specs::Lanes::device_text))]
+pub(crate) fn push_device<A: Allocator + Copy>(
+    text: &mut TextBuffer<A>,
+    lanes: usize,
+    lines: &[&[u8]],
+) -> Result<(), AllocError>
+    ensures { OnOk result (text.new.bytes ≡ text.old.bytes ++ device_text lanes (texts lines.now)) }
+{
+    let cells = cells_in(text.alloc(), lines, DEVICE)?;
+    push_number(
+        text,
+        b"\n<g fill='#579'><text x='36' y='",
+        19 * (lanes as u128) + 30,
+    )?;
+    text.push(b"'>in device</text>")?;
+    push_runs(text, Strip::Device(lanes), &cells)?;
+    text.push(b"</g>")
 }

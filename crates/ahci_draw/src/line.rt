@@ -7,9 +7,11 @@ ghost use Rattle.ahci_draw.specs.Line.{cell, cells, entry_line, issue_sign, lane
 
 use crate::tag_state::TagState;
 use crate::tags::in_device;
-use crate::text::{Text, letter};
+use crate::text::letter;
+use crate::words::push_title;
 use ncq_journal::{Event, Op, Phase, Plain};
 use std::alloc::{AllocError, Allocator};
+use streams::TextBuffer;
 
 /// Where a tag stands, as a letter: a capital for a write.
 fn cell(phase: Phase, writes: bool) -> u8
@@ -81,31 +83,32 @@ fn lane_of<A: Allocator>(event: &Event<A>) -> u8
     }
 }
 
-impl<A: Allocator> Text<A> {
-    /// Appends a letter for each tag.
-    #[tactic(auto, unfolding(crate::specs::Line::cells))]
-    fn push_cells(&mut self, tags: &[TagState; 32]) -> Result<(), AllocError>
-        ensures { OnOk result (self.new ≡ self.old ++ cells tags.now) }
-    {
-        for tag in 0..32u8 {
-            self.push(&[cell(tags[tag as usize].phase, tags[tag as usize].writes)])?;
-        }
-        Ok(())
+/// Appends a letter for each tag.
+#[tactic(auto, unfolding(crate::specs::Line::cells))]
+fn push_cells<A: Allocator>(
+    text: &mut TextBuffer<A>,
+    tags: &[TagState; 32],
+) -> Result<(), AllocError>
+    ensures { OnOk result (text.new.bytes ≡ text.old.bytes ++ cells tags.now) }
+{
+    for tag in 0..32u8 {
+        text.push(&[cell(tags[tag as usize].phase, tags[tag as usize].writes)])?;
     }
+    Ok(())
+}
 
-    /// Appends the line of an entry, after which the tags stand so.
-    #[tactic(auto, unfolding(crate::specs::Line::entry_line))]
-    pub(crate) fn push_line<B: Allocator>(
-        &mut self,
-        number: u64,
-        tags: &[TagState; 32],
-        event: &Event<B>,
-    ) -> Result<(), AllocError>
-        ensures { OnOk result (self.new ≡ self.old ++ entry_line number tags.now (entry_of event.now)) }
-    {
-        self.push(b"\n")?;
-        self.push_cells(tags)?;
-        self.push(&[letter(in_device(tags)), sign_of(event), lane_of(event)])?;
-        self.push_title(number, event)
-    }
+/// Appends the line of an entry, after which the tags stand so.
+#[tactic(auto, unfolding(crate::specs::Line::entry_line))]
+pub(crate) fn push_line<A: Allocator, B: Allocator>(
+    text: &mut TextBuffer<A>,
+    number: u64,
+    tags: &[TagState; 32],
+    event: &Event<B>,
+) -> Result<(), AllocError>
+    ensures { OnOk result (text.new.bytes ≡ text.old.bytes ++ entry_line number tags.now (entry_of event.now)) }
+{
+    text.push(b"\n")?;
+    push_cells(text, tags)?;
+    text.push(&[letter(in_device(tags)), sign_of(event), lane_of(event)])?;
+    push_title(text, number, event)
 }

@@ -4,10 +4,12 @@ ghost use Rattle.std.specs.Prelude.{◌≡◌, ◌≤◌, IfOk, length};
 ghost use Rattle.ahci_draw.specs.Lines.{texts};
 ghost use Rattle.ahci_draw.specs.Picture.{picture_of, picture_text, picture_with};
 
+use crate::heading::push_heading;
 use crate::lanes::tags_in;
+use crate::row::push_rows;
 use crate::sheet::lines_from;
-use crate::text::Text;
 use std::alloc::{AllocError, Allocator};
+use streams::TextBuffer;
 
 /// The picture of these lines with lanes for these tags.
 fn picture_with<A: Allocator + Copy>(
@@ -18,9 +20,9 @@ fn picture_with<A: Allocator + Copy>(
     requires { length tags.now ≤ 32 }
     ensures { IfOk result (λ text. text.items ≡ picture_with tags.now (texts lines.now)) }
 {
-    let mut text = Text::new(alloc);
-    text.push_heading(lines.len(), tags.len())?;
-    text.push_rows(tags, lines)?;
+    let mut text = TextBuffer::new(alloc);
+    push_heading(&mut text, lines.len(), tags.len())?;
+    push_rows(&mut text, tags, lines)?;
     text.push(b"\n</svg>")?;
     Ok(text.into_bytes())
 }

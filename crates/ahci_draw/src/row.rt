@@ -4,8 +4,12 @@ ghost use Rattle.std.specs.Prelude.{◌≡◌, ◌++◌, ◌*◌, ◌<◌, ◌�
 ghost use Rattle.ahci_draw.specs.Lines.{texts};
 ghost use Rattle.ahci_draw.specs.Row.{row_height, row_of, row_text, row_top, rows_in, rows_text};
 
-use crate::text::Text;
+use crate::grid::push_grid;
+use crate::lanes::{push_device, push_lanes};
+use crate::signs::push_heads;
+use crate::text::push_number;
 use std::alloc::{AllocError, Allocator};
+use streams::TextBuffer;
 
 /// How many rows so many columns have.
 pub(crate) fn rows_in(columns: usize) -> usize
@@ -41,31 +45,42 @@ fn row_of<'a, 'b>(lines: &'b [&'a [u8]], row: usize) -> &'b [&'a [u8]]
     &rest[..100]
 }
 
-impl<A: Allocator + Copy> Text<A> {
-    /// Appends a row with a lane for each of these tags.
-    #[tactic(auto, unfolding(crate::specs::Row::row_text))]
-    fn push_row(&mut self, tags: &[usize], lines: &[&[u8]], row: usize) -> Result<(), AllocError>
-        requires { length tags.now ≤ 32 }
-        ensures { OnOk result (self.new ≡ self.old ++ row_text tags.now (texts lines.now) row) }
-    {
-        self.push_number(b"\n<g transform='translate(0 ", row_top(tags.len(), row))?;
-        self.push(b")'>")?;
-        self.push_grid(tags.len(), lines.len())?;
-        self.push_heads(tags.len(), lines)?;
-        self.push_lanes(tags, lines)?;
-        self.push_device(tags.len(), lines)?;
-        self.push(b"</g>")
-    }
+/// Appends a row with a lane for each of these tags.
+#[tactic(auto, unfolding(crate::specs::Row::row_text))]
+fn push_row<A: Allocator + Copy>(
+    text: &mut TextBuffer<A>,
+    tags: &[usize],
+    lines: &[&[u8]],
+    row: usize,
+) -> Result<(), AllocError>
+    requires { length tags.now ≤ 32 }
+    ensures { OnOk result (text.new.bytes ≡ text.old.bytes ++ row_text tags.now (texts lines.now) row) }
+{
+    push_number(
+        text,
+        b"\n<g transform='translate(0 ",
+        row_top(tags.len(), row),
+    )?;
+    text.push(b")'>")?;
+    push_grid(text, tags.len(), lines.len())?;
+    push_heads(text, tags.len(), lines)?;
+    push_lanes(text, tags, lines)?;
+    push_device(text, tags.len(), lines)?;
+    text.push(b"</g>")
+}
 
-    /// Appends all rows.
-    #[tactic(auto, unfolding(crate::specs::Row::rows_text))]
-    pub(crate) fn push_rows(&mut self, tags: &[usize], lines: &[&[u8]]) -> Result<(), AllocError>
-        requires { length tags.now ≤ 32 }
-        ensures { OnOk result (self.new ≡ self.old ++ rows_text tags.now (texts lines.now)) }
-    {
-        for row in 0..rows_in(lines.len()) {
-            self.push_row(tags, row_of(lines, row), row)?;
-        }
-        Ok(())
+/// Appends all rows.
+#[tactic(auto, unfolding(crate::specs::Row::rows_text))]
+pub(crate) fn push_rows<A: Allocator + Copy>(
+    text: &mut TextBuffer<A>,
+    tags: &[usize],
+    lines: &[&[u8]],
+) -> Result<(), AllocError>
+    requires { length tags.now ≤ 32 }
+    ensures { OnOk result (text.new.bytes ≡ text.old.bytes ++ rows_text tags.now (texts lines.now)) }
+{
+    for row in 0..rows_in(lines.len()) {
+        push_row(text, tags, row_of(lines, row), row)?;
     }
+    Ok(())
 }

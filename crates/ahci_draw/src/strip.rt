@@ -5,8 +5,9 @@ ghost use Rattle.std.specs.Prelude.{◌≡◌, ◌++◌, ◌<◌, ◌==◌, OnOk
 ghost use Rattle.std.specs.List.{take_while};
 ghost use Rattle.ahci_draw.specs.Strip.{bar_shape, begins, colour_of, level_shape, run_at, run_length, run_text, runs_text};
 
-use crate::text::{Piece, Text};
+use crate::text::{Piece, push_pieces};
 use std::alloc::{AllocError, Allocator};
+use streams::TextBuffer;
 
 /// Which strip of a row.
 #[derive(Clone, Copy, Debug)]
@@ -58,40 +59,44 @@ fn run_length(cells: &[u8], place: usize) -> usize
     front_length(&cells[place..], cells[place])
 }
 
-impl<A: Allocator> Text<A> {
-    /// Appends the bar of so many columns from one on.
-    #[tactic(auto, unfolding(crate::specs::Strip::bar_shape))]
-    fn push_bar(
-        &mut self,
-        lane: usize,
-        colour: &[u8],
-        start: usize,
-        count: usize,
-    ) -> Result<(), AllocError>
-        ensures { OnOk result (self.new ≡ self.old ++ bar_shape lane colour.now start count) }
-    {
-        self.push_pieces(&[
+/// Appends the bar of so many columns from one on.
+#[tactic(auto, unfolding(crate::specs::Strip::bar_shape))]
+fn push_bar<A: Allocator>(
+    text: &mut TextBuffer<A>,
+    lane: usize,
+    colour: &[u8],
+    start: usize,
+    count: usize,
+) -> Result<(), AllocError>
+    ensures { OnOk result (text.new.bytes ≡ text.old.bytes ++ bar_shape lane colour.now start count) }
+{
+    push_pieces(
+        text,
+        &[
             Piece::Word(b"<path stroke='#"),
             Piece::Word(colour),
             Piece::Numbered(b"' d='M", 12 * (start as u128) + 72),
             Piece::Numbered(b" ", 16 * (lane as u128) + 32),
             Piece::Numbered(b"h", 12 * (count as u128)),
             Piece::Word(b"'/>"),
-        ])
-    }
+        ],
+    )
+}
 
-    /// Appends a bar as high as so many tags of the device, and their number below its first column.
-    #[tactic(auto, unfolding(crate::specs::Strip::level_shape))]
-    fn push_level(
-        &mut self,
-        lanes: usize,
-        tags: u8,
-        start: usize,
-        count: usize,
-    ) -> Result<(), AllocError>
-        ensures { OnOk result (self.new ≡ self.old ++ level_shape lanes tags start count) }
-    {
-        self.push_pieces(&[
+/// Appends a bar as high as so many tags of the device, and their number below its first column.
+#[tactic(auto, unfolding(crate::specs::Strip::level_shape))]
+fn push_level<A: Allocator>(
+    text: &mut TextBuffer<A>,
+    lanes: usize,
+    tags: u8,
+    start: usize,
+    count: usize,
+) -> Result<(), AllocError>
+    ensures { OnOk result (text.new.bytes ≡ text.old.bytes ++ level_shape lanes tags start count) }
+{
+    push_pieces(
+        text,
+        &[
             Piece::Numbered(b"<path d='M", 12 * (start as u128) + 72),
             Piece::Numbered(b" ", 19 * (lanes as u128) + 30),
             Piece::Numbered(b"v-", 3 * (tags as u128)),
@@ -101,46 +106,55 @@ impl<A: Allocator> Text<A> {
             Piece::Numbered(b"' y='", 19 * (lanes as u128) + 40),
             Piece::Numbered(b"'>", tags as u128),
             Piece::Word(b"</text>"),
-        ])
-    }
+        ],
+    )
+}
 
-    /// Appends what is drawn of a run of a letter, which has so many columns from one on.
-    fn push_run(
-        &mut self,
-        strip: Strip,
-        cell: u8,
-        start: usize,
-        count: usize,
-    ) -> Result<(), AllocError>
-        ensures { OnOk result (self.new ≡ self.old ++ run_text strip cell start count) }
-    {
-        match strip {
-            Strip::Lane(_) if cell == b'.' => Ok(()),
-            Strip::Lane(lane) => self.push_bar(lane, colour_of(cell), start, count),
-            Strip::Device(_) if cell <= b'A' => Ok(()),
-            Strip::Device(lanes) => self.push_level(lanes, cell - b'A', start, count),
-        }
+/// Appends what is drawn of a run of a letter, which has so many columns from one on.
+fn push_run<A: Allocator>(
+    text: &mut TextBuffer<A>,
+    strip: Strip,
+    cell: u8,
+    start: usize,
+    count: usize,
+) -> Result<(), AllocError>
+    ensures { OnOk result (text.new.bytes ≡ text.old.bytes ++ run_text strip cell start count) }
+{
+    match strip {
+        Strip::Lane(_) if cell == b'.' => Ok(()),
+        Strip::Lane(lane) => push_bar(text, lane, colour_of(cell), start, count),
+        Strip::Device(_) if cell <= b'A' => Ok(()),
+        Strip::Device(lanes) => push_level(text, lanes, cell - b'A', start, count),
     }
+}
 
-    /// Appends the run that begins at a place; nothing where none does.
-    fn push_run_at(&mut self, strip: Strip, cells: &[u8], place: usize) -> Result<(), AllocError>
-        requires { place < length cells.now }
-        ensures { OnOk result (self.new ≡ self.old ++ run_at strip cells.now place) }
-    {
-        if begins(cells, place) {
-            return self.push_run(strip, cells[place], place, run_length(cells, place));
-        }
-        Ok(())
+/// Appends the run that begins at a place; nothing where none does.
+fn push_run_at<A: Allocator>(
+    text: &mut TextBuffer<A>,
+    strip: Strip,
+    cells: &[u8],
+    place: usize,
+) -> Result<(), AllocError>
+    requires { place < length cells.now }
+    ensures { OnOk result (text.new.bytes ≡ text.old.bytes ++ run_at strip cells.now place) }
+{
+    if begins(cells, place) {
+        return push_run(text, strip, cells[place], place, run_length(cells, place));
     }
+    Ok(())
+}
 
-    /// Appends all runs of a strip, in which each column has a letter.
-    #[tactic(auto, unfolding(crate::specs::Strip::runs_text))]
-    pub(crate) fn push_runs(&mut self, strip: Strip, cells: &[u8]) -> Result<(), AllocError>
-        ensures { OnOk result (self.new ≡ self.old ++ runs_text strip cells.now) }
-    {
-        for place in 0..cells.len() {
-            self.push_run_at(strip, cells, place)?;
-        }
-        Ok(())
+/// Appends all runs of a strip, in which each column has a letter.
+#[tactic(auto, unfolding(crate::specs::Strip::runs_text))]
+pub(crate) fn push_runs<A: Allocator>(
+    text: &mut TextBuffer<A>,
+    strip: Strip,
+    cells: &[u8],
+) -> Result<(), AllocError>
+    ensures { OnOk result (text.new.bytes ≡ text.old.bytes ++ runs_text strip cells.now) }
+{
+    for place in 0..cells.len() {
+        push_run_at(text, strip, cells, place)?;
     }
+    Ok(())
 }

@@ -2,3 +2,4 @@ pub mod ListLemmas
 pub mod RunningLemmas
 mod FormLemmas
 mod NotedLemmas
+pub mod ScriptLemmas

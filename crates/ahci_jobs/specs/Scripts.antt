@@ -1,9 +1,11 @@
 -- A journal as a script: for each entry the command of the language that appends it.
-use Rattle.std.specs.Prelude.{ℕ, ◌+◌, ◌/◌, false, List, [], ◌∷◌, ◌++◌, Option, None, Some, length, nat_lt, slice_index, codes, if◌then◌else◌}
-use Rattle.std.specs.Fmt.{decimal}
+use Rattle.std.specs.Prelude.{◌≡◌, ℕ, ◌+◌, ◌/◌, false, List, [], ◌∷◌, ◌++◌, Ok, Option, None, Some, MatchOption, length, nat_lt, slice_index, codes, if◌then◌else◌}
 use Rattle.ahci_port.specs.PortView.{PortView, sectors_in}
-use Rattle.ahci_script.specs.Answers.{hex_of}
-use Rattle.ahci_script.specs.Printing.{before}
+use Rattle.ahci_script.specs.Lines.{reading}
+use Rattle.ahci_script.specs.Printing.{IsInRange, printed}
+use Rattle.ahci_script.specs.declared.line.Line.TheVariants as line
+use Rattle.ahci_script.specs.declared.line.ScriptCommand.{ScriptCommand}
+use Rattle.ahci_script.specs.declared.line.ScriptCommand.TheVariants as command
 use Rattle.ncq_journal.specs.Entry.{Entry, Issue, Accept, Complete, Fail, Recover, Reissue, Collect, Unqueued}
 use Rattle.ncq_journal.specs.Request.{Request, request}
 use Rattle.ncq_journal.specs.Work.{Work, Read, Write, lba_of, sectors_of}
@@ -23,43 +25,44 @@ issued_by sectors (Some r) = record { number = r.number; is_outside = nat_lt sec
 abbrev pub issued_in : ℕ → List Entry → ℕ → Issued
 issued_in sectors past tag = issued_by sectors (request past tag)
 
--- a word and the number of a tag
-abbrev pub tagged : List ℕ → ℕ → List ℕ
-tagged word tag = before word (decimal tag)
-
 -- a command is issued; a write's sectors are shown by their first byte
-unfoldable pub issue_line : ℕ → Work → List ℕ
-issue_line tag (Read lba sectors) = before (codes "read") (before (decimal tag) (before (decimal lba) (decimal sectors)))
-issue_line tag (Write lba bytes) =
-    before (codes "write") (before (decimal tag) (before (decimal lba) (before (decimal (length bytes / 512)) (hex_of 2 (slice_index bytes 0)))))
+abbrev pub issue_command : ℕ → Work → ScriptCommand
+issue_command tag (Read lba sectors) = command.Read tag lba sectors
+issue_command tag (Write lba bytes) = command.Write tag lba (length bytes / 512) (slice_index bytes 0)
 
 -- a command fails: one that passes the last sector as it is accepted, any other by the device
-unfoldable pub fail_line : Issued → ℕ → ℕ → ℕ → List ℕ
-fail_line issued tag error lba =
-    if issued.is_outside then tagged (codes "accept") tag
-    else before (codes "fail") (before (decimal tag) (before (hex_of 2 error) (decimal lba)))
+abbrev pub fail_command : Issued → ℕ → ℕ → ℕ → ScriptCommand
+fail_command issued tag error lba = if issued.is_outside then command.Accept tag else command.Fail tag error lba
 
-unfoldable pub collect_line : Issued → ℕ → List ℕ
-collect_line issued tag = before (codes "collect") (before (decimal tag) (decimal issued.number))
+abbrev pub collect_command : Issued → ℕ → ScriptCommand
+collect_command issued tag = command.Collect tag issued.number
 
--- READ LOG EXT is part of a recovery and has no command; a comment stands for it
-abbrev pub plain_line : Plain → List ℕ
-plain_line Identify = codes "identify 0"
-plain_line Flush = codes "flush"
-plain_line ReadLog = codes "# READ LOG EXT"
+-- READ LOG EXT is part of a recovery and has no command
+abbrev pub unqueued_command : Plain → Option ScriptCommand
+unqueued_command Identify = Some (command.Identify 0)
+unqueued_command Flush = Some command.Flush
+unqueued_command ReadLog = None
 
 -- the command that appends an entry, where its tag's request is so
-abbrev pub entry_line : (ℕ → Issued) → Entry → List ℕ
-entry_line issued (Issue tag work) = issue_line tag work
-entry_line issued (Accept tag) = tagged (codes "accept") tag
-entry_line issued (Complete tag) = tagged (codes "serve") tag
-entry_line issued (Fail tag error lba) = fail_line (issued tag) tag error lba
-entry_line issued (Recover tag) = codes "recover"
-entry_line issued (Reissue tag) = tagged (codes "reissue") tag
-entry_line issued (Collect tag) = collect_line (issued tag) tag
-entry_line issued (Unqueued command) = plain_line command
+abbrev pub entry_command : (ℕ → Issued) → Entry → Option ScriptCommand
+entry_command issued (Issue tag work) = Some (issue_command tag work)
+entry_command issued (Accept tag) = Some (command.Accept tag)
+entry_command issued (Complete tag) = Some (command.Serve (record { items = tag ∷ [] }))
+entry_command issued (Fail tag error lba) = Some (fail_command (issued tag) tag error lba)
+entry_command issued (Recover tag) = Some command.Recover
+entry_command issued (Reissue tag) = Some (command.Reissue tag)
+entry_command issued (Collect tag) = Some (collect_command (issued tag) tag)
+entry_command issued (Unqueued command) = unqueued_command command
 
--- the commands of a journal, the oldest first
+-- a command as it is printed; a comment stands for none
+abbrev pub command_line : Option ScriptCommand → List ℕ
+command_line None = codes "# READ LOG EXT"
+command_line (Some command) = printed command
+
+abbrev pub entry_line : (ℕ → Issued) → Entry → List ℕ
+entry_line issued entry = command_line (entry_command issued entry)
+
+-- the lines of a journal, the oldest entry's first
 abbrev pub entry_lines : ℕ → List Entry → List ℕ
 entry_lines sectors [] = []
 entry_lines sectors (entry ∷ past) = entry_lines sectors past ++ (entry_line (issued_in sectors past) entry ++ 10 ∷ [])
@@ -67,4 +70,11 @@ entry_lines sectors (entry ∷ past) = entry_lines sectors past ++ (entry_line (
 -- the disk, and what was done on it
 unfoldable pub script_text : PortView → List ℕ
 script_text port =
-    before (codes "disk") (before (decimal (sectors_in port)) (decimal port.depth)) ++ (10 ∷ entry_lines (sectors_in port) port.past)
+    (printed (command.Disk (sectors_in port) port.depth None) ++ 10 ∷ []) ++ entry_lines (sectors_in port) port.past
+
+-- each line of a script that tells a journal is read as the command of its entry, if the numbers are in their ranges, and the
+-- comment is passed over
+abbrev pub AreLinesRead : Type 0
+AreLinesRead = (issued : ℕ → Issued) (entry : Entry) → MatchOption (entry_command issued entry)
+    (reading (entry_line issued entry) ≡ Ok line.Skip)
+    (λ command. IsInRange command → reading (entry_line issued entry) ≡ Ok (line.Run command))

@@ -5,6 +5,7 @@ mod form;
 mod issued;
 mod job_list;
 mod jobs_fault;
+pub mod laws;
 mod making;
 mod objects;
 mod run_size;

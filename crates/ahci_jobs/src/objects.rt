@@ -7,52 +7,59 @@ ghost use Rattle.ahci_jobs.specs.Objects.{answer_member, job_members, job_object
 
 use crate::telling::line_of;
 use ahci_driver::Receipt;
-use ahci_script::ResultLine;
-use ahci_script::growing::{push, push_number, push_result};
+use ahci_script::{ResultLine, push_result};
 use std::alloc::{AllocError, Allocator};
+use streams::TextBuffer;
 
 /// Appends the last member of an object, and its end.
 #[tactic(auto, unfolding(crate::specs::Objects::answer_member))]
-fn push_answer<A: Allocator>(text: &mut Vec<u8, A>, line: ResultLine<'_>) -> Result<(), AllocError>
-    ensures { OnOk result (text.new.items ≡ text.old.items ++ answer_member (told line.entry)) }
+fn push_answer<A: Allocator>(
+    text: &mut TextBuffer<A>,
+    line: ResultLine<'_>,
+) -> Result<(), AllocError>
+    ensures { OnOk result (text.new.bytes ≡ text.old.bytes ++ answer_member (told line.entry)) }
 {
-    push(text, b",\"answer\":\"")?;
+    text.push(b",\"answer\":\"")?;
     push_result(text, line)?;
-    push(text, b"\"}\n")
+    text.push(b"\"}\n")
 }
 
 /// Appends which job it is, and which worker did it.
 #[tactic(auto, unfolding(crate::specs::Objects::job_members))]
-fn push_who<A: Allocator>(text: &mut Vec<u8, A>, workers: u32, job: u64) -> Result<(), AllocError>
+fn push_who<A: Allocator>(
+    text: &mut TextBuffer<A>,
+    workers: u32,
+    job: u64,
+) -> Result<(), AllocError>
     requires { 1 ≤ workers }
-    ensures { OnOk result (text.new.items ≡ text.old.items ++ job_members workers job) }
+    ensures { OnOk result (text.new.bytes ≡ text.old.bytes ++ job_members workers job) }
 {
-    push_number(text, b"{\"job\":", job)?;
-    push_number(text, b",\"worker\":", job % u64::from(workers))
+    text.push_number(b"{\"job\":", job)?;
+    text.push_number(b",\"worker\":", job % u64::from(workers))
 }
 
 /// Appends the numbers of a job's request and of its answer's entry.
 #[tactic(auto, unfolding(crate::specs::Objects::number_members))]
 fn push_numbers<A: Allocator, B: Allocator>(
-    text: &mut Vec<u8, A>,
+    text: &mut TextBuffer<A>,
     receipt: &Receipt<B>,
 ) -> Result<(), AllocError>
-    ensures { OnOk result (text.new.items ≡ text.old.items ++ number_members (received_of receipt.now)) }
+    ensures { OnOk result (text.new.bytes ≡ text.old.bytes ++ number_members (received_of receipt.now)) }
 {
-    push_number(text, b",\"number\":", receipt.reply.number)?;
-    push_number(text, b",\"entry\":", receipt.reply.entry)
+    text.push_number(b",\"number\":", receipt.reply.number)?;
+    text.push_number(b",\"entry\":", receipt.reply.entry)
 }
 
 /// Appends the object of a job.
 #[tactic(auto, unfolding(crate::specs::Objects::job_object))]
 pub(crate) fn push_object<A: Allocator, B: Allocator>(
-    text: &mut Vec<u8, A>,
+    text: &mut TextBuffer<A>,
     workers: u32,
     job: u64,
     receipt: &Receipt<B>,
 ) -> Result<(), AllocError>
     requires { 1 ≤ workers }
-    ensures { OnOk result (text.new.items ≡ text.old.items ++ job_object workers job (received_of receipt.now)) }
+    ensures { OnOk result (text.new.bytes ≡ text.old.bytes ++ job_object workers job (received_of receipt.now)) }
 {
     push_who(text, workers, job)?;
     push_numbers(text, receipt)?;
@@ -62,12 +69,12 @@ pub(crate) fn push_object<A: Allocator, B: Allocator>(
 /// Appends the object of a sector, by its first byte.
 #[tactic(auto, unfolding(crate::specs::Objects::sector_object))]
 pub(crate) fn push_sector_object<A: Allocator>(
-    text: &mut Vec<u8, A>,
+    text: &mut TextBuffer<A>,
     lba: u64,
     byte: u8,
 ) -> Result<(), AllocError>
-    ensures { OnOk result (text.new.items ≡ text.old.items ++ sector_object lba byte) }
+    ensures { OnOk result (text.new.bytes ≡ text.old.bytes ++ sector_object lba byte) }
 {
-    push_number(text, b"{\"sector\":", lba)?;
+    text.push_number(b"{\"sector\":", lba)?;
     push_answer(text, ResultLine::Sector { lba, byte })
 }

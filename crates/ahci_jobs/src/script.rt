@@ -1,114 +1,128 @@
 //! A journal as a script.
 
 ghost use Rattle.std.specs.Prelude.{◌≡◌, ◌∷◌, [], ◌++◌, ℕ, List, IfOk, OnOk, length};
+ghost use Rattle.ahci_script.specs.declared.line.ScriptCommand.TheVariants.{Disk, Serve};
+ghost use Rattle.ahci_script.specs.Printing.{printed};
 ghost use Rattle.ncq_journal.specs.Entry.{Entry, entry_of};
 ghost use Rattle.ncq_journal.specs.History.{history_of};
-ghost use Rattle.ncq_journal.specs.Work.{work_of};
+ghost use Rattle.ncq_journal.specs.Lawful.{IsLawful, IsProper, IsProperEntry};
+ghost use Rattle.ncq_journal.specs.Work.{sectors_of, work_of};
 ghost use Rattle.ahci_jobs.specs.Noted.{AreNoted};
-ghost use Rattle.ahci_jobs.specs.Scripts.{collect_line, entry_line, entry_lines, fail_line, issue_line, issued_in, plain_line, script_text, tagged};
+ghost use Rattle.ahci_jobs.specs.Scripts.{collect_command, entry_command, entry_line, entry_lines, fail_command, issue_command, issued_in, script_text, unqueued_command};
 
 use crate::issued::{Issued, TAGS};
 use ahci_port::Port;
-use ahci_script::growing::{push, push_byte, push_number};
+use ahci_script::{ScriptCommand, push_command};
+use arrayvec::ArrayVec;
 use ncq_journal::{Event, Op, Plain};
 use std::alloc::{AllocError, Allocator};
+use streams::TextBuffer;
 
-/// Appends a word and the number of a tag.
-fn push_tagged<A: Allocator>(text: &mut Vec<u8, A>, word: &[u8], tag: u8) -> Result<(), AllocError>
-    ensures { OnOk result (text.new.items ≡ text.old.items ++ tagged word.now tag) }
+/// How many sectors a command reads or writes, one that can be issued.
+fn sectors_of<A: Allocator>(op: &Op<A>) -> u32
+    requires { IsProper (work_of op.now) }
+    ensures { result ≡ sectors_of (work_of op.now) }
 {
-    push(text, word)?;
-    push_number(text, b" ", u64::from(tag))
+    op.sectors() as u32
 }
 
-/// Appends the command that issues another.
-#[tactic(auto, unfolding(crate::specs::Scripts::issue_line))]
-fn push_issue<A: Allocator, B: Allocator>(
-    text: &mut Vec<u8, A>,
-    tag: u8,
-    op: &Op<B>,
-) -> Result<(), AllocError>
-    ensures { OnOk result (text.new.items ≡ text.old.items ++ issue_line tag (work_of op.now)) }
+/// The command that issues another.
+fn issue_command<A: Allocator>(tag: u8, op: &Op<A>) -> ScriptCommand<'static>
+    requires { IsProper (work_of op.now) }
+    ensures { result ≡ issue_command tag (work_of op.now) }
 {
+    let sectors = sectors_of(op);
     match op {
-        Op::Read { lba, sectors } => {
-            push_tagged(text, b"read", tag)?;
-            push_number(text, b" ", *lba)?;
-            push_number(text, b" ", u64::from(*sectors))
-        }
-        Op::Write { lba, bytes } => {
-            let bytes = bytes.as_slice();
-            push_tagged(text, b"write", tag)?;
-            push_number(text, b" ", *lba)?;
-            push_number(text, b" ", bytes.len() as u64 / 512)?;
-            push_byte(text, bytes.first().copied().unwrap_or(0))
-        }
+        Op::Read { lba, .. } => ScriptCommand::Read {
+            tag,
+            lba: *lba,
+            sectors,
+        },
+        Op::Write { lba, bytes } => ScriptCommand::Write {
+            tag,
+            lba: *lba,
+            sectors,
+            fill: bytes.as_slice().first().copied().unwrap_or(0),
+        },
     }
 }
 
-/// Appends the command at which one fails.
-#[tactic(auto, unfolding(crate::specs::Scripts::fail_line))]
-fn push_fail<A: Allocator>(
-    text: &mut Vec<u8, A>,
-    issued: Issued,
-    tag: u8,
-    error: u8,
-    lba: u64,
-) -> Result<(), AllocError>
-    ensures { OnOk result (text.new.items ≡ text.old.items ++ fail_line issued tag error lba) }
+/// The command that serves one tag.
+fn serve_command(tag: u8) -> ScriptCommand<'static>
+    ensures { result ≡ Serve (record { items = tag ∷ [] }) }
+{
+    let mut tags = ArrayVec::new();
+    tags.push(tag);
+    ScriptCommand::Serve { tags }
+}
+
+/// The command at which one fails.
+fn fail_command(issued: Issued, tag: u8, error: u8, lba: u64) -> ScriptCommand<'static>
+    ensures { result ≡ fail_command issued tag error lba }
 {
     if issued.is_outside {
-        return push_tagged(text, b"accept", tag);
+        return ScriptCommand::Accept { tag };
     }
-    push_tagged(text, b"fail", tag)?;
-    push_byte(text, error)?;
-    push_number(text, b" ", lba)
+    ScriptCommand::Fail { tag, error, lba }
 }
 
-/// Appends the command that collects one.
-#[tactic(auto, unfolding(crate::specs::Scripts::collect_line))]
-fn push_collect<A: Allocator>(
-    text: &mut Vec<u8, A>,
-    issued: Issued,
-    tag: u8,
-) -> Result<(), AllocError>
-    ensures { OnOk result (text.new.items ≡ text.old.items ++ collect_line issued tag) }
+/// The command that collects one.
+fn collect_command(issued: Issued, tag: u8) -> ScriptCommand<'static>
+    ensures { result ≡ collect_command issued tag }
 {
-    push_tagged(text, b"collect", tag)?;
-    push_number(text, b" ", issued.number)
+    ScriptCommand::Collect {
+        tag,
+        number: issued.number,
+    }
 }
 
-/// The command for one that is not queued.
-fn plain_line(command: Plain) -> &'static [u8]
-    ensures { result.now ≡ plain_line command }
+/// The command for one that is not queued. READ LOG EXT has none.
+fn unqueued_command(command: Plain) -> Option<ScriptCommand<'static>>
+    ensures { result ≡ unqueued_command command }
 {
     match command {
-        Plain::Identify => b"identify 0",
-        Plain::Flush => b"flush",
-        Plain::ReadLog => b"# READ LOG EXT",
+        Plain::Identify => Some(ScriptCommand::Identify { word: 0 }),
+        Plain::Flush => Some(ScriptCommand::Flush),
+        Plain::ReadLog => None,
     }
 }
 
-/// Appends the command that appends an entry to a journal, of whose tags this is kept.
+/// The command that appends an entry to a journal, of whose tags this is kept. READ LOG EXT has none.
+fn entry_command<A: Allocator>(
+    kept: &[Issued; TAGS],
+    event: &Event<A>,
+) -> Option<ScriptCommand<'static>>
+    requires { IsProperEntry (entry_of event.now) }
+    ensures { (sectors : ℕ) (past : List Entry) → AreNoted sectors past kept.now
+        → result ≡ entry_command (issued_in sectors past) (entry_of event.now) }
+{
+    match event {
+        Event::Issue(tag, op) => Some(issue_command(*tag, op)),
+        Event::Accept(tag) => Some(ScriptCommand::Accept { tag: *tag }),
+        Event::Complete(tag) => Some(serve_command(*tag)),
+        Event::Fail { tag, error, lba } => {
+            Some(fail_command(kept[usize::from(*tag)], *tag, *error, *lba))
+        }
+        Event::Recover(_) => Some(ScriptCommand::Recover),
+        Event::Reissue(tag) => Some(ScriptCommand::Reissue { tag: *tag }),
+        Event::Collect(tag) => Some(collect_command(kept[usize::from(*tag)], *tag)),
+        Event::Plain(command) => unqueued_command(*command),
+    }
+}
+
+/// Appends the line of an entry of a journal, of whose tags this is kept. A comment stands for READ LOG EXT.
 fn push_entry<A: Allocator, B: Allocator>(
-    text: &mut Vec<u8, A>,
+    text: &mut TextBuffer<A>,
     kept: &[Issued; TAGS],
     event: &Event<B>,
 ) -> Result<(), AllocError>
+    requires { IsProperEntry (entry_of event.now) }
     ensures { (sectors : ℕ) (past : List Entry) → AreNoted sectors past kept.now
-        → OnOk result (text.new.items ≡ text.old.items ++ entry_line (issued_in sectors past) (entry_of event.now)) }
+        → OnOk result (text.new.bytes ≡ text.old.bytes ++ entry_line (issued_in sectors past) (entry_of event.now)) }
 {
-    match event {
-        Event::Issue(tag, op) => push_issue(text, *tag, op),
-        Event::Accept(tag) => push_tagged(text, b"accept", *tag),
-        Event::Complete(tag) => push_tagged(text, b"serve", *tag),
-        Event::Fail { tag, error, lba } => {
-            push_fail(text, kept[usize::from(*tag)], *tag, *error, *lba)
-        }
-        Event::Recover(_) => push(text, b"recover"),
-        Event::Reissue(tag) => push_tagged(text, b"reissue", *tag),
-        Event::Collect(tag) => push_collect(text, kept[usize::from(*tag)], *tag),
-        Event::Plain(command) => push(text, plain_line(*command)),
+    match entry_command(kept, event) {
+        Some(command) => push_command(text, &command),
+        None => text.push(b"# READ LOG EXT"),
     }
 }
 
@@ -130,19 +144,37 @@ fn note<A: Allocator>(kept: &mut [Issued; TAGS], sectors: u32, place: u64, event
 
 /// Appends the commands that have made a journal on a disk of so many sectors, each with its line feed.
 fn push_entries<A: Allocator, B: Allocator>(
-    text: &mut Vec<u8, A>,
+    text: &mut TextBuffer<A>,
     sectors: u32,
     events: &[Event<B>],
 ) -> Result<(), AllocError>
-    ensures { OnOk result (text.new.items ≡ text.old.items ++ entry_lines sectors (history_of events.now)) }
+    requires { (depth : ℕ) × IsLawful sectors depth (history_of events.now) }
+    ensures { OnOk result (text.new.bytes ≡ text.old.bytes ++ entry_lines sectors (history_of events.now)) }
 {
     let mut kept = nothing_kept();
     for (place, event) in events.iter().enumerate() {
         push_entry(text, &kept, event)?;
-        push(text, b"\n")?;
+        text.push(b"\n")?;
         note(&mut kept, sectors, place as u64, event);
     }
     Ok(())
+}
+
+/// Appends the command that makes a disk, with its line feed.
+fn push_disk<A: Allocator>(
+    text: &mut TextBuffer<A>,
+    sectors: u32,
+    depth: u32,
+) -> Result<(), AllocError>
+    ensures { OnOk result (text.new.bytes ≡ text.old.bytes ++ (printed (Disk sectors depth None) ++ 10 ∷ [])) }
+{
+    let disk = ScriptCommand::Disk {
+        sectors: u64::from(sectors),
+        depth: u64::from(depth),
+        first: None,
+    };
+    push_command(text, &disk)?;
+    text.push(b"\n")
 }
 
 /// The journal of a port that began with a disk of zeros, as a script.
@@ -153,10 +185,11 @@ pub(crate) fn script<A: Allocator, B: Allocator>(
 ) -> Result<Vec<u8, A>, AllocError>
     ensures { IfOk result (λ text. text.items ≡ script_text port.now) }
 {
-    let mut text = Vec::new(alloc);
-    push_number(&mut text, b"disk ", u64::from(port.sectors()))?;
-    push_number(&mut text, b" ", u64::from(port.depth()))?;
-    push(&mut text, b"\n")?;
-    push_entries(&mut text, port.sectors(), port.journal().entries())?;
-    Ok(text)
+    let journal = port.journal();
+    let sectors = port.sectors();
+    let events = journal.entries();
+    let mut text = TextBuffer::new(alloc);
+    push_disk(&mut text, sectors, port.depth())?;
+    push_entries(&mut text, sectors, events)?;
+    Ok(text.into_bytes())
 }

@@ -13,10 +13,10 @@ use crate::objects::{push_object, push_sector_object};
 use crate::script::script;
 use ahci_driver::{Receipt, RunEnd};
 use ahci_port::{Outcome, Port};
-use ahci_script::ResultLine;
-use ahci_script::growing::{push, push_result};
+use ahci_script::{ResultLine, push_result};
 use ncq_core::SECTOR;
 use std::alloc::{AllocError, Allocator};
+use streams::TextBuffer;
 
 /// The line of a job's receipt.
 pub(crate) fn line_of<A: Allocator>(receipt: &Receipt<A>) -> ResultLine<'_>
@@ -30,23 +30,23 @@ pub(crate) fn line_of<A: Allocator>(receipt: &Receipt<A>) -> ResultLine<'_>
 }
 
 /// Appends a line and its line feed.
-fn push_line<A: Allocator>(text: &mut Vec<u8, A>, line: ResultLine<'_>) -> Result<(), AllocError>
-    ensures { OnOk result (text.new.items ≡ text.old.items ++ fed (told line.entry)) }
+fn push_line<A: Allocator>(text: &mut TextBuffer<A>, line: ResultLine<'_>) -> Result<(), AllocError>
+    ensures { OnOk result (text.new.bytes ≡ text.old.bytes ++ fed (told line.entry)) }
 {
     push_result(text, line)?;
-    push(text, b"\n")
+    text.push(b"\n")
 }
 
 /// Appends what a form has of a job.
 fn push_job<A: Allocator, B: Allocator>(
-    text: &mut Vec<u8, A>,
+    text: &mut TextBuffer<A>,
     form: Form,
     workers: u32,
     job: u64,
     receipt: &Receipt<B>,
 ) -> Result<(), AllocError>
     requires { 1 ≤ workers }
-    ensures { OnOk result (text.new.items ≡ text.old.items ++ job_in form workers job (received_of receipt.now)) }
+    ensures { OnOk result (text.new.bytes ≡ text.old.bytes ++ job_in form workers job (received_of receipt.now)) }
 {
     match form {
         Form::Text => push_line(text, line_of(receipt)),
@@ -57,13 +57,13 @@ fn push_job<A: Allocator, B: Allocator>(
 
 /// Appends what a form has of all jobs, in their order.
 fn push_jobs<A: Allocator, B: Allocator>(
-    text: &mut Vec<u8, A>,
+    text: &mut TextBuffer<A>,
     form: Form,
     workers: u32,
     replies: &[Receipt<B>],
 ) -> Result<(), AllocError>
     requires { 1 ≤ workers }
-    ensures { OnOk result (text.new.items ≡ text.old.items ++ jobs_in form workers 0 (map received_of replies.now)) }
+    ensures { OnOk result (text.new.bytes ≡ text.old.bytes ++ jobs_in form workers 0 (map received_of replies.now)) }
 {
     for (job, receipt) in replies.iter().enumerate() {
         push_job(text, form, workers, job as u64, receipt)?;
@@ -80,30 +80,30 @@ fn is_all_zero(bytes: &[u8]) -> bool
 
 /// Appends what a form has of a sector.
 fn push_sector<A: Allocator>(
-    text: &mut Vec<u8, A>,
+    text: &mut TextBuffer<A>,
     form: Form,
     lba: u64,
     bytes: &[u8; SECTOR],
 ) -> Result<(), AllocError>
-    ensures { OnOk result (text.new.items ≡ text.old.items ++ sector_in form lba bytes.now) }
+    ensures { OnOk result (text.new.bytes ≡ text.old.bytes ++ sector_in form lba bytes.now) }
 {
     let byte = bytes[0];
     match form {
         Form::Text | Form::Json if is_all_zero(bytes) => Ok(()),
         Form::Text => push_line(text, ResultLine::Sector { lba, byte }),
         Form::Json => push_sector_object(text, lba, byte),
-        Form::Image => push(text, bytes),
+        Form::Image => text.push(bytes),
         Form::Journal => Ok(()),
     }
 }
 
 /// Appends what a form has of all sectors, rising.
 fn push_sectors<A: Allocator, B: Allocator>(
-    text: &mut Vec<u8, A>,
+    text: &mut TextBuffer<A>,
     form: Form,
     port: &Port<B>,
 ) -> Result<(), AllocError>
-    ensures { OnOk result (text.new.items ≡ text.old.items ++ pieces_of (sector_in form) port.now (sectors_in port.now)) }
+    ensures { OnOk result (text.new.bytes ≡ text.old.bytes ++ pieces_of (sector_in form) port.now (sectors_in port.now)) }
 {
     for lba in 0..port.sectors() {
         let mut bytes = [0; SECTOR];
@@ -123,13 +123,13 @@ fn parts<A: Allocator, B: Allocator>(
     requires { 1 ≤ workers }
     ensures { IfOk result (λ text. text.items ≡ parts_of form workers end.now.port (map received_of end.now.replies.items)) }
 {
-    let mut text = Vec::new(alloc);
+    let mut text = TextBuffer::new(alloc);
     if let Form::Image = form {
-        text.reserve_exact(end.port.sectors() as usize * SECTOR)?;
+        text.reserve(end.port.sectors() as usize * SECTOR)?;
     }
     push_jobs(&mut text, form, workers, &end.replies)?;
     push_sectors(&mut text, form, &end.port)?;
-    Ok(text)
+    Ok(text.into_bytes())
 }
 
 /// All that is written of a run by so many workers, in this form.

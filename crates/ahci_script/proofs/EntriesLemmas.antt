@@ -6,7 +6,7 @@ use Rattle.std.proofs.lemmas.List.FromFn.{map-range_with_len_more}
 use Rattle.ahci_script.specs.Answers.{entries_between, numbers_text}
 
 -- one number more
-numbers-more : (ns : List ℕ) (n : ℕ) → numbers_text (ns ++ n ∷ []) ≡ numbers_text ns ++ (32 ∷ decimal n)
+pub numbers-more : (ns : List ℕ) (n : ℕ) → numbers_text (ns ++ n ∷ []) ≡ numbers_text ns ++ (32 ∷ decimal n)
 numbers-more [] n = ap (λ l. 32 ∷ l) (append-nil (decimal n))
 numbers-more (m ∷ ns) n = ap (λ l. 32 ∷ (decimal m ++ l)) (numbers-more ns n) ∙ ap (λ l. 32 ∷ l) (sym (append_assoc (decimal m) (numbers_text ns) (32 ∷ decimal n)))
 

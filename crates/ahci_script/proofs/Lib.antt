@@ -5,4 +5,4 @@ pub mod PrintingLemmas
 pub mod TagsLemmas
 pub mod EntriesLemmas
 pub mod ReadBackLemmas
-pub mod FeedLemmas
+pub mod PrintedLemmas

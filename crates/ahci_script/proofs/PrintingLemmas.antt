@@ -11,7 +11,7 @@ use Rattle.std.specs.Char.{is_ascii_digit}
 use Rattle.std.specs.Fmt.{decimal, digit_glyph}
 use Rattle.std.specs.List.{All, list_all, position_or_len}
 use Rattle.std.specs.Option.{is_some, unwrap_or}
-use Rattle.ahci_script.specs.Answers.{hex_of}
+use Rattle.streams.specs.Text.{hex_of}
 use Rattle.ahci_script.specs.Breaches.{◌>>=◌}
 use Rattle.ahci_script.specs.HexBytes.{header_of, hex_bytes_of, hex_digit_value, pairs_of, some_bytes_of, some_header_of}
 use Rattle.ahci_script.specs.Number.{below, byte_of, decimal_below, decimal_of, decimal_value, digits_of, hex_digit_of, hexadecimal_of, hexadecimal_value, is_decimal}

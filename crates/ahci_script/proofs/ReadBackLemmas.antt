@@ -2,7 +2,8 @@
 use Rattle.std.proofs.Common.{◌≡◌, ℕ, ◌^◌, ◌<◌, true, List, [], ◌∷◌, ◌++◌, length, refl, ap, ◌∙◌, Some, None, Result, Ok, codes, arith}
 use Rattle.std.specs.Fmt.{decimal}
 use Rattle.std.specs.List.{All}
-use Rattle.ahci_script.specs.Answers.{hex_of, numbers_text}
+use Rattle.streams.specs.Text.{hex_of}
+use Rattle.ahci_script.specs.Answers.{numbers_text}
 use Rattle.ahci_script.specs.Breaches.{◌>>=◌, seen_in}
 use Rattle.ahci_script.specs.Lines.{AreTags, accept_of, ack_of, collect_of, command_of, disk_of, fail_of, identify_of, named, named_device, named_disk, number_if_any, raw_of}
 use Rattle.ahci_script.specs.Lines.{read_of, reading, reg_of, reissue_of, serve_of, show_of, write_of}

@@ -1,15 +1,10 @@
 -- The answers of a script, as they are written.
-use Rattle.std.specs.Prelude.{ℕ, zero, suc, ◌+◌, ◌-◌, ◌*◌, ◌/◌, ◌%◌, List, [], ◌∷◌, ◌++◌, Some, None, length, slice_index, codes, false}
-use Rattle.std.specs.Fmt.{decimal, digit_glyph}
+use Rattle.std.specs.Prelude.{ℕ, zero, suc, ◌+◌, ◌-◌, ◌*◌, ◌/◌, List, [], ◌∷◌, ◌++◌, Some, None, length, slice_index, codes}
+use Rattle.std.specs.Fmt.{decimal}
 use Rattle.std.specs.List.{range_with_len}
+use Rattle.streams.specs.Text.{hex_of}
 use Rattle.ahci_script.specs.Said.{Said, Disk, Issued, Accepted, Completed, FailedStep, Wrote, Read, Failed, Recovered, Reissued, Register, Acked, Word, Flushed, Sector, Journal, Trimmed, Refused}
 use Rattle.port_refusal.specs.Names.{name_of}
-
--- the last digits of a number as hexadecimal ones, in lower case
-abbrev pub hex_of : ℕ → ℕ → List ℕ
-hex_of zero number = []
-hex_of (suc digits) number =
-    hex_of digits (number / 16) ++ digit_glyph false (number % 16) ∷ []
 
 -- numbers, each in decimal and after a space
 abbrev pub numbers_text : List ℕ → List ℕ

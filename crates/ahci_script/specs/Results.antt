@@ -1,7 +1,8 @@
 -- The lines that `ahci run` writes.
 use Rattle.std.specs.Prelude.{ℕ, ◌/◌, List, ◌++◌, length, codes}
 use Rattle.std.specs.Fmt.{decimal}
-use Rattle.ahci_script.specs.Answers.{hex_of, sectors_text}
+use Rattle.streams.specs.Text.{hex_of}
+use Rattle.ahci_script.specs.Answers.{sectors_text}
 use Rattle.ahci_script.specs.declared.result_line.ResultLine.{ResultLine}
 use Rattle.ahci_script.specs.declared.result_line.ResultLine.TheVariants as code
 

@@ -42,7 +42,7 @@ impl<'a> HexBytes<'a> {
 
     /// The byte at an index.
     #[tactic(auto, using(crate::proofs::HexBytesLemmas::length_pairs, crate::proofs::HexBytesLemmas::pairs_at))]
-    fn byte(&self, index: usize) -> u8
+    pub(crate) fn byte(&self, index: usize) -> u8
         requires { index < length self.now }
         ensures { result ≡ get_or self.now index 0 }
     {

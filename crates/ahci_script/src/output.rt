@@ -5,11 +5,11 @@ ghost use Rattle.ahci_script.specs.Said.{said};
 ghost use Rattle.streams.specs.Ends.{with_failed_write, with_flush};
 
 use crate::answer::ScriptAnswer;
-use crate::text::{push, push_line, room_for};
+use crate::text::{push_line, room_for};
 use std::alloc::{AllocError, Allocator, Global};
 use std::io::Write;
 use std::marker::Model;
-use streams::{OutputFailed, Writes};
+use streams::{OutputFailed, TextBuffer, Writes};
 
 /// How much text waits before it is worth a write.
 const FULL: usize = 16384;
@@ -17,7 +17,7 @@ const FULL: usize = 16384;
 /// The answers that wait for the output, as text. Each ends in a line feed.
 #[derive(Drop)]
 pub struct Output<A: Allocator = Global> {
-    waiting: Vec<u8, A>,
+    waiting: TextBuffer<A>,
 }
 
 impl<A: Allocator> Model for Output<A> {
@@ -25,7 +25,7 @@ impl<A: Allocator> Model for Output<A> {
 
     ghost Value = { List ℕ };
 
-    ghost view = { λ o. o.waiting.items };
+    ghost view = { λ o. o.waiting.bytes };
 }
 
 impl<A: Allocator> Output<A> {
@@ -34,7 +34,7 @@ impl<A: Allocator> Output<A> {
         ensures { result ≡ [] }
     {
         Output {
-            waiting: Vec::new(alloc),
+            waiting: TextBuffer::new(alloc),
         }
     }
 
@@ -68,7 +68,7 @@ impl<A: Allocator> Output<A> {
     {
         let before = self.waiting.len();
         self.put(answer)?;
-        if let Err(refused) = self.waiting.extend_from_slice(notes) {
+        if let Err(refused) = self.waiting.push(notes) {
             self.waiting.truncate(before);
             return Err(refused);
         }
@@ -83,8 +83,8 @@ impl<A: Allocator> Output<A> {
     {
         let room = text.len() + 1;
         self.waiting.reserve(room)?;
-        push(&mut self.waiting, text);
-        push(&mut self.waiting, b"\n");
+        self.waiting.push_reserved(text);
+        self.waiting.push_reserved(b"\n");
         Ok(())
     }
 
@@ -102,8 +102,6 @@ impl<A: Allocator> Output<A> {
         ensures flushed { OnOk result (writes.new ≡ with_flush writes.old) }
         ensures failed { OnErr result (writes.new ≡ with_failed_write writes.old) }
     {
-        writes.write_whole(writer, &self.waiting)?;
-        self.waiting.clear();
-        Ok(())
+        self.waiting.send(writer, writes)
     }
 }

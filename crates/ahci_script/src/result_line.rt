@@ -1,5 +1,5 @@
 /// A line that `ahci run` writes: the result of a job, or a sector of the disk after it. It becomes text where it is
-/// written, by `growing::push_result`. Contracts see it as a `Told`.
+/// written, by `push_result`. Contracts see it as a `Told`.
 #[derive(Clone, Copy, Debug)]
 pub enum ResultLine<'a> {
     /// A job's sectors were written.

@@ -10,7 +10,8 @@ use Rattle.std.proofs.lemmas.List.Concat.{flat_map-cons}
 use Rattle.std.proofs.lemmas.Str.{IsAscii-append, IsUtf8-from_ascii}
 use Rattle.std.proofs.lemmas.Str.Ascii.{IsAscii-cons, IsAscii-nil}
 use Rattle.port_refusal.specs.Names.{name_of}
-use Rattle.ahci_script.specs.Answers.{answer_text, entries_between, hex_of, numbers_text, sector_text, sectors_text}
+use Rattle.streams.specs.Text.{hex_of}
+use Rattle.ahci_script.specs.Answers.{answer_text, entries_between, numbers_text, sector_text, sectors_text}
 use Rattle.ahci_script.specs.Said.{Said, Disk, Issued, Accepted, Completed, FailedStep, Wrote, Read, Failed, Recovered, Reissued, Register, Acked, Word, Flushed, Sector, Journal, Trimmed, Refused}
 use Rattle.port_refusal.specs.declared.refusal.Refusal.{Refusal}
 use Rattle.port_refusal.specs.declared.refusal.Refusal.TheVariants as refusal

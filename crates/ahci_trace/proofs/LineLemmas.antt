@@ -10,7 +10,8 @@ use Rattle.ahci_regs.specs.RegisterTable.{name_of}
 use Rattle.ahci_regs.specs.declared.register.Register.{Register}
 use Rattle.ahci_regs.specs.declared.register.Register.TheVariants.{Cap}
 use Rattle.ahci_replay.specs.Transcript.{no_line, one_more}
-use Rattle.ahci_script.specs.Answers.{answer_text, hex_of}
+use Rattle.streams.specs.Text.{hex_of}
+use Rattle.ahci_script.specs.Answers.{answer_text}
 use Rattle.ahci_script.specs.declared.line.Line.TheVariants as line
 use Rattle.ncq_journal.specs.declared.phase.Phase.{Phase}
 use Rattle.ncq_journal.specs.declared.phase.Phase.TheVariants.{Free}

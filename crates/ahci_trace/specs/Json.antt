@@ -1,7 +1,8 @@
 -- What a command did as one JSON object (RFC 8259): its tokens, from the parts that the text of a trace has too.
 use Rattle.std.specs.Prelude.{ℕ, Bool, if◌then◌else◌, List, [], ◌∷◌, ◌++◌, codes, flat_map, map, nat_lt, Option, None, Some}
 use Rattle.std.specs.Fmt.{decimal}
-use Rattle.ahci_script.specs.Answers.{answer_text, hex_of}
+use Rattle.streams.specs.Text.{hex_of}
+use Rattle.ahci_script.specs.Answers.{answer_text}
 use Rattle.ahci_script.specs.Said.{Said}
 use Rattle.ahci_regs.specs.RegisterTable.{name_of}
 use Rattle.ahci_replay.specs.Transcript.{Telling}

@@ -4,7 +4,8 @@ use Rattle.std.specs.Fmt.{decimal}
 use Rattle.ahci_port.specs.PortView.{PortView}
 use Rattle.ahci_regs.specs.RegisterTable.{name_of}
 use Rattle.ahci_replay.specs.Transcript.{Telling}
-use Rattle.ahci_script.specs.Answers.{answer_text, hex_of}
+use Rattle.streams.specs.Text.{hex_of}
+use Rattle.ahci_script.specs.Answers.{answer_text}
 use Rattle.ncq_core.specs.DiskFis.{activate_bytes, setup_bytes}
 use Rattle.ncq_journal.specs.declared.phase.Phase.{Phase}
 use Rattle.ncq_journal.specs.declared.phase.Phase.TheVariants.{Free, Issued, Accepted, Rejected, Broken, Held, Done}

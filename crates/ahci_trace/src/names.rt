@@ -6,8 +6,8 @@ ghost use Rattle.ahci_trace.specs.Names.{bits_of, bits_text, name_text, named, n
 
 use crate::named_bit::NamedBit;
 use ahci_regs::Register;
-use ahci_script::growing::push;
 use std::alloc::{AllocError, Allocator};
+use streams::TextBuffer;
 use word_bits::is_set;
 
 /// The bit of CAP.
@@ -67,12 +67,12 @@ pub(crate) fn bits_of(register: Register) -> &'static [NamedBit]
 /// Appends the name of a bit that is set, after the names that came before it, if there were any. The answer says whether
 /// there are any now.
 fn push_name<A: Allocator>(
-    text: &mut Vec<u8, A>,
+    text: &mut TextBuffer<A>,
     any: bool,
     word: u32,
     bit: NamedBit,
 ) -> Result<bool, AllocError>
-    ensures items { OnOk result (text.new.items ≡ text.old.items ++ name_text any (bits word) bit.0 bit.1.now) }
+    ensures items { OnOk result (text.new.bytes ≡ text.old.bytes ++ name_text any (bits word) bit.0 bit.1.now) }
     ensures more { IfOk result (λ more. more ≡ (any || has_place (bits word) bit.0)) }
 {
     let NamedBit(place, name) = bit;
@@ -80,21 +80,21 @@ fn push_name<A: Allocator>(
         return Ok(any);
     }
     if any {
-        push(text, b", ")?;
+        text.push(b", ")?;
     } else {
-        push(text, b"  ")?;
+        text.push(b"  ")?;
     }
-    push(text, name.as_bytes())?;
+    text.push(name.as_bytes())?;
     Ok(true)
 }
 
 /// Appends the names of those of some bits that are set.
 fn push_names<A: Allocator>(
-    text: &mut Vec<u8, A>,
+    text: &mut TextBuffer<A>,
     word: u32,
     some: &[NamedBit],
 ) -> Result<(), AllocError>
-    ensures { OnOk result (text.new.items ≡ text.old.items ++ names_text false (bits word) (map named some.now)) }
+    ensures { OnOk result (text.new.bytes ≡ text.old.bytes ++ names_text false (bits word) (map named some.now)) }
 {
     let mut any = false;
     for bit in some {
@@ -105,11 +105,11 @@ fn push_names<A: Allocator>(
 
 /// Appends the names of a register's bits that are set, where they have names.
 pub(crate) fn push_bits<A: Allocator>(
-    text: &mut Vec<u8, A>,
+    text: &mut TextBuffer<A>,
     register: Register,
     word: u32,
 ) -> Result<(), AllocError>
-    ensures { OnOk result (text.new.items ≡ text.old.items ++ bits_text register word) }
+    ensures { OnOk result (text.new.bytes ≡ text.old.bytes ++ bits_text register word) }
 {
     push_names(text, word, bits_of(register))
 }

@@ -19,9 +19,9 @@ use crate::register_write::RegisterWrite;
 use crate::sent::SentCommand;
 use crate::text::push_named;
 use crate::transfer::push_data;
-use ahci_script::growing::{push, push_byte, push_number, push_word};
 use ncq_journal::EventKind;
 use std::alloc::{AllocError, Allocator};
+use streams::TextBuffer;
 
 /// The text of a trace.
 pub(crate) fn text_of<A: Allocator + Copy>(
@@ -30,7 +30,7 @@ pub(crate) fn text_of<A: Allocator + Copy>(
 ) -> Result<Vec<u8, A>, AllocError>
     ensures { IfOk result (λ text. text.items ≡ told_text (told trace.now)) }
 {
-    let mut text = Vec::new(alloc);
+    let mut text = TextBuffer::new(alloc);
     push_notes(&mut text, &trace.entries)?;
     push_notes(&mut text, &trace.writes)?;
     trace.sent.push_to(&mut text)?;
@@ -38,7 +38,7 @@ pub(crate) fn text_of<A: Allocator + Copy>(
     trace.received.push_to(&mut text)?;
     push_notes(&mut text, &trace.changes)?;
     push_notes(&mut text, &trace.slots)?;
-    Ok(text)
+    Ok(text.into_bytes())
 }
 
 /// The direction of a queued command.
@@ -52,8 +52,8 @@ fn direction(write: bool) -> &'static [u8]
 impl Note for EventKind {
     ghost note = { what_text };
 
-    fn push_to<A: Allocator + Copy>(&self, text: &mut Vec<u8, A>) -> Result<(), AllocError> {
-        push(text, kind_name(*self).as_bytes())?;
+    fn push_to<A: Allocator + Copy>(&self, text: &mut TextBuffer<A>) -> Result<(), AllocError> {
+        text.push(kind_name(*self).as_bytes())?;
         match *self {
             EventKind::Issue {
                 tag,
@@ -61,19 +61,19 @@ impl Note for EventKind {
                 lba,
                 sectors,
             } => {
-                push_number(text, b" ", u64::from(tag))?;
-                push_number(text, direction(write), lba)?;
-                push_number(text, b" ", sectors)
+                text.push_number(b" ", tag)?;
+                text.push_number(direction(write), lba)?;
+                text.push_number(b" ", sectors)
             }
             EventKind::Accept(tag)
             | EventKind::Complete(tag)
             | EventKind::Recover(tag)
             | EventKind::Reissue(tag)
-            | EventKind::Collect(tag) => push_number(text, b" ", u64::from(tag)),
+            | EventKind::Collect(tag) => text.push_number(b" ", tag),
             EventKind::Fail { tag, error, lba } => {
-                push_number(text, b" ", u64::from(tag))?;
-                push_byte(text, error)?;
-                push_number(text, b" ", lba)
+                text.push_number(b" ", tag)?;
+                text.push_byte(error)?;
+                text.push_number(b" ", lba)
             }
             EventKind::Plain(_) => Ok(()),
         }
@@ -83,23 +83,23 @@ impl Note for EventKind {
 impl Note for Appended {
     ghost note = { entry_text };
 
-    fn push_to<A: Allocator + Copy>(&self, text: &mut Vec<u8, A>) -> Result<(), AllocError> {
-        push_number(text, b"  entry ", self.number)?;
-        push(text, b": ")?;
+    fn push_to<A: Allocator + Copy>(&self, text: &mut TextBuffer<A>) -> Result<(), AllocError> {
+        text.push_number(b"  entry ", self.number)?;
+        text.push(b": ")?;
         self.what.push_to(text)?;
-        push(text, b"\n")
+        text.push(b"\n")
     }
 }
 
 impl Note for RegisterWrite {
     ghost note = { write_text };
 
-    fn push_to<A: Allocator + Copy>(&self, text: &mut Vec<u8, A>) -> Result<(), AllocError> {
-        push(text, b"  wrote ")?;
-        push(text, self.register.name().as_bytes())?;
-        push(text, b" ")?;
-        push_word(text, self.word)?;
-        push(text, b"\n")
+    fn push_to<A: Allocator + Copy>(&self, text: &mut TextBuffer<A>) -> Result<(), AllocError> {
+        text.push(b"  wrote ")?;
+        text.push(self.register.name().as_bytes())?;
+        text.push(b" ")?;
+        text.push_word(self.word)?;
+        text.push(b"\n")
     }
 }
 
@@ -107,7 +107,7 @@ impl Note for RegisterWrite {
 impl Note for [u8; 16] {
     ghost note = { prdt_text };
 
-    fn push_to<A: Allocator + Copy>(&self, text: &mut Vec<u8, A>) -> Result<(), AllocError> {
+    fn push_to<A: Allocator + Copy>(&self, text: &mut TextBuffer<A>) -> Result<(), AllocError> {
         push_named(text, b"  sent PRDT entry", self)
     }
 }
@@ -115,7 +115,7 @@ impl Note for [u8; 16] {
 impl<B: Allocator> Note for SentCommand<B> {
     ghost note = { λ sent. command_text (shown sent) };
 
-    fn push_to<A: Allocator + Copy>(&self, text: &mut Vec<u8, A>) -> Result<(), AllocError> {
+    fn push_to<A: Allocator + Copy>(&self, text: &mut TextBuffer<A>) -> Result<(), AllocError> {
         push_named(text, b"  sent command header", &self.header)?;
         push_named(text, b"  sent CFIS", &self.cfis)?;
         push_notes(text, &self.entries)
@@ -126,7 +126,7 @@ impl<B: Allocator> Note for SentCommand<B> {
 impl<B: Allocator> Note for Option<SentCommand<B>> {
     ghost note = { λ sent. sent_text (option_map shown sent) };
 
-    fn push_to<A: Allocator + Copy>(&self, text: &mut Vec<u8, A>) -> Result<(), AllocError> {
+    fn push_to<A: Allocator + Copy>(&self, text: &mut TextBuffer<A>) -> Result<(), AllocError> {
         match self {
             Some(command) => command.push_to(text),
             None => Ok(()),
@@ -136,11 +136,11 @@ impl<B: Allocator> Note for Option<SentCommand<B>> {
 
 /// Appends a FIS by the standard's name, where one came.
 fn push_fis<A: Allocator, const N: usize>(
-    text: &mut Vec<u8, A>,
+    text: &mut TextBuffer<A>,
     name: &[u8],
     fis: &Option<[u8; N]>,
 ) -> Result<(), AllocError>
-    ensures { OnOk result (text.new.items ≡ text.old.items ++ fis_text name.now fis.now) }
+    ensures { OnOk result (text.new.bytes ≡ text.old.bytes ++ fis_text name.now fis.now) }
 {
     match fis {
         Some(bytes) => push_named(text, name, bytes),
@@ -150,10 +150,10 @@ fn push_fis<A: Allocator, const N: usize>(
 
 /// Appends a PIO Setup FIS and the Data FIS of a page, where they came.
 fn push_page<A: Allocator>(
-    text: &mut Vec<u8, A>,
+    text: &mut TextBuffer<A>,
     setup: &Option<[u8; 20]>,
 ) -> Result<(), AllocError>
-    ensures { OnOk result (text.new.items ≡ text.old.items ++ page_text setup.now) }
+    ensures { OnOk result (text.new.bytes ≡ text.old.bytes ++ page_text setup.now) }
 {
     match setup {
         Some(bytes) => {
@@ -168,7 +168,7 @@ fn push_page<A: Allocator>(
 impl Note for Received {
     ghost note = { received_text };
 
-    fn push_to<A: Allocator + Copy>(&self, text: &mut Vec<u8, A>) -> Result<(), AllocError> {
+    fn push_to<A: Allocator + Copy>(&self, text: &mut TextBuffer<A>) -> Result<(), AllocError> {
         push_page(text, &self.pio)?;
         push_fis(text, b"  received D2H Register FIS", &self.register)?;
         push_fis(text, b"  received Set Device Bits FIS", &self.bits)
@@ -178,23 +178,23 @@ impl Note for Received {
 impl Note for Change {
     ghost note = { change_text };
 
-    fn push_to<A: Allocator + Copy>(&self, text: &mut Vec<u8, A>) -> Result<(), AllocError> {
-        push(text, b"  ")?;
-        push(text, self.register.name().as_bytes())?;
-        push(text, b" ")?;
-        push_word(text, self.word)?;
+    fn push_to<A: Allocator + Copy>(&self, text: &mut TextBuffer<A>) -> Result<(), AllocError> {
+        text.push(b"  ")?;
+        text.push(self.register.name().as_bytes())?;
+        text.push(b" ")?;
+        text.push_word(self.word)?;
         push_bits(text, self.register, self.word)?;
-        push(text, b"\n")
+        text.push(b"\n")
     }
 }
 
 impl Note for OwnedSlot {
     ghost note = { slot_text };
 
-    fn push_to<A: Allocator + Copy>(&self, text: &mut Vec<u8, A>) -> Result<(), AllocError> {
-        push_number(text, b"  slot ", u64::from(self.tag))?;
-        push(text, b" ")?;
-        push(text, phase_name(self.phase).as_bytes())?;
-        push(text, b"\n")
+    fn push_to<A: Allocator + Copy>(&self, text: &mut TextBuffer<A>) -> Result<(), AllocError> {
+        text.push_number(b"  slot ", self.tag)?;
+        text.push(b" ")?;
+        text.push(phase_name(self.phase).as_bytes())?;
+        text.push(b"\n")
     }
 }

@@ -9,27 +9,27 @@ ghost use Rattle.ahci_trace.specs.Transfers.{payloads_of};
 use crate::note::Note;
 use crate::served::{payloads, setup};
 use crate::text::{push_bytes, push_named};
-use ahci_script::growing::{push, push_number};
 use sata_fis::{Fis, Queued, data_head};
 use std::alloc::{AllocError, Allocator};
+use streams::TextBuffer;
 
 /// Appends a Data FIS: its first dword, and how many bytes of data follow it.
 pub(crate) fn push_data<A: Allocator>(
-    text: &mut Vec<u8, A>,
+    text: &mut TextBuffer<A>,
     name: &[u8],
     bytes: u32,
 ) -> Result<(), AllocError>
-    ensures { OnOk result (text.new.items ≡ text.old.items ++ data_line name.now bytes) }
+    ensures { OnOk result (text.new.bytes ≡ text.old.bytes ++ data_line name.now bytes) }
 {
-    push(text, name)?;
+    text.push(name)?;
     push_bytes(text, &data_head())?;
-    push_number(text, b", ", u64::from(bytes))?;
-    push(text, b" bytes\n")
+    text.push_number(b", ", bytes)?;
+    text.push(b" bytes\n")
 }
 
 /// Appends a DMA Activate FIS.
-fn push_activate<A: Allocator>(text: &mut Vec<u8, A>) -> Result<(), AllocError>
-    ensures { OnOk result (text.new.items ≡ text.old.items ++ named_text (codes "  received DMA Activate FIS") activate_bytes) }
+fn push_activate<A: Allocator>(text: &mut TextBuffer<A>) -> Result<(), AllocError>
+    ensures { OnOk result (text.new.bytes ≡ text.old.bytes ++ named_text (codes "  received DMA Activate FIS") activate_bytes) }
 {
     push_named(
         text,
@@ -39,8 +39,8 @@ fn push_activate<A: Allocator>(text: &mut Vec<u8, A>) -> Result<(), AllocError>
 }
 
 /// Appends a Data FIS of a write, which the device asks for first.
-fn push_written<A: Allocator>(text: &mut Vec<u8, A>, bytes: u32) -> Result<(), AllocError>
-    ensures { OnOk result (text.new.items ≡ text.old.items ++ data_text true bytes) }
+fn push_written<A: Allocator>(text: &mut TextBuffer<A>, bytes: u32) -> Result<(), AllocError>
+    ensures { OnOk result (text.new.bytes ≡ text.old.bytes ++ data_text true bytes) }
 {
     push_activate(text)?;
     push_data(text, b"  sent Data FIS", bytes)
@@ -48,11 +48,11 @@ fn push_written<A: Allocator>(text: &mut Vec<u8, A>, bytes: u32) -> Result<(), A
 
 /// Appends a Data FIS of a command.
 fn push_moved<A: Allocator>(
-    text: &mut Vec<u8, A>,
+    text: &mut TextBuffer<A>,
     write: bool,
     bytes: u32,
 ) -> Result<(), AllocError>
-    ensures { OnOk result (text.new.items ≡ text.old.items ++ data_text write bytes) }
+    ensures { OnOk result (text.new.bytes ≡ text.old.bytes ++ data_text write bytes) }
 {
     if write {
         push_written(text, bytes)
@@ -63,11 +63,11 @@ fn push_moved<A: Allocator>(
 
 /// Appends Data FISes of a command, one after the other.
 fn push_each<A: Allocator>(
-    text: &mut Vec<u8, A>,
+    text: &mut TextBuffer<A>,
     write: bool,
     payloads: &[u32],
 ) -> Result<(), AllocError>
-    ensures { OnOk result (text.new.items ≡ text.old.items ++ flat_map (data_text write) payloads.now) }
+    ensures { OnOk result (text.new.bytes ≡ text.old.bytes ++ flat_map (data_text write) payloads.now) }
 {
     for bytes in payloads {
         push_moved(text, write, *bytes)?;
@@ -76,20 +76,20 @@ fn push_each<A: Allocator>(
 }
 
 /// Appends the DMA Setup FIS of a command.
-fn push_setup<A: Allocator>(text: &mut Vec<u8, A>, command: &Queued) -> Result<(), AllocError>
-    ensures { OnOk result (text.new.items ≡ text.old.items ++ named_text (codes "  received DMA Setup FIS") (setup_bytes command.now)) }
+fn push_setup<A: Allocator>(text: &mut TextBuffer<A>, command: &Queued) -> Result<(), AllocError>
+    ensures { OnOk result (text.new.bytes ≡ text.old.bytes ++ named_text (codes "  received DMA Setup FIS") (setup_bytes command.now)) }
 {
     push_named(text, b"  received DMA Setup FIS", setup(command).as_slice())
 }
 
 /// Appends the Data FISes of a command.
 fn push_all_data<A: Allocator + Copy>(
-    text: &mut Vec<u8, A>,
+    text: &mut TextBuffer<A>,
     command: &Queued,
 ) -> Result<(), AllocError>
-    ensures { OnOk result (text.new.items ≡ text.old.items ++ flat_map (data_text command.now.write) (payloads_of command.now)) }
+    ensures { OnOk result (text.new.bytes ≡ text.old.bytes ++ flat_map (data_text command.now.write) (payloads_of command.now)) }
 {
-    let payloads = payloads(*text.allocator(), command)?;
+    let payloads = payloads(text.alloc(), command)?;
     push_each(text, command.write, &payloads)
 }
 
@@ -98,7 +98,7 @@ impl Note for Queued {
     ghost note = { transfer_text };
 
     #[tactic(auto, unfolding(crate::specs::Text::transfer_text))]
-    fn push_to<A: Allocator + Copy>(&self, text: &mut Vec<u8, A>) -> Result<(), AllocError> {
+    fn push_to<A: Allocator + Copy>(&self, text: &mut TextBuffer<A>) -> Result<(), AllocError> {
         push_setup(text, self)?;
         push_all_data(text, self)
     }

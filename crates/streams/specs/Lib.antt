@@ -2,3 +2,4 @@ pub mod Ends
 pub mod Unread
 pub mod Reading
 pub mod Standing
+pub mod Text

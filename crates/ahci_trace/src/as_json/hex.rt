@@ -2,13 +2,11 @@
 
 ghost use Rattle.std.specs.Prelude.{◌≡◌, IfOk};
 ghost use Rattle.std.specs.Str.{IsAscii};
-ghost use Rattle.ahci_script.specs.Answers.{hex_of};
 ghost use Rattle.ahci_trace.specs.Json.{hex_text};
 
-use ahci_script::growing::push;
-use ahci_script::spaced_byte;
 use std::alloc::{AllocError, Allocator};
 use std::str::from_utf8;
+use streams::{TextBuffer, two_digits};
 
 /// ASCII bytes as text.
 #[tactic(auto, using(crate::proofs::AsciiLemmas::ascii_is_utf8))]
@@ -22,21 +20,13 @@ pub(crate) fn ascii(bytes: &[u8]) -> &str
     }
 }
 
-/// The two hexadecimal digits of a byte.
-pub(crate) fn two_digits(byte: u8) -> [u8; 2]
-    ensures { result ≡ hex_of 2 byte }
-{
-    let [_, high, low] = spaced_byte(byte);
-    [high, low]
-}
-
 /// The hexadecimal digits of bytes, two for each.
 pub(crate) fn digits<A: Allocator>(alloc: A, bytes: &[u8]) -> Result<Vec<u8, A>, AllocError>
     ensures { IfOk result (λ text. text.items ≡ hex_text bytes.now) }
 {
-    let mut text = Vec::new(alloc);
+    let mut text = TextBuffer::new(alloc);
     for byte in bytes {
-        push(&mut text, &two_digits(*byte))?;
+        text.push(&two_digits(*byte))?;
     }
-    Ok(text)
+    Ok(text.into_bytes())
 }

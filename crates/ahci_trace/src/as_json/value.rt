@@ -3,11 +3,11 @@
 ghost use Rattle.std.specs.Prelude.{[], ◌∷◌};
 ghost use Rattle.ahci_trace.specs.Json.{value_token};
 
-use super::hex::{ascii, digits, two_digits};
+use super::hex::{ascii, digits};
 use super::item::Item;
 use super::tokens::Tokens;
-use ahci_script::eight_digits;
 use std::alloc::{AllocError, Allocator};
+use streams::{eight_digits, two_digits};
 
 /// A value of a member.
 #[derive(Clone, Copy, Debug)]

@@ -7,6 +7,6 @@ use Rattle.ahci_jobs.proofs.script.push_entries.Given as goal
 
 abbrev pub invariant-loop-place : goal.invariant-loop-place
 invariant-loop-place g l = record {
-  told : l.text.items ≡ l.initial.text.items ++ entry_lines l.sectors (history_of (take l.place l.events));
+  told : l.text.bytes ≡ l.initial.text.bytes ++ entry_lines l.sectors (history_of (take l.place l.events));
   noted : AreNoted l.sectors (history_of (take l.place l.events)) l.kept;
 }

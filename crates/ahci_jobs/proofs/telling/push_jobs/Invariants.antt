@@ -5,4 +5,4 @@ use Rattle.ahci_jobs.specs.Forms.{jobs_in}
 use Rattle.ahci_jobs.proofs.telling.push_jobs.Given as goal
 
 abbrev pub invariant-loop-job : goal.invariant-loop-job
-invariant-loop-job g l = l.text.items ≡ l.initial.text.items ++ jobs_in l.form l.workers 0 (map received_of (take l.job l.replies))
+invariant-loop-job g l = l.text.bytes ≡ l.initial.text.bytes ++ jobs_in l.form l.workers 0 (map received_of (take l.job l.replies))

@@ -5,8 +5,7 @@ use Rattle.ahci_script.proofs.text.push_entries.Goals as goal
 
 pub loop-entry-preserved : goal.loop-entry-preserved
 loop-entry-preserved g c = (
-  appended-more c.args.text.now.items c.loop-entry.text.items _ c.args.first c.loop-entry.entry (omega arith) c.loop-entry.invariant.0 c.push_number.ensures.items,
-  omega arith,
+  appended-more c.args.text.now.bytes c.loop-entry.text.bytes _ c.args.first c.loop-entry.entry (omega arith) c.loop-entry.invariant.0 c.push_reserved_number.ensures.bytes,
   omega arith,
   omega arith,
 )

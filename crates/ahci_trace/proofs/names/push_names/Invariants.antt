@@ -6,4 +6,4 @@ use Rattle.ahci_trace.proofs.names.push_names.Given as goal
 
 abbrev pub invariant-loop-bit : goal.invariant-loop-bit
 invariant-loop-bit g l =
-    l.text.items ++ names_text l.any (bits l.word) (map named (drop l.bit-index l.some)) ≡ l.initial.text.items ++ names_text false (bits l.word) (map named l.some)
+    l.text.bytes ++ names_text l.any (bits l.word) (map named (drop l.bit-index l.some)) ≡ l.initial.text.bytes ++ names_text false (bits l.word) (map named l.some)

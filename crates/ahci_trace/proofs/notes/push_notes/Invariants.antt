@@ -5,4 +5,4 @@ use Rattle.ahci_trace.proofs.notes.push_notes.Given as goal
 
 abbrev pub invariant-loop-one : goal.invariant-loop-one
 invariant-loop-one g l =
-    l.text.items ≡ l.initial.text.items ++ flat_map g.T.Note.note (take l.one-index l.each)
+    l.text.bytes ≡ l.initial.text.bytes ++ flat_map g.T.Note.note (take l.one-index l.each)

@@ -1,6 +1,6 @@
 -- One piece more.
 use Rattle.std.proofs.Common.{◌∷◌}
-use Rattle.ahci_script.specs.Answers.{hex_of}
+use Rattle.streams.specs.Text.{hex_of}
 use Rattle.ahci_trace.proofs.TextLemmas.{more_text}
 use Rattle.ahci_trace.proofs.text.push_bytes.Goals as goal
 

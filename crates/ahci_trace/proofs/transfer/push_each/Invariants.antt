@@ -6,4 +6,4 @@ use Rattle.ahci_trace.proofs.transfer.push_each.Given as goal
 
 abbrev pub invariant-loop-bytes : goal.invariant-loop-bytes
 invariant-loop-bytes g l =
-    l.text.items ≡ l.initial.text.items ++ flat_map (data_text l.write) (take l.bytes-index l.payloads)
+    l.text.bytes ≡ l.initial.text.bytes ++ flat_map (data_text l.write) (take l.bytes-index l.payloads)

@@ -1,6 +1,6 @@
 use Rattle.std.proofs.Common.{◌∷◌, ◌++◌, ◌∙◌, codes, ap}
 use Rattle.ahci_regs.specs.RegisterTable.{name_of}
-use Rattle.ahci_script.specs.Answers.{hex_of}
+use Rattle.streams.specs.Text.{hex_of}
 use Rattle.json.specs.Token.{key}
 use Rattle.streams.proofs.FoundLemmas.{on_ok_from}
 use Rattle.ahci_trace.specs.Json.{change_object, text_member, value_token}
