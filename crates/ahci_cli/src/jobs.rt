@@ -42,7 +42,30 @@ where
         (W.contents writer.old) (W.contents writer.new))) }
 {
     let size = RunSize::new(workers, depth, sectors);
-    Ok(ahci_jobs::run_jobs(rt, alloc, size, Picked { pick }, Form::Text, reader, writer)?)
+    run_in_form(rt, alloc, size, pick, Form::Text, reader, writer)
+}
+
+/// Does the jobs that the reader gives with the chooser that is picked, and writes the run in this form.
+pub(crate) fn run_in_form<H, R, W, A>(
+    rt: &H,
+    alloc: A,
+    size: RunSize,
+    pick: Pick,
+    form: Form,
+    reader: &mut R,
+    writer: &mut W,
+) -> Result<(), CliFault>
+where
+    H: Threads + Wait + Sync,
+    R: Read,
+    W: Write,
+    A: Allocator + Clone + Send + Sync,
+    ensures ok { OnOk result (RunsJobs form size (R.remaining reader.old) (R.remaining reader.new)
+        (W.contents writer.old) (W.contents writer.new)) }
+    ensures err { IfErr result (IsFaultOf of_jobs (EndsRun form size (R.remaining reader.old) (R.remaining reader.new)
+        (W.contents writer.old) (W.contents writer.new))) }
+{
+    Ok(ahci_jobs::run_jobs(rt, alloc, size, Picked { pick }, form, reader, writer)?)
 }
 
 /// The form of `ahci_jobs` that a command line asks for.

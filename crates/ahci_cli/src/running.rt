@@ -6,8 +6,8 @@ ghost use Rattle.ahci_cli.specs.Program.{Does, HasRanges, Runs, RunsWithout, for
 
 use crate::ending::{end, explain};
 use crate::fault::CliFault;
-use crate::jobs::form_of;
-use crate::picked::Picked;
+use crate::jobs::{form_of, run_in_form};
+use crate::scripts::replay;
 use crate::words_fault::WordsFault;
 use ahci_args::{Asked, asked, not_text};
 use ahci_check::{Form, check, check_jobs};
@@ -108,7 +108,7 @@ where
 {
     match asked {
         Asked::Replay => {
-            ahci_replay::replay(alloc, reader, writer)?;
+            replay(alloc, reader, writer)?;
             Ok(false)
         }
         Asked::Trace { json: false } => {
@@ -137,15 +137,7 @@ where
             form,
         } => {
             let size = RunSize::new(workers, depth, sectors);
-            ahci_jobs::run_jobs(
-                rt,
-                alloc,
-                size,
-                Picked { pick },
-                form_of(form),
-                reader,
-                writer,
-            )?;
+            run_in_form(rt, alloc, size, pick, form_of(form), reader, writer)?;
             Ok(false)
         }
         Asked::Identify {

@@ -1,5 +1,5 @@
 -- The default pieces of any count, a window that is fit, and a tag that is given back.
-use Rattle.std.proofs.Common.{◌≡◌, ℕ, ◌-◌, ◌^◌, ◌<◌, Bool, false, cond, min, List, [], map, ap, sym, ◌∙◌, arith, inl, inr}
+use Rattle.std.proofs.Common.{◌≡◌, ℕ, ◌-◌, ◌^◌, ◌<◌, Bool, false, cond, min, List, [], Option, None, Some, MatchOption, map, ap, sym, refl, ◌∙◌, arith, inl, inr}
 use Rattle.std.specs.Int.{div_ceil}
 use Rattle.std.specs.List.{range_with_len}
 use Rattle.std.proofs.lemmas.Bool.{cases_lt, cases_eq, lt-leb}
@@ -7,6 +7,7 @@ use Rattle.ahci_port.specs.Faults.{RefusesIssue}
 use Rattle.ahci_port.specs.PortView.{PortView}
 use Rattle.ahci_port.specs.declared.fault.IssueFault.{IssueFault}
 use Rattle.ahci_port.specs.declared.fault.IssueFault.TheVariants as issue
+use Rattle.ahci_table.specs.declared.fault.BuildFault.{BuildFault}
 use Rattle.ahci_table.specs.Fit.{IsFit}
 use Rattle.ahci_table.specs.Window.{WindowState}
 use Rattle.ahci_driver.specs.Submitting.{MayRefuseFit}
@@ -33,6 +34,11 @@ fit_refused port w issue.BadCommand fit h = absurd (h.1.1 fit.command)
 fit_refused port w issue.WrongTag fit h = absurd (h.1.2 fit.tag)
 fit_refused port w issue.BadList fit h = absurd (h.1.3 fit.listed)
 fit_refused port w _ fit h = tt
+
+-- what was built was not refused
+pub not_refused : (o : Option BuildFault) (P : Type 0) → MatchOption o P (λ fault. ⊥) → o ≡ None
+not_refused None P h = refl
+not_refused (Some fault) P h = absurd h
 
 -- a tag that was not the seat's, and is given back
 pub given_back : (s : List Bool) (t : ℕ) → has_place s t ≡ false → without_place (with_place s t) t ≡ s

@@ -40,14 +40,8 @@ impl<A: Allocator + Clone> Ready<A> {
             alloc.clone(),
         );
         let window = Window::build(alloc, tag, op, &pieces_for(op))?;
-        let (Ok(spare), Ok(other)) = (spare, other) else {
-            return Err(BuildFault::OutOfMemory);
-        };
-        let Ok(buffer) = buffer_for(spare, op) else {
-            return Err(BuildFault::OutOfMemory);
-        };
-        match copied(other, op) {
-            Ok(asked) => Ok(Ready {
+        match kept(spare, other, op) {
+            Ok((asked, buffer)) => Ok(Ready {
                 window,
                 asked,
                 buffer,
@@ -90,6 +84,20 @@ fn pieces_for<A: Allocator>(op: &Op<A>) -> ArrayVec<Piece, 32>
     ensures { result.items ≡ default_list (sectors_of (work_of op.now)) }
 {
     default_pieces(op.sectors().min(u64::from(u32::MAX)) as u32)
+}
+
+/// What the journal keeps of a command, and the buffer for its answer, where there is memory for both.
+fn kept<A: Allocator>(
+    spare: Result<A, AllocError>,
+    other: Result<A, AllocError>,
+    op: &Op<A>,
+) -> Result<(Op<A>, Vec<u8, A>), AllocError>
+    ensures asked { IfOk result (λ kept. work_of kept.0 ≡ work_of op.now) }
+    ensures buffer { IfOk result (λ kept. kept.1.items ≡ buffer_for (work_of op.now)) }
+{
+    let buffer = buffer_for(spare?, op)?;
+    let asked = copied(other?, op)?;
+    Ok((asked, buffer))
 }
 
 /// A copy of a command.

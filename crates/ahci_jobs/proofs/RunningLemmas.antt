@@ -1,9 +1,7 @@
 -- Lemmas about the run of a job list.
-use Rattle.std.proofs.Common.{◌≡◌, ℕ, zero, suc, ◌<◌, List, [], ◌∷◌, ◌++◌, Option, None, Some, IsSomeAnd, length, sym, subst, ap, refl, arith}
-use Rattle.std.specs.List.{slice_get}
-use Rattle.ahci_driver.specs.Running.{IsFirstBad, IsGivenUp, IsLate, ProperBelow}
+use Rattle.std.proofs.Common.{◌≡◌, ℕ, zero, suc, ◌<◌, List, [], ◌∷◌, ◌++◌, Option, None, Some, length, sym, subst, refl, arith}
+use Rattle.ahci_driver.specs.Running.{IsFirstBad, IsGivenUp, ProperBelow}
 use Rattle.ahci_driver.specs.declared.run_fault.RunFault.{RunFault}
-use Rattle.ahci_driver.specs.declared.fault.SettleFault.TheVariants as settle
 use Rattle.ahci_driver.specs.declared.run_fault.RunFault.TheVariants as of_run
 use Rattle.ahci_port.specs.PortView.{PortView}
 use Rattle.ahci_script.specs.Jobs.{job_line_of}
@@ -19,7 +17,7 @@ use Rattle.streams.specs.Ends.{ReadSoFar, WrittenSoFar}
 use Rattle.ahci_jobs.specs.Faults.{RunReads, RunWrites}
 use Rattle.ahci_jobs.specs.JobList.{AreGood, IsGood, IsListFault, IsListed, asked_in, command_for, commands_of, no_line, one_more}
 use Rattle.ahci_jobs.specs.Size.{Size}
-use Rattle.ahci_jobs.specs.RunJobs.{EndsRun, blank_port, fault_of}
+use Rattle.ahci_jobs.specs.RunJobs.{EndsRun, fault_of}
 use Rattle.ahci_jobs.specs.declared.form.Form.{Form}
 
 -- all of these commands can be issued
@@ -50,28 +48,6 @@ proper_in _ (one_more first more own good others) = proper_append (commands_of (
 pub listed_proper : (r s : Known) (jobs : List Work) → IsListed r s jobs → AllProper jobs
 listed_proper r s jobs h =
     subst AllProper (sym h.asked) (proper_append (asked_in h.lines) (commands_of (job_line_of h.rest)) (proper_in h.lines h.good) (proper_of (job_line_of h.rest) h.last))
-
-within : (P : Work → Type 0) (jobs : List Work) (i : ℕ) → IsSomeAnd (slice_get jobs i) P → i < length jobs
-within P [] i h = absurd h
-within P (job ∷ more) zero h = omega arith
-within P (job ∷ more) (suc i) h = let low = within P more i h in omega arith
-
-not_both : (o : Option Work) → IsSomeAnd o IsProper → IsSomeAnd o (λ work. ¬ (IsProper work)) → ⊥
-not_both None h bad = h
-not_both (Some work) h bad = bad h
-
--- on a new port such jobs are given up for a late reason alone
-pub is_late : (port : PortView) (jobs : List Work) (size : Size) (fault : RunFault) → port ≡ blank_port size → IsFirstBad jobs None → IsGivenUp port jobs fault → IsLate fault
-is_late port jobs size of_run.NotFresh is all h = absurd (h (ap (λ p. p.past) is))
-is_late port jobs size (of_run.BadJob i) is all h =
-    absurd (not_both (slice_get jobs i) (all i (within (λ work. ¬ (IsProper work)) jobs i h.1.1)) h.1.1)
-is_late port jobs size of_run.OutOfMemory is all h = tt
-is_late port jobs size (of_run.Lost i) is all h = tt
-is_late port jobs size of_run.Foreign is all h = tt
-is_late port jobs size (of_run.Unsettled settle.OutOfMemory) is all h = absurd h
-is_late port jobs size (of_run.Unsettled settle.Count) is all h = tt
-is_late port jobs size (of_run.Unsettled (settle.Wrong i)) is all h = tt
-is_late port jobs size (of_run.Unsettled (settle.Extra n)) is all h = tt
 
 -- the list ended early
 pub ends_listing : (f : JobsFault) (form : Form) (size : Size) (r s c : Known) → IsListFault r s f → EndsRun form size r s c c f

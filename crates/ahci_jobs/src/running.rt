@@ -1,7 +1,7 @@
 ghost use Rattle.std.specs.Prelude.{◌≡◌, None, map, vec_len, IfErr, IfOk, OnOk};
 ghost use Rattle.ncq_journal.specs.Work.{work_of};
 ghost use Rattle.ahci_driver.specs.Received.{received_of};
-ghost use Rattle.ahci_driver.specs.Running.{HasRun, IsFirstBad, IsGivenUp, IsLate};
+ghost use Rattle.ahci_driver.specs.Running.{HasRun, IsFirstBad, IsGivenUp};
 ghost use Rattle.streams.specs.Ends.{with_flush};
 ghost use Rattle.ahci_jobs.specs.Faults.{RunReads, RunWrites};
 ghost use Rattle.ahci_jobs.specs.RunJobs.{EndsRun, RunsJobs, blank_port, fault_of};
@@ -21,17 +21,17 @@ use std::sync::Wait;
 use std::thread::Threads;
 use streams::{Reads, Writes};
 
-/// The program's fault, where a run that has begun was given up.
+/// The program's fault, where the run was given up. A new port is fresh, and each job was judged as it was read: those two
+/// faults don't happen here.
 fn given_up(fault: RunFault) -> JobsFault
-    requires { IsLate fault }
     ensures { result ≡ fault_of fault }
 {
     match fault {
         RunFault::OutOfMemory => JobsFault::OutOfMemory,
         RunFault::Lost(job) => JobsFault::Lost(job as u64),
-        RunFault::Foreign | RunFault::Unsettled(_) => JobsFault::Unsettled,
-        // The port is new, and each job was judged as it was read.
-        RunFault::NotFresh | RunFault::BadJob(_) => unreachable!(),
+        RunFault::NotFresh | RunFault::BadJob(_) | RunFault::Foreign | RunFault::Unsettled(_) => {
+            JobsFault::Unsettled
+        }
     }
 }
 

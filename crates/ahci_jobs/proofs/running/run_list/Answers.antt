@@ -8,16 +8,11 @@ use Rattle.ahci_jobs.specs.JobList.{IsListed}
 use Rattle.ahci_jobs.specs.Forms.{written_of}
 use Rattle.ahci_jobs.specs.RunJobs.{EndsRun, SaysPart, blank_port}
 use Rattle.ahci_jobs.specs.declared.jobs_fault.JobsFault.TheVariants.{Write}
-use Rattle.ahci_jobs.proofs.RunningLemmas.{AllProper, ends_running, is_late, listed_proper, reads_running, writes_listing, writes_running}
+use Rattle.ahci_jobs.proofs.RunningLemmas.{AllProper, ends_running, listed_proper, reads_running, writes_listing, writes_running}
 use Rattle.ahci_jobs.proofs.running.run_list.Goals as goal
 
 pub done-requires-clause-jobs : goal.done-requires-clause-jobs
 done-requires-clause-jobs g c κs within = subst (λ js. AllProper (map work_of js)) (sym c.deref.ensures.value) (listed_proper _ _ _ c.in_ok-jobs.ensures.ok)
-
-pub given_up-requires : goal.given_up-requires
-given_up-requires g c =
-    is_late (blank_port c.args.size) (map work_of c.deref.result.now) c.args.size c.in-Err.fault refl
-    (subst (λ js. AllProper (map work_of js)) (sym c.deref.ensures.value) (listed_proper _ _ _ c.in_ok-jobs.ensures.ok)) c.in-Err.ensures.fault
 
 pub returns-in-Err-clause-err : goal.returns-in-Err-clause-err
 returns-in-Err-clause-err g c =
