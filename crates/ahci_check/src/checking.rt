@@ -1,3 +1,5 @@
+//! A script or a job list that is judged and not run, line by line.
+
 ghost use Rattle.std.specs.Prelude.{◌≡◌, [], false, IfErr, IfOk, OnOk};
 ghost use Rattle.streams.specs.Ends.{with_flush};
 ghost use Rattle.ahci_check.specs.Sheets.{EndsCheck, IsChecked};

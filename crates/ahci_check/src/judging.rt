@@ -1,3 +1,5 @@
+//! What there is to say of one line.
+
 ghost use Rattle.std.specs.Prelude.{◌≡◌, IfOk, IfSome, not};
 ghost use Rattle.ahci_script.specs.Lines.{HasSmallTag, HasSmallTags};
 ghost use Rattle.ahci_check.specs.Complaints.{IsColumn, complaint_at, complaint_in, ends_replay, of_command, of_excess, of_reading, stands};

@@ -1,3 +1,5 @@
+//! The limits of the port that a line of a script can pass.
+
 use ahci_table::TableFault;
 use std::fmt;
 

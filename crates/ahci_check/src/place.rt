@@ -1,3 +1,5 @@
+//! Where a line of a script stands: before its disk, or on a port.
+
 ghost use Rattle.std.specs.Prelude.{◌≡◌};
 ghost use Rattle.ahci_check.specs.Complaints.{is_in_place, misplaced, place_after, place_by};
 

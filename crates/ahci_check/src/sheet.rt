@@ -1,3 +1,5 @@
+//! The complaints so far, and how they are written.
+
 ghost use Rattle.std.specs.Prelude.{◌≡◌};
 ghost use Rattle.ahci_check.specs.Sheets.{long_line};
 

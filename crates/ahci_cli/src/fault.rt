@@ -1,3 +1,5 @@
+//! Why the program ends early: texts, exit statuses, and the faults of its parts as the program's own.
+
 ghost use Rattle.std.specs.Prelude.{◌≡◌};
 ghost use Rattle.ahci_cli.specs.Faults.{of_check, of_jobs, of_page, of_script};
 

@@ -1,3 +1,5 @@
+//! A job list that is run, with a chooser by its name.
+
 ghost use Rattle.std.specs.Prelude.{◌≡◌, ◌≤◌, IfErr, OnOk};
 ghost use Rattle.ahci_cli.specs.Faults.{IsFaultOf, of_jobs};
 ghost use Rattle.ahci_cli.specs.Program.{form_of};

@@ -1,3 +1,5 @@
+//! Who collects the entries of a script for its picture.
+
 ghost use Rattle.std.specs.Prelude.{◌≡◌};
 ghost use Rattle.ahci_draw.specs.Mark.{mark_of};
 ghost use Rattle.ahci_draw.specs.Sheet.{sheet_text};

@@ -1,3 +1,5 @@
+//! A script whose picture is written.
+
 ghost use Rattle.std.specs.Prelude.{◌≡◌, IfErr, OnOk};
 ghost use Rattle.streams.specs.Ends.{with_flush};
 ghost use Rattle.std.specs.Io.KnownBytes.{Appends};

@@ -3,13 +3,11 @@
 ghost use Rattle.std.specs.Prelude.{◌≡◌, None, Some, filter, length};
 ghost use Rattle.std.specs.List.{list_any};
 ghost use Rattle.ncq_journal.specs.Entry.{entry_of};
-ghost use Rattle.ncq_journal.specs.Image.{is_write};
-ghost use Rattle.ncq_journal.specs.Work.{work_of};
 ghost use Rattle.ahci_draw.specs.Tags.{has_failed, in_device, is_taken, moved, tag_after, tag_in, tags_of, turned_by, unused, writes_in};
 
 use crate::tag_state::TagState;
 use ahci_port::Port;
-use ncq_journal::{Event, Op, Phase, phase_after};
+use ncq_journal::{Event, Phase, phase_after};
 use std::alloc::Allocator;
 
 /// A tag that was not used yet.
@@ -30,15 +28,6 @@ pub(crate) fn tags_of_none() -> [TagState; 32]
     [unused(); 32]
 }
 
-fn is_write<A: Allocator>(op: &Op<A>) -> bool
-    ensures { result ≡ is_write (work_of op.now) }
-{
-    match op {
-        Op::Read { .. } => false,
-        Op::Write { .. } => true,
-    }
-}
-
 /// Whether the request that owns a tag's slot writes.
 fn writes_in<A: Allocator>(port: &Port<A>, tag: u8) -> bool
     ensures { result ≡ writes_in port.now tag }
@@ -46,7 +35,7 @@ fn writes_in<A: Allocator>(port: &Port<A>, tag: u8) -> bool
     match port.owner(tag) {
         None => false,
         Some(number) => match port.journal().get(number) {
-            Some(Event::Issue(_, op)) => is_write(op),
+            Some(Event::Issue(_, op)) => op.is_write(),
             _ => false,
         },
     }
@@ -78,7 +67,7 @@ fn turned_by<A: Allocator>(tag: u8, before: bool, event: &Event<A>) -> bool
     ensures { result ≡ turned_by tag before (entry_of event.now) }
 {
     match event {
-        Event::Issue(other, op) if *other == tag => is_write(op),
+        Event::Issue(other, op) if *other == tag => op.is_write(),
         _ => before,
     }
 }

@@ -1,3 +1,5 @@
+//! Who decides what the device does next: the trait, and three choosers.
+
 ghost use Rattle.std.specs.Prelude.{◌≡◌, ℕ};
 ghost use Rattle.word_bits.specs.Places.{bits};
 ghost use Rattle.ahci_port.specs.declared.step.DeviceStep.{DeviceStep};

@@ -1,3 +1,5 @@
+//! How an answer is taken out of its slot, on a port whose lock is held.
+
 ghost use Rattle.std.specs.Prelude.{◌≡◌, Some, IsOk, IfOk, IsErrAnd, OnOk, OnErr, MatchOption, length};
 ghost use Rattle.ahci_table.specs.Fit.{IsFit};
 ghost use Rattle.ahci_port.specs.{Slots.{bytes_in}, Steps.{IsCollected}};

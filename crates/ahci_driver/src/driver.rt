@@ -1,3 +1,5 @@
+//! A port behind a lock, and the calls of the threads that share it.
+
 mod finishing;
 
 ghost use Rattle.std.specs.Prelude.{◌≡◌, true, IfOk, IfErr, OnOk, OnErr, length};

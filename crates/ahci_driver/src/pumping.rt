@@ -1,3 +1,5 @@
+//! How the port gets on by one call, whatever its chooser answers.
+
 ghost use Rattle.std.specs.Prelude.{◌≡◌, false, true, IfOk, OnErr};
 ghost use Rattle.ncq_journal.specs.Halted.{halted, busy};
 ghost use Rattle.word_bits.specs.Places.{bits, IsLowest};

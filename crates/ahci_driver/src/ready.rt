@@ -1,3 +1,5 @@
+//! A command that is made ready before the port's lock is taken.
+
 ghost use Rattle.std.specs.Prelude.{◌≡◌, ◌<◌, None, IfOk, IfErr, OnOk, OnErr};
 ghost use Rattle.ncq_journal.specs.Work.{work_of, sectors_of};
 ghost use Rattle.ahci_table.specs.{Build.{Carries}, Command.{op}, Defaults.{default_list}, Fit.{IsFit}};

@@ -1,3 +1,5 @@
+//! A whole run: its workers, their ends, and the check of what they bring back.
+
 ghost use Rattle.std.specs.Prelude.{◌≡◌, ◌≢◌, ◌↔◌, ◌⊎◌, ◌≤◌, map, length, vec_len, Err, IfOk, IfErr, IfSome, IsTrue, List, MatchOption, None, OnOk, Some};
 ghost use Rattle.ncq_journal.specs.Work.{work_of};
 ghost use Rattle.ahci_driver.specs.Received.{Received, received_of};

@@ -1,3 +1,5 @@
+//! One worker of a run, and why it ends.
+
 ghost use Rattle.std.specs.Prelude.{◌≡◌, ◌≤◌, length, true, IfErr, IfOk, OnOk};
 ghost use Rattle.word_bits.specs.Places.{has_place};
 ghost use Rattle.ahci_driver.specs.Pumping.{HasGotOn};

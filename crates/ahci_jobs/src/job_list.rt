@@ -1,3 +1,5 @@
+//! The job list: its lines, read and judged.
+
 ghost use Rattle.std.specs.Prelude.{◌≡◌, map, IfErr, IfOk, OnOk};
 ghost use Rattle.ncq_journal.specs.Work.{work_of};
 ghost use Rattle.ahci_jobs.specs.Faults.{RunReads};

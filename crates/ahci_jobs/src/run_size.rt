@@ -1,3 +1,5 @@
+//! How large a run is.
+
 ghost use Rattle.std.specs.Prelude.{◌≡◌, ◌≤◌};
 ghost use Rattle.ahci_jobs.specs.Size.{size_of};
 

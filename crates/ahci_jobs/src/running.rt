@@ -1,3 +1,5 @@
+//! A job list that is done on a new disk, and whose run is written.
+
 ghost use Rattle.std.specs.Prelude.{◌≡◌, None, map, vec_len, IfErr, IfOk, OnOk};
 ghost use Rattle.ncq_journal.specs.Work.{work_of};
 ghost use Rattle.ahci_driver.specs.Received.{received_of};

@@ -1,3 +1,5 @@
+//! What a command answers.
+
 use port_refusal::Refusal;
 use std::alloc::{Allocator, Global};
 

@@ -1,3 +1,5 @@
+//! Where a line breaks a rule of the language.
+
 ghost use Rattle.std.specs.Prelude.{◌≡◌};
 ghost use Rattle.ahci_script.specs.Breaches.{begins_with_mark, breach_at, high_byte, odd_byte, odd_fault, seen};
 

@@ -1,3 +1,5 @@
+//! The rules of the language, by the reasons for which a line is refused.
+
 use std::fmt;
 
 /// A rule of the language, or of the order of lines, that a line breaks. `replay` ends at the line.

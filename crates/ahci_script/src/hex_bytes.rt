@@ -1,3 +1,5 @@
+//! Bytes that a line spells by hexadecimal digits.
+
 ghost use Rattle.std.specs.Prelude.{◌≡◌, ◌<◌, length, get_or};
 ghost use Rattle.ahci_script.specs.HexBytes.{header_of, hex_bytes_of, some_bytes_of, some_header_of};
 

@@ -1,3 +1,5 @@
+//! The lines of a job list.
+
 ghost use Rattle.std.specs.Prelude.{◌≡◌};
 ghost use Rattle.ahci_script.specs.Jobs.{job_of, job_reading, read_job_of, write_job_of};
 

@@ -1,3 +1,5 @@
+//! The lines of a script, as they are read.
+
 use crate::raw_window::RawWindow;
 use arrayvec::ArrayVec;
 

@@ -1,3 +1,5 @@
+//! The output of answers: text that waits, and is written in large pieces.
+
 ghost use Rattle.std.specs.Prelude.{◌≡◌, ◌∷◌, ◌++◌, ◌↔◌, ◌≤◌, ℕ, [], IsTrue, OnErr, OnOk, length, take};
 ghost use Rattle.std.specs.Io.KnownBytes.{Appends};
 ghost use Rattle.ahci_script.specs.Answers.{answer_text};

@@ -1,3 +1,5 @@
+//! The words of a line, taken one after the other.
+
 ghost use Rattle.std.specs.Prelude.{◌≡◌, ◌==◌, IfErr, IfOk, Ok, Err, option_map, position};
 ghost use Rattle.ahci_script.specs.Words.{after_first, cut_of, first_of, placed, spare};
 

@@ -6,7 +6,7 @@ use Rattle.std.proofs.lemmas.List.Folds.{flat_map-map}
 use Rattle.json.specs.Token.{Token}
 use Rattle.word_bits.specs.Places.{has_place}
 use Rattle.ahci_trace.specs.Names.{Named, name_text, named, names_text}
-use Rattle.ahci_trace.specs.declared.named_bit.NamedBit.{NamedBit}
+use Rattle.ahci_trace.specs.declared.names.NamedBit.{NamedBit}
 
 -- where the text so far and the names that are left are the whole, they are so after the next name
 pub more_names : (text new whole : List ℕ) (set : List Bool) (any any' : Bool) (bits : List NamedBit) (i : ℕ) (d : NamedBit) → i < length bits

@@ -20,9 +20,9 @@ use Rattle.ahci_trace.specs.Transfers.{payloads_of}
 use Rattle.ahci_trace.specs.declared.appended.Appended.{Appended}
 use Rattle.ncq_journal.specs.declared.event_kind.EventKind.{EventKind}
 use Rattle.ncq_journal.specs.declared.event_kind.EventKind.TheVariants as what
-use Rattle.ahci_trace.specs.declared.as_json.member.Member.{Member}
-use Rattle.ahci_trace.specs.declared.as_json.value.Value.{Value}
-use Rattle.ahci_trace.specs.declared.as_json.value.Value.TheVariants as value
+use Rattle.ahci_trace.specs.declared.as_json.tokens.Member.{Member}
+use Rattle.ahci_trace.specs.declared.as_json.tokens.Value.{Value}
+use Rattle.ahci_trace.specs.declared.as_json.tokens.Value.TheVariants as value
 use Rattle.ahci_trace.specs.declared.change.Change.{Change}
 use Rattle.ahci_trace.specs.declared.owned.OwnedSlot.{OwnedSlot}
 use Rattle.ahci_trace.specs.declared.received.Received.{Received}

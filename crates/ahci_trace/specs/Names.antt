@@ -3,7 +3,7 @@ use Rattle.std.specs.Prelude.{ℕ, Bool, true, false, ◌||◌, if◌then◌else
 use Rattle.ahci_regs.specs.declared.register.Register.{Register}
 use Rattle.ahci_regs.specs.declared.register.Register.TheVariants.{Cap, Ghc, PxIs, PxIe, PxCmd, PxTfd}
 use Rattle.word_bits.specs.Places.{bits, has_place}
-use Rattle.ahci_trace.specs.declared.named_bit.NamedBit.{NamedBit}
+use Rattle.ahci_trace.specs.declared.names.NamedBit.{NamedBit}
 
 -- a bit by its place, and its name
 pub record Named : Type 0 where

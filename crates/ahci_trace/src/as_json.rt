@@ -9,28 +9,16 @@ ghost use Rattle.ahci_trace.specs.Json.{command_object, passed_members, told_mem
 ghost use Rattle.ahci_trace.specs.Mark.{mark_of};
 ghost use Rattle.ahci_trace.specs.Trace.{told, told_between};
 
-mod entry;
-mod hex;
-mod item;
-mod line;
-pub(crate) mod member;
-mod received;
-mod register;
-mod sent;
-mod slot;
+mod parts;
 pub(crate) mod tokens;
-mod transfer;
-pub(crate) mod value;
-mod write;
 
 use crate::command_trace::CommandTrace;
 use crate::mark::Mark;
 use ahci_port::Port;
 use ahci_script::ScriptAnswer;
-use item::Item;
 use json::Token;
 use std::alloc::{AllocError, Allocator};
-use tokens::Tokens;
+use tokens::{Item, Tokens};
 
 /// The text of an object for a command of a line, its answer, and what it did that found the port of the mark and has left this one.
 pub(crate) fn json_text<A: Allocator + Copy>(

@@ -1,8 +1,9 @@
+//! The registers that a command has changed.
+
 ghost use Rattle.std.specs.Prelude.{◌≡◌, IfOk};
 ghost use Rattle.ahci_trace.specs.Changes.{change_of, changes, changes_among, is_word};
 
-use crate::mark::Mark;
-use crate::words::word;
+use crate::mark::{Mark, word};
 use ahci_port::Port;
 use ahci_regs::Register;
 use std::alloc::{AllocError, Allocator};

@@ -3,9 +3,7 @@
 ghost use Rattle.std.specs.Prelude.{◌≡◌, ◌++◌, IfOk, OnOk};
 ghost use Rattle.ahci_trace.specs.Closing.{Closes, IsTold, TellWrites, TellsFault, fault_line, fault_object, fault_word};
 
-use crate::as_json::member::Member;
-use crate::as_json::tokens::Tokens;
-use crate::as_json::value::Value;
+use crate::as_json::tokens::{Member, Tokens, Value};
 use ahci_replay::ScriptFault;
 use std::alloc::{AllocError, Allocator};
 use std::io::Write;

@@ -1,3 +1,5 @@
+//! All that one command did to a port.
+
 ghost use Rattle.std.specs.Prelude.{◌≡◌, IfOk, Option};
 ghost use Rattle.std.specs.Option.{option_copied};
 ghost use Rattle.ahci_port.specs.PortView.{PortView};

@@ -1,11 +1,24 @@
-ghost use Rattle.std.specs.Prelude.{◌≡◌, None, Some};
+//! What a trace keeps of a port: the words of its registers, and the end of its journal.
+
 ghost use Rattle.std.specs.Option.{option_copied};
+ghost use Rattle.std.specs.Prelude.{◌≡◌, None, Some};
+ghost use Rattle.ahci_regs.specs.Reading.{word_at};
 ghost use Rattle.ahci_trace.specs.Mark.{mark_of, words_of};
 
-use crate::words::word;
 use ahci_port::Port;
 use ahci_regs::Register;
 use std::alloc::Allocator;
+
+/// A register's word, as a read of its offset gives it.
+pub(crate) fn word<A: Allocator>(port: &Port<A>, register: Register) -> u32
+    ensures { result ≡ word_at port.now.registers register }
+{
+    match port.register(register.offset()) {
+        Ok(word) => word,
+        // A register stands at its own offset.
+        Err(_) => unreachable!(),
+    }
+}
 
 /// What is kept of the port that a command finds, to tell later what the command has changed.
 #[derive(Clone, Copy, Debug)]

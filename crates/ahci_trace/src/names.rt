@@ -4,11 +4,14 @@ ghost use Rattle.std.specs.Prelude.{◌≡◌, ◌++◌, ◌||◌, false, map, I
 ghost use Rattle.word_bits.specs.Places.{bits, has_place};
 ghost use Rattle.ahci_trace.specs.Names.{bits_of, bits_text, name_text, named, names_text};
 
-use crate::named_bit::NamedBit;
 use ahci_regs::Register;
 use std::alloc::{AllocError, Allocator};
 use streams::TextBuffer;
 use word_bits::is_set;
+
+/// A register's bit: its place, and its name.
+#[derive(Clone, Copy, Debug)]
+pub(crate) struct NamedBit(pub(crate) u8, pub(crate) &'static str);
 
 /// The bit of CAP.
 static CAP: [NamedBit; 1] = [NamedBit(30, "SNCQ")];

@@ -1,3 +1,5 @@
+//! The FISes that a command has brought.
+
 ghost use Rattle.std.specs.Prelude.{◌≡◌};
 ghost use Rattle.ahci_trace.specs.Received.{data_moved, nothing_received, page_came, received_by, register_came, set_bits_came};
 

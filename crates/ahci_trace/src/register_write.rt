@@ -1,3 +1,5 @@
+//! The registers that software writes for a command.
+
 ghost use Rattle.std.specs.Prelude.{◌≡◌, ◌<◌, IfOk};
 ghost use Rattle.ahci_trace.specs.Writes.{issuing, recovering, sending, write, writes_by};
 

@@ -1,3 +1,5 @@
+//! What software has laid out for the device.
+
 ghost use Rattle.std.specs.Prelude.{◌≡◌, ◌+◌, IfOk};
 ghost use Rattle.std.specs.Option.{option_map};
 ghost use Rattle.ahci_trace.specs.Sent.{bytes_at, entries_in, entries_listed, of_unqueued, of_window, prdtl_of, sent_by, shown};

@@ -1,3 +1,5 @@
+//! The commands whose data moved, and the FISes that carried them.
+
 ghost use Rattle.std.specs.Prelude.{◌≡◌, length, IfOk};
 ghost use Rattle.ncq_core.specs.DiskFis.{setup_bytes};
 ghost use Rattle.ahci_trace.specs.Transfers.{asked_in, command_of, completed_by, payloads_of, served};

@@ -1,16 +1,21 @@
 //! A script that is run and told: as lines, or as objects of JSON.
 
-ghost use Rattle.std.specs.Prelude.{IfErr, OnOk};
+ghost use Rattle.std.specs.Prelude.{IfErr, OnOk, ◌≡◌};
 ghost use Rattle.ahci_replay.specs.Transcript.{Replayed, ReplayedTo};
 ghost use Rattle.ahci_trace.specs.Closing.{TracedTo};
 ghost use Rattle.ahci_trace.specs.Json.{json_line};
+ghost use Rattle.ahci_trace.specs.Mark.{mark_of};
 ghost use Rattle.ahci_trace.specs.Text.{trace_text};
 
+use crate::as_json::json_text;
 use crate::closing::close;
-use crate::json_tracer::JsonTracer;
-use crate::tracer::Tracer;
-use ahci_replay::{ScriptFault, replay_with};
-use std::alloc::Allocator;
+use crate::command_trace::CommandTrace;
+use crate::mark::Mark;
+use crate::shown::text_of;
+use ahci_port::Port;
+use ahci_replay::{ScriptFault, Teller, replay_with};
+use ahci_script::{Output, ScriptAnswer};
+use std::alloc::{AllocError, Allocator};
 use std::io::{Read, Write};
 
 /// Runs the script that the reader gives as `replay` does, and after each answer writes what the command did to the port, in
@@ -48,5 +53,74 @@ pub fn trace_json<R: Read, W: Write, A: Allocator + Copy>(
     match replay_with(alloc, &JsonTracer { alloc }, reader, writer) {
         Ok(()) => Ok(()),
         Err(fault) => Err(close(alloc, fault, writer)),
+    }
+}
+
+/// Tells what each command did to the port.
+#[derive(Drop)]
+pub struct Tracer<A: Allocator> {
+    alloc: A,
+}
+
+impl<A: Allocator + Copy> Tracer<A> {
+    /// The notes are made with this allocator.
+    pub fn new(alloc: A) -> Self {
+        Tracer { alloc }
+    }
+}
+
+impl<A: Allocator + Copy> Teller<A> for Tracer<A> {
+    type Before = Mark;
+
+    ghost telling = { trace_text };
+
+    ghost IsOf = { λ mark port. mark ≡ mark_of port };
+
+    fn look(&self, port: Option<&Port<A>>) -> Mark {
+        Mark::of(port)
+    }
+
+    fn tell(
+        &self,
+        _number: u64,
+        _line: &[u8],
+        before: Mark,
+        answer: &ScriptAnswer<A>,
+        port: Option<&Port<A>>,
+        output: &mut Output<A>,
+    ) -> Result<(), AllocError> {
+        let trace = CommandTrace::between(self.alloc, &before, port)?;
+        output.put_noted(answer, &text_of(self.alloc, &trace)?)
+    }
+}
+
+/// Tells each answer, and what its command did, as one JSON object.
+#[derive(Drop)]
+pub(crate) struct JsonTracer<A: Allocator> {
+    /// The objects are made with it.
+    pub(crate) alloc: A,
+}
+
+impl<A: Allocator + Copy> Teller<A> for JsonTracer<A> {
+    type Before = Mark;
+
+    ghost telling = { json_line };
+
+    ghost IsOf = { λ mark port. mark ≡ mark_of port };
+
+    fn look(&self, port: Option<&Port<A>>) -> Mark {
+        Mark::of(port)
+    }
+
+    fn tell(
+        &self,
+        number: u64,
+        line: &[u8],
+        before: Mark,
+        answer: &ScriptAnswer<A>,
+        port: Option<&Port<A>>,
+        output: &mut Output<A>,
+    ) -> Result<(), AllocError> {
+        output.put_text(&json_text(self.alloc, number, line, &before, answer, port)?)
     }
 }

@@ -6,9 +6,8 @@ ghost use Rattle.ncq_core.specs.DiskFis.{activate_bytes, setup_bytes};
 ghost use Rattle.ahci_trace.specs.Text.{data_line, data_text, named_text, transfer_text};
 ghost use Rattle.ahci_trace.specs.Transfers.{payloads_of};
 
-use crate::note::Note;
+use crate::note::{Note, push_bytes, push_named};
 use crate::served::{payloads, setup};
-use crate::text::{push_bytes, push_named};
 use sata_fis::{Fis, Queued, data_head};
 use std::alloc::{AllocError, Allocator};
 use streams::TextBuffer;

@@ -1,3 +1,5 @@
+//! The input, a line after the other.
+
 ghost use Rattle.std.specs.Prelude.{◌≡◌, ◌+◌, ◌<◌, ◌≤◌, [], ◌++◌, drop, length, IfOk, OnErr, OnOk, Some, None, MatchBool, vec_capacity, vec_len};
 ghost use Rattle.std.specs.Io.KnownBytes.{Consumes, IsAtEnd};
 ghost use Rattle.streams.specs.Unread.{FailsReading, Grows, MayFail, found_of, line_end, shown};

@@ -1,3 +1,5 @@
+//! A text that grows at its end.
+
 use crate::hex_digits::{eight_digits, spaced_byte};
 use crate::output_failed::OutputFailed;
 use crate::writes::Writes;

@@ -1,3 +1,5 @@
+//! How the writes to an output went.
+
 use crate::output_failed::OutputFailed;
 use std::io::Write;
 use std::marker::Model;

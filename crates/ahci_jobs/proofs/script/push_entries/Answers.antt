@@ -25,7 +25,7 @@ loop-place-preserved g c =
     (c.push_entry.ensures sectors past c.loop-place.invariant.noted) in
     let count : length past ≡ i = length_history (take i events) ∙ length-take-le i events (omega (arith, low)) in
     record {
-      told = next_line sectors c.args.text.now.bytes c.loop-place.text.bytes c.push_entry.new.text.bytes c.push.new.text.bytes events i it.result low it.is
+      told = next_line sectors c.args.text.now.bytes c.loop-place.text.bytes c.push_entry.new.text.bytes c.push.new.self.bytes events i it.result low it.is
           c.loop-place.invariant.told told c.in_ok-push.ensures.ok;
       noted = subst (λ p. AreNoted sectors p c.note.new.kept) (sym (history_more events i it.result low it.is)) (c.note.ensures past count c.loop-place.invariant.noted);
     }
