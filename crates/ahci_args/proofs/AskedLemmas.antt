@@ -1,5 +1,5 @@
 -- What words without a fault say: which subcommand they name, its options, and so what is answered.
-use Rattle.std.proofs.Common.{◌≡◌, ◌⊎◌, ◌++◌, ◌∙◌, ◌&&◌, ◌||◌, Bool, true, false, cond, not, refl, inl, inr, List, [], ◌∷◌, Option, Some, None}
+use Rattle.std.proofs.Common.{◌≡◌, ◌++◌, ◌∙◌, ◌&&◌, ◌||◌, Bool, true, false, cond, not, refl, inl, inr, List, [], ◌∷◌, Option, Some, None}
 use Rattle.std.proofs.Common.{is_some, ap, append_assoc, append-nil, codes, option_map, subst, sym, Box}
 use Rattle.std.specs.Prelude.{drop, find, fold, ℕ, Result, Ok, Err, IfErr, IfOk, slice_get}
 use Rattle.std.specs.List.{list_all, list_any}

@@ -1,7 +1,7 @@
 -- The values of a subcommand's options, where its words are no fault: each is in its range.
-use Rattle.std.proofs.Common.{◌≡◌, ◌⊎◌, ◌≤◌, ◌∙◌, ◌==◌, ◌||◌, ℕ, Bool, true, false, refl, inl, inr, List, [], ◌∷◌, Some, codes, subst, sym, ap, arith}
+use Rattle.std.proofs.Common.{◌≡◌, ◌≤◌, ◌∙◌, ◌==◌, ℕ, Bool, true, false, refl, inl, inr, List, [], ◌∷◌, Some, codes, subst, sym, ap, arith}
 use Rattle.std.specs.Borrow.{Bor}
-use Rattle.std.specs.Prelude.{find, pos, slice_get}
+use Rattle.std.specs.Prelude.{pos, slice_get}
 use Rattle.std.specs.List.{list_any}
 use Rattle.std.specs.Str.{bytes_eq}
 use Rattle.std.specs.Str.Parse.{IsNumeral, digits_value, without_leading_plus}
@@ -17,10 +17,9 @@ use Rattle.clap.specs.declared.builder.value_parser.ValueParser.TheVariants.{Sig
 use Rattle.clap.proofs.ValueTestLemmas.{accepts-Accepts}
 use Rattle.clap.proofs.WalkLemmas.{list_any-map}
 use Rattle.ahci_args.specs.CommandLine.{PickWords, bound_option, flag, index_option, number_option, pick_option}
-use Rattle.ahci_args.specs.Asking.{HasFlag, HasNumber, HasPick, TakesFlag, TakesNumber, TakesPick}
-use Rattle.ahci_args.specs.declared.pick.Pick.{Pick}
+use Rattle.ahci_args.specs.Asking.{TakesFlag, TakesNumber, TakesPick}
 use Rattle.ahci_args.specs.declared.pick.Pick.TheVariants.{Low, High, All}
-use Rattle.ahci_args.proofs.OptionLemmas.{AreFine, TextOf, are_others, checks, option_text}
+use Rattle.ahci_args.proofs.OptionLemmas.{AreFine, are_others, checks, option_text}
 use Rattle.ahci_args.proofs.WalkLemmas.{second_none}
 
 -- a text that passed a range from 1 on has no minus, and its digits are a number of the range

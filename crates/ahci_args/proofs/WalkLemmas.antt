@@ -1,6 +1,6 @@
 -- What a walk over words without a fault shows: its first word, where each flag asks for help or the version, and what all its uses of
 -- options keep.
-use Rattle.std.proofs.Common.{◌≡◌, ◌⊎◌, ℕ, Bool, true, false, cond, zero, suc, inl, inr, List, [], ◌∷◌, Option, Some, None, codes, is_some, length, subst, sym, refl}
+use Rattle.std.proofs.Common.{◌≡◌, ◌⊎◌, ℕ, Bool, true, false, cond, zero, suc, inl, inr, List, [], ◌∷◌, Option, Some, None, codes, is_some, length, subst, refl}
 use Rattle.std.specs.Prelude.{if◌then◌else◌, slice_get, find, fold, drop, encode_utf8}
 use Rattle.std.specs.Option.{option_map_or}
 use Rattle.std.specs.Str.{bytes_eq, chars}

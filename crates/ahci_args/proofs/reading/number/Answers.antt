@@ -1,7 +1,7 @@
-use Rattle.std.proofs.Common.{◌≡◌, ◌∙◌, ◌<◌, ◌^◌, ℕ, Some, None, Ok, Err, Result, Option, sym, ap, subst, refl, arith}
+use Rattle.std.proofs.Common.{◌≡◌, ◌∙◌, ◌<◌, ◌^◌, ℕ, Some, None, Option, sym, ap, subst, refl, arith}
 use Rattle.std.specs.Option.{IsSome}
 use Rattle.std.specs.Str.Parse.{ExplainsUnsignedError, HasUnsignedDigitsIfOk, ParsesUnsigned}
-use Rattle.clap.specs.Words.{ReadsOne, Text, found_of, rows_of}
+use Rattle.clap.specs.Words.{ReadsOne, found_of, rows_of}
 use Rattle.clap.proofs.WalkLemmas.{one_text-rows}
 use Rattle.ahci_args.specs.Asking.{HasNumber}
 use Rattle.ahci_args.proofs.reading.number.Goals as goal
