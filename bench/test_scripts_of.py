@@ -30,7 +30,7 @@ WORDS = {"S": NUMBER, "D": NUMBER, "F": NUMBER, "K": NUMBER, "LBA": NUMBER, "T":
 def commands() -> List[str]:
     """The lines of the language, as the program's help lists them: `write T LBA N BB`."""
     with open(os.path.join(TOP, "crates/ahci_args/src/help.rt"), encoding="utf-8") as it:
-        listed = it.read().partition('REPLAY_HELP: &str = "Commands of a script:\n')[2].partition("\n\n")[0]
+        listed = it.read().partition('after_help: "Commands of a script:\n')[2].partition("\n\n")[0]
     return [re.fullmatch(r"  (\w+(?: (?:[A-Z]+|\.\.)(?= ))*) +\S.*", line)[1] for line in listed.split("\n")]
 
 

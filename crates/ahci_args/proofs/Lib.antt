@@ -1,7 +1,5 @@
-pub mod FlagLemmas
-pub mod LeafLemmas
-pub mod MatchLemmas
+pub mod AskedLemmas
+pub mod CommandLemmas
 pub mod OptionLemmas
-pub mod RowLemmas
-pub mod SubcommandLemmas
-pub mod WordLemmas
+pub mod ValueLemmas
+pub mod WalkLemmas

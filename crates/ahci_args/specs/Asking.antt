@@ -1,5 +1,5 @@
 -- What the words of a command line ask for.
-use Rattle.std.specs.Prelude.{◌≡◌, ◌⊎◌, ◌≤◌, ℕ, Bool, List, [], ◌∷◌, Some, Result, drop, slice_get, codes, if◌then◌else◌}
+use Rattle.std.specs.Prelude.{◌≡◌, ◌⊎◌, ⊤, ◌≤◌, ℕ, Bool, List, [], ◌∷◌, Some, Result, drop, slice_get, codes, if◌then◌else◌}
 use Rattle.std.specs.Str.Parse.{IsNumeral, digits_value, without_leading_plus}
 use Rattle.clap.specs.Words.{FailsBy, Row, Text, first_of, one_of, subcommand_of}
 use Rattle.clap.specs.declared.error.Error.{Error}
@@ -41,6 +41,61 @@ HasPick options pick = first_of (codes "pick") options ≡ Some (word_of pick)
 abbrev pub HasFlag : List Row → Text → Bool → Type 0
 HasFlag options name given = one_of name options ≡ Some (if given then codes "true" else codes "false")
 
+-- the options that the parser has taken have values: a number of a range, a word of `--pick`, a flag
+abbrev pub TakesNumber : List Row → Text → ℕ → ℕ → Type 0
+TakesNumber options name first last = (n : ℕ) × HasNumber options name first last n
+
+abbrev pub TakesPick : List Row → Type 0
+TakesPick options = (pick : Pick) × HasPick options pick
+
+abbrev pub TakesFlag : List Row → Text → Type 0
+TakesFlag options name = (given : Bool) × HasFlag options name given
+
+-- those of a run; that at most one of its flags is given is no rule of the parser
+pub record TakesRun (options : List Row) : Type 0 where
+  pub workers : TakesNumber options (codes "workers") 1 most_workers
+  pub depth : TakesNumber options (codes "depth") 1 most_depth
+  pub sectors : TakesNumber options (codes "sectors") 1 most_sectors
+  pub pick : TakesPick options
+  pub json : TakesFlag options (codes "json")
+  pub journal : TakesFlag options (codes "journal")
+  pub image : TakesFlag options (codes "image")
+
+-- those of `identify`
+pub record TakesSize (options : List Row) : Type 0 where
+  pub sectors : TakesNumber options (codes "sectors") 1 most_sectors
+  pub depth : TakesNumber options (codes "depth") 1 most_depth
+  pub raw : TakesFlag options (codes "raw")
+
+-- those of `log`, but for the error, which may be any text
+pub record TakesPlace (options : List Row) : Type 0 where
+  pub tag : TakesNumber options (codes "tag") 0 last_tag
+  pub lba : TakesNumber options (codes "lba") 0 last_lba
+  pub raw : TakesFlag options (codes "raw")
+
+-- those of `check`
+pub record TakesKind (options : List Row) : Type 0 where
+  pub jobs : TakesFlag options (codes "jobs")
+  pub json : TakesFlag options (codes "json")
+
+-- those of `draw`
+pub record TakesBounds (options : List Row) : Type 0 where
+  pub from : TakesNumber options (codes "from") 0 last_entry
+  pub to : TakesNumber options (codes "to") 0 last_entry
+
+-- the options of the subcommand of this name have their values, and it is one of the seven
+pub record Takes (name : Text) (options : List Row) : Type 0 where
+  pub run : name ≡ codes "run" → TakesRun options
+  pub identify : name ≡ codes "identify" → TakesSize options
+  pub log : name ≡ codes "log" → TakesPlace options
+  pub trace : name ≡ codes "trace" → TakesFlag options (codes "json")
+  pub check : name ≡ codes "check" → TakesKind options
+  pub draw : name ≡ codes "draw" → TakesBounds options
+  pub replay : (name ≡ codes "run" → ⊥) → (name ≡ codes "identify" → ⊥) → (name ≡ codes "log" → ⊥) → (name ≡ codes "trace" → ⊥)
+      → (name ≡ codes "check" → ⊥) → (name ≡ codes "draw" → ⊥) → name ≡ codes "replay"
+
+-- ---- what they say
+
 -- the options of a run have these values, but for its flags
 pub record HasOptions (options : List Row) (w d s : ℕ) (p : Pick) : Type 0 where
   pub workers : HasNumber options (codes "workers") 1 most_workers w
@@ -80,127 +135,42 @@ pub record HasBounds (options : List Row) (a b : ℕ) : Type 0 where
   pub from : HasNumber options (codes "from") 0 last_entry a
   pub to : HasNumber options (codes "to") 0 last_entry b
 
--- every option of a run has a value
-pub record TakesOptions (options : List Row) : Type 0 where
-  pub workers : ℕ
-  pub depth : ℕ
-  pub sectors : ℕ
-  pub pick : Pick
-  pub has : HasOptions options workers depth sectors pick
-  pub json : Bool
-  pub journal : Bool
-  pub image : Bool
-  pub has_json : HasFlag options (codes "json") json
-  pub has_journal : HasFlag options (codes "journal") journal
-  pub has_image : HasFlag options (codes "image") image
+-- the subcommand by which it is asked for
+abbrev pub name_of : Asked → Text
+name_of Replay = codes "replay"
+name_of (Trace json) = codes "trace"
+name_of (Check jobs json) = codes "check"
+name_of (Draw from to) = codes "draw"
+name_of (Run workers depth sectors pick form) = codes "run"
+name_of (Identify sectors depth raw) = codes "identify"
+name_of (Log tag error lba raw) = codes "log"
 
--- every option of `identify` has a value
-pub record TakesSize (options : List Row) : Type 0 where
-  pub sectors : ℕ
-  pub depth : ℕ
-  pub raw : Bool
-  pub has : HasSize options sectors depth raw
+-- what the options have to say
+abbrev pub Says : List Row → Asked → Type 0
+Says options Replay = ⊤
+Says options (Trace json) = HasFlag options (codes "json") json
+Says options (Check jobs json) = HasKind options jobs json
+Says options (Draw from to) = HasBounds options from to
+Says options (Run workers depth sectors pick form) = HasRun options workers depth sectors pick form
+Says options (Identify sectors depth raw) = HasSize options sectors depth raw
+Says options (Log tag error lba raw) = HasError options tag error lba raw
 
--- every option of `log` has a value, but for the error, which may be any text
-pub record TakesPlace (options : List Row) : Type 0 where
-  pub tag : ℕ
-  pub lba : ℕ
-  pub raw : Bool
-  pub has : HasPlace options tag lba raw
-
--- the flag of `trace` has a value
-pub record TakesForm (options : List Row) : Type 0 where
-  pub json : Bool
-  pub has : HasFlag options (codes "json") json
-
--- the flags of `check` have values
-pub record TakesKind (options : List Row) : Type 0 where
-  pub jobs : Bool
-  pub json : Bool
-  pub has : HasKind options jobs json
-
--- the bounds of `draw` have values
-pub record TakesBounds (options : List Row) : Type 0 where
-  pub from : ℕ
-  pub to : ℕ
-  pub has : HasBounds options from to
-
-abbrev pub IsRunOf : List Row → Asked → Type 0
-IsRunOf options (Run workers depth sectors pick form) = HasRun options workers depth sectors pick form
-IsRunOf options other = ⊥
-
-abbrev pub IsIdentifyOf : List Row → Asked → Type 0
-IsIdentifyOf options (Identify sectors depth raw) = HasSize options sectors depth raw
-IsIdentifyOf options other = ⊥
-
-abbrev pub IsLogOf : List Row → Asked → Type 0
-IsLogOf options (Log tag error lba raw) = HasError options tag error lba raw
-IsLogOf options other = ⊥
-
-abbrev pub IsTraceOf : List Row → Asked → Type 0
-IsTraceOf options (Trace json) = HasFlag options (codes "json") json
-IsTraceOf options other = ⊥
-
-abbrev pub IsCheckOf : List Row → Asked → Type 0
-IsCheckOf options (Check jobs json) = HasKind options jobs json
-IsCheckOf options other = ⊥
-
-abbrev pub IsDrawOf : List Row → Asked → Type 0
-IsDrawOf options (Draw from to) = HasBounds options from to
-IsDrawOf options other = ⊥
+abbrev pub IsOf : Text → List Row → Asked → Type 0
+IsOf name options asked = (name ≡ name_of asked) × Says options asked
 
 -- ---- the whole line
 
--- after the program's name stands a subcommand, and the parser has found these options after it
-pub record Finds (name : Text) (words : List Text) (options : List Row) : Type 0 where
+-- after the program's name stands the subcommand, and the parser has found options after it that say this
+pub record Asks (words : List Text) (asked : Asked) : Type 0 where
   pub picks : PickWords
-  pub subcommand : slice_get words 1 ≡ Some name
-  pub found : subcommand_of (ahci picks) words ≡ Some (name, options)
-
--- the words ask for a run with these values
-pub record AsksRun (words : List Text) (workers depth sectors : ℕ) (pick : Pick) (form : RunForm) : Type 0 where
   pub options : List Row
-  pub finds : Finds (codes "run") words options
-  pub has : HasRun options workers depth sectors pick form
-
--- the words ask for the identify page of such a disk
-pub record AsksIdentify (words : List Text) (sectors depth : ℕ) (raw : Bool) : Type 0 where
-  pub options : List Row
-  pub finds : Finds (codes "identify") words options
-  pub has : HasSize options sectors depth raw
-
--- the words ask for the log's page of such an error
-pub record AsksLog (words : List Text) (tag error lba : ℕ) (raw : Bool) : Type 0 where
-  pub options : List Row
-  pub finds : Finds (codes "log") words options
-  pub has : HasError options tag error lba raw
-
--- the words ask for a trace, as JSON or as text
-pub record AsksTrace (words : List Text) (json : Bool) : Type 0 where
-  pub options : List Row
-  pub finds : Finds (codes "trace") words options
-  pub has : HasFlag options (codes "json") json
-
--- the words ask for the judging of a script, or of jobs, as JSON or as text
-pub record AsksCheck (words : List Text) (jobs json : Bool) : Type 0 where
-  pub options : List Row
-  pub finds : Finds (codes "check") words options
-  pub has : HasKind options jobs json
-
--- the words ask for a picture of these entries
-pub record AsksDraw (words : List Text) (from to : ℕ) : Type 0 where
-  pub options : List Row
-  pub finds : Finds (codes "draw") words options
-  pub has : HasBounds options from to
+  pub subcommand : slice_get words 1 ≡ Some (name_of asked)
+  pub found : subcommand_of (ahci picks) words ≡ Some (name_of asked, options)
+  pub has : Says options asked
 
 abbrev pub AsksFor : List Text → Asked → Type 0
 AsksFor words Replay = AsksReplay words
-AsksFor words (Check jobs json) = AsksCheck words jobs json
-AsksFor words (Draw from to) = AsksDraw words from to
-AsksFor words (Run workers depth sectors pick form) = AsksRun words workers depth sectors pick form
-AsksFor words (Identify sectors depth raw) = AsksIdentify words sectors depth raw
-AsksFor words (Log tag error lba raw) = AsksLog words tag error lba raw
-AsksFor words (Trace json) = AsksTrace words json
+AsksFor words asked = Asks words asked
 
 -- an Ok comes only where the words have no fault, and an Err has the kind of one of theirs, or is want of memory
 abbrev pub FailsByUsage : List Text → Result Asked Error → Type 0

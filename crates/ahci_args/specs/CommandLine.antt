@@ -1,13 +1,12 @@
 -- The command line of `ahci`, as its parser knows it.
-use Rattle.std.specs.Prelude.{◌≡◌, ℕ, true, pos, List, [], ◌∷◌, Some, map, codes}
+use Rattle.std.specs.Prelude.{◌≡◌, ⊤, ℕ, true, false, pos, List, [], ◌∷◌, Some, map, fold, codes}
 use Rattle.std.specs.Borrow.{Bor}
-use Rattle.clap.specs.Words.{App, Rule, Shape, Text, new_app, new_rule, with_rule, with_subcommand}
+use Rattle.clap.specs.Words.{App, Rule, Shape, Text, new_app, new_rule, shape_of, with_rule, with_subcommand}
+use Rattle.clap.specs.declared.builder.arg.Arg.{Arg}
+use Rattle.clap.specs.declared.builder.command.Command.{Command}
+use Rattle.clap.specs.declared.builder.command.Command.TheViews.{out-Command as fields_of}
 use Rattle.clap.specs.declared.builder.action.ArgAction.TheVariants.{SetTrue}
 use Rattle.clap.specs.declared.builder.value_parser.ValueParser.TheVariants.{Names, Signed, Unsigned}
-
--- the subcommand `replay`, which takes no arguments
-abbrev pub replay : Shape
-replay = (new_app (codes "replay")).top
 
 -- the most slots of a port and sectors of a disk
 abbrev pub most_depth : ℕ
@@ -80,28 +79,6 @@ pick_option picks = record (new_rule (codes "pick")) {
 abbrev pub most_workers : ℕ
 most_workers = 32
 
--- the options of `run`, and with its flags the whole
-abbrev pub run_options : PickWords → App
-run_options picks = with_rule (with_rule (with_rule (with_rule (new_app (codes "run"))
-    (number_option (codes "workers") most_workers))
-    (number_option (codes "depth") most_depth))
-    (number_option (codes "sectors") most_sectors))
-    (pick_option picks)
-
--- the subcommand `run`
-abbrev pub run : PickWords → Shape
-run picks = (with_rule (with_rule (with_rule (run_options picks)
-    (flag (codes "json")))
-    (flag (codes "journal")))
-    (flag (codes "image"))).top
-
--- the subcommand `identify` with its options
-abbrev pub identify : Shape
-identify = (with_rule (with_rule (with_rule (new_app (codes "identify"))
-    (number_option (codes "sectors") most_sectors))
-    (number_option (codes "depth") most_depth))
-    (flag (codes "raw"))).top
-
 -- the last tag, and the last LBA of 48 bits
 abbrev pub last_tag : ℕ
 last_tag = 31
@@ -109,52 +86,66 @@ last_tag = 31
 abbrev pub last_lba : ℕ
 last_lba = 281474976710655
 
--- the subcommand `log` with its options
-abbrev pub log : Shape
-log = (with_rule (with_rule (with_rule (with_rule (new_app (codes "log"))
-    (index_option (codes "tag") last_tag))
-    error_option)
-    (index_option (codes "lba") last_lba))
-    (flag (codes "raw"))).top
+-- a subcommand with these options
+abbrev pub with_options : Text → List Rule → Shape
+with_options name rules = (fold with_rule (new_app name) rules).top
 
--- the subcommand `trace` with its flag
+-- the subcommands; `replay` takes no arguments
+abbrev pub replay : Shape
+replay = with_options (codes "replay") []
+
 abbrev pub trace : Shape
-trace = (with_rule (new_app (codes "trace")) (flag (codes "json"))).top
+trace = with_options (codes "trace") (flag (codes "json") ∷ [])
 
--- the subcommand `check` with its flags
 abbrev pub check : Shape
-check = (with_rule (with_rule (new_app (codes "check")) (flag (codes "jobs"))) (flag (codes "json"))).top
+check = with_options (codes "check") (flag (codes "jobs") ∷ flag (codes "json") ∷ [])
 
--- the subcommand `draw` with the numbers of its first and its last entry
 abbrev pub draw : Shape
-draw = (with_rule (with_rule (new_app (codes "draw"))
-    (bound_option (codes "from") last_entry (codes "0")))
-    (bound_option (codes "to") last_entry (codes "18446744073709551615"))).top
+draw = with_options (codes "draw") (
+    bound_option (codes "from") last_entry (codes "0")
+    ∷ bound_option (codes "to") last_entry (codes "18446744073709551615") ∷ [])
+
+abbrev pub run : PickWords → Shape
+run picks = with_options (codes "run") (
+    number_option (codes "workers") most_workers
+    ∷ number_option (codes "depth") most_depth
+    ∷ number_option (codes "sectors") most_sectors
+    ∷ pick_option picks
+    ∷ flag (codes "json")
+    ∷ flag (codes "journal")
+    ∷ flag (codes "image") ∷ [])
+
+abbrev pub identify : Shape
+identify = with_options (codes "identify") (
+    number_option (codes "sectors") most_sectors
+    ∷ number_option (codes "depth") most_depth
+    ∷ flag (codes "raw") ∷ [])
+
+abbrev pub log : Shape
+log = with_options (codes "log") (
+    index_option (codes "tag") last_tag
+    ∷ error_option
+    ∷ index_option (codes "lba") last_lba
+    ∷ flag (codes "raw") ∷ [])
 
 -- `ahci` without its subcommands: it has a version, and wants a subcommand
 abbrev pub top : Shape
 top = record (new_app (codes "ahci")).top { has_version = true; subcommand_required = true }
 
 abbrev pub ahci : PickWords → App
-ahci picks =
-    with_subcommand (with_subcommand (with_subcommand (with_subcommand (with_subcommand (with_subcommand (with_subcommand (record { top = top; subs = [] })
-    replay)
-    trace)
-    check)
-    draw)
-    (run picks))
-    identify)
-    log
+ahci picks = fold with_subcommand (record { top = top; subs = [] }) (replay ∷ trace ∷ check ∷ draw ∷ run picks ∷ identify ∷ log ∷ [])
 
 -- what the parser has been told
 abbrev pub IsPickOption : Rule → Type 0
 IsPickOption rule = (picks : PickWords) × (rule ≡ pick_option picks)
 
-abbrev pub IsRunOptions : App → Type 0
-IsRunOptions app = (picks : PickWords) × (app ≡ run_options picks)
-
-abbrev pub IsRun : Shape → Type 0
-IsRun shape = (picks : PickWords) × (shape ≡ run picks)
+abbrev pub IsSubcommand : Shape → Command → Type 0
+IsSubcommand shape c = (shape_of c ≡ shape) × ((fields_of c).has_globals ≡ false)
 
 abbrev pub IsAhci : App → Type 0
 IsAhci app = (picks : PickWords) × (app ≡ ahci picks)
+
+-- no argument is for the subcommands too
+abbrev pub AreLocal : List Arg → Type 0
+AreLocal [] = ⊤
+AreLocal (a ∷ rest) = (a.global ≡ false) × AreLocal rest

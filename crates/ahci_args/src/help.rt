@@ -1,5 +1,12 @@
 //! What help says.
 
+/// What help says of a subcommand: in a list of them, at the head of its own help, and at its end.
+pub(crate) struct Help {
+    pub(crate) about: &'static str,
+    pub(crate) long_about: &'static str,
+    pub(crate) after_help: &'static str,
+}
+
 pub(crate) const VERSION: &str = "0.1.0";
 
 pub(crate) const ABOUT: &str = "A reference model of one AHCI port with native command queueing.
@@ -12,14 +19,11 @@ pub(crate) const EXAMPLES: &str = "Examples:
   ahci identify --sectors 1000 --depth 32
   ahci log --tag 3 --error 40 --lba 7";
 
-pub(crate) const REPLAY_ABOUT: &str =
-    "Read a script on standard input, and answer it on standard output";
-
-pub(crate) const REPLAY_LONG_ABOUT: &str =
-    "Read a script on standard input, and answer it on standard output.
-Each line is one command, and each command has one line as its answer.";
-
-pub(crate) const REPLAY_HELP: &str = "Commands of a script:
+pub(crate) static REPLAY: Help = Help {
+    about: "Read a script on standard input, and answer it on standard output",
+    long_about: "Read a script on standard input, and answer it on standard output.
+Each line is one command, and each command has one line as its answer.",
+    after_help: "Commands of a script:
   disk S D         a disk of S sectors of zeros, and D slots: the first command
   disk S D F       the same, where the journal's first entry has the number F
   write T LBA N BB issue a write of N sectors of the byte BB with tag T
@@ -53,35 +57,88 @@ Exit status:
   3  the system gave no memory
 
 Example:
-  printf 'disk 8 4\\nwrite 0 3 1 aa\\naccept 0\\nserve 0\\ncollect 0 0\\n' | ahci replay";
+  printf 'disk 8 4\\nwrite 0 3 1 aa\\naccept 0\\nserve 0\\ncollect 0 0\\n' | ahci replay",
+};
 
-pub(crate) const RUN_ABOUT: &str =
-    "Read jobs on standard input, let workers do them, and write their answers on standard output";
+pub(crate) static TRACE: Help = Help {
+    about: "Read a script on standard input, and tell what each command did to the port",
+    long_about: "Read a script on standard input, as replay does, and answer it on standard output.
+After each answer stands, in lines that are indented by two spaces, what the command did to the
+port: the journal's new entries, what was written to registers, the bytes that were sent and
+received, registers that changed, and the slots that are owned.",
+    after_help: "Lines after an answer:
+  entry E: ..            a new entry of the journal, which has the number E
+  wrote NAME WORD        a register that software wrote to issue or send a command, or to recover
+  sent command header .. the 32 bytes of the header of a command that was issued
+  sent CFIS ..           the 20 bytes of its Register FIS, from the host to the device
+  sent PRDT entry ..     the 16 bytes of each entry of its PRDT
+  sent Data FIS ..       the first dword of the FIS that carried data, and how many bytes of data
+  received NAME FIS ..   a FIS that came, byte by byte; of a Data FIS what is told of one sent
+  NAME WORD  BIT, ..     a register that has changed, in hexadecimal, and its bits that are 1
+  slot T PHASE           each slot that is owned: issued, accepted, rejected, broken, held or done
 
-pub(crate) const RUN_LONG_ABOUT: &str =
-    "Read jobs on standard input, let workers do them, and write their answers on standard output.
+The commands of a script, its faults and the statuses are those of replay.
+
+Examples:
+  printf 'disk 8 4\\nwrite 0 3 1 aa\\naccept 0\\nserve 0\\n' | ahci trace
+  printf 'disk 8 4\\nwrite 0 3 1 aa\\naccept 0\\nserve 0\\n' | ahci trace --json",
+};
+
+pub(crate) const JSON_HELP: &str = "Write one JSON object a line, for tools, in place of the text";
+
+pub(crate) static CHECK: Help = Help {
+    about: "Read a script on standard input, and tell which of its lines are faulty",
+    long_about: "Read a script on standard input, and judge it line by line. Nothing is run.
+Each line at which replay would end, and each one that every port with so many sectors and slots
+refuses, is told by its number, the column and what is wrong: one line on standard output, before
+more of the input is read.",
+    after_help: "A column counts bytes from 1. Each line is told once at most: by the first word that is wrong, from
+the left. From the first good 'disk S D' on it is known how many sectors and slots there are. What
+a port refuses by what it has done before, as a tag that is not free, is not told.
+
+Exit status:
+  0  no line is faulty
+  1  some line is faulty
+  2  the command line was wrong
+  3  the system gave no memory
+  4  input or output failed
+
+Examples:
+  printf 'write 0 3 1 aa\\ndisk 8 40\\n' | ahci check
+  printf 'write 0 0 11\\n' | ahci check --jobs --json",
+};
+
+pub(crate) const JOBS_HELP: &str = "Judge a list of jobs, as run takes it, and not a script";
+
+pub(crate) const CHECK_JSON_HELP: &str =
+    "Write one JSON object for each faulty line, for tools, in place of the text";
+
+pub(crate) static DRAW: Help = Help {
+    about: "Read a script on standard input, and draw what the port did, as SVG",
+    long_about: "Read a script on standard input, run it as replay does, and draw the port's journal as SVG on
+standard output: entries from left to right, in rows of a hundred, with a lane for each tag that is
+used. A bar is a phase of the tag, a letter what an entry did to it: R and W issued, N issued
+again, A accepted, C completed, X failed, V recovered, E collected. Lines across all lanes are
+failures and recoveries; below them stands how many tags the device has. A pointer on a letter
+shows the entry in words.",
+    after_help: "The commands of a script, its faults and the statuses are those of replay. At a fault the picture
+shows what was done before it.
+
+Examples:
+  printf 'disk 8 4\\nwrite 0 3 1 aa\\naccept 0\\nserve 0\\n' | ahci draw > picture.svg
+  ahci draw --from 1000 --to 1199 < script.ahci > part.svg",
+};
+
+pub(crate) const FROM_HELP: &str = "The number of the first entry that is drawn, where not all are";
+
+pub(crate) const TO_HELP: &str = "The number of the last entry that is drawn";
+
+pub(crate) static RUN: Help = Help {
+    about: "Read jobs on standard input, let workers do them, and write their answers on standard output",
+    long_about: "Read jobs on standard input, let workers do them, and write their answers on standard output.
 The workers are threads over one port, whose disk begins with zeros. Each does its jobs one by
-one: of W workers, number K does the jobs K, K + W, K + 2W and so on.";
-
-pub(crate) const WORKERS_HELP: &str = "How many workers do the jobs, each a thread: 1 to 32";
-
-pub(crate) const DEPTH_HELP: &str = "How many slots the port has, each for one command: 1 to 32";
-
-pub(crate) const SECTORS_HELP: &str = "How many sectors of 512 bytes the disk has: 1 to 131072";
-
-pub(crate) const PICK_HELP: &str =
-    "The tag whose command the device goes on with: the lowest, the highest, or all at once";
-
-pub(crate) const RUN_JSON_HELP: &str =
-    "Write one JSON object a line, for tools: each job with its worker, number, entry and answer";
-
-pub(crate) const JOURNAL_HELP: &str =
-    "Write the port's journal as a script, which replay, trace and draw take";
-
-pub(crate) const IMAGE_HELP: &str = "Write the disk's bytes at the end, as they are";
-
-pub(crate) const RUN_HELP: &str =
-    "The options --workers, --depth and --sectors have no default. Each option is given once, and of
+one: of W workers, number K does the jobs K, K + W, K + 2W and so on.",
+    after_help: "The options --workers, --depth and --sectors have no default. Each option is given once, and of
 --json, --journal and --image one at most.
 
 Jobs, one a line, numbered from 0:
@@ -109,22 +166,31 @@ Exit status:
 Examples:
   printf 'write 0 2 11\\nread 1 1\\n' | ahci run --workers 2 --depth 2 --sectors 8
   ahci run --workers 8 --depth 32 --sectors 131072 --pick high < jobs.txt
-  ahci run --workers 8 --depth 32 --sectors 1000 --journal < jobs.txt | ahci draw > run.svg";
+  ahci run --workers 8 --depth 32 --sectors 1000 --journal < jobs.txt | ahci draw > run.svg",
+};
 
-pub(crate) const IDENTIFY_ABOUT: &str =
-    "Write the page that IDENTIFY DEVICE reads of a disk, as text or as it is";
+pub(crate) const WORKERS_HELP: &str = "How many workers do the jobs, each a thread: 1 to 32";
 
-pub(crate) const IDENTIFY_LONG_ABOUT: &str =
-    "Write the page that IDENTIFY DEVICE reads of a disk, as text or as it is.
-It is the page that the disk of a script with so many sectors and slots has.";
+pub(crate) const DEPTH_HELP: &str = "How many slots the port has, each for one command: 1 to 32";
 
-pub(crate) const IDENTIFY_DEPTH_HELP: &str =
-    "How many commands the disk queues, each with a tag: 1 to 32";
+pub(crate) const SECTORS_HELP: &str = "How many sectors of 512 bytes the disk has: 1 to 131072";
 
-pub(crate) const RAW_HELP: &str = "Write the 512 bytes of the page, and not its text";
+pub(crate) const PICK_HELP: &str =
+    "The tag whose command the device goes on with: the lowest, the highest, or all at once";
 
-pub(crate) const IDENTIFY_HELP: &str =
-    "The options --sectors and --depth have no default. Each option is given once.
+pub(crate) const RUN_JSON_HELP: &str =
+    "Write one JSON object a line, for tools: each job with its worker, number, entry and answer";
+
+pub(crate) const JOURNAL_HELP: &str =
+    "Write the port's journal as a script, which replay, trace and draw take";
+
+pub(crate) const IMAGE_HELP: &str = "Write the disk's bytes at the end, as they are";
+
+pub(crate) static IDENTIFY: Help = Help {
+    about: "Write the page that IDENTIFY DEVICE reads of a disk, as text or as it is",
+    long_about: "Write the page that IDENTIFY DEVICE reads of a disk, as text or as it is.
+It is the page that the disk of a script with so many sectors and slots has.",
+    after_help: "The options --sectors and --depth have no default. Each option is given once.
 
 The text:
   serial number, firmware revision and model number, each in quotes
@@ -142,23 +208,19 @@ Exit status:
 
 Examples:
   ahci identify --sectors 1000 --depth 32
-  ahci identify --sectors 1000 --depth 32 --raw | od -An -v -tx2 --endian=little";
+  ahci identify --sectors 1000 --depth 32 --raw | od -An -v -tx2 --endian=little",
+};
 
-pub(crate) const LOG_ABOUT: &str = "Write page 0 of log 10h after an error, as text or as it is";
+pub(crate) const IDENTIFY_DEPTH_HELP: &str =
+    "How many commands the disk queues, each with a tag: 1 to 32";
 
-pub(crate) const LOG_LONG_ABOUT: &str =
-    "Write page 0 of log 10h after an error, as text or as it is.
-It is the NCQ Command Error log that a recovery reads: which command failed, how and where.";
+pub(crate) const RAW_HELP: &str = "Write the 512 bytes of the page, and not its text";
 
-pub(crate) const TAG_HELP: &str = "The tag of the command that failed: 0 to 31";
-
-pub(crate) const ERROR_HELP: &str =
-    "The error byte, two hexadecimal digits, as 40 (UNC) or 10 (IDNF)";
-
-pub(crate) const LBA_HELP: &str = "The LBA of the failing sector: 0 to 281474976710655";
-
-pub(crate) const LOG_HELP: &str =
-    "The options --tag, --error and --lba have no default. Each option is given once.
+pub(crate) static LOG: Help = Help {
+    about: "Write page 0 of log 10h after an error, as text or as it is",
+    long_about: "Write page 0 of log 10h after an error, as text or as it is.
+It is the NCQ Command Error log that a recovery reads: which command failed, how and where.",
+    after_help: "The options --tag, --error and --lba have no default. Each option is given once.
 
 The text:
   NQ, UNL and NCQ TAG, the parts of byte 0, and the LBA, in decimal
@@ -176,88 +238,15 @@ Exit status:
 
 Examples:
   ahci log --tag 3 --error 40 --lba 7
-  ahci log --tag 3 --error 40 --lba 7 --raw | od -Ax -tx1";
+  ahci log --tag 3 --error 40 --lba 7 --raw | od -Ax -tx1",
+};
 
-pub(crate) const TRACE_ABOUT: &str =
-    "Read a script on standard input, and tell what each command did to the port";
+pub(crate) const TAG_HELP: &str = "The tag of the command that failed: 0 to 31";
 
-pub(crate) const TRACE_LONG_ABOUT: &str =
-    "Read a script on standard input, as replay does, and answer it on standard output.
-After each answer stands, in lines that are indented by two spaces, what the command did to the
-port: the journal's new entries, what was written to registers, the bytes that were sent and
-received, registers that changed, and the slots that are owned.";
+pub(crate) const ERROR_HELP: &str =
+    "The error byte, two hexadecimal digits, as 40 (UNC) or 10 (IDNF)";
 
-pub(crate) const JSON_HELP: &str = "Write one JSON object a line, for tools, in place of the text";
-
-pub(crate) const TRACE_HELP: &str = "Lines after an answer:
-  entry E: ..            a new entry of the journal, which has the number E
-  wrote NAME WORD        a register that software wrote to issue or send a command, or to recover
-  sent command header .. the 32 bytes of the header of a command that was issued
-  sent CFIS ..           the 20 bytes of its Register FIS, from the host to the device
-  sent PRDT entry ..     the 16 bytes of each entry of its PRDT
-  sent Data FIS ..       the first dword of the FIS that carried data, and how many bytes of data
-  received NAME FIS ..   a FIS that came, byte by byte; of a Data FIS what is told of one sent
-  NAME WORD  BIT, ..     a register that has changed, in hexadecimal, and its bits that are 1
-  slot T PHASE           each slot that is owned: issued, accepted, rejected, broken, held or done
-
-The commands of a script, its faults and the statuses are those of replay.
-
-Examples:
-  printf 'disk 8 4\\nwrite 0 3 1 aa\\naccept 0\\nserve 0\\n' | ahci trace
-  printf 'disk 8 4\\nwrite 0 3 1 aa\\naccept 0\\nserve 0\\n' | ahci trace --json";
-
-pub(crate) const CHECK_ABOUT: &str =
-    "Read a script on standard input, and tell which of its lines are faulty";
-
-pub(crate) const CHECK_LONG_ABOUT: &str =
-    "Read a script on standard input, and judge it line by line. Nothing is run.
-Each line at which replay would end, and each one that every port with so many sectors and slots
-refuses, is told by its number, the column and what is wrong: one line on standard output, before
-more of the input is read.";
-
-pub(crate) const JOBS_HELP: &str = "Judge a list of jobs, as run takes it, and not a script";
-
-pub(crate) const CHECK_JSON_HELP: &str =
-    "Write one JSON object for each faulty line, for tools, in place of the text";
-
-pub(crate) const CHECK_HELP: &str =
-    "A column counts bytes from 1. Each line is told once at most: by the first word that is wrong, from
-the left. From the first good 'disk S D' on it is known how many sectors and slots there are. What
-a port refuses by what it has done before, as a tag that is not free, is not told.
-
-Exit status:
-  0  no line is faulty
-  1  some line is faulty
-  2  the command line was wrong
-  3  the system gave no memory
-  4  input or output failed
-
-Examples:
-  printf 'write 0 3 1 aa\\ndisk 8 40\\n' | ahci check
-  printf 'write 0 0 11\\n' | ahci check --jobs --json";
-
-pub(crate) const DRAW_ABOUT: &str =
-    "Read a script on standard input, and draw what the port did, as SVG";
-
-pub(crate) const DRAW_LONG_ABOUT: &str =
-    "Read a script on standard input, run it as replay does, and draw the port's journal as SVG on
-standard output: entries from left to right, in rows of a hundred, with a lane for each tag that is
-used. A bar is a phase of the tag, a letter what an entry did to it: R and W issued, N issued
-again, A accepted, C completed, X failed, V recovered, E collected. Lines across all lanes are
-failures and recoveries; below them stands how many tags the device has. A pointer on a letter
-shows the entry in words.";
-
-pub(crate) const FROM_HELP: &str = "The number of the first entry that is drawn, where not all are";
-
-pub(crate) const TO_HELP: &str = "The number of the last entry that is drawn";
-
-pub(crate) const DRAW_HELP: &str =
-    "The commands of a script, its faults and the statuses are those of replay. At a fault the picture
-shows what was done before it.
-
-Examples:
-  printf 'disk 8 4\\nwrite 0 3 1 aa\\naccept 0\\nserve 0\\n' | ahci draw > picture.svg
-  ahci draw --from 1000 --to 1199 < script.ahci > part.svg";
+pub(crate) const LBA_HELP: &str = "The LBA of the failing sector: 0 to 281474976710655";
 
 pub(crate) const TWO_FORMS: &str =
     "of '--json', '--journal' and '--image' one at most can be given";

@@ -1,9 +1,9 @@
-ghost use Rattle.std.specs.{Prelude.{◌≡◌, ℕ, Bool, IfErr, IfOk, map}, String.{string_bytes}};
+ghost use Rattle.std.specs.{Prelude.{◌≡◌, ℕ, IfErr, IfOk, codes, map}, String.{string_bytes}};
 ghost use Rattle.clap.specs.Words.{FailsBy, found_of, kind_of, rows_of};
 ghost use Rattle.ahci_args.specs.{
-  Asking.{AsksFor, AsksReplay, FailsByUsage, HasFlag, HasNumber, HasPick, IsCheckOf, IsDrawOf, IsIdentifyOf, IsLogOf, IsRunOf, IsTraceOf, TakesBounds, TakesForm, TakesKind, TakesOptions, TakesPlace, TakesSize},
-  Usage.{error_byte, error_fault, form_fault, form_in},
-  declared.pick.Pick.{Pick},
+  Asking.{AsksFor, AsksReplay, FailsByUsage, HasFlag, HasNumber, HasPick, IsOf, Takes, TakesBounds, TakesFlag, TakesKind, TakesNumber, TakesPick, TakesPlace, TakesRun, TakesSize},
+  CommandLine.{last_entry},
+  Usage.{error_byte, error_fault, form_fault, form_in, value_fault},
 };
 
 use crate::command::{ahci_command, log_command, run_command};
@@ -26,20 +26,32 @@ pub fn asked<'a>(alloc: Global, words: &'a [String]) -> Result<Asked, Error>
 {
     let matches = ahci_command(alloc)?.try_get_matches_from(words)?;
     match matches.subcommand() {
-        Some(("run", options)) => run_asked(alloc, options),
-        Some(("identify", options)) => Ok(identify_asked(options)),
-        Some(("log", options)) => log_asked(alloc, options),
-        Some(("trace", options)) => Ok(trace_asked(options)),
-        Some(("check", options)) => Ok(check_asked(options)),
-        Some(("draw", options)) => Ok(draw_asked(options)),
+        Some((name, options)) => subcommand_asked(alloc, name, options),
+        None => unreachable!(), // the parser wants a subcommand
+    }
+}
+
+/// What the subcommand `name` asks for, with its options.
+fn subcommand_asked(alloc: Global, name: &str, options: &ArgMatches<'_>) -> Result<Asked, Error>
+    requires { Takes name.now (rows_of (found_of options.now)) }
+    ensures ok { IfOk result (λ asked. IsOf name.now (rows_of (found_of options.now)) asked) }
+    ensures faults { FailsBy (value_fault (Some (name.now, rows_of (found_of options.now)))) result }
+{
+    match name {
+        "run" => run_asked(alloc, options),
+        "identify" => Ok(identify_asked(options)),
+        "log" => log_asked(alloc, options),
+        "trace" => Ok(trace_asked(options)),
+        "check" => Ok(check_asked(options)),
+        "draw" => Ok(draw_asked(options)),
         _ => Ok(Asked::Replay),
     }
 }
 
 /// The run that its options ask for. That at most one of its flags is given is left to this call.
 fn run_asked(alloc: Global, options: &ArgMatches<'_>) -> Result<Asked, Error>
-    requires { TakesOptions (rows_of (found_of options.now)) }
-    ensures ok { IfOk result (λ asked. IsRunOf (rows_of (found_of options.now)) asked) }
+    requires { TakesRun (rows_of (found_of options.now)) }
+    ensures ok { IfOk result (λ asked. IsOf (codes "run") (rows_of (found_of options.now)) asked) }
     ensures faults { FailsBy (form_fault (rows_of (found_of options.now))) result }
 {
     let Some(form) = form_of(options) else {
@@ -57,7 +69,7 @@ fn run_asked(alloc: Global, options: &ArgMatches<'_>) -> Result<Asked, Error>
 
 /// The form that the flags of a run ask for, or none where they are in conflict.
 fn form_of(options: &ArgMatches<'_>) -> Option<RunForm>
-    requires { TakesOptions (rows_of (found_of options.now)) }
+    requires { TakesRun (rows_of (found_of options.now)) }
     ensures { result ≡ form_in (rows_of (found_of options.now)) }
 {
     form_by(
@@ -70,7 +82,7 @@ fn form_of(options: &ArgMatches<'_>) -> Option<RunForm>
 /// The identify page that its options ask for.
 fn identify_asked(options: &ArgMatches<'_>) -> Asked
     requires { TakesSize (rows_of (found_of options.now)) }
-    ensures { IsIdentifyOf (rows_of (found_of options.now)) result }
+    ensures { IsOf (codes "identify") (rows_of (found_of options.now)) result }
 {
     Asked::Identify {
         sectors: number(options, "sectors") as u32,
@@ -82,7 +94,7 @@ fn identify_asked(options: &ArgMatches<'_>) -> Asked
 /// The log's page that its options ask for. What `--error` has to be is left to this call.
 fn log_asked(alloc: Global, options: &ArgMatches<'_>) -> Result<Asked, Error>
     requires { TakesPlace (rows_of (found_of options.now)) }
-    ensures ok { IfOk result (λ asked. IsLogOf (rows_of (found_of options.now)) asked) }
+    ensures ok { IfOk result (λ asked. IsOf (codes "log") (rows_of (found_of options.now)) asked) }
     ensures faults { FailsBy (error_fault (rows_of (found_of options.now))) result }
 {
     let error = log_error(alloc, options)?;
@@ -108,8 +120,8 @@ fn log_error(alloc: Global, options: &ArgMatches<'_>) -> Result<u8, Error>
 
 /// The trace that its flag asks for.
 fn trace_asked(options: &ArgMatches<'_>) -> Asked
-    requires { TakesForm (rows_of (found_of options.now)) }
-    ensures { IsTraceOf (rows_of (found_of options.now)) result }
+    requires { TakesFlag (rows_of (found_of options.now)) (codes "json") }
+    ensures { IsOf (codes "trace") (rows_of (found_of options.now)) result }
 {
     Asked::Trace {
         json: flag(options, "json"),
@@ -119,7 +131,7 @@ fn trace_asked(options: &ArgMatches<'_>) -> Asked
 /// The check that its flags ask for.
 fn check_asked(options: &ArgMatches<'_>) -> Asked
     requires { TakesKind (rows_of (found_of options.now)) }
-    ensures { IsCheckOf (rows_of (found_of options.now)) result }
+    ensures { IsOf (codes "check") (rows_of (found_of options.now)) result }
 {
     let json = flag(options, "json");
     Asked::Check {
@@ -131,7 +143,7 @@ fn check_asked(options: &ArgMatches<'_>) -> Asked
 /// The picture that its options ask for.
 fn draw_asked(options: &ArgMatches<'_>) -> Asked
     requires { TakesBounds (rows_of (found_of options.now)) }
-    ensures { IsDrawOf (rows_of (found_of options.now)) result }
+    ensures { IsOf (codes "draw") (rows_of (found_of options.now)) result }
 {
     Asked::Draw {
         from: number(options, "from"),
@@ -141,7 +153,7 @@ fn draw_asked(options: &ArgMatches<'_>) -> Asked
 
 /// The number of an option that the parser has taken.
 fn number(options: &ArgMatches<'_>, name: &str) -> u64
-    requires { (n : ℕ) × HasNumber (rows_of (found_of options.now)) name.now 0 18446744073709551615 n }
+    requires { TakesNumber (rows_of (found_of options.now)) name.now 0 last_entry }
     ensures { (first last n : ℕ) → HasNumber (rows_of (found_of options.now)) name.now first last n → result ≡ n }
 {
     options.get_one::<u64>(name).unwrap()
@@ -149,7 +161,7 @@ fn number(options: &ArgMatches<'_>, name: &str) -> u64
 
 /// The value of `--pick`, which is one of its words or was left out.
 fn pick(options: &ArgMatches<'_>) -> Pick
-    requires { (wanted : Pick) × HasPick (rows_of (found_of options.now)) wanted }
+    requires { TakesPick (rows_of (found_of options.now)) }
     ensures { HasPick (rows_of (found_of options.now)) result }
 {
     match options.get_str("pick").unwrap() {
@@ -169,7 +181,7 @@ fn error(options: &ArgMatches<'_>) -> Option<u8>
 
 /// Whether a flag was given.
 fn flag(options: &ArgMatches<'_>, name: &str) -> bool
-    requires { (given : Bool) × HasFlag (rows_of (found_of options.now)) name.now given }
+    requires { TakesFlag (rows_of (found_of options.now)) name.now }
     ensures { HasFlag (rows_of (found_of options.now)) name.now result }
 {
     options.get_flag(name)

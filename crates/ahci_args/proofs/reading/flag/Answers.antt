@@ -1,7 +1,7 @@
 use Rattle.std.proofs.Common.{◌∙◌}
 use Rattle.clap.specs.Words.{found_of, one_of, rows_of}
 use Rattle.clap.proofs.WalkLemmas.{one_text-rows}
-use Rattle.ahci_args.proofs.MatchLemmas.{flag_read}
+use Rattle.ahci_args.proofs.AskedLemmas.{flag_read}
 use Rattle.ahci_args.proofs.reading.flag.Goals as goal
 
 pub returns : goal.returns
