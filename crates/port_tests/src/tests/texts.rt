@@ -10,7 +10,12 @@ use std::process::Abort;
 use std::test::Fail;
 
 /// Compares the text of a fault.
-fn says(rt: &impl Abort, alloc: Global, fault: impl Display, wanted: &str) -> Result<(), Fail> {
+fn says(
+    rt: &impl Abort,
+    alloc: Global,
+    fault: impl Display + Drop,
+    wanted: &str,
+) -> Result<(), Fail> {
     let text = format!(in alloc; "{fault}")?;
     assert_eq!(rt; text.as_str(), wanted);
     Ok(())
