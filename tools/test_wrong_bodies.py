@@ -168,6 +168,20 @@ class WrongBodies(unittest.TestCase):
         self.assertEqual((0, ["1 refused, 0 not refused"]), (ran.returncode, self.said_of(ran)))
         self.assertEqual(1, self.run_with("--only", "three").returncode)
 
+    def test_the_edits_that_changed_since_a_commit(self) -> None:
+        git = ["git", "-C", self.top, "-c", "user.name=x", "-c", "user.email=x@x"]
+        for name in ("it_stays", "it_changes", "it_moves"):
+            self.edit(name, "{ 9 }", "{ 7 }")
+        for words in (["init", "-q"], ["add", "-A"], ["commit", "-qm", "x"]):
+            subprocess.run(git + words, check=True)
+        self.edit("it_changes", "{ 1 }", "{ 0 }")
+        self.edit("it_is_new", "{ 1 }", "{ 0 }", "must-fail")
+        os.rename(os.path.join(self.top, "crates/low/wrong-bodies/it_moves.edit"), os.path.join(self.top, "crates/low/must-fail/it_moves.edit"))
+        subprocess.run(git + ["add", "crates/low/must-fail/it_moves.edit"], check=True)
+        ran = self.run_with("--since", "HEAD")
+        self.assertEqual((0, ["2 refused, 0 not refused"]), (ran.returncode, self.said_of(ran)))
+        self.assertIn("wrong_bodies: fatal: ", self.run_with("--since", "none").stderr)
+
     def test_a_check_takes_as_many_processors_as_it_is_given(self) -> None:
         self.edit("one_is_0", "{ 1 }", "{ 0 }")
         self.assertEqual(["1 refused, 0 not refused"], self.said_of(self.run_with("--jobs", "3", jobs="3")))
