@@ -1,8 +1,5 @@
 use Rattle.ahci_args.proofs.command.run_command.Goals as goal
 
-pub subcommand-requires : goal.subcommand-requires
-subcommand-requires c = rw c.in_ok-options.ensures.items (c.number_option.ensures.local, (c.number_option-2.ensures.local, (c.number_option-3.ensures.local, (c.pick_option.ensures.local, (c.flag.ensures.local, (c.flag-2.ensures.local, (c.flag-3.ensures.local, tt)))))))
-
 pub returns : goal.returns
 returns c =
     let pick = c.pick_option.ensures.rule in

@@ -1,7 +1,0 @@
-use Rattle.ahci_args.proofs.command.identify_command.Goals as goal
-
-pub subcommand-requires : goal.subcommand-requires
-subcommand-requires c = rw c.in_ok-options.ensures.items (c.number_option.ensures.local, (c.number_option-2.ensures.local, (c.flag.ensures.local, tt)))
-
-pub returns : goal.returns
-returns c = rw (c.in_ok-options.ensures.items, c.number_option.ensures.rule, c.number_option-2.ensures.rule, c.flag.ensures.rule) at c.subcommand.ensures
