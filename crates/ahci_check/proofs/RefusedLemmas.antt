@@ -32,7 +32,7 @@ use Rattle.ahci_replay.specs.Commands.{AnswersWindow, MakesDisk, RefusedOr, Runs
 use Rattle.ahci_replay.specs.Commands as runs
 use Rattle.ahci_port.specs.Refusals.{of_collect, of_reissue, of_step}
 use Rattle.ahci_port.specs.declared.fault.SubmitFault.TheVariants as submit
-use Rattle.ahci_replay.specs.Refusals.{disk_refusal, issue_refusal, joined, of_issue, of_submit, refusal_on, register_refusal, show_refusal}
+use Rattle.ahci_replay.specs.Refusals.{disk_refusal, issue_refusal, joined, of_submit, refusal_on, register_refusal, show_refusal}
 use Rattle.ahci_script.specs.Lines.{reading}
 use Rattle.ahci_script.specs.Said.{Said}
 use Rattle.ahci_script.specs.Words.{after_first}

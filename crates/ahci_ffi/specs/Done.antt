@@ -22,7 +22,6 @@ use Rattle.ahci_port.specs.Refusals.{of_issue}
 use Rattle.ahci_regs.specs.Refusals.{of_register}
 use Rattle.ahci_ffi.specs.declared.flat.FlatReply.{FlatReply}
 use Rattle.ahci_ffi.specs.declared.flat.FlatStep.{FlatStep}
-use Rattle.port_refusal.specs.declared.refusal.Refusal.TheVariants as refusal
 use Rattle.ahci_ffi.specs.declared.status.Status.{Status}
 use Rattle.ahci_ffi.specs.declared.status.Status.TheVariants as status
 

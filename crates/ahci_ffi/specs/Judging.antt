@@ -1,5 +1,5 @@
 -- A journal given as structs: which events may follow which, with no port (AHCI 1.3.1, "Native Command Queuing" and section 6.2.2).
-use Rattle.std.specs.Prelude.{◌≡◌, ℕ, ◌<◌, ◌==◌, nat_le, nat_lt, List, if◌then◌else◌}
+use Rattle.std.specs.Prelude.{◌≡◌, ℕ, ◌==◌, nat_le, nat_lt, List, if◌then◌else◌}
 use Rattle.ncq_journal.specs.EventKind.{IsFirstUnlawful, journal_of}
 use Rattle.ncq_journal.specs.Lawful.{IsLawful}
 use Rattle.ncq_journal.specs.declared.event_kind.EventKind.{EventKind}

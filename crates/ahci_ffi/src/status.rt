@@ -1,7 +1,7 @@
 //! The statuses, with their numbers and names.
 
-ghost use Rattle.std.specs.Prelude.{◌≡◌, MatchOption};
-ghost use Rattle.ahci_ffi.specs.{Names.{IsNoStatus}, Status.{code_of, name_of, refused_code}};
+ghost use Rattle.std.specs.Prelude.{◌≡◌};
+ghost use Rattle.ahci_ffi.specs.Status.{code_of, name_of, refused_code};
 
 use port_refusal::Refusal;
 

@@ -1,6 +1,6 @@
 -- Lemmas about the run of a job list.
-use Rattle.std.proofs.Common.{◌≡◌, ℕ, zero, suc, ◌<◌, List, [], ◌∷◌, ◌++◌, Option, None, Some, length, sym, subst, refl, arith}
-use Rattle.ahci_driver.specs.Running.{IsFirstBad, IsGivenUp, ProperBelow}
+use Rattle.std.proofs.Common.{◌≡◌, zero, suc, List, [], ◌∷◌, ◌++◌, Option, None, Some, length, sym, subst, refl, arith}
+use Rattle.ahci_driver.specs.Running.{IsGivenUp, ProperBelow}
 use Rattle.ahci_driver.specs.declared.run_fault.RunFault.{RunFault}
 use Rattle.ahci_driver.specs.declared.run_fault.RunFault.TheVariants as of_run
 use Rattle.ahci_port.specs.PortView.{PortView}

@@ -1,5 +1,5 @@
 -- What an event says without the bytes of a write. When an event may come depends on no more.
-use Rattle.std.specs.Prelude.{◌≡◌, ℕ, ◌*◌, ◌<◌, Bool, List, map, replicate, reverse, take, slice_get, IsSomeAnd, if◌then◌else◌}
+use Rattle.std.specs.Prelude.{ℕ, ◌*◌, ◌<◌, Bool, List, map, replicate, reverse, take, slice_get, IsSomeAnd, if◌then◌else◌}
 use Rattle.ncq_journal.specs.Entry.{Entry, Issue, Accept, Complete, Fail, Recover, Reissue, Collect, Unqueued}
 use Rattle.ncq_journal.specs.Image.{is_write}
 use Rattle.ncq_journal.specs.Lawful.{IsAllowed, IsLawful}

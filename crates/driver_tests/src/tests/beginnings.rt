@@ -1,5 +1,4 @@
 //! Runs that don't begin.
-ghost use Rattle.std.specs.Prelude.{◌≡◌, ◌≤◌, vec_len, IfOk};
 
 use crate::tests::common::{Way, crowd};
 use ahci_driver::{Open, RunFault, run};

@@ -1,5 +1,5 @@
 //! What the tests share: choosers, what receipts hold, bits of PxIS, and a wait for another thread.
-ghost use Rattle.std.specs.Prelude.{◌≡◌, ◌≤◌, vec_len, IfOk};
+ghost use Rattle.std.specs.Prelude.{◌≡◌, vec_len, IfOk};
 
 use ahci_driver::{All, Chooser, High, Low, Receipt};
 use ahci_port::DeviceStep;

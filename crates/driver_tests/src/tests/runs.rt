@@ -1,5 +1,5 @@
 //! Whole runs, and what `settle` says of receipts that were changed afterwards.
-ghost use Rattle.std.specs.Prelude.{◌≡◌, ◌≤◌, vec_len, IfOk};
+ghost use Rattle.std.specs.Prelude.{◌≡◌, ◌≤◌};
 
 use crate::tests::common::{PSS, PXIS, SDBS, Way, byte_of, crowd};
 use crate::tests::jobs::{Jobs, commands};

@@ -1,5 +1,5 @@
 -- The default pieces serve a proper command; the window that is written is fit, and carries what was asked.
-use Rattle.std.proofs.Common.{◌≡◌, ◌∙◌, ap, subst, None}
+use Rattle.std.proofs.Common.{◌≡◌, ◌∙◌, ap, subst}
 use Rattle.ncq_journal.specs.Work.{work_of, sectors_of}
 use Rattle.ahci_table.specs.Build.{IsBuilt}
 use Rattle.ahci_table.specs.Defaults.{default_list}
