@@ -172,14 +172,17 @@ class WrongBodies(unittest.TestCase):
         git = ["git", "-C", self.top, "-c", "user.name=x", "-c", "user.email=x@x"]
         for name in ("it_stays", "it_changes", "it_moves"):
             self.edit(name, "{ 9 }", "{ 7 }")
+        self.write("crates/gone/wrong-bodies/it_came.edit", "file: src/lib.rt\nold: { 1 }\nnew: { 0 }\n")
         for words in (["init", "-q"], ["add", "-A"], ["commit", "-qm", "x"]):
             subprocess.run(git + words, check=True)
         self.edit("it_changes", "{ 1 }", "{ 0 }")
         self.edit("it_is_new", "{ 1 }", "{ 0 }", "must-fail")
-        os.rename(os.path.join(self.top, "crates/low/wrong-bodies/it_moves.edit"), os.path.join(self.top, "crates/low/must-fail/it_moves.edit"))
-        subprocess.run(git + ["add", "crates/low/must-fail/it_moves.edit"], check=True)
+        for came, went in (("crates/low/wrong-bodies/it_moves.edit", "crates/low/must-fail/it_moves.edit"),
+                           ("crates/gone/wrong-bodies/it_came.edit", "crates/low/wrong-bodies/it_came.edit")):
+            subprocess.run(git + ["mv", came, went], check=True)
+        shutil.rmtree(os.path.join(self.top, "crates/gone"), ignore_errors=True)
         ran = self.run_with("--since", "HEAD")
-        self.assertEqual((0, ["2 refused, 0 not refused"]), (ran.returncode, self.said_of(ran)))
+        self.assertEqual((0, ["3 refused, 0 not refused"]), (ran.returncode, self.said_of(ran)))
         self.assertIn("wrong_bodies: fatal: ", self.run_with("--since", "none").stderr)
 
     def test_a_check_takes_as_many_processors_as_it_is_given(self) -> None:
