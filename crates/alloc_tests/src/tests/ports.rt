@@ -251,10 +251,10 @@ fn tries_to_issue_asked<'a>(
 }
 
 /// What is said of a command that is submitted.
-fn said_of(answer: Result<u64, SubmitFault>) -> Said {
+fn said_of<'a>(answer: Result<u64, (Op<&'a Heap>, SubmitFault)>) -> Said {
     match answer {
         Ok(number) => Issued(number),
-        Err(fault) => NotSubmitted(fault),
+        Err((_asked, fault)) => NotSubmitted(fault),
     }
 }
 
@@ -280,7 +280,7 @@ fn tries_to_submit<'a>(
     equal(rt, &command, growth, &left, &before);
     let mut tried = Tried::of(NotSubmitted(fault), met, bytes);
     let again = port.submit(command.tag(), asked);
-    tried.again = Some(said_of(again.map_err(|(_op, fault)| fault)));
+    tried.again = Some(said_of(again));
     Ok(tried)
 }
 
