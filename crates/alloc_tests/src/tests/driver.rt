@@ -74,8 +74,8 @@ const NO_WINDOW: Submitted = Err(SubmitFault::Build(BuildFault::OutOfMemory));
 
 const NOT_ISSUED: Submitted = Err(SubmitFault::Issue(IssueFault::OutOfMemory));
 
-// A read: the window, the buffer of its answer, and the room of its entries. A write: the window, the copy of its bytes in the
-// journal, and the room.
+// A read: the window and the buffer of its answer, and then the room of its entries. A write: the window and the copy of its bytes
+// for the journal, which are made before the lock is taken, and then the room.
 static COMMANDS: [Row<Command, Submitted>; 4] = [
     Row(
         Read(0),
@@ -85,13 +85,13 @@ static COMMANDS: [Row<Command, Submitted>; 4] = [
     ),
     Row(
         Write(0, 0x77),
-        &[NO_WINDOW, NOT_ISSUED, NOT_ISSUED],
+        &[NO_WINDOW, NO_WINDOW, NOT_ISSUED],
         Ok((0, 0)),
         WINDOW + 512 + ROOM,
     ),
     Row(
         LongWrite(0, 0x77),
-        &[NO_WINDOW, NOT_ISSUED, NOT_ISSUED],
+        &[NO_WINDOW, NO_WINDOW, NOT_ISSUED],
         Ok((0, 0)),
         0x1000 + 131_072 + 131_072 + ROOM,
     ),
