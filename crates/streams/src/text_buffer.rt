@@ -95,6 +95,7 @@ impl<A: Allocator> TextBuffer<A> {
     }
 
     /// Appends a word and a decimal number, for which room was reserved: 20 bytes are enough for any number.
+    #[inline(always)]
     pub fn push_reserved_number(&mut self, word: &[u8], number: u64)
         requires { length word.now + 20 ≤ self.old.room }
         ensures bytes { self.new.bytes ≡ self.old.bytes ++ (word.now ++ decimal number) }
