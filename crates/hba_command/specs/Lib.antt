@@ -1,0 +1,4 @@
+pub mod CommandHeader
+pub mod PrdEntry
+pub mod Task
+pub mod Pages

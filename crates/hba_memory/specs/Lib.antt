@@ -1,0 +1,4 @@
+pub mod Runs
+pub mod Gathering
+pub mod Table
+pub mod Laws
