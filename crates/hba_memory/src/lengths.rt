@@ -8,9 +8,5 @@ pub fn total(list: &[PrdEntry]) -> u64
     requires { length list.now ≤ 65535 }
     ensures { result ≡ total list.now }
 {
-    let mut sum = 0u64;
-    for entry in list {
-        sum += u64::from(entry.length);
-    }
-    sum
+    list.iter().map(|entry| u64::from(entry.length)).sum()
 }
