@@ -1,7 +1,8 @@
 -- Lemmas on what the registers of a port keep: the bits of PxIS that are kept, and no command while the port is stopped.
-use Rattle.std.proofs.Common.{◌≡◌, ◌≢◌, ℕ, Bool, true, false, not, ◌&&◌, ◌||◌, if◌then◌else◌, List, sym, ◌∙◌, refl, ap, subst, bit_and}
+use Rattle.std.proofs.Common.{◌≡◌, ◌≢◌, ℕ, Bool, true, false, not, ◌&&◌, ◌||◌, if◌then◌else◌, List, sym, ◌∙◌, refl, ap, subst, bit_and, arith}
 use Rattle.word_bits.specs.Places.{bits, has_place, no_places, with_place, without_place, intersection, minus}
-use Rattle.word_bits.proofs.PlacesLemmas.{has_place-no_places, has_place-with_other, has_place-minus, minus-none, without_place-none}
+use Rattle.std.specs.Int.Bits.{and_zero_l}
+use Rattle.word_bits.proofs.PlacesLemmas.{same_sets, length-intersection, has_place-intersection, has_place-no_places, has_place-with_other, has_place-minus, minus-none, without_place-none}
 use Rattle.word_bits.proofs.BitsLemmas.{bits_and}
 use Rattle.hba_regs.specs.HbaState.{IsKept, enables}
 use Rattle.hba_regs.specs.Interrupts.{raised, place_of, tfes}
@@ -33,13 +34,13 @@ kept-raised false s place p q h = h
 -- after a FIS whose own interrupt is that place
 pub kept_after_fis : (e i : Bool) (s r : List Bool) (place : ℕ) → 6 ≢ place → 22 ≢ place → r ≡ raised e tfes (raised i place s) → IsKept s → IsKept r
 kept_after_fis e i s r place p q same h =
-    subst IsKept (sym same) (kept-raised e (raised i place s) tfes (omega tt) (omega tt) (kept-raised i s place p q h))
+    subst IsKept (sym same) (kept-raised e (raised i place s) tfes (omega arith) (omega arith) (kept-raised i s place p q h))
 
 pub kept-fatal : (s : List Bool) (fatal : Fatal) → IsKept s → IsKept (with_place s (place_of fatal))
-kept-fatal s HostBusFatal h = kept-with s 29 (omega tt) (omega tt) h
-kept-fatal s HostBusData h = kept-with s 28 (omega tt) (omega tt) h
-kept-fatal s Interface h = kept-with s 27 (omega tt) (omega tt) h
-kept-fatal s Overflow h = kept-with s 24 (omega tt) (omega tt) h
+kept-fatal s HostBusFatal h = kept-with s 29 (omega arith) (omega arith) h
+kept-fatal s HostBusData h = kept-with s 28 (omega arith) (omega arith) h
+kept-fatal s Interface h = kept-with s 27 (omega arith) (omega arith) h
+kept-fatal s Overflow h = kept-with s 24 (omega arith) (omega arith) h
 
 -- ---- commands
 
@@ -61,3 +62,22 @@ pub remaining_of_stopped : (was st : Bool) (s r : List Bool) → r ≡ remaining
 remaining_of_stopped true true s r k h e = cc
 remaining_of_stopped true false s r k h e = k
 remaining_of_stopped false st s r k h e = k ∙ h refl
+
+-- ---- PxIE
+
+pub none_enabled : intersection (bits 0) enables ≡ bits 0
+none_enabled = sym (bits_and 0 0xfdc000ff) ∙ ap bits (and_zero_l 0xfdc000ff)
+
+and_again : (x y : Bool) → ((x && y) && y) ≡ (x && y)
+and_again true true = refl
+and_again true false = refl
+and_again false y = refl
+
+intersection-again : (v m : List Bool) → intersection (intersection v m) m ≡ intersection v m
+intersection-again v m =
+    same_sets (intersection (intersection v m) m) (intersection v m) (length-intersection (intersection v m) m)
+    (λ i h. has_place-intersection (intersection v m) m i
+    ∙ ap (λ x. x && has_place m i) (has_place-intersection v m i) ∙ and_again (has_place v i) (has_place m i) ∙ sym (has_place-intersection v m i))
+
+pub enabled_again : (v r : List Bool) → r ≡ intersection v enables → intersection r enables ≡ r
+enabled_again v r e = ap (λ x. intersection x enables) e ∙ intersection-again v enables ∙ sym e

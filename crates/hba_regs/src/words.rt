@@ -53,12 +53,12 @@ pub fn with_byte(word: u32, place: u32, value: u64) -> u32
     requires { place < 4 }
     ensures { result ≡ with_part word (8 * place) 1 value }
 {
-    let byte = (value & 0xff) as u32;
+    let byte = (value % 0x100) as u32;
     match place {
-        0 => (word & !0xff) + byte,
-        1 => (word & !0xffff) + (byte << 8) + (word & 0xff),
-        2 => (word & !0xff_ffff) + (byte << 16) + (word & 0xffff),
-        _ => (byte << 24) + (word & 0xff_ffff),
+        0 => word / 0x100 * 0x100 + byte,
+        1 => word / 0x1_0000 * 0x1_0000 + byte * 0x100 + word % 0x100,
+        2 => word / 0x100_0000 * 0x100_0000 + byte * 0x1_0000 + word % 0x1_0000,
+        _ => byte * 0x100_0000 + word % 0x100_0000,
     }
 }
 
@@ -68,9 +68,9 @@ pub fn with_pair(word: u32, place: u32, value: u64) -> u32
     requires even { place % 2 ≡ 0 }
     ensures { result ≡ with_part word (8 * place) 2 value }
 {
-    let pair = (value & 0xffff) as u32;
+    let pair = (value % 0x1_0000) as u32;
     match place {
-        0 => (word & !0xffff) + pair,
-        _ => (pair << 16) + (word & 0xffff),
+        0 => word / 0x1_0000 * 0x1_0000 + pair,
+        _ => pair * 0x1_0000 + word % 0x1_0000,
     }
 }
