@@ -35,8 +35,8 @@ runs_some e rest n h = rw (not_zero n h) refl
 -- the next run, at an entry's place
 pub runs_at : (list : List PrdEntry) (i n : ℕ) → i < length list → 0 < n
     → runs (drop i list) n
-      ≡ (record { address = (get_or list i no_entry).address; length = min (get_or list i no_entry).length n })
-        ∷ runs (drop (i + 1) list) (n - (get_or list i no_entry).length)
+    ≡ (record { address = (get_or list i no_entry).address; length = min (get_or list i no_entry).length n })
+    ∷ runs (drop (i + 1) list) (n - (get_or list i no_entry).length)
 runs_at list i n h p =
     ap (λ l. runs l n) (drop_more list i no_entry h) ∙ runs_some (get_or list i no_entry) (drop (i + 1) list) n p
 
@@ -57,8 +57,8 @@ placed_some e rest bytes h = rw (not_zero (length bytes) h) refl
 
 pub placed_at : (list : List PrdEntry) (i : ℕ) (bytes : List ℕ) → i < length list → 0 < length bytes
     → placed (drop i list) bytes
-      ≡ (record { address = (get_or list i no_entry).address; bytes = take (get_or list i no_entry).length bytes })
-        ∷ placed (drop (i + 1) list) (drop (get_or list i no_entry).length bytes)
+    ≡ (record { address = (get_or list i no_entry).address; bytes = take (get_or list i no_entry).length bytes })
+    ∷ placed (drop (i + 1) list) (drop (get_or list i no_entry).length bytes)
 placed_at list i bytes h p =
     ap (λ l. placed l bytes) (drop_more list i no_entry h) ∙ placed_some (get_or list i no_entry) (drop (i + 1) list) bytes p
 
@@ -78,7 +78,7 @@ same_places (e ∷ rest) bytes (inr some) =
     ap (λ l. map run_of l) (placed_some e rest bytes some)
     ∙ ap (λ k. (record { address = e.address; length = k }) ∷ map run_of (placed rest (drop e.length bytes))) n
     ∙ ap (λ l. (record { address = e.address; length = min e.length (length bytes) }) ∷ l)
-      (same_places rest (drop e.length bytes) (zero_or_more (length (drop e.length bytes))) ∙ ap (λ k. runs rest k) d)
+    (same_places rest (drop e.length bytes) (zero_or_more (length (drop e.length bytes))) ∙ ap (λ k. runs rest k) d)
     ∙ sym (runs_some e rest (length bytes) some)
 
 pub runs-placed : (list : List PrdEntry) (bytes : List ℕ) → map run_of (placed list bytes) ≡ runs list (length bytes)

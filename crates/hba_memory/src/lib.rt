@@ -8,10 +8,14 @@
 mod gather;
 pub mod laws;
 mod lengths;
+mod posting;
+mod put;
 mod scatter;
 mod table;
 
 pub use gather::Gather;
 pub use lengths::total;
+pub use posting::Posting;
+pub use put::SmallPut;
 pub use scatter::Scatter;
 pub use table::{MAX_ENTRIES, TableReader};

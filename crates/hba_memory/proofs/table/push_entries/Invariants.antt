@@ -7,5 +7,5 @@ abbrev pub invariant-loop-index : goal.invariant-loop-index
 invariant-loop-index g l = record {
   items : l.list.items ≡ l.initial.list.items ++ entries_in l.index l.bytes;
   len : vec_len l.list ≡ vec_len l.initial.list + l.index;
-  capacity : vec_capacity l.list ≡ vec_capacity l.initial.list
+  capacity : vec_capacity l.list ≡ vec_capacity l.initial.list;
 }

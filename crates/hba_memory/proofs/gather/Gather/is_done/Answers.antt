@@ -11,7 +11,8 @@ returns-then-self-eq0 g c =
 
 pub returns-else-self-eq0 : goal.returns-else-self-eq0
 returns-else-self-eq0 g c =
-    let same = ap (λ v. v.runs) c.self.view_is in
-    ((λ h. sym same ∙ runs_over c.self.inside.list.items c.self.inside.next c.self.inside.left (let e = eqb-true c.self.inside.next c.len.result h in omega arith)),
-     (λ h. eq-eqb c.self.inside.next c.len.result
-        (last_entry c.self.inside.list.items c.self.inside.next c.self.inside.left c.len.result (omega arith) c.self.invariant.0 (λ z. c.if-self-eq0.false z) (same ∙ h))))
+    let same = ap (λ v. v.runs) c.self.view_is in (
+      (λ h. sym same ∙ runs_over c.self.inside.list.items c.self.inside.next c.self.inside.left (let e = eqb-true c.self.inside.next c.len.result h in omega arith)),
+      (λ h. eq-eqb c.self.inside.next c.len.result
+          (last_entry c.self.inside.list.items c.self.inside.next c.self.inside.left c.len.result (omega arith) c.self.invariant.0 (λ z. c.if-self-eq0.false z) (same ∙ h))),
+    )

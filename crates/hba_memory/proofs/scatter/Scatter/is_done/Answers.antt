@@ -15,7 +15,8 @@ returns-then-self-len g c =
 pub returns-else-self-len : goal.returns-else-self-len
 returns-else-self-len g c =
     let s = c.self.inside in
-    let len : length (drop s.done s.bytes.items) ≡ length s.bytes.items - s.done = length-drop s.done s.bytes.items in
-    ((λ h. sym c.self.view_is ∙ placed_over s.list.items s.next (drop s.done s.bytes.items) (let e = eqb-true s.next c.len-else-self-len.result h in omega arith)),
-     (λ h. eq-eqb s.next c.len-else-self-len.result
-        (last_put s.list.items s.next (drop s.done s.bytes.items) c.len-else-self-len.result (omega arith) c.self.invariant.0 (λ z. c.if-self-len.false (let w = c.self.invariant.1 in omega arith)) (c.self.view_is ∙ h))))
+    let len : length (drop s.done s.bytes.items) ≡ length s.bytes.items - s.done = length-drop s.done s.bytes.items in (
+      (λ h. sym c.self.view_is ∙ placed_over s.list.items s.next (drop s.done s.bytes.items) (let e = eqb-true s.next c.len-else-self-len.result h in omega arith)),
+      (λ h. eq-eqb s.next c.len-else-self-len.result
+          (last_put s.list.items s.next (drop s.done s.bytes.items) c.len-else-self-len.result (omega arith) c.self.invariant.0 (λ z. c.if-self-len.false (let w = c.self.invariant.1 in omega arith)) (c.self.view_is ∙ h))),
+    )
