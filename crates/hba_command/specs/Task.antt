@@ -3,10 +3,10 @@ use Rattle.std.specs.Prelude.{ℕ, ◌+◌, ◌*◌, ◌/◌, ◌%◌, ◌^◌, 
 use Rattle.sata_fis.specs.Command.{queued_in}
 use Rattle.sata_fis.specs.Fields.{H2dFields, QueuedFields}
 use Rattle.sata_fis.specs.Places.{bit}
+use Rattle.hba_command.specs.Span.{SpanFields}
 use Rattle.hba_command.specs.declared.log.Log.TheVariants.{Directory, QueuedError}
 use Rattle.hba_command.specs.declared.protocol.Protocol.{Protocol}
 use Rattle.hba_command.specs.declared.protocol.Protocol.TheVariants.{Pio, Dma}
-use Rattle.hba_command.specs.declared.span.Span.{Span}
 use Rattle.hba_command.specs.declared.task.Task.{Task}
 use Rattle.hba_command.specs.declared.task.Task.TheVariants.{Queue, Read, Write, Verify, Flush, Identify, ReadLog, NativeMax, PowerMode, Diagnose, Nothing, Control, Packet, Unknown}
 
@@ -15,11 +15,11 @@ abbrev pub counted : ℕ → ℕ → ℕ
 counted most count = if count == 0 then most else count
 
 -- commands of 28 bits: LBA 27:24 are device 3:0, and the count has eight bits
-abbrev pub short_span : H2dFields → Span
+abbrev pub short_span : H2dFields → SpanFields
 short_span f = record { lba = f.lba % 2 ^ 24 + 2 ^ 24 * (f.device % 16); sectors = counted 256 (f.count % 256) }
 
 -- commands of 48 bits
-abbrev pub long_span : H2dFields → Span
+abbrev pub long_span : H2dFields → SpanFields
 long_span f = record { lba = f.lba; sectors = counted 65536 f.count }
 
 -- the log is LBA 7:0, and the page LBA 15:8 and 39:32

@@ -5,6 +5,7 @@
 #![tactic(auto)]
 
 mod entry;
+mod fis;
 mod header;
 mod log;
 mod pages;
@@ -14,6 +15,7 @@ mod task;
 mod tasks;
 
 pub use entry::PrdEntry;
+pub use fis::command_fis;
 pub use header::CommandHeader;
 pub use log::Log;
 pub use pages::{controller_page, directory_page, not_queued_page};

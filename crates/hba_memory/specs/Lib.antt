@@ -2,4 +2,5 @@ pub mod Runs
 pub mod Gathering
 pub mod Table
 pub mod Posting
+pub mod Reading
 pub mod Laws

@@ -1,7 +1,8 @@
 //! The data of a command that writes, on their way out of the driver's memory.
 
+use crate::room::Room;
 use hba_command::PrdEntry;
-use std::alloc::{AllocError, Allocator, Global};
+use std::alloc::{Allocator, Global};
 use std::marker::Model;
 
 /// The data of a command that writes, on their way out of the runs of its PRDT. Contracts see the runs that are still to be read, the next
@@ -27,21 +28,20 @@ impl<A: Allocator> Model for Gather<A> {
 }
 
 impl<A: Allocator> Gather<A> {
-    ghost use Rattle.std.specs.Prelude.{◌≡◌, ◌↔◌, ◌++◌, [], length, IsTrue, IfOk};
+    ghost use Rattle.std.specs.Prelude.{◌≡◌, ◌↔◌, ◌++◌, [], length, IsTrue};
     ghost use Rattle.hba_memory.specs.Runs.{first_run, later_runs, runs};
 
-    /// The first so many bytes of the data that lie in the runs which the entries name. All memory that they need is allocated here.
-    pub fn new(alloc: A, list: Vec<PrdEntry, A>, length: usize) -> Result<Self, AllocError>
-        ensures runs { IfOk result (λ g. g.runs ≡ runs list.items length) }
-        ensures bytes { IfOk result (λ g. g.bytes ≡ []) }
+    /// The first bytes of the data that lie in the runs which the entries name, as many as there is room for.
+    pub fn over(list: Vec<PrdEntry, A>, room: Room<A>) -> Self
+        ensures runs { result.runs ≡ runs list.items room }
+        ensures bytes { result.bytes ≡ [] }
     {
-        let bytes = Vec::with_capacity(alloc, length)?;
-        Ok(Gather {
+        Gather {
             list,
             next: 0,
-            left: length,
-            bytes,
-        })
+            left: room.length(),
+            bytes: room.into_bytes(),
+        }
     }
 
     /// Whether all is read.

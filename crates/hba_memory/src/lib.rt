@@ -5,17 +5,23 @@
 //! they were written; so whoever has the memory copies.
 #![tactic(auto)]
 
+mod fetch;
 mod gather;
 pub mod laws;
 mod lengths;
 mod posting;
 mod put;
+mod reading;
+mod room;
 mod scatter;
 mod table;
 
+pub use fetch::{is_write, moved_by};
 pub use gather::Gather;
 pub use lengths::total;
 pub use posting::Posting;
 pub use put::SmallPut;
+pub use reading::Reading;
+pub use room::Room;
 pub use scatter::Scatter;
 pub use table::{MAX_ENTRIES, TableReader};
