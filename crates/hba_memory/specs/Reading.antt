@@ -116,3 +116,15 @@ after_bytes (Command h) bytes = after_command h (command_fis bytes)
 after_bytes (Entries t table room) bytes = after_entries t (with_entries table bytes) room
 after_bytes (Content t g) bytes = after_content t (record { runs = later_runs g.runs; bytes = g.bytes ++ bytes })
 after_bytes other bytes = other
+
+-- what every stage of the reading keeps: there is room for all that a write's data need
+abbrev pub HasRoom : ReadingView → Type 0
+HasRoom (Entries t table room) = room ≡ read_by t
+HasRoom other = Unit {0}
+
+-- nothing comes next
+abbrev pub is_over : ReadingView → Bool
+is_over (Whole t list bytes) = true
+is_over Malformed = true
+is_over Short = true
+is_over other = false

@@ -16,7 +16,7 @@ mod room;
 mod scatter;
 mod table;
 
-pub use fetch::{is_write, moved_by};
+pub use fetch::{Fetch, is_write, moved_by};
 pub use gather::Gather;
 pub use lengths::total;
 pub use posting::Posting;

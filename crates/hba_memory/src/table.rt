@@ -57,7 +57,7 @@ fn entry_in(bytes: &[u8], index: usize) -> PrdEntry
 }
 
 impl<A: Allocator> TableReader<A> {
-    ghost use Rattle.std.specs.Prelude.{◌≡◌, ◌↔◌, ◌*◌, ◌+◌, ◌-◌, ◌++◌, length, IsTrue, IfOk};
+    ghost use Rattle.std.specs.Prelude.{◌≡◌, ◌≤◌, ◌↔◌, ◌*◌, ◌+◌, ◌-◌, ◌++◌, length, IsTrue, IfOk};
     ghost use Rattle.hba_memory.specs.Table.{entries_in, next_entries, unread, wrapped};
 
     /// The PRDT of a command table with so many entries. All memory that they need is allocated here.
@@ -108,7 +108,8 @@ impl<A: Allocator> TableReader<A> {
 
     /// The entries that were read.
     pub fn into_list(self) -> Vec<PrdEntry, A>
-        ensures { result.items ≡ self.list }
+        ensures list { result.items ≡ self.list }
+        ensures few { length result.items ≤ 65535 }
     {
         self.list
     }
