@@ -99,15 +99,10 @@ pub record IsLawful (p : HbaPort) : Type 0 where
   pub sctl : p.sctl < 2 ^ 12
   pub ccs : p.ccs < 32
 
--- how wide the registers of a port are
-pub record HasWidths (p : HbaPort) : Type 0 where
-  pub clb : p.clb < 2 ^ 64
-  pub fb : p.fb < 2 ^ 64
+-- the sets of a port are those of words of 32 bits
+pub record HasWords (p : HbaPort) : Type 0 where
   pub is : length p.is ≡ 32
   pub ie : length p.ie ≡ 32
-  pub sts : p.sts < 256
-  pub err : p.err < 256
-  pub sig : p.sig < 2 ^ 32
   pub serr : length p.serr ≡ 32
   pub sact : length p.sact ≡ 32
   pub ci : length p.ci ≡ 32

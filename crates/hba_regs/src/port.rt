@@ -2,7 +2,7 @@
 
 ghost use Rattle.std.specs.Prelude.{◌≡◌, ◌+◌, ◌*◌, ◌%◌, ◌^◌, ◌<◌, not, nat_eq};
 ghost use Rattle.word_bits.specs.Places.{bits, intersection, word_of};
-ghost use Rattle.hba_regs.specs.HbaState.{reset_port, HasWidths, IsLawful};
+ghost use Rattle.hba_regs.specs.HbaState.{reset_port, HasWords, IsLawful};
 ghost use Rattle.hba_regs.specs.Interrupts.{interrupts, is_pending, raised};
 ghost use Rattle.hba_regs.specs.Reading.{command_word};
 
@@ -113,10 +113,10 @@ impl Port {
         }
     }
 
-    /// What every state of a port's registers keeps, and how wide they are.
+    /// What every state of a port's registers keeps.
     pub fn keeps_its_rules(&self)
         ensures lawful { IsLawful self.now }
-        ensures widths { HasWidths self.now }
+        ensures words { HasWords self.now }
     {
         let _ = &self.clb;
     }

@@ -2,7 +2,7 @@
 
 ghost use Rattle.std.specs.Prelude.{◌≡◌, ◌&&◌, true};
 ghost use Rattle.word_bits.specs.Places.{bits};
-ghost use Rattle.hba_regs.specs.HbaState.{HasWidths, IsLawful};
+ghost use Rattle.hba_regs.specs.HbaState.{HasWords, IsLawful};
 ghost use Rattle.hba_regs.specs.Interrupts.{interrupt, is_pending};
 ghost use Rattle.hba_regs.specs.Linking.{is_up};
 
@@ -10,10 +10,10 @@ use super::HbaRegs;
 use crate::link::Link;
 
 impl HbaRegs {
-    /// What every state of the registers keeps: the port's rules, their widths, and IS.IPS is 1 while an interrupt is pending.
+    /// What every state of the registers keeps: the port's rules, and IS.IPS is 1 while an interrupt is pending.
     pub fn keeps_its_rules(&self)
         ensures port { IsLawful self.now.port }
-        ensures widths { HasWidths self.now.port }
+        ensures words { HasWords self.now.port }
         ensures reports { is_pending self.now.port ≡ true → self.now.ips ≡ true }
     {
         self.port.keeps_its_rules();
