@@ -1,0 +1,4 @@
+pub mod HbaView
+pub mod States
+pub mod Moving
+pub mod Queueing
