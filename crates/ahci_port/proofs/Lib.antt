@@ -28,6 +28,7 @@ pub mod LogLemmas
 pub mod QuietLemmas
 pub mod LookingLemmas
 pub mod TrimmingLemmas
+pub mod ResettingLemmas
 pub mod HistoryLemmas
 pub mod CarryingLemmas
 pub mod WritingLemmas

@@ -33,6 +33,8 @@ use Rattle.ahci_port.specs.declared.fault.ReissueFault.{ReissueFault}
 use Rattle.ahci_port.specs.declared.fault.ReissueFault.TheVariants as reissue
 use Rattle.ahci_port.specs.declared.fault.TrimFault.{TrimFault}
 use Rattle.ahci_port.specs.declared.fault.TrimFault.TheVariants.{Busy, Spent}
+use Rattle.ahci_port.specs.declared.fault.ResetFault.{ResetFault}
+use Rattle.ahci_port.specs.declared.fault.ResetFault.TheVariants as reset
 use Rattle.ahci_port.specs.declared.fault.ResumeFault.{ResumeFault}
 use Rattle.ahci_port.specs.declared.fault.ResumeFault.TheVariants as resume
 use Rattle.ahci_port.specs.declared.fault.PlainFault.{PlainFault}
@@ -146,6 +148,10 @@ is_vacant port = not (list_any is_some port.windows)
 -- why the journal is not handed out
 abbrev pub trim_refusal : PortView → Option TrimFault
 trim_refusal port = if is_vacant port then (if nat_lt most_first (next_number port) then Some Spent else None) else Some Busy
+
+-- why the port is not reset
+abbrev pub reset_refusal : PortView → Option ResetFault
+reset_refusal port = if nat_lt most_first (next_number port) then Some reset.Spent else None
 
 -- why the port does not recover, want of memory aside
 abbrev pub recover_refusal : PortView → Option RecoverFault

@@ -9,6 +9,8 @@ use Rattle.ahci_port.specs.declared.fault.ResumeFault.{ResumeFault}
 use Rattle.ahci_port.specs.declared.fault.ResumeFault.TheVariants as resume
 use Rattle.ahci_port.specs.declared.fault.TrimFault.{TrimFault}
 use Rattle.ahci_port.specs.declared.fault.TrimFault.TheVariants as trim
+use Rattle.ahci_port.specs.declared.fault.ResetFault.{ResetFault}
+use Rattle.ahci_port.specs.declared.fault.ResetFault.TheVariants as reset
 use Rattle.ahci_port.specs.declared.fault.RecoverFault.{RecoverFault}
 use Rattle.ahci_port.specs.declared.fault.RecoverFault.TheVariants as recover
 use Rattle.ahci_port.specs.declared.fault.ReissueFault.{ReissueFault}
@@ -58,6 +60,10 @@ of_resume resume.OutOfMemory = refusal.OutOfMemory
 abbrev pub of_trim : TrimFault → Refusal
 of_trim trim.Busy = refusal.Busy
 of_trim trim.Spent = refusal.Spent
+
+-- the port is not reset
+abbrev pub of_reset : ResetFault → Refusal
+of_reset reset.Spent = refusal.Spent
 
 -- the port does not recover
 abbrev pub of_recover : RecoverFault → Refusal

@@ -14,6 +14,7 @@ use Rattle.ncq_journal.specs.declared.plain.Plain.TheVariants as plain
 use Rattle.ncq_journal.specs.Answer.{Answer, answer, sectors_at}
 use Rattle.ncq_core.specs.DiskFis.{accepted_bytes, not_found_bytes, pio_bytes, setup_bytes, completed_bytes, failed_bytes}
 use Rattle.ncq_journal.specs.Entry.{Entry, Issue, Accept, Complete, Fail, Recover, Reissue, Collect, Unqueued}
+use Rattle.ncq_journal.specs.Image.{sector_at}
 use Rattle.ncq_journal.specs.Lawful.{IsLawful, end_of}
 use Rattle.ncq_journal.specs.Numbering.{answer_numbered, place_of}
 use Rattle.ncq_journal.specs.Request.{request}
@@ -187,6 +188,19 @@ over_both earlier port = record port { starting = earlier.starting; past = port.
 pub record GoesOn (old new : PortView) : Type 0 where
   pub sectors : (later : List Entry) → IsLawful (sectors_in new) new.depth later → (s : ℕ) → sector new.starting later s ≡ sector old.starting (later ++ old.past) s
   pub headline : (port : PortView) → port.starting ≡ new.starting → port.depth ≡ new.depth → Headline port → Headline (over_both old port)
+
+-- each sector of the new starting image is the one that the old journal gives: no command that was not completed has changed it
+abbrev pub KeepsCompleted : (old new : PortView) → Type 0
+KeepsCompleted old new = (s : ℕ) → sector_at new.starting s ≡ sector old.starting old.past s
+
+-- what comes after a reset speaks of the whole history too, but of no request that was dropped: each sector is that of both parts
+-- of the journal over the image at the beginning of the first one, the answer to each later request is that of both parts, and a
+-- request that had its answer before the reset keeps it
+pub record Follows (old new : PortView) : Type 0 where
+  pub sectors : (later : List Entry) → IsLawful (sectors_in new) new.depth later → (s : ℕ) → sector new.starting later s ≡ sector old.starting (later ++ old.past) s
+  pub answers : (later : List Entry) → IsLawful (sectors_in new) new.depth later → (number : ℕ) → next_number old ≤ number
+      → answer_to (over_both old (record new { past = later })) number ≡ answer_to (record new { past = later }) number
+  pub answered : (later : List Entry) (number : ℕ) (a : Answer) → answer_to old number ≡ Some a → answer_to (over_both old (record new { past = later })) number ≡ Some a
 
 -- the port recovers from the failure of a tag's command: READ LOG EXT by PIO
 pub record IsRecovered (tag : ℕ) (old new : PortView) : Type 0 where

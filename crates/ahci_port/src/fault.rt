@@ -81,6 +81,13 @@ pub enum TrimFault {
     Spent,
 }
 
+/// Why the port was not reset.
+#[derive(Clone, Copy, Debug, PartialEq, Eq)]
+pub enum ResetFault {
+    /// The number of the next entry is over 2^63.
+    Spent,
+}
+
 /// Why the port did not recover. The cases are tested in this order.
 #[derive(Clone, Copy, Debug, PartialEq, Eq)]
 pub enum RecoverFault {

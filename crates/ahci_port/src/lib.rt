@@ -21,8 +21,8 @@ mod written;
 pub use ahci_regs::RegFault;
 pub use ahci_table::{BuildFault, Piece, Window, default_pieces};
 pub use fault::{
-    CollectFault, IssueFault, PlainFault, RecoverFault, ReissueFault, ResumeFault, StepFault,
-    SubmitFault, TrimFault, WriteFault,
+    CollectFault, IssueFault, PlainFault, RecoverFault, ReissueFault, ResetFault, ResumeFault,
+    StepFault, SubmitFault, TrimFault, WriteFault,
 };
 pub use ncq_core::DiskFault;
 pub use ncq_journal::{Bytes, Event, EventKind, Journal, Op, Outcome, Phase, Plain};

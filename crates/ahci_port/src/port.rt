@@ -4,6 +4,7 @@ mod collecting;
 mod issuing;
 mod looking;
 mod recovering;
+mod resetting;
 mod serving;
 mod stepping;
 mod submitting;
@@ -254,7 +255,7 @@ impl<A: Allocator> Port<A> {
         self.disk.sectors()
     }
 
-    /// What the port has done since it was made or trimmed. There is room in the journal for all that its requests can still
+    /// What the port has done since it was made, trimmed or reset. There is room in the journal for all that its requests can still
     /// need.
     pub fn journal(&self) -> &Journal<A>
         ensures first { result.now.first ≡ self.now.first }
@@ -276,7 +277,7 @@ impl<A: Allocator> Port<A> {
         self.disk.copy(lba, out);
     }
 
-    /// Copies the sector at `lba` as it was when the port was made or last trimmed.
+    /// Copies the sector at `lba` as it was when the port was made, last trimmed or last reset.
     pub fn starting(&self, lba: u64, out: &mut [u8])
         requires within { lba < sectors_in self.now }
         requires len { length out.old ≡ 512 }

@@ -1,11 +1,11 @@
 //! The faults of the port's calls as refusals, whose text they show as errors.
 
 ghost use Rattle.std.specs.Prelude.{◌≡◌};
-ghost use Rattle.ahci_port.specs.Refusals.{of_collect, of_issue, of_plain, of_recover, of_reissue, of_resume, of_step, of_submit, of_trim, of_write};
+ghost use Rattle.ahci_port.specs.Refusals.{of_collect, of_issue, of_plain, of_recover, of_reissue, of_reset, of_resume, of_step, of_submit, of_trim, of_write};
 
 use crate::fault::{
-    CollectFault, IssueFault, PlainFault, RecoverFault, ReissueFault, ResumeFault, StepFault,
-    SubmitFault, TrimFault, WriteFault,
+    CollectFault, IssueFault, PlainFault, RecoverFault, ReissueFault, ResetFault, ResumeFault,
+    StepFault, SubmitFault, TrimFault, WriteFault,
 };
 use port_refusal::Refusal;
 use std::error::Error;
@@ -137,6 +137,24 @@ impl Display for TrimFault {
 }
 
 impl Error for TrimFault {}
+
+impl From<ResetFault> for Refusal {
+    ghost from_gives = { λ fault refusal. refusal ≡ of_reset fault };
+
+    fn from(fault: ResetFault) -> Refusal {
+        match fault {
+            ResetFault::Spent => Refusal::Spent,
+        }
+    }
+}
+
+impl Display for ResetFault {
+    fn fmt<W: Write>(&self, f: &mut Formatter<W>) -> Result<(), fmt::Error> {
+        Refusal::from(*self).fmt(f)
+    }
+}
+
+impl Error for ResetFault {}
 
 impl From<RecoverFault> for Refusal {
     ghost from_gives = { λ fault refusal. refusal ≡ of_recover fault };

@@ -1,6 +1,6 @@
 //! One tag's request, changed in place, and the slots of a port.
 
-ghost use Rattle.std.specs.{Prelude.{◌≡◌, map, IsSome, None, Some, is_some}, List.{list_any}, Option.{option_copied, option_map}};
+ghost use Rattle.std.specs.{Prelude.{◌≡◌, length, map, replicate, IsSome, None, Some, is_some}, List.{list_any}, Option.{option_copied, option_map}};
 ghost use Rattle.ahci_table.specs.{Command.{cfis, op, queued_of}, Fit.{IsFit}, Prdt.{pieces}, Text.{text}};
 ghost use Rattle.ncq_journal.specs.Lawful.{IsProper};
 ghost use Rattle.ncq_core.specs.{DiskFis.{setup_bytes}, DiskState.{command_of}, Serving.{HasMoved, serve_fault, served}};
@@ -188,6 +188,15 @@ pub(crate) fn is_any_owned<A: Allocator>(slots: &[Option<Slot<A>>]) -> bool
     ensures { result ≡ list_any is_some slots.now }
 {
     slots.iter().any(|slot| slot.is_some())
+}
+
+/// Frees every slot. What its request held is dropped, and its memory given back.
+pub(crate) fn clear<A: Allocator>(slots: &mut [Option<Slot<A>>])
+    ensures { slots.new ≡ replicate (length slots.old) None }
+{
+    for tag in 0..slots.len() {
+        slots[tag] = None;
+    }
 }
 
 /// All slots, once the port has recovered.

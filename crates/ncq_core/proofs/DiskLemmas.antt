@@ -61,6 +61,12 @@ is_disk_stopped image held depth commands none error tag code lba d empty low by
       stands = λ f is. let same : e ≡ f = cc in subst (IsStanding after) same (record { tag = low; code = byte; lba = far; none = empty });
     }
 
+-- nothing is outstanding after a reset
+pub is_disk_reset : (image : List ℕ) (held depth : ℕ) (commands none : List (Option QueuedFields)) (error : Option DiskError)
+    → IsDisk (record { image = image; held = held; depth = depth; commands = commands; error = error }) → none ≡ no_commands
+    → IsDisk (record { image = image; held = held; depth = depth; commands = none; error = None })
+is_disk_reset image held depth commands none error d empty = is_disk_new image held depth none empty d.whole d.least d.most d.deep d.shallow
+
 -- other bytes stand in the image
 pub is_disk_moved : (image after : List ℕ) (held depth len : ℕ) (commands : List (Option QueuedFields)) (error : Option DiskError)
     → IsDisk (record { image = image; held = held; depth = depth; commands = commands; error = error })

@@ -149,6 +149,15 @@ impl<A: Allocator> Disk<A> {
         self.page
     }
 
+    /// Resets the device (Serial ATA, COMRESET and software reset): every command that is outstanding is dropped, and so is the
+    /// error. No sector changes. It takes no memory.
+    pub fn reset(&mut self)
+        ensures { self.new ≡ record self.old { commands = no_commands; error = None } }
+    {
+        self.commands = no_commands();
+        self.error = None;
+    }
+
     /// The command outstanding at a tag.
     fn command(&self, tag: u8) -> Option<Queued>
         ensures { result ≡ command_of self.now tag }

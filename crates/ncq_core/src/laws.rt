@@ -6,8 +6,9 @@ ghost use Rattle.ncq_core.specs.VerdictTable.{WhileRunning, WhileStopped};
 pub use ncq_journal::laws::{
     a_cut_leaves_what_the_tags_say, a_cut_shifts_places_alone,
     a_failed_command_has_changed_no_sector, a_journal_is_lawful_at_each_entry,
-    a_journal_may_be_cut_where_all_tags_are_free, a_request_is_answered_by_its_phase,
-    a_tag_past_the_depth_is_free, an_ended_request_has_this_answer, an_owned_tag_has_a_request,
+    a_journal_may_be_cut_where_all_tags_are_free, a_journal_may_follow_any_other,
+    a_request_is_answered_by_its_phase, a_tag_past_the_depth_is_free,
+    an_ended_request_has_this_answer, an_owned_tag_has_a_request,
     an_unanswered_request_is_its_tags_last, at_most_one_command_has_failed,
     entries_are_numbered_from_the_first, only_a_completed_write_changes_sectors,
     outstanding_tags_are_active, what_requests_need_is_bounded,

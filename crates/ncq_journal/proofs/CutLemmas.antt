@@ -13,7 +13,7 @@ use Rattle.ncq_journal.specs.Entry.{Entry, Issue, Accept, Complete, Fail, Recove
 use Rattle.ncq_journal.specs.Halted.{halted}
 use Rattle.ncq_journal.specs.History.{entry_at}
 use Rattle.ncq_journal.specs.Lawful.{IsAllowed, IsLawful, Fails, Fits}
-use Rattle.ncq_journal.specs.Laws.{AllFree, is_answered, SaidOfLater, LawfulOfParts, RequestOfParts, AnswerOfParts, AnswerOfEarlier}
+use Rattle.ncq_journal.specs.Laws.{AllFree, is_answered, SaidOfLater, LawfulOfParts, AnswersFollow, AnswersStay, RequestOfParts, AnswerOfParts, AnswerOfEarlier}
 use Rattle.ncq_journal.specs.Numbering.{request_numbered, answer_numbered}
 use Rattle.ncq_journal.specs.Owed.{owed, owed_in}
 use Rattle.ncq_journal.specs.Phase.{phase, is_failed}
@@ -24,7 +24,7 @@ use Rattle.ncq_journal.specs.Work.{Work, Read, Write}
 use Rattle.word_bits.proofs.PlacesLemmas.{same_places}
 use Rattle.ncq_journal.proofs.AnsweredLemmas.{answered_by_phase, given_none, no_answer_yet, unanswered_is_last}
 use Rattle.ncq_journal.proofs.EntryLemmas.{slice_get-front}
-use Rattle.ncq_journal.proofs.PartLemmas.{phase_parts, halted_parts, busy_parts, command_parts, same_command, lawful_parts, sector_parts}
+use Rattle.ncq_journal.proofs.PartLemmas.{phase_parts, halted_parts, busy_parts, command_parts, same_command, lawful_parts, sector_following}
 use Rattle.ncq_journal.proofs.PhaseLemmas.{owned_has_request, fails_not_free}
 use Rattle.ncq_journal.proofs.TagLemmas.{sum_same}
 
@@ -127,15 +127,23 @@ or_numbered : (k : ℕ) (o p : Option Answer) → option_or (option_map (answer_
 or_numbered k None p = refl
 or_numbered k (Some a) p = refl
 
-pub answer_of_parts : AnswerOfParts
-answer_of_parts s d image middle [] past place h free cut = no_answer_yet image past (length past + place) (omega arith)
-answer_of_parts s d image middle (entry ∷ later) past place h free cut =
+pub answer_following : AnswersFollow
+answer_following s d image middle [] past place h cut = no_answer_yet image past (length past + place) (omega arith)
+answer_following s d image middle (entry ∷ later) past place h cut =
     let k = length past in
     let issue = entry_at later place in
-    ap (λ o. option_or o (given image (later ++ past) entry (entry_at (later ++ past) (k + place)))) (answer_of_parts s d image middle later past place h.0 free cut)
+    ap (λ o. option_or o (given image (later ++ past) entry (entry_at (later ++ past) (k + place)))) (answer_following s d image middle later past place h.0 cut)
     ∙ ap (λ e. option_or (option_map (answer_numbered k) (answer middle later place)) (given image (later ++ past) entry e)) (entry_at-parts later past place)
-    ∙ ap (option_or (option_map (answer_numbered k) (answer middle later place))) (given_parts image middle later past entry issue (sector_parts s d image middle later past h.0 free cut))
+    ∙ ap (option_or (option_map (answer_numbered k) (answer middle later place))) (given_parts image middle later past entry issue (sector_following s d image middle later past h.0 cut))
     ∙ or_numbered k (answer middle later place) (given middle later entry issue)
+
+pub answer_stays : AnswersStay
+answer_stays image [] past place a e = e
+answer_stays image (entry ∷ later) past place a e =
+    ap (λ o. option_or o (given image (later ++ past) entry (entry_at (later ++ past) place))) (answer_stays image later past place a e)
+
+pub answer_of_parts : AnswerOfParts
+answer_of_parts s d image middle later past place h free cut = answer_following s d image middle later past place (lawful_parts s d later past h free) cut
 
 entry_at-front : (later past : List Entry) (k : ℕ) → k < length past → entry_at (later ++ past) k ≡ entry_at past k
 entry_at-front later past k h =

@@ -9,7 +9,7 @@ use Rattle.ncq_journal.specs.Entry.{Entry, Issue, Accept, Complete, Fail, Recove
 use Rattle.ncq_journal.specs.Halted.{halted, busy}
 use Rattle.ncq_journal.specs.Image.{sector_at}
 use Rattle.ncq_journal.specs.Lawful.{IsAllowed, IsLawful, Fails, Fits}
-use Rattle.ncq_journal.specs.Laws.{AllFree, TwoParts, DeviceTagsInSact, CiInSact}
+use Rattle.ncq_journal.specs.Laws.{AllFree, SectorsFollow, TwoParts, DeviceTagsInSact, CiInSact}
 use Rattle.ncq_journal.specs.Phase.{phase, phase_after, is_failed, is_busy}
 use Rattle.ncq_journal.specs.Request.{Request, request}
 use Rattle.ncq_journal.specs.Sector.{sector, completed}
@@ -88,25 +88,24 @@ lawful_parts s d [] past h free = tt
 lawful_parts s d (entry ∷ later) past h free =
     let own = lawful_parts s d later past h.0 free in (own, allowed_parts s d later past entry free own h.1)
 
-pub sector_parts : (s d : ℕ) (image middle : List ℕ) (later past : List Entry) → IsLawful s d (later ++ past) → AllFree past
-    → ((i : ℕ) → sector_at middle i ≡ sector image past i) → (i : ℕ) → sector image (later ++ past) i ≡ sector middle later i
-sector_parts s d image middle [] past h free cut i = sym (cut i)
-sector_parts s d image middle (Complete t ∷ later) past h free cut i =
-    let own = lawful_parts s d later past h.0 free in
-    let at = sym (phase_parts later past t free) ∙ h.1.0 in
-    let some = owned_has_request s d later t own (λ e. absurd (let z : Free ≡ Accepted = sym e ∙ at in cc)) in
-    ap (completed (request (later ++ past) t) i) (sector_parts s d image middle later past h.0 free cut i)
+-- the sectors after a journal of its own, which comes after any other: its commands are its own
+pub sector_following : SectorsFollow
+sector_following s d image middle [] past h cut i = sym (cut i)
+sector_following s d image middle (Complete t ∷ later) past h cut i =
+    let some = owned_has_request s d later t h.0 (λ e. absurd (let z : Free ≡ Accepted = sym e ∙ h.1.0 in cc)) in
+    ap (completed (request (later ++ past) t) i) (sector_following s d image middle later past h.0 cut i)
     ∙ same_completed (request (later ++ past) t) (request later t) i (sector middle later i) (command_parts later past t some)
-sector_parts s d image middle (Issue t work ∷ later) past h free cut i = sector_parts s d image middle later past h.0 free cut i
-sector_parts s d image middle (Accept t ∷ later) past h free cut i = sector_parts s d image middle later past h.0 free cut i
-sector_parts s d image middle (Fail t error lba ∷ later) past h free cut i = sector_parts s d image middle later past h.0 free cut i
-sector_parts s d image middle (Recover t ∷ later) past h free cut i = sector_parts s d image middle later past h.0 free cut i
-sector_parts s d image middle (Reissue t ∷ later) past h free cut i = sector_parts s d image middle later past h.0 free cut i
-sector_parts s d image middle (Collect t ∷ later) past h free cut i = sector_parts s d image middle later past h.0 free cut i
-sector_parts s d image middle (Unqueued c ∷ later) past h free cut i = sector_parts s d image middle later past h.0 free cut i
+sector_following s d image middle (Issue t work ∷ later) past h cut i = sector_following s d image middle later past h.0 cut i
+sector_following s d image middle (Accept t ∷ later) past h cut i = sector_following s d image middle later past h.0 cut i
+sector_following s d image middle (Fail t error lba ∷ later) past h cut i = sector_following s d image middle later past h.0 cut i
+sector_following s d image middle (Recover t ∷ later) past h cut i = sector_following s d image middle later past h.0 cut i
+sector_following s d image middle (Reissue t ∷ later) past h cut i = sector_following s d image middle later past h.0 cut i
+sector_following s d image middle (Collect t ∷ later) past h cut i = sector_following s d image middle later past h.0 cut i
+sector_following s d image middle (Unqueued c ∷ later) past h cut i = sector_following s d image middle later past h.0 cut i
 
 pub two_parts : TwoParts
-two_parts s d image middle later past h free cut = (lawful_parts s d later past h free, sector_parts s d image middle later past h free cut)
+two_parts s d image middle later past h free cut =
+    let own = lawful_parts s d later past h free in (own, sector_following s d image middle later past own cut)
 
 places_within : (p q : ℕ → Bool) (tag : ℕ) → ((t : ℕ) → p t ≡ true → q t ≡ true) → has_place (places p) tag ≡ true → has_place (places q) tag ≡ true
 places_within p q tag each h =

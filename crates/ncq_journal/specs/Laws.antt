@@ -161,6 +161,23 @@ CiInSact = (past : List Entry) (tag : ℕ) → has_place (ci past) tag ≡ true 
 abbrev pub AllFree : List Entry → Type 0
 AllFree past = (tag : ℕ) → phase past tag ≡ Free
 
+-- a lawful journal may follow any other, whose requests were dropped: each sector after both is that of the later journal
+-- over the image after the earlier one
+abbrev pub SectorsFollow : Type 0
+SectorsFollow =
+    (s d : ℕ) (image middle : List ℕ) (later past : List Entry) → IsLawful s d later → ((i : ℕ) → sector_at middle i ≡ sector image past i)
+    → (i : ℕ) → sector image (later ++ past) i ≡ sector middle later i
+
+-- so is the answer to each request of the later journal, with places counted on from the earlier one's length
+abbrev pub AnswersFollow : Type 0
+AnswersFollow =
+    (s d : ℕ) (image middle : List ℕ) (later past : List Entry) (place : ℕ) → IsLawful s d later → ((i : ℕ) → sector_at middle i ≡ sector image past i)
+    → answer image (later ++ past) (number_of (length past) place) ≡ option_map (answer_numbered (length past)) (answer middle later place)
+
+-- a request that has its answer keeps it, whatever follows
+abbrev pub AnswersStay : Type 0
+AnswersStay = (image : List ℕ) (later past : List Entry) (place : ℕ) (a : Answer) → answer image past place ≡ Some a → answer image (later ++ past) place ≡ Some a
+
 -- where every tag is free between two parts of a journal, the later part is a journal of its own, and the image after
 -- both is that of the later part over the image after the earlier one
 abbrev pub TwoParts : Type 0

@@ -1,7 +1,7 @@
 //! Laws: each function is empty, and its clause holds of all journals.
 ghost use Rattle.ncq_journal.specs.Laws.{LawfulAtEach, FreePastDepth, OwnedHasRequest, RequestIsItsIssue, AnsweredByPhase, OwedIsFew, OwedMoves};
 ghost use Rattle.ncq_journal.specs.Laws.{WritesItsSectors, OthersWriteNothing, CompletedIsAnswered, FailedIsNotCompleted, CompletedHasThisAnswer};
-ghost use Rattle.ncq_journal.specs.Laws.{FailedHasThisAnswer, UnansweredIsLast, OneHasFailed, HaltedByATag, BusyByATag, DeviceTagsInSact, CiInSact, TwoParts};
+ghost use Rattle.ncq_journal.specs.Laws.{FailedHasThisAnswer, UnansweredIsLast, OneHasFailed, HaltedByATag, BusyByATag, DeviceTagsInSact, CiInSact, SectorsFollow, AnswersFollow, AnswersStay, TwoParts};
 ghost use Rattle.ncq_journal.specs.Laws.{PhaseOfParts, SaidOfLater, LawfulOfParts, RequestOfParts, AnswerOfParts, AnswerOfEarlier};
 ghost use Rattle.ncq_journal.specs.Laws.{NumberOfPlace, NoneBelowFirst, NoneFromEnd, NumbersDiffer};
 ghost use Rattle.ncq_journal.specs.Halted.{halted, busy};
@@ -72,6 +72,15 @@ pub fn at_most_one_command_has_failed()
 pub fn outstanding_tags_are_active()
     ensures device { DeviceTagsInSact }
     ensures ci { CiInSact }
+{}
+
+/// A lawful journal may follow any other, whose requests were dropped: each sector and each answer of its own is that of both
+/// journals, with places that are counted on from the earlier one's length. And a request that has its answer keeps it.
+#[tactic(auto, using(crate::proofs::PartLemmas::sector_following, crate::proofs::CutLemmas::answer_following, crate::proofs::CutLemmas::answer_stays))]
+pub fn a_journal_may_follow_any_other()
+    ensures sectors { SectorsFollow }
+    ensures answers { AnswersFollow }
+    ensures answered { AnswersStay }
 {}
 
 /// Where every tag is free between two parts of a journal, the later part is a lawful journal of its own, and the image

@@ -2,6 +2,7 @@ mod comparing;
 mod errors;
 mod hostile;
 mod lists;
+mod resetting;
 mod scattered;
 mod stories;
 mod table;

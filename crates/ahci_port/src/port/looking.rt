@@ -76,7 +76,7 @@ impl<A: Allocator> Port<A> {
         window_in(&self.slots, tag)
     }
 
-    /// The sectors as they were when the port was made or last trimmed, one after the other.
+    /// The sectors as they were when the port was made, last trimmed or last reset, one after the other.
     pub fn starting_image(&self) -> &[u8]
         ensures { result.now ≡ self.now.starting }
     {

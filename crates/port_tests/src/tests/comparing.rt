@@ -1,19 +1,20 @@
 //! Runs of calls that a generator picks, taken and refused ones. After each call the port is compared with the plain
-//! functions over the entries of its journal, and after a trim over those that came since, from the image that it has left.
+//! functions over the entries of its journal, and after a trim or a reset over those that came since, from the image that it has
+//! left.
 mod calls;
 mod entries;
 
 use crate::tests::table::{equal, equal_bytes};
 use ahci_port::{
-    CollectFault, DeviceStep, IssueFault, PlainFault, Port, RecoverFault, ReissueFault, StepFault,
-    SubmitFault, TrimFault,
+    CollectFault, DeviceStep, IssueFault, PlainFault, Port, RecoverFault, ReissueFault, ResetFault,
+    StepFault, SubmitFault, TrimFault,
 };
 use ahci_regs::RegFault;
 use calls::{Call, Command, Fault, Picks, SECTORS, is_vacant, names_twice};
 use entries::{appends, copy_of, entries_of};
 use ncq_journal::{
-    Bytes, Event, Op, Outcome, Phase, answer_of, ci_of, device_tags_of, is_busy, is_covered,
-    is_halted, is_lawful, owed_by, phase_of, request_of, sact_of, sector_of,
+    Bytes, Event, Journal, Op, Outcome, Phase, answer_of, ci_of, device_tags_of, is_busy,
+    is_covered, is_halted, is_lawful, owed_by, phase_of, request_of, sact_of, sector_of,
 };
 use std::alloc::{AllocError, Global};
 use std::process::Abort;
@@ -177,6 +178,7 @@ impl Story {
                 None
             }
             Call::Trim => self.trim(rt)?.map(Fault::Trim),
+            Call::Reset => self.reset(rt)?.map(Fault::Reset),
         })
     }
 
@@ -186,6 +188,24 @@ impl Story {
             Ok(journal) => journal,
             Err(fault) => return Ok(Some(fault)),
         };
+        self.begin_again(rt, &journal)?;
+        Ok(None)
+    }
+
+    /// Resets the port, in whatever phase its requests are. It then shows what a new port over its image shows.
+    fn reset(&mut self, rt: &impl Abort) -> Result<Option<ResetFault>, Fail> {
+        let journal = match self.port.reset() {
+            Ok(journal) => journal,
+            Err(fault) => return Ok(Some(fault)),
+        };
+        self.begin_again(rt, &journal)?;
+        let fresh = Story::new(self.alloc, self.port.depth())?;
+        equal(rt, self.events.len(), &self.shown(), &fresh.shown());
+        Ok(None)
+    }
+
+    /// The port's image is the starting one from here on, and its entries are those of a journal that it has handed out.
+    fn begin_again(&mut self, rt: &impl Abort, journal: &Journal) -> Result<(), Fail> {
         let found = (journal.first(), journal.end());
         equal(rt, self.events.len(), &found, &(self.first, self.end()));
         let mut image = Vec::new(self.alloc);
@@ -196,7 +216,7 @@ impl Story {
         self.first = self.end();
         self.image = image;
         self.events.clear();
-        Ok(None)
+        Ok(())
     }
 
     fn issue(&mut self, rt: &impl Abort, command: Command) -> Result<Option<IssueFault>, Fail> {
@@ -354,15 +374,15 @@ fn run(
 }
 
 /// All kinds of calls but the Serve of no tag and that of one twice, which are never taken.
-const TAKEN: u32 = 0x27FF;
+const TAKEN: u32 = 0x67FF;
 
-/// All kinds of calls but the acknowledgment of interrupts, which is never refused.
+/// All kinds of calls but the acknowledgment of interrupts and a reset, which are never refused here.
 const REFUSED: u32 = 0x3DFF;
 
 // A port of one slot has no held command to issue again, and never two commands to serve.
 #[test]
 fn the_port_agrees_with_its_journal(rt: HostRuntime) -> Result<(), Fail> {
-    for (depth, taken) in [(1, 0x23BF), (4, TAKEN), (32, TAKEN)] {
+    for (depth, taken) in [(1, 0x63BF), (4, TAKEN), (32, TAKEN)] {
         let mut kinds = (0, 0);
         for seed in 1..=8 {
             kinds = run(&rt, rt.alloc(), seed, (depth, 150), kinds)?;

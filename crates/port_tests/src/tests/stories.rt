@@ -1,6 +1,7 @@
 //! The port in use: each call once with memory, and the worked rows.
 use super::errors::{ERROR_IN_A_QUEUE, HELD, LAST_SECTOR};
 use super::lists::{AFTER_A_FAILURE, IN_ITS_ORDER};
+use super::resetting;
 use super::telling::Row::{
     Accepts, Acknowledge, Collect, Entries, Flush, Identify, Issue, Received, Register, Sector,
     Serves,
@@ -58,7 +59,7 @@ const UNQUEUED: &[Row] = &[
 /// What a story shows, how many sectors of zeros and how many slots its port has, and its rows.
 type Story = (&'static str, usize, u32, &'static [Row]);
 
-static STORIES: [Story; 8] = [
+static STORIES: [Story; 11] = [
     ("a command moves the registers", 8, 4, REGISTERS),
     (
         "a read sees the writes served before it",
@@ -87,6 +88,14 @@ static STORIES: [Story; 8] = [
         4,
         AFTER_A_FAILURE,
     ),
+    (
+        "a reset drops requests, and none of them changes a sector",
+        8,
+        4,
+        resetting::DROPPED,
+    ),
+    ("a reset port is not halted", 8, 2, resetting::HALTED),
+    ("a reset drops held commands", 8, 2, resetting::HELD),
 ];
 
 #[test]

@@ -3,8 +3,8 @@ ghost use Rattle.std.specs.Prelude.{◌≤◌, ◌<◌};
 
 use crate::tests::table::equal;
 use ahci_port::{
-    CollectFault, IssueFault, PlainFault, Port, RecoverFault, ReissueFault, Reply, StepFault,
-    Stepped, SubmitFault,
+    CollectFault, IssueFault, PlainFault, Port, RecoverFault, ReissueFault, Reply, ResetFault,
+    StepFault, Stepped, SubmitFault,
 };
 use ahci_regs::RegFault;
 use ahci_table::{Window, default_pieces};
@@ -32,6 +32,8 @@ pub enum Row {
     Failure(u8, u64, (u64, u8, u64), u8),
     Recover(Result<u8, RecoverFault>),
     Reissue(u8, Result<(), ReissueFault>),
+    /// How many entries are handed out.
+    Reset(Result<u64, ResetFault>),
     /// A word of the identify page, low byte first.
     Identify(usize, Result<[u8; 2], PlainFault>),
     Flush(Result<(), PlainFault>),
@@ -49,7 +51,14 @@ pub enum Row {
 pub fn port_of(alloc: Global, sectors: usize, depth: u32) -> Result<Port, Fail>
     requires { sectors ≤ 131072 }
 {
-    Ok(Port::new(alloc, vec![in alloc; 0u8; sectors * 512]?, depth)?)
+    Ok(Port::new(alloc, image_of(alloc, sectors)?, depth)?)
+}
+
+/// So many sectors of zeros.
+pub fn image_of(alloc: Global, sectors: usize) -> Result<Vec<u8>, AllocError>
+    requires { sectors ≤ 131072 }
+{
+    vec![in alloc; 0u8; sectors * 512]
 }
 
 /// What a command of one sector asks: a write of sectors filled with a byte, or a read where there is none.
@@ -201,6 +210,10 @@ pub fn goes<L: Debug + Copy>(
         }
         Row::Recover(answer) => equal(rt, row, &port.recover(), &answer),
         Row::Reissue(tag, answer) => equal(rt, row, &port.reissue(tag), &answer),
+        Row::Reset(answer) => {
+            let found = port.reset().map(|journal| journal.len());
+            equal(rt, row, &found, &answer);
+        }
         Row::Identify(word, answer) => equal(rt, row, &identify(port, word), &answer),
         Row::Flush(answer) => equal(rt, row, &port.flush(), &answer),
         Row::Acknowledge(mask) => port.acknowledge(mask),

@@ -1,7 +1,7 @@
 //! The texts that faults show as errors.
 use ahci_port::{
     BuildFault, CollectFault, DiskFault, IssueFault, PlainFault, RecoverFault, RegFault,
-    ReissueFault, ResumeFault, StepFault, SubmitFault, TrimFault, WriteFault,
+    ReissueFault, ResetFault, ResumeFault, StepFault, SubmitFault, TrimFault, WriteFault,
 };
 use ahci_table::TableFault;
 use std::alloc::Global;
@@ -73,6 +73,12 @@ fn a_fault_shows_why_the_port_does_not_go_on(rt: HostRuntime) -> Result<(), Fail
         "the tag's command is not held",
     )?;
     says(&rt, alloc, TrimFault::Busy, "some slot is not free")?;
+    says(
+        &rt,
+        alloc,
+        ResetFault::Spent,
+        "the number of the next entry is over 2^63",
+    )?;
     says(&rt, alloc, PlainFault::OutOfMemory, "out of memory")?;
     says(&rt, alloc, RegFault::NoSuchRegister, missing)?;
     says(

@@ -3,8 +3,8 @@ use super::unasked;
 use crate::tests::heap::{Heap, grant_all, refuse_from};
 use crate::tests::shown::look_at;
 use ahci_port::{
-    CollectFault, IssueFault, Outcome, PlainFault, Port, RecoverFault, ReissueFault, StepFault,
-    Stepped, TrimFault,
+    CollectFault, IssueFault, Outcome, PlainFault, Port, RecoverFault, ReissueFault, ResetFault,
+    StepFault, Stepped, TrimFault,
 };
 use ahci_regs::RegFault;
 use ahci_table::{Window, default_pieces};
@@ -36,6 +36,9 @@ enum Call {
     Sector(u64),
     Entries,
     Trim,
+    Reset,
+    /// How many blocks of memory are lent.
+    Blocks,
 }
 
 /// What it answers.
@@ -53,13 +56,14 @@ enum Said {
     Word(Result<u32, RegFault>),
     /// How many entries were handed out.
     Trimmed(Result<u64, TrimFault>),
+    WasReset(Result<u64, ResetFault>),
     Byte(u8),
     Nothing,
 }
 
 use Call::{
-    Acknowledge, Collect, Entries, Flush, Issue, IssueInVain, Recover, RecoverInVain, Register,
-    Reissue, Sector, Step, Trim,
+    Acknowledge, Blocks, Collect, Entries, Flush, Issue, IssueInVain, Recover, RecoverInVain,
+    Register, Reissue, Reset, Sector, Step, Trim,
 };
 use Said::{Byte, Collected, NotCollected, NotIssued, Nothing, Number, Trimmed, Word};
 use Stepped::{Accepted, Completed, Failed};
@@ -101,6 +105,34 @@ static STRANGERS: [Row; 18] = [
         Said::Stepped(Ok(Completed { first: 6, count: 1 })),
     ),
     (Collect(0, 4), Collected(4, 6, Outcome::Read, 0x11)),
+];
+
+// A port has its image, the copy of it and its slots.
+static RESETS: [Row; 21] = [
+    (Blocks, Number(3)),
+    (Reset, Said::WasReset(Ok(0))),
+    (Issue(0, 0, Some(0x11)), Number(0)),
+    (Issue(1, 7, Some(0x22)), Number(1)),
+    (Issue(2, 0, None), Number(2)),
+    (Step(Accept(0)), Said::Stepped(Ok(Accepted(3)))),
+    (Step(Accept(1)), Said::Stepped(Ok(Accepted(4)))),
+    (
+        Step(Serve(&[0])),
+        Said::Stepped(Ok(Completed { first: 5, count: 1 })),
+    ),
+    (Reset, Said::WasReset(Ok(6))),
+    (Blocks, Number(3)),
+    (Sector(0), Byte(0x11)),
+    (Sector(7), Byte(0)),
+    (Collect(0, 0), NotCollected(CollectFault::Stranger)),
+    (Issue(1, 7, None), Number(6)),
+    (Step(Accept(1)), Said::Stepped(Ok(Accepted(7)))),
+    (Step(FAIL_1_AT_7), Said::Stepped(Ok(Failed(8)))),
+    (Reset, Said::WasReset(Ok(3))),
+    (Blocks, Number(3)),
+    (RecoverInVain, Said::Recovered(Err(RecoverFault::NotHalted))),
+    (Register(0x110), Word(Ok(0))),
+    (Entries, Number(0)),
 ];
 
 static ERROR_IN_A_QUEUE: [Row; 33] = [
@@ -257,6 +289,8 @@ fn goes<'a>(heap: &'a Heap, port: &mut Port<&'a Heap>, call: Call) -> Result<Sai
         Sector(lba) => first_byte(port, lba),
         Entries => Number(port.journal().len()),
         Trim => Trimmed(port.trim().map(|journal| journal.len())),
+        Reset => Said::WasReset(port.reset().map(|journal| journal.len())),
+        Blocks => Number(heap.out()),
     })
 }
 
@@ -296,6 +330,12 @@ fn plays(
 fn strangers_are_refused_with_no_memory(rt: HostRuntime) -> Result<(), Fail> {
     let heap = Refusing::new(rt.alloc());
     plays(&rt, &heap, 8, 1, STRANGERS.as_slice())
+}
+
+#[test]
+fn a_reset_takes_no_memory_and_gives_back_what_requests_held(rt: HostRuntime) -> Result<(), Fail> {
+    let heap = Refusing::new(rt.alloc());
+    plays(&rt, &heap, 8, 4, RESETS.as_slice())
 }
 
 #[test]

@@ -2,8 +2,8 @@
 ghost use Rattle.std.specs.Prelude.{◌<◌};
 
 use ahci_port::{
-    CollectFault, DeviceStep, IssueFault, PlainFault, Port, RecoverFault, ReissueFault, StepFault,
-    TrimFault,
+    CollectFault, DeviceStep, IssueFault, PlainFault, Port, RecoverFault, ReissueFault, ResetFault,
+    StepFault, TrimFault,
 };
 use arrayvec::ArrayVec;
 use ncq_journal::{Event, Phase, phase_of, request_of};
@@ -38,6 +38,7 @@ pub enum Call {
     Flush,
     Acknowledge(u32),
     Trim,
+    Reset,
 }
 
 /// Why a call is refused.
@@ -50,6 +51,7 @@ pub enum Fault {
     Reissue(ReissueFault),
     Plain(PlainFault),
     Trim(TrimFault),
+    Reset(ResetFault),
 }
 
 impl Call {
@@ -67,6 +69,7 @@ impl Call {
             Call::Flush => 0x100,
             Call::Acknowledge(_) => 0x200,
             Call::Trim => 0x2000,
+            Call::Reset => 0x4000,
         }
     }
 }
@@ -220,7 +223,7 @@ impl Picks {
 
     /// Any call, whether it fits or not.
     fn any_call(&mut self, port: &Port, events: &[Event], tag: u8) -> Call {
-        match self.below(17) {
+        match self.below(18) {
             0 => Call::Issue(self.command(tag)),
             1 => Call::Step(DeviceStep::Accept(tag)),
             2 => Call::Step(self.service(port.depth(), events, tag)),
@@ -232,6 +235,7 @@ impl Picks {
             12 => Call::Step(DeviceStep::Serve(ArrayVec::new())),
             13..=14 => Call::Flush,
             15 => Call::Trim,
+            16 => Call::Reset,
             _ => Call::Acknowledge(1 << self.below(32)),
         }
     }

@@ -29,7 +29,7 @@ pub fn copy_of(alloc: Global, event: &Event) -> Result<Event, AllocError> {
 pub fn entries_of(call: &Call) -> usize {
     match call {
         Call::Step(DeviceStep::Serve(tags)) => tags.len(),
-        Call::Acknowledge(_) | Call::Trim => 0,
+        Call::Acknowledge(_) | Call::Trim | Call::Reset => 0,
         _ => 1,
     }
 }

@@ -1,0 +1,56 @@
+//! How the port is reset (AHCI 1.3.1, section 10.4; section 3.3.7, ST of PxCMD).
+
+ghost use Rattle.std.specs.Prelude.{◌≡◌, IfOk, OnErr, OnOk};
+ghost use Rattle.ahci_port.specs.{Faults.{Answers, reset_refusal}, PortView.{journal_in, next_number, port_from}, Steps.{Follows, KeepsCompleted}};
+
+use crate::fault::ResetFault;
+use crate::port::{MOST_FIRST, Port, empty_area, no_headers};
+use crate::slot::clear;
+use crate::software::started;
+use crate::unqueued::UnqueuedTable;
+use ncq_journal::Journal;
+use std::alloc::Allocator;
+
+impl<A: Allocator + Copy> Port<A> {
+    /// Resets the port and its device, and starts it again: every request is dropped, whatever its phase, and the port is as a new
+    /// one over the image as it is now. A command that was not completed has changed no sector. The journal is handed out, and the
+    /// next entry has the number that it would have had, so no number of a dropped request comes again. It takes no memory: the
+    /// image is copied in place, the windows of the dropped requests are given back, and the journal's memory goes out with it.
+    ///
+    /// # Errors
+    /// `Spent` if the next number is over 2^63.
+    pub fn reset(&mut self) -> Result<Journal<A>, ResetFault>
+        ensures journal { IfOk result (λ j. j ≡ journal_in self.old) }
+        ensures reset { OnOk result (self.new ≡ port_from (next_number self.old) self.old.image self.old.depth) }
+        ensures dropped { OnOk result (KeepsCompleted self.old self.new) }
+        ensures goes_on { OnOk result (Follows self.old self.new) }
+        ensures fault { Answers result (reset_refusal self.old) }
+        ensures err { OnErr result (self.new ≡ self.old) }
+    {
+        if let Some(fault) = self.reset_fault() {
+            return Err(fault);
+        }
+        self.disk.reset();
+        self.starting
+            .as_mut_slice()
+            .copy_from_slice(self.disk.image());
+        self.registers = started(self.disk.depth());
+        self.area = empty_area();
+        self.headers = no_headers();
+        self.unqueued = UnqueuedTable::new();
+        clear(&mut self.slots);
+        Ok(self.journal.hand_out())
+    }
+}
+
+impl<A: Allocator> Port<A> {
+    /// Why the port is not reset.
+    fn reset_fault(&self) -> Option<ResetFault>
+        ensures { result ≡ reset_refusal self.now }
+    {
+        if self.journal.end() > MOST_FIRST {
+            return Some(ResetFault::Spent);
+        }
+        None
+    }
+}
