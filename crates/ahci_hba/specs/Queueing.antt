@@ -15,7 +15,7 @@ use Rattle.hba_regs.specs.Linking.{is_up}
 use Rattle.ncq_journal.specs.Work.{Work, Read, Write}
 use Rattle.ahci_table.specs.Text.{text}
 use Rattle.ahci_table.specs.Window.{WindowState}
-use Rattle.ahci_port.specs.PortView.{PortView}
+use Rattle.ahci_port.specs.PortView.{PortView, owner_of}
 use Rattle.ahci_port.specs.Steps.{IsCollected, IsStepped, IsSubmitted, answer_to}
 use Rattle.ahci_port.specs.Slots.{bytes_in}
 use Rattle.ahci_port.specs.declared.step.DeviceStep.TheVariants as step
@@ -44,6 +44,22 @@ has_alone None = false
 has_alone (Some (Fetched t list bytes)) = is_alone t
 has_alone (Some (Sent t list)) = is_alone t
 
+-- a queued command that is with the port
+abbrev pub is_queued : Option CommandView → Bool
+is_queued (Some (Sent t list)) = not (is_alone t)
+is_queued other = false
+
+-- a queued command that is read and not yet with the port
+abbrev pub is_waiting : Option CommandView → Bool
+is_waiting (Some (Fetched t list bytes)) = not (is_alone t)
+is_waiting other = false
+
+-- the PRDT of a slot's command
+abbrev pub list_in : Option CommandView → List PrdEntry
+list_in (Some (Fetched t list bytes)) = list
+list_in (Some (Sent t list)) = list
+list_in None = []
+
 -- the port processes its command list: ST is 1, nothing has failed, and the link is up
 abbrev pub is_running : HbaPort → Bool
 is_running p = p.st && not p.halted && is_up p.link
@@ -61,3 +77,67 @@ may_fetch h slot =
 -- a slot's command is read: first its header, of 32 bytes in the command list
 abbrev pub fetching : HbaView → ℕ → HbaView
 fetching h slot = record h { work = Fetching slot (Header (wrapped (h.registers.port.clb + 32 * slot))) }
+
+-- what a queued command asks of the disk; a write has these bytes
+abbrev pub asked_for : QueuedFields → List ℕ → Work
+asked_for q bytes = if q.write then Write q.lba bytes else Read q.lba q.sectors
+
+-- the FIS of so many bytes at a place of the port's received FIS area
+abbrev pub fis_at : PortView → ℕ → ℕ → List ℕ
+fis_at port place n = take n (drop place port.area)
+
+-- it is written to the driver's received FIS area, while FRE is 1 (section 4.2.1)
+abbrev pub fis_put : HbaView → ℕ → ℕ → List Put
+fis_put h place n =
+    if h.registers.port.fre then (record { address = wrapped (h.registers.port.fb + place); bytes = fis_at h.port place n }) ∷ [] else []
+
+-- an answer of one FIS alone
+abbrev pub only_after : List Put → PostingView
+only_after puts = record { before = []; content = []; count = []; after = puts }
+
+-- the command of a slot is sent to the port: its request stands in the journal
+abbrev pub sent_to : HbaView → ℕ → CommandView → PortView → HbaView
+sent_to h slot c port = record h { port = port; slots = slice_set h.slots slot (Some c) }
+
+pub record IsSent (slot : ℕ) (q : QueuedFields) (list : List PrdEntry) (bytes : List ℕ) (old new : HbaView) : Type 0 where
+  pub port : PortView
+  pub submitted : IsSubmitted slot (asked_for q bytes) old.port port
+  pub sent : new ≡ sent_to old slot (Sent (Queue q) list) port
+
+-- of a queued command that is read
+abbrev pub Sends : ℕ → Option CommandView → HbaView → HbaView → Type 0
+Sends slot (Some (Fetched (Queue q) list bytes)) old new = IsSent slot q list bytes old new
+Sends slot other old new = ⊥
+
+-- what the answer to an acceptance says to the registers: the command is taken, or it passes the last sector
+abbrev pub accepting : ℕ → Stepped → Ending
+accepting slot (stepped.Accepted n) = ending.Register 0x40 0x00 false slot
+accepting slot other = ending.Register 0x41 0x10 true slot
+
+-- the device takes a slot's command or refuses it: a D2H Register FIS
+pub record IsAccepted (slot : ℕ) (old new : HbaView) : Type 0 where
+  pub port : PortView
+  pub answer : Stepped
+  pub stepped : IsStepped (step.Accept slot) old.port port answer
+  pub answered : new ≡ answering (record old { port = port }) (only_after (fis_put (record old { port = port }) 0x40 20)) (accepting slot answer)
+
+-- the device fails a slot's command: a Set Device Bits FIS with ERR
+pub record IsFailed (slot error lba : ℕ) (old new : HbaView) : Type 0 where
+  pub port : PortView
+  pub answer : Stepped
+  pub stepped : IsStepped (step.Fail slot error lba) old.port port answer
+  pub answered : new ≡ answering (record old { port = port }) (only_after (fis_put (record old { port = port }) 0x58 8)) (ending.Bits 0x41 error 0)
+
+-- the device moves the data of a slot's command and completes it, and its answer is taken from the port: the window has the bytes of
+-- the answer by the journal
+pub record IsServed (slot : ℕ) (list : List PrdEntry) (old new : HbaView) : Type 0 where
+  pub middle : PortView
+  pub port : PortView
+  pub answer : Stepped
+  pub stepped : IsStepped (step.Serve (record { items = slot ∷ [] })) old.port middle answer
+  pub collected : IsCollected slot middle port
+  pub window : WindowState
+  pub number : ℕ
+  pub owner : owner_of old.port slot ≡ Some number
+  pub answered : IsSomeAnd (answer_to middle number) (λ a. a.bytes ≡ bytes_in a.outcome window)
+  pub served : new ≡ record old { port = port; slots = slice_set old.slots slot None; work = Served slot window list }

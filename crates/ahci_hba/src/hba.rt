@@ -1,7 +1,9 @@
 //! The controller: what it holds, how one is made, and what a driver reads of it.
 
+mod answering;
 mod fetching;
 mod moving;
+mod queueing;
 
 ghost use Rattle.std.specs.Prelude.{◌≡◌, ◌≤◌, None, IfOk, OnOk, replicate};
 ghost use Rattle.hba_regs.specs.Accessing.{read_of};

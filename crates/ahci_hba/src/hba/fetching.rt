@@ -94,7 +94,7 @@ impl<A: Allocator> Hba<A> {
             .registers
             .list_base()
             .wrapping_add(32 * u64::from(slot));
-        self.work = Work::Fetching(slot, Fetch::new(place));
+        self.turn_to(Work::Fetching(slot, Fetch::new(place)));
         Ok(())
     }
 }

@@ -1,8 +1,8 @@
 //! How the controller reads and writes the driver's memory: it says what comes next, and is told once it is done.
 
 ghost use Rattle.std.specs.Prelude.{◌≡◌, ◌<◌, length, OnErr, OnOk};
-ghost use Rattle.ahci_hba.specs.{HbaView.{command_of}, Moving.{ended_by, failed_fatally, place_of, placed_in, put_done, put_next, read_so_far, run_read, supplied, unmapped, want_of}};
-ghost use Rattle.ahci_hba.specs.States.{IsForSlot};
+ghost use Rattle.ahci_hba.specs.{HbaView.{command_of, work_of}, Moving.{ended_by, failed_fatally, place_of, placed_in, put_done, put_next, read_so_far, run_read, supplied, unmapped, want_of}};
+ghost use Rattle.ahci_hba.specs.States.{IsForSlot, IsSoundWork};
 
 use crate::command::{Command, Slot};
 use crate::ending::Ending;
@@ -15,7 +15,7 @@ use std::alloc::{AllocError, Allocator};
 use std::mem;
 
 /// What the last FIS of an answer does to the registers.
-fn end(registers: &mut HbaRegs, ending: Ending)
+pub(super) fn end(registers: &mut HbaRegs, ending: Ending)
     requires { IsForSlot ending }
     ensures { registers.new ≡ ended_by registers.old ending }
 {
@@ -142,13 +142,21 @@ impl<A: Allocator + Copy> Hba<A> {
 }
 
 impl<A: Allocator> Hba<A> {
+    /// The controller does something else with the driver's memory.
+    pub(super) fn turn_to(&mut self, work: Work<A>)
+        requires { IsSoundWork (work_of work) }
+        ensures { self.new ≡ record self.old { work = work_of work } }
+    {
+        self.work = work;
+    }
+
     /// Goes on with a slot's command: it is read further, stands in its slot, or ends in a fatal error.
     fn read_so_far(&mut self, slot: u8, fetch: Fetch<A>)
         requires { slot < 32 }
         ensures { self.new ≡ read_so_far self.old slot fetch }
     {
         if !fetch.is_over() {
-            self.work = Work::Fetching(slot, fetch);
+            self.turn_to(Work::Fetching(slot, fetch));
             return;
         }
         match fetch.into_reading() {

@@ -1,0 +1,164 @@
+//! What the device does with a queued command: it takes it, serves it or fails it (AHCI 1.3.1, section 5.3; Serial ATA, "First-party DMA").
+
+ghost use Rattle.std.specs.Prelude.{◌≡◌, ◌<◌, None, OnErr, OnOk, slice_set};
+ghost use Rattle.ncq_journal.specs.Work.{work_of};
+ghost use Rattle.ahci_hba.specs.Queueing.{IsAccepted, IsFailed, IsServed, accepting, asked_for, command_at, is_queued, list_in};
+
+use crate::command::{Command, Slot};
+use crate::ending::Ending;
+use crate::fault::HbaFault;
+use crate::hba::Hba;
+use crate::hba::answering::{REGISTER, SET_BITS};
+use crate::work::Work;
+use ahci_port::{Bytes, DeviceStep, Op, Stepped};
+use hba_command::{PrdEntry, Task};
+use sata_fis::Queued;
+use std::alloc::Allocator;
+
+/// What a queued command asks of the disk. A write has these bytes.
+fn asked_for<A: Allocator>(queued: &Queued, bytes: Vec<u8, A>) -> Op<A>
+    ensures { work_of result ≡ asked_for queued.now bytes.items }
+{
+    let lba = queued.lba;
+    if queued.write {
+        return Op::Write {
+            lba,
+            bytes: Bytes::from_vec(bytes),
+        };
+    }
+    Op::Read {
+        lba,
+        sectors: queued.sectors,
+    }
+}
+
+/// What the answer to an acceptance says to the registers.
+fn accepting(slot: u8, stepped: Stepped) -> Ending
+    ensures { result ≡ accepting slot stepped }
+{
+    match stepped {
+        Stepped::Accepted(_) => Ending::Register {
+            status: 0x40,
+            error: 0,
+            interrupt: false,
+            slot,
+        },
+        _ => Ending::Register {
+            status: 0x41,
+            error: 0x10, // IDNF
+            interrupt: true,
+            slot,
+        },
+    }
+}
+
+impl<A: Allocator> Hba<A> {
+    /// Whether a slot, below 32, has a queued command that is with the port.
+    fn is_queued(&self, slot: u8) -> bool
+        requires { slot < 32 }
+        ensures { result ≡ is_queued (command_at self.now slot) }
+    {
+        match &self.slots[usize::from(slot)] {
+            Some(slot) => matches!(&slot.command, Command::Sent(Task::Queue(_), _)),
+            None => false,
+        }
+    }
+}
+
+impl<A: Allocator + Copy> Hba<A> {
+    /// Takes the command out of a slot, below 32, and leaves it empty; its PRDT is the answer.
+    fn take_list(&mut self, slot: u8) -> Vec<PrdEntry, A>
+        requires { slot < 32 }
+        ensures list { result.items ≡ list_in (command_at self.old slot) }
+        ensures slots { self.new ≡ record self.old { slots = slice_set self.old.slots slot None } }
+    {
+        match self.slots[usize::from(slot)].take() {
+            Some(taken) => match taken.command {
+                Command::Fetched(_, list, _) => list,
+                Command::Sent(_, list) => list,
+            },
+            None => Vec::new(self.alloc),
+        }
+    }
+
+    /// The device moves the data of the queued command of a slot, below 32, and completes it; its answer is taken from the port. It stands
+    /// in the controller until `deliver` puts it together. Nothing is allocated.
+    ///
+    /// # Errors
+    /// `NotReady` if the device has not taken the command, or if something is read or written just now.
+    pub fn serve(&mut self, slot: u8) -> Result<(), HbaFault>
+        requires { slot < 32 }
+        ensures ok { OnOk result (IsServed slot (list_in (command_at self.old slot)) self.old self.new) }
+        ensures err { OnErr result (self.new ≡ self.old) }
+    {
+        if !self.is_running() || !self.is_idle() || !self.is_queued(slot) {
+            return Err(HbaFault::NotReady);
+        }
+        let Some(number) = self.port.owner(slot) else {
+            return Err(HbaFault::NotReady);
+        };
+        let Ok(_) = self.port.step(DeviceStep::serve_one(slot)) else {
+            return Err(HbaFault::NotReady);
+        };
+        let Ok((_, window)) = self.port.collect(slot, number) else {
+            unreachable!() // it is done
+        };
+        let list = self.take_list(slot);
+        self.turn_to(Work::Served(slot, window, list));
+        Ok(())
+    }
+
+    /// The device takes the queued command of a slot, below 32, or refuses it if it passes the last sector: a D2H Register FIS is written,
+    /// and then PxCI loses the slot, or the port halts.
+    ///
+    /// # Errors
+    /// `NotReady` if the slot has no queued command that waits for the device, or if something is read or written just now.
+    pub fn accept(&mut self, slot: u8) -> Result<(), HbaFault>
+        requires { slot < 32 }
+        ensures ok { OnOk result (IsAccepted slot self.old self.new) }
+        ensures err { OnErr result (self.new ≡ self.old) }
+    {
+        if !self.is_running() || !self.is_idle() || !self.is_queued(slot) {
+            return Err(HbaFault::NotReady);
+        }
+        let Ok(stepped) = self.port.step(DeviceStep::Accept(slot)) else {
+            return Err(HbaFault::NotReady);
+        };
+        let fis = self.fis_put(REGISTER, 20);
+        let posting = self.only_after(fis);
+        self.answer(posting, accepting(slot, stepped));
+        Ok(())
+    }
+
+    /// The device fails the queued command of a slot, below 32, with an error byte at one of its sectors: a Set Device Bits FIS is written,
+    /// and then the port halts.
+    ///
+    /// # Errors
+    /// `NotReady` if the device has not taken the command, if the sector is not one of its own, or if something is read or written just now.
+    pub fn fail(&mut self, slot: u8, error: u8, lba: u64) -> Result<(), HbaFault>
+        requires { slot < 32 }
+        ensures ok { OnOk result (IsFailed slot error lba self.old self.new) }
+        ensures err { OnErr result (self.new ≡ self.old) }
+    {
+        if !self.is_running() || !self.is_idle() || !self.is_queued(slot) {
+            return Err(HbaFault::NotReady);
+        }
+        let step = DeviceStep::Fail {
+            tag: slot,
+            error,
+            at: lba,
+        };
+        let Ok(_) = self.port.step(step) else {
+            return Err(HbaFault::NotReady);
+        };
+        let fis = self.fis_put(SET_BITS, 8);
+        let posting = self.only_after(fis);
+        let ending = Ending::Bits {
+            status: 0x41,
+            error,
+            sactive: 0,
+        };
+        self.answer(posting, ending);
+        Ok(())
+    }
+}
