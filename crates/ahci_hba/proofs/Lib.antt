@@ -1,3 +1,4 @@
 pub mod AnswerLemmas
+pub mod DroppingLemmas
 pub mod NewLemmas
 pub mod ServeLemmas

@@ -71,6 +71,6 @@ serves slot number entry outcome h taken new middle port s answer window list e 
   owner = sym owner;
   answered = subst (λ o. IsSomeAnd o (λ a. a.bytes ≡ bytes_in a.outcome window)) (sym answered) refl;
   served =
-    made ∙ ap {A = HbaView} (λ v. record v { work = Served slot window list }) was
-    ∙ ap {A = List PrdEntry} {B = HbaView} (λ l. record h { port = port; slots = slice_set h.slots slot None; work = Served slot window l }) listed;
+      made ∙ ap {A = HbaView} (λ v. record v { work = Served slot window list }) was
+      ∙ ap {A = List PrdEntry} {B = HbaView} (λ l. record h { port = port; slots = slice_set h.slots slot None; work = Served slot window l }) listed;
 }

@@ -2,3 +2,4 @@ pub mod HbaView
 pub mod States
 pub mod Moving
 pub mod Queueing
+pub mod Dropping

@@ -4,6 +4,7 @@ mod answering;
 mod fetching;
 mod moving;
 mod queueing;
+mod writing;
 
 ghost use Rattle.std.specs.Prelude.{◌≡◌, ◌≤◌, None, IfOk, OnOk, replicate};
 ghost use Rattle.hba_regs.specs.Accessing.{read_of};

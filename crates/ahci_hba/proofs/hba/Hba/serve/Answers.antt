@@ -8,4 +8,4 @@ pub returns-clause-ok : goal.returns-clause-ok
 returns-clause-ok g c =
     subst (λ v. IsServed c.args.slot (list_in (command_at v c.args.slot)) v c.turn_to.new.self) c.self.view_is
     (serves c.args.slot c.in-Some.number _ _ _ _ _ _ _ c.serve_one.result _ _ _ c.serve_one.ensures c.in-Ok.ensures.ok c.in-Ok-collect.ensures.ok c.in-Some.ensures c.in-Ok-collect.ensures.reply
-     c.take_list-list.ensures.slots c.take_list-list.ensures.list c.turn_to.ensures)
+    c.take_list-list.ensures.slots c.take_list-list.ensures.list c.turn_to.ensures)
