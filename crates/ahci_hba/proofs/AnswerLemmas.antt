@@ -19,7 +19,7 @@ answered_alone h new p l m e f made posted listed same =
     made ∙ ap (λ x. answering h x e) (posted ∙ ap (λ x. only_after x) listed) ∙ ap (λ x. answering h (only_after m) x) same
 
 pub accepts : (slot : ℕ) (h new : HbaView) (port : PortView) (answer : Stepped) (p : PostingView) (l : List Put) (e : Ending) → IsStepped (Accept slot) h.port port answer
-    → new ≡ answering (record h { port = port }) p e → p ≡ only_after l → l ≡ fis_put (record h { port = port }) 0x40 20 → e ≡ accepting slot answer → IsAccepted slot h new
+    → new ≡ answering (record h { port = port }) p e → p ≡ only_after l → l ≡ fis_put h.registers port 0x40 20 → e ≡ accepting slot answer → IsAccepted slot h new
 accepts slot h new port answer p l e stepped made posted listed same = record {
   port = port;
   answer = answer;
@@ -28,7 +28,7 @@ accepts slot h new port answer p l e stepped made posted listed same = record {
 }
 
 pub fails : (slot error lba : ℕ) (h new : HbaView) (port : PortView) (answer : Stepped) (p : PostingView) (l : List Put) → IsStepped (Fail slot error lba) h.port port answer
-    → new ≡ answering (record h { port = port }) p (Bits 0x41 error 0) → p ≡ only_after l → l ≡ fis_put (record h { port = port }) 0x58 8 → IsFailed slot error lba h new
+    → new ≡ answering (record h { port = port }) p (Bits 0x41 error 0) → p ≡ only_after l → l ≡ fis_put h.registers port 0x58 8 → IsFailed slot error lba h new
 fails slot error lba h new port answer p l stepped made posted listed = record {
   port = port;
   answer = answer;

@@ -17,8 +17,9 @@ use Rattle.ahci_port.specs.declared.step.Stepped.{Stepped}
 use Rattle.ahci_table.specs.Window.{WindowState}
 use Rattle.ncq_journal.specs.declared.outcome.Outcome.{Outcome}
 use Rattle.hba_command.specs.declared.entry.PrdEntry.{PrdEntry}
+use Rattle.hba_command.specs.declared.task.Task.{Task}
 use Rattle.ahci_hba.specs.HbaView.{HbaView, Served}
-use Rattle.ahci_hba.specs.Queueing.{IsServed, command_at, list_in}
+use Rattle.ahci_hba.specs.Queueing.{IsServed, command_at, list_in, task_in}
 use Rattle.ahci_port.specs.declared.fault.CollectFault.{CollectFault}
 use Rattle.ahci_port.specs.declared.fault.CollectFault.TheVariants.{Stranger, NotYet}
 
@@ -55,12 +56,12 @@ served_is_collected old middle slot number owner first past =
     ∙ completed_is_collected old.first old.past slot number owner
 
 -- what the port did makes up what the controller did
-pub serves : (slot number entry : ℕ) (outcome : Outcome) (h taken new : HbaView) (middle port : PortView) (s : DeviceStep) (answer : Stepped) (window : WindowState) (list : List PrdEntry)
+pub serves : (slot number entry : ℕ) (outcome : Outcome) (h taken new : HbaView) (middle port : PortView) (s : DeviceStep) (answer : Stepped) (window : WindowState) (t : Task) (list : List PrdEntry)
     → s ≡ Serve (record { items = slot ∷ [] }) → IsStepped s h.port middle answer → IsCollected slot middle port → Some number ≡ owner_of h.port slot
     → answer_to middle number ≡ Some (record { entry = entry; outcome = outcome; bytes = bytes_in outcome window })
-    → taken ≡ record h { port = port; slots = slice_set h.slots slot None } → list ≡ list_in (command_at h slot) → new ≡ record taken { work = Served slot window list }
-    → IsServed slot (list_in (command_at h slot)) h new
-serves slot number entry outcome h taken new middle port s answer window list e stepped collected owner answered was listed made = record {
+    → taken ≡ record h { port = port; slots = slice_set h.slots slot None } → t ≡ task_in (command_at h slot) → list ≡ list_in (command_at h slot) → new ≡ record taken { work = Served slot t window list }
+    → IsServed slot (task_in (command_at h slot)) (list_in (command_at h slot)) h new
+serves slot number entry outcome h taken new middle port s answer window t list e stepped collected owner answered was asked listed made = record {
   middle = middle;
   port = port;
   answer = answer;
@@ -71,6 +72,7 @@ serves slot number entry outcome h taken new middle port s answer window list e 
   owner = sym owner;
   answered = subst (λ o. IsSomeAnd o (λ a. a.bytes ≡ bytes_in a.outcome window)) (sym answered) refl;
   served =
-      made ∙ ap {A = HbaView} (λ v. record v { work = Served slot window list }) was
-      ∙ ap {A = List PrdEntry} {B = HbaView} (λ l. record h { port = port; slots = slice_set h.slots slot None; work = Served slot window l }) listed;
+      made ∙ ap {A = HbaView} (λ v. record v { work = Served slot t window list }) was
+      ∙ ap {A = List PrdEntry} {B = HbaView} (λ l. record h { port = port; slots = slice_set h.slots slot None; work = Served slot t window l }) listed
+      ∙ ap {A = Task} {B = HbaView} (λ x. record h { port = port; slots = slice_set h.slots slot None; work = Served slot x window (list_in (command_at h slot)) }) asked;
 }

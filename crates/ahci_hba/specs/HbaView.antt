@@ -26,13 +26,13 @@ command_of (command.Sent t list) = Sent t list.items
 pub data WorkView : Type 0 where
   Idle : WorkView
   Fetching : (slot : ℕ) → ReadingView → WorkView
-  Served : (slot : ℕ) → WindowState → List PrdEntry → WorkView
+  Served : (slot : ℕ) → Task → WindowState → List PrdEntry → WorkView
   Posting : PostingView → Ending → WorkView
 
 abbrev pub work_of : {A : _} → Work A → WorkView
 work_of work.Idle = Idle
 work_of (work.Fetching slot fetch) = Fetching slot fetch
-work_of (work.Served slot window list) = Served slot window list.items
+work_of (work.Served slot t window list) = Served slot t window list.items
 work_of (work.Posting posting ending) = Posting posting ending
 
 pub record HbaView : Type 0 where

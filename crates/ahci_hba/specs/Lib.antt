@@ -3,3 +3,4 @@ pub mod States
 pub mod Moving
 pub mod Queueing
 pub mod Dropping
+pub mod Delivering

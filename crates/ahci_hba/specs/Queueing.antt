@@ -5,12 +5,12 @@ use Rattle.sata_fis.specs.Fields.{QueuedFields}
 use Rattle.word_bits.specs.Places.{has_place}
 use Rattle.hba_command.specs.declared.entry.PrdEntry.{PrdEntry}
 use Rattle.hba_command.specs.declared.task.Task.{Task}
-use Rattle.hba_command.specs.declared.task.Task.TheVariants.{Queue}
+use Rattle.hba_command.specs.declared.task.Task.TheVariants.{Queue, Read as ReadTask, Unknown}
 use Rattle.hba_memory.specs.Posting.{PostingView}
 use Rattle.hba_memory.specs.Reading.{Header}
 use Rattle.hba_memory.specs.Runs.{Put, placed}
 use Rattle.hba_memory.specs.Table.{wrapped}
-use Rattle.hba_regs.specs.HbaState.{HbaPort}
+use Rattle.hba_regs.specs.HbaState.{HbaPort, HbaState}
 use Rattle.hba_regs.specs.Linking.{is_up}
 use Rattle.ncq_journal.specs.Work.{Work, Read, Write}
 use Rattle.ahci_table.specs.Text.{text}
@@ -60,6 +60,12 @@ list_in (Some (Fetched t list bytes)) = list
 list_in (Some (Sent t list)) = list
 list_in None = []
 
+-- and what it asks
+abbrev pub task_in : Option CommandView → Task
+task_in (Some (Fetched t list bytes)) = t
+task_in (Some (Sent t list)) = t
+task_in None = Unknown
+
 -- the port processes its command list: ST is 1, nothing has failed, and the link is up
 abbrev pub is_running : HbaPort → Bool
 is_running p = p.st && not p.halted && is_up p.link
@@ -87,9 +93,9 @@ abbrev pub fis_at : PortView → ℕ → ℕ → List ℕ
 fis_at port place n = take n (drop place port.area)
 
 -- it is written to the driver's received FIS area, while FRE is 1 (section 4.2.1)
-abbrev pub fis_put : HbaView → ℕ → ℕ → List Put
-fis_put h place n =
-    if h.registers.port.fre then (record { address = wrapped (h.registers.port.fb + place); bytes = fis_at h.port place n }) ∷ [] else []
+abbrev pub fis_put : HbaState → PortView → ℕ → ℕ → List Put
+fis_put s port place n =
+    if s.port.fre then (record { address = wrapped (s.port.fb + place); bytes = fis_at port place n }) ∷ [] else []
 
 -- an answer of one FIS alone
 abbrev pub only_after : List Put → PostingView
@@ -119,18 +125,18 @@ pub record IsAccepted (slot : ℕ) (old new : HbaView) : Type 0 where
   pub port : PortView
   pub answer : Stepped
   pub stepped : IsStepped (step.Accept slot) old.port port answer
-  pub answered : new ≡ answering (record old { port = port }) (only_after (fis_put (record old { port = port }) 0x40 20)) (accepting slot answer)
+  pub answered : new ≡ answering (record old { port = port }) (only_after (fis_put old.registers port 0x40 20)) (accepting slot answer)
 
 -- the device fails a slot's command: a Set Device Bits FIS with ERR
 pub record IsFailed (slot error lba : ℕ) (old new : HbaView) : Type 0 where
   pub port : PortView
   pub answer : Stepped
   pub stepped : IsStepped (step.Fail slot error lba) old.port port answer
-  pub answered : new ≡ answering (record old { port = port }) (only_after (fis_put (record old { port = port }) 0x58 8)) (ending.Bits 0x41 error 0)
+  pub answered : new ≡ answering (record old { port = port }) (only_after (fis_put old.registers port 0x58 8)) (ending.Bits 0x41 error 0)
 
 -- the device moves the data of a slot's command and completes it, and its answer is taken from the port: the window has the bytes of
 -- the answer by the journal
-pub record IsServed (slot : ℕ) (list : List PrdEntry) (old new : HbaView) : Type 0 where
+pub record IsServed (slot : ℕ) (t : Task) (list : List PrdEntry) (old new : HbaView) : Type 0 where
   pub middle : PortView
   pub port : PortView
   pub answer : Stepped
@@ -140,4 +146,4 @@ pub record IsServed (slot : ℕ) (list : List PrdEntry) (old new : HbaView) : Ty
   pub number : ℕ
   pub owner : owner_of old.port slot ≡ Some number
   pub answered : IsSomeAnd (answer_to middle number) (λ a. a.bytes ≡ bytes_in a.outcome window)
-  pub served : new ≡ record old { port = port; slots = slice_set old.slots slot None; work = Served slot window list }
+  pub served : new ≡ record old { port = port; slots = slice_set old.slots slot None; work = Served slot t window list }

@@ -30,7 +30,7 @@ IsForSlot other = Unit {0}
 abbrev pub IsSoundWork : WorkView → Type 0
 IsSoundWork Idle = Unit {0}
 IsSoundWork (Fetching slot r) = (slot < 32) × (is_over r ≡ false)
-IsSoundWork (Served slot window list) = (slot < 32) × IsFit window
+IsSoundWork (Served slot t window list) = (slot < 32) × IsFit window
 IsSoundWork (Posting p e) = IsForSlot e × (is_none (remaining p) ≡ false)
 
 -- what every state keeps: 32 slots, whatever the depth

@@ -1,6 +1,7 @@
 //! The controller: what it holds, how one is made, and what a driver reads of it.
 
 mod answering;
+mod delivering;
 mod fetching;
 mod moving;
 mod queueing;

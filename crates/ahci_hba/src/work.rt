@@ -1,6 +1,6 @@
 use crate::ending::Ending;
 use ahci_port::Window;
-use hba_command::PrdEntry;
+use hba_command::{PrdEntry, Task};
 use hba_memory::{Fetch, Posting};
 use std::alloc::{Allocator, Global};
 
@@ -12,7 +12,7 @@ pub(crate) enum Work<A: Allocator = Global> {
     /// It reads the command of a slot.
     Fetching(u8, Fetch<A>),
     /// A slot's command is done by the port. Its window has the data of a read, which go to the runs of the list.
-    Served(u8, Window<A>, Vec<PrdEntry, A>),
+    Served(u8, Task, Window<A>, Vec<PrdEntry, A>),
     /// It writes an answer.
     Posting(Posting<A>, Ending),
 }

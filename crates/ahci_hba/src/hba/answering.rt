@@ -14,7 +14,11 @@ use arrayvec::ArrayVec;
 use hba_memory::{Posting, Scatter, SmallPut};
 use std::alloc::Allocator;
 
-/// Where the D2H Register FIS and the Set Device Bits FIS are in the received FIS area (AHCI 1.3.1, section 4.2.1).
+/// Where FISes are in the received FIS area (AHCI 1.3.1, section 4.2.1).
+pub(super) const DMA_SETUP: u8 = 0x00;
+
+pub(super) const PIO_SETUP: u8 = 0x20;
+
 pub(super) const REGISTER: u8 = 0x40;
 
 pub(super) const SET_BITS: u8 = 0x58;
@@ -24,7 +28,7 @@ impl<A: Allocator> Hba<A> {
     pub(super) fn fis_put(&self, place: u8, length: usize) -> Option<SmallPut>
         requires short { length ≤ 28 }
         requires inside { place + length ≤ 256 }
-        ensures { listed result ≡ fis_put self.now place length }
+        ensures { listed result ≡ fis_put self.now.registers self.now.port place length }
     {
         if !self.registers.is_receiving() {
             return None;

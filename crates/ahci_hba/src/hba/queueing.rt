@@ -2,7 +2,7 @@
 
 ghost use Rattle.std.specs.Prelude.{◌≡◌, ◌<◌, None, OnErr, OnOk, slice_set};
 ghost use Rattle.ncq_journal.specs.Work.{work_of};
-ghost use Rattle.ahci_hba.specs.Queueing.{IsAccepted, IsFailed, IsServed, accepting, asked_for, command_at, is_queued, list_in};
+ghost use Rattle.ahci_hba.specs.Queueing.{IsAccepted, IsFailed, IsServed, accepting, asked_for, command_at, is_queued, list_in, task_in};
 
 use crate::command::{Command, Slot};
 use crate::ending::Ending;
@@ -66,18 +66,19 @@ impl<A: Allocator> Hba<A> {
 }
 
 impl<A: Allocator + Copy> Hba<A> {
-    /// Takes the command out of a slot, below 32, and leaves it empty; its PRDT is the answer.
-    fn take_list(&mut self, slot: u8) -> Vec<PrdEntry, A>
+    /// Takes the command out of a slot, below 32, and leaves it empty; what it asks and its PRDT are the answer.
+    fn take_command(&mut self, slot: u8) -> (Task, Vec<PrdEntry, A>)
         requires { slot < 32 }
-        ensures list { result.items ≡ list_in (command_at self.old slot) }
+        ensures task { result.0 ≡ task_in (command_at self.old slot) }
+        ensures list { result.1.items ≡ list_in (command_at self.old slot) }
         ensures slots { self.new ≡ record self.old { slots = slice_set self.old.slots slot None } }
     {
         match self.slots[usize::from(slot)].take() {
             Some(taken) => match taken.command {
-                Command::Fetched(_, list, _) => list,
-                Command::Sent(_, list) => list,
+                Command::Fetched(task, list, _) => (task, list),
+                Command::Sent(task, list) => (task, list),
             },
-            None => Vec::new(self.alloc),
+            None => (Task::Unknown, Vec::new(self.alloc)),
         }
     }
 
@@ -88,7 +89,7 @@ impl<A: Allocator + Copy> Hba<A> {
     /// `NotReady` if the device has not taken the command, or if something is read or written just now.
     pub fn serve(&mut self, slot: u8) -> Result<(), HbaFault>
         requires { slot < 32 }
-        ensures ok { OnOk result (IsServed slot (list_in (command_at self.old slot)) self.old self.new) }
+        ensures ok { OnOk result (IsServed slot (task_in (command_at self.old slot)) (list_in (command_at self.old slot)) self.old self.new) }
         ensures err { OnErr result (self.new ≡ self.old) }
     {
         if !self.is_running() || !self.is_idle() || !self.is_queued(slot) {
@@ -103,8 +104,8 @@ impl<A: Allocator + Copy> Hba<A> {
         let Ok((_, window)) = self.port.collect(slot, number) else {
             unreachable!() // it is done
         };
-        let list = self.take_list(slot);
-        self.turn_to(Work::Served(slot, window, list));
+        let (task, list) = self.take_command(slot);
+        self.turn_to(Work::Served(slot, task, window, list));
         Ok(())
     }
 
