@@ -5,7 +5,7 @@ use Rattle.sata_fis.specs.Fields.{QueuedFields}
 use Rattle.word_bits.specs.Places.{has_place}
 use Rattle.hba_command.specs.declared.entry.PrdEntry.{PrdEntry}
 use Rattle.hba_command.specs.declared.task.Task.{Task}
-use Rattle.hba_command.specs.declared.task.Task.TheVariants.{Queue, Read as ReadTask, Unknown}
+use Rattle.hba_command.specs.declared.task.Task.TheVariants.{Queue, Read as ReadTask, Write as WriteTask, Unknown}
 use Rattle.hba_memory.specs.Posting.{PostingView}
 use Rattle.hba_memory.specs.Reading.{Header}
 use Rattle.hba_memory.specs.Runs.{Put, placed}
@@ -54,6 +54,11 @@ abbrev pub is_waiting : Option CommandView → Bool
 is_waiting (Some (Fetched t list bytes)) = not (is_alone t)
 is_waiting other = false
 
+-- a command that is read and not yet sent
+abbrev pub is_fetched : Option CommandView → Bool
+is_fetched (Some (Fetched t list bytes)) = true
+is_fetched other = false
+
 -- the PRDT of a slot's command
 abbrev pub list_in : Option CommandView → List PrdEntry
 list_in (Some (Fetched t list bytes)) = list
@@ -84,9 +89,20 @@ may_fetch h slot =
 abbrev pub fetching : HbaView → ℕ → HbaView
 fetching h slot = record h { work = Fetching slot (Header (wrapped (h.registers.port.clb + 32 * slot))) }
 
--- what a queued command asks of the disk; a write has these bytes
-abbrev pub asked_for : QueuedFields → List ℕ → Work
-asked_for q bytes = if q.write then Write q.lba bytes else Read q.lba q.sectors
+-- what a command asks of the disk; a write has these bytes
+abbrev pub queued_for : QueuedFields → List ℕ → Work
+queued_for q bytes = if q.write then Write q.lba bytes else Read q.lba q.sectors
+
+abbrev pub asked_for : Task → List ℕ → Work
+asked_for (Queue q) bytes = queued_for q bytes
+asked_for (ReadTask span p) bytes = Read span.lba span.sectors
+asked_for (WriteTask span p) bytes = Write span.lba bytes
+asked_for other bytes = Read 0 0
+
+-- the bytes that a command had before it was asked: those of a write, else those that are left
+abbrev pub put_back : Work → List ℕ → List ℕ
+put_back (Write lba bytes) left = bytes
+put_back (Read lba sectors) left = left
 
 -- the FIS of so many bytes at a place of the port's received FIS area
 abbrev pub fis_at : PortView → ℕ → ℕ → List ℕ
@@ -105,14 +121,14 @@ only_after puts = record { before = []; content = []; count = []; after = puts }
 abbrev pub sent_to : HbaView → ℕ → CommandView → PortView → HbaView
 sent_to h slot c port = record h { port = port; slots = slice_set h.slots slot (Some c) }
 
-pub record IsSent (slot : ℕ) (q : QueuedFields) (list : List PrdEntry) (bytes : List ℕ) (old new : HbaView) : Type 0 where
+pub record IsSent (slot : ℕ) (t : Task) (list : List PrdEntry) (bytes : List ℕ) (old new : HbaView) : Type 0 where
   pub port : PortView
-  pub submitted : IsSubmitted slot (asked_for q bytes) old.port port
-  pub sent : new ≡ sent_to old slot (Sent (Queue q) list) port
+  pub submitted : IsSubmitted slot (asked_for t bytes) old.port port
+  pub sent : new ≡ sent_to old slot (Sent t list) port
 
--- of a queued command that is read
+-- of a command that is read
 abbrev pub Sends : ℕ → Option CommandView → HbaView → HbaView → Type 0
-Sends slot (Some (Fetched (Queue q) list bytes)) old new = IsSent slot q list bytes old new
+Sends slot (Some (Fetched t list bytes)) old new = IsSent slot t list bytes old new
 Sends slot other old new = ⊥
 
 -- what the answer to an acceptance says to the registers: the command is taken, or it passes the last sector

@@ -5,6 +5,7 @@ mod delivering;
 mod fetching;
 mod moving;
 mod queueing;
+mod sending;
 mod writing;
 
 ghost use Rattle.std.specs.Prelude.{◌≡◌, ◌≤◌, None, IfOk, OnOk, replicate};

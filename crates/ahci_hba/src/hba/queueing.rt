@@ -1,8 +1,7 @@
 //! What the device does with a queued command: it takes it, serves it or fails it (AHCI 1.3.1, section 5.3; Serial ATA, "First-party DMA").
 
 ghost use Rattle.std.specs.Prelude.{◌≡◌, ◌<◌, None, OnErr, OnOk, slice_set};
-ghost use Rattle.ncq_journal.specs.Work.{work_of};
-ghost use Rattle.ahci_hba.specs.Queueing.{IsAccepted, IsFailed, IsServed, accepting, asked_for, command_at, is_queued, list_in, task_in};
+ghost use Rattle.ahci_hba.specs.Queueing.{IsAccepted, IsFailed, IsServed, accepting, command_at, is_queued, list_in, task_in};
 
 use crate::command::{Command, Slot};
 use crate::ending::Ending;
@@ -10,27 +9,9 @@ use crate::fault::HbaFault;
 use crate::hba::Hba;
 use crate::hba::answering::{REGISTER, SET_BITS};
 use crate::work::Work;
-use ahci_port::{Bytes, DeviceStep, Op, Stepped};
+use ahci_port::{DeviceStep, Stepped};
 use hba_command::{PrdEntry, Task};
-use sata_fis::Queued;
 use std::alloc::Allocator;
-
-/// What a queued command asks of the disk. A write has these bytes.
-fn asked_for<A: Allocator>(queued: &Queued, bytes: Vec<u8, A>) -> Op<A>
-    ensures { work_of result ≡ asked_for queued.now bytes.items }
-{
-    let lba = queued.lba;
-    if queued.write {
-        return Op::Write {
-            lba,
-            bytes: Bytes::from_vec(bytes),
-        };
-    }
-    Op::Read {
-        lba,
-        sectors: queued.sectors,
-    }
-}
 
 /// What the answer to an acceptance says to the registers.
 fn accepting(slot: u8, stepped: Stepped) -> Ending
