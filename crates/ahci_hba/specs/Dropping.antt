@@ -12,13 +12,9 @@ use Rattle.ncq_journal.specs.Halted.{halted}
 use Rattle.ncq_journal.specs.History.{History}
 use Rattle.ahci_port.specs.Faults.{most_first}
 use Rattle.ahci_port.specs.PortView.{PortView, journal_in, next_number, port_from}
-use Rattle.ahci_hba.specs.HbaView.{CommandView, Fetched, Sent, HbaView, WorkView, Idle, Posting}
+use Rattle.ahci_hba.specs.HbaView.{HbaView, WorkView, Idle, Posting}
+use Rattle.ahci_hba.specs.Queueing.{is_sent}
 use Rattle.ahci_hba.specs.Moving.{answering}
-
--- a command that is with the port
-abbrev pub is_sent : Option CommandView → Bool
-is_sent (Some (Sent t list)) = true
-is_sent other = false
 
 -- whether the port is reset: it has requests, and after a failure only a reset of the device ends them, since the log is to be read
 abbrev pub drops_requests : Consequence → HbaView → Bool

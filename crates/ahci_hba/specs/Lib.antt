@@ -4,3 +4,4 @@ pub mod Moving
 pub mod Queueing
 pub mod Dropping
 pub mod Delivering
+pub mod Executing

@@ -1,5 +1,5 @@
 -- What the device does with a queued command of a slot (AHCI 1.3.1, section 5.3; ACS-3, "Native Command Queuing").
-use Rattle.std.specs.Prelude.{◌≡◌, ℕ, ◌+◌, ◌*◌, ◌^◌, Bool, true, false, not, ◌&&◌, List, [], ◌∷◌, length, take, drop, Option, None, Some, IsSomeAnd, slice_index_or, slice_set, if◌then◌else◌}
+use Rattle.std.specs.Prelude.{◌≡◌, ℕ, ◌+◌, ◌*◌, ◌^◌, Bool, true, false, not, nat_le, ◌&&◌, List, [], ◌∷◌, length, take, drop, Option, None, Some, IsSomeAnd, slice_index_or, slice_set, if◌then◌else◌}
 use Rattle.std.specs.List.{list_any}
 use Rattle.sata_fis.specs.Fields.{QueuedFields}
 use Rattle.word_bits.specs.Places.{has_place}
@@ -15,7 +15,8 @@ use Rattle.hba_regs.specs.Linking.{is_up}
 use Rattle.ncq_journal.specs.Work.{Work, Read, Write}
 use Rattle.ahci_table.specs.Text.{text}
 use Rattle.ahci_table.specs.Window.{WindowState}
-use Rattle.ahci_port.specs.PortView.{PortView, owner_of}
+use Rattle.hba_command.specs.Span.{SpanFields}
+use Rattle.ahci_port.specs.PortView.{PortView, owner_of, sectors_in}
 use Rattle.ahci_port.specs.Steps.{IsCollected, IsStepped, IsSubmitted, answer_to}
 use Rattle.ahci_port.specs.Slots.{bytes_in}
 use Rattle.ahci_port.specs.declared.step.DeviceStep.TheVariants as step
@@ -44,15 +45,27 @@ has_alone None = false
 has_alone (Some (Fetched t list bytes)) = is_alone t
 has_alone (Some (Sent t list)) = is_alone t
 
--- a queued command that is with the port
-abbrev pub is_queued : Option CommandView → Bool
-is_queued (Some (Sent t list)) = not (is_alone t)
-is_queued other = false
+-- a command that is with the port
+abbrev pub is_sent : Option CommandView → Bool
+is_sent (Some (Sent t list)) = true
+is_sent other = false
 
--- a queued command that is read and not yet with the port
-abbrev pub is_waiting : Option CommandView → Bool
-is_waiting (Some (Fetched t list bytes)) = not (is_alone t)
-is_waiting other = false
+-- a queued command, read or with the port
+abbrev pub has_queued : Option CommandView → Bool
+has_queued None = false
+has_queued (Some (Fetched t list bytes)) = not (is_alone t)
+has_queued (Some (Sent t list)) = not (is_alone t)
+
+-- the sectors are on the disk
+abbrev pub is_on : PortView → SpanFields → Bool
+is_on port span = nat_le (span.lba + span.sectors) (sectors_in port)
+
+-- a command goes to the port: a queued one, or one that moves sectors of the disk while no queued one is outstanding
+abbrev pub goes_to_port : HbaView → Option CommandView → Bool
+goes_to_port h (Some (Fetched (Queue q) list bytes)) = true
+goes_to_port h (Some (Fetched (ReadTask span p) list bytes)) = is_on h.port span && not (list_any has_queued h.slots)
+goes_to_port h (Some (Fetched (WriteTask span p) list bytes)) = is_on h.port span && not (list_any has_queued h.slots)
+goes_to_port h other = false
 
 -- a command that is read and not yet sent
 abbrev pub is_fetched : Option CommandView → Bool
@@ -137,11 +150,21 @@ accepting slot (stepped.Accepted n) = ending.Register 0x40 0x00 false slot
 accepting slot other = ending.Register 0x41 0x10 true slot
 
 -- the device takes a slot's command or refuses it: a D2H Register FIS
-pub record IsAccepted (slot : ℕ) (old new : HbaView) : Type 0 where
+abbrev pub is_taken : Stepped → Bool
+is_taken (stepped.Accepted n) = true
+is_taken other = false
+
+-- a command that is not queued has its D2H Register FIS at its end
+abbrev pub after_acceptance : ℕ → Bool → HbaView → PortView → Stepped → HbaView
+after_acceptance slot alone h port answer =
+    if alone && is_taken answer then record h { port = port }
+    else answering (record h { port = port }) (only_after (fis_put h.registers port 0x40 20)) (accepting slot answer)
+
+pub record IsAccepted (slot : ℕ) (alone : Bool) (old new : HbaView) : Type 0 where
   pub port : PortView
   pub answer : Stepped
   pub stepped : IsStepped (step.Accept slot) old.port port answer
-  pub answered : new ≡ answering (record old { port = port }) (only_after (fis_put old.registers port 0x40 20)) (accepting slot answer)
+  pub answered : new ≡ after_acceptance slot alone old port answer
 
 -- the device fails a slot's command: a Set Device Bits FIS with ERR
 pub record IsFailed (slot error lba : ℕ) (old new : HbaView) : Type 0 where

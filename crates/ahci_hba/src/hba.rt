@@ -2,6 +2,7 @@
 
 mod answering;
 mod delivering;
+mod executing;
 mod fetching;
 mod moving;
 mod queueing;

@@ -3,7 +3,7 @@
 ghost use Rattle.std.specs.Prelude.{◌≡◌, ◌<◌, false, true, IfErr, OnErr, OnOk};
 ghost use Rattle.std.specs.List.{list_any};
 ghost use Rattle.hba_command.specs.declared.task.Task.{Task};
-ghost use Rattle.ahci_hba.specs.Queueing.{command_at, fetching, has_alone, is_alone, is_empty, is_idle, is_running, may_fetch};
+ghost use Rattle.ahci_hba.specs.Queueing.{command_at, fetching, has_alone, has_queued, is_alone, is_empty, is_idle, is_running, is_sent, may_fetch};
 
 use crate::command::{Command, Slot};
 use crate::fault::HbaFault;
@@ -21,7 +21,30 @@ pub(super) fn is_alone(task: &Task) -> bool
     !matches!(task, Task::Queue(_))
 }
 
-/// Whether a slot has such a command.
+/// Whether a slot has a command that is with the port.
+pub(super) fn is_sent<A: Allocator>(slot: &Option<Slot<A>>) -> bool
+    ensures { result ≡ is_sent slot.now }
+{
+    match slot {
+        Some(slot) => matches!(&slot.command, Command::Sent(_, _)),
+        None => false,
+    }
+}
+
+/// Whether a slot has a queued command.
+fn has_queued<A: Allocator>(slot: &Option<Slot<A>>) -> bool
+    ensures { result ≡ has_queued slot.now }
+{
+    match slot {
+        Some(slot) => match &slot.command {
+            Command::Fetched(task, _, _) => !is_alone(task),
+            Command::Sent(task, _) => !is_alone(task),
+        },
+        None => false,
+    }
+}
+
+/// Whether a slot has a command that is not queued.
 fn has_alone<A: Allocator>(slot: &Option<Slot<A>>) -> bool
     ensures { result ≡ has_alone slot.now }
 {
@@ -62,6 +85,29 @@ impl<A: Allocator> Hba<A> {
         ensures { result ≡ list_any has_alone self.now.slots }
     {
         self.slots.iter().any(|slot| has_alone(slot))
+    }
+
+    /// Whether some slot has a queued command.
+    pub(super) fn is_queueing(&self) -> bool
+        ensures { result ≡ list_any has_queued self.now.slots }
+    {
+        self.slots.iter().any(|slot| has_queued(slot))
+    }
+
+    /// Whether the command of a slot, below 32, is with the port.
+    pub(super) fn is_sent(&self, slot: u8) -> bool
+        requires { slot < 32 }
+        ensures { result ≡ is_sent (command_at self.now slot) }
+    {
+        is_sent(&self.slots[usize::from(slot)])
+    }
+
+    /// Whether the command of a slot, below 32, is not queued.
+    pub(super) fn has_alone(&self, slot: u8) -> bool
+        requires { slot < 32 }
+        ensures { result ≡ has_alone (command_at self.now slot) }
+    {
+        has_alone(&self.slots[usize::from(slot)])
     }
 
     /// Whether the command of a slot, below 32, may be read: its bit of PxCI is set, the port processes commands, nothing is read or written

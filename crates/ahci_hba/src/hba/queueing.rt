@@ -1,9 +1,9 @@
 //! What the device does with a queued command: it takes it, serves it or fails it (AHCI 1.3.1, section 5.3; Serial ATA, "First-party DMA").
 
 ghost use Rattle.std.specs.Prelude.{◌≡◌, ◌<◌, None, OnErr, OnOk, slice_set};
-ghost use Rattle.ahci_hba.specs.Queueing.{IsAccepted, IsFailed, IsServed, accepting, command_at, is_queued, list_in, task_in};
+ghost use Rattle.ahci_hba.specs.Queueing.{IsAccepted, IsFailed, IsServed, accepting, after_acceptance, command_at, has_alone, is_taken, list_in, task_in};
 
-use crate::command::{Command, Slot};
+use crate::command::Command;
 use crate::ending::Ending;
 use crate::fault::HbaFault;
 use crate::hba::Hba;
@@ -33,17 +33,11 @@ fn accepting(slot: u8, stepped: Stepped) -> Ending
     }
 }
 
-impl<A: Allocator> Hba<A> {
-    /// Whether a slot, below 32, has a queued command that is with the port.
-    fn is_queued(&self, slot: u8) -> bool
-        requires { slot < 32 }
-        ensures { result ≡ is_queued (command_at self.now slot) }
-    {
-        match &self.slots[usize::from(slot)] {
-            Some(slot) => matches!(&slot.command, Command::Sent(Task::Queue(_), _)),
-            None => false,
-        }
-    }
+/// Whether the device has taken the command.
+fn is_taken(stepped: Stepped) -> bool
+    ensures { result ≡ is_taken stepped }
+{
+    matches!(stepped, Stepped::Accepted(_))
 }
 
 impl<A: Allocator + Copy> Hba<A> {
@@ -63,7 +57,7 @@ impl<A: Allocator + Copy> Hba<A> {
         }
     }
 
-    /// The device moves the data of the queued command of a slot, below 32, and completes it; its answer is taken from the port. It stands
+    /// The device moves the data of the command of a slot, below 32, and completes it; its answer is taken from the port. It stands
     /// in the controller until `deliver` puts it together. Nothing is allocated.
     ///
     /// # Errors
@@ -73,7 +67,7 @@ impl<A: Allocator + Copy> Hba<A> {
         ensures ok { OnOk result (IsServed slot (task_in (command_at self.old slot)) (list_in (command_at self.old slot)) self.old self.new) }
         ensures err { OnErr result (self.new ≡ self.old) }
     {
-        if !self.is_running() || !self.is_idle() || !self.is_queued(slot) {
+        if !self.is_running() || !self.is_idle() || !self.is_sent(slot) {
             return Err(HbaFault::NotReady);
         }
         let Some(number) = self.port.owner(slot) else {
@@ -90,26 +84,38 @@ impl<A: Allocator + Copy> Hba<A> {
         Ok(())
     }
 
-    /// The device takes the queued command of a slot, below 32, or refuses it if it passes the last sector: a D2H Register FIS is written,
-    /// and then PxCI loses the slot, or the port halts.
+    /// The device takes the command of a slot, below 32, or refuses it if it passes the last sector. Of a queued one a D2H Register FIS is
+    /// written, and then PxCI loses the slot, or the port halts.
     ///
     /// # Errors
-    /// `NotReady` if the slot has no queued command that waits for the device, or if something is read or written just now.
+    /// `NotReady` if the slot has no command with the port that waits for the device, or if something is read or written just now.
     pub fn accept(&mut self, slot: u8) -> Result<(), HbaFault>
         requires { slot < 32 }
-        ensures ok { OnOk result (IsAccepted slot self.old self.new) }
+        ensures ok { OnOk result (IsAccepted slot (has_alone (command_at self.old slot)) self.old self.new) }
         ensures err { OnErr result (self.new ≡ self.old) }
     {
-        if !self.is_running() || !self.is_idle() || !self.is_queued(slot) {
+        if !self.is_running() || !self.is_idle() || !self.is_sent(slot) {
             return Err(HbaFault::NotReady);
         }
+        let alone = self.has_alone(slot);
         let Ok(stepped) = self.port.step(DeviceStep::Accept(slot)) else {
             return Err(HbaFault::NotReady);
         };
+        self.answer_acceptance(slot, alone, stepped);
+        Ok(())
+    }
+
+    /// Answers the acceptance of a slot's command.
+    fn answer_acceptance(&mut self, slot: u8, alone: bool, stepped: Stepped)
+        requires { slot < 32 }
+        ensures { self.new ≡ after_acceptance slot alone self.old self.old.port stepped }
+    {
+        if alone && is_taken(stepped) {
+            return;
+        }
         let fis = self.fis_put(REGISTER, 20);
         let posting = self.only_after(fis);
         self.answer(posting, accepting(slot, stepped));
-        Ok(())
     }
 
     /// The device fails the queued command of a slot, below 32, with an error byte at one of its sectors: a Set Device Bits FIS is written,
@@ -122,7 +128,7 @@ impl<A: Allocator + Copy> Hba<A> {
         ensures ok { OnOk result (IsFailed slot error lba self.old self.new) }
         ensures err { OnErr result (self.new ≡ self.old) }
     {
-        if !self.is_running() || !self.is_idle() || !self.is_queued(slot) {
+        if !self.is_running() || !self.is_idle() || !self.is_sent(slot) {
             return Err(HbaFault::NotReady);
         }
         let step = DeviceStep::Fail {

@@ -3,13 +3,13 @@
 ghost use Rattle.std.specs.Prelude.{◌≡◌, ◌<◌, true, None, Some, OnErr, OnOk, if◌then◌else◌, slice_set};
 ghost use Rattle.ncq_journal.specs.Work.{Read, Write, work_of};
 ghost use Rattle.ahci_hba.specs.HbaView.{Fetched, command_of};
-ghost use Rattle.ahci_hba.specs.Queueing.{IsSent, Sends, asked_for, command_at, is_fetched, is_waiting, put_back};
+ghost use Rattle.ahci_hba.specs.Queueing.{IsSent, Sends, asked_for, command_at, goes_to_port, is_fetched, is_on, put_back};
 
 use crate::command::{Command, Slot};
 use crate::fault::HbaFault;
 use crate::hba::Hba;
 use ahci_port::{Bytes, IssueFault, Op, SubmitFault};
-use hba_command::{PrdEntry, Task};
+use hba_command::{PrdEntry, Span, Task};
 use std::alloc::Allocator;
 
 /// What a command asks of the disk, with the bytes of a write, and the bytes that are left.
@@ -63,14 +63,28 @@ fn refused(fault: SubmitFault) -> HbaFault {
 }
 
 impl<A: Allocator> Hba<A> {
-    /// Whether a slot, below 32, has a queued command that is read and not yet with the port.
-    fn is_waiting(&self, slot: u8) -> bool
-        requires { slot < 32 }
-        ensures { result ≡ is_waiting (command_at self.now slot) }
+    /// Whether sectors are on the disk.
+    pub(super) fn is_on(&self, span: &Span) -> bool
+        ensures { result ≡ is_on self.now.port span.now }
     {
-        match &self.slots[usize::from(slot)] {
-            Some(slot) => matches!(&slot.command, Command::Fetched(Task::Queue(_), _, _)),
-            None => false,
+        span.lba + u64::from(span.sectors) <= u64::from(self.port.sectors())
+    }
+
+    /// Whether the command of a slot, below 32, goes to the port: it is read, and is queued, or moves sectors of the disk while no queued
+    /// one is outstanding.
+    pub fn goes_to_port(&self, slot: u8) -> bool
+        requires { slot < 32 }
+        ensures { result ≡ goes_to_port self.now (command_at self.now slot) }
+    {
+        let Some(slot) = &self.slots[usize::from(slot)] else {
+            return false;
+        };
+        match &slot.command {
+            Command::Fetched(Task::Queue(_), _, _) => true,
+            Command::Fetched(Task::Read(span, _) | Task::Write(span, _), _, _) => {
+                self.is_on(span) && !self.is_queueing()
+            }
+            _ => false,
         }
     }
 }
@@ -109,17 +123,16 @@ impl<A: Allocator + Copy> Hba<A> {
         self.slots[usize::from(slot)] = Some(Slot { command });
     }
 
-    /// Sends the queued command of a slot, below 32, to the port: its request stands in the journal, a write with the bytes that were read.
+    /// Sends the command of a slot, below 32, to the port, if it goes there: its request stands in the journal, a write with the bytes that were read.
     ///
     /// # Errors
-    /// `OutOfMemory` if an allocation failed; it may be tried again. `NotReady` if the slot has no queued command that was read and not
-    /// sent, if the port recovers from a failure, or if something is read or written just now. Nothing has changed.
+    /// `OutOfMemory` if an allocation failed; it may be tried again. `NotReady` if `goes_to_port` is false, if the port recovers from a failure, or if something is read or written just now. Nothing has changed.
     pub fn send(&mut self, slot: u8) -> Result<(), HbaFault>
         requires { slot < 32 }
         ensures ok { OnOk result (Sends slot (command_at self.old slot) self.old self.new) }
         ensures err { OnErr result (self.new ≡ self.old) }
     {
-        if !self.is_running() || !self.is_idle() || !self.is_waiting(slot) {
+        if !self.is_running() || !self.is_idle() || !self.goes_to_port(slot) {
             return Err(HbaFault::NotReady);
         }
         let (task, list, bytes) = self.take_fetched(slot);

@@ -2,25 +2,17 @@
 
 ghost use Rattle.std.specs.{Prelude.{◌≡◌, None, length, not, replicate}, List.{list_any}};
 ghost use Rattle.hba_regs.specs.Accessing.{write_of};
-ghost use Rattle.ahci_hba.specs.Dropping.{drops_requests, emptied, handed_out, is_reset, is_sent, is_spent, journal_out, port_after, settled_work, written};
+ghost use Rattle.ahci_hba.specs.Queueing.{is_sent};
+ghost use Rattle.ahci_hba.specs.Dropping.{drops_requests, emptied, handed_out, is_reset, is_spent, journal_out, port_after, settled_work, written};
 
-use crate::command::{Command, Slot};
+use crate::command::Slot;
 use crate::hba::Hba;
+use crate::hba::fetching::is_sent;
 use crate::work::Work;
 use ahci_port::{Journal, Port};
 use hba_regs::{AccessSize, Consequence};
 use std::alloc::Allocator;
 use std::mem;
-
-/// Whether a slot has a command that is with the port.
-fn is_sent<A: Allocator>(slot: &Option<Slot<A>>) -> bool
-    ensures { result ≡ is_sent slot.now }
-{
-    match slot {
-        Some(slot) => matches!(&slot.command, Command::Sent(_, _)),
-        None => false,
-    }
-}
 
 /// Empties every slot.
 fn clear<A: Allocator>(slots: &mut [Option<Slot<A>>])
