@@ -8,8 +8,12 @@ use Rattle.ahci_table.specs.Window.{WindowState}
 use Rattle.sata_fis.specs.Encoding.{d2h_bytes}
 use Rattle.sata_fis.specs.Fields.{D2hFields}
 use Rattle.ahci_hba.specs.Delivering.{answered, bytes_for, delivered, ending_of, posting_of, received_put}
-use Rattle.ahci_hba.specs.Executing.{concluded}
-use Rattle.ahci_hba.specs.Queueing.{only_after}
+use Rattle.hba_command.specs.Pages.{controller_page}
+use Rattle.hba_command.specs.declared.protocol.Protocol.TheVariants.{Pio}
+use Rattle.ahci_port.specs.PortView.{PortView, sectors_in}
+use Rattle.ahci_port.specs.Steps.{IsIdentified}
+use Rattle.ahci_hba.specs.Executing.{Identifies, concluded, paged}
+use Rattle.ahci_hba.specs.Queueing.{command_at, list_in, only_after}
 use Rattle.ahci_hba.specs.HbaView.{HbaView, WorkView, Idle, Served}
 use Rattle.ahci_hba.specs.Moving.{answering}
 use Rattle.ahci_hba.specs.declared.ending.Ending.{Ending}
@@ -33,3 +37,12 @@ concludes h taken new slot fis l p bytes e was made posted put spelt ended =
     ∙ ap (λ x. answering taken x e) (posted ∙ ap (λ x. only_after x) (put ∙ ap (λ b. received_put taken.registers 0x40 b) spelt))
     ∙ ap {A = HbaView} {B = HbaView} (λ v. answering v (only_after (received_put v.registers 0x40 (d2h_bytes fis))) e) was
     ∙ ap (λ x. answering (record h { slots = slice_set h.slots slot None }) (only_after (received_put h.registers 0x40 (d2h_bytes fis))) x) ended
+
+-- IDENTIFY DEVICE: the port's part and the page
+pub identifies : (slot : ℕ) (h new : HbaView) (port : PortView) (page : List ℕ) → IsIdentified h.port port → page ≡ controller_page (sectors_in h.port) h.depth
+    → new ≡ paged (record h { port = port }) slot Pio (list_in (command_at h slot)) page → Identifies slot (list_in (command_at h slot)) h new
+identifies slot h new port page identified is made = record {
+  port = port;
+  identified = identified;
+  answered = made ∙ ap (λ x. paged (record h { port = port }) slot Pio (list_in (command_at h slot)) x) is;
+}

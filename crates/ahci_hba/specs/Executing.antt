@@ -8,6 +8,7 @@ use Rattle.sata_fis.specs.Fields.{D2hFields}
 use Rattle.hba_command.specs.Pages.{controller_page, directory_page, not_queued_page}
 use Rattle.hba_command.specs.Span.{SpanFields}
 use Rattle.hba_command.specs.declared.entry.PrdEntry.{PrdEntry}
+use Rattle.hba_command.specs.declared.log.Log.{Log}
 use Rattle.hba_command.specs.declared.log.Log.TheVariants.{Directory, QueuedError}
 use Rattle.hba_command.specs.declared.protocol.Protocol.{Protocol}
 use Rattle.hba_command.specs.declared.protocol.Protocol.TheVariants.{Pio}
@@ -19,7 +20,7 @@ use Rattle.ahci_port.specs.Steps.{IsFlushed, IsIdentified}
 use Rattle.ahci_hba.specs.Delivering.{ending_of, posting_of, received_put}
 use Rattle.ahci_hba.specs.HbaView.{CommandView, Fetched, HbaView}
 use Rattle.ahci_hba.specs.Moving.{answering}
-use Rattle.ahci_hba.specs.Queueing.{has_queued, is_alone, is_on, only_after}
+use Rattle.ahci_hba.specs.Queueing.{command_at, has_queued, is_alone, is_on, list_in, only_after, task_in}
 use Rattle.ahci_hba.specs.declared.ending.Ending.{Ending}
 use Rattle.ahci_hba.specs.declared.ending.Ending.TheVariants as ending
 
@@ -92,3 +93,40 @@ is_simple h other = true
 -- the device refuses a command that is not queued with an error at an LBA
 abbrev pub refused : ℕ → ℕ → D2hFields
 refused error lba = d2h_fis 0x41 error lba 0
+
+-- IDENTIFY DEVICE: the port identifies its disk, and the controller's page goes to the driver
+pub record Identifies (slot : ℕ) (list : List PrdEntry) (old new : HbaView) : Type 0 where
+  pub port : PortView
+  pub identified : IsIdentified old.port port
+  pub answered : new ≡ paged (record old { port = port }) slot Pio list (controller_page (sectors_in old.port) old.depth)
+
+-- FLUSH CACHE: the port flushes
+pub record Flushes (slot : ℕ) (old new : HbaView) : Type 0 where
+  pub port : PortView
+  pub flushed : IsFlushed old.port port
+  pub answered : new ≡ concluded (record old { port = port }) slot (d2h_fis 0x40 0 0 0)
+
+-- the page of a log, with no queued command failed
+abbrev pub log_page : Log → List ℕ
+log_page Directory = directory_page
+log_page QueuedError = not_queued_page
+
+-- what the device does with a command that is not queued and moves no sectors
+abbrev pub Performs : ℕ → Task → List PrdEntry → HbaView → HbaView → Type 0
+Performs slot task.Identify list old new = Identifies slot list old new
+Performs slot task.Flush list old new = Flushes slot old new
+Performs slot (task.ReadLog log p) list old new = new ≡ paged old slot p list (log_page log)
+Performs slot other list old new = ⊥
+
+abbrev pub Executes : (ends : Bool) → ℕ → Task → List PrdEntry → HbaView → HbaView → Type 0
+Executes true slot t list old new = new ≡ concluded old slot (simple_answer old t)
+Executes false slot t list old new = Performs slot t list old new
+
+-- a command that is answered at once: it is aborted, or needs no move of the port
+abbrev pub ends_at_once : HbaView → Task → Bool
+ends_at_once h t = is_aborted h || is_simple h t
+
+-- what the device does with the command of a slot
+abbrev pub IsExecuted : ℕ → HbaView → HbaView → Type 0
+IsExecuted slot old new =
+    Executes (ends_at_once old (task_in (command_at old slot))) slot (task_in (command_at old slot)) (list_in (command_at old slot)) old new

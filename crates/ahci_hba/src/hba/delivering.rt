@@ -22,7 +22,7 @@ use std::alloc::{AllocError, Allocator};
 use std::mem;
 
 /// What the answer to a slot's command says to the registers.
-fn ending_of(slot: u8, task: &Task) -> Ending
+pub(super) fn ending_of(slot: u8, task: &Task) -> Ending
     requires { slot < 32 }
     ensures ending { result ≡ ending_of slot task.now }
     ensures slot { IsForSlot result }
@@ -119,7 +119,7 @@ impl<A: Allocator> Hba<A> {
     }
 
     /// What the answer to a slot's command writes.
-    fn posting_of(&self, slot: u8, task: &Task, content: Scatter<A>) -> Posting<A>
+    pub(super) fn posting_of(&self, slot: u8, task: &Task, content: Scatter<A>) -> Posting<A>
         requires { slot < 32 }
         ensures { result ≡ posting_of self.now.registers self.now.port slot task.now content }
     {

@@ -1,13 +1,20 @@
 //! What the device does with a command that is not queued (ACS-3, by the commands' titles).
 
-ghost use Rattle.std.specs.Prelude.{◌≡◌, ◌-◌, ◌<◌, ◌^◌, None, slice_set};
+ghost use Rattle.std.specs.Prelude.{◌≡◌, ◌-◌, ◌<◌, ◌^◌, None, OnErr, OnOk, slice_set};
+ghost use Rattle.ahci_hba.specs.Queueing.{command_at, list_in, task_in};
 ghost use Rattle.ahci_port.specs.PortView.{sectors_in};
-ghost use Rattle.ahci_hba.specs.Executing.{aborted, answer_to_task, concluded, d2h_fis, signed, verified};
+ghost use Rattle.ahci_hba.specs.Executing.{Flushes, Identifies, IsExecuted, aborted, answer_to_task, concluded, d2h_fis, is_aborted, is_alone_fetched, is_simple, log_page, paged, signed, simple_answer, verified};
 
+use crate::command::Command;
 use crate::ending::Ending;
+use crate::fault::HbaFault;
 use crate::hba::Hba;
 use crate::hba::answering::REGISTER;
-use hba_command::{Span, Task};
+use crate::hba::delivering::ending_of;
+use crate::hba::fetching::is_alone;
+use ahci_port::PlainFault;
+use hba_command::{Log, Protocol, Span, Task, controller_page, directory_page, not_queued_page};
+use hba_memory::Scatter;
 use sata_fis::{D2h, Fis};
 use std::alloc::Allocator;
 
@@ -100,5 +107,168 @@ impl<A: Allocator + Copy> Hba<A> {
         let put = self.received_put(REGISTER, Fis::D2h(fis).encode());
         let posting = self.only_after(put);
         self.answer(posting, ending);
+    }
+}
+
+impl<A: Allocator> Hba<A> {
+    /// Why the device aborts a command that is not queued: queued ones are outstanding, or one has failed and its log is not read yet.
+    fn is_aborted(&self) -> bool
+        ensures { result ≡ is_aborted self.now }
+    {
+        self.is_queueing() || self.port.halted()
+    }
+
+    /// Whether the device answers a command by a D2H Register FIS alone, with no move of the port.
+    fn is_simple(&self, task: &Task) -> bool
+        ensures { result ≡ is_simple self.now task.now }
+    {
+        match task {
+            Task::Read(span, _) | Task::Write(span, _) => !self.is_on(span),
+            Task::Identify | Task::Flush | Task::ReadLog(_, _) | Task::Control { .. } => false,
+            _ => true,
+        }
+    }
+
+    /// The answer to a command that needs no move of the port.
+    fn simple_answer(&self, task: &Task) -> D2h
+        ensures { result ≡ simple_answer self.now task.now }
+    {
+        if self.is_aborted() {
+            aborted()
+        } else {
+            self.answer_to_task(task)
+        }
+    }
+
+    /// Whether a slot, below 32, has a command that is read and not queued.
+    fn is_alone_fetched(&self, slot: u8) -> bool
+        requires { slot < 32 }
+        ensures { result ≡ is_alone_fetched (command_at self.now slot) }
+    {
+        match &self.slots[usize::from(slot)] {
+            Some(slot) => match &slot.command {
+                Command::Fetched(task, _, _) => is_alone(task),
+                Command::Sent(_, _) => false,
+            },
+            None => false,
+        }
+    }
+
+    /// What the command of a slot, below 32, asks.
+    fn task_in(&self, slot: u8) -> Task
+        requires { slot < 32 }
+        ensures { result ≡ task_in (command_at self.now slot) }
+    {
+        match &self.slots[usize::from(slot)] {
+            Some(slot) => match &slot.command {
+                Command::Fetched(task, _, _) => *task,
+                Command::Sent(task, _) => *task,
+            },
+            None => Task::Unknown,
+        }
+    }
+}
+
+/// The controller's fault if the port refuses a command that is not queued.
+fn plain_fault(fault: PlainFault) -> HbaFault {
+    match fault {
+        PlainFault::OutOfMemory => HbaFault::OutOfMemory,
+        _ => HbaFault::NotReady,
+    }
+}
+
+/// The page of a log, with no queued command failed.
+fn log_page(log: Log) -> [u8; 512]
+    ensures { result ≡ log_page log }
+{
+    match log {
+        Log::Directory => directory_page(),
+        Log::QueuedError => not_queued_page(),
+    }
+}
+
+impl<A: Allocator + Copy> Hba<A> {
+    /// A page goes to the driver for the command of a slot, below 32; the slot is empty.
+    fn give_page(&mut self, slot: u8, protocol: Protocol, page: Vec<u8, A>)
+        requires { slot < 32 }
+        ensures { self.new ≡ paged self.old slot protocol (list_in (command_at self.old slot)) page.items }
+    {
+        let (_, list) = self.take_command(slot);
+        let span = Span { lba: 0, sectors: 1 };
+        let task = Task::Read(span, protocol);
+        let posting = self.posting_of(slot, &task, Scatter::new(list, page));
+        self.answer(posting, ending_of(slot, &task));
+    }
+
+    /// IDENTIFY DEVICE.
+    fn identify(&mut self, slot: u8) -> Result<(), HbaFault>
+        requires { slot < 32 }
+        ensures ok { OnOk result (Identifies slot (list_in (command_at self.old slot)) self.old self.new) }
+        ensures err { OnErr result (self.new ≡ self.old) }
+    {
+        let page = controller_page(self.port.sectors(), self.depth);
+        let Ok(page) = Vec::from_slice(self.alloc, &page) else {
+            return Err(HbaFault::OutOfMemory);
+        };
+        match self.port.identify() {
+            Ok(_) => {
+                self.give_page(slot, Protocol::Pio, page);
+                Ok(())
+            }
+            Err(fault) => Err(plain_fault(fault)),
+        }
+    }
+
+    /// FLUSH CACHE, with EXT or without.
+    fn flush(&mut self, slot: u8) -> Result<(), HbaFault>
+        requires { slot < 32 }
+        ensures ok { OnOk result (Flushes slot self.old self.new) }
+        ensures err { OnErr result (self.new ≡ self.old) }
+    {
+        if let Err(fault) = self.port.flush() {
+            return Err(plain_fault(fault));
+        }
+        self.conclude(slot, d2h_fis(0x40, 0, 0, 0));
+        Ok(())
+    }
+
+    /// READ LOG EXT and READ LOG DMA EXT, with no queued command failed.
+    fn read_log(&mut self, slot: u8, log: Log, protocol: Protocol) -> Result<(), HbaFault>
+        requires { slot < 32 }
+        ensures ok { OnOk result (self.new ≡ paged self.old slot protocol (list_in (command_at self.old slot)) (log_page log)) }
+        ensures err { OnErr result (self.new ≡ self.old) }
+    {
+        let Ok(page) = Vec::from_slice(self.alloc, &log_page(log)) else {
+            return Err(HbaFault::OutOfMemory);
+        };
+        self.give_page(slot, protocol, page);
+        Ok(())
+    }
+
+    /// The device executes the command of a slot, below 32, that is not queued and moves no sectors, or aborts it.
+    ///
+    /// # Errors
+    /// `OutOfMemory` if an allocation failed; it may be tried again. `NotReady` if the slot has no such command that was read, or if something
+    /// is read or written just now. Nothing has changed.
+    pub fn execute(&mut self, slot: u8) -> Result<(), HbaFault>
+        requires { slot < 32 }
+        ensures ok { OnOk result (IsExecuted slot self.old self.new) }
+        ensures err { OnErr result (self.new ≡ self.old) }
+    {
+        if !self.is_running() || !self.is_idle() || !self.is_alone_fetched(slot) {
+            return Err(HbaFault::NotReady);
+        }
+        let task = self.task_in(slot);
+        if self.is_aborted() || self.is_simple(&task) {
+            let fis = self.simple_answer(&task);
+            self.conclude(slot, fis);
+            return Ok(());
+        }
+        match task {
+            Task::Identify => self.identify(slot),
+            Task::Flush => self.flush(slot),
+            Task::ReadLog(log, protocol) => self.read_log(slot, log, protocol),
+            _ => Err(HbaFault::NotReady),
+        }
     }
 }

@@ -42,7 +42,7 @@ fn is_taken(stepped: Stepped) -> bool
 
 impl<A: Allocator + Copy> Hba<A> {
     /// Takes the command out of a slot, below 32, and leaves it empty; what it asks and its PRDT are the answer.
-    fn take_command(&mut self, slot: u8) -> (Task, Vec<PrdEntry, A>)
+    pub(super) fn take_command(&mut self, slot: u8) -> (Task, Vec<PrdEntry, A>)
         requires { slot < 32 }
         ensures task { result.0 ≡ task_in (command_at self.old slot) }
         ensures list { result.1.items ≡ list_in (command_at self.old slot) }
