@@ -5,3 +5,4 @@ pub mod Queueing
 pub mod Dropping
 pub mod Delivering
 pub mod Executing
+pub mod Resetting

@@ -19,7 +19,7 @@ use sata_fis::{D2h, Fis};
 use std::alloc::Allocator;
 
 /// A D2H Register FIS with I.
-fn d2h_fis(status: u8, error: u8, lba: u64, count: u16) -> D2h
+pub(super) fn d2h_fis(status: u8, error: u8, lba: u64, count: u16) -> D2h
     requires { lba < 2 ^ 48 }
     ensures { result ≡ d2h_fis status error lba count }
 {
@@ -93,7 +93,7 @@ impl<A: Allocator + Copy> Hba<A> {
     }
 
     /// Ends the command of a slot, below 32, with a D2H Register FIS; the slot is empty.
-    fn conclude(&mut self, slot: u8, fis: D2h)
+    pub(super) fn conclude(&mut self, slot: u8, fis: D2h)
         requires { slot < 32 }
         ensures { self.new ≡ concluded self.old slot fis }
     {
@@ -141,7 +141,7 @@ impl<A: Allocator> Hba<A> {
     }
 
     /// Whether a slot, below 32, has a command that is read and not queued.
-    fn is_alone_fetched(&self, slot: u8) -> bool
+    pub(super) fn is_alone_fetched(&self, slot: u8) -> bool
         requires { slot < 32 }
         ensures { result ≡ is_alone_fetched (command_at self.now slot) }
     {

@@ -59,7 +59,7 @@ impl<A: Allocator> Hba<A> {
     }
 
     /// No command is left, and nothing is read or written any more.
-    fn empty(&mut self)
+    pub(super) fn empty(&mut self)
         ensures { self.new ≡ emptied self.old }
     {
         clear(self.slots.as_mut_slice());
@@ -80,7 +80,7 @@ fn reset<A: Allocator + Copy>(port: &mut Port<A>) -> Option<Journal<A>>
 
 impl<A: Allocator + Copy> Hba<A> {
     /// Resets the port if requests are dropped there.
-    fn reset_port(&mut self, consequence: Consequence) -> Option<Journal<A>>
+    pub(super) fn reset_port(&mut self, consequence: Consequence) -> Option<Journal<A>>
         ensures journal { result ≡ handed_out (is_reset consequence self.old) self.old.port }
         ensures port { self.new ≡ record self.old { port = port_after (is_reset consequence self.old) self.old.port } }
     {

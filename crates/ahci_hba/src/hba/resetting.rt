@@ -1,0 +1,129 @@
+//! What the device does by itself or when it is reset by software (AHCI 1.3.1, sections 10.1 and 10.4.1).
+
+ghost use Rattle.std.specs.Prelude.{◌≡◌, ◌<◌, ◌^◌, true, false, OnErr, OnOk, IfOk};
+ghost use Rattle.ahci_hba.specs.Dropping.{handed_out, is_reset};
+ghost use Rattle.ahci_hba.specs.Executing.{concluded, refused};
+ghost use Rattle.ahci_hba.specs.Queueing.{command_at};
+ghost use Rattle.ahci_hba.specs.Resetting.{IsControlled, control_in, controlled, may_sign, signature, signing};
+ghost use Rattle.hba_regs.specs.declared.consequence.Consequence.TheVariants.{LinkReset};
+
+use crate::command::Command;
+use crate::ending::Ending;
+use crate::fault::HbaFault;
+use crate::hba::Hba;
+use crate::hba::answering::REGISTER;
+use crate::hba::executing::d2h_fis;
+use ahci_port::Journal;
+use hba_command::Task;
+use hba_regs::Consequence;
+use sata_fis::{D2h, Fis};
+use std::alloc::Allocator;
+
+/// The FIS with the signature of a disk (Serial ATA, "Signature").
+fn signature() -> D2h
+    ensures { result ≡ signature }
+{
+    D2h {
+        i: false,
+        status: 0x50,
+        error: 0x01,
+        lba: 1,
+        device: 0,
+        count: 1,
+    }
+}
+
+impl<A: Allocator> Hba<A> {
+    /// Whether the device's signature waits to be taken, and nothing is read or written just now.
+    pub fn may_sign(&self) -> bool
+        ensures { result ≡ may_sign self.now }
+    {
+        self.is_idle() && self.registers.signature_is_due()
+    }
+
+    /// What the device control register of a slot's control FIS says of SRST, below 32; nothing if the slot has none that was read.
+    pub fn control_in(&self, slot: u8) -> Option<bool>
+        requires { slot < 32 }
+        ensures { result ≡ control_in (command_at self.now slot) }
+    {
+        match &self.slots[usize::from(slot)] {
+            Some(slot) => match &slot.command {
+                Command::Fetched(Task::Control { reset }, _, _) => Some(*reset),
+                _ => None,
+            },
+            None => None,
+        }
+    }
+
+    /// The registers take a control FIS of a slot, below 32.
+    fn take_control(&mut self, slot: u8, reset: bool)
+        requires { slot < 32 }
+        ensures { self.new ≡ record self.old { registers = controlled self.old.registers slot reset } }
+    {
+        if reset {
+            self.registers.set_srst(slot);
+        } else {
+            self.registers.clear_srst(slot);
+        }
+    }
+}
+
+impl<A: Allocator + Copy> Hba<A> {
+    /// The device sends its signature: a D2H Register FIS is written, and then PxSIG and PxTFD have it.
+    ///
+    /// # Errors
+    /// `NotReady` exactly if `may_sign` is false.
+    pub fn sign(&mut self) -> Result<(), HbaFault>
+        ensures ok { OnOk result ((may_sign self.old ≡ true) × (self.new ≡ signing self.old)) }
+        ensures err { OnErr result ((may_sign self.old ≡ false) × (self.new ≡ self.old)) }
+    {
+        if !self.may_sign() {
+            return Err(HbaFault::NotReady);
+        }
+        let put = self.received_put(REGISTER, Fis::D2h(signature()).encode());
+        let posting = self.only_after(put);
+        self.answer(posting, Ending::Signature);
+        Ok(())
+    }
+
+    /// The device takes the control FIS of a slot, below 32 (AHCI 1.3.1, section 10.4.1). Each drops all commands; if the port has requests,
+    /// it is reset, and the journal that it hands out is the answer. After the one that clears SRST the device sends its signature.
+    ///
+    /// # Errors
+    /// `NotReady` if the slot has no control FIS that was read, or if something is read or written just now.
+    pub fn control(&mut self, slot: u8) -> Result<Option<Journal<A>>, HbaFault>
+        requires { slot < 32 }
+        ensures ok { OnOk result (IsControlled slot self.old self.new) }
+        ensures journal { IfOk result (λ j. j ≡ handed_out (is_reset LinkReset self.old) self.old.port) }
+        ensures err { OnErr result (self.new ≡ self.old) }
+    {
+        if !self.is_running() || !self.is_idle() {
+            return Err(HbaFault::NotReady);
+        }
+        let Some(reset) = self.control_in(slot) else {
+            return Err(HbaFault::NotReady);
+        };
+        let journal = self.reset_port(Consequence::LinkReset);
+        self.take_control(slot, reset);
+        self.empty();
+        Ok(journal)
+    }
+
+    /// The device fails the command of a slot, below 32, that is read and not queued, with an error byte at an LBA below 2^48: a D2H Register
+    /// FIS is written, and then the port halts. No sector has changed.
+    ///
+    /// # Errors
+    /// `NotReady` if the slot has no such command, or if something is read or written just now.
+    pub fn refuse(&mut self, slot: u8, error: u8, lba: u64) -> Result<(), HbaFault>
+        requires slot { slot < 32 }
+        requires lba { lba < 2 ^ 48 }
+        ensures ok { OnOk result (self.new ≡ concluded self.old slot (refused error lba)) }
+        ensures err { OnErr result (self.new ≡ self.old) }
+    {
+        if !self.is_running() || !self.is_idle() || !self.is_alone_fetched(slot) {
+            return Err(HbaFault::NotReady);
+        }
+        self.conclude(slot, d2h_fis(0x41, error, lba, 0));
+        Ok(())
+    }
+}
