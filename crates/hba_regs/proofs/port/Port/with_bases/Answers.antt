@@ -14,5 +14,6 @@ invariant_of-result c = record {
   ie = none_enabled;
   stopped = λ e. (bits_zero, bits_zero);
   sctl = omega arith;
+  link = refl;
   ccs = omega arith;
 }
