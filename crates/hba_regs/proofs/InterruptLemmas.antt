@@ -1,5 +1,5 @@
 -- Lemmas on pending interrupts.
-use Rattle.std.proofs.Common.{◌≡◌, ◌≢◌, ℕ, zero, suc, ◌+◌, ◌*◌, ◌<◌, Bool, true, false, not, ◌&&◌, ◌||◌, if◌then◌else◌, List, [], ◌∷◌, length, ◌∙◌, refl, sym, ap, nat_eq, arith}
+use Rattle.std.proofs.Common.{◌≡◌, ◌≢◌, ℕ, zero, suc, ◌<◌, Bool, true, false, not, ◌&&◌, ◌||◌, List, [], ◌∷◌, length, ◌∙◌, refl, sym, ap, nat_eq, arith}
 use Rattle.word_bits.specs.Places.{bits, no_places, intersection, word_of, has_place}
 use Rattle.std.proofs.lemmas.Bool.{ne_eqb}
 use Rattle.word_bits.proofs.PlacesLemmas.{has_place-no_places, has_place-with_same, has_place-with_other, length-with_place, and_false}

@@ -1,8 +1,8 @@
 -- Lemmas on what writes keep.
-use Rattle.std.proofs.Common.{◌≡◌, ◌≢◌, ℕ, zero, suc, ◌+◌, ◌-◌, ◌*◌, ◌/◌, ◌%◌, ◌^◌, ◌<◌, Bool, true, false, not, ◌&&◌, ◌||◌, if◌then◌else◌, List, length, nat_eq, refl, sym, ◌∙◌, ap, arith}
+use Rattle.std.proofs.Common.{◌≡◌, ◌≢◌, ℕ, zero, suc, ◌+◌, ◌*◌, ◌/◌, ◌%◌, ◌^◌, ◌<◌, Bool, true, false, not, ◌&&◌, ◌||◌, if◌then◌else◌, List, nat_eq, refl, ◌∙◌, ap, arith}
 use Rattle.std.specs.Int.{bit_at}
 use Rattle.std.proofs.lemmas.Nat.Bits.{bit_at_cat_low}
-use Rattle.word_bits.specs.Places.{bits, word_of, has_place, no_places, union, intersection}
+use Rattle.word_bits.specs.Places.{bits, has_place, intersection}
 use Rattle.word_bits.proofs.PlacesLemmas.{has_place-union}
 use Rattle.word_bits.proofs.BitsLemmas.{has_place-bits, bits-word_of}
 use Rattle.hba_regs.specs.HbaState.{HbaPort, HbaState, HasWords, IsLawful, asked_link, enables, reset_with}
@@ -10,15 +10,14 @@ use Rattle.hba_regs.specs.Interrupts.{is_pending, settled}
 use Rattle.hba_regs.specs.Linking.{goes_down, relinked}
 use Rattle.hba_regs.specs.RegisterTable.{takes_ones}
 use Rattle.hba_regs.specs.Reading.{bit_word, command_word, word_at}
-use Rattle.hba_regs.specs.Writing.{aligned, changed, commanded, consequence_of, remaining, with_clb, with_fb, with_ghc, with_lower, with_upper, both, with_control}
+use Rattle.hba_regs.specs.Writing.{aligned, changed, commanded, consequence_of, remaining, with_clb, with_fb, with_ghc, with_lower, both, with_control}
 use Rattle.hba_regs.specs.Accessing.{part, with_part, write_of}
 use Rattle.hba_regs.specs.declared.access_size.AccessSize.TheVariants.{Four, Eight}
-use Rattle.hba_regs.specs.declared.consequence.Consequence.{Consequence}
 use Rattle.hba_regs.specs.declared.consequence.Consequence.TheVariants.{Nothing, Stopped, LinkReset, Reset}
 use Rattle.hba_regs.specs.declared.link.Link.{Link}
 use Rattle.hba_regs.specs.declared.link.Link.TheVariants.{Up, InReset, Offline}
 use Rattle.hba_regs.specs.declared.register.Register.{Register}
-use Rattle.hba_regs.specs.declared.register.Register.TheVariants.{Cap, Ghc, Is, Pi, Vs, PxClb, PxClbu, PxFb, PxFbu, PxIs, PxIe, PxCmd, PxTfd, PxSig, PxSsts, PxSctl, PxSerr, PxSact, PxCi}
+use Rattle.hba_regs.specs.declared.register.Register.TheVariants.{Ghc, Is, PxClb, PxClbu, PxFb, PxFbu, PxIs, PxIe, PxCmd, PxSctl, PxSerr, PxSact, PxCi}
 use Rattle.hba_regs.proofs.InterruptLemmas.{pending-reset, settled_again}
 
 -- ---- bytes of a word

@@ -8,7 +8,7 @@ use Rattle.hba_regs.specs.RegisterTable.{register_at}
 use Rattle.hba_regs.specs.declared.consequence.Consequence.{Consequence}
 use Rattle.hba_regs.specs.declared.consequence.Consequence.TheVariants.{Nothing, Stopped, LinkReset, Reset}
 use Rattle.hba_regs.specs.declared.register.Register.{Register}
-use Rattle.hba_regs.specs.declared.register.Register.TheVariants.{Cap, Ghc, Is, Pi, Vs, PxClb, PxClbu, PxFb, PxFbu, PxIs, PxIe, PxCmd, PxTfd, PxSig, PxSsts, PxSctl, PxSerr, PxSact, PxCi}
+use Rattle.hba_regs.specs.declared.register.Register.TheVariants.{Ghc, Is, PxClb, PxClbu, PxFb, PxFbu, PxIs, PxIe, PxCmd, PxSctl, PxSerr, PxSact, PxCi}
 
 -- the bits of an address from bit i on; those below it read 0
 abbrev pub aligned : ℕ → ℕ → ℕ
