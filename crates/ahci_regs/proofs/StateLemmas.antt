@@ -3,7 +3,7 @@ use Rattle.std.proofs.Common.{◌≡◌, ℕ, ◌^◌, ◌<◌, ◌≤◌, Bool,
 use Rattle.std.proofs.lemmas.Bool.{cases_eq, cases_lt}
 use Rattle.std.proofs.lemmas.Nat.{or_of_8, and_le_l}
 use Rattle.word_bits.specs.Places.{bits, has_place, no_places, without_place, union, intersection, minus, only_below}
-use Rattle.word_bits.proofs.PlacesLemmas.{length-no_places, length-without_place, length-union, length-intersection, length-minus, length-only_below, has_place-no_places, has_place-without_same, has_place-without_other, has_place-union, has_place-intersection, has_place-minus, has_place-only_below, has_place-only_below_past, same_sets, and_true, and_false}
+use Rattle.word_bits.proofs.PlacesLemmas.{length-no_places, length-without_place, length-union, length-intersection, length-minus, length-only_below, has_place-no_places, has_place-without_same, has_place-without_other, has_place-union, has_place-intersection, has_place-minus, has_place-only_below, has_place-only_below_past, same_sets, minus-none, without_place-none, and_true, and_false}
 use Rattle.word_bits.proofs.BitsLemmas.{length-bits, bits_and, bits_zero}
 use Rattle.ahci_regs.specs.PortState.{PortState, IsLawful, IsSlots, IsInterrupts, implemented, first_state}
 use Rattle.ahci_regs.specs.Writing.{remaining}
@@ -44,22 +44,12 @@ slots-ended d status tag s h =
 
 -- what is empty stays so
 
-none-minus : (t : List Bool) → minus no_places t ≡ no_places
-none-minus t =
-    same_sets (minus no_places t) no_places (length-minus no_places t)
-    (λ i h. has_place-minus no_places t i ∙ ap (λ x. x && not (has_place t i)) (has_place-no_places i) ∙ sym (has_place-no_places i))
-
 pub minus_of_none : (s t : List Bool) → s ≡ no_places → minus s t ≡ no_places
-minus_of_none s t e = ap (λ x. minus x t) e ∙ none-minus t
-
-none-without : (t : ℕ) → without_place no_places t ≡ no_places
-none-without t =
-    same_sets (without_place no_places t) no_places (length-without_place no_places t)
-    (λ i h. ⊎_elim (λ e. rw e (has_place-without_same no_places t ∙ sym (has_place-no_places t))) (λ e. has_place-without_other no_places t i e) (cases_eq i t))
+minus_of_none s t e = ap (λ x. minus x t) e ∙ minus-none t
 
 pub ended_of_none : (status tag : ℕ) (s : List Bool) → s ≡ no_places → ended status tag s ≡ no_places
 ended_of_none status tag s e =
-    ap (ended status tag) e ∙ elim (is_done status) as (λ b. (if b then without_place no_places tag else no_places) ≡ no_places) [ true ↦ none-without tag | false ↦ refl ]
+    ap (ended status tag) e ∙ elim (is_done status) as (λ b. (if b then without_place no_places tag else no_places) ≡ no_places) [ true ↦ without_place-none tag | false ↦ refl ]
 
 -- ---- sets of interrupts
 

@@ -1,2 +1,3 @@
 pub mod InterruptLemmas
+pub mod LawLemmas
 pub mod StateLemmas

@@ -1,5 +1,5 @@
 -- Lemmas on what the registers of a port keep: the bits of PxIS that are kept, and no command while the port is stopped.
-use Rattle.std.proofs.Common.{◌≡◌, ◌≢◌, ℕ, Bool, true, false, not, ◌&&◌, ◌||◌, if◌then◌else◌, List, sym, ◌∙◌, refl, ap, subst, bit_and, arith}
+use Rattle.std.proofs.Common.{◌≡◌, ◌≢◌, ℕ, Bool, true, false, not, ◌&&◌, if◌then◌else◌, List, sym, ◌∙◌, refl, ap, subst, arith}
 use Rattle.word_bits.specs.Places.{bits, has_place, no_places, with_place, without_place, intersection, minus}
 use Rattle.std.specs.Int.Bits.{and_zero_l}
 use Rattle.word_bits.proofs.PlacesLemmas.{same_sets, length-intersection, has_place-intersection, has_place-no_places, has_place-with_other, has_place-minus, minus-none, without_place-none}

@@ -15,6 +15,10 @@ bytes_of Two = 2
 bytes_of Four = 4
 bytes_of Eight = 8
 
+abbrev pub size_of : ℕ → Option AccessSize
+size_of bytes =
+    if nat_eq bytes 1 then Some One else if nat_eq bytes 2 then Some Two else if nat_eq bytes 4 then Some Four else if nat_eq bytes 8 then Some Eight else None
+
 abbrev pub is_aligned : ℕ → AccessSize → Bool
 is_aligned off size = nat_eq (off % bytes_of size) 0
 

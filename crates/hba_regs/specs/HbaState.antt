@@ -1,9 +1,9 @@
 -- What the registers of an HBA with one port keep (AHCI 1.3.1, sections 3.1 and 3.3). A register of 32 bits with a bit for each
 -- slot, interrupt or error is the set of its bits that are 1.
-use Rattle.std.specs.Prelude.{◌≡◌, ℕ, ◌%◌, ◌^◌, ◌<◌, Bool, true, false, List, length}
+use Rattle.std.specs.Prelude.{◌≡◌, ℕ, ◌%◌, ◌^◌, ◌<◌, Bool, true, false, List, length, nat_eq, if◌then◌else◌}
 use Rattle.word_bits.specs.Places.{bits, no_places, has_place, intersection}
 use Rattle.hba_regs.specs.declared.link.Link.{Link}
-use Rattle.hba_regs.specs.declared.link.Link.TheVariants.{Up}
+use Rattle.hba_regs.specs.declared.link.Link.TheVariants.{Up, InReset, Offline}
 
 -- the registers of the port (section 3.3)
 pub record HbaPort : Type 0 where
@@ -82,6 +82,10 @@ reset_with clb fb = record { ghc_ie = false; ips = false; port = reset_port clb 
 abbrev pub power_on : HbaState
 power_on = reset_with 0 0
 
+-- the link that a value of DET asks for: 0 a link, 1 COMRESET, 4 none; any other value leaves it
+abbrev pub asked_link : ℕ → Link → Link
+asked_link det link = if nat_eq det 0 then Up else if nat_eq det 1 then InReset else if nat_eq det 4 then Offline else link
+
 -- the bits of PxIS that are kept: PCS (bit 6) and PRCS (bit 22) are not, since PxSERR has them
 pub record IsKept (s : List Bool) : Type 0 where
   pub no_pcs : has_place s 6 ≡ false
@@ -97,6 +101,8 @@ pub record IsLawful (p : HbaPort) : Type 0 where
   -- a stopped port has no command
   pub stopped : p.st ≡ false → (p.sact ≡ no_places) × (p.ci ≡ no_places)
   pub sctl : p.sctl < 2 ^ 12
+  -- the link is the one that DET asks for
+  pub link : asked_link (p.sctl % 2 ^ 4) p.link ≡ p.link
   pub ccs : p.ccs < 32
 
 -- the sets of a port are those of words of 32 bits

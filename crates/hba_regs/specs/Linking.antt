@@ -1,13 +1,9 @@
 -- What PxSCTL.DET does to the link (AHCI 1.3.1, sections 3.3.10, 3.3.11 and 10.4.2).
-use Rattle.std.specs.Prelude.{ℕ, Bool, true, false, nat_eq, if◌then◌else◌}
+use Rattle.std.specs.Prelude.{Bool, true, false}
 use Rattle.word_bits.specs.Places.{no_places, union}
 use Rattle.hba_regs.specs.HbaState.{HbaPort, link_changed}
 use Rattle.hba_regs.specs.declared.link.Link.{Link}
 use Rattle.hba_regs.specs.declared.link.Link.TheVariants.{Up, InReset, Offline}
-
--- the link that a value of DET asks for: 0 a link, 1 COMRESET, 4 none; any other value leaves it
-abbrev pub asked_link : ℕ → Link → Link
-asked_link det link = if nat_eq det 0 then Up else if nat_eq det 1 then InReset else if nat_eq det 4 then Offline else link
 
 -- the link goes down: no command is left, and the device's status and signature are gone
 abbrev pub went_down : HbaPort → Link → HbaPort

@@ -1,14 +1,14 @@
 -- What a word that is written to each register does (AHCI 1.3.1, sections 3.1 and 3.3).
 use Rattle.std.specs.Prelude.{ℕ, ◌+◌, ◌*◌, ◌/◌, ◌%◌, ◌^◌, Bool, not, ◌&&◌, List, Option, Some, None, bit_and, if◌then◌else◌}
 use Rattle.word_bits.specs.Places.{bits, has_place, no_places, union, intersection, minus}
-use Rattle.hba_regs.specs.HbaState.{HbaPort, HbaState, enables, reset_with}
+use Rattle.hba_regs.specs.HbaState.{HbaPort, HbaState, asked_link, enables, reset_with}
 use Rattle.hba_regs.specs.Interrupts.{settled}
-use Rattle.hba_regs.specs.Linking.{asked_link, goes_down, relinked}
+use Rattle.hba_regs.specs.Linking.{goes_down, relinked}
 use Rattle.hba_regs.specs.RegisterTable.{register_at}
 use Rattle.hba_regs.specs.declared.consequence.Consequence.{Consequence}
 use Rattle.hba_regs.specs.declared.consequence.Consequence.TheVariants.{Nothing, Stopped, LinkReset, Reset}
 use Rattle.hba_regs.specs.declared.register.Register.{Register}
-use Rattle.hba_regs.specs.declared.register.Register.TheVariants.{Cap, Ghc, Is, Pi, Vs, PxClb, PxClbu, PxFb, PxFbu, PxIs, PxIe, PxCmd, PxTfd, PxSig, PxSsts, PxSctl, PxSerr, PxSact, PxCi}
+use Rattle.hba_regs.specs.declared.register.Register.TheVariants.{Ghc, Is, PxClb, PxClbu, PxFb, PxFbu, PxIs, PxIe, PxCmd, PxSctl, PxSerr, PxSact, PxCi}
 
 -- the bits of an address from bit i on; those below it read 0
 abbrev pub aligned : ℕ → ℕ → ℕ
@@ -111,9 +111,13 @@ pub record Written : Type 0 where
   pub state : HbaState
   pub consequence : Consequence
 
+-- a word that is written to a register
+abbrev pub written : HbaState → ℕ → Register → Written
+written s value register = record { state = settled (changed s value register); consequence = consequence_of s value register }
+
 -- a word at an offset that is a multiple of 4; where no register is, it changes nothing
 abbrev pub written_at : HbaState → ℕ → Option Register → Written
-written_at s value (Some register) = record { state = settled (changed s value register); consequence = consequence_of s value register }
+written_at s value (Some register) = written s value register
 written_at s value None = record { state = s; consequence = Nothing }
 
 abbrev pub word_written : HbaState → ℕ → ℕ → Written

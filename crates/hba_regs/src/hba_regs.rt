@@ -2,10 +2,9 @@
 
 ghost use Rattle.std.specs.Prelude.{◌≡◌, ◌*◌, ◌/◌};
 ghost use Rattle.hba_regs.specs.HbaState.{power_on};
-ghost use Rattle.hba_regs.specs.Interrupts.{settled};
 ghost use Rattle.hba_regs.specs.RegisterTable.{register_at};
 ghost use Rattle.hba_regs.specs.Reading.{word_at, word_of_offset};
-ghost use Rattle.hba_regs.specs.Writing.{changed, consequence_of, word_written};
+ghost use Rattle.hba_regs.specs.Writing.{word_written, written};
 ghost use Rattle.hba_regs.specs.Accessing.{read_of, word_beside, write_of};
 
 use crate::access_size::AccessSize;
@@ -149,8 +148,8 @@ impl HbaRegs {
 
     /// A word that is written to a register; at the end IS.IPS is set if an interrupt is pending.
     fn write_register(&mut self, register: Register, value: u32) -> Consequence
-        ensures state { self.new ≡ settled (changed self.old value register) }
-        ensures consequence { result ≡ consequence_of self.old value register }
+        ensures state { self.new ≡ (written self.old value register).state }
+        ensures consequence { result ≡ (written self.old value register).consequence }
     {
         let mut consequence = Consequence::Nothing;
         match register {

@@ -6,6 +6,7 @@ mod access_size;
 mod consequence;
 mod fatal;
 mod hba_regs;
+pub mod laws;
 mod link;
 mod port;
 mod register;

@@ -1,5 +1,5 @@
 ghost use Rattle.std.specs.Prelude.{◌≡◌};
-ghost use Rattle.hba_regs.specs.Linking.{asked_link};
+ghost use Rattle.hba_regs.specs.HbaState.{asked_link};
 ghost use Rattle.hba_regs.specs.Reading.{link_word};
 
 /// The link to the device, as PxSCTL.DET has left it (AHCI 1.3.1, sections 3.3.10 and 3.3.11).

@@ -1,11 +1,11 @@
 //! What software's writes do to the registers of the port.
 
-ghost use Rattle.std.specs.Prelude.{◌≡◌, ◌/◌, ◌%◌, ◌^◌, not, ◌&&◌, bit_and, if◌then◌else◌};
+ghost use Rattle.std.specs.Prelude.{◌≡◌, ◌%◌, ◌^◌, ◌<◌, true, bit_and, if◌then◌else◌};
 ghost use Rattle.word_bits.specs.Places.{bits, has_place, intersection, minus, union};
-ghost use Rattle.hba_regs.specs.HbaState.{enables};
-ghost use Rattle.hba_regs.specs.Linking.{asked_link, came_up, goes_down, relinked, went_down};
-ghost use Rattle.hba_regs.specs.Writing.{aligned, port_changed, port_consequence, remaining, with_ci, with_clb, with_command, with_control, with_fb, with_lower, with_sact, with_upper};
-ghost use Rattle.hba_regs.specs.declared.consequence.Consequence.TheVariants.{LinkReset, Nothing, Stopped};
+ghost use Rattle.hba_regs.specs.HbaState.{asked_link, enables};
+ghost use Rattle.hba_regs.specs.Linking.{came_up, went_down};
+ghost use Rattle.hba_regs.specs.Writing.{port_changed, port_consequence, remaining, with_clb, with_command, with_control, with_fb};
+ghost use Rattle.hba_regs.specs.declared.link.Link.TheVariants.{Up};
 
 use super::{LINK_CHANGED, NO_SIGNATURE, Port};
 use crate::consequence::Consequence;
@@ -25,56 +25,41 @@ impl Port {
         ensures consequence { result ≡ port_consequence self.old value register }
     {
         match register {
-            Register::PxClb => self.write_clb(value),
-            Register::PxClbu => self.write_clbu(value),
-            Register::PxFb => self.write_fb(value),
-            Register::PxFbu => self.write_fbu(value),
+            Register::PxClb => self.move_list(with_lower(self.clb, value & !0x3ff)),
+            Register::PxClbu => self.move_list(with_upper(self.clb, value)),
+            Register::PxFb => self.move_received(with_lower(self.fb, value & !0xff)),
+            Register::PxFbu => self.move_received(with_upper(self.fb, value)),
             Register::PxIs => self.acknowledge(value),
             Register::PxIe => self.enable(value),
             Register::PxCmd => return self.write_command(value),
             Register::PxTfd | Register::PxSig | Register::PxSsts => {}
             Register::PxSctl => return self.write_control(value),
             Register::PxSerr => self.clear_errors(value),
-            Register::PxSact => self.write_sact(value),
-            Register::PxCi => self.write_ci(value),
+            Register::PxSact if self.started => self.activate(value),
+            Register::PxCi if self.started => self.issue(value),
+            Register::PxSact | Register::PxCi => {}
             Register::Cap | Register::Ghc | Register::Is | Register::Pi | Register::Vs => {}
         }
         Consequence::Nothing
     }
 
     /// The command list stays where it is while ST is 1 (section 3.3.1).
-    fn write_clb(&mut self, value: u32)
-        ensures { self.new ≡ with_clb self.old (with_lower self.old.clb (aligned 10 value)) }
+    fn move_list(&mut self, base: u64)
+        requires { base % 2 ^ 10 ≡ 0 }
+        ensures { self.new ≡ with_clb self.old base }
     {
         if !self.started {
-            self.clb = with_lower(self.clb, value & !0x3ff);
-        }
-    }
-
-    /// So does its upper half (section 3.3.2).
-    fn write_clbu(&mut self, value: u32)
-        ensures { self.new ≡ with_clb self.old (with_upper self.old.clb value) }
-    {
-        if !self.started {
-            self.clb = with_upper(self.clb, value);
+            self.clb = base;
         }
     }
 
     /// The received FIS area stays where it is while FRE is 1 (section 3.3.3).
-    fn write_fb(&mut self, value: u32)
-        ensures { self.new ≡ with_fb self.old (with_lower self.old.fb (aligned 8 value)) }
+    fn move_received(&mut self, base: u64)
+        requires { base % 2 ^ 8 ≡ 0 }
+        ensures { self.new ≡ with_fb self.old base }
     {
         if !self.receiving {
-            self.fb = with_lower(self.fb, value & !0xff);
-        }
-    }
-
-    /// So does its upper half (section 3.3.4).
-    fn write_fbu(&mut self, value: u32)
-        ensures { self.new ≡ with_fb self.old (with_upper self.old.fb value) }
-    {
-        if !self.receiving {
-            self.fb = with_upper(self.fb, value);
+            self.fb = base;
         }
     }
 
@@ -118,8 +103,24 @@ impl Port {
         ensures state { self.new ≡ with_control self.old value }
         ensures consequence { result ≡ port_consequence self.old value Register.PxSctl }
     {
-        self.control = value & 0xfff;
-        self.relink(self.link.asked(value & 0xf))
+        let control = value & 0xfff;
+        let next = self.link.asked(value & 0xf);
+        match (self.link, next) {
+            (Link::Up, Link::Up)
+            | (Link::InReset, Link::InReset)
+            | (Link::Offline, Link::Offline) => {
+                self.control = control;
+                Consequence::Nothing
+            }
+            (_, Link::Up) => {
+                self.come_up(control);
+                Consequence::Nothing
+            }
+            _ => {
+                self.go_down(control, next);
+                Consequence::LinkReset
+            }
+        }
     }
 
     /// Writing 1 to a bit of PxSERR clears it (section 3.3.12).
@@ -130,46 +131,28 @@ impl Port {
     }
 
     /// Writing 1 to a bit of PxSACT sets it, while ST is 1 (section 3.3.13).
-    fn write_sact(&mut self, value: u32)
-        ensures { self.new ≡ with_sact self.old value }
+    fn activate(&mut self, value: u32)
+        requires { self.old.st ≡ true }
+        ensures { self.new ≡ record self.old { sact = union self.old.sact (bits value) } }
     {
-        if self.started {
-            self.sact = with(self.sact, value);
-        }
+        self.sact = with(self.sact, value);
     }
 
     /// Writing 1 to a bit of PxCI sets it, while ST is 1 (section 3.3.14).
-    fn write_ci(&mut self, value: u32)
-        ensures { self.new ≡ with_ci self.old value }
+    fn issue(&mut self, value: u32)
+        requires { self.old.st ≡ true }
+        ensures { self.new ≡ record self.old { ci = union self.old.ci (bits value) } }
     {
-        if self.started {
-            self.ci = with(self.ci, value);
-        }
-    }
-
-    /// Moves the link, if it isn't so already.
-    fn relink(&mut self, next: Link) -> Consequence
-        ensures state { self.new ≡ relinked self.old self.old.link next }
-        ensures consequence { result ≡ (if goes_down self.old.link next then LinkReset else Nothing) }
-    {
-        match (self.link, next) {
-            (Link::Up, Link::Up) => Consequence::Nothing,
-            (Link::InReset, Link::InReset) | (Link::Offline, Link::Offline) => Consequence::Nothing,
-            (_, Link::Up) => {
-                self.come_up();
-                Consequence::Nothing
-            }
-            _ => {
-                self.go_down(next);
-                Consequence::LinkReset
-            }
-        }
+        self.ci = with(self.ci, value);
     }
 
     /// The device is there again, and is busy until its signature is taken.
-    fn come_up(&mut self)
-        ensures { self.new ≡ came_up self.old }
+    fn come_up(&mut self, control: u32)
+        requires control { control < 2 ^ 12 }
+        requires link { asked_link (control % 2 ^ 4) Up ≡ Up }
+        ensures { self.new ≡ came_up (record self.old { sctl = control }) }
     {
+        self.control = control;
         self.link = Link::Up;
         self.serr = with(self.serr, LINK_CHANGED);
         self.status = 0x80;
@@ -178,9 +161,12 @@ impl Port {
 
     /// The link is gone, and the commands with it (section 10.4.2).
     #[tactic(auto, using(word_bits::proofs::BitsLemmas::bits_zero))]
-    fn go_down(&mut self, link: Link)
-        ensures { self.new ≡ went_down self.old link }
+    fn go_down(&mut self, control: u32, link: Link)
+        requires control { control < 2 ^ 12 }
+        requires link { asked_link (control % 2 ^ 4) link ≡ link }
+        ensures { self.new ≡ went_down (record self.old { sctl = control }) link }
     {
+        self.control = control;
         self.link = link;
         self.sact = 0;
         self.ci = 0;

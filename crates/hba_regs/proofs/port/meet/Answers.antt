@@ -1,4 +1,4 @@
-use Rattle.std.proofs.Common.{◌≡◌, ◌<◌, ◌^◌, ap, sym, ◌∙◌, not, nat_eq, bit_and, arith}
+use Rattle.std.proofs.Common.{◌<◌, ◌^◌, ap, sym, ◌∙◌, not, nat_eq, bit_and, arith}
 use Rattle.std.proofs.lemmas.Nat.{and_le_l}
 use Rattle.word_bits.specs.Places.{word_of}
 use Rattle.word_bits.proofs.BitsLemmas.{bits_and, word_of-bits}

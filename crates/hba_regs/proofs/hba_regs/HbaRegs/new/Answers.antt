@@ -1,6 +1,5 @@
 -- No interrupt is enabled.
-use Rattle.std.proofs.Common.{◌≡◌, ◌∙◌, sym, ap}
-use Rattle.std.proofs.lemmas.Bool.{false≢true}
+use Rattle.std.proofs.Common.{◌∙◌, sym, ap}
 use Rattle.hba_regs.specs.Interrupts.{is_pending}
 use Rattle.hba_regs.proofs.InterruptLemmas.{pending-reset}
 use Rattle.hba_regs.proofs.hba_regs.HbaRegs.new.Goals as goal

@@ -12,5 +12,6 @@ invariant_of-self c =
       ie = h.ie;
       stopped = λ e. ((h.stopped e).0, without_of_none _ _ _ c.without_bit-self-inside.ensures (h.stopped e).1);
       sctl = h.sctl;
+      link = h.link;
       ccs = h.ccs;
     }

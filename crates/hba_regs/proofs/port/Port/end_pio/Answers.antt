@@ -13,5 +13,6 @@ invariant_of-self c =
       ie = h.ie;
       stopped = λ e. ((h.stopped e).0, ended_of_none _ _ _ _ c.ended-self-inside.ensures (h.stopped e).1);
       sctl = h.sctl;
+      link = h.link;
       ccs = h.ccs;
     }

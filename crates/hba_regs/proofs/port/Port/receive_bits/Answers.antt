@@ -13,5 +13,6 @@ invariant_of-self c =
       ie = h.ie;
       stopped = λ e. (minus_of_none _ _ _ c.lost-self-inside.ensures (h.stopped e).0, (h.stopped e).1);
       sctl = h.sctl;
+      link = h.link;
       ccs = h.ccs;
     }

@@ -1,8 +1,7 @@
 -- Nothing is set, and the bases are those that were asked for.
-use Rattle.std.proofs.Common.{sym, subst, refl, arith, ap, ◌∙◌}
-use Rattle.word_bits.specs.Places.{no_places, intersection}
+use Rattle.std.proofs.Common.{sym, subst, refl, arith}
 use Rattle.word_bits.proofs.BitsLemmas.{bits_zero}
-use Rattle.hba_regs.specs.HbaState.{IsKept, enables}
+use Rattle.hba_regs.specs.HbaState.{IsKept}
 use Rattle.hba_regs.proofs.StateLemmas.{kept-none, none_enabled}
 use Rattle.hba_regs.proofs.port.Port.with_bases.Goals as goal
 
@@ -14,5 +13,6 @@ invariant_of-result c = record {
   ie = none_enabled;
   stopped = λ e. (bits_zero, bits_zero);
   sctl = omega arith;
+  link = refl;
   ccs = omega arith;
 }

@@ -1,0 +1,145 @@
+//! What follows from the contracts of `HbaRegs`. The functions change nothing: each stands for its clauses. A write is one of a
+//! word to a register (`written`), which `words_are_written_to_their_registers` finds at the register's offset.
+ghost use Rattle.std.specs.Prelude.{◌≡◌, ◌≢◌, ◌+◌, ◌*◌, ◌/◌, ◌%◌, ◌^◌, ◌<◌, ℕ, Bool, true, false, not, ◌&&◌, ◌||◌};
+ghost use Rattle.word_bits.specs.Places.{bits, has_place, no_places, union};
+ghost use Rattle.hba_regs.specs.HbaState.{HbaPort, link_changed, power_on};
+ghost use Rattle.hba_regs.specs.Interrupts.{interrupts, is_pending};
+ghost use Rattle.hba_regs.specs.RegisterTable.{offset_of, takes_ones};
+ghost use Rattle.hba_regs.specs.Reading.{word_at};
+ghost use Rattle.hba_regs.specs.Writing.{written, both};
+ghost use Rattle.hba_regs.specs.Accessing.{part, read_of, with_part, write_of};
+ghost use Rattle.hba_regs.specs.Receiving.{moved};
+ghost use Rattle.hba_regs.specs.declared.consequence.Consequence.TheVariants.{Nothing};
+ghost use Rattle.hba_regs.specs.declared.link.Link.TheVariants.{Up};
+
+use crate::access_size::AccessSize;
+use crate::hba_regs::HbaRegs;
+use crate::register::Register;
+
+/// Reading changes nothing, at any offset and of any size.
+pub fn reading_changes_nothing(regs: &mut HbaRegs, off: u32, size: AccessSize) -> u64
+    ensures answer { result ≡ read_of regs.old off size }
+    ensures same { regs.new ≡ regs.old }
+{
+    regs.read(off, size)
+}
+
+/// Four bytes at a register's offset read its word and write a word to it.
+pub fn words_are_written_to_their_registers(regs: &HbaRegs, register: Register, value: u32)
+    ensures read { read_of regs.now (offset_of register) AccessSize.Four ≡ word_at regs.now register }
+    ensures write { write_of regs.now (offset_of register) AccessSize.Four value ≡ written regs.now value register }
+{
+    register.offset();
+}
+
+/// Eight bytes are two words, the lower first.
+pub fn eight_bytes_are_two_words(regs: &HbaRegs, off: u32, lower: u32, upper: u32)
+    requires { off % 8 ≡ 0 }
+    ensures read { read_of regs.now off AccessSize.Eight
+        ≡ read_of regs.now off AccessSize.Four + read_of regs.now (off + 4) AccessSize.Four * 2 ^ 32 }
+    ensures write { let first = write_of regs.now off AccessSize.Four lower in
+        let second = write_of first.state (off + 4) AccessSize.Four upper in
+        let whole = write_of regs.now off AccessSize.Eight (lower + upper * 2 ^ 32) in
+        (whole.state ≡ second.state) × (whole.consequence ≡ both first.consequence second.consequence) }
+{}
+
+/// A byte that is written beside others is read there, and the others read as before.
+pub fn a_byte_is_written_alone(word: u32, place: u32, value: u64)
+    requires { place < 4 }
+    ensures here { part (with_part word (8 * place) 1 value) (8 * place) 1 ≡ value % 2 ^ 8 }
+    ensures others { (other : ℕ) → other < 4 → other ≢ place
+        → part (with_part word (8 * place) 1 value) (8 * other) 1 ≡ part word (8 * other) 1 }
+{}
+
+/// After GHC.HR the registers are as after power-on, but for the bases, whatever was before.
+pub fn a_reset_leaves_the_bases(regs: &HbaRegs, value: u32)
+    requires { has_place (bits value) 0 ≡ true }
+    ensures { (written regs.now value Register.Ghc).state
+        ≡ record power_on { port = record power_on.port { clb = regs.now.port.clb; fb = regs.now.port.fb } } }
+{}
+
+/// A write of PxCMD without ST leaves no command, and a port that was stopped or is stopped by it isn't halted.
+pub fn stopping_leaves_no_command(regs: &HbaRegs, value: u32)
+    requires { has_place (bits value) 0 ≡ false }
+    ensures sact { (written regs.now value Register.PxCmd).state.port.sact ≡ no_places }
+    ensures ci { (written regs.now value Register.PxCmd).state.port.ci ≡ no_places }
+    ensures halted { (written regs.now value Register.PxCmd).state.port.halted ≡ false }
+{
+    regs.keeps_its_rules();
+}
+
+/// Writes drop commands exactly if they answer so: else each command stays.
+pub fn commands_are_dropped_as_told(regs: &HbaRegs, register: Register, value: u32)
+    ensures dropped { (written regs.now value register).consequence ≢ Nothing
+        → ((written regs.now value register).state.port.sact ≡ no_places)
+        × ((written regs.now value register).state.port.ci ≡ no_places) }
+    ensures sact { (written regs.now value register).consequence ≡ Nothing → (i : ℕ)
+        → has_place regs.now.port.sact i ≡ true → has_place (written regs.now value register).state.port.sact i ≡ true }
+    ensures ci { (written regs.now value register).consequence ≡ Nothing → (i : ℕ)
+        → has_place regs.now.port.ci i ≡ true → has_place (written regs.now value register).state.port.ci i ≡ true }
+{
+    regs.keeps_its_rules();
+}
+
+/// While ST is 0, a write to PxSACT or PxCI changes nothing, as that of what was read there.
+pub fn a_stopped_port_takes_no_command(regs: &HbaRegs, value: u32)
+    requires { regs.now.port.st ≡ false }
+    ensures sact { (written regs.now value Register.PxSact).state ≡ regs.now }
+    ensures ci { (written regs.now value Register.PxCi).state ≡ regs.now }
+{
+    regs.keeps_its_rules();
+}
+
+/// What was read from a register of which no bit is cleared or set by writing 1 can be written back, and changes nothing: from
+/// PxCMD while ST is 1 or the port isn't halted.
+pub fn a_register_can_be_written_back(regs: &HbaRegs, register: Register)
+    requires ones { takes_ones register ≡ false }
+    requires halted { (regs.now.port.halted && not regs.now.port.st) ≡ false }
+    ensures { (written regs.now (word_at regs.now register) register).state ≡ regs.now }
+{
+    regs.keeps_its_rules();
+}
+
+/// An interrupt is pending exactly if one bit is set both in PxIS and in PxIE, and then IS.IPS is 1.
+pub fn pending_interrupts_are_reported(regs: &HbaRegs)
+    ensures found { (i : ℕ) → has_place (interrupts regs.now.port) i ≡ true → has_place regs.now.port.ie i ≡ true
+        → is_pending regs.now.port ≡ true }
+    ensures none { ((i : ℕ) → (has_place (interrupts regs.now.port) i && has_place regs.now.port.ie i) ≡ false)
+        → is_pending regs.now.port ≡ false }
+    ensures reported { is_pending regs.now.port ≡ true → regs.now.ips ≡ true }
+{
+    regs.keeps_its_rules();
+}
+
+/// After a move of the device IS.IPS is 1 exactly if it was 1 or an interrupt is pending; writing 1 to it clears it, unless an
+/// interrupt is pending.
+pub fn ips_stays_until_it_is_cleared(regs: &HbaRegs)
+    ensures moved { (p : HbaPort) → (moved regs.now p).ips ≡ (regs.now.ips || is_pending p) }
+    ensures cleared { (written regs.now 1 Register.Is).state.ips ≡ is_pending regs.now.port }
+{}
+
+/// PCS and PRCS of PxIS are DIAG.X and DIAG.N of PxSERR, and writing 1 to them in PxIS leaves them.
+pub fn pcs_and_prcs_are_those_of_pxserr(regs: &HbaRegs, value: u32)
+    ensures pcs { has_place (interrupts regs.now.port) 6 ≡ has_place regs.now.port.serr 26 }
+    ensures prcs { has_place (interrupts regs.now.port) 22 ≡ has_place regs.now.port.serr 16 }
+    ensures left { (written regs.now value Register.PxIs).state.port.serr ≡ regs.now.port.serr }
+{
+    regs.keeps_its_rules();
+}
+
+/// COMRESET, by DET 1 and then 0, drops the commands and makes the device send its signature; the driver's settings stay.
+pub fn a_comreset_brings_the_device_back(regs: &HbaRegs)
+    requires { regs.now.port.link ≡ Up }
+    ensures { (written (written regs.now 0x301 Register.PxSctl).state 0x300 Register.PxSctl).state.port
+        ≡ record regs.now.port {
+          sctl = 0x300;
+          sact = no_places;
+          ci = no_places;
+          halted = false;
+          sts = 0x80;
+          err = 0;
+          sig = 0xffffffff;
+          serr = union regs.now.port.serr link_changed;
+          signature_waits = true;
+        } }
+{}
