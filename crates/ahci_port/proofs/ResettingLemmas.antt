@@ -11,16 +11,15 @@ use Rattle.ncq_journal.proofs.CutLemmas.{answer_following, answer_stays}
 use Rattle.ncq_journal.proofs.NumberLemmas.{place_from}
 use Rattle.ncq_journal.proofs.PartLemmas.{sector_following}
 use Rattle.ahci_port.specs.PortView.{PortView, next_number, port_from}
-use Rattle.ahci_port.specs.Slots.{SlotState}
 use Rattle.ahci_port.specs.Steps.{Follows}
 
 -- the slots once the first i are free
-pub cleared_first : ℕ → List (Option SlotState) → List (Option SlotState)
+pub cleared_first : {X : Type 0} → ℕ → List (Option X) → List (Option X)
 cleared_first zero xs = xs
 cleared_first (suc i) [] = []
 cleared_first (suc i) (x ∷ xs) = None ∷ cleared_first i xs
 
-cleared_next : (i : ℕ) (xs : List (Option SlotState)) → i < length xs → set (cleared_first i xs) i None ≡ cleared_first (suc i) xs
+cleared_next : {X : Type 0} → (i : ℕ) (xs : List (Option X)) → i < length xs → set (cleared_first i xs) i None ≡ cleared_first (suc i) xs
 unfolding cleared_first
 cleared_next zero [] h = absurd (omega arith)
 cleared_next zero (x ∷ xs) h = refl
@@ -28,16 +27,16 @@ cleared_next (suc i) [] h = absurd (omega arith)
 cleared_next (suc i) (x ∷ xs) h = ap (λ ys. None ∷ ys) (cleared_next i xs (omega arith))
 
 -- one slot more, as the loop writes it
-pub cleared_more : (i : ℕ) (old xs : List (Option SlotState)) → xs ≡ cleared_first i old → i < length old → set xs i None ≡ cleared_first (i + 1) old
+pub cleared_more : {X : Type 0} → (i : ℕ) (old xs : List (Option X)) → xs ≡ cleared_first i old → i < length old → set xs i None ≡ cleared_first (i + 1) old
 cleared_more i old xs is low = ap (λ ys. set ys i None) is ∙ cleared_next i old low ∙ ap (λ n. cleared_first n old) (omega arith)
 
 -- none at first
-pub cleared_none : (xs : List (Option SlotState)) → xs ≡ cleared_first 0 xs
+pub cleared_none : {X : Type 0} → (xs : List (Option X)) → xs ≡ cleared_first 0 xs
 unfolding cleared_first
 cleared_none xs = refl
 
 -- all at last
-pub cleared_all : (xs : List (Option SlotState)) → cleared_first (length xs) xs ≡ replicate (length xs) None
+pub cleared_all : {X : Type 0} → (xs : List (Option X)) → cleared_first (length xs) xs ≡ replicate (length xs) None
 unfolding cleared_first
 cleared_all [] = refl
 cleared_all (x ∷ xs) = ap (λ ys. None ∷ ys) (cleared_all xs)

@@ -210,3 +210,15 @@ pub only_below-no_places : (d : ℕ) → only_below d no_places ≡ no_places
 only_below-no_places d =
     same_sets (only_below d no_places) no_places (length-only_below d no_places)
     (λ i h. ⊎_elim (λ b. has_place-only_below d no_places i b) (λ b. has_place-only_below_past d no_places i b ∙ sym (has_place-no_places i)) (cases_lt i d))
+
+-- ---- nothing taken from none
+
+pub minus-none : (t : List Bool) → minus no_places t ≡ no_places
+minus-none t =
+    same_sets (minus no_places t) no_places (length-minus no_places t)
+    (λ i h. has_place-minus no_places t i ∙ ap (λ x. x && not (has_place t i)) (has_place-no_places i) ∙ sym (has_place-no_places i))
+
+pub without_place-none : (t : ℕ) → without_place no_places t ≡ no_places
+without_place-none t =
+    same_sets (without_place no_places t) no_places (length-without_place no_places t)
+    (λ i h. ⊎_elim (λ e. rw e (has_place-without_same no_places t ∙ sym (has_place-no_places t))) (λ e. has_place-without_other no_places t i e) (cases_eq i t))

@@ -1,0 +1,6 @@
+pub mod AnswerLemmas
+pub mod DeliveringLemmas
+pub mod DroppingLemmas
+pub mod NewLemmas
+pub mod SendingLemmas
+pub mod ServeLemmas

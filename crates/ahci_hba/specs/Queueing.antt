@@ -1,0 +1,188 @@
+-- What the device does with a queued command of a slot (AHCI 1.3.1, section 5.3; ACS-3, "Native Command Queuing").
+use Rattle.std.specs.Prelude.{◌≡◌, ℕ, ◌+◌, ◌*◌, ◌^◌, Bool, true, false, not, nat_le, ◌&&◌, List, [], ◌∷◌, length, take, drop, Option, None, Some, IsSomeAnd, slice_index_or, slice_set, if◌then◌else◌}
+use Rattle.std.specs.List.{list_any}
+use Rattle.sata_fis.specs.Fields.{QueuedFields}
+use Rattle.word_bits.specs.Places.{has_place}
+use Rattle.hba_command.specs.declared.entry.PrdEntry.{PrdEntry}
+use Rattle.hba_command.specs.declared.task.Task.{Task}
+use Rattle.hba_command.specs.declared.task.Task.TheVariants.{Queue, Read as ReadTask, Write as WriteTask, Unknown}
+use Rattle.hba_memory.specs.Posting.{PostingView}
+use Rattle.hba_memory.specs.Reading.{Header}
+use Rattle.hba_memory.specs.Runs.{Put, placed}
+use Rattle.hba_memory.specs.Table.{wrapped}
+use Rattle.hba_regs.specs.HbaState.{HbaPort, HbaState}
+use Rattle.hba_regs.specs.Linking.{is_up}
+use Rattle.ncq_journal.specs.Work.{Work, Read, Write}
+use Rattle.ahci_table.specs.Text.{text}
+use Rattle.ahci_table.specs.Window.{WindowState}
+use Rattle.hba_command.specs.Span.{SpanFields}
+use Rattle.ahci_port.specs.PortView.{PortView, owner_of, sectors_in}
+use Rattle.ahci_port.specs.Steps.{IsCollected, IsStepped, IsSubmitted, answer_to}
+use Rattle.ahci_port.specs.Slots.{bytes_in}
+use Rattle.ahci_port.specs.declared.step.DeviceStep.TheVariants as step
+use Rattle.ahci_port.specs.declared.step.Stepped.{Stepped}
+use Rattle.ahci_port.specs.declared.step.Stepped.TheVariants as stepped
+use Rattle.ahci_hba.specs.HbaView.{CommandView, Fetched, Sent, HbaView, WorkView, Idle, Fetching, Served}
+use Rattle.ahci_hba.specs.Moving.{answering}
+use Rattle.ahci_hba.specs.declared.ending.Ending.{Ending}
+use Rattle.ahci_hba.specs.declared.ending.Ending.TheVariants as ending
+
+-- the command of a slot
+abbrev pub command_at : HbaView → ℕ → Option CommandView
+command_at h slot = slice_index_or h.slots slot None
+
+abbrev pub is_idle : WorkView → Bool
+is_idle Idle = true
+is_idle other = false
+
+-- a command that is not queued, so that the device is busy with it alone
+abbrev pub is_alone : Task → Bool
+is_alone (Queue q) = false
+is_alone other = true
+
+abbrev pub has_alone : Option CommandView → Bool
+has_alone None = false
+has_alone (Some (Fetched t list bytes)) = is_alone t
+has_alone (Some (Sent t list)) = is_alone t
+
+-- a command that is with the port
+abbrev pub is_sent : Option CommandView → Bool
+is_sent (Some (Sent t list)) = true
+is_sent other = false
+
+-- a queued command, read or with the port
+abbrev pub has_queued : Option CommandView → Bool
+has_queued None = false
+has_queued (Some (Fetched t list bytes)) = not (is_alone t)
+has_queued (Some (Sent t list)) = not (is_alone t)
+
+-- the sectors are on the disk
+abbrev pub is_on : PortView → SpanFields → Bool
+is_on port span = nat_le (span.lba + span.sectors) (sectors_in port)
+
+-- a command goes to the port: a queued one, or one that moves sectors of the disk while no queued one is outstanding
+abbrev pub goes_to_port : HbaView → Option CommandView → Bool
+goes_to_port h (Some (Fetched (Queue q) list bytes)) = true
+goes_to_port h (Some (Fetched (ReadTask span p) list bytes)) = is_on h.port span && not (list_any has_queued h.slots)
+goes_to_port h (Some (Fetched (WriteTask span p) list bytes)) = is_on h.port span && not (list_any has_queued h.slots)
+goes_to_port h other = false
+
+-- a command that is read and not yet sent
+abbrev pub is_fetched : Option CommandView → Bool
+is_fetched (Some (Fetched t list bytes)) = true
+is_fetched other = false
+
+-- the PRDT of a slot's command
+abbrev pub list_in : Option CommandView → List PrdEntry
+list_in (Some (Fetched t list bytes)) = list
+list_in (Some (Sent t list)) = list
+list_in None = []
+
+-- and what it asks
+abbrev pub task_in : Option CommandView → Task
+task_in (Some (Fetched t list bytes)) = t
+task_in (Some (Sent t list)) = t
+task_in None = Unknown
+
+-- the port processes its command list: ST is 1, nothing has failed, and the link is up
+abbrev pub is_running : HbaPort → Bool
+is_running p = p.st && not p.halted && is_up p.link
+
+abbrev pub is_empty : Option CommandView → Bool
+is_empty None = true
+is_empty (Some c) = false
+
+-- a slot's command may be read: its bit of PxCI is set, it is not read yet, and the device is not busy with a command alone
+abbrev pub may_fetch : HbaView → ℕ → Bool
+may_fetch h slot =
+    is_running h.registers.port && is_idle h.work && has_place h.registers.port.ci slot && is_empty (command_at h slot)
+    && not (list_any has_alone h.slots)
+
+-- a slot's command is read: first its header, of 32 bytes in the command list
+abbrev pub fetching : HbaView → ℕ → HbaView
+fetching h slot = record h { work = Fetching slot (Header (wrapped (h.registers.port.clb + 32 * slot))) }
+
+-- what a command asks of the disk; a write has these bytes
+abbrev pub queued_for : QueuedFields → List ℕ → Work
+queued_for q bytes = if q.write then Write q.lba bytes else Read q.lba q.sectors
+
+abbrev pub asked_for : Task → List ℕ → Work
+asked_for (Queue q) bytes = queued_for q bytes
+asked_for (ReadTask span p) bytes = Read span.lba span.sectors
+asked_for (WriteTask span p) bytes = Write span.lba bytes
+asked_for other bytes = Read 0 0
+
+-- the bytes that a command had before it was asked: those of a write, else those that are left
+abbrev pub put_back : Work → List ℕ → List ℕ
+put_back (Write lba bytes) left = bytes
+put_back (Read lba sectors) left = left
+
+-- the FIS of so many bytes at a place of the port's received FIS area
+abbrev pub fis_at : PortView → ℕ → ℕ → List ℕ
+fis_at port place n = take n (drop place port.area)
+
+-- it is written to the driver's received FIS area, while FRE is 1 (section 4.2.1)
+abbrev pub fis_put : HbaState → PortView → ℕ → ℕ → List Put
+fis_put s port place n =
+    if s.port.fre then (record { address = wrapped (s.port.fb + place); bytes = fis_at port place n }) ∷ [] else []
+
+-- an answer of one FIS alone
+abbrev pub only_after : List Put → PostingView
+only_after puts = record { before = []; content = []; count = []; after = puts }
+
+-- the command of a slot is sent to the port: its request stands in the journal
+abbrev pub sent_to : HbaView → ℕ → CommandView → PortView → HbaView
+sent_to h slot c port = record h { port = port; slots = slice_set h.slots slot (Some c) }
+
+pub record IsSent (slot : ℕ) (t : Task) (list : List PrdEntry) (bytes : List ℕ) (old new : HbaView) : Type 0 where
+  pub port : PortView
+  pub submitted : IsSubmitted slot (asked_for t bytes) old.port port
+  pub sent : new ≡ sent_to old slot (Sent t list) port
+
+-- of a command that is read
+abbrev pub Sends : ℕ → Option CommandView → HbaView → HbaView → Type 0
+Sends slot (Some (Fetched t list bytes)) old new = IsSent slot t list bytes old new
+Sends slot other old new = ⊥
+
+-- what the answer to an acceptance says to the registers: the command is taken, or it passes the last sector
+abbrev pub accepting : ℕ → Stepped → Ending
+accepting slot (stepped.Accepted n) = ending.Register 0x40 0x00 false slot
+accepting slot other = ending.Register 0x41 0x10 true slot
+
+-- the device takes a slot's command or refuses it: a D2H Register FIS
+abbrev pub is_taken : Stepped → Bool
+is_taken (stepped.Accepted n) = true
+is_taken other = false
+
+-- a command that is not queued has its D2H Register FIS at its end
+abbrev pub after_acceptance : ℕ → Bool → HbaView → PortView → Stepped → HbaView
+after_acceptance slot alone h port answer =
+    if alone && is_taken answer then record h { port = port }
+    else answering (record h { port = port }) (only_after (fis_put h.registers port 0x40 20)) (accepting slot answer)
+
+pub record IsAccepted (slot : ℕ) (alone : Bool) (old new : HbaView) : Type 0 where
+  pub port : PortView
+  pub answer : Stepped
+  pub stepped : IsStepped (step.Accept slot) old.port port answer
+  pub answered : new ≡ after_acceptance slot alone old port answer
+
+-- the device fails a slot's command: a Set Device Bits FIS with ERR
+pub record IsFailed (slot error lba : ℕ) (old new : HbaView) : Type 0 where
+  pub port : PortView
+  pub answer : Stepped
+  pub stepped : IsStepped (step.Fail slot error lba) old.port port answer
+  pub answered : new ≡ answering (record old { port = port }) (only_after (fis_put old.registers port 0x58 8)) (ending.Bits 0x41 error 0)
+
+-- the device moves the data of a slot's command and completes it, and its answer is taken from the port: the window has the bytes of
+-- the answer by the journal
+pub record IsServed (slot : ℕ) (t : Task) (list : List PrdEntry) (old new : HbaView) : Type 0 where
+  pub middle : PortView
+  pub port : PortView
+  pub answer : Stepped
+  pub stepped : IsStepped (step.Serve (record { items = slot ∷ [] })) old.port middle answer
+  pub collected : IsCollected slot middle port
+  pub window : WindowState
+  pub number : ℕ
+  pub owner : owner_of old.port slot ≡ Some number
+  pub answered : IsSomeAnd (answer_to middle number) (λ a. a.bytes ≡ bytes_in a.outcome window)
+  pub served : new ≡ record old { port = port; slots = slice_set old.slots slot None; work = Served slot t window list }

@@ -1,0 +1,130 @@
+//! The controller: what it holds, how one is made, and what a driver reads of it.
+
+mod answering;
+mod delivering;
+mod executing;
+mod fetching;
+mod moving;
+mod queueing;
+mod sending;
+mod writing;
+
+ghost use Rattle.std.specs.Prelude.{◌≡◌, ◌≤◌, None, IfOk, OnOk, replicate};
+ghost use Rattle.hba_regs.specs.Accessing.{read_of};
+ghost use Rattle.hba_regs.specs.Interrupts.{interrupt};
+ghost use Rattle.ncq_core.specs.DiskState.{new_fault};
+ghost use Rattle.ahci_port.specs.{Faults.{AnswersOr}, Headline.{Headline}, PortView.{new_port}};
+ghost use Rattle.ahci_hba.specs.States.{new_hba};
+
+use crate::command::Slot;
+use crate::work::Work;
+use ahci_port::{DiskFault, Port};
+use hba_regs::{AccessSize, HbaRegs};
+use std::alloc::{AllocError, Allocator, Global};
+use std::marker::Model;
+
+/// How many slots the command list has, whatever the disk's queue depth: drivers use any tag.
+const SLOTS: u32 = 32;
+
+/// An AHCI controller with one port, and the model's port with its disk and journal behind it. Contracts see an `HbaView`.
+#[derive(Drop)]
+pub struct Hba<A: Allocator = Global> {
+    alloc: A,
+    registers: HbaRegs,
+    port: Port<A>,
+    depth: u32,
+    slots: Vec<Option<Slot<A>>, A>,
+    work: Work<A>,
+}
+
+impl<A: Allocator> Model for Hba<A> {
+    ghost use Rattle.std.specs.Prelude.{◌≡◌, ◌≤◌, length};
+    ghost use Rattle.ahci_hba.specs.HbaView.{HbaView, work_of};
+    ghost use Rattle.ahci_hba.specs.States.{IsSound};
+
+    ghost Value = { HbaView };
+
+    ghost view = { λ h. record { registers = h.registers; port = h.port; depth = h.depth; slots = h.slots.items; work = work_of h.work } };
+
+    ghost invariant = { λ h. IsSound h.port h.depth h.slots.items (work_of h.work) };
+}
+
+/// The port of a disk with this image, which has a tag for each slot, whatever queue depth is told.
+fn port_for<A: Allocator + Copy>(
+    alloc: A,
+    image: Vec<u8, A>,
+    depth: u32,
+) -> Result<Port<A>, DiskFault>
+    ensures some { OnOk result (1 ≤ depth) }
+    ensures most { OnOk result (depth ≤ 32) }
+    ensures port { IfOk result (λ p. p ≡ new_port image.items 32) }
+    ensures fault { AnswersOr result (new_fault image.items depth) DiskFault.OutOfMemory }
+{
+    if depth == 0 || depth > SLOTS {
+        return Port::new(alloc, image, depth);
+    }
+    Port::new(alloc, image, SLOTS)
+}
+
+/// As many empty slots as the command list has.
+fn empty_slots<A: Allocator>(alloc: A) -> Result<Vec<Option<Slot<A>>, A>, AllocError>
+    ensures { IfOk result (λ v. v.items ≡ replicate 32 None) }
+{
+    let mut slots = Vec::new(alloc);
+    for slot in 0..SLOTS {
+        slots.push(None)?;
+    }
+    Ok(slots)
+}
+
+impl<A: Allocator + Copy> Hba<A> {
+    /// A controller after power-on, in front of a disk with this image. IDENTIFY DEVICE tells a queue of this depth, while the command list
+    /// always has 32 slots.
+    ///
+    /// # Errors
+    /// `BadSize` if the image is not 1 to 131,072 whole sectors of 512 bytes, `BadDepth` if the depth is not 1 to 32; else `OutOfMemory` if
+    /// an allocation failed.
+    pub fn new(alloc: A, image: Vec<u8, A>, depth: u32) -> Result<Self, DiskFault>
+        ensures ok { IfOk result (λ h. h ≡ new_hba image.items depth) }
+        ensures fault { AnswersOr result (new_fault image.items depth) DiskFault.OutOfMemory }
+    {
+        let port = port_for(alloc, image, depth)?;
+        let Ok(slots) = empty_slots(alloc) else {
+            return Err(DiskFault::OutOfMemory);
+        };
+        Ok(Hba {
+            alloc,
+            registers: HbaRegs::new(),
+            port,
+            depth,
+            slots,
+            work: Work::Idle,
+        })
+    }
+}
+
+impl<A: Allocator> Hba<A> {
+    /// What a driver reads at an offset of the controller's registers, as `HbaRegs::read` has it.
+    pub fn read(&self, offset: u32, size: AccessSize) -> u64
+        ensures { result ≡ read_of self.now.registers offset size }
+    {
+        self.registers.read(offset, size)
+    }
+
+    /// The level of the interrupt line, to be asked for after each call.
+    pub fn interrupt(&self) -> bool
+        ensures { result ≡ interrupt self.now.registers }
+    {
+        self.registers.interrupt()
+    }
+
+    /// The port behind the registers. The headline holds of it: its image is the starting image with the journal's completed writes,
+    /// those of commands that are not queued among them.
+    pub fn port(&self) -> &Port<A>
+        ensures port { result.now ≡ self.now.port }
+        ensures headline { Headline self.now.port }
+    {
+        self.port.keeps_its_promise();
+        &self.port
+    }
+}

@@ -1,0 +1,146 @@
+//! How a command is taken from the command list (AHCI 1.3.1, section 5.3).
+
+ghost use Rattle.std.specs.Prelude.{◌≡◌, ◌<◌, false, true, IfErr, OnErr, OnOk};
+ghost use Rattle.std.specs.List.{list_any};
+ghost use Rattle.hba_command.specs.declared.task.Task.{Task};
+ghost use Rattle.ahci_hba.specs.Queueing.{command_at, fetching, has_alone, has_queued, is_alone, is_empty, is_idle, is_running, is_sent, may_fetch};
+
+use crate::command::{Command, Slot};
+use crate::fault::HbaFault;
+use crate::hba::Hba;
+use crate::work::Work;
+use hba_command::Task;
+use hba_memory::Fetch;
+use std::alloc::Allocator;
+use word_bits::is_set;
+
+/// Whether a command is not queued, so that the device is busy with it alone.
+pub(super) fn is_alone(task: &Task) -> bool
+    ensures { result ≡ is_alone task.now }
+{
+    !matches!(task, Task::Queue(_))
+}
+
+/// Whether a slot has a command that is with the port.
+pub(super) fn is_sent<A: Allocator>(slot: &Option<Slot<A>>) -> bool
+    ensures { result ≡ is_sent slot.now }
+{
+    match slot {
+        Some(slot) => matches!(&slot.command, Command::Sent(_, _)),
+        None => false,
+    }
+}
+
+/// Whether a slot has a queued command.
+fn has_queued<A: Allocator>(slot: &Option<Slot<A>>) -> bool
+    ensures { result ≡ has_queued slot.now }
+{
+    match slot {
+        Some(slot) => match &slot.command {
+            Command::Fetched(task, _, _) => !is_alone(task),
+            Command::Sent(task, _) => !is_alone(task),
+        },
+        None => false,
+    }
+}
+
+/// Whether a slot has a command that is not queued.
+fn has_alone<A: Allocator>(slot: &Option<Slot<A>>) -> bool
+    ensures { result ≡ has_alone slot.now }
+{
+    match slot {
+        Some(slot) => match &slot.command {
+            Command::Fetched(task, _, _) => is_alone(task),
+            Command::Sent(task, _) => is_alone(task),
+        },
+        None => false,
+    }
+}
+
+impl<A: Allocator> Hba<A> {
+    /// Whether the port processes its command list: ST is 1, nothing has failed, and the link is up.
+    pub(super) fn is_running(&self) -> bool
+        ensures { result ≡ is_running self.now.registers.port }
+    {
+        self.registers.is_started() && !self.registers.is_halted() && self.registers.link_is_up()
+    }
+
+    /// Whether nothing is read or written just now.
+    pub(super) fn is_idle(&self) -> bool
+        ensures { result ≡ is_idle self.now.work }
+    {
+        matches!(&self.work, Work::Idle)
+    }
+
+    /// Whether a slot, below 32, has no command that was read.
+    pub(super) fn is_empty(&self, slot: u8) -> bool
+        requires { slot < 32 }
+        ensures { result ≡ is_empty (command_at self.now slot) }
+    {
+        self.slots[usize::from(slot)].is_none()
+    }
+
+    /// Whether the device is busy with a command that is not queued.
+    pub(super) fn is_busy_alone(&self) -> bool
+        ensures { result ≡ list_any has_alone self.now.slots }
+    {
+        self.slots.iter().any(|slot| has_alone(slot))
+    }
+
+    /// Whether some slot has a queued command.
+    pub(super) fn is_queueing(&self) -> bool
+        ensures { result ≡ list_any has_queued self.now.slots }
+    {
+        self.slots.iter().any(|slot| has_queued(slot))
+    }
+
+    /// Whether the command of a slot, below 32, is with the port.
+    pub(super) fn is_sent(&self, slot: u8) -> bool
+        requires { slot < 32 }
+        ensures { result ≡ is_sent (command_at self.now slot) }
+    {
+        is_sent(&self.slots[usize::from(slot)])
+    }
+
+    /// Whether the command of a slot, below 32, is not queued.
+    pub(super) fn has_alone(&self, slot: u8) -> bool
+        requires { slot < 32 }
+        ensures { result ≡ has_alone (command_at self.now slot) }
+    {
+        has_alone(&self.slots[usize::from(slot)])
+    }
+
+    /// Whether the command of a slot, below 32, may be read: its bit of PxCI is set, the port processes commands, nothing is read or written
+    /// just now, and the device is not busy with a command that is not queued.
+    pub fn may_fetch(&self, slot: u8) -> bool
+        requires { slot < 32 }
+        ensures { result ≡ may_fetch self.now slot }
+    {
+        self.is_running()
+            && self.is_idle()
+            && is_set(self.registers.ci(), slot)
+            && self.is_empty(slot)
+            && !self.is_busy_alone()
+    }
+
+    /// Begins to read the command of a slot, below 32: its header comes first.
+    ///
+    /// # Errors
+    /// `NotReady` exactly if `may_fetch` is false.
+    pub fn fetch(&mut self, slot: u8) -> Result<(), HbaFault>
+        requires { slot < 32 }
+        ensures ok { OnOk result ((may_fetch self.old slot ≡ true) × (self.new ≡ fetching self.old slot)) }
+        ensures err { OnErr result ((may_fetch self.old slot ≡ false) × (self.new ≡ self.old)) }
+        ensures fault { IfErr result (λ e. e ≡ HbaFault.NotReady) }
+    {
+        if !self.may_fetch(slot) {
+            return Err(HbaFault::NotReady);
+        }
+        let place = self
+            .registers
+            .list_base()
+            .wrapping_add(32 * u64::from(slot));
+        self.turn_to(Work::Fetching(slot, Fetch::new(place)));
+        Ok(())
+    }
+}

@@ -1,0 +1,18 @@
+use crate::ending::Ending;
+use ahci_port::Window;
+use hba_command::{PrdEntry, Task};
+use hba_memory::{Fetch, Posting};
+use std::alloc::{Allocator, Global};
+
+/// What the controller does with the driver's memory.
+#[derive(Drop)]
+pub(crate) enum Work<A: Allocator = Global> {
+    /// Nothing.
+    Idle,
+    /// It reads the command of a slot.
+    Fetching(u8, Fetch<A>),
+    /// A slot's command is done by the port. Its window has the data of a read, which go to the runs of the list.
+    Served(u8, Task, Window<A>, Vec<PrdEntry, A>),
+    /// It writes an answer.
+    Posting(Posting<A>, Ending),
+}

@@ -1,0 +1,6 @@
+pub mod CommandHeader
+pub mod PrdEntry
+pub mod Span
+pub mod CommandFis
+pub mod Task
+pub mod Pages

@@ -1,0 +1,73 @@
+-- What a command FIS asks of the disk (ACS-3, by the commands' titles; Serial ATA, "Register FIS - Host to Device").
+use Rattle.std.specs.Prelude.{ℕ, ◌+◌, ◌*◌, ◌/◌, ◌%◌, ◌^◌, Bool, ◌==◌, ◌&&◌, ◌||◌, not, nat_le, Option, Some, None, if◌then◌else◌}
+use Rattle.sata_fis.specs.Command.{queued_in}
+use Rattle.sata_fis.specs.Fields.{H2dFields, QueuedFields}
+use Rattle.sata_fis.specs.Places.{bit}
+use Rattle.hba_command.specs.Span.{SpanFields}
+use Rattle.hba_command.specs.declared.log.Log.TheVariants.{Directory, QueuedError}
+use Rattle.hba_command.specs.declared.protocol.Protocol.{Protocol}
+use Rattle.hba_command.specs.declared.protocol.Protocol.TheVariants.{Pio, Dma}
+use Rattle.hba_command.specs.declared.task.Task.{Task}
+use Rattle.hba_command.specs.declared.task.Task.TheVariants.{Queue, Read, Write, Verify, Flush, Identify, ReadLog, NativeMax, PowerMode, Diagnose, Nothing, Control, Packet, Unknown}
+
+-- a count of 0 means the most that the field can name and one
+abbrev pub counted : ℕ → ℕ → ℕ
+counted most count = if count == 0 then most else count
+
+-- commands of 28 bits: LBA 27:24 are device 3:0, and the count has eight bits
+abbrev pub short_span : H2dFields → SpanFields
+short_span f = record { lba = f.lba % 2 ^ 24 + 2 ^ 24 * (f.device % 16); sectors = counted 256 (f.count % 256) }
+
+-- commands of 48 bits
+abbrev pub long_span : H2dFields → SpanFields
+long_span f = record { lba = f.lba; sectors = counted 65536 f.count }
+
+-- the log is LBA 7:0, and the page LBA 15:8 and 39:32
+abbrev pub log_of : H2dFields → ℕ
+log_of f = f.lba % 256
+
+-- the count is one page, the first one
+abbrev pub is_first_page : H2dFields → Bool
+is_first_page f = f.count == 1 && f.lba / 2 ^ 8 % 256 == 0 && f.lba / 2 ^ 32 % 256 == 0
+
+-- log 00h is the directory, log 10h the NCQ Command Error log; there is no other
+abbrev pub log_task : H2dFields → Protocol → Task
+log_task f p =
+    if not (is_first_page f) then Unknown
+    else (if log_of f == 0x00 then ReadLog Directory p
+    else (if log_of f == 0x10 then ReadLog QueuedError p
+    else Unknown))
+
+-- by the code of a command that is not queued
+abbrev pub task_by : ℕ → H2dFields → Task
+task_by code f =
+    if code == 0x20 then Read (short_span f) Pio  -- READ SECTOR(S)
+    else (if code == 0x24 then Read (long_span f) Pio  -- READ SECTOR(S) EXT
+    else (if code == 0x25 then Read (long_span f) Dma  -- READ DMA EXT
+    else (if code == 0x27 || code == 0xF8 then NativeMax  -- READ NATIVE MAX ADDRESS EXT, READ NATIVE MAX ADDRESS
+    else (if code == 0x2F then log_task f Pio  -- READ LOG EXT
+    else (if code == 0x30 then Write (short_span f) Pio  -- WRITE SECTOR(S)
+    else (if code == 0x34 then Write (long_span f) Pio  -- WRITE SECTOR(S) EXT
+    else (if code == 0x35 then Write (long_span f) Dma  -- WRITE DMA EXT
+    else (if code == 0x40 then Verify (short_span f)  -- READ VERIFY SECTOR(S)
+    else (if code == 0x42 then Verify (long_span f)  -- READ VERIFY SECTOR(S) EXT
+    else (if code == 0x47 then log_task f Dma  -- READ LOG DMA EXT
+    else (if code == 0x90 then Diagnose  -- EXECUTE DEVICE DIAGNOSTIC
+    else (if code == 0xA1 then Packet  -- IDENTIFY PACKET DEVICE
+    else (if code == 0xC8 then Read (short_span f) Dma  -- READ DMA
+    else (if code == 0xCA then Write (short_span f) Dma  -- WRITE DMA
+    else (if nat_le 0xE0 code && nat_le code 0xE3 then Nothing  -- STANDBY and IDLE, with IMMEDIATE or without
+    else (if code == 0xE5 then PowerMode  -- CHECK POWER MODE
+    else (if code == 0xE7 || code == 0xEA then Flush  -- FLUSH CACHE, FLUSH CACHE EXT
+    else (if code == 0xEC then Identify  -- IDENTIFY DEVICE
+    else (if code == 0xEF && f.features % 256 == 0x03 then Nothing  -- SET FEATURES, set transfer mode
+    else Unknown)))))))))))))))))))
+
+-- a queued command, else one that is not
+abbrev pub command_task : H2dFields → Option QueuedFields → Task
+command_task f (Some q) = Queue q
+command_task f None = task_by f.command f
+
+-- bit C tells a command from the device control register, whose bit 2 is SRST
+abbrev pub task_of : H2dFields → Task
+task_of f = if f.c then command_task f (queued_in f) else Control (bit 2 f.control)

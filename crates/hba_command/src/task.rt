@@ -1,0 +1,37 @@
+use crate::log::Log;
+use crate::protocol::Protocol;
+use crate::span::Span;
+use sata_fis::Queued;
+
+/// What a command FIS asks of the disk (ACS-3, by the commands' titles).
+#[derive(Clone, Copy, Debug, PartialEq, Eq)]
+pub enum Task {
+    /// READ FPDMA QUEUED and WRITE FPDMA QUEUED.
+    Queue(Queued),
+    /// READ SECTOR(S), READ DMA, with EXT or without.
+    Read(Span, Protocol),
+    /// WRITE SECTOR(S), WRITE DMA, with EXT or without.
+    Write(Span, Protocol),
+    /// READ VERIFY SECTOR(S), with EXT or without.
+    Verify(Span),
+    /// FLUSH CACHE, with EXT or without.
+    Flush,
+    /// IDENTIFY DEVICE.
+    Identify,
+    /// READ LOG EXT and READ LOG DMA EXT, of one page that there is.
+    ReadLog(Log, Protocol),
+    /// READ NATIVE MAX ADDRESS, with EXT or without: the LBA of the last sector is answered.
+    NativeMax,
+    /// CHECK POWER MODE: the count FFh is answered, "active or idle".
+    PowerMode,
+    /// EXECUTE DEVICE DIAGNOSTIC: the signature of a disk is answered.
+    Diagnose,
+    /// A command with nothing to do: SET FEATURES 03h, IDLE and STANDBY, with IMMEDIATE or without.
+    Nothing,
+    /// The device control register, with SRST, in a FIS whose C bit is 0.
+    Control { reset: bool },
+    /// IDENTIFY PACKET DEVICE: aborted with the signature of a disk.
+    Packet,
+    /// Every other command: aborted.
+    Unknown,
+}

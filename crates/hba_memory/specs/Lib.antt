@@ -1,0 +1,6 @@
+pub mod Runs
+pub mod Gathering
+pub mod Table
+pub mod Posting
+pub mod Reading
+pub mod Laws

@@ -1,0 +1,130 @@
+-- How a command is read from the driver's memory, each byte once (AHCI 1.3.1, sections 4.2 and 5.3): its header, the command FIS, the
+-- PRDT if it moves data, and a write's data.
+use Rattle.std.specs.Prelude.{◌≡◌, ◌≤◌, ℕ, ◌+◌, ◌-◌, ◌*◌, Bool, true, false, not, ◌&&◌, ◌||◌, ◌==◌, nat_lt, List, [], ◌++◌, length, Option, None, Some, if◌then◌else◌}
+use Rattle.sata_fis.specs.Fields.{H2dFields}
+use Rattle.hba_command.specs.CommandFis.{command_fis}
+use Rattle.hba_command.specs.CommandHeader.{header_at}
+use Rattle.hba_command.specs.Task.{task_of}
+use Rattle.hba_command.specs.declared.entry.PrdEntry.{PrdEntry}
+use Rattle.hba_command.specs.declared.header.CommandHeader.{CommandHeader}
+use Rattle.hba_command.specs.declared.task.Task.{Task}
+use Rattle.hba_command.specs.declared.task.Task.TheVariants as task
+use Rattle.hba_memory.specs.Gathering.{Gathering}
+use Rattle.hba_memory.specs.Runs.{Run, first_run, later_runs, runs, total}
+use Rattle.hba_memory.specs.Table.{TableView, entries_in, next_entries, unread, wrapped}
+use Rattle.hba_memory.specs.declared.reading.Reading.{Reading}
+use Rattle.hba_memory.specs.declared.reading.Reading.TheVariants as code
+
+-- only a FIS of five dwords is sent, with no ATAPI command and no BIST FIS
+abbrev pub is_sendable : CommandHeader → Bool
+is_sendable h = h.fis_dwords == 5 && not h.atapi && not h.bist
+
+-- how many bytes a command moves
+abbrev pub moved_by : Task → ℕ
+moved_by (task.Queue q) = 512 * q.sectors
+moved_by (task.Read span p) = 512 * span.sectors
+moved_by (task.Write span p) = 512 * span.sectors
+moved_by task.Identify = 512
+moved_by (task.ReadLog log p) = 512
+moved_by other = 0
+
+-- whether they go to the device
+abbrev pub is_write : Task → Bool
+is_write (task.Queue q) = q.write
+is_write (task.Write span p) = true
+is_write other = false
+
+-- how many of them are read from the driver's memory
+abbrev pub read_by : Task → ℕ
+read_by t = if is_write t then moved_by t else 0
+
+-- how far a command is read, and what comes next
+pub data ReadingView : Type 0 where
+  Header : (place : ℕ) → ReadingView
+  Command : CommandHeader → ReadingView
+  Entries : Task → TableView → (room : ℕ) → ReadingView
+  Content : Task → Gathering → ReadingView
+  Whole : Task → List PrdEntry → List ℕ → ReadingView
+  Malformed : ReadingView
+  Short : ReadingView
+
+-- what callers see of the code's value
+abbrev pub reading_of : {A : _} → Reading A → ReadingView
+reading_of (code.Header place) = Header place
+reading_of (code.Command h) = Command h
+reading_of (code.Entries t table room) = Entries t table room
+reading_of (code.Content t g) = Content t g
+reading_of (code.Whole t list bytes) = Whole t list.items bytes.items
+reading_of code.Malformed = Malformed
+reading_of code.Short = Short
+
+-- the run that is read next, of no bytes at the end
+abbrev pub no_run : Run
+no_run = record { address = 0; length = 0 }
+
+abbrev pub next_run : ReadingView → Run
+next_run (Header place) = record { address = place; length = 32 }
+next_run (Command h) = record { address = h.table; length = 20 }
+next_run (Entries t table room) = record { address = table.address; length = 16 * next_entries table }
+next_run (Content t g) = first_run g.runs
+next_run other = no_run
+
+-- the header is read
+abbrev pub after_header : CommandHeader → ReadingView
+after_header h = if is_sendable h then Command h else Malformed
+
+-- the command FIS is read: the PRDT comes next if the command moves data and there is one
+abbrev pub after_task : CommandHeader → Task → ReadingView
+after_task h t =
+    if moved_by t == 0 then Whole t [] []
+    else if h.entries == 0 then Short
+    else Entries t (unread h.table h.entries) (read_by t)
+
+abbrev pub after_command : CommandHeader → Option H2dFields → ReadingView
+after_command h (Some f) = after_task h (task_of f)
+after_command h None = Malformed
+
+-- all entries are read: a write's data come next
+abbrev pub after_list : Task → List PrdEntry → ReadingView
+after_list t list =
+    if nat_lt (total list) (moved_by t) then Short
+    else if is_write t then Content t (record { runs = runs list (moved_by t); bytes = [] })
+    else Whole t list []
+
+-- some entries are read
+abbrev pub with_entries : TableView → List ℕ → TableView
+with_entries table bytes = record {
+  address = wrapped (table.address + length bytes);
+  left = table.left - next_entries table;
+  list = table.list ++ entries_in (next_entries table) bytes;
+}
+
+abbrev pub after_entries : Task → TableView → ℕ → ReadingView
+after_entries t table room = if table.left == 0 then after_list t table.list else Entries t table room
+
+-- a run of the data is read
+abbrev pub is_none : List Run → Bool
+is_none runs = length runs == 0
+
+abbrev pub after_content : Task → Gathering → ReadingView
+after_content t g = if is_none g.runs then Whole t [] g.bytes else Content t g
+
+-- what is read after these bytes
+abbrev pub after_bytes : ReadingView → List ℕ → ReadingView
+after_bytes (Header place) bytes = after_header (header_at bytes)
+after_bytes (Command h) bytes = after_command h (command_fis bytes)
+after_bytes (Entries t table room) bytes = after_entries t (with_entries table bytes) room
+after_bytes (Content t g) bytes = after_content t (record { runs = later_runs g.runs; bytes = g.bytes ++ bytes })
+after_bytes other bytes = other
+
+-- what every stage of the reading keeps: there is room for all that a write's data need
+abbrev pub HasRoom : ReadingView → Type 0
+HasRoom (Entries t table room) = room ≡ read_by t
+HasRoom other = Unit {0}
+
+-- nothing comes next
+abbrev pub is_over : ReadingView → Bool
+is_over (Whole t list bytes) = true
+is_over Malformed = true
+is_over Short = true
+is_over other = false

@@ -1,0 +1,27 @@
+//! A command's data in the driver's memory: which runs of bytes a controller reads and writes there, and in which order (AHCI
+//! 1.3.1, section 4.2.3 "Command Table" and chapter 5 "Data Structures, Transport Layer and Link Layer").
+//!
+//! Memory is not touched here. `Scatter`, `Gather` and `TableReader` say which run comes next, and are handed its bytes or told that
+//! they were written; so whoever has the memory copies.
+#![tactic(auto)]
+
+mod fetch;
+mod gather;
+pub mod laws;
+mod lengths;
+mod posting;
+mod put;
+mod reading;
+mod room;
+mod scatter;
+mod table;
+
+pub use fetch::{Fetch, is_write, moved_by};
+pub use gather::Gather;
+pub use lengths::total;
+pub use posting::Posting;
+pub use put::SmallPut;
+pub use reading::Reading;
+pub use room::Room;
+pub use scatter::Scatter;
+pub use table::{MAX_ENTRIES, TableReader};

@@ -1,0 +1,24 @@
+use crate::gather::Gather;
+use crate::room::Room;
+use crate::table::TableReader;
+use hba_command::{CommandHeader, PrdEntry, Task};
+use std::alloc::{Allocator, Global};
+
+/// How far a command is read, and what comes next.
+#[derive(Drop)]
+pub enum Reading<A: Allocator = Global> {
+    /// Its header, at this address.
+    Header(u64),
+    /// The command FIS of the command table that the header names.
+    Command(CommandHeader),
+    /// Entries of the PRDT. There is room for a write's data.
+    Entries(Task, TableReader<A>, Room<A>),
+    /// Bytes of a write's data.
+    Content(Task, Gather<A>),
+    /// Nothing: all of it is read. A command that reads has its list, one that writes its data.
+    Whole(Task, Vec<PrdEntry, A>, Vec<u8, A>),
+    /// Nothing: it can't be sent, since CFL is not 5, A or B of the header is 1, or CFIS has no Register FIS - Host to Device.
+    Malformed,
+    /// Nothing: the PRDT names fewer bytes than the command moves.
+    Short,
+}

@@ -1,0 +1,116 @@
+//! A PRDT, read some entries at a time.
+
+ghost use Rattle.std.specs.Prelude.{◌≡◌, ◌≤◌, ◌<◌, ◌*◌, ◌+◌, ◌++◌, drop, length, take, vec_capacity, vec_len};
+ghost use Rattle.hba_command.specs.PrdEntry.{entry_at};
+ghost use Rattle.hba_memory.specs.Table.{entries_in};
+
+use hba_command::PrdEntry;
+use std::alloc::{AllocError, Allocator, Global};
+use std::marker::Model;
+
+/// How many entries of a PRDT are read at a time.
+pub const MAX_ENTRIES: u32 = 32;
+
+/// A PRDT that is read, some entries at a time (AHCI 1.3.1, section 4.2.3). Contracts see where the next entry is, how many are still to
+/// be read, and those that were.
+#[derive(Drop)]
+pub struct TableReader<A: Allocator = Global> {
+    address: u64,
+    left: u32,
+    list: Vec<PrdEntry, A>,
+}
+
+impl<A: Allocator> Model for TableReader<A> {
+    ghost use Rattle.std.specs.Prelude.{◌≤◌, ◌+◌, ◌<◌, vec_capacity, vec_len};
+    ghost use Rattle.hba_memory.specs.Table.{TableView};
+
+    ghost Value = { TableView };
+
+    ghost view = { λ t. record { address = t.address; left = t.left; list = t.list.items } };
+
+    ghost invariant = { λ t. (vec_len t.list + t.left ≤ vec_capacity t.list) × (vec_len t.list + t.left ≤ 65535) };
+}
+
+/// The entries that some bytes spell.
+fn push_entries<A: Allocator>(list: &mut Vec<PrdEntry, A>, count: usize, bytes: &[u8])
+    requires count { count ≤ 32 }
+    requires whole { length bytes.now ≡ 16 * count }
+    requires room { vec_len list.old + count ≤ vec_capacity list.old }
+    ensures items { list.new.items ≡ list.old.items ++ entries_in count bytes.now }
+    ensures len { vec_len list.new ≡ vec_len list.old + count }
+    ensures capacity { vec_capacity list.new ≡ vec_capacity list.old }
+{
+    for index in 0..count {
+        list.push_reserved(entry_in(bytes, index));
+    }
+}
+
+/// The entry of an index.
+fn entry_in(bytes: &[u8], index: usize) -> PrdEntry
+    requires index { index < 32 }
+    requires whole { 16 * index + 16 ≤ length bytes.now }
+    ensures { result ≡ entry_at (take 16 (drop (16 * index) bytes.now)) }
+{
+    let mut entry = [0; 16];
+    entry.copy_from_slice(&bytes[16 * index..16 * index + 16]);
+    PrdEntry::at(&entry)
+}
+
+impl<A: Allocator> TableReader<A> {
+    ghost use Rattle.std.specs.Prelude.{◌≡◌, ◌≤◌, ◌↔◌, ◌*◌, ◌+◌, ◌-◌, ◌++◌, length, IsTrue, IfOk};
+    ghost use Rattle.hba_memory.specs.Table.{entries_in, next_entries, unread, wrapped};
+
+    /// The PRDT of a command table with so many entries. All memory that they need is allocated here.
+    pub fn new(alloc: A, table: u64, entries: u16) -> Result<Self, AllocError>
+        ensures { IfOk result (λ t. t ≡ unread table entries) }
+    {
+        let list = Vec::with_capacity(alloc, usize::from(entries))?;
+        Ok(TableReader {
+            address: table.wrapping_add(0x80),
+            left: u32::from(entries),
+            list,
+        })
+    }
+
+    /// Whether all entries are read.
+    pub fn is_done(&self) -> bool
+        ensures { IsTrue result ↔ (self.now.left ≡ 0) }
+    {
+        self.left == 0
+    }
+
+    /// Where the next entries begin.
+    pub fn address(&self) -> u64
+        ensures { result ≡ self.now.address }
+    {
+        self.address
+    }
+
+    /// How many bytes of entries are read next.
+    pub fn length(&self) -> usize
+        ensures { result ≡ 16 * next_entries self.now }
+    {
+        16 * self.left.min(MAX_ENTRIES) as usize
+    }
+
+    /// Takes the bytes of the next entries.
+    pub fn supply(&mut self, bytes: &[u8])
+        requires { length bytes.now ≡ 16 * next_entries self.old }
+        ensures address { self.new.address ≡ wrapped (self.old.address + length bytes.now) }
+        ensures left { self.new.left ≡ self.old.left - next_entries self.old }
+        ensures list { self.new.list ≡ self.old.list ++ entries_in (next_entries self.old) bytes.now }
+    {
+        let count = self.left.min(MAX_ENTRIES);
+        push_entries(&mut self.list, count as usize, bytes);
+        self.address = self.address.wrapping_add(bytes.len() as u64);
+        self.left -= count;
+    }
+
+    /// The entries that were read.
+    pub fn into_list(self) -> Vec<PrdEntry, A>
+        ensures list { result.items ≡ self.list }
+        ensures few { length result.items ≤ 65535 }
+    {
+        self.list
+    }
+}

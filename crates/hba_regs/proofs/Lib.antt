@@ -1,0 +1,2 @@
+pub mod InterruptLemmas
+pub mod StateLemmas

@@ -1,0 +1,16 @@
+-- No command comes.
+use Rattle.hba_regs.proofs.StateLemmas.{without_of_none}
+use Rattle.hba_regs.proofs.port.Port.clear_srst.Goals as goal
+
+pub invariant_of-self : goal.invariant_of-self
+invariant_of-self c =
+    let h = c.self.invariant in
+    record {
+      clb = h.clb;
+      fb = h.fb;
+      is = h.is;
+      ie = h.ie;
+      stopped = λ e. ((h.stopped e).0, without_of_none _ _ _ c.without_bit-self-inside.ensures (h.stopped e).1);
+      sctl = h.sctl;
+      ccs = h.ccs;
+    }

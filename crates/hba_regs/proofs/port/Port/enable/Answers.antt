@@ -1,0 +1,9 @@
+-- The bits that PxIE has.
+use Rattle.word_bits.specs.Places.{bits}
+use Rattle.hba_regs.proofs.StateLemmas.{enabled_again}
+use Rattle.hba_regs.proofs.port.Port.enable.Goals as goal
+
+pub invariant_of-self : goal.invariant_of-self
+invariant_of-self c =
+    let h = c.self.invariant in
+    record { clb = h.clb; fb = h.fb; is = h.is; ie = enabled_again (bits c.args.value) _ c.enabled-self-inside.ensures; stopped = h.stopped; sctl = h.sctl; ccs = h.ccs }

@@ -1,0 +1,10 @@
+-- A fatal error's bit is neither PCS nor PRCS.
+use Rattle.std.proofs.Common.{sym, subst}
+use Rattle.hba_regs.specs.HbaState.{IsKept}
+use Rattle.hba_regs.proofs.StateLemmas.{kept-fatal}
+use Rattle.hba_regs.proofs.port.Port.fail_fatally.Goals as goal
+
+pub invariant_of-self : goal.invariant_of-self
+invariant_of-self c =
+    let h = c.self.invariant in
+    record { clb = h.clb; fb = h.fb; is = subst IsKept (sym c.failed-self-inside.ensures) (kept-fatal _ c.args.fatal h.is); ie = h.ie; stopped = h.stopped; sctl = h.sctl; ccs = h.ccs }

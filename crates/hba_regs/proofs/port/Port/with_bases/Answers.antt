@@ -1,0 +1,18 @@
+-- Nothing is set, and the bases are those that were asked for.
+use Rattle.std.proofs.Common.{sym, subst, refl, arith, ap, ◌∙◌}
+use Rattle.word_bits.specs.Places.{no_places, intersection}
+use Rattle.word_bits.proofs.BitsLemmas.{bits_zero}
+use Rattle.hba_regs.specs.HbaState.{IsKept, enables}
+use Rattle.hba_regs.proofs.StateLemmas.{kept-none, none_enabled}
+use Rattle.hba_regs.proofs.port.Port.with_bases.Goals as goal
+
+pub invariant_of-result : goal.invariant_of-result
+invariant_of-result c = record {
+  clb = c.requires.clb;
+  fb = c.requires.fb;
+  is = subst IsKept (sym bits_zero) kept-none;
+  ie = none_enabled;
+  stopped = λ e. (bits_zero, bits_zero);
+  sctl = omega arith;
+  ccs = omega arith;
+}

@@ -1,0 +1,10 @@
+pub mod Accessing
+pub mod Fields
+pub mod HbaState
+pub mod Interrupts
+pub mod Linking
+pub mod Reading
+pub mod Receiving
+pub mod RegisterTable
+pub mod Writing
+pub use Rattle.word_bits.specs.Places

@@ -1,0 +1,91 @@
+//! What the HBA's registers tell the device's side.
+
+ghost use Rattle.std.specs.Prelude.{◌≡◌, ◌&&◌, true};
+ghost use Rattle.word_bits.specs.Places.{bits};
+ghost use Rattle.hba_regs.specs.HbaState.{HasWords, IsLawful};
+ghost use Rattle.hba_regs.specs.Interrupts.{interrupt, is_pending};
+ghost use Rattle.hba_regs.specs.Linking.{is_up};
+
+use super::HbaRegs;
+use crate::link::Link;
+
+impl HbaRegs {
+    /// What every state of the registers keeps: the port's rules, and IS.IPS is 1 while an interrupt is pending.
+    pub fn keeps_its_rules(&self)
+        ensures port { IsLawful self.now.port }
+        ensures words { HasWords self.now.port }
+        ensures reports { is_pending self.now.port ≡ true → self.now.ips ≡ true }
+    {
+        self.port.keeps_its_rules();
+    }
+
+    /// The level of the interrupt line: IS.IPS and GHC.IE.
+    pub fn interrupt(&self) -> bool
+        ensures { result ≡ interrupt self.now }
+    {
+        self.pending && self.enabled
+    }
+
+    /// PxCLB and PxCLBU: the address of the command list.
+    pub fn list_base(&self) -> u64
+        ensures { result ≡ self.now.port.clb }
+    {
+        self.port.clb()
+    }
+
+    /// PxFB and PxFBU: the address of the received FIS area.
+    pub fn received_base(&self) -> u64
+        ensures { result ≡ self.now.port.fb }
+    {
+        self.port.fb()
+    }
+
+    /// PxSACT: a bit for each slot whose queued command is outstanding.
+    pub fn sact(&self) -> u32
+        ensures { bits result ≡ self.now.port.sact }
+    {
+        self.port.sact()
+    }
+
+    /// PxCI: a bit for each slot whose command the device hasn't taken.
+    pub fn ci(&self) -> u32
+        ensures { bits result ≡ self.now.port.ci }
+    {
+        self.port.ci()
+    }
+
+    /// PxCMD.ST: whether the port processes its command list.
+    pub fn is_started(&self) -> bool
+        ensures { result ≡ self.now.port.st }
+    {
+        self.port.is_started()
+    }
+
+    /// PxCMD.FRE: whether received FISes are posted.
+    pub fn is_receiving(&self) -> bool
+        ensures { result ≡ self.now.port.fre }
+    {
+        self.port.is_receiving()
+    }
+
+    /// Whether no command is processed until ST is cleared (AHCI 1.3.1, section 6.2.2).
+    pub fn is_halted(&self) -> bool
+        ensures { result ≡ self.now.port.halted }
+    {
+        self.port.is_halted()
+    }
+
+    /// Whether the link to the device is up.
+    pub fn link_is_up(&self) -> bool
+        ensures { result ≡ is_up self.now.port.link }
+    {
+        matches!(self.port.link(), Link::Up)
+    }
+
+    /// Whether the device's signature waits and FRE is 1, so that `take_signature` is the next to come.
+    pub fn signature_is_due(&self) -> bool
+        ensures { result ≡ (self.now.port.signature_waits && self.now.port.fre) }
+    {
+        self.port.signature_waits() && self.port.is_receiving()
+    }
+}

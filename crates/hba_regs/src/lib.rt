@@ -1,0 +1,19 @@
+//! The register file of an AHCI controller with one port, as a driver finds it: what a read of any size answers, and what a
+//! write, a received FIS or an error changes (AHCI 1.3.1, chapter 3).
+#![tactic(auto)]
+
+mod access_size;
+mod consequence;
+mod fatal;
+mod hba_regs;
+mod link;
+mod port;
+mod register;
+mod words;
+
+pub use access_size::AccessSize;
+pub use consequence::Consequence;
+pub use fatal::Fatal;
+pub use hba_regs::HbaRegs;
+pub use link::Link;
+pub use register::Register;

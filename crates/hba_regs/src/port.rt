@@ -1,0 +1,270 @@
+//! The registers of the port (AHCI 1.3.1, section 3.3).
+
+ghost use Rattle.std.specs.Prelude.{◌≡◌, ◌+◌, ◌*◌, ◌%◌, ◌^◌, ◌<◌, not, nat_eq};
+ghost use Rattle.word_bits.specs.Places.{bits, intersection, word_of};
+ghost use Rattle.hba_regs.specs.HbaState.{reset_port, HasWords, IsLawful};
+ghost use Rattle.hba_regs.specs.Interrupts.{interrupts, is_pending, raised};
+ghost use Rattle.hba_regs.specs.Reading.{command_word};
+
+use crate::link::Link;
+use std::marker::Model;
+use word_bits::{is_set, with_bit};
+
+mod moves;
+mod writes;
+
+/// Bits of PxIS (section 3.3.5).
+const DHRS: u8 = 0;
+
+const PSS: u8 = 1;
+
+const SDBS: u8 = 3;
+
+const PCS: u8 = 6;
+
+const PRCS: u8 = 22;
+
+const TFES: u8 = 30;
+
+/// DIAG.N and DIAG.X of PxSERR (section 3.3.12), by their places and in one word.
+const DIAG_N: u8 = 16;
+
+const DIAG_X: u8 = 26;
+
+const LINK_CHANGED: u32 = 0x0401_0000;
+
+/// What PxSIG is before the device's first FIS (section 3.3.9).
+const NO_SIGNATURE: u32 = 0xffff_ffff;
+
+/// The registers of the port.
+#[derive(Debug, Drop)]
+pub struct Port {
+    clb: u64,
+    fb: u64,
+    is: u32,
+    ie: u32,
+    started: bool,
+    receiving: bool,
+    status: u8,
+    error: u8,
+    signature: u32,
+    link: Link,
+    control: u32,
+    serr: u32,
+    sact: u32,
+    ci: u32,
+    current: u8,
+    halted: bool,
+    signature_waits: bool,
+}
+
+impl Model for Port {
+    ghost use Rattle.hba_regs.specs.HbaState.{HbaPort};
+
+    ghost Value = { HbaPort };
+
+    ghost use Rattle.hba_regs.specs.Fields.{port_of, PortIsLawful};
+
+    ghost view = { port_of };
+
+    ghost invariant = { PortIsLawful };
+}
+
+impl Port {
+    /// The port after power-on.
+    pub fn new() -> Self
+        ensures { result ≡ reset_port 0 0 }
+    {
+        Port::with_bases(0, 0)
+    }
+
+    /// The port after a reset of the HBA, which leaves the bases (section 10.4.3).
+    pub fn reset(&mut self)
+        ensures { self.new ≡ reset_port self.old.clb self.old.fb }
+    {
+        *self = Port::with_bases(self.clb, self.fb);
+    }
+
+    /// The port after a reset, with these bases: the link is up, and the device has sent its signature.
+    #[tactic(auto, using(word_bits::proofs::BitsLemmas::bits_zero))]
+    fn with_bases(clb: u64, fb: u64) -> Self
+        requires clb { clb % 2 ^ 10 ≡ 0 }
+        requires fb { fb % 2 ^ 8 ≡ 0 }
+        ensures { result ≡ reset_port clb fb }
+    {
+        Port {
+            clb,
+            fb,
+            is: 0,
+            ie: 0,
+            started: false,
+            receiving: false,
+            status: 0x80,
+            error: 0,
+            signature: NO_SIGNATURE,
+            link: Link::Up,
+            control: 0,
+            serr: LINK_CHANGED,
+            sact: 0,
+            ci: 0,
+            current: 0,
+            halted: false,
+            signature_waits: true,
+        }
+    }
+
+    /// What every state of a port's registers keeps.
+    pub fn keeps_its_rules(&self)
+        ensures lawful { IsLawful self.now }
+        ensures words { HasWords self.now }
+    {
+        let _ = &self.clb;
+    }
+
+    /// PxCLB and PxCLBU.
+    pub fn clb(&self) -> u64
+        ensures { result ≡ self.now.clb }
+    {
+        self.clb
+    }
+
+    /// PxFB and PxFBU.
+    pub fn fb(&self) -> u64
+        ensures { result ≡ self.now.fb }
+    {
+        self.fb
+    }
+
+    /// PxIS: the bits that are kept, with PCS and PRCS of PxSERR.
+    pub fn is(&self) -> u32
+        ensures { bits result ≡ interrupts self.now }
+    {
+        let changed = raised(self.is, PRCS, is_set(self.serr, DIAG_N));
+        raised(changed, PCS, is_set(self.serr, DIAG_X))
+    }
+
+    /// PxIE.
+    pub fn ie(&self) -> u32
+        ensures { bits result ≡ self.now.ie }
+    {
+        self.ie
+    }
+
+    /// Whether some interrupt is set and enabled.
+    pub fn is_pending(&self) -> bool
+        ensures { result ≡ is_pending self.now }
+    {
+        meet(self.is(), self.ie)
+    }
+
+    /// PxCMD.
+    pub fn command(&self) -> u32
+        ensures { result ≡ command_word self.now }
+    {
+        let mut word = 0x0000_0006; // SUD and POD: the device has spun up and is powered
+        if self.started {
+            word += 0x0000_8001 + (u32::from(self.current) << 8);
+        }
+        if self.receiving {
+            word += 0x0000_4010;
+        }
+        word
+    }
+
+    /// PxTFD.
+    pub fn task_file(&self) -> u32
+        ensures { result ≡ self.now.err * 2 ^ 8 + self.now.sts }
+    {
+        (u32::from(self.error) << 8) + u32::from(self.status)
+    }
+
+    /// PxSIG.
+    pub fn signature(&self) -> u32
+        ensures { result ≡ self.now.sig }
+    {
+        self.signature
+    }
+
+    /// The link, which PxSSTS shows.
+    pub fn link(&self) -> Link
+        ensures { result ≡ self.now.link }
+    {
+        self.link
+    }
+
+    /// PxSCTL.
+    pub fn control(&self) -> u32
+        ensures { result ≡ self.now.sctl }
+    {
+        self.control
+    }
+
+    /// PxSERR.
+    pub fn serr(&self) -> u32
+        ensures { bits result ≡ self.now.serr }
+    {
+        self.serr
+    }
+
+    /// PxSACT.
+    pub fn sact(&self) -> u32
+        ensures { bits result ≡ self.now.sact }
+    {
+        self.sact
+    }
+
+    /// PxCI.
+    pub fn ci(&self) -> u32
+        ensures { bits result ≡ self.now.ci }
+    {
+        self.ci
+    }
+
+    /// PxCMD.ST.
+    pub fn is_started(&self) -> bool
+        ensures { result ≡ self.now.st }
+    {
+        self.started
+    }
+
+    /// PxCMD.FRE.
+    pub fn is_receiving(&self) -> bool
+        ensures { result ≡ self.now.fre }
+    {
+        self.receiving
+    }
+
+    /// Whether no command is processed until ST is cleared.
+    pub fn is_halted(&self) -> bool
+        ensures { result ≡ self.now.halted }
+    {
+        self.halted
+    }
+
+    /// Whether the device has sent its signature, which is not taken yet.
+    pub fn signature_waits(&self) -> bool
+        ensures { result ≡ self.now.signature_waits }
+    {
+        self.signature_waits
+    }
+}
+
+/// A set of interrupts with one more, if it is raised.
+fn raised(word: u32, place: u8, is_raised: bool) -> u32
+    requires { place < 32 }
+    ensures { bits result ≡ raised is_raised place (bits word) }
+{
+    if is_raised {
+        with_bit(word, place)
+    } else {
+        word
+    }
+}
+
+/// Whether two words have a bit in common.
+#[tactic(auto, using(word_bits::proofs::BitsLemmas::bits_and, word_bits::proofs::BitsLemmas::words_back))]
+fn meet(word: u32, other: u32) -> bool
+    ensures { result ≡ not (nat_eq (word_of (intersection (bits word) (bits other))) 0) }
+{
+    word & other != 0
+}
