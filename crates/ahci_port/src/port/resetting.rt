@@ -15,7 +15,7 @@ impl<A: Allocator + Copy> Port<A> {
     /// Resets the port and its device, and starts it again: every request is dropped, whatever its phase, and the port is as a new
     /// one over the image as it is now. A command that was not completed has changed no sector. The journal is handed out, and the
     /// next entry has the number that it would have had, so no number of a dropped request comes again. It takes no memory: the
-    /// image is copied in place, the windows of the dropped requests are given back, and the journal's memory goes out with it.
+    /// image is copied in place, the memory of the dropped requests is freed, and the journal's goes out with it.
     ///
     /// # Errors
     /// `Spent` if the next number is over 2^63.

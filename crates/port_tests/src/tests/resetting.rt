@@ -44,7 +44,7 @@ pub const DROPPED: &[Row] = &[
 
 /// Tag 1 is broken, and tag 0 waits.
 pub const HALTED: &[Row] = &[
-    Identify(0, Ok([0x40, 0])),
+    Identify(75, Ok([1, 0])),
     Issue(0, 0, Some(0x11), Ok(1)),
     Issue(1, 0, Some(0x22), Ok(2)),
     Accepts(&[1], 3),

@@ -28,6 +28,7 @@ enum Call {
     Flush,
     ReadLog,
     Fail(u8, u64),
+    Reset,
 }
 
 /// What is looked at.
@@ -35,6 +36,7 @@ enum Call {
 enum Said {
     Taken(Taken),
     Failed(Result<[u8; 8], ServeFault>),
+    Nothing,
 }
 
 const ACCEPTED: Said = Said::Taken(Taken::Accepted([
@@ -51,7 +53,7 @@ const AT_8: Said = Said::Taken(Taken::Refused([
 ]));
 
 /// Calls with their answers, and then the tags that are outstanding and whether an error stands.
-static ROWS: [(Call, Said, u32, bool); 16] = [
+static ROWS: [(Call, Said, u32, bool); 20] = [
     (
         Call::Identify,
         Said::Taken(Taken::Plain(Plain::Identify)),
@@ -108,6 +110,10 @@ static ROWS: [(Call, Said, u32, bool); 16] = [
         0,
         false,
     ),
+    (Call::Queue(0x61, 2, 3), ACCEPTED, 4, false),
+    (Call::Reset, Said::Nothing, 0, false),
+    (Call::Queue(0x60, 1, 8), AT_8, 0, true),
+    (Call::Reset, Said::Nothing, 0, false),
 ];
 
 /// Sends a command that is not queued; a log that is granted is read.
@@ -129,6 +135,10 @@ fn goes(disk: &mut Disk<&Heap>, call: Call) -> Said {
         Call::Flush => sends(disk, 0xEA),
         Call::ReadLog => sends(disk, 0x2F),
         Call::Fail(tag, at) => Said::Failed(disk.fail(tag, 0x40, at)),
+        Call::Reset => {
+            disk.reset();
+            Said::Nothing
+        }
     }
 }
 
