@@ -67,13 +67,17 @@ paged h slot p list page =
     answering (record h { slots = slice_set h.slots slot None }) (posting_of h.registers h.port slot (page_task p) (placed list page)) (ending_of slot (page_task p))
 
 -- why the device aborts a command that is not queued: queued ones are outstanding (ACS-3, "Native Command Queuing"), or one has failed
--- and its log is not read yet
-abbrev pub is_aborted : HbaView → Bool
-is_aborted h = list_any has_queued h.slots || halted h.port.past
+-- and its log is not read yet, but for a command that reads it
+abbrev pub reads_error_log : Task → Bool
+reads_error_log (task.ReadLog QueuedError p) = true
+reads_error_log other = false
+
+abbrev pub is_aborted : HbaView → Task → Bool
+is_aborted h t = list_any has_queued h.slots || (halted h.port.past && not (reads_error_log t))
 
 -- the device answers a command that moves no data: exactly with this FIS
 abbrev pub simple_answer : HbaView → Task → D2hFields
-simple_answer h t = if is_aborted h then aborted else answer_to_task h.port t
+simple_answer h t = if is_aborted h t then aborted else answer_to_task h.port t
 
 -- a command that is not queued is read
 abbrev pub is_alone_fetched : Option CommandView → Bool
@@ -124,7 +128,7 @@ Executes false slot t list old new = Performs slot t list old new
 
 -- a command that is answered at once: it is aborted, or needs no move of the port
 abbrev pub ends_at_once : HbaView → Task → Bool
-ends_at_once h t = is_aborted h || is_simple h t
+ends_at_once h t = is_aborted h t || is_simple h t
 
 -- what the device does with the command of a slot
 abbrev pub IsExecuted : ℕ → HbaView → HbaView → Type 0

@@ -6,3 +6,4 @@ pub mod Dropping
 pub mod Delivering
 pub mod Executing
 pub mod Resetting
+pub mod Recovering

@@ -6,6 +6,7 @@ mod executing;
 mod fetching;
 mod moving;
 mod queueing;
+mod recovering;
 mod resetting;
 mod sending;
 mod writing;

@@ -3,7 +3,7 @@
 ghost use Rattle.std.specs.Prelude.{◌≡◌, ◌-◌, ◌<◌, ◌^◌, None, OnErr, OnOk, slice_set};
 ghost use Rattle.ahci_hba.specs.Queueing.{command_at, list_in, task_in};
 ghost use Rattle.ahci_port.specs.PortView.{sectors_in};
-ghost use Rattle.ahci_hba.specs.Executing.{Flushes, Identifies, IsExecuted, aborted, answer_to_task, concluded, d2h_fis, is_aborted, is_alone_fetched, is_simple, log_page, paged, signed, simple_answer, verified};
+ghost use Rattle.ahci_hba.specs.Executing.{Flushes, Identifies, IsExecuted, aborted, answer_to_task, concluded, d2h_fis, is_aborted, is_alone_fetched, is_simple, log_page, paged, reads_error_log, signed, simple_answer, verified};
 
 use crate::command::Command;
 use crate::ending::Ending;
@@ -110,12 +110,20 @@ impl<A: Allocator + Copy> Hba<A> {
     }
 }
 
+/// Whether a command reads the log of failed queued commands.
+fn reads_error_log(task: &Task) -> bool
+    ensures { result ≡ reads_error_log task.now }
+{
+    matches!(task, Task::ReadLog(Log::QueuedError, _))
+}
+
 impl<A: Allocator> Hba<A> {
-    /// Why the device aborts a command that is not queued: queued ones are outstanding, or one has failed and its log is not read yet.
-    fn is_aborted(&self) -> bool
-        ensures { result ≡ is_aborted self.now }
+    /// Why the device aborts a command that is not queued: queued ones are outstanding, or one has failed and its log is not read yet, but for a command
+    /// that reads it.
+    fn is_aborted(&self, task: &Task) -> bool
+        ensures { result ≡ is_aborted self.now task.now }
     {
-        self.is_queueing() || self.port.halted()
+        self.is_queueing() || (self.port.halted() && !reads_error_log(task))
     }
 
     /// Whether the device answers a command by a D2H Register FIS alone, with no move of the port.
@@ -133,7 +141,7 @@ impl<A: Allocator> Hba<A> {
     fn simple_answer(&self, task: &Task) -> D2h
         ensures { result ≡ simple_answer self.now task.now }
     {
-        if self.is_aborted() {
+        if self.is_aborted(task) {
             aborted()
         } else {
             self.answer_to_task(task)
@@ -189,7 +197,7 @@ fn log_page(log: Log) -> [u8; 512]
 
 impl<A: Allocator + Copy> Hba<A> {
     /// A page goes to the driver for the command of a slot, below 32; the slot is empty.
-    fn give_page(&mut self, slot: u8, protocol: Protocol, page: Vec<u8, A>)
+    pub(super) fn give_page(&mut self, slot: u8, protocol: Protocol, page: Vec<u8, A>)
         requires { slot < 32 }
         ensures { self.new ≡ paged self.old slot protocol (list_in (command_at self.old slot)) page.items }
     {
@@ -248,8 +256,8 @@ impl<A: Allocator + Copy> Hba<A> {
     /// The device executes the command of a slot, below 32, that is not queued and moves no sectors, or aborts it.
     ///
     /// # Errors
-    /// `OutOfMemory` if an allocation failed; it may be tried again. `NotReady` if the slot has no such command that was read, or if something
-    /// is read or written just now. Nothing has changed.
+    /// `OutOfMemory` if an allocation failed; it may be tried again. `NotReady` if the slot has no such command that was read, if it reads the
+    /// log of a failed command, or if something is read or written just now. Nothing has changed.
     pub fn execute(&mut self, slot: u8) -> Result<(), HbaFault>
         requires { slot < 32 }
         ensures ok { OnOk result (IsExecuted slot self.old self.new) }
@@ -259,10 +267,13 @@ impl<A: Allocator + Copy> Hba<A> {
             return Err(HbaFault::NotReady);
         }
         let task = self.task_in(slot);
-        if self.is_aborted() || self.is_simple(&task) {
+        if self.is_aborted(&task) || self.is_simple(&task) {
             let fis = self.simple_answer(&task);
             self.conclude(slot, fis);
             return Ok(());
+        }
+        if self.port.halted() {
+            return Err(HbaFault::NotReady); // `recover` reads the log
         }
         match task {
             Task::Identify => self.identify(slot),

@@ -68,7 +68,7 @@ impl<A: Allocator> Hba<A> {
 }
 
 /// Resets a port, unless its numbers are used up; its journal is the answer.
-fn reset<A: Allocator + Copy>(port: &mut Port<A>) -> Option<Journal<A>>
+pub(super) fn reset<A: Allocator + Copy>(port: &mut Port<A>) -> Option<Journal<A>>
     ensures journal { result ≡ handed_out (not (is_spent port.old)) port.old }
     ensures port { port.new ≡ port_after (not (is_spent port.old)) port.old }
 {

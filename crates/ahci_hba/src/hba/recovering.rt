@@ -1,0 +1,114 @@
+//! How a driver reads the log of a failed queued command (AHCI 1.3.1, section 6.2.2; ACS-3, "NCQ Command Error log").
+
+ghost use Rattle.std.specs.Prelude.{◌≡◌, ◌<◌, ◌≤◌, [], IfOk, OnErr, vec_capacity};
+ghost use Rattle.ahci_hba.specs.Queueing.{command_at};
+ghost use Rattle.ahci_hba.specs.Recovering.{CollectsFailed, ReadsErrorLog, error_log_in, error_page};
+
+use crate::command::Command;
+use crate::fault::HbaFault;
+use crate::hba::Hba;
+use crate::hba::writing::reset;
+use ahci_port::{Journal, Outcome, Port, RecoverFault, Reply};
+use hba_command::{Log, Protocol, Task, not_queued_page};
+use ncq_core::{LBA_LIMIT, log_page};
+use std::alloc::Allocator;
+
+/// The page of the failed command of a tag.
+fn error_page(tag: u8, outcome: Outcome) -> [u8; 512]
+    ensures { result ≡ error_page tag outcome }
+{
+    match outcome {
+        Outcome::Failed { error, lba } => {
+            if tag < 32 && lba < LBA_LIMIT {
+                log_page(tag, error, lba)
+            } else {
+                not_queued_page()
+            }
+        }
+        _ => not_queued_page(),
+    }
+}
+
+impl<A: Allocator> Hba<A> {
+    /// How the command of a slot, below 32, reads the log of failed queued commands; nothing if it doesn't.
+    pub fn error_log_in(&self, slot: u8) -> Option<Protocol>
+        requires { slot < 32 }
+        ensures { result ≡ error_log_in (command_at self.now slot) }
+    {
+        match &self.slots[usize::from(slot)] {
+            Some(slot) => match &slot.command {
+                Command::Fetched(Task::ReadLog(Log::QueuedError, protocol), _, _) => Some(
+                    *protocol,
+                ),
+                _ => None,
+            },
+            None => None,
+        }
+    }
+}
+
+/// The port recovers, and the failed request is collected: its tag and its reply.
+fn recover<A: Allocator>(port: &mut Port<A>) -> Result<(u8, Reply), RecoverFault>
+    ensures ok { IfOk result (λ r. CollectsFailed r.0 r.1 port.old port.new) }
+    ensures err { OnErr result (port.new ≡ port.old) }
+{
+    port.keeps_its_promise();
+    let tag = port.recover()?;
+    let Some(number) = port.owner(tag) else {
+        unreachable!() // a failed command has a request
+    };
+    let Ok((reply, _)) = port.collect(tag, number) else {
+        unreachable!() // it is done
+    };
+    Ok((tag, reply))
+}
+
+impl<A: Allocator + Copy> Hba<A> {
+    /// The device answers a command of a slot, below 32, that reads the log of failed queued commands, after one has failed: the port recovers,
+    /// the failed request is collected, what was held is dropped, and the page goes to the driver. The port is reset after that, and the
+    /// journal that it hands out is the answer.
+    ///
+    /// # Errors
+    /// `OutOfMemory` if an allocation failed; it may be tried again. `NotReady` if the slot has no such command that was read, if no
+    /// queued command has failed, or if something is read or written just now. Nothing has changed.
+    pub fn recover(&mut self, slot: u8) -> Result<Option<Journal<A>>, HbaFault>
+        requires { slot < 32 }
+        ensures ok { IfOk result (λ j. ReadsErrorLog slot self.old self.new j) }
+        ensures err { OnErr result (self.new ≡ self.old) }
+    {
+        if !self.is_running() || !self.is_idle() {
+            return Err(HbaFault::NotReady);
+        }
+        let Some(protocol) = self.error_log_in(slot) else {
+            return Err(HbaFault::NotReady);
+        };
+        let Ok(page) = Vec::with_capacity(self.alloc, 512) else {
+            return Err(HbaFault::OutOfMemory);
+        };
+        let (tag, reply) = match recover(&mut self.port) {
+            Ok(recovered) => recovered,
+            Err(RecoverFault::OutOfMemory) => return Err(HbaFault::OutOfMemory),
+            Err(RecoverFault::NotHalted) => return Err(HbaFault::NotReady),
+        };
+        let journal = reset(&mut self.port);
+        self.give_page(
+            slot,
+            protocol,
+            filled(page, &error_page(tag, reply.outcome)),
+        );
+        Ok(journal)
+    }
+}
+
+/// Some bytes in the room that there is.
+fn filled<A: Allocator>(room: Vec<u8, A>, bytes: &[u8; 512]) -> Vec<u8, A>
+    requires empty { room.items ≡ [] }
+    requires room { 512 ≤ vec_capacity room }
+    ensures { result.items ≡ bytes.now }
+{
+    let mut filled = room;
+    let Ok(()) = filled.extend_from_slice(bytes) else {
+        unreachable!() // there is room
+    };
+    filled
+}
