@@ -84,6 +84,7 @@ pub fn work<A: Allocator + Copy>(hba: &mut Hba<A>, memory: &mut [u8], slot: u8) 
     let _ = hba.serve(slot);
     let _ = hba.deliver();
     settle(hba, memory);
+    let _ = hba.recover(slot);
     let _ = hba.execute(slot);
     settle(hba, memory);
 }

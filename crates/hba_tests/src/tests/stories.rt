@@ -4,7 +4,7 @@
 use crate::tests::driver::{
     IS, PX_CI, PX_CMD, PX_IS, PX_SACT, PX_SIG, PX_TFD, lay, read, start, write,
 };
-use crate::tests::guest::{CONTENT, LIST, RECEIVED, byte, dword, put, work};
+use crate::tests::guest::{CONTENT, LIST, RECEIVED, byte, dword, put, settle, work};
 use ahci_hba::Hba;
 use std::test::Fail;
 
@@ -20,6 +20,8 @@ const WRITE: [u8; 16] = [
 const IDENTIFY: [u8; 16] = [0x27, 0x80, 0xEC, 0, 0, 0, 0, 0, 0, 0, 0, 0, 0, 0, 0, 0];
 /// READ DMA of one sector at LBA 3.
 const READ_DMA: [u8; 16] = [0x27, 0x80, 0xC8, 0, 3, 0, 0, 0x40, 0, 0, 0, 0, 1, 0, 0, 0];
+/// READ LOG EXT of one page of log 10h.
+const READ_LOG: [u8; 16] = [0x27, 0x80, 0x2F, 0, 0x10, 0, 0, 0, 0, 0, 0, 0, 1, 0, 0, 0];
 /// IDENTIFY PACKET DEVICE.
 const PACKET: [u8; 16] = [0x27, 0x80, 0xA1, 0, 0, 0, 0, 0, 0, 0, 0, 0, 0, 0, 0, 0];
 
@@ -96,9 +98,9 @@ fn a_command_that_is_dropped_moves_nothing_any_more(rt: HostRuntime) -> Result<(
     write(&mut hba, PX_SACT, 2);
     write(&mut hba, PX_CI, 2);
     let _ = hba.fetch(1);
-    crate::tests::guest::settle(&mut hba, &mut memory);
+    settle(&mut hba, &mut memory);
     assert_eq!(rt; (hba.send(1), hba.accept(1)), (Ok(()), Ok(())));
-    crate::tests::guest::settle(&mut hba, &mut memory);
+    settle(&mut hba, &mut memory);
     assert_eq!(rt; (read(&hba, PX_SACT), read(&hba, PX_CI)), (2, 0));
     // ST is cleared: the port hands its journal out, and the sector is as it was
     assert_eq!(rt; write(&mut hba, PX_CMD, 0x10), true);
@@ -143,5 +145,50 @@ fn an_error_ends_a_command_as_the_standard_names_it(rt: HostRuntime) -> Result<(
         ),
         (1, 1)
     );
+    Ok(())
+}
+
+#[test]
+fn a_failed_command_is_named_by_the_log(rt: HostRuntime) -> Result<(), Fail> {
+    let mut memory = vec![in rt.alloc(); 0u8; 0x10000]?;
+    let mut hba = Hba::new(rt.alloc(), vec![in rt.alloc(); 0u8; 8 * 512]?, 32)?;
+    start(&mut hba, &mut memory);
+    lay(&mut hba, &mut memory, 1, &READ, 512);
+    write(&mut hba, PX_SACT, 2);
+    write(&mut hba, PX_CI, 2);
+    let _ = hba.fetch(1);
+    settle(&mut hba, &mut memory);
+    assert_eq!(rt; (hba.send(1), hba.accept(1)), (Ok(()), Ok(())));
+    settle(&mut hba, &mut memory);
+    assert_eq!(rt; hba.fail(1, 0x40, 3), Ok(()));
+    settle(&mut hba, &mut memory);
+    assert_eq!(rt;
+        (read(&hba, PX_TFD), read(&hba, PX_IS)),
+        (0x4041, 0x4000_0008)
+    );
+    assert_eq!(rt;
+        (read(&hba, PX_SACT), dword(&memory, RECEIVED + 0x58)),
+        (2, 0x4041_40A1)
+    );
+    // as Linux does it: ST is cleared and set, and then the log is read
+    assert_eq!(rt; write(&mut hba, PX_CMD, 0x10), false);
+    write(&mut hba, PX_IS, 0xffff_ffff);
+    write(&mut hba, PX_CMD, 0x11);
+    lay(&mut hba, &mut memory, 0, &READ_LOG, 512);
+    write(&mut hba, PX_CI, 1);
+    work(&mut hba, &mut memory, 0);
+    assert_eq!(rt;
+        (dword(&memory, CONTENT), dword(&memory, CONTENT + 4)),
+        (0x4041_0001, 3)
+    );
+    assert_eq!(rt;
+        (byte(&memory, CONTENT + 511), read(&hba, PX_IS)),
+        (0x7B, 2)
+    );
+    // and the disk goes on
+    lay(&mut hba, &mut memory, 0, &READ_DMA, 512);
+    write(&mut hba, PX_CI, 1);
+    work(&mut hba, &mut memory, 0);
+    assert_eq!(rt; (read(&hba, PX_TFD), read(&hba, PX_CI)), (0x40, 0));
     Ok(())
 }
