@@ -1,5 +1,5 @@
 -- What is answered is the command that the port has done.
-use Rattle.std.proofs.Common.{◌≡◌, ℕ, true, List, None, slice_set, ap, sym, refl, ◌∙◌}
+use Rattle.std.proofs.Common.{◌≡◌, ℕ, true, List, None, slice_set, ap, sym, ◌∙◌}
 use Rattle.hba_command.specs.declared.entry.PrdEntry.{PrdEntry}
 use Rattle.hba_command.specs.declared.task.Task.{Task}
 use Rattle.hba_memory.specs.Posting.{PostingView}

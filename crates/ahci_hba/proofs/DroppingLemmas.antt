@@ -1,5 +1,5 @@
 -- What a write that drops commands leaves.
-use Rattle.std.proofs.Common.{◌≡◌, Bool, true, not, ◌&&◌, Option, refl, ap, sym, subst, ◌∙◌}
+use Rattle.std.proofs.Common.{◌≡◌, true, not, ◌&&◌, Option, refl, ap, sym, ◌∙◌}
 use Rattle.hba_regs.specs.HbaState.{HbaState}
 use Rattle.hba_regs.specs.Writing.{Written}
 use Rattle.hba_regs.specs.declared.consequence.Consequence.{Consequence}

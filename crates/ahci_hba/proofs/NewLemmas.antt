@@ -1,5 +1,5 @@
 -- A controller is made where its port is.
-use Rattle.std.proofs.Common.{◌≡◌, Option, None, Some, Ok, Err}
+use Rattle.std.proofs.Common.{Option, None, Some, Ok}
 use Rattle.ncq_core.specs.declared.disk_fault.DiskFault.{DiskFault}
 use Rattle.ahci_port.specs.Faults.{AnswersOr}
 

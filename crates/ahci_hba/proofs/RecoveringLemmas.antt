@@ -1,11 +1,11 @@
 -- A failed command has a request, which is done once the port has recovered; and what is told of it.
-use Rattle.std.proofs.Common.{◌≡◌, ℕ, Bool, true, false, not, cond, List, ◌∷◌, Option, None, Some, IsSomeAnd, refl, ap, sym, subst, ◌∙◌}
+use Rattle.std.proofs.Common.{◌≡◌, ℕ, Bool, true, false, not, cond, List, Option, None, Some, IsSomeAnd, refl, ap, sym, subst, ◌∙◌}
 use Rattle.std.specs.Option.{option_map}
 use Rattle.hba_command.specs.declared.protocol.Protocol.{Protocol}
 use Rattle.ncq_journal.specs.Answer.{Answer}
 use Rattle.ncq_journal.specs.declared.phase.Phase.{Phase}
 use Rattle.ncq_journal.specs.declared.phase.Phase.TheVariants.{Free, Issued, Accepted, Rejected, Broken, Held, Done}
-use Rattle.ncq_journal.specs.Entry.{Entry, Recover}
+use Rattle.ncq_journal.specs.Entry.{Entry}
 use Rattle.ncq_journal.specs.History.{History}
 use Rattle.ncq_journal.specs.Numbering.{number_of}
 use Rattle.ncq_journal.specs.Phase.{phase, is_failed, recovered}
@@ -13,7 +13,7 @@ use Rattle.ncq_journal.specs.Request.{Request, request}
 use Rattle.ahci_table.specs.Window.{WindowState}
 use Rattle.ahci_port.specs.Headline.{Headline, HasWindow, IsOfRequest}
 use Rattle.ahci_port.specs.PortView.{PortView, is_free, owner_of, window_at}
-use Rattle.ahci_port.specs.Steps.{IsCollected, IsRecovered, answer_to}
+use Rattle.ahci_port.specs.Steps.{IsRecovered, answer_to}
 use Rattle.ahci_port.specs.declared.reply.Reply.{Reply}
 use Rattle.ahci_hba.specs.Dropping.{handed_out, is_spent, port_after}
 use Rattle.ahci_hba.specs.Executing.{paged}
@@ -44,7 +44,7 @@ pub failed_is_owned : (old new : PortView) (tag : ℕ) → Headline old → is_f
 failed_is_owned old new tag h failed is none =
     has_request old.starting old.past tag (window_at old tag) (h.owned tag) failed
     (no_owner new.first (recovered (phase old.past tag)) (request old.past tag) (ap is_free (failed_is_done (phase old.past tag) failed))
-     (sym (ap (λ l. owner_by new.first l tag) is.appended.past_is) ∙ none))
+    (sym (ap (λ l. owner_by new.first l tag) is.appended.past_is) ∙ none))
 
 depth_after : (b : Bool) (p : PortView) → (port_after b p).depth ≡ p.depth
 depth_after true p = refl
@@ -55,7 +55,7 @@ pub still_sound : (tag : ℕ) (reply : Reply) (old collected port : PortView) (d
     → CollectsFailed tag reply old collected → port ≡ port_after (not (is_spent collected)) collected → IsSound port depth slots work
 still_sound tag reply old collected port depth slots work s f e = record {
   tags =
-    ap (λ p. p.depth) e ∙ depth_after (not (is_spent collected)) collected ∙ f.collected.appended.depth_same ∙ f.recovered.appended.depth_same ∙ s.tags;
+      ap (λ p. p.depth) e ∙ depth_after (not (is_spent collected)) collected ∙ f.collected.appended.depth_same ∙ f.recovered.appended.depth_same ∙ s.tags;
   whole = s.whole;
   some = s.some;
   most = s.most;

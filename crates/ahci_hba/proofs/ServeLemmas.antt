@@ -1,5 +1,5 @@
 -- The request of a tag that was just served is done, and is the owner's.
-use Rattle.std.proofs.Common.{◌≡◌, ℕ, Bool, true, false, cond, nat_eq, List, ◌∷◌, [], Option, None, Some, IsSomeAnd, slice_set, refl, ap, sym, subst, ◌∙◌}
+use Rattle.std.proofs.Common.{◌≡◌, ℕ, Bool, true, false, cond, List, ◌∷◌, [], Option, None, Some, IsSomeAnd, slice_set, refl, ap, sym, subst, ◌∙◌}
 use Rattle.std.proofs.lemmas.Bool.{eq-eqb}
 use Rattle.std.specs.Option.{option_map}
 use Rattle.ncq_journal.specs.declared.phase.Phase.TheVariants.{Done}

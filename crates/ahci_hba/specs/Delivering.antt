@@ -1,9 +1,8 @@
 -- How the answer to a command that the port has done is put together (AHCI 1.3.1, sections 4.2.1, 4.2.2 and 5.3; Serial ATA, "FIS types").
-use Rattle.std.specs.Prelude.{ℕ, ◌+◌, ◌*◌, ◌^◌, Bool, true, false, List, [], ◌∷◌, if◌then◌else◌}
+use Rattle.std.specs.Prelude.{ℕ, ◌+◌, ◌*◌, ◌^◌, true, List, [], ◌∷◌, if◌then◌else◌}
 use Rattle.std.specs.Int.{byte_at}
 use Rattle.ncq_core.specs.DiskFis.{pio_bytes, register_fis}
 use Rattle.sata_fis.specs.Encoding.{d2h_bytes}
-use Rattle.sata_fis.specs.Fields.{D2hFields}
 use Rattle.hba_command.specs.declared.protocol.Protocol.TheVariants.{Pio}
 use Rattle.hba_command.specs.declared.task.Task.{Task}
 use Rattle.hba_command.specs.declared.task.Task.TheVariants as task
@@ -15,7 +14,7 @@ use Rattle.hba_regs.specs.HbaState.{HbaState}
 use Rattle.ahci_port.specs.PortView.{PortView}
 use Rattle.ahci_table.specs.Text.{text}
 use Rattle.ahci_table.specs.Window.{WindowState}
-use Rattle.ahci_hba.specs.HbaView.{HbaView, WorkView, Idle, Served}
+use Rattle.ahci_hba.specs.HbaView.{HbaView, WorkView, Served}
 use Rattle.ahci_hba.specs.Moving.{answering}
 use Rattle.ahci_hba.specs.Queueing.{fis_put}
 use Rattle.ahci_hba.specs.declared.ending.Ending.{Ending}

@@ -1,11 +1,9 @@
 -- What a write of the driver drops (AHCI 1.3.1, sections 3.3.7, 10.4.2 and 10.4.3).
-use Rattle.std.specs.Prelude.{ℕ, Bool, true, false, not, ◌&&◌, ◌||◌, List, Option, None, Some, nat_lt, replicate, if◌then◌else◌}
+use Rattle.std.specs.Prelude.{Bool, false, not, ◌&&◌, ◌||◌, Option, None, Some, nat_lt, replicate, if◌then◌else◌}
 use Rattle.std.specs.List.{list_any}
 use Rattle.hba_memory.specs.Posting.{without_fises}
 use Rattle.hba_regs.specs.HbaState.{HbaState}
-use Rattle.hba_regs.specs.Accessing.{write_of}
 use Rattle.hba_regs.specs.Writing.{Written}
-use Rattle.hba_regs.specs.declared.access_size.AccessSize.{AccessSize}
 use Rattle.hba_regs.specs.declared.consequence.Consequence.{Consequence}
 use Rattle.hba_regs.specs.declared.consequence.Consequence.TheVariants.{Nothing, Stopped, LinkReset, Reset}
 use Rattle.ncq_journal.specs.Halted.{halted}

@@ -1,7 +1,6 @@
 -- What the device does with a command that is not queued (ACS-3, by the commands' titles).
-use Rattle.std.specs.Prelude.{◌≡◌, ℕ, ◌+◌, ◌-◌, Bool, true, false, not, ◌&&◌, ◌||◌, max, List, Option, None, Some, slice_set, if◌then◌else◌}
+use Rattle.std.specs.Prelude.{◌≡◌, ℕ, ◌-◌, Bool, true, false, not, ◌&&◌, ◌||◌, max, List, Option, None, Some, slice_set, if◌then◌else◌}
 use Rattle.std.specs.List.{list_any}
-use Rattle.ncq_core.specs.DiskFis.{register_fis}
 use Rattle.ncq_journal.specs.Halted.{halted}
 use Rattle.sata_fis.specs.Encoding.{d2h_bytes}
 use Rattle.sata_fis.specs.Fields.{D2hFields}
@@ -21,7 +20,6 @@ use Rattle.ahci_hba.specs.Delivering.{ending_of, posting_of, received_put}
 use Rattle.ahci_hba.specs.HbaView.{CommandView, Fetched, HbaView}
 use Rattle.ahci_hba.specs.Moving.{answering}
 use Rattle.ahci_hba.specs.Queueing.{command_at, has_queued, is_alone, is_on, list_in, only_after, task_in}
-use Rattle.ahci_hba.specs.declared.ending.Ending.{Ending}
 use Rattle.ahci_hba.specs.declared.ending.Ending.TheVariants as ending
 
 -- D2H Register FISes with I: a status, an error, an LBA and a count

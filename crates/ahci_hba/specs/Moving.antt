@@ -1,5 +1,5 @@
 -- What a controller reads and writes in the driver's memory, and what follows (AHCI 1.3.1, section 5.3).
-use Rattle.std.specs.Prelude.{ℕ, ◌&&◌, true, false, Bool, List, [], Some, slice_set, if◌then◌else◌}
+use Rattle.std.specs.Prelude.{ℕ, ◌&&◌, true, List, [], Some, slice_set, if◌then◌else◌}
 use Rattle.hba_memory.specs.Posting.{PostingView, advanced, is_none, remaining}
 use Rattle.hba_memory.specs.Reading.{ReadingView, Whole, Malformed, Short, after_bytes, next_run, no_run}
 use Rattle.hba_memory.specs.Runs.{Put, Run, first_put}

@@ -1,5 +1,5 @@
 -- What the device does with a queued command of a slot (AHCI 1.3.1, section 5.3; ACS-3, "Native Command Queuing").
-use Rattle.std.specs.Prelude.{◌≡◌, ℕ, ◌+◌, ◌*◌, ◌^◌, Bool, true, false, not, nat_le, ◌&&◌, List, [], ◌∷◌, length, take, drop, Option, None, Some, IsSomeAnd, slice_index_or, slice_set, if◌then◌else◌}
+use Rattle.std.specs.Prelude.{◌≡◌, ℕ, ◌+◌, ◌*◌, Bool, true, false, not, nat_le, ◌&&◌, List, [], ◌∷◌, take, drop, Option, None, Some, IsSomeAnd, slice_index_or, slice_set, if◌then◌else◌}
 use Rattle.std.specs.List.{list_any}
 use Rattle.sata_fis.specs.Fields.{QueuedFields}
 use Rattle.word_bits.specs.Places.{has_place}
@@ -8,12 +8,11 @@ use Rattle.hba_command.specs.declared.task.Task.{Task}
 use Rattle.hba_command.specs.declared.task.Task.TheVariants.{Queue, Read as ReadTask, Write as WriteTask, Unknown}
 use Rattle.hba_memory.specs.Posting.{PostingView}
 use Rattle.hba_memory.specs.Reading.{Header}
-use Rattle.hba_memory.specs.Runs.{Put, placed}
+use Rattle.hba_memory.specs.Runs.{Put}
 use Rattle.hba_memory.specs.Table.{wrapped}
 use Rattle.hba_regs.specs.HbaState.{HbaPort, HbaState}
 use Rattle.hba_regs.specs.Linking.{is_up}
 use Rattle.ncq_journal.specs.Work.{Work, Read, Write}
-use Rattle.ahci_table.specs.Text.{text}
 use Rattle.ahci_table.specs.Window.{WindowState}
 use Rattle.hba_command.specs.Span.{SpanFields}
 use Rattle.ahci_port.specs.PortView.{PortView, owner_of, sectors_in}

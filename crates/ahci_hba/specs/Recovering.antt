@@ -1,5 +1,5 @@
 -- How a driver reads the log of a failed queued command (AHCI 1.3.1, section 6.2.2; ACS-3, "NCQ Command Error log").
-use Rattle.std.specs.Prelude.{◌≡◌, ℕ, ◌^◌, Bool, true, false, not, ◌&&◌, nat_lt, List, Option, None, Some, IsSomeAnd, if◌then◌else◌}
+use Rattle.std.specs.Prelude.{◌≡◌, ℕ, ◌^◌, Bool, not, ◌&&◌, nat_lt, List, Option, None, Some, IsSomeAnd, if◌then◌else◌}
 use Rattle.ncq_core.specs.Log.{log_page}
 use Rattle.hba_command.specs.Pages.{not_queued_page}
 use Rattle.hba_command.specs.declared.entry.PrdEntry.{PrdEntry}

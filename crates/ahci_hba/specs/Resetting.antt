@@ -1,5 +1,5 @@
 -- What the device does by itself or when it is reset by software (AHCI 1.3.1, sections 10.1 and 10.4.1; Serial ATA, "Signature").
-use Rattle.std.specs.Prelude.{ℕ, Bool, true, false, ◌&&◌, Option, None, Some, IsSomeAnd, ◌≡◌, if◌then◌else◌}
+use Rattle.std.specs.Prelude.{ℕ, Bool, false, ◌&&◌, Option, None, Some, IsSomeAnd, ◌≡◌, if◌then◌else◌}
 use Rattle.sata_fis.specs.Encoding.{d2h_bytes}
 use Rattle.sata_fis.specs.Fields.{D2hFields}
 use Rattle.hba_command.specs.declared.task.Task.TheVariants.{Control}

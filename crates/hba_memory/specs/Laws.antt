@@ -2,7 +2,7 @@
 use Rattle.std.specs.Prelude.{◌≡◌, ◌≤◌, ℕ, List, length, map}
 use Rattle.std.specs.List.{concat}
 use Rattle.hba_command.specs.declared.entry.PrdEntry.{PrdEntry}
-use Rattle.hba_memory.specs.Runs.{Put, placed, run_of, runs, total}
+use Rattle.hba_memory.specs.Runs.{placed, run_of, runs, total}
 
 -- data is written to the runs that it would be read from
 abbrev pub SamePlaces : Type 0

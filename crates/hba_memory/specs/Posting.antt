@@ -1,5 +1,5 @@
 -- What an answer of the device writes into the driver's memory: a FIS, data, PRDBC, and a FIS, in this order.
-use Rattle.std.specs.Prelude.{◌≡◌, ◌≢◌, ℕ, Bool, true, false, List, [], ◌∷◌, ◌++◌, Option, None, Some, if◌then◌else◌}
+use Rattle.std.specs.Prelude.{Bool, true, false, List, [], ◌∷◌, ◌++◌, Option, None, Some, if◌then◌else◌}
 use Rattle.hba_memory.specs.Runs.{Put, later_puts}
 
 pub record PostingView : Type 0 where

@@ -1,6 +1,6 @@
 -- How a command is read from the driver's memory, each byte once (AHCI 1.3.1, sections 4.2 and 5.3): its header, the command FIS, the
 -- PRDT if it moves data, and a write's data.
-use Rattle.std.specs.Prelude.{◌≡◌, ◌≤◌, ℕ, ◌+◌, ◌-◌, ◌*◌, Bool, true, false, not, ◌&&◌, ◌||◌, ◌==◌, nat_lt, List, [], ◌++◌, length, Option, None, Some, if◌then◌else◌}
+use Rattle.std.specs.Prelude.{◌≡◌, ℕ, ◌+◌, ◌-◌, ◌*◌, Bool, true, false, not, ◌&&◌, ◌==◌, nat_lt, List, [], ◌++◌, length, Option, None, Some, if◌then◌else◌}
 use Rattle.sata_fis.specs.Fields.{H2dFields}
 use Rattle.hba_command.specs.CommandFis.{command_fis}
 use Rattle.hba_command.specs.CommandHeader.{header_at}

@@ -1,6 +1,6 @@
 -- Where the bytes of a command's data lie: the runs that the entries of its PRDT name, one after the other (AHCI 1.3.1, section
 -- 4.2.3). Entries after the last byte of the data are not used.
-use Rattle.std.specs.Prelude.{ℕ, ◌+◌, ◌-◌, min, List, [], ◌∷◌, ◌++◌, length, take, drop, nat_eq, sum_by, if◌then◌else◌}
+use Rattle.std.specs.Prelude.{ℕ, ◌-◌, min, List, [], ◌∷◌, length, take, drop, nat_eq, sum_by, if◌then◌else◌}
 use Rattle.hba_command.specs.declared.entry.PrdEntry.{PrdEntry}
 
 -- a run of the driver's memory

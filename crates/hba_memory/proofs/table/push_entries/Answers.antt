@@ -1,5 +1,5 @@
 -- One entry more.
-use Rattle.std.proofs.Common.{◌≡◌, ◌∷◌, ◌++◌, ◌+◌, ◌*◌, [], drop, take, ap, sym, ◌∙◌, refl, arith}
+use Rattle.std.proofs.Common.{◌∷◌, ◌++◌, ◌*◌, [], drop, take, ap, sym, ◌∙◌, arith}
 use Rattle.std.proofs.Common.{append_assoc}
 use Rattle.std.proofs.lemmas.List.FromFn.{map-range_with_len_more}
 use Rattle.hba_command.specs.PrdEntry.{entry_at}

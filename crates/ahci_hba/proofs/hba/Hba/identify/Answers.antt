@@ -1,4 +1,4 @@
-use Rattle.std.proofs.Common.{◌≡◌, ap, subst, sym, ◌∙◌}
+use Rattle.std.proofs.Common.{ap, subst, ◌∙◌}
 use Rattle.hba_command.specs.Pages.{controller_page}
 use Rattle.ahci_hba.specs.Executing.{Identifies}
 use Rattle.ahci_hba.specs.Queueing.{command_at, list_in}

@@ -11,5 +11,5 @@ pub returns-clause-ok : goal.returns-clause-ok
 returns-clause-ok g c =
     subst (λ v. ReadsErrorLog c.args.slot v c.give_page.new.self c.reset-journal.result) c.self.view_is
     (reads c.args.slot c.in-Some.protocol _ c.give_page.new.self _ _ _ _ _ c.reset-journal.result
-     (ap (λ v. error_log_in (command_at v c.args.slot)) c.self.view_is ∙ sym c.error_log_in.ensures ∙ c.in-Some.is)
-     c.in-Ok-recover.ensures.ok c.reset-journal.ensures.port c.reset-journal.ensures.journal (c.filled.ensures ∙ c.error_page.ensures) c.give_page.ensures)
+    (ap (λ v. error_log_in (command_at v c.args.slot)) c.self.view_is ∙ sym c.error_log_in.ensures ∙ c.in-Some.is)
+    c.in-Ok-recover.ensures.ok c.reset-journal.ensures.port c.reset-journal.ensures.journal (c.filled.ensures ∙ c.error_page.ensures) c.give_page.ensures)

@@ -1,5 +1,5 @@
 -- The port's step, the answer that was taken, and the slot that was emptied.
-use Rattle.std.proofs.Common.{sym, ap, subst, ◌∙◌}
+use Rattle.std.proofs.Common.{subst}
 use Rattle.ahci_hba.specs.Queueing.{IsServed, command_at, list_in, task_in}
 use Rattle.ahci_hba.proofs.ServeLemmas.{serves}
 use Rattle.ahci_hba.proofs.hba.Hba.serve.Goals as goal

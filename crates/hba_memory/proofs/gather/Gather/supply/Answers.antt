@@ -1,6 +1,6 @@
 -- One run more is read, for which there is room.
-use Rattle.std.proofs.Common.{ap, sym, ◌∙◌, ◌≡◌, ◌≤◌, ◌+◌, ◌-◌, drop, length, arith}
-use Rattle.hba_memory.specs.Runs.{first_run, runs}
+use Rattle.std.proofs.Common.{ap, ◌∙◌, ◌+◌, ◌-◌, drop, arith}
+use Rattle.hba_memory.specs.Runs.{runs}
 use Rattle.hba_memory.proofs.RunLemmas.{Gathers, gathers}
 use Rattle.hba_memory.proofs.gather.Gather.supply.Goals as goal
 

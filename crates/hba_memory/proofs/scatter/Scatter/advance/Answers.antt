@@ -1,6 +1,6 @@
 -- One run more is written.
-use Rattle.std.proofs.Common.{ap, sym, ◌∙◌, ◌≡◌, ◌≤◌, ◌+◌, ◌-◌, drop, take, length, arith}
-use Rattle.hba_memory.specs.Runs.{first_put, placed}
+use Rattle.std.proofs.Common.{ap, ◌∙◌, ◌+◌, drop, arith}
+use Rattle.hba_memory.specs.Runs.{placed}
 use Rattle.hba_memory.proofs.RunLemmas.{Scatters, scatters}
 use Rattle.hba_memory.proofs.scatter.Scatter.advance.Goals as goal
 

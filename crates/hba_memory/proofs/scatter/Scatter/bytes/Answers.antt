@@ -1,6 +1,6 @@
 -- The bytes of the next run are there.
-use Rattle.std.proofs.Common.{ap, sym, ◌∙◌, ◌≡◌, ◌≤◌, ◌+◌, ◌-◌, drop, take, length, arith}
-use Rattle.hba_memory.specs.Runs.{first_put, placed}
+use Rattle.std.proofs.Common.{ap, ◌∙◌, ◌≡◌, ◌+◌, ◌-◌, drop, take, length, arith}
+use Rattle.hba_memory.specs.Runs.{first_put}
 use Rattle.hba_memory.proofs.RunLemmas.{Scatters, scatters}
 use Rattle.hba_memory.proofs.scatter.Scatter.bytes.Goals as goal
 

@@ -1,5 +1,5 @@
 -- All is written exactly if no byte or no entry is left.
-use Rattle.std.proofs.Common.{ap, sym, ◌∙◌, ◌≡◌, ◌-◌, [], drop, length, arith}
+use Rattle.std.proofs.Common.{sym, ◌∙◌, ◌≡◌, ◌-◌, [], drop, length, arith}
 use Rattle.std.proofs.lemmas.Bool.{eq-eqb, eqb-true}
 use Rattle.std.proofs.lemmas.List.{length-drop}
 use Rattle.hba_memory.proofs.RunLemmas.{last_put, placed_none, placed_over}
