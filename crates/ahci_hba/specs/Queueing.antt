@@ -87,6 +87,10 @@ task_in None = Unknown
 abbrev pub is_running : HbaPort → Bool
 is_running p = p.st && not p.halted && is_up p.link
 
+-- the device may move: the command list is processed, and nothing is read or written just now
+abbrev pub is_ready : HbaView → Bool
+is_ready h = is_running h.registers.port && is_idle h.work
+
 abbrev pub is_empty : Option CommandView → Bool
 is_empty None = true
 is_empty (Some c) = false
@@ -94,7 +98,7 @@ is_empty (Some c) = false
 -- a slot's command may be read: its bit of PxCI is set, it is not read yet, and the device is not busy with a command alone
 abbrev pub may_fetch : HbaView → ℕ → Bool
 may_fetch h slot =
-    is_running h.registers.port && is_idle h.work && has_place h.registers.port.ci slot && is_empty (command_at h slot)
+    is_ready h && has_place h.registers.port.ci slot && is_empty (command_at h slot)
     && not (list_any has_alone h.slots)
 
 -- a slot's command is read: first its header, of 32 bytes in the command list

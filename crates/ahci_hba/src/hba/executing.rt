@@ -1,7 +1,7 @@
 //! What the device does with a command that is not queued (ACS-3, by the commands' titles).
 
-ghost use Rattle.std.specs.Prelude.{◌≡◌, ◌-◌, ◌<◌, ◌^◌, None, OnErr, OnOk, slice_set};
-ghost use Rattle.ahci_hba.specs.Queueing.{command_at, list_in, task_in};
+ghost use Rattle.std.specs.Prelude.{◌≡◌, ◌-◌, ◌<◌, ◌^◌, ◌&&◌, true, None, OnErr, OnOk, slice_set};
+ghost use Rattle.ahci_hba.specs.Queueing.{command_at, is_ready, list_in, task_in};
 ghost use Rattle.ahci_port.specs.PortView.{sectors_in};
 ghost use Rattle.ahci_hba.specs.Executing.{Flushes, Identifies, IsExecuted, aborted, answer_to_task, concluded, d2h_fis, is_aborted, is_alone_fetched, is_simple, log_page, paged, reads_error_log, signed, simple_answer, verified};
 
@@ -260,10 +260,11 @@ impl<A: Allocator + Copy> Hba<A> {
     /// log of a failed command, or if something is read or written just now. Nothing has changed.
     pub fn execute(&mut self, slot: u8) -> Result<(), HbaFault>
         requires { slot < 32 }
+        ensures ready { OnOk result ((is_ready self.old && is_alone_fetched (command_at self.old slot)) ≡ true) }
         ensures ok { OnOk result (IsExecuted slot self.old self.new) }
         ensures err { OnErr result (self.new ≡ self.old) }
     {
-        if !self.is_running() || !self.is_idle() || !self.is_alone_fetched(slot) {
+        if !self.is_ready() || !self.is_alone_fetched(slot) {
             return Err(HbaFault::NotReady);
         }
         let task = self.task_in(slot);

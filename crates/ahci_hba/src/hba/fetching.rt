@@ -3,7 +3,7 @@
 ghost use Rattle.std.specs.Prelude.{◌≡◌, ◌<◌, false, true, IfErr, OnErr, OnOk};
 ghost use Rattle.std.specs.List.{list_any};
 ghost use Rattle.hba_command.specs.declared.task.Task.{Task};
-ghost use Rattle.ahci_hba.specs.Queueing.{command_at, fetching, has_alone, has_queued, is_alone, is_empty, is_idle, is_running, is_sent, may_fetch};
+ghost use Rattle.ahci_hba.specs.Queueing.{command_at, fetching, has_alone, has_queued, is_alone, is_empty, is_idle, is_ready, is_running, is_sent, may_fetch};
 
 use crate::command::{Command, Slot};
 use crate::fault::HbaFault;
@@ -72,6 +72,13 @@ impl<A: Allocator> Hba<A> {
         matches!(&self.work, Work::Idle)
     }
 
+    /// Whether the device may move: the command list is processed, and nothing is read or written just now.
+    pub(super) fn is_ready(&self) -> bool
+        ensures { result ≡ is_ready self.now }
+    {
+        self.is_running() && self.is_idle()
+    }
+
     /// Whether a slot, below 32, has no command that was read.
     pub(super) fn is_empty(&self, slot: u8) -> bool
         requires { slot < 32 }
@@ -116,8 +123,7 @@ impl<A: Allocator> Hba<A> {
         requires { slot < 32 }
         ensures { result ≡ may_fetch self.now slot }
     {
-        self.is_running()
-            && self.is_idle()
+        self.is_ready()
             && is_set(self.registers.ci(), slot)
             && self.is_empty(slot)
             && !self.is_busy_alone()

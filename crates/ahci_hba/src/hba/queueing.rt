@@ -1,7 +1,7 @@
 //! What the device does with a queued command: it takes it, serves it or fails it (AHCI 1.3.1, section 5.3; Serial ATA, "First-party DMA").
 
-ghost use Rattle.std.specs.Prelude.{◌≡◌, ◌<◌, None, OnErr, OnOk, slice_set};
-ghost use Rattle.ahci_hba.specs.Queueing.{IsAccepted, IsFailed, IsServed, accepting, after_acceptance, command_at, has_alone, is_taken, list_in, task_in};
+ghost use Rattle.std.specs.Prelude.{◌≡◌, ◌<◌, true, None, OnErr, OnOk, slice_set};
+ghost use Rattle.ahci_hba.specs.Queueing.{IsAccepted, IsFailed, IsServed, accepting, after_acceptance, command_at, has_alone, is_ready, is_taken, list_in, task_in};
 
 use crate::command::Command;
 use crate::ending::Ending;
@@ -64,10 +64,11 @@ impl<A: Allocator + Copy> Hba<A> {
     /// `NotReady` if the device has not taken the command, or if something is read or written just now.
     pub fn serve(&mut self, slot: u8) -> Result<(), HbaFault>
         requires { slot < 32 }
+        ensures ready { OnOk result (is_ready self.old ≡ true) }
         ensures ok { OnOk result (IsServed slot (task_in (command_at self.old slot)) (list_in (command_at self.old slot)) self.old self.new) }
         ensures err { OnErr result (self.new ≡ self.old) }
     {
-        if !self.is_running() || !self.is_idle() || !self.is_sent(slot) {
+        if !self.is_ready() || !self.is_sent(slot) {
             return Err(HbaFault::NotReady);
         }
         let Some(number) = self.port.owner(slot) else {
@@ -91,10 +92,11 @@ impl<A: Allocator + Copy> Hba<A> {
     /// `NotReady` if the slot has no command with the port that waits for the device, or if something is read or written just now.
     pub fn accept(&mut self, slot: u8) -> Result<(), HbaFault>
         requires { slot < 32 }
+        ensures ready { OnOk result (is_ready self.old ≡ true) }
         ensures ok { OnOk result (IsAccepted slot (has_alone (command_at self.old slot)) self.old self.new) }
         ensures err { OnErr result (self.new ≡ self.old) }
     {
-        if !self.is_running() || !self.is_idle() || !self.is_sent(slot) {
+        if !self.is_ready() || !self.is_sent(slot) {
             return Err(HbaFault::NotReady);
         }
         let alone = self.has_alone(slot);
@@ -125,10 +127,11 @@ impl<A: Allocator + Copy> Hba<A> {
     /// `NotReady` if the device has not taken the command, if the sector is not one of its own, or if something is read or written just now.
     pub fn fail(&mut self, slot: u8, error: u8, lba: u64) -> Result<(), HbaFault>
         requires { slot < 32 }
+        ensures ready { OnOk result (is_ready self.old ≡ true) }
         ensures ok { OnOk result (IsFailed slot error lba self.old self.new) }
         ensures err { OnErr result (self.new ≡ self.old) }
     {
-        if !self.is_running() || !self.is_idle() || !self.is_sent(slot) {
+        if !self.is_ready() || !self.is_sent(slot) {
             return Err(HbaFault::NotReady);
         }
         let step = DeviceStep::Fail {

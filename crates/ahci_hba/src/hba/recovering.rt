@@ -1,7 +1,7 @@
 //! How a driver reads the log of a failed queued command (AHCI 1.3.1, section 6.2.2; ACS-3, "NCQ Command Error log").
 
-ghost use Rattle.std.specs.Prelude.{◌≡◌, ◌<◌, ◌≤◌, [], IfOk, OnErr, vec_capacity};
-ghost use Rattle.ahci_hba.specs.Queueing.{command_at};
+ghost use Rattle.std.specs.Prelude.{◌≡◌, ◌<◌, ◌≤◌, true, [], IfOk, OnErr, OnOk, vec_capacity};
+ghost use Rattle.ahci_hba.specs.Queueing.{command_at, is_ready};
 ghost use Rattle.ahci_hba.specs.Recovering.{CollectsFailed, ReadsErrorLog, error_log_in, error_page};
 
 use crate::command::Command;
@@ -73,10 +73,11 @@ impl<A: Allocator + Copy> Hba<A> {
     /// queued command has failed, or if something is read or written just now. Nothing has changed.
     pub fn recover(&mut self, slot: u8) -> Result<Option<Journal<A>>, HbaFault>
         requires { slot < 32 }
+        ensures ready { OnOk result (is_ready self.old ≡ true) }
         ensures ok { IfOk result (λ j. ReadsErrorLog slot self.old self.new j) }
         ensures err { OnErr result (self.new ≡ self.old) }
     {
-        if !self.is_running() || !self.is_idle() {
+        if !self.is_ready() {
             return Err(HbaFault::NotReady);
         }
         let Some(protocol) = self.error_log_in(slot) else {

@@ -1,9 +1,9 @@
 //! What the device does by itself or when it is reset by software (AHCI 1.3.1, sections 10.1 and 10.4.1).
 
-ghost use Rattle.std.specs.Prelude.{◌≡◌, ◌<◌, ◌^◌, true, false, OnErr, OnOk, IfOk};
+ghost use Rattle.std.specs.Prelude.{◌≡◌, ◌<◌, ◌^◌, ◌&&◌, true, false, is_some, OnErr, OnOk, IfOk};
 ghost use Rattle.ahci_hba.specs.Dropping.{handed_out, is_reset};
-ghost use Rattle.ahci_hba.specs.Executing.{concluded, refused};
-ghost use Rattle.ahci_hba.specs.Queueing.{command_at};
+ghost use Rattle.ahci_hba.specs.Executing.{concluded, is_alone_fetched, refused};
+ghost use Rattle.ahci_hba.specs.Queueing.{command_at, is_ready};
 ghost use Rattle.ahci_hba.specs.Resetting.{IsControlled, control_in, controlled, may_sign, signature, signing};
 ghost use Rattle.hba_regs.specs.declared.consequence.Consequence.TheVariants.{LinkReset};
 
@@ -90,14 +90,15 @@ impl<A: Allocator + Copy> Hba<A> {
     /// it is reset, and the journal that it hands out is the answer. After the one that clears SRST the device sends its signature.
     ///
     /// # Errors
-    /// `NotReady` if the slot has no control FIS that was read, or if something is read or written just now.
+    /// `NotReady` exactly if the slot has no control FIS that was read, if the command list is not processed, or if something is read or written just now.
     pub fn control(&mut self, slot: u8) -> Result<Option<Journal<A>>, HbaFault>
         requires { slot < 32 }
+        ensures ready { OnOk result (is_ready self.old ≡ true) }
         ensures ok { OnOk result (IsControlled slot self.old self.new) }
         ensures journal { IfOk result (λ j. j ≡ handed_out (is_reset LinkReset self.old) self.old.port) }
-        ensures err { OnErr result (self.new ≡ self.old) }
+        ensures err { OnErr result (((is_ready self.old && is_some (control_in (command_at self.old slot))) ≡ false) × (self.new ≡ self.old)) }
     {
-        if !self.is_running() || !self.is_idle() {
+        if !self.is_ready() {
             return Err(HbaFault::NotReady);
         }
         let Some(reset) = self.control_in(slot) else {
@@ -113,14 +114,14 @@ impl<A: Allocator + Copy> Hba<A> {
     /// FIS is written, and then the port halts. No sector has changed.
     ///
     /// # Errors
-    /// `NotReady` if the slot has no such command, or if something is read or written just now.
+    /// `NotReady` exactly if the slot has no such command, if the command list is not processed, or if something is read or written just now.
     pub fn refuse(&mut self, slot: u8, error: u8, lba: u64) -> Result<(), HbaFault>
         requires slot { slot < 32 }
         requires lba { lba < 2 ^ 48 }
-        ensures ok { OnOk result (self.new ≡ concluded self.old slot (refused error lba)) }
-        ensures err { OnErr result (self.new ≡ self.old) }
+        ensures ok { OnOk result (((is_ready self.old && is_alone_fetched (command_at self.old slot)) ≡ true) × (self.new ≡ concluded self.old slot (refused error lba))) }
+        ensures err { OnErr result (((is_ready self.old && is_alone_fetched (command_at self.old slot)) ≡ false) × (self.new ≡ self.old)) }
     {
-        if !self.is_running() || !self.is_idle() || !self.is_alone_fetched(slot) {
+        if !self.is_ready() || !self.is_alone_fetched(slot) {
             return Err(HbaFault::NotReady);
         }
         self.conclude(slot, d2h_fis(0x41, error, lba, 0));

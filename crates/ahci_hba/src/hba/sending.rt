@@ -1,9 +1,9 @@
 //! How a queued command goes to the port.
 
-ghost use Rattle.std.specs.Prelude.{◌≡◌, ◌<◌, true, None, Some, OnErr, OnOk, if◌then◌else◌, slice_set};
+ghost use Rattle.std.specs.Prelude.{◌≡◌, ◌<◌, ◌&&◌, true, None, Some, OnErr, OnOk, if◌then◌else◌, slice_set};
 ghost use Rattle.ncq_journal.specs.Work.{Read, Write, work_of};
 ghost use Rattle.ahci_hba.specs.HbaView.{Fetched, command_of};
-ghost use Rattle.ahci_hba.specs.Queueing.{IsSent, Sends, asked_for, command_at, goes_to_port, is_fetched, is_on, put_back};
+ghost use Rattle.ahci_hba.specs.Queueing.{IsSent, Sends, asked_for, command_at, goes_to_port, is_fetched, is_on, is_ready, put_back};
 
 use crate::command::{Command, Slot};
 use crate::fault::HbaFault;
@@ -129,10 +129,11 @@ impl<A: Allocator + Copy> Hba<A> {
     /// `OutOfMemory` if an allocation failed; it may be tried again. `NotReady` if `goes_to_port` is false, if the port recovers from a failure, or if something is read or written just now. Nothing has changed.
     pub fn send(&mut self, slot: u8) -> Result<(), HbaFault>
         requires { slot < 32 }
+        ensures ready { OnOk result ((is_ready self.old && goes_to_port self.old (command_at self.old slot)) ≡ true) }
         ensures ok { OnOk result (Sends slot (command_at self.old slot) self.old self.new) }
         ensures err { OnErr result (self.new ≡ self.old) }
     {
-        if !self.is_running() || !self.is_idle() || !self.goes_to_port(slot) {
+        if !self.is_ready() || !self.goes_to_port(slot) {
             return Err(HbaFault::NotReady);
         }
         let (task, list, bytes) = self.take_fetched(slot);
