@@ -81,68 +81,55 @@ sent_on : (b : Bool) (s : List Bool) (i : ℕ) → (if b then Stopped else Nothi
 sent_on true s i e h = cc
 sent_on false s i e h = h
 
-moved_base : (b : Bool) (p q : HbaPort) (P : HbaPort → Type 0) → P p → P q → P (if b then p else q)
-moved_base true p q P h k = h
-moved_base false p q P h k = k
+either : (b : Bool) (p q : HbaPort) (P : HbaPort → Type 0) → P p → P q → P (if b then p else q)
+either true p q P h k = h
+either false p q P h k = k
 
-taken : (b : Bool) (p q : HbaPort) (P : HbaPort → Type 0) → P q → P p → P (if b then q else p)
-taken true p q P h k = h
-taken false p q P h k = k
+-- a link that doesn't go down keeps the commands
+linked : (p : HbaPort) (was next : Link) → (if goes_down was next then LinkReset else Nothing) ≡ Nothing
+    → ((relinked p was next).sact ≡ p.sact) × ((relinked p was next).ci ≡ p.ci)
+linked p Up Up e = (refl, refl)
+linked p InReset InReset e = (refl, refl)
+linked p Offline Offline e = (refl, refl)
+linked p InReset Up e = (refl, refl)
+linked p Offline Up e = (refl, refl)
+linked p Up InReset e = cc
+linked p Up Offline e = cc
+linked p InReset Offline e = cc
+linked p Offline InReset e = cc
 
-sact_linked : (p : HbaPort) (was next : Link) → (if goes_down was next then LinkReset else Nothing) ≡ Nothing → (relinked p was next).sact ≡ p.sact
-sact_linked p Up Up e = refl
-sact_linked p InReset InReset e = refl
-sact_linked p Offline Offline e = refl
-sact_linked p InReset Up e = refl
-sact_linked p Offline Up e = refl
-sact_linked p Up InReset e = cc
-sact_linked p Up Offline e = cc
-sact_linked p InReset Offline e = cc
-sact_linked p Offline InReset e = cc
-
-ci_linked : (p : HbaPort) (was next : Link) → (if goes_down was next then LinkReset else Nothing) ≡ Nothing → (relinked p was next).ci ≡ p.ci
-ci_linked p Up Up e = refl
-ci_linked p InReset InReset e = refl
-ci_linked p Offline Offline e = refl
-ci_linked p InReset Up e = refl
-ci_linked p Offline Up e = refl
-ci_linked p Up InReset e = cc
-ci_linked p Up Offline e = cc
-ci_linked p InReset Offline e = cc
-ci_linked p Offline InReset e = cc
-
-reset_kept : (b : Bool) (s t : HbaState) (i : ℕ) (P : HbaState → Type 0) → (if b then Reset else Nothing) ≡ Nothing → P t → P (if b then s else t)
-reset_kept true s t i P e h = cc
-reset_kept false s t i P e h = h
+reset_kept : (b : Bool) (s t : HbaState) (P : HbaState → Type 0) → (if b then Reset else Nothing) ≡ Nothing → P t → P (if b then s else t)
+reset_kept true s t P e h = cc
+reset_kept false s t P e h = h
 
 pub sact_stays : (s : HbaState) (value : ℕ) (r : Register) → consequence_of s value r ≡ Nothing → (i : ℕ) → has_place s.port.sact i ≡ true
     → has_place (changed s value r).port.sact i ≡ true
 sact_stays s value Ghc e i h =
-    reset_kept (has_place (bits value) 0) (reset_with s.port.clb s.port.fb) (record s { ghc_ie = has_place (bits value) 1 }) i (λ t. has_place t.port.sact i ≡ true) e h
-sact_stays s value PxClb e i h = moved_base s.port.st s.port _ (λ p. has_place p.sact i ≡ true) h h
-sact_stays s value PxClbu e i h = moved_base s.port.st s.port _ (λ p. has_place p.sact i ≡ true) h h
-sact_stays s value PxFb e i h = moved_base s.port.fre s.port _ (λ p. has_place p.sact i ≡ true) h h
-sact_stays s value PxFbu e i h = moved_base s.port.fre s.port _ (λ p. has_place p.sact i ≡ true) h h
+    reset_kept (has_place (bits value) 0) (reset_with s.port.clb s.port.fb) (record s { ghc_ie = has_place (bits value) 1 }) (λ t. has_place t.port.sact i ≡ true) e h
+sact_stays s value PxClb e i h = either s.port.st s.port _ (λ p. has_place p.sact i ≡ true) h h
+sact_stays s value PxClbu e i h = either s.port.st s.port _ (λ p. has_place p.sact i ≡ true) h h
+sact_stays s value PxFb e i h = either s.port.fre s.port _ (λ p. has_place p.sact i ≡ true) h h
+sact_stays s value PxFbu e i h = either s.port.fre s.port _ (λ p. has_place p.sact i ≡ true) h h
 sact_stays s value PxCmd e i h = sent_on (s.port.st && not (has_place (bits value) 0)) s.port.sact i e h
 sact_stays s value PxSctl e i h =
-    ap (λ x. has_place x i) (sact_linked (record s.port { sctl = value % 2 ^ 12 }) s.port.link (asked_link (value % 2 ^ 4) s.port.link) e) ∙ h
-sact_stays s value PxSact e i h = taken s.port.st s.port _ (λ p. has_place p.sact i ≡ true) (has_place-union s.port.sact (bits value) i ∙ ap (λ x. x || has_place (bits value) i) h) h
-sact_stays s value PxCi e i h = taken s.port.st s.port _ (λ p. has_place p.sact i ≡ true) h h
+    ap (λ x. has_place x i) (linked (record s.port { sctl = value % 2 ^ 12 }) s.port.link (asked_link (value % 2 ^ 4) s.port.link) e).0 ∙ h
+sact_stays s value PxSact e i h = either s.port.st _ s.port (λ p. has_place p.sact i ≡ true) (has_place-union s.port.sact (bits value) i ∙ ap (λ x. x || has_place (bits value) i) h) h
+sact_stays s value PxCi e i h = either s.port.st _ s.port (λ p. has_place p.sact i ≡ true) h h
 sact_stays s value r e i h = h
 
 pub ci_stays : (s : HbaState) (value : ℕ) (r : Register) → consequence_of s value r ≡ Nothing → (i : ℕ) → has_place s.port.ci i ≡ true
     → has_place (changed s value r).port.ci i ≡ true
 ci_stays s value Ghc e i h =
-    reset_kept (has_place (bits value) 0) (reset_with s.port.clb s.port.fb) (record s { ghc_ie = has_place (bits value) 1 }) i (λ t. has_place t.port.ci i ≡ true) e h
-ci_stays s value PxClb e i h = moved_base s.port.st s.port _ (λ p. has_place p.ci i ≡ true) h h
-ci_stays s value PxClbu e i h = moved_base s.port.st s.port _ (λ p. has_place p.ci i ≡ true) h h
-ci_stays s value PxFb e i h = moved_base s.port.fre s.port _ (λ p. has_place p.ci i ≡ true) h h
-ci_stays s value PxFbu e i h = moved_base s.port.fre s.port _ (λ p. has_place p.ci i ≡ true) h h
+    reset_kept (has_place (bits value) 0) (reset_with s.port.clb s.port.fb) (record s { ghc_ie = has_place (bits value) 1 }) (λ t. has_place t.port.ci i ≡ true) e h
+ci_stays s value PxClb e i h = either s.port.st s.port _ (λ p. has_place p.ci i ≡ true) h h
+ci_stays s value PxClbu e i h = either s.port.st s.port _ (λ p. has_place p.ci i ≡ true) h h
+ci_stays s value PxFb e i h = either s.port.fre s.port _ (λ p. has_place p.ci i ≡ true) h h
+ci_stays s value PxFbu e i h = either s.port.fre s.port _ (λ p. has_place p.ci i ≡ true) h h
 ci_stays s value PxCmd e i h = sent_on (s.port.st && not (has_place (bits value) 0)) s.port.ci i e h
 ci_stays s value PxSctl e i h =
-    ap (λ x. has_place x i) (ci_linked (record s.port { sctl = value % 2 ^ 12 }) s.port.link (asked_link (value % 2 ^ 4) s.port.link) e) ∙ h
-ci_stays s value PxSact e i h = taken s.port.st s.port _ (λ p. has_place p.ci i ≡ true) h h
-ci_stays s value PxCi e i h = taken s.port.st s.port _ (λ p. has_place p.ci i ≡ true) (has_place-union s.port.ci (bits value) i ∙ ap (λ x. x || has_place (bits value) i) h) h
+    ap (λ x. has_place x i) (linked (record s.port { sctl = value % 2 ^ 12 }) s.port.link (asked_link (value % 2 ^ 4) s.port.link) e).1 ∙ h
+ci_stays s value PxSact e i h = either s.port.st _ s.port (λ p. has_place p.ci i ≡ true) h h
+ci_stays s value PxCi e i h = either s.port.st _ s.port (λ p. has_place p.ci i ≡ true) (has_place-union s.port.ci (bits value) i ∙ ap (λ x. x || has_place (bits value) i) h) h
 ci_stays s value r e i h = h
 
 -- ---- what was read, written back
