@@ -191,6 +191,7 @@ pub(crate) fn is_any_owned<A: Allocator>(slots: &[Option<Slot<A>>]) -> bool
 }
 
 /// Frees every slot. What its request held is dropped, and its memory given back.
+#[tactic(auto, using(crate::proofs::ResettingLemmas::cleared_none, crate::proofs::ResettingLemmas::cleared_more))]
 pub(crate) fn clear<A: Allocator>(slots: &mut [Option<Slot<A>>])
     ensures { slots.new ≡ replicate (length slots.old) None }
 {

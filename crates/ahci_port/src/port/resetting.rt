@@ -1,15 +1,37 @@
 //! How the port is reset (AHCI 1.3.1, section 10.4; section 3.3.7, ST of PxCMD).
 
-ghost use Rattle.std.specs.Prelude.{◌≡◌, IfOk, OnErr, OnOk};
-ghost use Rattle.ahci_port.specs.{Faults.{Answers, reset_refusal}, PortView.{journal_in, next_number, port_from}, Steps.{Follows, KeepsCompleted}};
+ghost use Rattle.std.specs.Prelude.{◌≡◌, ◌≤◌, length, replicate, IfOk, OnErr, OnOk};
+ghost use Rattle.ahci_port.specs.{Faults.{Answers, reset_refusal}, PortView.{journal_in, next_number, port_from}, Registers.{started}, Steps.{Follows, KeepsCompleted}, Unqueued.{nothing_sent}};
 
 use crate::fault::ResetFault;
 use crate::port::{MOST_FIRST, Port, empty_area, no_headers};
 use crate::slot::clear;
 use crate::software::started;
 use crate::unqueued::UnqueuedTable;
+use ahci_regs::PortRegs;
 use ncq_journal::Journal;
 use std::alloc::Allocator;
+
+/// Starts the port again, over memory into which nothing has come: the received FIS area, the command list and slot 0's table.
+fn begin_again(
+    registers: &mut PortRegs,
+    area: &mut [u8; 256],
+    headers: &mut [[u8; 32]; 32],
+    unqueued: &mut UnqueuedTable,
+    depth: u32,
+)
+    requires low { 1 ≤ depth }
+    requires high { depth ≤ 32 }
+    ensures registers { registers.new ≡ started depth }
+    ensures area { area.new ≡ replicate 256 0 }
+    ensures headers { length headers.new ≡ 32 }
+    ensures sent { unqueued.new.sent ≡ nothing_sent }
+{
+    *registers = started(depth);
+    *area = empty_area();
+    *headers = no_headers();
+    *unqueued = UnqueuedTable::new();
+}
 
 impl<A: Allocator + Copy> Port<A> {
     /// Resets the port and its device, and starts it again: every request is dropped, whatever its phase, and the port is as a new
@@ -34,10 +56,13 @@ impl<A: Allocator + Copy> Port<A> {
         self.starting
             .as_mut_slice()
             .copy_from_slice(self.disk.image());
-        self.registers = started(self.disk.depth());
-        self.area = empty_area();
-        self.headers = no_headers();
-        self.unqueued = UnqueuedTable::new();
+        begin_again(
+            &mut self.registers,
+            &mut self.area,
+            &mut self.headers,
+            &mut self.unqueued,
+            self.disk.depth(),
+        );
         clear(&mut self.slots);
         Ok(self.journal.hand_out())
     }

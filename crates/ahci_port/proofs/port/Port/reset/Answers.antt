@@ -21,8 +21,8 @@ image g c =
     (c.copy_from_slice.ensures.len ∙ ap length c.as_mut_slice.ensures.value)
     ∙ c.copy_from_slice.ensures.after ∙ c.image.ensures ∙ ap (λ d. d.image) c.reset.ensures
 
-regs : (g : _) (c : After-hand_out g) → c.started-self-inside.result ≡ started c.self.inside.disk.depth
-regs g c = c.started-self-inside.ensures ∙ ap started (c.depth.ensures.depth ∙ ap (λ d. d.depth) c.reset.ensures)
+regs : (g : _) (c : After-hand_out g) → c.begin_again.new.registers ≡ started c.self.inside.disk.depth
+regs g c = c.begin_again.ensures.registers ∙ ap started (c.depth.ensures.depth ∙ ap (λ d. d.depth) c.reset.ensures)
 
 slots : (g : _) (c : After-hand_out g)
     → take c.self.inside.slots.len (c.clear.new.slots ++ drop (length c.clear.new.slots) c.self.inside.slots.items) ≡ replicate c.self.inside.disk.depth None
@@ -40,13 +40,13 @@ pub invariant_of-self : goal.invariant_of-self
 invariant_of-self g c =
     let d = c.self.inside.disk in
     rw (image g c, slots g c, regs g c, c.reset.ensures, c.hand_out.ensures.past, c.hand_out.ensures.room)
-    (keeps_new d.image d.held d.depth c.no_headers-self-inside.result (subst IsDisk c.reset.ensures c.depth.ensures.disk) c.no_headers-self-inside.ensures)
+    (keeps_new d.image d.held d.depth c.begin_again.new.headers (subst IsDisk c.reset.ensures c.depth.ensures.disk) c.begin_again.ensures.headers)
 
 pub returns-clause-reset : goal.returns-clause-reset
 returns-clause-reset g c =
     let d = c.self.inside.disk in
     let j = c.hand_out.ensures in
-    rw (← c.self.view_is, image g c, slots g c, regs g c, c.reset.ensures, c.empty_area-self-inside.ensures, c.new-self-inside.ensures)
+    rw (← c.self.view_is, image g c, slots g c, regs g c, c.reset.ensures, c.begin_again.ensures.area, c.begin_again.ensures.sent)
     (view_new _ d.image d.held d.depth c.hand_out.new.self (same_journal _ _ _ _ _ j.first j.past j.room j.held))
 
 pub returns-clause-dropped : goal.returns-clause-dropped
