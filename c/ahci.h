@@ -381,6 +381,40 @@ typedef struct ahci_hba_state {
     uint8_t next[32];   /* by slot: ahci_hba_step_kind */
 } ahci_hba_state;
 
+/* The rules of AHCI 1.3.1 for the software that drives a controller, each named for what breaks it. Sections: crates/hba_rules. */
+typedef enum ahci_rule {
+    AHCI_RULE_START_WITHOUT_RECEIVING = 0, /* ST is set while FRE is 0 and stays 0 (section 10.3.1) */
+    AHCI_RULE_START_WITH_RECEIVING = 1, /* ST and FRE are set by one write (section 10.3.1) */
+    AHCI_RULE_START_WHILE_BUSY = 2, /* ST is set while BSY or DRQ is 1, without CLO (section 10.3.1) */
+    AHCI_RULE_START_WITHOUT_DEVICE = 3, /* ST is set while PxSSTS.DET is not 3 (section 10.3.1) */
+    AHCI_RULE_RECEIVING_CLEARED_WHILE_STARTED = 4, /* FRE is cleared while ST is 1 (section 10.3.2) */
+    AHCI_RULE_LIST_MOVED_WHILE_STARTED = 5, /* PxCLB or PxCLBU is changed while ST is 1 (section 10.3.1) */
+    AHCI_RULE_AREA_MOVED_WHILE_RECEIVING = 6, /* PxFB or PxFBU is changed while FRE is 1 (section 10.3.2) */
+    AHCI_RULE_CLEAR_BUSY_WHILE_STARTED = 7, /* CLO is set while ST is 1 (section 3.3.7) */
+    AHCI_RULE_LINK_CHANGED_WHILE_STARTED = 8, /* PxSCTL.DET is changed while ST is 1 (section 3.3.11) */
+    AHCI_RULE_RESERVED_LINK_STATE = 9, /* PxSCTL.DET is set to a reserved value (section 3.3.11) */
+    AHCI_RULE_ACTIVE_WHILE_STOPPED = 10, /* a bit of PxSACT is set while ST is 0 (section 3.3.13) */
+    AHCI_RULE_COMMAND_WHILE_STOPPED = 11, /* a bit of PxCI is set while ST is 0 (section 3.3.14) */
+    AHCI_RULE_COMMAND_WHILE_HALTED = 12, /* a bit of PxCI is set after an error and before ST is cleared (section 6.2.2) */
+    AHCI_RULE_MIXED_COMMANDS = 13, /* queued commands and others are outstanding together (section 5.5.1) */
+    AHCI_RULE_INTERRUPT_NOT_CLEARED = 14, /* IS is cleared before the enabled bits of PxIS (section 10.7.2) */
+    AHCI_RULE_RESERVED_BITS = 15, /* reserved bits of a register are written 1 (section 3) */
+    AHCI_RULE_FIS_LENGTH = 16, /* CFL is not the five dwords of a Register FIS - Host to Device (section 4.2.2) */
+    AHCI_RULE_NO_COMMAND_FIS = 17, /* CFIS is no Register FIS - Host to Device (section 4.2.3) */
+    AHCI_RULE_ATAPI_FLAG = 18, /* A is 1 for a disk (section 4.2.2) */
+    AHCI_RULE_WRITE_FLAG = 19, /* W does not tell the direction of the data (section 4.2.2) */
+    AHCI_RULE_ACTIVE_WITHOUT_QUEUE = 20, /* PxSACT has the slot of a command that is not queued (section 3.3.13) */
+    AHCI_RULE_QUEUE_WITHOUT_ACTIVE = 21, /* PxSACT does not have the slot of a queued command (section 5.5.1) */
+    AHCI_RULE_TAG_NOT_SLOT = 22, /* the tag of a queued command is not its slot (section 3.3.13) */
+    AHCI_RULE_RESERVED_HEADER = 23, /* reserved dwords of a command header are not 0 (section 4.2.2) */
+    AHCI_RULE_TABLE_UNALIGNED = 24, /* CTBA is not a multiple of 128 (section 4.2.2) */
+    AHCI_RULE_ODD_ADDRESS = 25, /* DBA of a PRDT entry is odd (section 4.2.3) */
+    AHCI_RULE_EVEN_COUNT = 26, /* bit 0 of DBC is 0: the length is odd (section 4.2.3) */
+    AHCI_RULE_LIST_TOO_SHORT = 27, /* the PRDT has fewer bytes than the command moves (section 3.3.5) */
+    AHCI_RULE_LIST_TOO_LONG = 28 /* the PRDT has more bytes than the command moves (section 4.2.3) */
+} ahci_rule;
+#define AHCI_RULES 29 /* how many there are */
+
 /* ---- a port ---- */
 
 /* Makes a port of `depth` slots over a copy of an image, in an empty place. It is started and has done nothing.
@@ -562,6 +596,22 @@ uint32_t ahci_hba_entry_bytes(ahci_hba *hba, uint64_t number, uint8_t *out, size
 /* All that can be seen of the queue behind the controller, as ahci_port_state: its requests by slot, its journal's numbers. Its registers
    are the queue's own; the driver's are those of ahci_hba_read. */
 uint32_t ahci_hba_port(ahci_hba *hba, ahci_state *state);
+
+/* ---- the rules for drivers: nothing here changes anything. *broken is 1 if the rule is broken, else 0 ---- */
+
+/* Whether a word that a driver is about to write at an offset of the registers breaks a rule, before it is written.
+   AHCI_NO_PORT, AHCI_BAD_KIND for a number that is no rule, AHCI_NO_SUCH_REGISTER if no register of the controller is there. */
+uint32_t ahci_hba_write_breaks(ahci_hba *hba, uint32_t rule, uint32_t offset, uint32_t word, uint32_t *broken);
+
+/* Whether the command of a slot breaks a rule: the 32 bytes of its header, and the first 20 of its command table. `active` is not 0 if PxSACT
+   has the slot. AHCI_BAD_KIND, AHCI_BAD_TAG, AHCI_WRONG_LENGTH. */
+uint32_t ahci_command_breaks(uint32_t rule, uint32_t slot, uint32_t active, const uint8_t *header, size_t header_bytes, const uint8_t *fis, size_t fis_bytes, uint32_t *broken);
+
+/* Whether an entry of a PRDT, of 16 bytes, breaks a rule. AHCI_BAD_KIND, AHCI_WRONG_LENGTH. */
+uint32_t ahci_entry_breaks(uint32_t rule, const uint8_t *entry, size_t entry_bytes, uint32_t *broken);
+
+/* Whether a PRDT of so many bytes in all breaks a rule, for the command of a command FIS of 20 bytes. AHCI_BAD_KIND, AHCI_WRONG_LENGTH. */
+uint32_t ahci_length_breaks(uint32_t rule, const uint8_t *fis, size_t fis_bytes, uint64_t total, uint32_t *broken);
 
 /* ---- the layers alone, with no port ---- */
 

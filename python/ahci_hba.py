@@ -39,6 +39,40 @@ class Step(enum.IntEnum):
     RECOVER = 8
 
 
+class Rule(enum.IntEnum):
+    """A rule of AHCI 1.3.1 for the software that drives a controller, named for what breaks it (ahci_rule)."""
+
+    START_WITHOUT_RECEIVING = 0
+    START_WITH_RECEIVING = 1
+    START_WHILE_BUSY = 2
+    START_WITHOUT_DEVICE = 3
+    RECEIVING_CLEARED_WHILE_STARTED = 4
+    LIST_MOVED_WHILE_STARTED = 5
+    AREA_MOVED_WHILE_RECEIVING = 6
+    CLEAR_BUSY_WHILE_STARTED = 7
+    LINK_CHANGED_WHILE_STARTED = 8
+    RESERVED_LINK_STATE = 9
+    ACTIVE_WHILE_STOPPED = 10
+    COMMAND_WHILE_STOPPED = 11
+    COMMAND_WHILE_HALTED = 12
+    MIXED_COMMANDS = 13
+    INTERRUPT_NOT_CLEARED = 14
+    RESERVED_BITS = 15
+    FIS_LENGTH = 16
+    NO_COMMAND_FIS = 17
+    ATAPI_FLAG = 18
+    WRITE_FLAG = 19
+    ACTIVE_WITHOUT_QUEUE = 20
+    QUEUE_WITHOUT_ACTIVE = 21
+    TAG_NOT_SLOT = 22
+    RESERVED_HEADER = 23
+    TABLE_UNALIGNED = 24
+    ODD_ADDRESS = 25
+    EVEN_COUNT = 26
+    LIST_TOO_SHORT = 27
+    LIST_TOO_LONG = 28
+
+
 class Look(NamedTuple):
     """What the controller does next (ahci_hba_state)."""
 
@@ -81,7 +115,13 @@ _ARGUMENTS = {
     "entry_bytes": [_hba, _u64, ctypes.c_char_p, _size],
     "port": [_hba, ctypes.POINTER(_State)],
 }
-_CALLS = {f"hba_{name}": kinds for name, kinds in _ARGUMENTS.items()}
+_CALLS = {
+    **{f"hba_{name}": kinds for name, kinds in _ARGUMENTS.items()},
+    "hba_write_breaks": [_hba, _u32, _u32, _u32, ctypes.POINTER(_u32)],
+    "command_breaks": [_u32, _u32, _u32, ctypes.c_char_p, _size, ctypes.c_char_p, _size, ctypes.POINTER(_u32)],
+    "entry_breaks": [_u32, ctypes.c_char_p, _size, ctypes.POINTER(_u32)],
+    "length_breaks": [_u32, ctypes.c_char_p, _size, _u64, ctypes.POINTER(_u32)],
+}
 
 
 class Hba:
@@ -122,6 +162,12 @@ class Hba:
         entries = _u64()
         self._call("write", _fits(offset, 32, "offset"), _fits(size, 32, "size"), _fits(value, 64, "value"), ctypes.byref(entries))
         return int(entries.value)
+
+    def write_breaks(self, rule: Rule, offset: int, word: int) -> bool:
+        """Whether a word that a driver is about to write at an offset breaks a rule."""
+        broken = _u32()
+        self._call("write_breaks", rule, _fits(offset, 32, "offset"), _fits(word, 32, "word"), ctypes.byref(broken))
+        return bool(broken.value)
 
     def look(self) -> Look:
         """What the controller does next."""
@@ -222,4 +268,25 @@ class Hba:
                 return
 
 
-__all__ = ["Hba", "Look", "Refused", "Status", "Step", "Want"]
+def _broken(name: str, *arguments: object) -> bool:
+    broken = _u32()
+    _done(getattr(_library_with(_CALLS), f"ahci_{name}")(*arguments, ctypes.byref(broken)))
+    return bool(broken.value)
+
+
+def command_breaks(rule: Rule, slot: int, active: bool, header: bytes, fis: bytes) -> bool:
+    """Whether the command of a slot breaks a rule: the 32 bytes of its header, and the first 20 of its command table."""
+    return _broken("command_breaks", rule, _fits(slot, 32, "slot"), int(active), header, len(header), fis, len(fis))
+
+
+def entry_breaks(rule: Rule, entry: bytes) -> bool:
+    """Whether an entry of a PRDT, of 16 bytes, breaks a rule."""
+    return _broken("entry_breaks", rule, entry, len(entry))
+
+
+def length_breaks(rule: Rule, fis: bytes, total: int) -> bool:
+    """Whether a PRDT of so many bytes in all breaks a rule, for the command of a command FIS of 20 bytes."""
+    return _broken("length_breaks", rule, fis, len(fis), _fits(total, 64, "total"))
+
+
+__all__ = ["Hba", "Look", "Refused", "Rule", "Status", "Step", "Want", "command_breaks", "entry_breaks", "length_breaks"]

@@ -43,6 +43,7 @@ assert {it.name: it.value for it in ahci.Status} == numbers_of("status") and len
 assert {f"EVENT_{it.name}": it.value for it in ahci.Event} == numbers_of("event") and len(ahci.Event) == 11
 assert {f"WANT_{it.name}": it.value for it in ahci_hba.Want} == numbers_of("want")
 assert {f"STEP_{it.name}": it.value for it in ahci_hba.Step} == numbers_of("hba_step_kind")
+assert {f"RULE_{it.name}": it.value for it in ahci_hba.Rule} == numbers_of("rule")
 
 structs = dict((name, fields) for fields, name in re.findall(r"typedef struct \w+ {(.*?)} ahci_(\w+);", told, re.S))
 assert sorted(structs) == sorted(STRUCTS)

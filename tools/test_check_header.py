@@ -22,7 +22,7 @@ STATUS = "crates/ahci_ffi/src/status.rt"
 PYTHON = "python/ahci.py"
 PLACE = "crates/ahci_ffi/src/place.rt"
 HBA_PLACE = "crates/hba_ffi/src/place.rt"
-READ = ["tools/check_header", HEADER, PYTHON, "crates/ahci_c/src", "crates/ahci_ffi/src", "crates/hba_ffi/src"]
+READ = ["tools/check_header", HEADER, PYTHON, "crates/ahci_c/src", "crates/ahci_ffi/src", "crates/hba_ffi/src", "crates/hba_rules/src"]
 
 Change = Tuple[str, str, str]  # a file, an old text that stands there once, and the new one
 
@@ -105,6 +105,9 @@ class CheckHeader(unittest.TestCase):
         for change in [(HEADER, "typedef struct ahci_hba {\n    void *at;\n", "typedef struct ahci_hba {\n"), (HBA_PLACE, "    full: bool,", "    full: u32,")]:
             self.setUp()
             self.differs([change], "ahci_hba: the header has ")
+
+    def test_the_rules_are_compared(self) -> None:
+        self.differs([(HEADER, "AHCI_RULE_START_WHILE_BUSY = 2,", "AHCI_RULE_START_WHILE_BUSY = 40,")], "AHCI_RULE_START_WHILE_BUSY: the header has 40, ")
 
     def test_the_version_is_compared(self) -> None:
         self.differs([(HEADER, "#define AHCI_VERSION 0x", "#define AHCI_VERSION 0x1")], "AHCI_VERSION is not")

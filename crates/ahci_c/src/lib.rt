@@ -19,6 +19,7 @@ mod alone;
 mod controlled;
 mod controller;
 mod device;
+mod judging;
 mod looking;
 mod making;
 mod registers;

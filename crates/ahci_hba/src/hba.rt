@@ -114,6 +114,13 @@ impl<A: Allocator> Hba<A> {
         self.registers.read(offset, size)
     }
 
+    /// The registers, for those who judge a driver's accesses.
+    pub fn registers(&self) -> &HbaRegs
+        ensures { result.now ≡ self.now.registers }
+    {
+        &self.registers
+    }
+
     /// The queue depth that IDENTIFY DEVICE tells.
     pub fn depth(&self) -> u32
         ensures { result ≡ self.now.depth }

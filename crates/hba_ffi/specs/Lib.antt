@@ -3,3 +3,4 @@ pub mod PlaceView
 pub mod Over
 pub mod Looking
 pub mod Calls
+pub mod Judging

@@ -3,6 +3,7 @@
 
 mod flat;
 mod held;
+mod judging;
 mod looking;
 mod making;
 mod moving;
@@ -12,6 +13,7 @@ mod stepping;
 
 pub use flat::FlatHba;
 pub use held::HeldHba;
+pub use judging::{command_breaks, entry_breaks, length_breaks, write_breaks};
 pub use looking::{copy, entry, entry_bytes, look, port};
 pub use making::make;
 pub use moving::{bytes, supply, unmapped, written};

@@ -107,9 +107,9 @@ impl HbaRegs {
         }
     }
 
-    /// The word of a register.
+    /// The word of a register, as an aligned read of 4 bytes has it.
     #[tactic(auto, using(word_bits::proofs::BitsLemmas::words_back))]
-    fn word_at(&self, register: Register) -> u32
+    pub fn word_at(&self, register: Register) -> u32
         ensures { result ≡ word_at self.now register }
     {
         match register {

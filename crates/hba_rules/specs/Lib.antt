@@ -1,0 +1,4 @@
+pub mod Rules
+pub mod Writes
+pub mod Commands
+pub mod Lists

@@ -1,0 +1,31 @@
+//! The rules for PRDTs.
+
+ghost use Rattle.std.specs.Prelude.{◌≡◌};
+ghost use Rattle.hba_rules.specs.Lists.{entry_breaks, length_breaks};
+
+use crate::rule::Rule;
+use hba_command::Task;
+use hba_memory::moved_by;
+
+/// Whether an entry of a PRDT breaks a rule.
+pub fn entry_breaks(rule: Rule, entry: &[u8; 16]) -> bool
+    ensures { result ≡ entry_breaks rule entry.now }
+{
+    match rule {
+        Rule::OddAddress => entry[0] % 2 == 1,
+        Rule::EvenCount => entry[12] % 2 == 0,
+        _ => false,
+    }
+}
+
+/// Whether a PRDT of so many bytes in all breaks a rule for a command.
+pub fn length_breaks(rule: Rule, task: &Task, total: u64) -> bool
+    ensures { result ≡ length_breaks rule task.now total }
+{
+    let moved = u64::from(moved_by(task));
+    match rule {
+        Rule::ListTooShort => total < moved,
+        Rule::ListTooLong => moved != 0 && moved < total,
+        _ => false,
+    }
+}
