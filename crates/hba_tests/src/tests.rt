@@ -1,3 +1,12 @@
-mod driver;
+mod drivers;
+mod edk2;
+mod grub;
 mod guest;
+mod linux;
+mod linux_error;
+mod playing;
+mod registers;
+mod resets;
+mod seabios;
+mod setting;
 mod stories;
