@@ -1,9 +1,11 @@
+mod commands;
 mod drivers;
 mod edk2;
 mod grub;
 mod guest;
 mod linux;
 mod linux_error;
+mod lists;
 mod playing;
 mod registers;
 mod resets;

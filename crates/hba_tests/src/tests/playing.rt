@@ -1,8 +1,9 @@
 //! What a driver, its disk and its memory do, as the rows of a table.
 
 use crate::tests::guest::{Guest, Stretch, end, settle, take};
-use crate::tests::registers::{PX_CLB, PX_CLBU};
+use crate::tests::registers::{PX_CLB, PX_CLBU, PX_FB, PX_FBU};
 use ahci_hba::{AccessSize, Hba};
+use ahci_port::EventKind;
 use std::alloc::{Allocator, Global};
 use std::fmt::Debug;
 use std::process::Abort;
@@ -34,18 +35,26 @@ pub enum Row {
     Fills(u64, u32, u8),
     /// The disk sends its signature.
     Signs,
-    /// The disk reads the command of a slot, and takes it if it moves sectors.
+    /// The controller reads the command of a slot.
+    Fetches(u8),
+    /// The controller reads the command of a slot, and the disk takes it if it moves sectors.
     Takes(u8),
     /// The disk does all of the command of a slot.
     Does(u8),
     /// The disk fails the command of a slot that it has taken, with an error byte at a sector.
     Fails(u8, u8, u64),
+    /// The disk fails the command of a slot that it has read and that is not queued, with an error byte at a sector.
+    Refuses(u8, u8, u64),
     /// Memory has these bytes at an address.
     Has(u64, &'static [u8]),
+    /// The received FIS area has a D2H Register FIS with I 1, this status, error, low byte of the LBA, and count.
+    Answered(u8, u8, u8, u8),
     /// Memory has so many bytes of one value at an address.
     HasAll(u64, u32, u8),
     /// A sector of the disk has one value in all its bytes.
     Sector(u64, u8),
+    /// The last entry of the journal.
+    Last(EventKind),
     /// The level of the interrupt line.
     Interrupt(bool),
 }
@@ -81,6 +90,11 @@ pub fn write<A: Allocator + Copy>(hba: &mut Hba<A>, offset: u32, value: u32) {
 /// Where the command list begins.
 fn list_at<A: Allocator + Copy>(hba: &Hba<A>) -> u64 {
     u64::from(read(hba, PX_CLB)) | (u64::from(read(hba, PX_CLBU)) << 32)
+}
+
+/// Where the received FIS area begins.
+fn received_at<A: Allocator + Copy>(hba: &Hba<A>) -> u64 {
+    u64::from(read(hba, PX_FB)) | (u64::from(read(hba, PX_FBU)) << 32)
 }
 
 /// Puts an entry of a PRDT.
@@ -166,6 +180,10 @@ fn acts<A: Allocator + Copy>(hba: &mut Hba<A>, guest: &mut Guest, row: Row) {
             let _ = hba.sign();
             settle(hba, guest);
         }
+        Row::Fetches(slot) => {
+            let _ = hba.fetch(slot % 32);
+            settle(hba, guest);
+        }
         Row::Takes(slot) => take(hba, guest, slot),
         Row::Does(slot) => {
             take(hba, guest, slot);
@@ -173,6 +191,10 @@ fn acts<A: Allocator + Copy>(hba: &mut Hba<A>, guest: &mut Guest, row: Row) {
         }
         Row::Fails(slot, error, lba) => {
             let _ = hba.fail(slot % 32, error, lba);
+            settle(hba, guest);
+        }
+        Row::Refuses(slot, error, lba) if lba < 1 << 48 => {
+            let _ = hba.refuse(slot % 32, error, lba);
             settle(hba, guest);
         }
         _ => {}
@@ -187,25 +209,62 @@ fn sees<A: Allocator + Copy>(rt: &impl Abort, hba: &Hba<A>, guest: &Guest, place
             equal(rt, place, &(read(hba, offset) & mask), &value);
         }
         Row::Has(at, bytes) => equal(rt, place, &guest.get(at, bytes.len()), &Some(bytes)),
+        Row::Answered(status, error, lba, count) => {
+            let fis = [
+                0x34, 0x40, status, error, lba, 0, 0, 0, 0, 0, 0, 0, count, 0,
+            ];
+            let found = guest.get(received_at(hba).wrapping_add(0x40), 14);
+            equal(rt, place, &found, &Some(&fis[..]));
+        }
         Row::HasAll(at, count, byte) => {
             equal(rt, place, &alike(guest, at, count, byte), &(count as usize));
         }
         Row::Sector(lba, byte) => equal(rt, place, &sector_byte(hba, lba), &Some(byte)),
+        Row::Last(kind) => {
+            let last = hba.port().journal().entries().last();
+            equal(rt, place, &last.map(|event| event.kind()), &Some(kind));
+        }
         Row::Interrupt(level) => equal(rt, place, &hba.interrupt(), &level),
         _ => {}
     }
 }
 
+/// A controller and its guest.
+#[derive(Drop)]
+pub struct Player {
+    hba: Hba,
+    guest: Guest,
+}
+
+impl Player {
+    /// A controller after power-on, with a disk of so many sectors of zeros that queues so many commands.
+    pub fn new(
+        alloc: Global,
+        sectors: u32,
+        depth: u32,
+        memory: &'static [Stretch],
+    ) -> Result<Self, Fail> {
+        let image = vec![in alloc; 0u8; 512 * (sectors % 131_072) as usize]?;
+        Ok(Player {
+            hba: Hba::new(alloc, image, depth)?,
+            guest: Guest::new(alloc, memory)?,
+        })
+    }
+
+    /// Plays rows, the part of a story with this name and number.
+    pub fn play(&mut self, rt: &impl Abort, name: &'static str, part: usize, rows: &[Row]) {
+        for (number, row) in rows.iter().enumerate() {
+            acts(&mut self.hba, &mut self.guest, *row);
+            sees(rt, &self.hba, &self.guest, (name, part, number), *row);
+        }
+    }
+}
+
 /// Plays a story from power-on.
 pub fn plays(rt: &impl Abort, alloc: Global, story: &Story) -> Result<(), Fail> {
-    let image = vec![in alloc; 0u8; 512 * (story.sectors % 131_072) as usize]?;
-    let mut hba = Hba::new(alloc, image, story.depth)?;
-    let mut guest = Guest::new(alloc, story.memory)?;
+    let mut player = Player::new(alloc, story.sectors, story.depth, story.memory)?;
     for (part, rows) in story.parts.iter().enumerate() {
-        for (number, row) in rows.iter().enumerate() {
-            acts(&mut hba, &mut guest, *row);
-            sees(rt, &hba, &guest, (story.name, part, number), *row);
-        }
+        player.play(rt, story.name, part, rows);
     }
     Ok(())
 }
