@@ -63,18 +63,25 @@ impl Guest {
     }
 }
 
+/// Reads once for the controller, if all of that is memory.
+pub fn supply<A: Allocator + Copy>(hba: &mut Hba<A>, guest: &Guest) -> Result<(), AllocError> {
+    match guest.get(hba.address(), hba.read_length()) {
+        Some(bytes) => hba.supply(bytes),
+        None => {
+            hba.fail_memory();
+            Ok(())
+        }
+    }
+}
+
 /// Reads or writes once for the controller; whether it wanted that.
 fn turn<A: Allocator + Copy>(hba: &mut Hba<A>, guest: &mut Guest) -> bool {
-    let at = hba.address();
     match hba.want() {
         Want::Nothing => return false,
-        Want::Read => match guest.get(at, hba.read_length()) {
-            Some(bytes) => {
-                let _ = hba.supply(bytes);
-            }
-            None => hba.fail_memory(),
-        },
-        Want::Write if guest.put(at, hba.bytes()) => hba.written(),
+        Want::Read => {
+            let _ = supply(hba, guest);
+        }
+        Want::Write if guest.put(hba.address(), hba.bytes()) => hba.written(),
         Want::Write => hba.fail_memory(),
     }
     true

@@ -167,7 +167,7 @@ fn sector_byte<A: Allocator + Copy>(hba: &Hba<A>, lba: u64) -> Option<u8> {
 }
 
 /// Lets the driver or the disk do what a row says.
-fn acts<A: Allocator + Copy>(hba: &mut Hba<A>, guest: &mut Guest, row: Row) {
+pub fn acts<A: Allocator + Copy>(hba: &mut Hba<A>, guest: &mut Guest, row: Row) {
     match row {
         Row::Writes(offset, value) => write(hba, offset, value),
         Row::Lays(slot, word, table, fis, pieces) => {
@@ -202,7 +202,13 @@ fn acts<A: Allocator + Copy>(hba: &mut Hba<A>, guest: &mut Guest, row: Row) {
 }
 
 /// Compares what a row sees.
-fn sees<A: Allocator + Copy>(rt: &impl Abort, hba: &Hba<A>, guest: &Guest, place: Place, row: Row) {
+pub fn sees<A: Allocator + Copy>(
+    rt: &impl Abort,
+    hba: &Hba<A>,
+    guest: &Guest,
+    place: Place,
+    row: Row,
+) {
     match row {
         Row::Reads(offset, value) => equal(rt, place, &read(hba, offset), &value),
         Row::ReadsBits(offset, mask, value) => {
