@@ -95,6 +95,32 @@ const WRITTEN_LONG: &[Row] = &[
     Sector(170, 0),
 ];
 
+/// Entries are read 32 at a time: a list that ends with such a run, and one with an entry after it.
+const READ_AGAIN: &[Row] = &[
+    Lays(
+        0,
+        0x0040_0005,
+        0x027F_0D00,
+        [0x2780_C800, 0x0200_0040, 0, 0x4000_0000],
+        Up(0x0C31_0000, 64, 512),
+    ),
+    Writes(PX_CI, 1),
+    Does(0),
+    HasAll(0x0C31_0000, 512, 0x61),
+    HasAll(0x0C31_0200, 512, 0x62),
+    Lays(
+        0,
+        0x0021_0005,
+        0x027F_0D00,
+        [0x2780_C800, 0x8900_0040, 0, 0x2100_0000],
+        Up(0x0C31_0000, 33, 512),
+    ),
+    Writes(PX_CI, 1),
+    Does(0),
+    HasAll(0x0C31_0000, 0x4000, 0),
+    HasAll(0x0C31_4000, 512, 0x63),
+];
+
 /// Linux with memory above 4 GiB.
 const HIGH: &[Stretch] = &[
     (0x1_02B6_0000, 0x500),
@@ -268,7 +294,7 @@ static LONG_LISTS: [Story; 4] = [
         sectors: 1024,
         depth: 32,
         memory: LONG,
-        parts: &[START, MARKED, READ_LONG, RESTART, WRITTEN_LONG],
+        parts: &[START, MARKED, READ_LONG, RESTART, WRITTEN_LONG, READ_AGAIN],
     },
     Story {
         name: "addresses have 64 bits",

@@ -2,7 +2,8 @@
 //! leave a choice.
 
 use crate::tests::playing::Row::{
-    Does, Fails, Fills, Has, HasAll, Interrupt, Lays, Reads, Sector, Signs, Takes, Writes,
+    Answered, Does, Fails, Fetches, Fills, Has, HasAll, Interrupt, Lays, Reads, Refuses, Sector,
+    Signs, Takes, Writes,
 };
 use crate::tests::playing::{Row, Story, plays};
 use crate::tests::registers::{
@@ -108,6 +109,45 @@ const ABORTED: &[Row] = &[
     Reads(PX_IS, 0x4000_0001),
 ];
 
+/// The disk fails the command that reads the log. The log can be read later.
+const NO_LOG: &[Row] = &[
+    Lays(0, ONE, TABLE, READ_LOG, SECTOR),
+    Writes(PX_CI, 1),
+    Fetches(0),
+    Refuses(0, 4, 0),
+    Answered(0x41, 4, 0, 0),
+    Reads(PX_IS, 0x4000_0001),
+    Reads(PX_TFD, 0x441),
+];
+
+/// IPS stays while PxIS has an enabled bit, and the line follows it and GHC.IE (AHCI 1.3.1, section 10.7).
+const INTERRUPTS: &[Row] = &[
+    Writes(PX_IE, 0),
+    Lays(0, ONE, TABLE, READ_DMA, SECTOR),
+    Writes(PX_CI, 1),
+    Does(0),
+    Reads(PX_IS, 1),
+    Reads(IS, 0),
+    Interrupt(false),
+    Writes(PX_IE, 2),
+    Reads(IS, 0),
+    Writes(PX_IE, 3),
+    Reads(IS, 1),
+    Interrupt(true),
+    Writes(IS, 1),
+    Reads(IS, 1),
+    Writes(GHC, 0x8000_0000),
+    Interrupt(false),
+    Writes(GHC, 0x8000_0002),
+    Interrupt(true),
+    Writes(PX_IS, 1),
+    Reads(IS, 1),
+    Interrupt(true),
+    Writes(IS, 1),
+    Reads(IS, 0),
+    Interrupt(false),
+];
+
 const LOGGED: &[Row] = &[
     Lays(0, ONE, TABLE, READ_LOG, SECTOR),
     Writes(PX_CI, 1),
@@ -129,7 +169,7 @@ const LOGGED: &[Row] = &[
     Has(DATA + 511, &[0x80]),
 ];
 
-static STORIES: [Story; 4] = [
+static STORIES: [Story; 5] = [
     Story {
         name: "a driver initialises the port and identifies the disk",
         sectors: 8,
@@ -156,7 +196,16 @@ static STORIES: [Story; 4] = [
         sectors: 8,
         depth: 32,
         memory: MEMORY,
-        parts: &[START, FAILED, RESTART, ABORTED, RESTART, LOGGED],
+        parts: &[
+            START, FAILED, RESTART, ABORTED, RESTART, NO_LOG, RESTART, LOGGED,
+        ],
+    },
+    Story {
+        name: "an interrupt stays until it is acknowledged",
+        sectors: 8,
+        depth: 32,
+        memory: MEMORY,
+        parts: &[START, INTERRUPTS],
     },
 ];
 
