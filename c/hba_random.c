@@ -143,7 +143,7 @@ static void refuse(void)
 
 static void sign(void)
 {
-    CHECK(!look.sign || (reg.receiving && reg.up && look.want == AHCI_WANT_NOTHING));
+    CHECK(!look.sign || (reg.receiving && reg.link == UP && look.want == AHCI_WANT_NOTHING));
     CHECK(ahci_hba_sign(&hba) == (look.sign ? AHCI_OK : AHCI_NOT_READY));
     if (look.sign)
         answers(0, NO_FIS, 0, false, 0x40, SIGNED);
@@ -168,7 +168,7 @@ static uint64_t somewhere(void)
 /* The PRDT of a command that moves so many bytes; how many entries it has. Some are too short, some too long, some name no memory. */
 static uint32_t lay_list(uint8_t *to, uint32_t moved)
 {
-    const uint32_t shape = byte() % 12, pieces = shape == 1 ? 2 + byte() % 4 : shape == 2 ? 110 : 1;
+    const uint32_t pick = byte() % 32, shape = pick < 9 ? pick : 0, pieces = shape == 1 ? 2 + byte() % 4 : shape == 2 ? 110 : 1;
     const uint32_t needed = shape == 3 ? moved / 2 : shape == 4 ? moved + 2 + byte() % 64 * 2u : moved;
     uint32_t count = 0, laid = 0;
     while ((laid < needed || count == 0) && count < pieces) {
@@ -195,7 +195,7 @@ static void command(void)
     static const uint8_t codes[] = { 0x60, 0x61, 0x60, 0x61, 0x60, 0x61, 0x60, 0x61, 0xC8, 0xCA, 0x25, 0x35, 0x20, 0x30, 0x24, 0x34, 0xEC, 0x2F, 0x2F, 0x47, 0xEA, 0xE7, 0xEF, 0xA1,
         0x40, 0x42, 0x27, 0x90, 0xE5, 0xE0, 0x00, 0xB0 };
     const uint32_t slot = byte() % 8 == 7 ? 31 : byte() % 6, code = codes[byte() % sizeof codes], bit = 1u << slot;
-    const uint8_t lba = byte() % 18, many = byte(), count = many % 64 ? 1 + many % 4 : 0, odd = byte();
+    const uint8_t far = byte(), lba = far % 32 ? far % 12 : far / 32 + 10, many = byte(), count = many % 128 ? 1 + many % 4 : 0, odd = byte();
     const bool queued = code == 0x60 || code == 0x61, log = code == 0x2F || code == 0x47;
     const uint64_t at = (odd & 1 ? HIGH + 0x800 : LOW + 0x1000) + 0x800 * (slot % 3);
     uint8_t *header = memory(list_base() + 32 * slot, 32), *table = memory(at, 0x800);
@@ -206,7 +206,7 @@ static void command(void)
     }
     if (odd % 32 == 30) /* a control FIS, with SRST or without */
         fis[1] = 0, fis[15] = odd >> 5 & 4;
-    if (odd % 32 == 28)
+    if (odd % 64 == 28)
         fis[byte() % 20] = byte();
     if (header) {
         memcpy(table, fis, sizeof fis);
@@ -253,9 +253,13 @@ static void restart_if_halted(void)
         restart();
 }
 
-static void reset_link(void)
+/* A reset of the HBA, of the link, or none. */
+static void reset(void)
 {
-    if (byte() % 4)
+    const uint8_t pick = byte();
+    if (pick % 16 == 1)
+        write(AHCI_REG_GHC, 0x80000001 | (pick & 2));
+    if (pick % 4)
         return;
     write(AHCI_REG_PXSCTL, byte() % 4 ? 0x301 : 0x304);
     if (byte() % 8)
@@ -324,7 +328,7 @@ int LLVMFuzzerTestOneInput(const uint8_t *bytes, size_t count);
 int LLVMFuzzerTestOneInput(const uint8_t *bytes, size_t count)
 {
     static void (*const calls[])(void) = { command, command, command, command, step_any, step_any, step_any, step_any, step_any, step_any, step_any, step_any, move_all, move_all,
-        move_all, move_all, move_all, move_one, move_one, step_this, fail, refuse, sign, sign, restart_if_halted, restart_if_halted, restart, reset_link, write_any, read_any, read_any, scribble };
+        move_all, move_all, move_all, move_one, move_one, step_this, fail, refuse, sign, sign, restart_if_halted, restart_if_halted, restart, reset, write_any, read_any, read_any, scribble };
     uint8_t sector[AHCI_SECTOR_BYTES];
     input = bytes;
     left = count;
@@ -349,7 +353,7 @@ int main(int count, char **arguments)
 {
     const unsigned long runs = count > 1 ? strtoul(arguments[1], NULL, 10) : 1000, begins = count > 2 ? strtoul(arguments[2], NULL, 10) : 0;
     for (unsigned long run = begins; run < begins + runs; run++) {
-        static uint8_t bytes[1200];
+        static uint8_t bytes[2000];
         uint64_t state = 88172645463325252 + run * 0x9E3779B97F4A7C15;
         for (size_t i = 0; i < sizeof bytes; i++) {
             state ^= state << 13;
@@ -361,7 +365,7 @@ int main(int count, char **arguments)
             fprintf(stderr, "run %lu\n", run);
         LLVMFuzzerTestOneInput(bytes, sizeof bytes);
     }
-    printf("%lu runs of a controller: %lu commands done, %lu failed, %lu dropped; the shadow has seen no difference\n", runs, counted.done, counted.failed, counted.dropped);
+    printf("%lu runs of a controller: of the commands read %lu were done, %lu failed and %lu were dropped; the shadow has seen no difference\n", runs, counted.done, counted.failed, counted.dropped);
     return 0;
 }
 #endif

@@ -19,7 +19,7 @@ static uint8_t low[0x8000], high[0x4000], image[SECTORS * AHCI_SECTOR_BYTES];
 static uint64_t first, seen; /* numbers of the journal */
 
 /* The registers, as far as they are shadowed. */
-static struct { uint32_t clb, clbu, fb, fbu, ie, sctl, sact, ci; bool on, receiving, halted, up, enabled; } reg;
+static struct { uint32_t clb, clbu, fb, fbu, ie, sctl, sact, ci; bool on, receiving, halted, enabled; enum link { UP, RESET = 1, OFFLINE = 4 } link; } reg;
 static bool failed; /* a queued command has failed, and its log is not read */
 static uint8_t page[AHCI_PAGE_BYTES]; /* the log of that */
 
@@ -79,7 +79,6 @@ static void begin(void)
     for (uint32_t slot = 0; slot < 32; slot++)
         slots[slot].there = slots[slot].sent = false;
     fetch.on = answer.on = served = failed = false;
-    reg.up = true;
     first = seen = 0;
     CHECK(ahci_hba_new(&hba, image, sizeof image, 32) == AHCI_OK && ahci_hba_new(&hba, image, sizeof image, 32) == AHCI_PORT_THERE);
 }
@@ -159,11 +158,14 @@ static void answers(uint32_t slot, int before, uint64_t data, bool counts, int a
         ends();
 }
 
-static void link_down(void)
+static void link_to(enum link link)
 {
-    reg.sact = reg.ci = 0;
-    reg.halted = reg.up = failed = false;
-    drop();
+    if (link != UP && link != reg.link) {
+        reg.sact = reg.ci = 0;
+        reg.halted = failed = false;
+        drop();
+    }
+    reg.link = link;
 }
 
 /* A write of a word (AHCI 1.3.1, sections 3.1 and 3.3). */
@@ -175,8 +177,9 @@ static void takes(uint32_t offset, uint32_t value)
         if (value & 1) {
             reg.ie = reg.sctl = 0;
             reg.on = reg.receiving = reg.enabled = false;
-            link_down();
-            reg.up = true;
+            reg.link = UP;
+            link_to(RESET);
+            link_to(UP);
         }
         break;
     case AHCI_REG_PXCLB: reg.clb = reg.on ? reg.clb : value & ~0x3FFu; break;
@@ -200,10 +203,8 @@ static void takes(uint32_t offset, uint32_t value)
         break;
     case AHCI_REG_PXSCTL:
         reg.sctl = value & 0xFFF;
-        if ((value & 15) == 1 || (value & 15) == 4)
-            link_down();
-        else if ((value & 15) == 0)
-            reg.up = true;
+        if ((value & 15) == RESET || (value & 15) == OFFLINE || (value & 15) == UP)
+            link_to(value & 15);
         break;
     case AHCI_REG_PXSACT: reg.sact |= reg.on ? value : 0; break;
     case AHCI_REG_PXCI: reg.ci |= reg.on ? value : 0; break;
@@ -215,11 +216,15 @@ static void writes(uint32_t offset, uint32_t size, uint64_t value)
 {
     const uint32_t at = offset & ~3u, shift = 8 * (offset & 3), mask = size < 4 ? ((1u << 8 * size) - 1) << shift : 0xFFFFFFFFu;
     const bool ones = at == AHCI_REG_IS || at == AHCI_REG_PXIS || at == AHCI_REG_PXSERR || at == AHCI_REG_PXSACT || at == AHCI_REG_PXCI;
-    const uint32_t was = driven(at);
+    const uint32_t was = driven(at), word = (uint32_t)value << shift & mask;
     uint64_t entries = 77;
     CHECK(ahci_hba_write(&hba, offset, size, value, &entries) == AHCI_OK);
-    if (offset % size == 0) {
-        takes(at, ((uint32_t)value << shift & mask) | (ones ? 0 : was & ~mask));
+    if (offset % size != 0) {
+        CHECK(driven(at) == was);
+    } else {
+        CHECK(at != AHCI_REG_PXIS || driven(at) == (was & ~(word & ~0x00400040u)));
+        CHECK(at != AHCI_REG_PXSERR || driven(at) == (was & ~word));
+        takes(at, ones ? word : word | (was & ~mask));
         if (size == 8)
             takes(at + 4, (uint32_t)(value >> 32));
     }
@@ -228,7 +233,7 @@ static void writes(uint32_t offset, uint32_t size, uint64_t value)
 
 static void write(uint32_t offset, uint32_t value) { writes(offset, 4, value); }
 
-static bool is_ready(void) { return reg.on && !reg.halted && reg.up && !fetch.on && !answer.on && !served; }
+static bool is_ready(void) { return reg.on && !reg.halted && reg.link == UP && !fetch.on && !answer.on && !served; }
 
 /* All that the shadow knows, beside what is there. */
 static void compare(void)
@@ -246,7 +251,7 @@ static void compare(void)
         CHECK(next == AHCI_STEP_NONE || is_ready() || (served && next == AHCI_STEP_DELIVER && slot == answer.slot));
         CHECK(next != AHCI_STEP_FETCH || (!it->there && reg.ci >> slot & 1));
         CHECK((next != AHCI_STEP_ACCEPT && next != AHCI_STEP_SERVE) || (it->there && it->sent));
-        CHECK(next < AHCI_STEP_EXECUTE || (it->there && !it->sent && it->kind != QUEUE));
+        CHECK(next < AHCI_STEP_EXECUTE || (it->there && !it->sent && (it->kind != QUEUE || failed)));
     }
 }
 
