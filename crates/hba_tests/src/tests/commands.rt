@@ -204,7 +204,7 @@ fn moves(rt: &impl Abort, player: &mut Player, byte: u8, mover: Mover) {
 fn each_read_sees_each_write(rt: HostRuntime) -> Result<(), Fail> {
     let mut player = Player::new(rt.alloc(), 8, 32, MEMORY)?;
     player.play(&rt, "the port is started", 0, START);
-    for (mover, byte) in MOVERS.into_iter().zip(0x11u8..) {
+    for (mover, byte) in MOVERS.into_iter().zip(0x11u8..0x20) {
         moves(&rt, &mut player, byte, mover);
     }
     Ok(())
