@@ -307,6 +307,13 @@ const NOT_RECEIVED: &[Row] = &[
     Reads(PX_CI, 0),
     HasAll(RECEIVED, 256, 0xEE),
     Last(EventKind::Plain(Plain::Flush)),
+    Lays(1, ONE, OTHER, READ, SECTOR),
+    Writes(PX_SACT, 2),
+    Writes(PX_CI, 2),
+    Does(1),
+    Reads(PX_SACT, 0),
+    HasAll(RECEIVED, 256, 0xEE),
+    HasAll(DATA, 512, 0),
     Writes(PX_CMD, 0x11),
 ];
 

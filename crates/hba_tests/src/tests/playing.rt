@@ -122,8 +122,8 @@ fn piece(pieces: Pieces, number: u32) -> Option<(u64, u32)> {
 
 /// Lays out the table of a command.
 fn lay_table(guest: &mut Guest, table: u64, fis: [u32; 4], pieces: Pieces) {
-    for (word, place) in fis.iter().zip(0u64..4) {
-        let _ = guest.put(table.wrapping_add(4 * place), &word.to_be_bytes());
+    for (word, place) in fis.iter().zip([0u64, 4, 8, 12]) {
+        let _ = guest.put(table.wrapping_add(place), &word.to_be_bytes());
     }
     for number in 0..200u32 {
         let at = table.wrapping_add(0x80 + 16 * u64::from(number));
