@@ -14,7 +14,7 @@ from __future__ import annotations
 import ctypes
 import enum
 import os
-from typing import Dict, List, NamedTuple, Optional, Sequence, Tuple
+from typing import Any, Dict, List, NamedTuple, Optional, Sequence, Set, Tuple
 
 _u8, _u32, _u64, _size = ctypes.c_uint8, ctypes.c_uint32, ctypes.c_uint64, ctypes.c_size_t
 
@@ -62,6 +62,7 @@ class Status(enum.IntEnum):
     NOT_YET = 49
     BUSY = 50
     SPENT = 51
+    NOT_READY = 52
     EMPTY_FIS = 64
     UNKNOWN_TYPE = 65
     WRONG_FIS_LENGTH = 66
@@ -253,6 +254,14 @@ class Fis(NamedTuple):
     tag: int = 0
 
 
+def _copied_state(found: _State) -> State:
+    registers = {name: getattr(found, name) for name in _REGISTERS}
+    return State(
+        found.first, found.next, tuple(found.numbers), found.depth, found.sectors, found.halted, found.issued, found.accepted,
+        found.held, registers, bytes(found.received), tuple(found.phases),
+    )
+
+
 _port = ctypes.POINTER(_Place)
 _ARGUMENTS = {
     "new": [_port, ctypes.c_char_p, _size, _u32],
@@ -294,17 +303,26 @@ _ALONE = {
     "status_text": [_u32, ctypes.c_char_p, _size, ctypes.POINTER(_size)],
     "version": [],
 }
+_CALLS: Dict[str, List[Any]] = {**{f"port_{name}": kinds for name, kinds in _ARGUMENTS.items()}, **_ALONE}
 _library: Optional[ctypes.CDLL] = None
+_known: Set[str] = set()
 
 
-def _loaded() -> ctypes.CDLL:
+def _library_with(calls: Dict[str, List[Any]]) -> ctypes.CDLL:
+    """The library, in which these calls have their arguments."""
     global _library
     if _library is None:
         _library = ctypes.CDLL(os.environ.get("AHCI_LIBRARY", "libahci.so.0"))
-        for name, arguments in [*((f"port_{it}", kinds) for it, kinds in _ARGUMENTS.items()), *_ALONE.items()]:
+    if not _known.issuperset(calls):
+        _known.update(calls)
+        for name, arguments in calls.items():
             call = getattr(_library, f"ahci_{name}")
             call.argtypes, call.restype = arguments, _u32
     return _library
+
+
+def _loaded() -> ctypes.CDLL:
+    return _library_with(_CALLS)
 
 
 def _done(status: int) -> None:
@@ -489,11 +507,7 @@ class Port:
         """All that can be seen of the port at once."""
         found = _State()
         self._call("state", ctypes.byref(found))
-        registers = {name: getattr(found, name) for name in _REGISTERS}
-        return State(
-            found.first, found.next, tuple(found.numbers), found.depth, found.sectors, found.halted, found.issued, found.accepted,
-            found.held, registers, bytes(found.received), tuple(found.phases),
-        )
+        return _copied_state(found)
 
 
 def _alone(name: str, size: int, *arguments: object) -> bytes:

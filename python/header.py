@@ -5,6 +5,7 @@ import re
 from typing import Dict, List
 
 import ahci
+import ahci_hba
 
 HEADER = os.path.join(os.path.dirname(os.path.dirname(os.path.abspath(__file__))), "c", "ahci.h")
 with open(HEADER, encoding="ascii") as text:
@@ -12,7 +13,8 @@ with open(HEADER, encoding="ascii") as text:
 KINDS = {"uint8_t": ctypes.c_uint8, "uint16_t": ctypes.c_uint16, "uint32_t": ctypes.c_uint32, "uint64_t": ctypes.c_uint64, "size_t": ctypes.c_size_t,
          "bool": ctypes.c_bool}
 STRUCTS = {"port": ahci._Place, "stepped": ahci._Stepped, "reply": ahci._Reply, "slot": ahci._Slot, "tag_sets": ahci._Sets, "entry": ahci._Entry,
-           "written": ahci._Written, "state": ahci._State, "fis": ahci._Fis, "command": ahci._Command}
+           "written": ahci._Written, "state": ahci._State, "fis": ahci._Fis, "command": ahci._Command, "hba": ahci_hba._Place,
+           "hba_state": ahci_hba._Look}
 
 
 def numbers_of(name: str) -> Dict[str, int]:
@@ -37,8 +39,10 @@ def arguments_of(words: str) -> List[object]:
     return [kind_of(name, star == "*") for name, star in re.findall(r"(?:const )?(\w+) (\*?)\w+(?:, |$)", words)] if words != "void" else []
 
 
-assert {it.name: it.value for it in ahci.Status} == numbers_of("status") and len(ahci.Status) == 47
+assert {it.name: it.value for it in ahci.Status} == numbers_of("status") and len(ahci.Status) == 48
 assert {f"EVENT_{it.name}": it.value for it in ahci.Event} == numbers_of("event") and len(ahci.Event) == 11
+assert {f"WANT_{it.name}": it.value for it in ahci_hba.Want} == numbers_of("want")
+assert {f"STEP_{it.name}": it.value for it in ahci_hba.Step} == numbers_of("hba_step_kind")
 
 structs = dict((name, fields) for fields, name in re.findall(r"typedef struct \w+ {(.*?)} ahci_(\w+);", told, re.S))
 assert sorted(structs) == sorted(STRUCTS)
@@ -50,5 +54,5 @@ for name, fields in structs.items():
     assert listed == list(STRUCTS[name]._fields_), name
 
 calls = {name: arguments_of(words) for name, words in re.findall(r"^uint32_t ahci_(\w+)\((.*)\);$", told, re.M)}
-assert calls == {**{f"port_{name}": kinds for name, kinds in ahci._ARGUMENTS.items()}, **ahci._ALONE}
+assert calls == {**ahci._CALLS, **ahci_hba._CALLS}
 print(f"{len(calls)} calls, {len(structs)} structs and {len(ahci.Status)} statuses: those of c/ahci.h")

@@ -21,7 +21,8 @@ ALONE = "crates/ahci_c/src/alone.rt"
 STATUS = "crates/ahci_ffi/src/status.rt"
 PYTHON = "python/ahci.py"
 PLACE = "crates/ahci_ffi/src/place.rt"
-READ = ["tools/check_header", HEADER, PYTHON, "crates/ahci_c/src", "crates/ahci_ffi/src"]
+HBA_PLACE = "crates/hba_ffi/src/place.rt"
+READ = ["tools/check_header", HEADER, PYTHON, "crates/ahci_c/src", "crates/ahci_ffi/src", "crates/hba_ffi/src"]
 
 Change = Tuple[str, str, str]  # a file, an old text that stands there once, and the new one
 
@@ -60,7 +61,7 @@ class CheckHeader(unittest.TestCase):
         with open(os.path.join(TOP, HEADER), encoding="utf-8") as it:
             header = it.read()
         statuses = header.partition("typedef enum ahci_status {")[2].partition("}")[0].count(" = ")
-        self.assertRegex(output, rf"^check_header: \d+ calls, 9 structs and {statuses} statuses agree\n$")
+        self.assertRegex(output, rf"^check_header: \d+ calls, 10 structs and {statuses} statuses agree\n$")
 
     def test_a_call_that_is_not_exported_is_told(self) -> None:
         self.differs([(HEADER, "uint32_t ahci_version(void);", "uint32_t ahci_version(void);\nuint32_t ahci_revision(void);")], "ahci_revision: ")
@@ -94,11 +95,16 @@ class CheckHeader(unittest.TestCase):
 
     def test_the_place_of_a_port_is_compared(self) -> None:
         changes = [(HEADER, "    bool full;\n    bool stopped;\n", "    bool stopped;\n    bool full;\n"), (HEADER, "    uint32_t announced;", "    uint64_t announced;"),
-                   (HEADER, "    void *at;\n", ""), (PLACE, "    announced: u32,", "    announced: u64,"), (PLACE, "    held: Held,", "    held: u64,"),
+                   (HEADER, "typedef struct ahci_port {\n    void *at;\n", "typedef struct ahci_port {\n"), (PLACE, "    announced: u32,", "    announced: u64,"), (PLACE, "    held: Held,", "    held: u64,"),
                    (PLACE, "    stopped: bool,", "    stopped: bool,\n    more: bool,")]
         for change in changes:
             self.setUp()
             self.differs([change], "ahci_port: the header has ")
+
+    def test_the_place_of_a_controller_is_compared(self) -> None:
+        for change in [(HEADER, "typedef struct ahci_hba {\n    void *at;\n", "typedef struct ahci_hba {\n"), (HBA_PLACE, "    full: bool,", "    full: u32,")]:
+            self.setUp()
+            self.differs([change], "ahci_hba: the header has ")
 
     def test_the_version_is_compared(self) -> None:
         self.differs([(HEADER, "#define AHCI_VERSION 0x", "#define AHCI_VERSION 0x1")], "AHCI_VERSION is not")

@@ -16,6 +16,8 @@ macro_rules! over {
 }
 
 mod alone;
+mod controlled;
+mod controller;
 mod device;
 mod looking;
 mod making;

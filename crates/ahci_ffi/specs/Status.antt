@@ -61,6 +61,7 @@ code_of status.BadFlag = 67
 code_of status.BadStatus = 68
 code_of status.BadPayload = 69
 code_of status.NotAllowed = 80
+code_of status.NotReady = 52
 code_of (status.Refused reason) = refused_code reason
 
 -- its name, as `ahci replay` writes that of a refusal; "Ok" for what is done
@@ -81,6 +82,7 @@ name_of status.BadFlag = codes "BadFlag"
 name_of status.BadStatus = codes "BadStatus"
 name_of status.BadPayload = codes "BadPayload"
 name_of status.NotAllowed = codes "NotAllowed"
+name_of status.NotReady = codes "NotReady"
 name_of (status.Refused reason) = refusals.name_of reason
 
 -- the answer for a fault, where there is one

@@ -4,11 +4,11 @@ ghost use Rattle.ahci_ffi.specs.Held.{owned_at};
 use std::alloc::Allocator;
 use std::marker::Model;
 
-/// A box taken apart: its pointer and its allocator. It owns what the box owned.
-pub(crate) struct Bare<T, A: Allocator> {
-    pub(crate) typed: *mut T,
-    pub(crate) heap: A,
-    pub(crate) ghost value: { T },
+/// A box taken apart, for those who keep its address for C: its pointer and its allocator. It owns what the box owned.
+pub struct Bare<T, A: Allocator> {
+    pub typed: *mut T,
+    pub heap: A,
+    pub ghost value: { T },
 }
 
 impl<T, A: Allocator> Model for Bare<T, A> {
@@ -17,7 +17,7 @@ impl<T, A: Allocator> Model for Bare<T, A> {
 
 impl<T, A: Allocator> Bare<T, A> {
     /// Takes a box apart.
-    pub(crate) fn of(whole: Box<T, A>) -> Bare<T, A>
+    pub fn of(whole: Box<T, A>) -> Bare<T, A>
     where
         T: Drop,
         ensures { result.value ≡ whole.value }
@@ -27,7 +27,7 @@ impl<T, A: Allocator> Bare<T, A> {
     }
 
     /// The box again.
-    pub(crate) fn whole(self) -> Box<T, A>
+    pub fn whole(self) -> Box<T, A>
         ensures { result.value ≡ self.value }
     {
         let Bare { typed, heap } = self;

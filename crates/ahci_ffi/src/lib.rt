@@ -21,6 +21,7 @@ mod stepping;
 mod windows;
 mod writing;
 
+pub use bare::Bare;
 pub use collecting::collect;
 pub use entries::{entry, entry_bytes};
 pub use fises::{fis_decode, fis_encode};
@@ -32,7 +33,7 @@ pub use held::Held;
 pub use issuing::{issue, submit};
 pub use judging::journal_check;
 pub use looking::{copy, depth, received, register, sectors, slot, tag_sets};
-pub use making::{make, make_zeros};
+pub use making::{make, make_zeros, size_refusal};
 pub use naming::status_text;
 pub use pages::{identify_page, log_page};
 pub use place::Place;

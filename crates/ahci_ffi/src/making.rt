@@ -48,7 +48,7 @@ pub fn make_zeros<A: Allocator + Copy>(
 }
 
 /// Why no port is made of so many bytes, with so many slots, and from this number on.
-fn size_refusal(bytes: usize, depth: u32, first: u64) -> Option<Status>
+pub fn size_refusal(bytes: usize, depth: u32, first: u64) -> Option<Status>
     ensures { result ≡ size_refusal bytes depth first }
 {
     if bytes == 0 || bytes % SECTOR != 0 || bytes / SECTOR > MAX_SECTORS as usize {

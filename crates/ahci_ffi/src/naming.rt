@@ -74,6 +74,7 @@ fn numbered(number: u32) -> Option<Status>
         49 => Status::Refused(Refusal::NotYet),
         50 => Status::Refused(Refusal::Busy),
         51 => Status::Refused(Refusal::Spent),
+        52 => Status::NotReady,
         64 => Status::EmptyFis,
         65 => Status::UnknownType,
         66 => Status::WrongFisLength,

@@ -40,6 +40,8 @@ pub enum Status {
     BadPayload,
     /// An event that can't come where it stands.
     NotAllowed,
+    /// The controller can't take the step now.
+    NotReady,
     /// The port, its disk or its registers refuse it.
     Refused(Refusal),
 }
@@ -66,6 +68,7 @@ impl Status {
             Status::BadStatus => 68,
             Status::BadPayload => 69,
             Status::NotAllowed => 80,
+            Status::NotReady => 52,
             Status::Refused(refusal) => refused_code(refusal),
         }
     }
@@ -91,6 +94,7 @@ impl Status {
             Status::BadStatus => "BadStatus",
             Status::BadPayload => "BadPayload",
             Status::NotAllowed => "NotAllowed",
+            Status::NotReady => "NotReady",
             Status::Refused(refusal) => refusal.name(),
         }
     }

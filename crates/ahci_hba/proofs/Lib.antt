@@ -5,3 +5,4 @@ pub mod NewLemmas
 pub mod RecoveringLemmas
 pub mod SendingLemmas
 pub mod ServeLemmas
+pub mod SteppingLemmas

@@ -7,3 +7,4 @@ pub mod Delivering
 pub mod Executing
 pub mod Resetting
 pub mod Recovering
+pub mod Stepping

@@ -9,6 +9,7 @@ mod queueing;
 mod recovering;
 mod resetting;
 mod sending;
+mod stepping;
 mod writing;
 
 ghost use Rattle.std.specs.Prelude.{◌≡◌, ◌≤◌, None, IfOk, OnOk, replicate};
@@ -111,6 +112,13 @@ impl<A: Allocator> Hba<A> {
         ensures { result ≡ read_of self.now.registers offset size }
     {
         self.registers.read(offset, size)
+    }
+
+    /// The queue depth that IDENTIFY DEVICE tells.
+    pub fn depth(&self) -> u32
+        ensures { result ≡ self.now.depth }
+    {
+        self.depth
     }
 
     /// The level of the interrupt line, to be asked for after each call.

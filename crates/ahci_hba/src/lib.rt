@@ -9,6 +9,7 @@ mod command;
 mod ending;
 mod fault;
 mod hba;
+mod step;
 mod want;
 mod work;
 
@@ -17,4 +18,5 @@ pub use ending::Ending;
 pub use fault::HbaFault;
 pub use hba::Hba;
 pub use hba_regs::AccessSize;
+pub use step::Step;
 pub use want::Want;

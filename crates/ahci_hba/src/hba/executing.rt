@@ -1,8 +1,9 @@
 //! What the device does with a command that is not queued (ACS-3, by the commands' titles).
 
-ghost use Rattle.std.specs.Prelude.{◌≡◌, ◌-◌, ◌<◌, ◌^◌, ◌&&◌, true, None, OnErr, OnOk, slice_set};
-ghost use Rattle.ahci_hba.specs.Queueing.{command_at, is_ready, list_in, task_in};
-ghost use Rattle.ahci_port.specs.PortView.{sectors_in};
+ghost use Rattle.std.specs.Prelude.{◌≡◌, ◌-◌, ◌<◌, ◌^◌, true, None, IfErr, OnErr, OnOk, slice_set};
+ghost use Rattle.ahci_hba.specs.Queueing.{command_at, list_in, task_in};
+ghost use Rattle.ahci_hba.specs.Stepping.{fault_if, is_answered, is_answered_at, may_execute};
+ghost use Rattle.ahci_port.specs.{Faults.{plain_refusal}, PortView.{sectors_in}};
 ghost use Rattle.ahci_hba.specs.Executing.{Flushes, Identifies, IsExecuted, aborted, answer_to_task, concluded, d2h_fis, is_aborted, is_alone_fetched, is_simple, log_page, paged, reads_error_log, signed, simple_answer, verified};
 
 use crate::command::Command;
@@ -12,7 +13,6 @@ use crate::hba::Hba;
 use crate::hba::answering::REGISTER;
 use crate::hba::delivering::ending_of;
 use crate::hba::fetching::is_alone;
-use ahci_port::PlainFault;
 use hba_command::{Log, Protocol, Span, Task, controller_page, directory_page, not_queued_page};
 use hba_memory::Scatter;
 use sata_fis::{D2h, Fis};
@@ -162,6 +162,45 @@ impl<A: Allocator> Hba<A> {
         }
     }
 
+    /// Whether the device answers a command itself: it aborts it, or it moves no sectors.
+    fn is_answered(&self, task: &Task) -> bool
+        ensures { result ≡ is_answered self.now task.now }
+    {
+        match task {
+            Task::Queue(_) => self.port.halted(),
+            Task::Control { .. } => false,
+            Task::Read(span, _) | Task::Write(span, _) => {
+                self.is_aborted(task) || !self.is_on(span)
+            }
+            Task::Identify | Task::Flush => self.is_aborted(task)
+                || self.port.plain_fault().is_none(),
+            Task::ReadLog(Log::QueuedError, _) => self.is_queueing() || !self.port.halted(),
+            _ => true,
+        }
+    }
+
+    /// Whether the device answers the command of a slot, below 32, now: it aborts it, or executes it without a move of sectors.
+    pub fn may_execute(&self, slot: u8) -> bool
+        requires { slot < 32 }
+        ensures { result ≡ may_execute self.now slot }
+    {
+        self.is_ready() && self.is_answered_at(slot)
+    }
+
+    /// Whether a slot, below 32, has a command that was read and that the device answers itself.
+    fn is_answered_at(&self, slot: u8) -> bool
+        requires { slot < 32 }
+        ensures { result ≡ is_answered_at self.now (command_at self.now slot) }
+    {
+        match &self.slots[usize::from(slot)] {
+            Some(slot) => match &slot.command {
+                Command::Fetched(task, _, _) => self.is_answered(task),
+                Command::Sent(_, _) => false,
+            },
+            None => false,
+        }
+    }
+
     /// What the command of a slot, below 32, asks.
     fn task_in(&self, slot: u8) -> Task
         requires { slot < 32 }
@@ -174,14 +213,6 @@ impl<A: Allocator> Hba<A> {
             },
             None => Task::Unknown,
         }
-    }
-}
-
-/// The controller's fault if the port refuses a command that is not queued.
-fn plain_fault(fault: PlainFault) -> HbaFault {
-    match fault {
-        PlainFault::OutOfMemory => HbaFault::OutOfMemory,
-        _ => HbaFault::NotReady,
     }
 }
 
@@ -208,11 +239,12 @@ impl<A: Allocator + Copy> Hba<A> {
         self.answer(posting, ending_of(slot, &task));
     }
 
-    /// IDENTIFY DEVICE.
+    /// IDENTIFY DEVICE, which the port takes.
     fn identify(&mut self, slot: u8) -> Result<(), HbaFault>
-        requires { slot < 32 }
+        requires slot { slot < 32 }
+        requires taken { plain_refusal self.old.port ≡ None }
         ensures ok { OnOk result (Identifies slot (list_in (command_at self.old slot)) self.old self.new) }
-        ensures err { OnErr result (self.new ≡ self.old) }
+        ensures err { IfErr result (λ e. (e ≡ HbaFault.OutOfMemory) × (self.new ≡ self.old)) }
     {
         let page = controller_page(self.port.sectors(), self.depth);
         let Ok(page) = Vec::from_slice(self.alloc, &page) else {
@@ -223,19 +255,20 @@ impl<A: Allocator + Copy> Hba<A> {
                 self.give_page(slot, Protocol::Pio, page);
                 Ok(())
             }
-            Err(fault) => Err(plain_fault(fault)),
+            Err(_lacking) => Err(HbaFault::OutOfMemory),
         }
     }
 
-    /// FLUSH CACHE, with EXT or without.
+    /// FLUSH CACHE, with EXT or without, which the port takes.
     fn flush(&mut self, slot: u8) -> Result<(), HbaFault>
-        requires { slot < 32 }
+        requires slot { slot < 32 }
+        requires taken { plain_refusal self.old.port ≡ None }
         ensures ok { OnOk result (Flushes slot self.old self.new) }
-        ensures err { OnErr result (self.new ≡ self.old) }
+        ensures err { IfErr result (λ e. (e ≡ HbaFault.OutOfMemory) × (self.new ≡ self.old)) }
     {
-        if let Err(fault) = self.port.flush() {
-            return Err(plain_fault(fault));
-        }
+        let Ok(()) = self.port.flush() else {
+            return Err(HbaFault::OutOfMemory);
+        };
         self.conclude(slot, d2h_fis(0x40, 0, 0, 0));
         Ok(())
     }
@@ -244,7 +277,7 @@ impl<A: Allocator + Copy> Hba<A> {
     fn read_log(&mut self, slot: u8, log: Log, protocol: Protocol) -> Result<(), HbaFault>
         requires { slot < 32 }
         ensures ok { OnOk result (self.new ≡ paged self.old slot protocol (list_in (command_at self.old slot)) (log_page log)) }
-        ensures err { OnErr result (self.new ≡ self.old) }
+        ensures err { IfErr result (λ e. (e ≡ HbaFault.OutOfMemory) × (self.new ≡ self.old)) }
     {
         let Ok(page) = Vec::from_slice(self.alloc, &log_page(log)) else {
             return Err(HbaFault::OutOfMemory);
@@ -253,18 +286,17 @@ impl<A: Allocator + Copy> Hba<A> {
         Ok(())
     }
 
-    /// The device executes the command of a slot, below 32, that is not queued and moves no sectors, or aborts it.
+    /// The device answers the command of a slot, below 32: it executes one that is not queued and moves no sectors, or it aborts the command.
     ///
     /// # Errors
-    /// `OutOfMemory` if an allocation failed; it may be tried again. `NotReady` if the slot has no such command that was read, if it reads the
-    /// log of a failed command, or if something is read or written just now. Nothing has changed.
+    /// `NotReady` exactly if `may_execute` is false; else `OutOfMemory` if an allocation failed, and it can be tried again. Nothing has changed.
     pub fn execute(&mut self, slot: u8) -> Result<(), HbaFault>
         requires { slot < 32 }
-        ensures ready { OnOk result ((is_ready self.old && is_alone_fetched (command_at self.old slot)) ≡ true) }
+        ensures ready { OnOk result (may_execute self.old slot ≡ true) }
         ensures ok { OnOk result (IsExecuted slot self.old self.new) }
-        ensures err { OnErr result (self.new ≡ self.old) }
+        ensures err { IfErr result (λ e. (e ≡ fault_if (may_execute self.old slot)) × (self.new ≡ self.old)) }
     {
-        if !self.is_ready() || !self.is_alone_fetched(slot) {
+        if !self.may_execute(slot) {
             return Err(HbaFault::NotReady);
         }
         let task = self.task_in(slot);
@@ -273,14 +305,11 @@ impl<A: Allocator + Copy> Hba<A> {
             self.conclude(slot, fis);
             return Ok(());
         }
-        if self.port.halted() {
-            return Err(HbaFault::NotReady); // `recover` reads the log
-        }
         match task {
             Task::Identify => self.identify(slot),
             Task::Flush => self.flush(slot),
             Task::ReadLog(log, protocol) => self.read_log(slot, log, protocol),
-            _ => Err(HbaFault::NotReady),
+            _ => unreachable!(), // it is sent, or it is a control FIS
         }
     }
 }

@@ -32,7 +32,7 @@ pub(super) fn is_sent<A: Allocator>(slot: &Option<Slot<A>>) -> bool
 }
 
 /// Whether a slot has a queued command.
-fn has_queued<A: Allocator>(slot: &Option<Slot<A>>) -> bool
+pub(super) fn has_queued<A: Allocator>(slot: &Option<Slot<A>>) -> bool
     ensures { result ≡ has_queued slot.now }
 {
     match slot {

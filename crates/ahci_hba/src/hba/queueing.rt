@@ -1,15 +1,19 @@
 //! What the device does with a queued command: it takes it, serves it or fails it (AHCI 1.3.1, section 5.3; Serial ATA, "First-party DMA").
 
-ghost use Rattle.std.specs.Prelude.{◌≡◌, ◌<◌, true, None, OnErr, OnOk, slice_set};
-ghost use Rattle.ahci_hba.specs.Queueing.{IsAccepted, IsFailed, IsServed, accepting, after_acceptance, command_at, has_alone, is_ready, is_taken, list_in, task_in};
+ghost use Rattle.std.specs.Prelude.{◌≡◌, ◌<◌, false, true, None, IfErr, OnOk, slice_set};
+ghost use Rattle.ncq_journal.specs.{Phase.{phase}, Request.{request}};
+ghost use Rattle.ahci_port.specs.Faults.{is_of_request};
+ghost use Rattle.ahci_hba.specs.Queueing.{IsAccepted, IsFailed, IsServed, accepting, after_acceptance, command_at, has_alone, has_queued, is_taken, list_in, task_in};
+ghost use Rattle.ahci_hba.specs.Stepping.{is_taken_up, is_waiting, may_accept, may_fail, may_serve};
 
 use crate::command::Command;
 use crate::ending::Ending;
 use crate::fault::HbaFault;
 use crate::hba::Hba;
 use crate::hba::answering::{REGISTER, SET_BITS};
+use crate::hba::fetching::has_queued;
 use crate::work::Work;
-use ahci_port::{DeviceStep, Stepped};
+use ahci_port::{DeviceStep, Phase, Stepped};
 use hba_command::{PrdEntry, Task};
 use std::alloc::Allocator;
 
@@ -40,6 +44,50 @@ fn is_taken(stepped: Stepped) -> bool
     matches!(stepped, Stepped::Accepted(_))
 }
 
+impl<A: Allocator> Hba<A> {
+    /// Whether the command of a slot, below 32, is with the port and waits for the device; after a failure none does.
+    fn is_waiting(&self, slot: u8) -> bool
+        requires { slot < 32 }
+        ensures { result ≡ is_waiting self.now slot }
+    {
+        self.is_sent(slot) && !self.port.halted() && matches!(self.port.phase(slot), Phase::Issued)
+    }
+
+    /// Whether the device has taken the command of a slot, below 32; after a failure it has none.
+    fn is_taken_up(&self, slot: u8) -> bool
+        requires { slot < 32 }
+        ensures { result ≡ is_taken_up self.now slot }
+    {
+        self.is_sent(slot)
+            && !self.port.halted()
+            && matches!(self.port.phase(slot), Phase::Accepted)
+    }
+
+    /// Whether the command of a slot, below 32, is queued.
+    fn has_queued(&self, slot: u8) -> bool
+        requires { slot < 32 }
+        ensures { result ≡ has_queued (command_at self.now slot) }
+    {
+        has_queued(&self.slots[usize::from(slot)])
+    }
+
+    /// Whether the device can take the command of a slot, below 32: it is with the port and waits for the device, and the device may move.
+    pub fn may_accept(&self, slot: u8) -> bool
+        requires { slot < 32 }
+        ensures { result ≡ may_accept self.now slot }
+    {
+        self.is_ready() && self.is_waiting(slot)
+    }
+
+    /// Whether the device can serve the command of a slot, below 32: it has taken it, and may move.
+    pub fn may_serve(&self, slot: u8) -> bool
+        requires { slot < 32 }
+        ensures { result ≡ may_serve self.now slot }
+    {
+        self.is_ready() && self.is_taken_up(slot)
+    }
+}
+
 impl<A: Allocator + Copy> Hba<A> {
     /// Takes the command out of a slot, below 32, and leaves it empty; what it asks and its PRDT are the answer.
     pub(super) fn take_command(&mut self, slot: u8) -> (Task, Vec<PrdEntry, A>)
@@ -61,21 +109,22 @@ impl<A: Allocator + Copy> Hba<A> {
     /// in the controller until `deliver` puts it together. Nothing is allocated.
     ///
     /// # Errors
-    /// `NotReady` if the device has not taken the command, or if something is read or written just now.
+    /// `NotReady` exactly if `may_serve` is false.
     pub fn serve(&mut self, slot: u8) -> Result<(), HbaFault>
         requires { slot < 32 }
-        ensures ready { OnOk result (is_ready self.old ≡ true) }
+        ensures ready { OnOk result (may_serve self.old slot ≡ true) }
         ensures ok { OnOk result (IsServed slot (task_in (command_at self.old slot)) (list_in (command_at self.old slot)) self.old self.new) }
-        ensures err { OnErr result (self.new ≡ self.old) }
+        ensures err { IfErr result (λ e. (e ≡ HbaFault.NotReady) × (may_serve self.old slot ≡ false) × (self.new ≡ self.old)) }
     {
-        if !self.is_ready() || !self.is_sent(slot) {
+        if !self.may_serve(slot) {
             return Err(HbaFault::NotReady);
         }
+        self.port.keeps_its_promise();
         let Some(number) = self.port.owner(slot) else {
-            return Err(HbaFault::NotReady);
+            unreachable!() // an accepted command has a request
         };
         let Ok(_) = self.port.step(DeviceStep::serve_one(slot)) else {
-            return Err(HbaFault::NotReady);
+            unreachable!() // the device has taken it
         };
         let Ok((_, window)) = self.port.collect(slot, number) else {
             unreachable!() // it is done
@@ -89,19 +138,19 @@ impl<A: Allocator + Copy> Hba<A> {
     /// written, and then PxCI loses the slot, or the port halts.
     ///
     /// # Errors
-    /// `NotReady` if the slot has no command with the port that waits for the device, or if something is read or written just now.
+    /// `NotReady` exactly if `may_accept` is false.
     pub fn accept(&mut self, slot: u8) -> Result<(), HbaFault>
         requires { slot < 32 }
-        ensures ready { OnOk result (is_ready self.old ≡ true) }
+        ensures ready { OnOk result (may_accept self.old slot ≡ true) }
         ensures ok { OnOk result (IsAccepted slot (has_alone (command_at self.old slot)) self.old self.new) }
-        ensures err { OnErr result (self.new ≡ self.old) }
+        ensures err { IfErr result (λ e. (e ≡ HbaFault.NotReady) × (may_accept self.old slot ≡ false) × (self.new ≡ self.old)) }
     {
-        if !self.is_ready() || !self.is_sent(slot) {
+        if !self.may_accept(slot) {
             return Err(HbaFault::NotReady);
         }
         let alone = self.has_alone(slot);
         let Ok(stepped) = self.port.step(DeviceStep::Accept(slot)) else {
-            return Err(HbaFault::NotReady);
+            unreachable!() // it waits
         };
         self.answer_acceptance(slot, alone, stepped);
         Ok(())
@@ -120,18 +169,18 @@ impl<A: Allocator + Copy> Hba<A> {
         self.answer(posting, accepting(slot, stepped));
     }
 
-    /// The device fails the queued command of a slot, below 32, with an error byte at one of its sectors: a Set Device Bits FIS is written,
-    /// and then the port halts.
+    /// The device fails the queued command of a slot, below 32, that it has taken, with an error byte at one of its sectors: a Set Device Bits
+    /// FIS is written, and then the port halts.
     ///
     /// # Errors
-    /// `NotReady` if the device has not taken the command, if the sector is not one of its own, or if something is read or written just now.
+    /// `NotReady` exactly if `may_fail` is false.
     pub fn fail(&mut self, slot: u8, error: u8, lba: u64) -> Result<(), HbaFault>
         requires { slot < 32 }
-        ensures ready { OnOk result (is_ready self.old ≡ true) }
+        ensures ready { OnOk result (may_fail self.old slot lba ≡ true) }
         ensures ok { OnOk result (IsFailed slot error lba self.old self.new) }
-        ensures err { OnErr result (self.new ≡ self.old) }
+        ensures err { IfErr result (λ e. (e ≡ HbaFault.NotReady) × (may_fail self.old slot lba ≡ false) × (self.new ≡ self.old)) }
     {
-        if !self.is_ready() || !self.is_sent(slot) {
+        if !self.may_serve(slot) || !self.has_queued(slot) {
             return Err(HbaFault::NotReady);
         }
         let step = DeviceStep::Fail {
@@ -140,7 +189,7 @@ impl<A: Allocator + Copy> Hba<A> {
             at: lba,
         };
         let Ok(_) = self.port.step(step) else {
-            return Err(HbaFault::NotReady);
+            return Err(HbaFault::NotReady); // it is no sector of the command
         };
         let fis = self.fis_put(SET_BITS, 8);
         let posting = self.only_after(fis);

@@ -1,7 +1,8 @@
 //! How a driver reads the log of a failed queued command (AHCI 1.3.1, section 6.2.2; ACS-3, "NCQ Command Error log").
 
-ghost use Rattle.std.specs.Prelude.{◌≡◌, ◌<◌, ◌≤◌, true, [], IfOk, OnErr, OnOk, vec_capacity};
-ghost use Rattle.ahci_hba.specs.Queueing.{command_at, is_ready};
+ghost use Rattle.std.specs.Prelude.{◌≡◌, ◌<◌, ◌≤◌, true, [], IfErr, IfOk, OnErr, OnOk, vec_capacity};
+ghost use Rattle.ahci_hba.specs.Queueing.{command_at};
+ghost use Rattle.ahci_hba.specs.Stepping.{fault_if, may_recover};
 ghost use Rattle.ahci_hba.specs.Recovering.{CollectsFailed, ReadsErrorLog, error_log_in, error_page};
 
 use crate::command::Command;
@@ -45,6 +46,18 @@ impl<A: Allocator> Hba<A> {
             None => None,
         }
     }
+
+    /// Whether the device reads the log of failed queued commands for the command of a slot, below 32, now: one has failed, and no queued command
+    /// is outstanding.
+    pub fn may_recover(&self, slot: u8) -> bool
+        requires { slot < 32 }
+        ensures { result ≡ may_recover self.now slot }
+    {
+        self.is_ready()
+            && self.error_log_in(slot).is_some()
+            && self.port.halted()
+            && !self.is_queueing()
+    }
 }
 
 /// The port recovers, and the failed request is collected: its tag and its reply.
@@ -69,27 +82,24 @@ impl<A: Allocator + Copy> Hba<A> {
     /// journal that it hands out is the answer.
     ///
     /// # Errors
-    /// `OutOfMemory` if an allocation failed; it may be tried again. `NotReady` if the slot has no such command that was read, if no
-    /// queued command has failed, or if something is read or written just now. Nothing has changed.
+    /// `NotReady` exactly if `may_recover` is false; else `OutOfMemory` if an allocation failed, and it can be tried again. Nothing has changed.
     pub fn recover(&mut self, slot: u8) -> Result<Option<Journal<A>>, HbaFault>
         requires { slot < 32 }
-        ensures ready { OnOk result (is_ready self.old ≡ true) }
+        ensures ready { OnOk result (may_recover self.old slot ≡ true) }
         ensures ok { IfOk result (λ j. ReadsErrorLog slot self.old self.new j) }
-        ensures err { OnErr result (self.new ≡ self.old) }
+        ensures err { IfErr result (λ e. (e ≡ fault_if (may_recover self.old slot)) × (self.new ≡ self.old)) }
     {
-        if !self.is_ready() {
+        if !self.may_recover(slot) {
             return Err(HbaFault::NotReady);
         }
         let Some(protocol) = self.error_log_in(slot) else {
-            return Err(HbaFault::NotReady);
+            unreachable!() // it reads that log
         };
         let Ok(page) = Vec::with_capacity(self.alloc, 512) else {
             return Err(HbaFault::OutOfMemory);
         };
-        let (tag, reply) = match recover(&mut self.port) {
-            Ok(recovered) => recovered,
-            Err(RecoverFault::OutOfMemory) => return Err(HbaFault::OutOfMemory),
-            Err(RecoverFault::NotHalted) => return Err(HbaFault::NotReady),
+        let Ok((tag, reply)) = recover(&mut self.port) else {
+            return Err(HbaFault::OutOfMemory); // the port is halted
         };
         let journal = reset(&mut self.port);
         self.give_page(

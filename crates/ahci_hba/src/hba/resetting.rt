@@ -1,9 +1,10 @@
 //! What the device does by itself or when it is reset by software (AHCI 1.3.1, sections 10.1 and 10.4.1).
 
-ghost use Rattle.std.specs.Prelude.{◌≡◌, ◌<◌, ◌^◌, ◌&&◌, true, false, is_some, OnErr, OnOk, IfOk};
+ghost use Rattle.std.specs.Prelude.{◌≡◌, ◌<◌, ◌^◌, true, false, IfErr, OnErr, OnOk, IfOk};
 ghost use Rattle.ahci_hba.specs.Dropping.{handed_out, is_reset};
-ghost use Rattle.ahci_hba.specs.Executing.{concluded, is_alone_fetched, refused};
-ghost use Rattle.ahci_hba.specs.Queueing.{command_at, is_ready};
+ghost use Rattle.ahci_hba.specs.Executing.{concluded, refused};
+ghost use Rattle.ahci_hba.specs.Queueing.{command_at};
+ghost use Rattle.ahci_hba.specs.Stepping.{may_control, may_refuse};
 ghost use Rattle.ahci_hba.specs.Resetting.{IsControlled, control_in, controlled, may_sign, signature, signing};
 ghost use Rattle.hba_regs.specs.declared.consequence.Consequence.TheVariants.{LinkReset};
 
@@ -55,6 +56,22 @@ impl<A: Allocator> Hba<A> {
         }
     }
 
+    /// Whether the device takes the control FIS of a slot, below 32, now.
+    pub fn may_control(&self, slot: u8) -> bool
+        requires { slot < 32 }
+        ensures { result ≡ may_control self.now slot }
+    {
+        self.is_ready() && self.control_in(slot).is_some()
+    }
+
+    /// Whether the device can fail the command of a slot, below 32, that is read and not queued.
+    pub fn may_refuse(&self, slot: u8) -> bool
+        requires { slot < 32 }
+        ensures { result ≡ may_refuse self.now slot }
+    {
+        self.is_ready() && self.is_alone_fetched(slot)
+    }
+
     /// The registers take a control FIS of a slot, below 32.
     fn take_control(&mut self, slot: u8, reset: bool)
         requires { slot < 32 }
@@ -90,13 +107,13 @@ impl<A: Allocator + Copy> Hba<A> {
     /// it is reset, and the journal that it hands out is the answer. After the one that clears SRST the device sends its signature.
     ///
     /// # Errors
-    /// `NotReady` exactly if the slot has no control FIS that was read, if the command list is not processed, or if something is read or written just now.
+    /// `NotReady` exactly if `may_control` is false.
     pub fn control(&mut self, slot: u8) -> Result<Option<Journal<A>>, HbaFault>
         requires { slot < 32 }
-        ensures ready { OnOk result (is_ready self.old ≡ true) }
+        ensures ready { OnOk result (may_control self.old slot ≡ true) }
         ensures ok { OnOk result (IsControlled slot self.old self.new) }
         ensures journal { IfOk result (λ j. j ≡ handed_out (is_reset LinkReset self.old) self.old.port) }
-        ensures err { OnErr result (((is_ready self.old && is_some (control_in (command_at self.old slot))) ≡ false) × (self.new ≡ self.old)) }
+        ensures err { IfErr result (λ e. (e ≡ HbaFault.NotReady) × (may_control self.old slot ≡ false) × (self.new ≡ self.old)) }
     {
         if !self.is_ready() {
             return Err(HbaFault::NotReady);
@@ -114,14 +131,15 @@ impl<A: Allocator + Copy> Hba<A> {
     /// FIS is written, and then the port halts. No sector has changed.
     ///
     /// # Errors
-    /// `NotReady` exactly if the slot has no such command, if the command list is not processed, or if something is read or written just now.
+    /// `NotReady` exactly if `may_refuse` is false.
     pub fn refuse(&mut self, slot: u8, error: u8, lba: u64) -> Result<(), HbaFault>
         requires slot { slot < 32 }
         requires lba { lba < 2 ^ 48 }
-        ensures ok { OnOk result (((is_ready self.old && is_alone_fetched (command_at self.old slot)) ≡ true) × (self.new ≡ concluded self.old slot (refused error lba))) }
-        ensures err { OnErr result (((is_ready self.old && is_alone_fetched (command_at self.old slot)) ≡ false) × (self.new ≡ self.old)) }
+        ensures ready { OnOk result (may_refuse self.old slot ≡ true) }
+        ensures ok { OnOk result (self.new ≡ concluded self.old slot (refused error lba)) }
+        ensures err { IfErr result (λ e. (e ≡ HbaFault.NotReady) × (may_refuse self.old slot ≡ false) × (self.new ≡ self.old)) }
     {
-        if !self.is_ready() || !self.is_alone_fetched(slot) {
+        if !self.may_refuse(slot) {
             return Err(HbaFault::NotReady);
         }
         self.conclude(slot, d2h_fis(0x41, error, lba, 0));

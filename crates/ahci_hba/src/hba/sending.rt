@@ -1,15 +1,18 @@
 //! How a queued command goes to the port.
 
-ghost use Rattle.std.specs.Prelude.{◌≡◌, ◌<◌, ◌&&◌, true, None, Some, OnErr, OnOk, if◌then◌else◌, slice_set};
+ghost use Rattle.std.specs.Prelude.{◌≡◌, ◌<◌, true, None, Some, IfErr, OnOk, if◌then◌else◌, slice_set};
 ghost use Rattle.ncq_journal.specs.Work.{Read, Write, work_of};
+ghost use Rattle.ahci_port.specs.Faults.{op_refusal};
 ghost use Rattle.ahci_hba.specs.HbaView.{Fetched, command_of};
-ghost use Rattle.ahci_hba.specs.Queueing.{IsSent, Sends, asked_for, command_at, goes_to_port, is_fetched, is_on, is_ready, put_back};
+ghost use Rattle.ahci_hba.specs.Queueing.{IsSent, Sends, asked_for, command_at, goes_to_port, is_fetched, is_on, put_back};
+ghost use Rattle.ahci_hba.specs.Stepping.{fault_if, may_send, work_at};
 
 use crate::command::{Command, Slot};
 use crate::fault::HbaFault;
 use crate::hba::Hba;
-use ahci_port::{Bytes, IssueFault, Op, SubmitFault};
+use ahci_port::{Bytes, Op, Port, SubmitFault};
 use hba_command::{PrdEntry, Span, Task};
+use ncq_core::SECTOR;
 use std::alloc::Allocator;
 
 /// What a command asks of the disk, with the bytes of a write, and the bytes that are left.
@@ -54,12 +57,19 @@ fn put_back<A: Allocator>(op: Op<A>, left: Vec<u8, A>) -> Vec<u8, A>
     }
 }
 
-/// The controller's fault if the port refuses a command.
-fn refused(fault: SubmitFault) -> HbaFault {
-    match fault {
-        SubmitFault::Issue(IssueFault::OutOfMemory) => HbaFault::OutOfMemory,
-        _ => HbaFault::NotReady,
+/// Why a port would not take a write of these bytes for a slot, memory aside.
+fn write_fault<A: Allocator>(
+    port: &Port<A>,
+    slot: u8,
+    lba: u64,
+    bytes: &[u8],
+) -> Option<SubmitFault>
+    ensures { result ≡ op_refusal port.now slot (Write lba bytes.now) }
+{
+    if bytes.len() % SECTOR != 0 {
+        return Some(SubmitFault::BadCount);
     }
+    port.submit_fault(slot, lba, (bytes.len() / SECTOR) as u64)
 }
 
 impl<A: Allocator> Hba<A> {
@@ -89,28 +99,66 @@ impl<A: Allocator> Hba<A> {
     }
 }
 
+impl<A: Allocator> Hba<A> {
+    /// Why the port would not take the command of a slot, below 32, memory aside.
+    fn submit_fault(&self, slot: u8) -> Option<SubmitFault>
+        requires { slot < 32 }
+        ensures { result ≡ op_refusal self.now.port slot (work_at (command_at self.now slot)) }
+    {
+        let Some(read) = &self.slots[usize::from(slot)] else {
+            return self.port.submit_fault(slot, 0, 0);
+        };
+        match &read.command {
+            Command::Fetched(Task::Queue(queued), _, bytes) if queued.write => {
+                write_fault(&self.port, slot, queued.lba, bytes)
+            }
+            Command::Fetched(Task::Queue(queued), _, _) => {
+                self.port
+                    .submit_fault(slot, queued.lba, u64::from(queued.sectors))
+            }
+            Command::Fetched(Task::Read(span, _), _, _) => {
+                self.port
+                    .submit_fault(slot, span.lba, u64::from(span.sectors))
+            }
+            Command::Fetched(Task::Write(span, _), _, bytes) => {
+                write_fault(&self.port, slot, span.lba, bytes)
+            }
+            _ => self.port.submit_fault(slot, 0, 0),
+        }
+    }
+
+    /// Whether the command of a slot, below 32, goes to the port now: `goes_to_port` holds, the port takes it, and the device may move.
+    pub fn may_send(&self, slot: u8) -> bool
+        requires { slot < 32 }
+        ensures { result ≡ may_send self.now slot }
+    {
+        self.is_ready() && self.goes_to_port(slot) && self.submit_fault(slot).is_none()
+    }
+}
+
 impl<A: Allocator + Copy> Hba<A> {
-    /// Sends a command to the port for a slot, below 32; if that fails, it stands in its slot again.
-    pub(super) fn send_command(
+    /// Sends a command that the port takes to it for a slot, below 32; if an allocation fails, it is in its slot again.
+    fn send_command(
         &mut self,
         slot: u8,
         task: Task,
         list: Vec<PrdEntry, A>,
         bytes: Vec<u8, A>,
     ) -> Result<(), HbaFault>
-        requires { slot < 32 }
+        requires slot { slot < 32 }
+        requires taken { op_refusal self.old.port slot (asked_for task bytes.items) ≡ None }
         ensures ok { OnOk result (IsSent slot task list.items bytes.items self.old self.new) }
-        ensures err { OnErr result (self.new ≡ record self.old { slots = slice_set self.old.slots slot (Some (Fetched task list.items bytes.items)) }) }
+        ensures err { IfErr result (λ e. (e ≡ HbaFault.OutOfMemory) × (self.new ≡ record self.old { slots = slice_set self.old.slots slot (Some (Fetched task list.items bytes.items)) })) }
     {
         let (op, left) = asked(self.alloc, &task, bytes);
-        match self.port.submit(slot, op) {
+        match self.port.submit_tested(slot, op) {
             Ok(_) => {
                 self.put(slot, Command::Sent(task, list));
                 Ok(())
             }
-            Err((op, fault)) => {
+            Err(op) => {
                 self.put(slot, Command::Fetched(task, list, put_back(op, left)));
-                Err(refused(fault))
+                Err(HbaFault::OutOfMemory)
             }
         }
     }
@@ -123,17 +171,18 @@ impl<A: Allocator + Copy> Hba<A> {
         self.slots[usize::from(slot)] = Some(Slot { command });
     }
 
-    /// Sends the command of a slot, below 32, to the port, if it goes there: its request stands in the journal, a write with the bytes that were read.
+    /// Sends the command of a slot, below 32, to the port, if it goes there: its request is in the journal then, a write with the bytes that were
+    /// read.
     ///
     /// # Errors
-    /// `OutOfMemory` if an allocation failed; it may be tried again. `NotReady` if `goes_to_port` is false, if the port recovers from a failure, or if something is read or written just now. Nothing has changed.
+    /// `NotReady` exactly if `may_send` is false; else `OutOfMemory` if an allocation failed, and it can be tried again. Nothing has changed.
     pub fn send(&mut self, slot: u8) -> Result<(), HbaFault>
         requires { slot < 32 }
-        ensures ready { OnOk result ((is_ready self.old && goes_to_port self.old (command_at self.old slot)) ≡ true) }
+        ensures ready { OnOk result (may_send self.old slot ≡ true) }
         ensures ok { OnOk result (Sends slot (command_at self.old slot) self.old self.new) }
-        ensures err { OnErr result (self.new ≡ self.old) }
+        ensures err { IfErr result (λ e. (e ≡ fault_if (may_send self.old slot)) × (self.new ≡ self.old)) }
     {
-        if !self.is_ready() || !self.goes_to_port(slot) {
+        if !self.may_send(slot) {
             return Err(HbaFault::NotReady);
         }
         let (task, list, bytes) = self.take_fetched(slot);

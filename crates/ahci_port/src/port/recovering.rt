@@ -102,10 +102,10 @@ impl<A: Allocator> Port<A> {
         Ok(*self.unqueued.page())
     }
 
-    /// Why a command that is not queued is not sent. While the port is not halted, PxSACT has the tags that are issued or
-    /// accepted.
+    /// Why IDENTIFY DEVICE or FLUSH CACHE EXT would not be sent, memory aside. While the port is not halted, PxSACT has the tags that are
+    /// issued or accepted.
     #[tactic(auto, using(word_bits::proofs::BitsLemmas::bits_zero))]
-    fn plain_fault(&self) -> Option<PlainFault>
+    pub fn plain_fault(&self) -> Option<PlainFault>
         ensures { result ≡ plain_refusal self.now }
     {
         if self.halted() {

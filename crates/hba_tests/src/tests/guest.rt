@@ -1,7 +1,7 @@
 //! A guest's memory, and what moves bytes between it and the controller.
 ghost use Rattle.std.specs.Prelude.{◌≡◌, IfSome, length};
 
-use ahci_hba::{Hba, Want};
+use ahci_hba::{Hba, Step, Want};
 use std::alloc::{AllocError, Allocator, Global};
 
 /// Addresses with memory: the first one, and how many there are.
@@ -96,24 +96,21 @@ pub fn settle<A: Allocator + Copy>(hba: &mut Hba<A>, guest: &mut Guest) {
     }
 }
 
-/// Lets the device read the command of a slot and take it.
+/// Lets the disk read the command of a slot, and take it if it moves sectors.
 pub fn take<A: Allocator + Copy>(hba: &mut Hba<A>, guest: &mut Guest, slot: u8) {
     let slot = slot % 32;
-    let _ = hba.fetch(slot);
-    settle(hba, guest);
-    let _ = hba.send(slot);
-    let _ = hba.accept(slot);
-    settle(hba, guest);
+    for _ in 0..3 {
+        if let Some(Step::Fetch | Step::Send | Step::Accept) = hba.next(slot) {
+            let _ = hba.step(slot);
+        }
+        settle(hba, guest);
+    }
 }
 
-/// Lets the device end the command of a slot.
+/// Lets the disk take each step with the command of a slot.
 pub fn end<A: Allocator + Copy>(hba: &mut Hba<A>, guest: &mut Guest, slot: u8) {
-    let slot = slot % 32;
-    let _ = hba.serve(slot);
-    let _ = hba.deliver();
-    settle(hba, guest);
-    let _ = hba.recover(slot);
-    let _ = hba.control(slot);
-    let _ = hba.execute(slot);
-    settle(hba, guest);
+    for _ in 0..5 {
+        let _ = hba.step(slot % 32);
+        settle(hba, guest);
+    }
 }

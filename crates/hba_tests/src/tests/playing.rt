@@ -185,10 +185,7 @@ pub fn acts<A: Allocator + Copy>(hba: &mut Hba<A>, guest: &mut Guest, row: Row) 
             settle(hba, guest);
         }
         Row::Takes(slot) => take(hba, guest, slot),
-        Row::Does(slot) => {
-            take(hba, guest, slot);
-            end(hba, guest, slot);
-        }
+        Row::Does(slot) => end(hba, guest, slot),
         Row::Fails(slot, error, lba) => {
             let _ = hba.fail(slot % 32, error, lba);
             settle(hba, guest);

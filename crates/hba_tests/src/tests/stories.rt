@@ -100,8 +100,18 @@ const FAILED: &[Row] = &[
     Has(RECEIVED + 0x58, &[0xA1, 0x40, 0x41, 0x40, 0, 0, 0, 0]),
 ];
 
-/// While the log is not read, any other command is aborted.
+/// While the log is not read, any other command is aborted, a queued one too.
 const ABORTED: &[Row] = &[
+    Lays(1, ONE, OTHER, READ, SECTOR),
+    Writes(PX_SACT, 2),
+    Writes(PX_CI, 2),
+    Does(1),
+    Answered(0x41, 4, 0, 0),
+    Reads(PX_TFD, 0x441),
+    Reads(PX_SACT, 2),
+    Writes(PX_CMD, 0x10),
+    Writes(PX_IS, 0xFFFF_FFFF),
+    Writes(PX_CMD, 0x11),
     Lays(0, ONE, TABLE, READ_DMA, SECTOR),
     Writes(PX_CI, 1),
     Does(0),

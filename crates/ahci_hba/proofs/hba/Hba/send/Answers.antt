@@ -1,5 +1,12 @@
-use Rattle.ahci_hba.proofs.SendingLemmas.{on_err, on_ok, sends, stands_again}
+use Rattle.std.proofs.Common.{ap, sym, ◌∙◌}
+use Rattle.ahci_hba.specs.Stepping.{fault_if}
+use Rattle.ahci_hba.proofs.SendingLemmas.{on_ok, sends, stands_again}
+use Rattle.ahci_hba.proofs.SteppingLemmas.{if_err, sent_is_taken}
 use Rattle.ahci_hba.proofs.hba.Hba.send.Goals as goal
+
+pub send_command-requires-clause-taken : goal.send_command-requires-clause-taken
+send_command-requires-clause-taken g c =
+    sent_is_taken _ _ c.args.self.now _ c.args.slot _ _ _ (sym c.if-not-may_send.ensures) c.take_fetched-task.ensures.command c.take_fetched-task.ensures.slots
 
 pub returns-clause-ok : goal.returns-clause-ok
 returns-clause-ok g c =
@@ -7,4 +14,7 @@ returns-clause-ok g c =
 
 pub returns-clause-err : goal.returns-clause-err
 returns-clause-err g c =
-    on_err c.send_command.result (λ h. stands_again c.args.slot _ _ _ c.args.self.now _ _ c.take_fetched-task.ensures.command c.take_fetched-task.ensures.slots h) c.send_command.ensures.err
+    if_err c.send_command.result (λ e h. (
+      h.0 ∙ ap fault_if c.if-not-may_send.ensures,
+      stands_again c.args.slot _ _ _ c.args.self.now _ _ c.take_fetched-task.ensures.command c.take_fetched-task.ensures.slots h.1,
+    )) c.send_command.ensures.err

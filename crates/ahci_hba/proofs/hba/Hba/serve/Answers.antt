@@ -1,7 +1,11 @@
 -- The port's step, the answer that was taken, and the slot that was emptied.
-use Rattle.std.proofs.Common.{subst}
+use Rattle.std.proofs.Common.{◌≡◌, true, subst, sym, ◌∙◌}
+use Rattle.ncq_journal.specs.Phase.{phase}
+use Rattle.ahci_port.specs.Faults.{is_accepted}
 use Rattle.ahci_hba.specs.Queueing.{IsServed, command_at, list_in, task_in}
+use Rattle.ahci_hba.proofs.RecoveringLemmas.{accepted_is_owned}
 use Rattle.ahci_hba.proofs.ServeLemmas.{serves}
+use Rattle.ahci_hba.proofs.SteppingLemmas.{serves_accepted}
 use Rattle.ahci_hba.proofs.hba.Hba.serve.Goals as goal
 
 pub returns-clause-ok : goal.returns-clause-ok
@@ -9,3 +13,10 @@ returns-clause-ok g c =
     subst (λ v. IsServed c.args.slot (task_in (command_at v c.args.slot)) (list_in (command_at v c.args.slot)) v c.turn_to.new.self) c.self.view_is
     (serves c.args.slot c.in-Some.number _ _ _ _ _ _ _ c.serve_one.result _ _ _ _ c.serve_one.ensures c.in-Ok.ensures.ok c.in-Ok-collect.ensures.ok c.in-Some.ensures c.in-Ok-collect.ensures.reply
     c.take_command-task.ensures.slots c.take_command-task.ensures.task c.take_command-task.ensures.list c.turn_to.ensures)
+
+-- an accepted command has a request
+pub unreachable-requires : goal.unreachable-requires
+unreachable-requires g c =
+    accepted_is_owned c.self.inside.port c.args.slot c.keeps_its_promise.ensures.headline
+    (subst (λ v. is_accepted (phase v.port.past c.args.slot) ≡ true) (sym c.self.view_is) (serves_accepted _ _ c.args.self.now.port c.args.slot (sym c.if-not-may_serve.ensures)))
+    (sym c.owner.ensures ∙ c.in_default.is)

@@ -1,0 +1,120 @@
+-- Which step the device can take next with the command of a slot, and what it does (AHCI 1.3.1, sections 5.3, 6.2.2 and 10.4.1).
+use Rattle.std.specs.Prelude.{◌≡◌, ℕ, Bool, true, false, not, ◌&&◌, ◌||◌, nat_eq, Option, None, Some, is_some, if◌then◌else◌}
+use Rattle.std.specs.List.{list_any}
+use Rattle.hba_command.specs.declared.log.Log.TheVariants.{QueuedError}
+use Rattle.hba_command.specs.declared.task.Task.{Task}
+use Rattle.hba_command.specs.declared.task.Task.TheVariants as task
+use Rattle.ncq_journal.specs.Halted.{halted}
+use Rattle.ncq_journal.specs.History.{History}
+use Rattle.ncq_journal.specs.Phase.{phase}
+use Rattle.ncq_journal.specs.Request.{request}
+use Rattle.ncq_journal.specs.Work.{Work, Read}
+use Rattle.ahci_port.specs.Faults.{is_accepted, is_issued, is_of_request, op_refusal, plain_refusal}
+use Rattle.ahci_hba.specs.Delivering.{answered}
+use Rattle.ahci_hba.specs.Dropping.{handed_out, is_reset}
+use Rattle.ahci_hba.specs.Executing.{IsExecuted, is_aborted, is_alone_fetched}
+use Rattle.ahci_hba.specs.HbaView.{CommandView, Fetched, HbaView, WorkView, Served}
+use Rattle.ahci_hba.specs.Queueing.{IsAccepted, IsServed, Sends, asked_for, command_at, fetching, goes_to_port, has_alone, has_queued, is_on, is_ready, is_sent, list_in, may_fetch, task_in}
+use Rattle.ahci_hba.specs.Recovering.{ReadsErrorLog, error_log_in}
+use Rattle.ahci_hba.specs.Resetting.{IsControlled, control_in}
+use Rattle.hba_regs.specs.declared.consequence.Consequence.TheVariants.{LinkReset}
+use Rattle.ahci_hba.specs.declared.fault.HbaFault.{HbaFault}
+use Rattle.ahci_hba.specs.declared.fault.HbaFault.TheVariants.{NotReady, OutOfMemory}
+use Rattle.ahci_hba.specs.declared.step.Step.{Step}
+use Rattle.ahci_hba.specs.declared.step.Step.TheVariants as step
+
+-- a command that is with the port waits for the device, or the device has taken it; after a failure neither moves
+abbrev pub is_waiting : HbaView → ℕ → Bool
+is_waiting h slot = is_sent (command_at h slot) && (not (halted h.port.past) && is_issued (phase h.port.past slot))
+
+abbrev pub is_taken_up : HbaView → ℕ → Bool
+is_taken_up h slot = is_sent (command_at h slot) && (not (halted h.port.past) && is_accepted (phase h.port.past slot))
+
+abbrev pub may_accept : HbaView → ℕ → Bool
+may_accept h slot = is_ready h && is_waiting h slot
+
+abbrev pub may_serve : HbaView → ℕ → Bool
+may_serve h slot = is_ready h && is_taken_up h slot
+
+-- the device fails a queued command, at one of its sectors
+abbrev pub may_fail : HbaView → ℕ → ℕ → Bool
+may_fail h slot lba = may_serve h slot && (has_queued (command_at h slot) && is_of_request (request h.port.past slot) lba)
+
+-- what a command that was read asks of the disk
+abbrev pub work_at : Option CommandView → Work
+work_at (Some (Fetched t list bytes)) = asked_for t bytes
+work_at other = Read 0 0
+
+-- a command goes to the port, which takes it
+abbrev pub may_send : HbaView → ℕ → Bool
+may_send h slot =
+    is_ready h && (goes_to_port h (command_at h slot) && not (is_some (op_refusal h.port slot (work_at (command_at h slot)))))
+
+abbrev pub may_control : HbaView → ℕ → Bool
+may_control h slot = is_ready h && is_some (control_in (command_at h slot))
+
+-- the log of a failed queued command is read, while no queued one is outstanding
+abbrev pub may_recover : HbaView → ℕ → Bool
+may_recover h slot =
+    is_ready h && (is_some (error_log_in (command_at h slot)) && (halted h.port.past && not (list_any has_queued h.slots)))
+
+-- the device answers a command itself: it aborts it, or it moves no sectors
+abbrev pub is_answered : HbaView → Task → Bool
+is_answered h (task.Queue q) = halted h.port.past
+is_answered h (task.Control reset) = false
+is_answered h (task.Read span p) = is_aborted h (task.Read span p) || not (is_on h.port span)
+is_answered h (task.Write span p) = is_aborted h (task.Write span p) || not (is_on h.port span)
+is_answered h task.Identify = is_aborted h task.Identify || not (is_some (plain_refusal h.port))
+is_answered h task.Flush = is_aborted h task.Flush || not (is_some (plain_refusal h.port))
+is_answered h (task.ReadLog QueuedError p) = list_any has_queued h.slots || not (halted h.port.past)
+is_answered h other = true
+
+-- of a command that is read
+abbrev pub is_answered_at : HbaView → Option CommandView → Bool
+is_answered_at h (Some (Fetched t list bytes)) = is_answered h t
+is_answered_at h other = false
+
+abbrev pub may_execute : HbaView → ℕ → Bool
+may_execute h slot = is_ready h && is_answered_at h (command_at h slot)
+
+-- the device fails a command that is read and not queued
+abbrev pub may_refuse : HbaView → ℕ → Bool
+may_refuse h slot = is_ready h && is_alone_fetched (command_at h slot)
+
+-- the port has done the command of this slot, and its answer is to be put together
+abbrev pub is_served_for : WorkView → ℕ → Bool
+is_served_for (Served s t window list) slot = nat_eq s slot
+is_served_for other slot = false
+
+-- the next step with the command of a slot: there is one at most but for the order of these lines, which decides
+abbrev pub queue_step : HbaView → ℕ → Option Step
+queue_step h slot =
+    if may_send h slot then Some step.Send
+    else if may_accept h slot then Some step.Accept
+    else if may_serve h slot then Some step.Serve
+    else if is_served_for h.work slot then Some step.Deliver
+    else None
+
+abbrev pub next_step : HbaView → ℕ → Option Step
+next_step h slot =
+    if may_fetch h slot then Some step.Fetch
+    else if may_control h slot then Some step.Control
+    else if may_execute h slot then Some step.Execute
+    else if may_recover h slot then Some step.Recover
+    else queue_step h slot
+
+-- what a step does, and the journal that is handed out if it resets the port
+abbrev pub IsTaken : Step → ℕ → HbaView → HbaView → Option History → Type 0
+IsTaken step.Fetch slot old new journal = (new ≡ fetching old slot) × (journal ≡ None)
+IsTaken step.Send slot old new journal = Sends slot (command_at old slot) old new × (journal ≡ None)
+IsTaken step.Accept slot old new journal = IsAccepted slot (has_alone (command_at old slot)) old new × (journal ≡ None)
+IsTaken step.Serve slot old new journal =
+    IsServed slot (task_in (command_at old slot)) (list_in (command_at old slot)) old new × (journal ≡ None)
+IsTaken step.Deliver slot old new journal = (new ≡ answered old old.work) × (journal ≡ None)
+IsTaken step.Execute slot old new journal = IsExecuted slot old new × (journal ≡ None)
+IsTaken step.Control slot old new journal = IsControlled slot old new × (journal ≡ handed_out (is_reset LinkReset old) old.port)
+IsTaken step.Recover slot old new journal = ReadsErrorLog slot old new journal
+
+-- why a step that is possible fails, and one that is not
+abbrev pub fault_if : Bool → HbaFault
+fault_if possible = if possible then OutOfMemory else NotReady

@@ -1,0 +1,92 @@
+//! Which step the device can take next with the command of a slot, and that step.
+
+ghost use Rattle.std.specs.Prelude.{◌≡◌, ◌<◌, IfErr, IfOk, IsSomeAnd, is_some};
+ghost use Rattle.ahci_hba.specs.Stepping.{IsTaken, fault_if, is_served_for, next_step, queue_step};
+
+use crate::fault::HbaFault;
+use crate::hba::Hba;
+use crate::step::Step;
+use crate::work::Work;
+use ahci_port::Journal;
+use std::alloc::{AllocError, Allocator};
+
+impl<A: Allocator> Hba<A> {
+    /// Whether the port has done the command of a slot, and its answer is to be put together.
+    fn is_served_for(&self, slot: u8) -> bool
+        ensures { result ≡ is_served_for self.now.work slot }
+    {
+        match &self.work {
+            Work::Served(served, _, _, _) => *served == slot,
+            _ => false,
+        }
+    }
+
+    /// The next step with a command that goes to the port.
+    fn queue_step(&self, slot: u8) -> Option<Step>
+        requires { slot < 32 }
+        ensures { result ≡ queue_step self.now slot }
+    {
+        if self.may_send(slot) {
+            Some(Step::Send)
+        } else if self.may_accept(slot) {
+            Some(Step::Accept)
+        } else if self.may_serve(slot) {
+            Some(Step::Serve)
+        } else if self.is_served_for(slot) {
+            Some(Step::Deliver)
+        } else {
+            None
+        }
+    }
+
+    /// The next step that the device can take with the command of a slot, below 32; which slot comes first is the caller's choice. A command
+    /// that may be served may also be failed, and one that is executed, refused.
+    pub fn next(&self, slot: u8) -> Option<Step>
+        requires { slot < 32 }
+        ensures { result ≡ next_step self.now slot }
+    {
+        if self.may_fetch(slot) {
+            Some(Step::Fetch)
+        } else if self.may_control(slot) {
+            Some(Step::Control)
+        } else if self.may_execute(slot) {
+            Some(Step::Execute)
+        } else if self.may_recover(slot) {
+            Some(Step::Recover)
+        } else {
+            self.queue_step(slot)
+        }
+    }
+}
+
+impl<A: Allocator + Copy> Hba<A> {
+    /// Takes the next step with the command of a slot, below 32: that of `next`. The answer is the journal that is handed out if the step
+    /// resets the port.
+    ///
+    /// # Errors
+    /// `NotReady` exactly if `next` names no step; else `OutOfMemory` if an allocation failed, and it can be tried again. Nothing has changed.
+    pub fn step(&mut self, slot: u8) -> Result<Option<Journal<A>>, HbaFault>
+        requires { slot < 32 }
+        ensures ok { IfOk result (λ j. IsSomeAnd (next_step self.old slot) (λ s. IsTaken s slot self.old self.new j)) }
+        ensures err { IfErr result (λ e. (e ≡ fault_if (is_some (next_step self.old slot))) × (self.new ≡ self.old)) }
+    {
+        let Some(step) = self.next(slot) else {
+            return Err(HbaFault::NotReady);
+        };
+        match step {
+            Step::Fetch => self.fetch(slot)?,
+            Step::Send => self.send(slot)?,
+            Step::Accept => self.accept(slot)?,
+            Step::Serve => self.serve(slot)?,
+            Step::Execute => self.execute(slot)?,
+            Step::Deliver => {
+                if let Err(AllocError) = self.deliver() {
+                    return Err(HbaFault::OutOfMemory);
+                }
+            }
+            Step::Control => return self.control(slot),
+            Step::Recover => return self.recover(slot),
+        }
+        Ok(None)
+    }
+}

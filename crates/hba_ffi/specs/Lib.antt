@@ -1,0 +1,5 @@
+pub mod Held
+pub mod PlaceView
+pub mod Over
+pub mod Looking
+pub mod Calls

@@ -1,0 +1,20 @@
+//! What C can do with a controller: a place for one, and each call over it, answered by one status. `ahci_c` exports the calls.
+#![tactic(auto)]
+
+mod flat;
+mod held;
+mod looking;
+mod making;
+mod moving;
+mod place;
+mod registers;
+mod stepping;
+
+pub use flat::FlatHba;
+pub use held::HeldHba;
+pub use looking::{copy, entry, entry_bytes, look, port};
+pub use making::make;
+pub use moving::{bytes, supply, unmapped, written};
+pub use place::HbaPlace;
+pub use registers::{read, write};
+pub use stepping::{fail, refuse, sign, step};

@@ -1,0 +1,53 @@
+//! What the controller reads and writes in the driver's memory.
+
+ghost use Rattle.std.specs.Prelude.{◌≡◌};
+ghost use Rattle.ahci_hba.specs.Moving.{put_done, unmapped};
+ghost use Rattle.hba_ffi.specs.Calls.{AnswersBytes, AnswersSupply};
+
+use ahci_ffi::Status;
+use ahci_hba::Hba;
+use port_refusal::Refusal;
+use std::alloc::Allocator;
+
+/// Supplies the bytes that the controller reads.
+pub fn supply<A: Allocator + Copy>(hba: &mut Hba<A>, bytes: &[u8]) -> Status
+    ensures { AnswersSupply bytes.now result hba.old hba.new }
+{
+    if bytes.len() != hba.read_length() {
+        return Status::WrongLength;
+    }
+    match hba.supply(bytes) {
+        Ok(()) => Status::Done,
+        Err(_) => Status::Refused(Refusal::OutOfMemory),
+    }
+}
+
+/// Copies the bytes that the controller writes.
+pub fn bytes<A: Allocator>(hba: &Hba<A>, out: &mut [u8]) -> Status
+    ensures { AnswersBytes result hba.now out.old out.new }
+{
+    let bytes = hba.bytes();
+    if out.len() != bytes.len() {
+        return Status::WrongLength;
+    }
+    out.copy_from_slice(bytes);
+    Status::Done
+}
+
+/// The bytes that the controller writes are written.
+pub fn written<A: Allocator>(hba: &mut Hba<A>) -> Status
+    ensures done { result ≡ Status.Done }
+    ensures state { hba.new ≡ put_done hba.old hba.old.work }
+{
+    hba.written();
+    Status::Done
+}
+
+/// The address that the controller reads or writes is no memory.
+pub fn unmapped<A: Allocator>(hba: &mut Hba<A>) -> Status
+    ensures done { result ≡ Status.Done }
+    ensures state { hba.new ≡ unmapped hba.old hba.old.work }
+{
+    hba.fail_memory();
+    Status::Done
+}

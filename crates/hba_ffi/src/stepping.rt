@@ -1,0 +1,71 @@
+//! The device's steps with the commands of the slots.
+
+ghost use Rattle.std.specs.Prelude.{◌≡◌};
+ghost use Rattle.hba_ffi.specs.Calls.{AnswersFail, AnswersRefuse, AnswersSign, AnswersStep};
+
+use crate::registers::entries_in;
+use ahci_ffi::Status;
+use ahci_hba::{Hba, HbaFault};
+use ncq_core::LBA_LIMIT;
+use port_refusal::Refusal;
+use std::alloc::Allocator;
+
+/// How many slots there are.
+const SLOTS: u32 = 32;
+
+/// Takes the next step with the command of a slot. `entries` is how many entries the journal has that is handed out, if the step resets
+/// the port.
+pub fn step<A: Allocator + Copy>(hba: &mut Hba<A>, slot: u32, entries: &mut u64) -> Status
+    ensures { AnswersStep slot result hba.old hba.new entries.old entries.new }
+{
+    if slot >= SLOTS {
+        return Status::BadTag;
+    }
+    match hba.step(slot as u8) {
+        Ok(journal) => {
+            *entries = entries_in(&journal);
+            Status::Done
+        }
+        Err(HbaFault::NotReady) => Status::NotReady,
+        Err(HbaFault::OutOfMemory) => Status::Refused(Refusal::OutOfMemory),
+    }
+}
+
+/// The device fails a queued command that it has taken, with an error byte at one of its sectors.
+pub fn fail<A: Allocator + Copy>(hba: &mut Hba<A>, slot: u32, error: u8, lba: u64) -> Status
+    ensures { AnswersFail slot error lba result hba.old hba.new }
+{
+    if slot >= SLOTS {
+        return Status::BadTag;
+    }
+    match hba.fail(slot as u8, error, lba) {
+        Ok(()) => Status::Done,
+        Err(_) => Status::NotReady,
+    }
+}
+
+/// The device fails a command that is read and not queued, with an error byte at an LBA.
+pub fn refuse<A: Allocator + Copy>(hba: &mut Hba<A>, slot: u32, error: u8, lba: u64) -> Status
+    ensures { AnswersRefuse slot error lba result hba.old hba.new }
+{
+    if slot >= SLOTS {
+        return Status::BadTag;
+    }
+    if lba >= LBA_LIMIT {
+        return Status::Refused(Refusal::BadLba);
+    }
+    match hba.refuse(slot as u8, error, lba) {
+        Ok(()) => Status::Done,
+        Err(_) => Status::NotReady,
+    }
+}
+
+/// The device sends its signature.
+pub fn sign<A: Allocator + Copy>(hba: &mut Hba<A>) -> Status
+    ensures { AnswersSign result hba.old hba.new }
+{
+    match hba.sign() {
+        Ok(()) => Status::Done,
+        Err(_) => Status::NotReady,
+    }
+}
