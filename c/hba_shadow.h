@@ -189,9 +189,9 @@ static void takes(uint32_t offset, uint32_t value)
     case AHCI_REG_PXIE: reg.ie = value & 0xFDC000FFu; break;
     case AHCI_REG_PXCMD:
         reg.receiving = value >> 4 & 1;
+        reg.halted = reg.halted && reg.on && value & 1;
         if (reg.on && !(value & 1)) {
             reg.sact = reg.ci = 0;
-            reg.halted = false;
             drop();
         }
         reg.on = value & 1;
