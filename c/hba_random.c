@@ -365,7 +365,7 @@ int main(int count, char **arguments)
             fprintf(stderr, "run %lu\n", run);
         LLVMFuzzerTestOneInput(bytes, sizeof bytes);
     }
-    printf("%lu runs of a controller: of the commands read %lu were done, %lu failed and %lu were dropped; the shadow has seen no difference\n", runs, counted.done, counted.failed, counted.dropped);
+    printf("%lu runs of a controller, with %lu commands done, %lu dropped, and the port halted %lu times: the shadow has seen no difference\n", runs, counted.done, counted.dropped, counted.halts);
     return 0;
 }
 #endif

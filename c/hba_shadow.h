@@ -39,7 +39,7 @@ static struct { bool on; uint32_t slot, phase, entries, piece; uint64_t table, l
 static struct { bool on, counts; int before, after; uint32_t slot, piece; uint64_t left, moved; enum ends { TAKEN, DONE, ALONE, FAILS, SIGNED } ends; } answer;
 static bool served; /* a command is done, and its answer is not put together */
 
-static struct { unsigned long done, failed, dropped; } counted;
+static struct { unsigned long done, halts, dropped; } counted;
 
 static uint8_t *memory(uint64_t at, uint64_t count)
 {
@@ -121,7 +121,7 @@ static void drop(void)
 
 static void halts(void)
 {
-    counted.failed++;
+    counted.halts++;
     reg.halted = true;
     fetch.on = answer.on = false;
 }
@@ -130,12 +130,13 @@ static void halts(void)
 static void ends(void)
 {
     const uint32_t bit = 1u << answer.slot % 32;
+    const bool well = answer.ends == DONE || (answer.ends == ALONE && !(driven(AHCI_REG_PXTFD) & 1));
     answer.on = false;
-    counted.done += answer.ends == DONE || answer.ends == ALONE;
-    if (answer.ends == TAKEN || (answer.ends == ALONE && !(driven(AHCI_REG_PXTFD) & 1)))
-        reg.ci &= ~bit;
-    else if (answer.ends == DONE)
+    counted.done += well;
+    if (well && answer.ends == DONE)
         reg.sact &= ~bit;
+    else if (well || answer.ends == TAKEN)
+        reg.ci &= ~bit;
     else if (answer.ends != SIGNED)
         halts();
 }

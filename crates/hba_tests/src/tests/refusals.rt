@@ -14,7 +14,7 @@ use crate::tests::shown::{Heap, SECTORS, look_at};
 use ahci_hba::{Hba, HbaFault};
 use ahci_port::DiskFault;
 use refusing_allocator::{Refusals, Refusing};
-use std::alloc::Global;
+use std::alloc::{AllocError, Global};
 use std::fmt::Debug;
 use std::process::Abort;
 use std::test::Fail;
@@ -247,14 +247,22 @@ static LIFE: [&[Step]; 17] = [
     HBA_RESET,
 ];
 
+/// The controller's answer where an allocation is all that can fail.
+fn granted(answer: Result<(), AllocError>) -> Result<(), HbaFault> {
+    match answer {
+        Ok(()) => Ok(()),
+        Err(AllocError) => Err(HbaFault::OutOfMemory),
+    }
+}
+
 /// Makes a call.
 fn makes(hba: &mut Hba<&Heap>, guest: &mut Guest, call: Call) -> Result<(), HbaFault> {
     match call {
         Driver(row) => acts(hba, guest, row),
         Write(offset, value) => write(hba, offset, value),
         Settle => settle(hba, guest),
-        Supply => return supply(hba, guest).map_err(|_| HbaFault::OutOfMemory),
-        Deliver => return hba.deliver().map_err(|_| HbaFault::OutOfMemory),
+        Supply => return granted(supply(hba, guest)),
+        Deliver => return granted(hba.deliver()),
         Sign => return hba.sign(),
         Fetch(slot) => return hba.fetch(slot % 32),
         Send(slot) => return hba.send(slot % 32),
@@ -262,8 +270,12 @@ fn makes(hba: &mut Hba<&Heap>, guest: &mut Guest, call: Call) -> Result<(), HbaF
         Serve(slot) => return hba.serve(slot % 32),
         Execute(slot) => return hba.execute(slot % 32),
         Call::Fail(slot) => return hba.fail(slot % 32, 0x40, 3),
-        Recover(slot) => return hba.recover(slot % 32).map(|_| ()),
-        Control(slot) => return hba.control(slot % 32).map(|_| ()),
+        Recover(slot) => {
+            let _journal = hba.recover(slot % 32)?;
+        }
+        Control(slot) => {
+            let _journal = hba.control(slot % 32)?;
+        }
     }
     Ok(())
 }
@@ -316,7 +328,10 @@ fn goes_on(
 fn made(heap: &Heap, from: u64) -> Result<(Result<(), DiskFault>, u64), Fail> {
     let image = vec![in heap; 0u8; 512 * SECTORS]?;
     heap.refuse(Refusals::From(from));
-    let made = Hba::new(heap, image, 32).map(|_| ());
+    let made = match Hba::new(heap, image, 32) {
+        Ok(_) => Ok(()),
+        Err(fault) => Err(fault),
+    };
     let granted = heap.requests().saturating_sub(heap.refused());
     heap.refuse(Refusals::None);
     Ok((made, granted))
