@@ -1,3 +1,16 @@
-mod driver;
+mod commands;
+mod drivers;
+mod edk2;
+mod grub;
 mod guest;
+mod linux;
+mod linux_error;
+mod lists;
+mod playing;
+mod refusals;
+mod registers;
+mod resets;
+mod seabios;
+mod setting;
+mod shown;
 mod stories;

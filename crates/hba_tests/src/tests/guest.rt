@@ -1,90 +1,116 @@
 //! A guest's memory, and what moves bytes between it and the controller.
+ghost use Rattle.std.specs.Prelude.{◌≡◌, IfSome, length};
 
-use ahci_hba::{Hba, Want};
-use std::alloc::Allocator;
+use ahci_hba::{Hba, Step, Want};
+use std::alloc::{AllocError, Allocator, Global};
 
-/// Where the driver has put things: the received FIS area, the command list, the command tables, and data.
-pub const RECEIVED: u64 = 0x400;
+/// Addresses with memory: the first one, and how many there are.
+pub type Stretch = (u64, u32);
 
-pub const LIST: u64 = 0x1000;
+/// A guest's memory: some stretches of its addresses, one after the other. No other address is memory.
+#[derive(Drop)]
+pub struct Guest {
+    stretches: &'static [Stretch],
+    bytes: Vec<u8>,
+}
 
-pub const TABLES: u64 = 0x2000;
-
-pub const CONTENT: u64 = 0x8000;
-
-/// Puts bytes into memory.
-pub fn put(memory: &mut [u8], at: u64, bytes: &[u8]) {
-    let mut place = at;
-    for byte in bytes {
-        if let Some(cell) = memory.get_mut(place as usize) {
-            *cell = *byte;
+impl Guest {
+    /// Memory of zeros.
+    pub fn new(alloc: Global, stretches: &'static [Stretch]) -> Result<Self, AllocError> {
+        let mut count = 0u32;
+        for (_, length) in stretches {
+            count = count.saturating_add(*length);
         }
-        place = place.wrapping_add(1);
+        let bytes = vec![in alloc; 0u8; count as usize]?;
+        Ok(Guest { stretches, bytes })
+    }
+
+    /// Where the bytes of an address begin; nothing if some of them are no memory.
+    fn place(&self, at: u64, count: usize) -> Option<usize> {
+        let mut first = 0usize;
+        for (base, length) in self.stretches {
+            let inside = at.wrapping_sub(*base);
+            if inside.saturating_add(count as u64) <= u64::from(*length) {
+                return Some(first.saturating_add(inside as usize));
+            }
+            first = first.saturating_add(*length as usize);
+        }
+        None
+    }
+
+    /// The bytes from an address on; none if some of them are no memory.
+    pub fn get(&self, at: u64, count: usize) -> Option<&[u8]>
+        ensures { IfSome result (λ s. length s.now ≡ count) }
+    {
+        let start = self.place(at, count)?;
+        let end = start.checked_add(count)?;
+        self.bytes.get(start..end)
+    }
+
+    /// Puts bytes at an address; whether all of it is memory.
+    pub fn put(&mut self, at: u64, bytes: &[u8]) -> bool {
+        let Some(start) = self.place(at, bytes.len()) else {
+            return false;
+        };
+        let Some(end) = start.checked_add(bytes.len()) else {
+            return false;
+        };
+        if end > self.bytes.len() {
+            return false;
+        }
+        self.bytes[start..end].copy_from_slice(bytes);
+        true
     }
 }
 
-/// The byte at an address; 0 beyond the memory.
-pub fn byte(memory: &[u8], at: u64) -> u8 {
-    memory.get(at as usize).copied().unwrap_or(0)
-}
-
-/// The dword at an address.
-pub fn dword(memory: &[u8], at: u64) -> u32 {
-    u32::from_le_bytes([
-        byte(memory, at),
-        byte(memory, at.wrapping_add(1)),
-        byte(memory, at.wrapping_add(2)),
-        byte(memory, at.wrapping_add(3)),
-    ])
+/// Reads once for the controller, if all of that is memory.
+pub fn supply<A: Allocator + Copy>(hba: &mut Hba<A>, guest: &Guest) -> Result<(), AllocError> {
+    match guest.get(hba.address(), hba.read_length()) {
+        Some(bytes) => hba.supply(bytes),
+        None => {
+            hba.fail_memory();
+            Ok(())
+        }
+    }
 }
 
 /// Reads or writes once for the controller; whether it wanted that.
-fn turn<A: Allocator + Copy>(hba: &mut Hba<A>, memory: &mut [u8]) -> bool {
-    let first = hba.address();
+fn turn<A: Allocator + Copy>(hba: &mut Hba<A>, guest: &mut Guest) -> bool {
     match hba.want() {
         Want::Nothing => return false,
         Want::Read => {
-            let length = hba.read_length();
-            let Some(end) = (first as usize).checked_add(length) else {
-                hba.fail_memory();
-                return true;
-            };
-            match memory.get(first as usize..end) {
-                Some(bytes) => {
-                    let _ = hba.supply(bytes);
-                }
-                None => hba.fail_memory(),
-            }
+            let _ = supply(hba, guest);
         }
-        Want::Write => {
-            put(memory, first, hba.bytes());
-            hba.written();
-        }
+        Want::Write if guest.put(hba.address(), hba.bytes()) => hba.written(),
+        Want::Write => hba.fail_memory(),
     }
     true
 }
 
 /// Moves all that the controller wants to move.
-pub fn settle<A: Allocator + Copy>(hba: &mut Hba<A>, memory: &mut [u8]) {
-    for _ in 0..100 {
-        if !turn(hba, memory) {
+pub fn settle<A: Allocator + Copy>(hba: &mut Hba<A>, guest: &mut Guest) {
+    for _ in 0..1000 {
+        if !turn(hba, guest) {
             return;
         }
     }
 }
 
-/// Lets the device do all that it can with the command of a slot.
-pub fn work<A: Allocator + Copy>(hba: &mut Hba<A>, memory: &mut [u8], slot: u8) {
+/// Lets the disk read the command of a slot, and take it if it moves sectors.
+pub fn take<A: Allocator + Copy>(hba: &mut Hba<A>, guest: &mut Guest, slot: u8) {
     let slot = slot % 32;
-    let _ = hba.fetch(slot);
-    settle(hba, memory);
-    let _ = hba.send(slot);
-    let _ = hba.accept(slot);
-    settle(hba, memory);
-    let _ = hba.serve(slot);
-    let _ = hba.deliver();
-    settle(hba, memory);
-    let _ = hba.recover(slot);
-    let _ = hba.execute(slot);
-    settle(hba, memory);
+    for _ in 0..3 {
+        if let Some(Step::Fetch | Step::Send | Step::Accept) = hba.next(slot) {
+            let _ = hba.step(slot);
+        }
+        settle(hba, guest);
+    }
+}
+
+/// Lets the disk take each step with the command of a slot.
+pub fn end<A: Allocator + Copy>(hba: &mut Hba<A>, guest: &mut Guest, slot: u8) {
+    for _ in 0..5 {
+        let _ = hba.step(slot % 32);
+        settle(hba, guest);
+    }
 }

@@ -1,0 +1,366 @@
+//! Stories of commands that are not queued (ACS-3, by their titles).
+
+use crate::tests::playing::Pieces::These;
+use crate::tests::playing::Row::{
+    Does, Fills, Has, HasAll, Last, Lays, Reads, ReadsBits, Refuses, Sector, Takes, Writes,
+};
+use crate::tests::playing::{Pieces, Player, Row, Story, plays};
+use crate::tests::registers::{PX_CI, PX_CMD, PX_IS, PX_SACT, PX_TFD};
+use crate::tests::setting::{
+    DATA, IDENTIFY, LIST, MEMORY, NO_PIECES, NONE, ONE, OTHER, READ, READ_DMA, RECEIVED, RESTART,
+    SECTOR, START, TABLE,
+};
+use ahci_port::{EventKind, Plain};
+use std::process::Abort;
+use std::test::Fail;
+
+/// A command, the status and the error that it ends with, the LBA and the count of its D2H Register FIS.
+type Answered = ([u32; 4], u8, u8, u8, u8);
+
+/// Commands to a disk of 8 sectors, by their titles. None of them moves data.
+static ANSWERS: [(&str, Answered); 24] = [
+    ("FLUSH CACHE", ([0x2780_E700, 0, 0, 0], 0x40, 0, 0, 0)),
+    (
+        "FLUSH CACHE EXT",
+        ([0x2780_EA00, 0xA0, 0, 8], 0x40, 0, 0, 0),
+    ),
+    (
+        "STANDBY IMMEDIATE",
+        ([0x2780_E000, 0xA0, 0, 8], 0x40, 0, 0, 0),
+    ),
+    ("IDLE IMMEDIATE", ([0x2780_E100, 0xA0, 0, 8], 0x40, 0, 0, 0)),
+    ("STANDBY", ([0x2780_E200, 0, 0, 0], 0x40, 0, 0, 0)),
+    ("IDLE", ([0x2780_E300, 0, 0, 0], 0x40, 0, 0, 0)),
+    (
+        "CHECK POWER MODE",
+        ([0x2780_E500, 0, 0, 0], 0x40, 0, 0, 0xFF),
+    ),
+    (
+        "EXECUTE DEVICE DIAGNOSTIC",
+        ([0x2780_9000, 0, 0, 0], 0x40, 1, 1, 1),
+    ),
+    (
+        "READ NATIVE MAX ADDRESS",
+        ([0x2780_F800, 0x40, 0, 0], 0x40, 0, 7, 0),
+    ),
+    (
+        "READ NATIVE MAX ADDRESS EXT",
+        ([0x2780_2700, 0x40, 0, 0], 0x40, 0, 7, 0),
+    ),
+    (
+        "READ VERIFY SECTOR(S)",
+        ([0x2780_4000, 0x0600_0040, 0, 0x0200_0000], 0x40, 0, 0, 0),
+    ),
+    (
+        "READ VERIFY SECTOR(S) past the end",
+        ([0x2780_4000, 0x0600_0040, 0, 0x0300_0000], 0x41, 0x10, 8, 0),
+    ),
+    (
+        "READ VERIFY SECTOR(S) of 256 sectors",
+        ([0x2780_4000, 0x0000_0040, 0, 0], 0x41, 0x10, 8, 0),
+    ),
+    (
+        "READ VERIFY SECTOR(S) EXT",
+        ([0x2780_4200, 0x0000_0040, 0, 0x0800_0000], 0x40, 0, 0, 0),
+    ),
+    (
+        "READ VERIFY SECTOR(S) EXT beyond the end",
+        ([0x2780_4200, 0x0900_0040, 0, 0x0100_0000], 0x41, 0x10, 9, 0),
+    ),
+    (
+        "SET FEATURES 03h",
+        ([0x2780_EF03, 0xA0, 0, 0x4500_0008], 0x40, 0, 0, 0),
+    ),
+    (
+        "SET FEATURES 02h",
+        ([0x2780_EF02, 0xA0, 0, 8], 0x41, 4, 0, 0),
+    ),
+    (
+        "IDENTIFY PACKET DEVICE",
+        ([0x2780_A100, 0, 0, 0], 0x41, 4, 1, 1),
+    ),
+    ("NOP", ([0x2780_0000, 0, 0, 0], 0x41, 4, 0, 0)),
+    (
+        "SMART READ DATA",
+        ([0x2780_B0D0, 0x004F_C200, 0, 0], 0x41, 4, 0, 0),
+    ),
+    (
+        "READ LOG EXT of log 13h",
+        ([0x2780_2F00, 0x1300_0000, 0, 0x0100_0000], 0x41, 4, 0, 0),
+    ),
+    (
+        "READ LOG EXT of two pages",
+        ([0x2780_2F00, 0x1000_0000, 0, 0x0200_0000], 0x41, 4, 0, 0),
+    ),
+    (
+        "DATA SET MANAGEMENT",
+        ([0x2780_0601, 0x40, 0, 0x0100_0000], 0x41, 4, 0, 0),
+    ),
+    ("DEVICE RESET", ([0x2780_0800, 0, 0, 0], 0x41, 4, 0, 0)),
+];
+
+/// Plays one of them: the D2H Register FIS with I, PxTFD, PxIS and PxCI. A port that has failed it goes on once ST is cleared and set.
+fn answers(rt: &impl Abort, player: &mut Player, name: &'static str, answered: Answered) {
+    let (fis, status, error, lba, count) = answered;
+    let failed = status % 2;
+    let rows = [
+        Lays(0, NONE, TABLE, fis, NO_PIECES),
+        Writes(PX_CI, 1),
+        Does(0),
+        Row::Answered(status, error, lba, count),
+        Reads(PX_TFD, u32::from_le_bytes([status, error, 0, 0])),
+        Reads(PX_IS, u32::from_le_bytes([1, 0, 0, failed * 0x40])),
+        Reads(PX_CI, u32::from(failed)),
+    ];
+    player.play(rt, name, 0, &rows);
+    player.play(rt, name, 1, RESTART);
+}
+
+#[test]
+fn each_command_without_data_is_answered(rt: HostRuntime) -> Result<(), Fail> {
+    let mut player = Player::new(rt.alloc(), 8, 32, MEMORY)?;
+    player.play(&rt, "the port is started", 0, START);
+    for (name, answered) in ANSWERS {
+        answers(&rt, &mut player, name, answered);
+    }
+    Ok(())
+}
+
+/// What a pair is called, its write and its read, and the bit of PxIS that the read sets.
+type Mover = (&'static str, [u32; 4], [u32; 4], u32);
+
+/// Commands that write three sectors from LBA 2 on, and those that read them again.
+static MOVERS: [Mover; 5] = [
+    (
+        "WRITE SECTOR(S) and READ SECTOR(S)",
+        [0x2780_3000, 0x0200_0040, 0, 0x0300_0000],
+        [0x2780_2000, 0x0200_0040, 0, 0x0300_0000],
+        2,
+    ),
+    (
+        "WRITE SECTOR(S) EXT and READ SECTOR(S) EXT",
+        [0x2780_3400, 0x0200_0040, 0, 0x0300_0000],
+        [0x2780_2400, 0x0200_0040, 0, 0x0300_0000],
+        2,
+    ),
+    (
+        "WRITE DMA and READ DMA",
+        [0x2780_CA00, 0x0200_0040, 0, 0x0300_0000],
+        [0x2780_C800, 0x0200_0040, 0, 0x0300_0000],
+        1,
+    ),
+    (
+        "WRITE DMA EXT and READ DMA EXT",
+        [0x2780_3500, 0x0200_0040, 0, 0x0300_0000],
+        [0x2780_2500, 0x0200_0040, 0, 0x0300_0000],
+        1,
+    ),
+    (
+        "WRITE FPDMA QUEUED and READ DMA EXT",
+        [0x2780_6103, 0x0200_0040, 0, 0],
+        [0x2780_2500, 0x0200_0040, 0, 0x0300_0000],
+        1,
+    ),
+];
+
+/// The sectors in memory, in pieces that end within sectors.
+const SECTORS: Pieces = These(&[(DATA, 700), (DATA + 0x400, 2), (DATA + 0x800, 834)]);
+
+/// Plays one of them, with a byte of its own.
+fn moves(rt: &impl Abort, player: &mut Player, byte: u8, mover: Mover) {
+    let (name, write, read, interrupt) = mover;
+    let rows = [
+        Fills(DATA, 700, byte),
+        Fills(DATA + 0x400, 2, byte),
+        Fills(DATA + 0x800, 834, byte),
+        Lays(0, 0x0003_0045, TABLE, write, SECTORS),
+        Writes(PX_CI, 1),
+        Does(0),
+        Reads(PX_TFD, 0x40),
+        Writes(PX_IS, 0xFFFF_FFFF),
+        Sector(1, 0),
+        Sector(2, byte),
+        Sector(4, byte),
+        Sector(5, 0),
+        Fills(DATA, 0x1000, 0),
+        Lays(0, 0x0003_0005, TABLE, read, SECTORS),
+        Writes(PX_CI, 1),
+        Does(0),
+        Reads(PX_IS, interrupt),
+        Reads(PX_CI, 0),
+        Has(LIST + 4, &[0, 6, 0, 0]),
+        HasAll(DATA, 700, byte),
+        HasAll(DATA + 700, 0x400 - 700, 0),
+        HasAll(DATA + 0x400, 2, byte),
+        HasAll(DATA + 0x402, 0x3FE, 0),
+        HasAll(DATA + 0x800, 834, byte),
+        HasAll(DATA + 0x800 + 834, 64, 0),
+        Writes(PX_IS, 0xFFFF_FFFF),
+    ];
+    player.play(rt, name, usize::from(byte), &rows);
+}
+
+#[test]
+fn each_read_sees_each_write(rt: HostRuntime) -> Result<(), Fail> {
+    let mut player = Player::new(rt.alloc(), 8, 32, MEMORY)?;
+    player.play(&rt, "the port is started", 0, START);
+    for (mover, byte) in MOVERS.into_iter().zip(0x11u8..0x20) {
+        moves(&rt, &mut player, byte, mover);
+    }
+    Ok(())
+}
+
+/// A command that passes the last sector: IDNF, and nothing moves.
+const BEYOND: &[Row] = &[
+    Fills(DATA, 1024, 0xAA),
+    Lays(
+        0,
+        ONE,
+        TABLE,
+        [0x2780_CA00, 0x0700_0040, 0, 0x0200_0000],
+        These(&[(DATA, 1024)]),
+    ),
+    Writes(PX_CI, 1),
+    Does(0),
+    Row::Answered(0x41, 0x10, 8, 0),
+    Reads(PX_IS, 0x4000_0001),
+    Reads(PX_CI, 1),
+    Sector(7, 0),
+];
+
+const READ_BEYOND: &[Row] = &[
+    Lays(
+        0,
+        ONE,
+        TABLE,
+        [0x2780_C800, 0x0900_0040, 0, 0x0100_0000],
+        SECTOR,
+    ),
+    Writes(PX_CI, 1),
+    Does(0),
+    Row::Answered(0x41, 0x10, 9, 0),
+    HasAll(DATA, 1024, 0xAA),
+];
+
+/// A queued command beyond the last sector: the refusal is a D2H Register FIS, and PxCI and PxSACT keep its bits.
+const QUEUED_BEYOND: &[Row] = &[
+    Fills(DATA, 1024, 0xAA),
+    Lays(
+        1,
+        ONE,
+        OTHER,
+        [0x2780_6001, 0x0800_0040, 0, 0x0800_0000],
+        SECTOR,
+    ),
+    Writes(PX_SACT, 2),
+    Writes(PX_CI, 2),
+    Does(1),
+    Reads(PX_TFD, 0x1041),
+    ReadsBits(PX_IS, 0x4000_0000, 0x4000_0000),
+    Reads(PX_SACT, 2),
+    Reads(PX_CI, 2),
+    HasAll(DATA, 1024, 0xAA),
+];
+
+/// A command that is not queued while a queued one is outstanding is aborted. The other one is not ended.
+const MIXED: &[Row] = &[
+    Lays(1, ONE, OTHER, READ, SECTOR),
+    Writes(PX_SACT, 2),
+    Writes(PX_CI, 2),
+    Takes(1),
+    Lays(0, ONE, TABLE, READ_DMA, SECTOR),
+    Writes(PX_CI, 1),
+    Does(0),
+    Row::Answered(0x41, 4, 0, 0),
+    Reads(PX_SACT, 2),
+    Reads(PX_CI, 1),
+];
+
+/// The disk fails a read that is not queued, which it has read alone.
+const REFUSED: &[Row] = &[
+    Fills(DATA, 512, 0xAA),
+    Lays(0, ONE, TABLE, READ_DMA, SECTOR),
+    Writes(PX_CI, 1),
+    Row::Fetches(0),
+    Refuses(0, 0x40, 3),
+    Row::Answered(0x41, 0x40, 3, 0),
+    Reads(PX_TFD, 0x4041),
+    Reads(PX_CI, 1),
+    HasAll(DATA, 512, 0xAA),
+];
+
+/// FISes that come while FRE is 0 are dropped. The command is done.
+const NOT_RECEIVED: &[Row] = &[
+    Fills(RECEIVED, 256, 0xEE),
+    Writes(PX_CMD, 0x01),
+    Lays(0, ONE, TABLE, IDENTIFY, SECTOR),
+    Writes(PX_CI, 1),
+    Does(0),
+    Reads(PX_CI, 0),
+    Reads(PX_IS, 2),
+    HasAll(RECEIVED, 256, 0xEE),
+    Has(DATA + 2 * 60, &[8, 0]),
+    Last(EventKind::Plain(Plain::Identify)),
+    Lays(0, NONE, TABLE, [0x2780_EA00, 0xA0, 0, 8], NO_PIECES),
+    Writes(PX_CI, 1),
+    Does(0),
+    Reads(PX_CI, 0),
+    HasAll(RECEIVED, 256, 0xEE),
+    Last(EventKind::Plain(Plain::Flush)),
+    Lays(1, ONE, OTHER, READ, SECTOR),
+    Writes(PX_SACT, 2),
+    Writes(PX_CI, 2),
+    Does(1),
+    Reads(PX_SACT, 0),
+    HasAll(RECEIVED, 256, 0xEE),
+    HasAll(DATA, 512, 0),
+    Writes(PX_CMD, 0x11),
+];
+
+/// The directory of logs, by PIO and by DMA.
+const LOGS: &[Row] = &[
+    Writes(PX_IS, 0xFFFF_FFFF),
+    Lays(0, ONE, TABLE, [0x2780_2F00, 0, 0, 0x0100_0000], SECTOR),
+    Writes(PX_CI, 1),
+    Does(0),
+    Reads(PX_IS, 2),
+    Has(DATA, &[1, 0, 0, 0]),
+    Has(DATA + 0x20, &[1, 0]),
+    Fills(DATA, 512, 0xEE),
+    Writes(PX_IS, 0xFFFF_FFFF),
+    Lays(0, ONE, TABLE, [0x2780_4700, 0, 0, 0x0100_0000], SECTOR),
+    Writes(PX_CI, 1),
+    Does(0),
+    Reads(PX_IS, 1),
+    Has(DATA, &[1, 0, 0, 0]),
+    Has(LIST + 4, &[0, 2, 0, 0]),
+];
+
+static FAILING: Story = Story {
+    name: "commands that fail",
+    sectors: 8,
+    depth: 32,
+    memory: MEMORY,
+    parts: &[
+        START,
+        NOT_RECEIVED,
+        LOGS,
+        RESTART,
+        BEYOND,
+        RESTART,
+        READ_BEYOND,
+        RESTART,
+        MIXED,
+        RESTART,
+        REFUSED,
+        RESTART,
+        LOGS,
+        RESTART,
+        QUEUED_BEYOND,
+    ],
+};
+
+#[test]
+fn a_command_that_fails_moves_nothing(rt: HostRuntime) -> Result<(), Fail> {
+    plays(&rt, rt.alloc(), &FAILING)
+}

@@ -1,0 +1,383 @@
+//! Stories of PRDTs: long ones, addresses above 4 GiB, and what ends a command in a fatal error (AHCI 1.3.1, sections 4.2.3 and 6.1).
+
+use crate::tests::guest::Stretch;
+use crate::tests::playing::Pieces::{Down, These, Up};
+use crate::tests::playing::Row::{
+    Does, Fills, Has, HasAll, Lays, Reads, ReadsBits, Sector, Signs, Takes, Writes,
+};
+use crate::tests::playing::{Row, Story, plays};
+use crate::tests::registers::{
+    PX_CI, PX_CLB, PX_CLBU, PX_CMD, PX_FB, PX_FBU, PX_IS, PX_SACT, PX_SERR,
+};
+use crate::tests::setting::{
+    DATA, LIST, MEMORY, ONE, OTHER, READ, READ_DMA, RESTART, SECTOR, START, TABLE, WRITE,
+};
+use std::test::Fail;
+
+/// Memory for Linux's long lists.
+const LONG: &[Stretch] = &[
+    (0, 0x4000),
+    (0x027F_0D00, 0xB00),
+    (0x02D1_C000, 0x3_F000),
+    (0x0C31_0000, 0x1_5000),
+];
+
+/// Linux reads 504 sectors into 63 pages, each below the one before it.
+const READ_LONG: &[Row] = &[
+    Fills(0x02D1_C000, 512, 0xEE),
+    Fills(0x02D5_A000, 4096, 0xEE),
+    Lays(
+        24,
+        0x003F_0005,
+        0x027F_0D00,
+        [0x2780_60F8, 0x0802_0040, 0x0000_0001, 0xC000_0008],
+        Down(0x02D5_A000, 63, 4096),
+    ),
+    Writes(PX_SACT, 0x0100_0000),
+    Writes(PX_CI, 0x0100_0000),
+    Does(24),
+    Reads(PX_IS, 8),
+    Reads(PX_SACT, 0),
+    HasAll(0x02D5_A000, 512, 0x51),
+    HasAll(0x02D5_A200, 3584, 0),
+    HasAll(0x02D1_C000, 3584, 0),
+    HasAll(0x02D1_CE00, 512, 0x52),
+];
+
+/// The first and the last of those sectors, and one below them.
+const MARKED: &[Row] = &[
+    Fills(0x0C31_0000, 512, 0x51),
+    Lays(
+        0,
+        ONE,
+        TABLE,
+        [0x2780_CA00, 0x0802_0040, 0, 0x0100_0000],
+        These(&[(0x0C31_0000, 512)]),
+    ),
+    Writes(PX_CI, 1),
+    Does(0),
+    Fills(0x0C31_0000, 512, 0x52),
+    Lays(
+        0,
+        ONE,
+        TABLE,
+        [0x2780_CA00, 0xFF03_0040, 0, 0x0100_0000],
+        These(&[(0x0C31_0000, 512)]),
+    ),
+    Writes(PX_CI, 1),
+    Does(0),
+    Writes(PX_IS, 1),
+    Sector(520, 0x51),
+    Sector(1023, 0x52),
+];
+
+/// Linux writes by 168 entries, each of 512 bytes.
+const WRITTEN_LONG: &[Row] = &[
+    Fills(0x0C31_0000, 512, 0x61),
+    Fills(0x0C31_0200, 512, 0x62),
+    Fills(0x0C32_4E00, 512, 0x63),
+    Lays(
+        3,
+        0x00A8_0045,
+        0x027F_0D00,
+        [0x2780_61A8, 0x0200_0040, 0, 0x1800_0008],
+        Up(0x0C31_0000, 168, 512),
+    ),
+    Writes(PX_SACT, 8),
+    Writes(PX_CI, 8),
+    Does(3),
+    Reads(PX_IS, 8),
+    Sector(1, 0),
+    Sector(2, 0x61),
+    Sector(3, 0x62),
+    Sector(4, 0),
+    Sector(169, 0x63),
+    Sector(170, 0),
+];
+
+/// Entries are read 32 at a time: a list that ends with such a run, and one with an entry after it.
+const READ_AGAIN: &[Row] = &[
+    Lays(
+        0,
+        0x0040_0005,
+        0x027F_0D00,
+        [0x2780_C800, 0x0200_0040, 0, 0x4000_0000],
+        Up(0x0C31_0000, 64, 512),
+    ),
+    Writes(PX_CI, 1),
+    Does(0),
+    HasAll(0x0C31_0000, 512, 0x61),
+    HasAll(0x0C31_0200, 512, 0x62),
+    Lays(
+        0,
+        0x0021_0005,
+        0x027F_0D00,
+        [0x2780_C800, 0x8900_0040, 0, 0x2100_0000],
+        Up(0x0C31_0000, 33, 512),
+    ),
+    Writes(PX_CI, 1),
+    Does(0),
+    HasAll(0x0C31_0000, 0x4000, 0),
+    HasAll(0x0C31_4000, 512, 0x63),
+];
+
+/// Linux with memory above 4 GiB.
+const HIGH: &[Stretch] = &[
+    (0x1_02B6_0000, 0x500),
+    (0x1_02B7_1800, 0x100),
+    (0x1_02C8_9000, 0x4000),
+];
+
+const BASES: &[Row] = &[
+    Writes(PX_CLBU, 1),
+    Writes(PX_CLB, 0x02B6_0000),
+    Writes(PX_FBU, 1),
+    Writes(PX_FB, 0x02B6_0400),
+    Reads(PX_CLBU, 1),
+    Reads(PX_FBU, 1),
+    Writes(PX_CMD, 0x16),
+    Signs,
+    Writes(PX_SERR, 0x0401_0000),
+    Writes(PX_CMD, 0x17),
+    Has(0x1_02B6_0440, &[0x34, 0, 0x50, 1]),
+];
+
+const READ_HIGH: &[Row] = &[
+    Fills(0x1_02C8_9000, 0x4000, 0xEE),
+    Lays(
+        25,
+        0x0004_0005,
+        0x1_02B7_1800,
+        [0x2780_6020, 0xFC00_0040, 0, 0xC800_0008],
+        Down(0x1_02C8_C000, 4, 4096),
+    ),
+    Writes(PX_SACT, 0x0200_0000),
+    Writes(PX_CI, 0x0200_0000),
+    Does(25),
+    Reads(PX_IS, 8),
+    Reads(PX_SACT, 0),
+    HasAll(0x1_02C8_9000, 0x4000, 0),
+    Has(0x1_02B6_0458, &[0xA1, 0x40, 0x40, 0, 0, 0, 0, 2]),
+];
+
+/// Slots beyond the queue depth.
+const HIGH_SLOTS: &[Row] = &[
+    Lays(
+        11,
+        ONE,
+        TABLE,
+        [0x2780_6001, 0x0300_0040, 0, 0x5800_0000],
+        SECTOR,
+    ),
+    Lays(
+        31,
+        ONE,
+        OTHER,
+        [0x2780_6101, 0x0300_0040, 0, 0xF800_0000],
+        SECTOR,
+    ),
+    Fills(DATA, 512, 0xAA),
+    Writes(PX_SACT, 0x8000_0800),
+    Writes(PX_CI, 0x8000_0800),
+    Takes(11),
+    Takes(31),
+    Reads(PX_CI, 0),
+    Does(31),
+    Does(11),
+    Reads(PX_SACT, 0),
+    Sector(3, 0xAA),
+    HasAll(DATA, 512, 0xAA),
+];
+
+/// A list with more entries, and more bytes in its last one, than the command's sector.
+const SPARE: &[Row] = &[
+    Fills(DATA, 0x800, 0xEE),
+    Lays(
+        1,
+        0x0004_0005,
+        OTHER,
+        READ,
+        These(&[
+            (DATA, 2),
+            (DATA + 0x200, 0x8000_0006),
+            (DATA + 0x400, 0x400),
+            (0xFFFF_0000, 512),
+        ]),
+    ),
+    Writes(PX_SACT, 2),
+    Writes(PX_CI, 2),
+    Does(1),
+    Reads(PX_SACT, 0),
+    Reads(PX_IS, 8),
+    HasAll(DATA, 2, 0),
+    HasAll(DATA + 2, 0x1FE, 0xEE),
+    HasAll(DATA + 0x200, 6, 0),
+    HasAll(DATA + 0x206, 0x1FA, 0xEE),
+    HasAll(DATA + 0x400, 0x1F8, 0),
+    HasAll(DATA + 0x5F8, 0x208, 0xEE),
+];
+
+/// A queued command that comes to nothing: its bits stay, and no byte moves.
+const COMES_TO_NOTHING: &[Row] = &[
+    Fills(DATA, 512, 0xAA),
+    Writes(PX_SACT, 2),
+    Writes(PX_CI, 2),
+    Does(1),
+    Reads(PX_SACT, 2),
+    Reads(PX_CI, 2),
+    Sector(3, 0),
+    HasAll(DATA, 512, 0xAA),
+    Does(1),
+    Reads(PX_SACT, 2),
+];
+
+const TOO_SHORT: &[Row] = &[Lays(1, ONE, OTHER, READ, These(&[(DATA, 256)]))];
+
+const NO_ENTRIES: &[Row] = &[Lays(1, 5, OTHER, WRITE, SECTOR)];
+
+const OVERFLOW: &[Row] = &[Reads(PX_IS, 0x0100_0000)];
+
+const WRONG_LENGTH: &[Row] = &[Lays(1, 0x0001_0004, OTHER, READ, SECTOR)];
+
+const PACKET: &[Row] = &[Lays(1, 0x0001_0025, OTHER, READ, SECTOR)];
+
+const NO_COMMAND: &[Row] = &[Lays(
+    1,
+    ONE,
+    OTHER,
+    [0x3480_6001, 0x0300_0040, 0, 0x0800_0000],
+    SECTOR,
+)];
+
+const INTERFACE: &[Row] = &[Reads(PX_IS, 0x0800_0000)];
+
+const NO_TABLE: &[Row] = &[Lays(1, ONE, 0x1_0000_2100, READ, SECTOR)];
+
+const NO_DATA: &[Row] = &[Lays(1, ONE, OTHER, WRITE, These(&[(0x1_0000, 512)]))];
+
+const HOST_BUS_FATAL: &[Row] = &[Reads(PX_IS, 0x2000_0000)];
+
+/// The first piece of a read is written, and the other one is no memory.
+const NO_PLACE: &[Row] = &[
+    Fills(DATA, 512, 0xAA),
+    Lays(
+        1,
+        0x0002_0005,
+        OTHER,
+        READ,
+        These(&[(DATA, 256), (0x1_0000, 256)]),
+    ),
+    Writes(PX_SACT, 2),
+    Writes(PX_CI, 2),
+    Does(1),
+    Reads(PX_SACT, 2),
+    Reads(PX_IS, 0x1000_0000),
+    HasAll(DATA + 256, 256, 0xAA),
+];
+
+/// ST off and on, and a command.
+const GOES_ON: &[Row] = &[
+    Reads(PX_SACT, 0),
+    Reads(PX_CI, 0),
+    Fills(DATA, 512, 0xAA),
+    Lays(0, ONE, TABLE, READ_DMA, SECTOR),
+    Writes(PX_CI, 1),
+    Does(0),
+    ReadsBits(PX_IS, 0x7F00_0001, 1),
+    HasAll(DATA, 512, 0),
+    Has(LIST + 4, &[0, 2, 0, 0]),
+];
+
+static LONG_LISTS: [Story; 4] = [
+    Story {
+        name: "a list has up to 168 entries",
+        sectors: 1024,
+        depth: 32,
+        memory: LONG,
+        parts: &[START, MARKED, READ_LONG, RESTART, WRITTEN_LONG, READ_AGAIN],
+    },
+    Story {
+        name: "addresses have 64 bits",
+        sectors: 288,
+        depth: 32,
+        memory: HIGH,
+        parts: &[BASES, READ_HIGH],
+    },
+    Story {
+        name: "any slot is taken whatever the queue depth",
+        sectors: 8,
+        depth: 4,
+        memory: MEMORY,
+        parts: &[START, HIGH_SLOTS],
+    },
+    Story {
+        name: "what a list has beyond the data is not used",
+        sectors: 8,
+        depth: 32,
+        memory: MEMORY,
+        parts: &[START, SPARE],
+    },
+];
+
+#[test]
+fn long_lists_and_high_addresses_are_followed(rt: HostRuntime) -> Result<(), Fail> {
+    for story in &LONG_LISTS {
+        plays(&rt, rt.alloc(), story)?;
+    }
+    Ok(())
+}
+
+/// Commands that end in a fatal error, one after the other.
+static FATAL: Story = Story {
+    name: "fatal errors",
+    sectors: 8,
+    depth: 32,
+    memory: MEMORY,
+    parts: &[
+        START,
+        TOO_SHORT,
+        COMES_TO_NOTHING,
+        OVERFLOW,
+        RESTART,
+        GOES_ON,
+        RESTART,
+        NO_ENTRIES,
+        COMES_TO_NOTHING,
+        OVERFLOW,
+        RESTART,
+        GOES_ON,
+        RESTART,
+        WRONG_LENGTH,
+        COMES_TO_NOTHING,
+        INTERFACE,
+        RESTART,
+        PACKET,
+        COMES_TO_NOTHING,
+        INTERFACE,
+        RESTART,
+        NO_COMMAND,
+        COMES_TO_NOTHING,
+        INTERFACE,
+        RESTART,
+        GOES_ON,
+        RESTART,
+        NO_TABLE,
+        COMES_TO_NOTHING,
+        HOST_BUS_FATAL,
+        RESTART,
+        NO_DATA,
+        COMES_TO_NOTHING,
+        HOST_BUS_FATAL,
+        RESTART,
+        GOES_ON,
+        RESTART,
+        NO_PLACE,
+        RESTART,
+        GOES_ON,
+    ],
+};
+
+#[test]
+fn a_fatal_error_moves_nothing_and_halts_the_port(rt: HostRuntime) -> Result<(), Fail> {
+    plays(&rt, rt.alloc(), &FATAL)
+}

@@ -1,0 +1,83 @@
+//! All that a controller shows.
+
+use ahci_hba::{AccessSize, Hba, Want};
+use ahci_port::TagSets;
+use refusing_allocator::Refusing;
+use std::alloc::Global;
+
+/// What the controller that is tried takes its memory from.
+pub type Heap = Refusing<Global>;
+
+/// How many sectors its disk has.
+pub const SECTORS: usize = 8;
+
+static REGISTERS: [u32; 19] = [
+    0x000, 0x004, 0x008, 0x00C, 0x010, 0x100, 0x104, 0x108, 0x10C, 0x110, 0x114, 0x118, 0x120,
+    0x124, 0x128, 0x12C, 0x130, 0x134, 0x138,
+];
+
+/// What public calls tell of a controller: its registers, what it reads or writes next, what it can do with each slot, and its port.
+#[derive(Clone, Copy, Debug, PartialEq)]
+pub struct Shown {
+    registers: [u64; 19],
+    interrupt: bool,
+    moves: (Want, u64, usize, usize),
+    slots: [(bool, bool, bool, bool); 32],
+    signs: bool,
+    received: [u8; 256],
+    halted: bool,
+    entries: (u64, u64),
+    sets: TagSets,
+    image: [[u8; 512]; SECTORS],
+}
+
+fn slot_of(hba: &Hba<&Heap>, slot: u8) -> (bool, bool, bool, bool) {
+    if slot >= 32 {
+        return (false, false, false, false);
+    }
+    (
+        hba.may_fetch(slot),
+        hba.goes_to_port(slot),
+        hba.error_log_in(slot).is_some(),
+        hba.control_in(slot).is_some(),
+    )
+}
+
+fn image_of(hba: &Hba<&Heap>) -> [[u8; 512]; SECTORS] {
+    let mut image = [[0; 512]; SECTORS];
+    for lba in 0..SECTORS {
+        if (lba as u64) < u64::from(hba.port().sectors()) {
+            hba.port().copy(lba as u64, &mut image[lba]);
+        }
+    }
+    image
+}
+
+pub fn look_at(hba: &Hba<&Heap>) -> Shown {
+    let mut registers = [0; 19];
+    for (word, offset) in registers.iter_mut().zip(&REGISTERS) {
+        *word = hba.read(*offset, AccessSize::Four);
+    }
+    let mut slots = [(false, false, false, false); 32];
+    for (slot, number) in slots.iter_mut().zip(0u8..32) {
+        *slot = slot_of(hba, number);
+    }
+    let port = hba.port();
+    Shown {
+        registers,
+        interrupt: hba.interrupt(),
+        moves: (
+            hba.want(),
+            hba.address(),
+            hba.read_length(),
+            hba.bytes().len(),
+        ),
+        slots,
+        signs: hba.may_sign(),
+        received: *port.received(),
+        halted: port.halted(),
+        entries: (port.journal().len(), port.journal().room()),
+        sets: port.tag_sets(),
+        image: image_of(hba),
+    }
+}
