@@ -34,6 +34,81 @@ extern "C" {
 #define AHCI_MOST_FIS_BYTES 8196   /* a Data FIS with 8,192 bytes of payload */
 #define AHCI_PAGE_BYTES 512        /* the page of IDENTIFY DEVICE, and page 0 of log 10h */
 
+/* ---- names of registers, bits and places ---- */
+
+/* Offsets from the HBA's base (sections 3.1 and 3.3), in bytes. The one port's registers begin at 100h. */
+#define AHCI_REG_CAP 0x000u
+#define AHCI_REG_GHC 0x004u
+#define AHCI_REG_IS 0x008u
+#define AHCI_REG_PI 0x00Cu
+#define AHCI_REG_VS 0x010u
+#define AHCI_REG_CAP2 0x024u
+#define AHCI_REG_BOHC 0x028u
+#define AHCI_REG_PXCLB 0x100u
+#define AHCI_REG_PXCLBU 0x104u
+#define AHCI_REG_PXFB 0x108u
+#define AHCI_REG_PXFBU 0x10Cu
+#define AHCI_REG_PXIS 0x110u
+#define AHCI_REG_PXIE 0x114u
+#define AHCI_REG_PXCMD 0x118u
+#define AHCI_REG_PXTFD 0x120u
+#define AHCI_REG_PXSIG 0x124u
+#define AHCI_REG_PXSSTS 0x128u
+#define AHCI_REG_PXSCTL 0x12Cu
+#define AHCI_REG_PXSERR 0x130u
+#define AHCI_REG_PXSACT 0x134u
+#define AHCI_REG_PXCI 0x138u
+#define AHCI_REG_PXSNTF 0x13Cu
+
+#define AHCI_CAP_SNCQ (1u << 30) /* section 3.1.1 */
+#define AHCI_CAP_S64A (1u << 31)
+#define AHCI_GHC_HR (1u << 0)    /* section 3.1.2 */
+#define AHCI_GHC_IE (1u << 1)
+#define AHCI_GHC_AE (1u << 31)
+#define AHCI_PXIS_DHRS (1u << 0) /* sections 3.3.5 and 3.3.6 */
+#define AHCI_PXIS_PSS (1u << 1)
+#define AHCI_PXIS_DSS (1u << 2)
+#define AHCI_PXIS_SDBS (1u << 3)
+#define AHCI_PXIS_PCS (1u << 6)
+#define AHCI_PXIS_PRCS (1u << 22)
+#define AHCI_PXIS_OFS (1u << 24)
+#define AHCI_PXIS_IFS (1u << 27)
+#define AHCI_PXIS_HBDS (1u << 28)
+#define AHCI_PXIS_HBFS (1u << 29)
+#define AHCI_PXIS_TFES (1u << 30)
+#define AHCI_PXCMD_ST (1u << 0) /* section 3.3.7 */
+#define AHCI_PXCMD_SUD (1u << 1)
+#define AHCI_PXCMD_POD (1u << 2)
+#define AHCI_PXCMD_CLO (1u << 3)
+#define AHCI_PXCMD_FRE (1u << 4)
+#define AHCI_PXCMD_FR (1u << 14)
+#define AHCI_PXCMD_CR (1u << 15)
+#define AHCI_PXTFD_ERR (1u << 0) /* section 3.3.8 */
+#define AHCI_PXTFD_DRQ (1u << 3)
+#define AHCI_PXTFD_DRDY (1u << 6)
+#define AHCI_PXTFD_BSY (1u << 7)
+#define AHCI_SIGNATURE_DISK 0x00000101u /* PxSIG of an ATA device (section 3.3.9) */
+
+/* Places in the received FIS area (section 4.2.1) and in a command table (section 4.2.3). */
+#define AHCI_PLACE_DMA_SETUP 0x00u
+#define AHCI_PLACE_PIO_SETUP 0x20u
+#define AHCI_PLACE_D2H 0x40u
+#define AHCI_PLACE_SET_BITS 0x58u
+#define AHCI_PLACE_CFIS 0x00u
+#define AHCI_PLACE_ACMD 0x40u
+#define AHCI_PLACE_PRDT 0x80u
+#define AHCI_PRD_BYTES 16 /* an entry of the PRDT */
+
+/* Codes of commands (ACS-3), and bits of the error field. */
+#define AHCI_READ_FPDMA_QUEUED 0x60u
+#define AHCI_WRITE_FPDMA_QUEUED 0x61u
+#define AHCI_IDENTIFY_DEVICE 0xECu
+#define AHCI_FLUSH_CACHE_EXT 0xEAu
+#define AHCI_READ_LOG_EXT 0x2Fu
+#define AHCI_ERROR_ABRT 0x04u
+#define AHCI_ERROR_IDNF 0x10u
+#define AHCI_ERROR_UNC 0x40u
+
 /* A place for a port. All zeros is an empty place. */
 typedef struct ahci_port {
     void *at;
@@ -89,6 +164,7 @@ typedef enum ahci_status {
     AHCI_NOT_YET = 49,          /* the request has no answer yet */
     AHCI_BUSY = 50,             /* some slot is not free */
     AHCI_SPENT = 51,            /* the number of the next entry is over 2^63 */
+    AHCI_NOT_READY = 52,        /* the controller can't take this step now */
     /* of FISes */
     AHCI_EMPTY_FIS = 64,        /* there are no bytes */
     AHCI_UNKNOWN_TYPE = 65,     /* the type is none of the seven */
@@ -265,6 +341,46 @@ typedef struct ahci_command {
     uint32_t pieces; /* how many entries its PRDT has */
 } ahci_command;
 
+/* ---- a controller ---- */
+
+/* A place for a controller. All zeros is an empty place. */
+typedef struct ahci_hba {
+    void *at;
+    bool full;
+} ahci_hba;
+#define AHCI_HBA_EMPTY { NULL, false }
+
+/* What the controller does next with the driver's memory. */
+typedef enum ahci_want {
+    AHCI_WANT_NOTHING = 0,
+    AHCI_WANT_READ = 1,  /* it reads a run of bytes: ahci_hba_supply gives them */
+    AHCI_WANT_WRITE = 2  /* it writes some bytes: ahci_hba_bytes has them, and ahci_hba_written says that they are written */
+} ahci_want;
+
+/* The next step with the command of a slot. Which of the slots comes first is the caller's choice. */
+typedef enum ahci_hba_step_kind {
+    AHCI_STEP_NONE = 0,    /* there is none now */
+    AHCI_STEP_FETCH = 1,   /* the command is read: header, CFIS, PRDT and a write's data (section 5.3) */
+    AHCI_STEP_SEND = 2,    /* it goes to the disk's queue: its request is in the journal then */
+    AHCI_STEP_ACCEPT = 3,  /* the disk takes it, or refuses it if it passes the last sector */
+    AHCI_STEP_SERVE = 4,   /* the disk moves its data and completes it; or ahci_hba_fail fails it */
+    AHCI_STEP_DELIVER = 5, /* its answer is put together, and written next */
+    AHCI_STEP_EXECUTE = 6, /* a command that does not move sectors is carried out, or aborted */
+    AHCI_STEP_CONTROL = 7, /* a control FIS sets or clears SRST (section 10.4.1): all commands are dropped */
+    AHCI_STEP_RECOVER = 8  /* the log of a failed queued command is read (section 6.2.2): what it held up is dropped */
+} ahci_hba_step_kind;
+
+/* All that says what a controller does next, with no padding. */
+typedef struct ahci_hba_state {
+    uint64_t address;   /* where it reads or writes next; 0 if it does neither */
+    uint64_t length;    /* how many bytes; 0 if it does neither */
+    uint32_t want;      /* ahci_want */
+    uint32_t interrupt; /* the level of the interrupt line: 1 if it is asserted */
+    uint32_t sign;      /* 1 if the disk can send its signature (ahci_hba_sign) */
+    uint32_t depth;     /* how many queued commands IDENTIFY DEVICE allows */
+    uint8_t next[32];   /* by slot: ahci_hba_step_kind */
+} ahci_hba_state;
+
 /* ---- a port ---- */
 
 /* Makes a port of `depth` slots over a copy of an image, in an empty place. It is started and has done nothing.
@@ -380,6 +496,72 @@ uint32_t ahci_port_entry_bytes(ahci_port *port, uint64_t number, uint8_t *out, s
 
 /* All that can be seen of a port at once. It takes no memory. */
 uint32_t ahci_port_state(ahci_port *port, ahci_state *state);
+
+/* ---- a controller: one HBA with one port, as a driver finds it (chapters 3, 4, 5, 6.2 and 10.1) ----
+
+   The caller has the driver's memory, and no call reads or writes it: ahci_hba_state says which run of bytes is read or written next, and
+   the caller copies. So a device's turn is: while `want` is not AHCI_WANT_NOTHING, move bytes; then choose a slot whose `next` is not
+   AHCI_STEP_NONE and take its step. Each byte of the memory is read at most once for a command, and may be anything.
+
+   A reset, cleared ST, COMRESET or a recovery drops the commands there are. If the disk's queue had requests then, its journal is
+   handed out: *entries is how many entries it had, and 0 else. The journal goes on with the next number over the disk as it is. */
+
+/* Makes a controller after power-on, in front of a disk with a copy of this image, in an empty place. Its command list has 32 slots;
+   `depth` is the queue depth that IDENTIFY DEVICE tells. AHCI_PORT_THERE, AHCI_BAD_SIZE, AHCI_BAD_DEPTH, AHCI_OUT_OF_MEMORY. */
+uint32_t ahci_hba_new(ahci_hba *hba, const uint8_t *image, size_t image_bytes, uint32_t depth);
+
+/* Frees a controller, and leaves its place empty. AHCI_NO_PORT, as of every call from here on to ahci_hba_port. */
+uint32_t ahci_hba_free(ahci_hba *hba);
+
+/* What a driver reads at an offset of the registers, in 1, 2, 4 or 8 bytes. Each offset answers: a place without a register reads 0, and
+   so does an access that is not aligned to its size. AHCI_WRONG_LENGTH for any other size. */
+uint32_t ahci_hba_read(ahci_hba *hba, uint32_t offset, uint32_t bytes, uint64_t *value);
+
+/* Takes what a driver writes there. AHCI_WRONG_LENGTH for any other size. */
+uint32_t ahci_hba_write(ahci_hba *hba, uint32_t offset, uint32_t bytes, uint64_t value, uint64_t *entries);
+
+/* What the controller does next. It takes no memory. */
+uint32_t ahci_hba_look(ahci_hba *hba, ahci_hba_state *state);
+
+/* Supplies the bytes that the controller reads: as many as `length` says, none if it reads none. AHCI_WRONG_LENGTH, AHCI_OUT_OF_MEMORY: the
+   same bytes can be supplied again. */
+uint32_t ahci_hba_supply(ahci_hba *hba, const uint8_t *bytes, size_t count);
+
+/* Copies the bytes that the controller writes: as many as `length` says, none if it writes none. AHCI_WRONG_LENGTH. */
+uint32_t ahci_hba_bytes(ahci_hba *hba, uint8_t *out, size_t out_bytes);
+
+/* The bytes that the controller writes are written. With the last ones of an answer the registers move, and the interrupt may come. */
+uint32_t ahci_hba_written(ahci_hba *hba);
+
+/* The address that the controller reads or writes is no memory: HBFS or HBDS, and the port halts (section 6.1). */
+uint32_t ahci_hba_unmapped(ahci_hba *hba);
+
+/* Takes the next step with the command of a slot: the one that `next` names. AHCI_BAD_TAG, AHCI_NOT_READY if there is none,
+   AHCI_OUT_OF_MEMORY: the step can be taken again. */
+uint32_t ahci_hba_step(ahci_hba *hba, uint32_t slot, uint64_t *entries);
+
+/* The disk fails a command that it has accepted with an error byte at one of its sectors, if the command is queued: a Set Device Bits FIS
+   with ERR. AHCI_BAD_TAG, AHCI_NOT_READY if `next` is not AHCI_STEP_SERVE, if the command is not queued, or if the sector is not one of
+   its own. */
+uint32_t ahci_hba_fail(ahci_hba *hba, uint32_t slot, uint8_t error, uint64_t lba);
+
+/* The disk fails a command that is not queued and was just read, with an error byte and an LBA: a D2H Register FIS with ERR. AHCI_BAD_TAG,
+   AHCI_BAD_LBA, AHCI_NOT_READY. */
+uint32_t ahci_hba_refuse(ahci_hba *hba, uint32_t slot, uint8_t error, uint64_t lba);
+
+/* The disk sends its signature, once FRE is 1. AHCI_NOT_READY if `sign` is 0. */
+uint32_t ahci_hba_sign(ahci_hba *hba);
+
+/* Copies a sector of the disk as it is now. AHCI_WRONG_LENGTH if out_bytes is not 512, AHCI_NO_SUCH_SECTOR. */
+uint32_t ahci_hba_copy(ahci_hba *hba, uint64_t lba, uint8_t *out, size_t out_bytes);
+
+/* An entry of the disk's journal, and the bytes of the write that it issued: as ahci_port_entry and ahci_port_entry_bytes. */
+uint32_t ahci_hba_entry(ahci_hba *hba, uint64_t number, ahci_entry *entry);
+uint32_t ahci_hba_entry_bytes(ahci_hba *hba, uint64_t number, uint8_t *out, size_t out_bytes);
+
+/* All that can be seen of the queue behind the controller, as ahci_port_state: its requests by slot, its journal's numbers. Its registers
+   are the queue's own; the driver's are those of ahci_hba_read. */
+uint32_t ahci_hba_port(ahci_hba *hba, ahci_state *state);
 
 /* ---- the layers alone, with no port ---- */
 
