@@ -67,6 +67,7 @@ static void report_unmapped(struct device *device) {
     uint32_t status = ahci_hba_unmapped(&device->hba);
     if (status != AHCI_OK)
         disagree("ahci_hba_unmapped", status);
+    device->mute = true;
 }
 
 /* Keeps what the command asks, and logs its FIS. */
@@ -259,6 +260,10 @@ static void go_on(struct device *device, uint32_t slot) {
         take_step(device, slot);
 }
 
+static bool can_sign(const struct device *device) {
+    return device->state.sign && !device->mute;
+}
+
 static void sign(struct device *device) {
     uint32_t status = ahci_hba_sign(&device->hba);
     if (status != AHCI_OK)
@@ -274,7 +279,7 @@ void device_turn(struct device *device) {
         device->wait = WAIT_NOTHING;
     if (!move(device))
         return;
-    if (device->state.sign)
+    if (can_sign(device))
         sign(device);
     else if (choose(device, &slot))
         go_on(device, slot);
@@ -284,7 +289,7 @@ void device_turn(struct device *device) {
 
 /* Whether some step can be taken before an answer. */
 static bool is_urgent(const struct device *device) {
-    return device->state.want != AHCI_WANT_NOTHING || device->state.sign || slots_with(device, false);
+    return device->state.want != AHCI_WANT_NOTHING || can_sign(device) || slots_with(device, false);
 }
 
 int64_t device_waits(const struct device *device) {
@@ -312,6 +317,7 @@ void device_write(struct device *device, uint32_t offset, uint32_t bytes, uint64
     if (status != AHCI_OK)
         log_line("a write of %" PRIu32 " bytes at %03" PRIx32 " was refused: status %" PRIu32, bytes, offset, status);
     device->stuck = 0;
+    device->mute = false;
     follow(device, entries, false);
     look(device);
 }

@@ -23,6 +23,7 @@ struct device {
     uint32_t reading; /* the slot whose command is read */
     uint32_t runs;    /* how many runs of it were read */
     uint32_t stuck;   /* slots whose step was refused, until the driver writes a register */
+    bool mute;        /* no signature is sent until then either, since there was no memory for the last FIS */
     uint64_t random;  /* the state of PICK_RANDOM */
     enum wait wait;
     uint64_t due;     /* until when, in nanoseconds of the monotonic clock */

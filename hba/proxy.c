@@ -8,6 +8,7 @@
 #include <inttypes.h>
 #include <stdio.h>
 #include <string.h>
+#include <sys/socket.h>
 #include <unistd.h>
 
 /* The messages of QEMU 7.2 (include/hw/remote/mpqemu-link.h): a header, and data of as many bytes as it says, in this machine's own layout. */
@@ -107,7 +108,7 @@ static void send_message(void *it, uint64_t address, uint32_t data) {
     struct proxy *proxy = it;
     char line[64];
     int count = snprintf(line, sizeof line, "writel 0x%" PRIx64 " 0x%" PRIx32 "\n", address, data);
-    if (proxy->qtest < 0 || write(proxy->qtest, line, (size_t)count) != count)
+    if (proxy->qtest < 0 || send(proxy->qtest, line, (size_t)count, MSG_DONTWAIT | MSG_NOSIGNAL) != count)
         complain("an interrupt was lost, since QEMU's qtest socket doesn't take it");
 }
 
