@@ -158,11 +158,13 @@ static bool take_request(struct vhost *vhost, uint32_t request, const union data
     case SET_VRING_KICK:
     case SET_VRING_CALL:
         return take_ring_request(vhost, request, data, files);
+    case SET_SLAVE_REQ_FD:
+        replace(&vhost->back, files_take(files, 0));
+        return true;
     case SET_FEATURES:
     case SET_OWNER:
     case SET_PROTOCOL_FEATURES:
     case SET_VRING_ENABLE:
-    case SET_SLAVE_REQ_FD:
         return true;
     default:
         complain("the kernel sent the vhost-user request %" PRIu32 ", which is not known here", request);
@@ -321,7 +323,7 @@ static int listen_at(const char *path) {
 }
 
 int vhost_begin(struct vhost *vhost, struct pci *pci, struct memory *memory) {
-    *vhost = (struct vhost){.folder = "/tmp/ahci-hba-XXXXXX", .listening = -1, .socket = -1, .pci = pci, .memory = memory};
+    *vhost = (struct vhost){.folder = "/tmp/ahci-hba-XXXXXX", .listening = -1, .socket = -1, .back = -1, .pci = pci, .memory = memory};
     for (unsigned i = 0; i < VHOST_RINGS; i++)
         vhost->rings[i].kick = vhost->rings[i].call = -1;
     if (!mkdtemp(vhost->folder)) {
@@ -339,6 +341,7 @@ int vhost_begin(struct vhost *vhost, struct pci *pci, struct memory *memory) {
 void vhost_end(struct vhost *vhost) {
     replace(&vhost->listening, -1);
     replace(&vhost->socket, -1);
+    replace(&vhost->back, -1);
     for (unsigned i = 0; i < VHOST_RINGS; i++) {
         replace(&vhost->rings[i].kick, -1);
         replace(&vhost->rings[i].call, -1);

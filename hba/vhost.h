@@ -14,6 +14,7 @@ struct vhost {
     char path[96];
     int listening;
     int socket; /* -1 until the kernel has come */
+    int back;   /* by which a device may ask the kernel; it takes the device away once this is closed */
     struct ring rings[VHOST_RINGS]; /* the kernel's accesses, and the device's interrupts */
     unsigned unsignalled; /* accesses that were answered since the kernel was signalled */
     struct pci *pci;
