@@ -10,7 +10,7 @@ import struct
 import subprocess
 from typing import Dict, List, Optional, Sequence, Tuple
 
-HERE = os.path.dirname(os.path.realpath(__file__))
+HERE = os.path.dirname(os.path.dirname(os.path.realpath(__file__)))
 OUT = os.path.join(HERE, "out")
 GUESTS = os.path.join(HERE, "guests")
 SECTOR = 512
