@@ -5,6 +5,7 @@ import os
 import re
 import shutil
 import signal
+import subprocess
 import time
 from typing import Dict, Sequence
 
@@ -137,13 +138,29 @@ def linux_error(room: str) -> str:
     return "1 of 5,000 reads failed, 4,999 right, log 10h read"
 
 
+def linux_reset(room: str) -> str:
+    """The machine is reset while the queue is full, and boots again."""
+    image = blank(room, 32768)
+    guest = Guest(room, ["--image", image, "--delay", "200"], linux(room, "reset"))
+    guest.end(240)
+    guest.looks_usual([r"the queue's journal of \d+ entries was handed out"])
+    told = guest.told()
+    expect("first" in told, "the machine was not reset")
+    expect(bool(re.fullmatch(r"requests 2000 compared [1-9]\d* errors 0 wrong 0", told["again"])), f"again: {told['again']}")
+    return "the second boot finds what the first one wrote"
+
+
 def linux_flush(room: str) -> str:
     """The program is killed while a file system is busy: what was flushed before is in the image."""
     data, image = pattern(2 << 20, "flush"), blank(room, 32768)
     guest = Guest(room, ["--image", image], linux(room, "flush", data))
     guest.wait_for("^CHECK flushed", 120)
     time.sleep(2)
+    child = guest.child()
     guest.kill()
+    time.sleep(1)
+    state = subprocess.run(["ps", "-o", "stat=", "-p", str(child)], capture_output=True, text=True, check=False).stdout
+    expect(state.strip()[:1] in ("", "Z"), "QEMU goes on without the program")
     expect(file_of_ext4(room, image, "first") == data, "what was flushed is not in the image")
     flushes = guest.codes().get(0xE7, 0) + guest.codes().get(0xEA, 0)
     expect(flushes > 0, "no flush came")

@@ -117,6 +117,12 @@ class Guest:
             expect(name != "failed:", f"the guest failed: {text}")
         return dict(found)
 
+    def child(self) -> int:
+        """The process of the guest's program."""
+        children = subprocess.run(["ps", "-o", "pid=", "--ppid", str(self.process.pid)], capture_output=True, text=True, check=True).stdout.split()
+        expect(len(children) == 1, f"the program has the children {children}")
+        return int(children[0])
+
     def codes(self) -> Dict[int, int]:
         """How many commands of each code were read."""
         codes: Dict[int, int] = {}
@@ -129,7 +135,7 @@ class Guest:
 
 def qemu(room: str, *more: str, memory: str = "512M") -> List[str]:
     """A machine with no other disk."""
-    return [program("qemu-system-x86_64", "qemu-system-x86"), "-nodefaults", "-display", "none", "-no-reboot", "-machine", "q35,sata=off", "-cpu", "max", "-m", memory,
+    return [program("qemu-system-x86_64", "qemu-system-x86"), "-nodefaults", "-display", "none", "-machine", "q35,sata=off", "-cpu", "max", "-m", memory,
             "-serial", f"file:{room}/serial", *more]
 
 

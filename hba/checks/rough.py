@@ -111,9 +111,7 @@ def killed_guest(room: str) -> str:
     image, _ = images.sector_image(room)
     guest = Guest(room, ["--image", image], qemu(room))
     guest.wait_for("^end$", 60)
-    children = subprocess.run(["ps", "-o", "pid=", "--ppid", str(guest.process.pid)], capture_output=True, text=True, check=True).stdout.split()
-    expect(len(children) == 1, f"the program has the children {children}")
-    os.kill(int(children[0]), signal.SIGKILL)
+    os.kill(guest.child(), signal.SIGKILL)
     guest.end(30, status=1, said="ahci-hba: the guest's program was ended by signal 9\n")
     expect(contents(image)[200 * SECTOR:202 * SECTOR] == b"\x5a" * (2 * SECTOR), "the image has not what was written")
     return "status 1, the image is written"

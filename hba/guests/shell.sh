@@ -1,0 +1,2 @@
+# A shell; its end is that of the machine.
+setsid cttyhack sh
