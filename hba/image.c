@@ -79,6 +79,8 @@ int image_write(const char *path, ahci_hba *hba, uint32_t sectors) {
     }
     if (failed)
         complain("--image %s: it can't be written back: %m", path);
+    if (failed && new_path)
+        unlink(new_path);
     free(new_path);
     return failed;
 }
