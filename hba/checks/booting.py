@@ -21,7 +21,7 @@ def sector(room: str) -> str:
     guest = Guest(room, ["--image", image], qemu(room))
     guest.wait_for("^end$", 60)
     guest.end(20, signal.SIGTERM)
-    guest.looks_usual()
+    guest.log_is_usual()
     expect(guest.serial().endswith(f"sector 1\nsum {summed:04X}\nsame\nend\n"), f"the sector said: {guest.serial()}")
     before[200 * SECTOR:202 * SECTOR] = b"\x5a" * (2 * SECTOR)
     expect(contents(image) == before, "the image is not what the sector wrote")
@@ -35,7 +35,7 @@ def grub(room: str, firmware: Sequence[str], platform: str, root: str) -> str:
     guest = Guest(room, ["--image", image], qemu(room, *firmware))
     guest.wait_for("^CHECK end$", 240)
     guest.end(60)
-    guest.looks_usual()
+    guest.log_is_usual()
     serial = guest.serial()
     expect(f"CHECK root {root}\n" in serial and "hello from the disk\n" in serial, f"GRUB found no disk: {serial[-800:]}")
     expect(digest(large) in serial, f"GRUB's sum of 4 MiB is another: {serial[-800:]}")
@@ -75,7 +75,8 @@ def linux_files(room: str, memory: str = "512M") -> str:
     data, image = pattern(8 << 20, "files"), blank(room, 131072)
     guest = Guest(room, ["--image", image], linux(room, "files", data, memory))
     guest.end(240)
-    guest.looks_usual()
+    guest.log_is_usual()
+    guest.linux_is_usual()
     files_right(room, guest, image, data)
     expect(guest.told()["depth"] == "32", "the queue's depth is not 32")
     return counted(guest.codes())
@@ -94,7 +95,8 @@ def linux_queue(room: str) -> str:
     image = blank(room, 131072)
     guest = Guest(room, ["--image", image, "--pick", "random", "--seed", "7", "--delay", "100"], linux(room, "queue"))
     guest.end(240)
-    guest.looks_usual()
+    guest.log_is_usual()
+    guest.linux_is_usual()
     return f"{queue_right(guest, image)}; deepest {deepest(guest)}"
 
 
@@ -128,7 +130,8 @@ def linux_error(room: str) -> str:
     ata = [r"ata1(\.00)?: (exception Emask .*|irq_stat 0x40000008|failed command: READ FPDMA QUEUED|cmd 60/.*|status: \{ DRDY ERR \}|error: \{ UNC \}|EH complete|configured for UDMA/100)",
            r"sd 0:0:0:0: \[sda\] tag#\d+ (FAILED Result: .*|Sense Key : Medium Error \[current\] ?|Add\. Sense: Unrecovered read error - auto reallocate failed|CDB: Read\(10\) .*)",
            r"(blk_update_request: )?(I/O|critical medium) error, dev sda, sector 1000 .*", r"ata1\.00: (device reported .*|.*NCQ.*)", r" +res 41/40:.*"]
-    guest.looks_usual([r"fail \d+ with 40 at sector 1000", r"the queue's journal of \d+ entries was handed out"], ata)
+    guest.log_is_usual([r"fail \d+ with 40 at sector 1000", r"the queue's journal of \d+ entries was handed out"])
+    guest.linux_is_usual(ata)
     told = guest.told()
     expect(told["reads"] == "requests 5000 compared 4999 errors 1 wrong 0", f"reads: {told['reads']}")
     expect(told["again"] == "512", "the sector can't be read afterwards")
@@ -143,7 +146,8 @@ def linux_reset(room: str) -> str:
     image = blank(room, 32768)
     guest = Guest(room, ["--image", image, "--delay", "200"], linux(room, "reset"))
     guest.end(240)
-    guest.looks_usual([r"the queue's journal of \d+ entries was handed out"])
+    guest.log_is_usual([r"the queue's journal of \d+ entries was handed out"])
+    guest.linux_is_usual()
     told = guest.told()
     expect("first" in told, "the machine was not reset")
     expect(bool(re.fullmatch(r"requests 2000 compared [1-9]\d* errors 0 wrong 0", told["again"])), f"again: {told['again']}")
@@ -178,6 +182,6 @@ def user_mode_linux(room: str) -> str:
     with open(os.path.join(room, "serial"), "w", encoding="utf-8") as file:
         file.write(guest.said())
     # at the end this kernel takes the device away before the disk has gone to sleep
-    guest.looks_usual(linux=[r"ata1\.00: (Entering standby power mode|STANDBY IMMEDIATE failed \(err_mask=0x40\)|disable device)", r"ata1: failed to stop engine \(-19\)",
-                              r"ahci 0000:00:00\.0: AHCI controller unavailable!"])
+    guest.linux_is_usual([r"ata1\.00: (Entering standby power mode|STANDBY IMMEDIATE failed \(err_mask=0x40\)|disable device)", r"ata1: failed to stop engine \(-19\)",
+                          r"ahci 0000:00:00\.0: AHCI controller unavailable!"])
     return queue_right(guest, image)

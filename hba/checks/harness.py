@@ -100,12 +100,15 @@ class Guest:
         expect(self.process.returncode == status, f"status {self.process.returncode}, not {status}: {self.said()[-1500:]}{self.serial()[-1000:]}")
         expect(bool(re.fullmatch(said, self.said(), re.DOTALL)), f"it said: {self.said()}")
 
-    def looks_usual(self, more: Sequence[str] = (), linux: Sequence[str] = ()) -> None:
-        """Each line of the log is one that such a run has, and so is each line of Linux that names the disk."""
+    def log_is_usual(self, more: Sequence[str] = ()) -> None:
+        """Each line of the log is one that such a run has."""
         forms = re.compile("|".join([*USUAL, *more]))
         for line in self.log():
             expect(bool(forms.fullmatch(line)), f"the log has a line that nobody expects: {line}")
-        forms = re.compile("|".join([*USUAL_OF_LINUX, *linux]))
+
+    def linux_is_usual(self, more: Sequence[str] = ()) -> None:
+        """Each line of Linux that names the disk is one that such a run has."""
+        forms = re.compile("|".join([*USUAL_OF_LINUX, *more]))
         for line in re.findall(r"^(?:\[ *[\d.]+\] )?(?!CHECK)(.*)$", self.serial(), re.MULTILINE):
             if re.search(r"\bata\d|\bahci|\bsd[a ]|scsi|EXT4|I/O error|blk_|Buffer", line):
                 expect(bool(forms.fullmatch(line)), f"Linux says what nobody expects: {line}")
