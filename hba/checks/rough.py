@@ -21,6 +21,38 @@ def refused(words: List[str], says: str) -> None:
     expect(done.returncode == 2 and done.stdout == "" and done.stderr == f"ahci-hba: {says}\n", f"{words}: status {done.returncode}, {done.stdout}{done.stderr}")
 
 
+DEVICE = "-device x-pci-proxy-dev,id=ahci-hba,fd=40 -chardev socket,id=ahci-hba-messages,fd=41 -object qtest,id=ahci-hba-qtest,chardev=ahci-hba-messages,log=none"
+
+
+def memory_of(size: int) -> str:
+    return f" -object memory-backend-memfd,id=ahci-hba-memory,size={size},share=on -machine memory-backend=ahci-hba-memory"
+
+
+def started(words: str, added: str) -> None:
+    """A command line of QEMU gets these arguments, and no others."""
+    done = subprocess.run([PROGRAM, "run", "--sectors", "8", "--", "sh", "-c", 'echo "$*"', "sh", *words.split()], stdin=subprocess.DEVNULL, capture_output=True, text=True, check=False, timeout=20)
+    expect(done.stdout == f"{words} {added}\n" and done.returncode == 0, f"{words}: {done.stdout}{done.stderr}")
+
+
+def arguments(_: str) -> str:
+    """What `run` adds to the arguments of QEMU."""
+    single = "-accel tcg,thread=single "
+    cases = [
+        ("-m 1G", single + DEVICE + memory_of(1 << 30)),
+        ("-m size=512M,slots=2,maxmem=2G", single + DEVICE + memory_of(512 << 20)),
+        ("-m 256", single + DEVICE + memory_of(256 << 20)),
+        ("-smp 2", single + DEVICE + memory_of(128 << 20)),
+        ("-accel kvm -m 5g", DEVICE + memory_of(5 << 30)),
+        ("-machine q35,accel=kvm,memory-backend=x", DEVICE),
+        ("-enable-kvm -M q35,memory-backend=x -device x-pci-proxy-dev,fd=40,addr=5", DEVICE[DEVICE.index("-chardev"):]),
+    ]
+    for words, added in cases:
+        started(words, added)
+    done = subprocess.run([PROGRAM, "run", "--sectors", "8", "--", "qemu-system-x86_64", "-m", "0.5G"], stdin=subprocess.DEVNULL, capture_output=True, text=True, check=False, timeout=20)
+    expect(done.returncode == 1 and done.stderr == "ahci-hba: -m 0.5G: the size of the guest's memory can't be read\n", f"-m 0.5G: {done.stderr}")
+    return f"{len(cases)} command lines"
+
+
 def command_lines(room: str) -> str:
     """Each wrong option is told by its name."""
     image = os.path.join(room, "small.img")
