@@ -171,16 +171,26 @@ def linux_flush(room: str) -> str:
     return f"{flushes} flushes, the file is in the image"
 
 
-def user_mode_linux(room: str) -> str:
-    """A kernel of User Mode Linux finds the controller on its own PCI bus. Its reads wait 40 ms at most, so that there is no log."""
-    kernel, image = os.path.join(images.OUT, "uml/linux"), blank(room, 131072)
-    if not os.path.exists(kernel):
-        raise Missing(f"there is no {os.path.relpath(kernel)} (./uml_kernel out/uml makes it)")
-    initrd = images.initrd(room, "queue", b"", None)
-    guest = Guest(room, ["--image", image, "--pick", "high"], [kernel, "mem=256M", f"initrd={initrd}", "con=null", "con0=null,fd:1", "loglevel=6", "panic=1"], mode="uml", log=False)
+def run_uml(room: str, kernel: str, image: str) -> Guest:
+    """One run of guests/queue.sh."""
+    words = ["mem=256M", f"initrd={images.initrd(room, 'queue', b'', None)}", "con=null", "con0=null,fd:1", "loglevel=6", "panic=1"]
+    guest = Guest(room, ["--image", image, "--pick", "high"], [kernel, *words], mode="uml", log=False)
     guest.end(120, said=".*")
     with open(os.path.join(room, "serial"), "w", encoding="utf-8") as file:
         file.write(guest.said())
+    return guest
+
+
+def user_mode_linux(room: str) -> str:
+    """A kernel of User Mode Linux finds the controller on its own PCI bus. Its reads wait 40 ms at most: there is no log, and a run in which
+    the machine was too busy for that is made again."""
+    kernel, image = os.path.join(images.OUT, "uml/linux"), blank(room, 131072)
+    if not os.path.exists(kernel):
+        raise Missing(f"there is no {os.path.relpath(kernel)} (./uml_kernel out/uml makes it)")
+    guest = run_uml(room, kernel, image)
+    for _ in range(2):
+        if "um virt-pci delay" in guest.serial():
+            guest = run_uml(room, kernel, blank(room, 131072))
     # at the end this kernel takes the device away before the disk has gone to sleep
     guest.linux_is_usual([r"ata1\.00: (Entering standby power mode|STANDBY IMMEDIATE failed \(err_mask=0x40\)|disable device)", r"ata1: failed to stop engine \(-19\)",
                           r"ahci 0000:00:00\.0: AHCI controller unavailable!"])
