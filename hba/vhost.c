@@ -323,11 +323,13 @@ static int listen_at(const char *path) {
 }
 
 int vhost_begin(struct vhost *vhost, struct pci *pci, struct memory *memory) {
-    *vhost = (struct vhost){.folder = "/tmp/ahci-hba-XXXXXX", .listening = -1, .socket = -1, .back = -1, .pci = pci, .memory = memory};
+    *vhost = (struct vhost){.listening = -1, .socket = -1, .back = -1, .pci = pci, .memory = memory};
     for (unsigned i = 0; i < VHOST_RINGS; i++)
         vhost->rings[i].kick = vhost->rings[i].call = -1;
-    if (!mkdtemp(vhost->folder)) {
-        complain("no folder can be made in /tmp: %m");
+    const char *where = getenv("TMPDIR");
+    int length = snprintf(vhost->folder, sizeof vhost->folder, "%s/ahci-hba-XXXXXX", where ? where : "/tmp");
+    if (length >= (int)sizeof vhost->folder || !mkdtemp(vhost->folder)) {
+        complain("no folder can be made for a socket in %s: %m", where ? where : "/tmp");
         return -1;
     }
     snprintf(vhost->path, sizeof vhost->path, "%s/socket", vhost->folder);

@@ -10,7 +10,7 @@
 #define VHOST_RINGS 2
 
 struct vhost {
-    char folder[64]; /* with the socket, for as long as there is one */
+    char folder[80]; /* with the socket, for as long as there is one */
     char path[96];
     int listening;
     int socket; /* -1 until the kernel has come */

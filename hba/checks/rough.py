@@ -54,7 +54,7 @@ def arguments(_: str) -> str:
 
 
 def command_lines(room: str) -> str:
-    """Each wrong option is told by its name."""
+    """Each wrong option is refused by its name."""
     image = os.path.join(room, "small.img")
     with open(image, "wb") as file:
         file.write(bytes(3 * SECTOR + 1))

@@ -1,4 +1,4 @@
-# A file system is made, filled, mounted again and read; then the sum of the whole disk is told.
+# A file system is made, filled, mounted again and read; then it prints the sum of the whole disk.
 echo "CHECK depth $(cat /sys/block/sda/device/queue_depth)"
 mkfs.ext4 -q /dev/sda || echo "CHECK failed: mkfs.ext4"
 mount -t ext4 /dev/sda /mnt || echo "CHECK failed: mount"

@@ -1,4 +1,4 @@
-# With a write cache told, the file system flushes. What was flushed is told, and the program is killed then.
+# Linux takes the disk for one with a write cache, so that the file system flushes. The program is killed after the line `flushed`.
 echo "temporary write back" > /sys/class/scsi_disk/0:0:0:0/cache_type
 mkfs.ext4 -q /dev/sda || echo "CHECK failed: mkfs.ext4"
 mount -t ext4 /dev/sda /mnt || echo "CHECK failed: mount"

@@ -1,4 +1,4 @@
-# Random requests at the queue's full depth, of one page and of many, and at depth 1; then the sum of the whole disk is told.
+# Random requests at the queue's full depth, of one page and of many, and at depth 1; then the sum of the whole disk.
 echo "CHECK depth $(cat /sys/block/sda/device/queue_depth)"
 echo "CHECK small $(requests /dev/sda 16384 4096 32 20000 50)"
 echo "CHECK large $(requests /dev/sda 128 524288 32 400 50)"
