@@ -173,7 +173,7 @@ def linux_flush(room: str) -> str:
 
 def run_uml(room: str, kernel: str, image: str) -> Guest:
     """One run of guests/queue.sh."""
-    words = ["mem=256M", f"initrd={images.initrd(room, 'queue', b'', None)}", "con=null", "con0=null,fd:1", "loglevel=6", "panic=1"]
+    words = ["mem=256M", f"initrd={images.initrd(room, 'queue', b'', None)}", "con=null", "con0=null,fd:1", "loglevel=7", "panic=1"]
     guest = Guest(room, ["--image", image, "--pick", "high"], [kernel, *words], mode="uml", log=False)
     guest.end(120, said=".*")
     with open(os.path.join(room, "serial"), "w", encoding="utf-8") as file:

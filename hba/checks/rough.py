@@ -8,7 +8,7 @@ import subprocess
 from typing import List
 
 import images
-from harness import HERE, PROGRAM, SANITIZED, SECTOR, Guest, blank, contents, expect, linux, qemu
+from harness import HERE, PROGRAM, SANITIZED, SECTOR, STARVED, Guest, blank, contents, digest, expect, linux, qemu
 from images import Missing, pattern
 
 PLAYER = os.path.join(HERE, "out", "play")
@@ -114,8 +114,9 @@ def record(room: str) -> str:
     image, script = os.path.join(room, "disk.img"), os.path.join(room, "life.ahci")
     with open(image, "wb") as file:
         file.write(images.numbered_blocks(512, 4096))
-    guest = Guest(room, ["--image", image, "--record", script, "--fail", "1000:40", "--pick", "random", "--delay", "500"], linux(room, "record", pattern(65536, "record")))
+    guest = Guest(room, ["--image", image, "--record", script, "--depth", "8", "--fail", "1000:40", "--pick", "random", "--delay", "500"], linux(room, "record", pattern(65536, "record")))
     guest.end(240)
+    expect("LBA48 NCQ (depth 8)" in guest.serial(), "Linux was not told a depth of 8")
     told = guest.told()
     expect(told["reads"] == "requests 2000 compared 1999 errors 1 wrong 0", f"reads: {told['reads']}")
     saved = contents(image)
@@ -136,6 +137,18 @@ def garbage(room: str) -> str:
         steps += 20000
         expect(replayed(last_record(script), room) == contents(image), f"seed {seed}: the record makes another disk")
     return f"{steps} accesses"
+
+
+def refused_memory(room: str) -> str:
+    """One request for memory in forty is refused: the device waits and goes on, and nothing is lost."""
+    image = blank(room, 32768)
+    guest = Guest(room, ["--image", image], linux(room, "memory"), binary=STARVED)
+    guest.end(240, said="ahci-hba: there is no memory; the device waits for it\n")
+    guest.linux_is_usual()
+    told = guest.told()
+    expect(bool(re.fullmatch(r"requests 4000 compared [1-9]\d* errors 0 wrong 0", told["small"])), f"small: {told['small']}")
+    expect(told["disk"].split()[0] == digest(contents(image)), "the image is not the disk that Linux read last")
+    return told["small"]
 
 
 def killed_guest(room: str) -> str:
