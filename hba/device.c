@@ -167,6 +167,7 @@ static bool fail_if_wanted(struct device *device, uint32_t slot) {
 static bool fail_if_unsaved(struct device *device, uint32_t slot) {
     if (device->state.next[slot] != AHCI_STEP_EXECUTE || !device->commands[slot].flushes || !device->settings->image || !device->unsaved)
         return false;
+    log_flush();
     device->unsaved = image_write(device->settings->image, &device->hba, device->settings->sectors) != 0;
     device->save_failed |= device->unsaved;
     return device->unsaved && ahci_hba_refuse(&device->hba, slot, AHCI_ERROR_ABRT, 0) == AHCI_OK;

@@ -6,32 +6,37 @@
 #include <time.h>
 
 #define MOST_LINE 256
+#define BUFFER (1 << 20) /* bytes of lines that wait to be written */
+#define HOLD 1000000     /* microseconds for which they wait at most while lines come */
 
 static FILE *file;
 static struct timespec begun;
 static char last[MOST_LINE]; /* the line that was written last */
 static unsigned long repeats; /* how many times it has come again since */
+static long flushed;          /* when the lines were handed to the system last */
 
 int log_begin(const char *path) {
     clock_gettime(CLOCK_MONOTONIC, &begun);
     if (!path)
         return 0;
     file = fopen(path, "we");
-    if (file)
-        return 0;
-    complain("--log %s: %m", path);
-    return -1;
+    if (!file) {
+        complain("--log %s: %m", path);
+        return -1;
+    }
+    setvbuf(file, NULL, _IOFBF, BUFFER);
+    return 0;
 }
 
 bool log_is_open(void) {
     return file != NULL;
 }
 
-static void write_stamp(void) {
+/* Microseconds since the start. */
+static long stamp(void) {
     struct timespec now;
     clock_gettime(CLOCK_MONOTONIC, &now);
-    long micros = (now.tv_sec - begun.tv_sec) * 1000000L + (now.tv_nsec - begun.tv_nsec) / 1000;
-    fprintf(file, "%5ld.%06ld ", micros / 1000000, micros % 1000000);
+    return (now.tv_sec - begun.tv_sec) * 1000000L + (now.tv_nsec - begun.tv_nsec) / 1000;
 }
 
 static void write_repeats(void) {
@@ -45,10 +50,12 @@ static void put(const char *line) {
         repeats++;
         return;
     }
+    long micros = stamp();
     write_repeats();
-    write_stamp();
-    fprintf(file, "%s\n", line);
+    fprintf(file, "%5ld.%06ld %s\n", micros / 1000000, micros % 1000000, line);
     strcpy(last, line);
+    if (micros - flushed > HOLD)
+        log_flush();
 }
 
 void log_line(const char *format, ...) {
@@ -74,8 +81,10 @@ void complain(const char *format, ...) {
 }
 
 void log_flush(void) {
-    if (file)
-        fflush(file);
+    if (!file)
+        return;
+    fflush(file);
+    flushed = stamp();
 }
 
 int log_end(void) {

@@ -16,6 +16,7 @@
 #include <time.h>
 #include <unistd.h>
 
+#define QUIET 100000000 /* nanoseconds without an access after which the log is flushed */
 #define GRACE 10 /* seconds in which the guest's program ends after it was asked to */
 
 static volatile sig_atomic_t stopped;      /* a signal has ended the run */
@@ -42,12 +43,15 @@ static void begin_signals(sigset_t *waiting) {
     sigprocmask(SIG_BLOCK, &held, waiting);
 }
 
-/* Waits for the transport's files until the next step is due. */
+/* Waits for the transport's files until the next step is due. The log is flushed once nothing has come for a while. */
 static int wait_for(struct pci *pci, struct pollfd *files, unsigned count, const sigset_t *waiting) {
-    int64_t left = pci_waits(pci);
-    struct timespec until = {.tv_sec = left / 1000000000, .tv_nsec = left % 1000000000};
-    if (left)
-        log_flush();
+    int64_t left = pci_waits(pci), first = left < 0 || left > QUIET ? QUIET : left;
+    struct timespec until = {.tv_nsec = first};
+    int ready = ppoll(files, count, &until, waiting);
+    if (ready != 0 || left == first)
+        return ready;
+    log_flush();
+    until = (struct timespec){.tv_sec = (left - first) / 1000000000, .tv_nsec = (left - first) % 1000000000};
     return ppoll(files, count, left < 0 ? NULL : &until, waiting);
 }
 
