@@ -316,7 +316,7 @@ void record_reset(struct record *record, ahci_hba *hba, bool recovered) {
     }
     if (!record->owned)
         return;
-    put_text(record, "# a reset dropped the commands that were left; %s.%u goes on", record->path, record->files + 1);
+    put_text(record, "# a reset dropped the commands that were left; file %u of the record goes on", record->files + 1);
     close_file(record);
     begin_file(record, hba);
 }

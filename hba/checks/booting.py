@@ -93,11 +93,13 @@ def linux_high(room: str) -> str:
 def linux_queue(room: str) -> str:
     """Random requests of Linux at depth 32, in a random order of the device."""
     image = blank(room, 131072)
-    guest = Guest(room, ["--image", image, "--pick", "random", "--seed", "7", "--delay", "100"], linux(room, "queue"))
+    guest = Guest(room, ["--image", image, "--pick", "random", "--seed", "7", "--delay", "1000"], linux(room, "queue"))
     guest.end(240)
     guest.log_is_usual()
     guest.linux_is_usual()
-    return f"{queue_right(guest, image)}; deepest {deepest(guest)}"
+    right, deep = queue_right(guest, image), deepest(guest)
+    expect(deep >= 24, f"only {deep} commands were in the queue at once")
+    return f"{right}; {deep} at once"
 
 
 def queue_right(guest: Guest, image: str) -> str:
@@ -111,7 +113,7 @@ def queue_right(guest: Guest, image: str) -> str:
 
 
 def deepest(guest: Guest) -> int:
-    """How many commands were issued at once at most, as PxSACT was read or written."""
+    """How many queued commands were outstanding at most when PxSACT was read."""
     most = 0
     for line in guest.log():
         if line.startswith("read PxSACT"):

@@ -131,7 +131,7 @@ def garbage(room: str) -> str:
     """Random accesses over random tables, under the sanitizers; the record makes the image that was saved."""
     steps = 0
     for seed in range(4):
-        image, script = blank(room, 2048), os.path.join(room, f"garbage{seed}.ahci")
+        image, script = blank(room, 256), os.path.join(room, f"garbage{seed}.ahci")
         guest = Guest(room, ["--image", image, "--record", script, "--pick", "random", "--fail", "5:40:3", "--fail", "100:04:2"], [GARBAGE, str(seed), "20000"], binary=SANITIZED)
         guest.end(200)
         steps += 20000
