@@ -1,2 +1,3 @@
-# A shell; its end is that of the machine.
+# A shell, after which the machine is switched off.
 setsid cttyhack sh
+poweroff -f
