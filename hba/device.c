@@ -9,7 +9,7 @@
 #include <string.h>
 #include <time.h>
 
-#define HEADER_RUN 1 /* the runs of a command: its header is the first, its FIS the second */
+#define FIS_RUN 1      /* of the runs of a command, counted from 0: its header comes before */
 #define RETRY 10000000 /* nanoseconds until a step that got no memory is tried again */
 
 static uint64_t now(void) {
@@ -96,7 +96,7 @@ static bool move_in(struct device *device) {
         return false;
     if (status != AHCI_OK)
         disagree("ahci_hba_supply", status);
-    if (device->runs++ == HEADER_RUN && count == COMMAND_FIS_BYTES)
+    if (device->runs++ == FIS_RUN && count == COMMAND_FIS_BYTES)
         note_command(device, bytes);
     return true;
 }
