@@ -43,17 +43,23 @@ def expect(right: bool, what: str) -> None:
         raise Failed(what)
 
 
+def go_first() -> None:
+    """Takes a process before others, if that is allowed."""
+    with contextlib.suppress(PermissionError):
+        os.nice(-10)
+
+
 class Guest:
     """The program with a guest."""
 
-    def __init__(self, room: str, options: Sequence[str], command: Sequence[str], mode: str = "run", binary: str = PROGRAM, log: bool = True) -> None:
+    def __init__(self, room: str, options: Sequence[str], command: Sequence[str], mode: str = "run", binary: str = PROGRAM, log: bool = True, first: bool = False) -> None:
         self.serial_path, self.log_path, self.said_path = (os.path.join(room, it) for it in ("serial", "log", "said"))
         for path in (self.serial_path, self.log_path):
             with contextlib.suppress(OSError):
                 os.remove(path)
         words = [binary, mode, *(["--log", self.log_path] if log else []), *options, "--", *command]
         with open(self.said_path, "wb") as said:
-            self.process = subprocess.Popen(words, stdin=subprocess.DEVNULL, stdout=said, stderr=said)
+            self.process = subprocess.Popen(words, stdin=subprocess.DEVNULL, stdout=said, stderr=said, preexec_fn=go_first if first else None)
 
     def serial(self) -> str:
         """What the guest has written to its serial port, without what only moves a cursor."""
