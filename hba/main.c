@@ -137,7 +137,8 @@ static int run(struct settings *settings) {
     if (device_begin(&device, settings, &memory))
         return -1;
     begin_signals(&waiting);
-    int failed = settings->guest == GUEST_UML ? run_with_uml(settings, &device, &memory, &waiting) : run_with_qemu(settings, &device, &memory, &waiting);
+    int failed = settings->guest == GUEST_UML ? run_with_uml(settings, &device, &memory, &waiting)
+                                              : run_with_qemu(settings, &device, &memory, &waiting);
     memory_clear(&memory);
     if (device_end(&device))
         failed = -1;

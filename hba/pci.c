@@ -145,7 +145,8 @@ void pci_config_write(struct pci *pci, uint32_t at, uint32_t bytes, uint32_t val
 /* The name of a register (AHCI 1.3.1, sections 3.1 and 3.3), or its offset. */
 static const char *name_of(uint32_t at, char text[8]) {
     static const char *const common[] = {"CAP", "GHC", "IS", "PI", "VS", "CCC_CTL", "CCC_PTS", "EM_LOC", "EM_CTL", "CAP2", "BOHC"};
-    static const char *const port[] = {"PxCLB", "PxCLBU", "PxFB", "PxFBU", "PxIS", "PxIE", "PxCMD", NULL, "PxTFD", "PxSIG", "PxSSTS", "PxSCTL", "PxSERR", "PxSACT", "PxCI", "PxSNTF"};
+    static const char *const port[] = {"PxCLB", "PxCLBU", "PxFB",   "PxFBU",  "PxIS",   "PxIE",   "PxCMD", NULL,
+                                       "PxTFD", "PxSIG",  "PxSSTS", "PxSCTL", "PxSERR", "PxSACT", "PxCI",  "PxSNTF"};
     uint32_t word = at / 4;
     if (at % 4 == 0 && word < sizeof common / sizeof *common)
         return common[word];
