@@ -28,6 +28,18 @@ def sector(room: str) -> str:
     return "sum right, 2 sectors written"
 
 
+def sector_error(room: str) -> str:
+    """The disk fails the sector's second read, and INT 13h says so."""
+    image, _ = images.sector_image(room)
+    before = contents(image)
+    guest = Guest(room, ["--image", image, "--fail", "70:40"], qemu(room))
+    guest.wait_for("^INT 13h failed: AX (?!00)[0-9A-F]{4}$", 60)
+    guest.end(20, signal.SIGTERM)
+    guest.log_is_usual([r"fail 0 with 40 at sector 70"])
+    expect(contents(image) == before, "the image has changed, and nobody wrote")
+    return guest.serial().strip().split("\n")[-1]
+
+
 def grub(room: str, firmware: Sequence[str], platform: str, root: str) -> str:
     image = images.grub_image(room)
     before = contents(image)
