@@ -1,0 +1,213 @@
+"""Checks with real firmware, boot loaders and kernels: each saved image is compared with what the guest wrote."""
+from __future__ import annotations
+
+import os
+import re
+import shutil
+import signal
+import subprocess
+import time
+from typing import Dict, Sequence
+
+import images
+from harness import SECTOR, Failed, Guest, blank, contents, counted, digest, expect, file_of_ext4, linux, qemu
+from images import Missing, file_in, file_of, pattern
+
+
+def sector(room: str) -> str:
+    """SeaBIOS boots a sector that reads, writes and reads again."""
+    image, summed = images.sector_image(room)
+    before = bytearray(contents(image))
+    guest = Guest(room, ["--image", image], qemu(room))
+    guest.wait_for("^end$", 60)
+    guest.end(20, signal.SIGTERM)
+    guest.log_is_usual()
+    expect(guest.serial().endswith(f"sector 1\nsum {summed:04X}\nsame\nend\n"), f"the sector said: {guest.serial()}")
+    before[200 * SECTOR:202 * SECTOR] = b"\x5a" * (2 * SECTOR)
+    expect(contents(image) == before, "the image is not what the sector wrote")
+    return "sum right, 2 sectors written"
+
+
+def sector_error(room: str) -> str:
+    """The disk fails the sector's second read, and INT 13h says so."""
+    image, _ = images.sector_image(room)
+    before = contents(image)
+    guest = Guest(room, ["--image", image, "--fail", "70:40"], qemu(room))
+    guest.wait_for("^INT 13h failed: AX (?!00)[0-9A-F]{4}$", 60)
+    guest.end(20, signal.SIGTERM)
+    guest.log_is_usual([r"fail 0 with 40 at sector 70"])
+    expect(contents(image) == before, "the image has changed, and nobody wrote")
+    return guest.serial().strip().split("\n")[-1]
+
+
+def grub(room: str, firmware: Sequence[str], platform: str, root: str) -> str:
+    image = images.grub_image(room)
+    before = contents(image)
+    large = file_in(image, "large.bin")
+    guest = Guest(room, ["--image", image], qemu(room, *firmware))
+    guest.wait_for("^CHECK end$", 240)
+    guest.end(60)
+    guest.log_is_usual()
+    serial = guest.serial()
+    expect(f"CHECK root {root}\n" in serial and "hello from the disk\n" in serial, f"GRUB found no disk: {serial[-800:]}")
+    expect(digest(large) in serial, f"GRUB's sum of 4 MiB is another: {serial[-800:]}")
+    expect(f"written=by_grub_on_{platform}\n" in serial, f"GRUB did not read what it wrote: {serial[-800:]}")
+    env = file_in(image, "env.bin")
+    expect(env.startswith(f"# GRUB Environment Block\nwritten=by_grub_on_{platform}\n#".encode()), "the image has not what GRUB wrote")
+    after = contents(image)
+    changed = [at for at in range(0, len(before), SECTOR) if before[at:at + SECTOR] != after[at:at + SECTOR]]
+    expect(0 < len(changed) <= 2, f"{len(changed)} sectors have changed, and the file has 2")
+    return "sum of 4 MiB right, save_env in the image; commands " + counted(guest.codes())
+
+
+def grub_bios(room: str) -> str:
+    """SeaBIOS boots GRUB, whose own driver takes the disk."""
+    return grub(room, [], "pc", "ahci0,msdos1")
+
+
+def grub_uefi(room: str) -> str:
+    """EDK2 boots GRUB, which reads and writes by the firmware's driver."""
+    code, variables = file_of("/usr/share/OVMF/OVMF_CODE_4M.fd", "ovmf"), os.path.join(room, "variables.fd")
+    shutil.copy("/usr/share/OVMF/OVMF_VARS_4M.fd", variables)
+    flash = ["-drive", f"if=pflash,unit=0,format=raw,readonly=on,file={code}", "-drive", f"if=pflash,unit=1,format=raw,file={variables}"]
+    return grub(room, flash, "efi", "hd0,msdos1")
+
+
+def files_right(room: str, guest: Guest, image: str, data: bytes) -> None:
+    told = guest.told()
+    for name in ("first", "second"):
+        expect(told[name].split()[0] == digest(data), f"Linux read back another /{name}")
+        expect(file_of_ext4(room, image, name) == data, f"the image has another /{name}")
+    expect(told["many"] == "200", f"Linux read back {told['many']} of 200 files")
+    expect(told["disk"].split()[0] == digest(contents(image)), "the image is not the disk that Linux read last")
+
+
+def linux_files(room: str, memory: str = "512M") -> str:
+    """Linux makes ext4, writes files, mounts it again and reads them."""
+    data, image = pattern(8 << 20, "files"), blank(room, 131072)
+    guest = Guest(room, ["--image", image], linux(room, "files", data, memory))
+    guest.end(240)
+    guest.log_is_usual()
+    guest.linux_is_usual()
+    files_right(room, guest, image, data)
+    expect(guest.told()["depth"] == "32", "the queue's depth is not 32")
+    return counted(guest.codes())
+
+
+def linux_high(room: str) -> str:
+    """The same with 5 GiB of memory, so that most of it is above 4 GiB."""
+    codes = linux_files(room, "5G")
+    with open(os.path.join(room, "log"), encoding="utf-8") as file:
+        expect(bool(re.search(r"write PxCLBU 0000000[1-9]", file.read())), "the command list is not above 4 GiB")
+    return codes
+
+
+def linux_queue(room: str) -> str:
+    """Random requests of Linux at depth 32, in a random order of the device."""
+    image = blank(room, 131072)
+    guest = Guest(room, ["--image", image, "--pick", "random", "--seed", "7", "--delay", "1000"], linux(room, "queue"))
+    guest.end(240)
+    guest.log_is_usual()
+    guest.linux_is_usual()
+    right, deep = queue_right(guest, image), deepest(guest)
+    expect(deep >= 24, f"only {deep} commands were in the queue at once")
+    return f"{right}; {deep} at once"
+
+
+def queue_right(guest: Guest, image: str) -> str:
+    """What guests/queue.sh told is right."""
+    told = guest.told()
+    expect(told["depth"] == "32", "the queue's depth is not 32")
+    for name in ("small", "large", "alone"):
+        expect(bool(re.fullmatch(r"requests \d+ compared [1-9]\d* errors 0 wrong 0", told[name])), f"{name}: {told[name]}")
+    expect(told["disk"].split()[0] == digest(contents(image)), "the image is not the disk that Linux read last")
+    return f"{told['small']}; {told['large']}"
+
+
+def deepest(guest: Guest) -> int:
+    """How many queued commands were outstanding at most when PxSACT was read."""
+    most = 0
+    for line in guest.log():
+        if line.startswith("read PxSACT"):
+            most = max(most, bin(int(line.split()[2], 16)).count("1"))
+    return most
+
+
+def linux_error(room: str) -> str:
+    """One of the commands in the queue fails: its request fails, and all others come right."""
+    image = os.path.join(room, "disk.img")
+    with open(image, "wb") as file:
+        file.write(images.numbered_blocks(512, 4096))
+    before = contents(image)
+    guest = Guest(room, ["--image", image, "--fail", "1000:40", "--delay", "2000"], linux(room, "error"))
+    guest.end(240)
+    ata = [r"ata1(\.00)?: (exception Emask .*|irq_stat 0x40000008|failed command: READ FPDMA QUEUED|cmd 60/.*|status: \{ DRDY ERR \}|error: \{ UNC \}|EH complete|configured for UDMA/100)",
+           r"sd 0:0:0:0: \[sda\] tag#\d+ (FAILED Result: .*|Sense Key : Medium Error \[current\] ?|Add\. Sense: Unrecovered read error - auto reallocate failed|CDB: Read\(10\) .*)",
+           r"(blk_update_request: )?(I/O|critical medium) error, dev sda, sector 1000 .*", r"ata1\.00: (device reported .*|.*NCQ.*)", r" +res 41/40:.*"]
+    guest.log_is_usual([r"fail \d+ with 40 at sector 1000", r"the queue's journal of \d+ entries was handed out"])
+    guest.linux_is_usual(ata)
+    told = guest.told()
+    expect(told["reads"] == "requests 5000 compared 4999 errors 1 wrong 0", f"reads: {told['reads']}")
+    expect(told["again"] == "512", "the sector can't be read afterwards")
+    expect(told["depth"] == "32", "NCQ was given up")
+    expect(contents(image) == before, "the image has changed, and nobody wrote")
+    expect(guest.codes().get(0x2F, 0) == 1, f"the log of the failed command was not read once: {counted(guest.codes())}")
+    return "1 of 5,000 reads failed, 4,999 right, log 10h read"
+
+
+def linux_reset(room: str) -> str:
+    """The machine is reset while the queue is full, and boots again."""
+    image = blank(room, 32768)
+    guest = Guest(room, ["--image", image, "--delay", "200"], linux(room, "reset"))
+    guest.end(240)
+    guest.log_is_usual([r"the queue's journal of \d+ entries was handed out"])
+    guest.linux_is_usual()
+    told = guest.told()
+    expect("first" in told, "the machine was not reset")
+    expect(bool(re.fullmatch(r"requests 2000 compared [1-9]\d* errors 0 wrong 0", told["again"])), f"again: {told['again']}")
+    return "the second boot finds what the first one wrote"
+
+
+def linux_flush(room: str) -> str:
+    """The program is killed while a file system is busy: what was flushed before is in the image."""
+    data, image = pattern(2 << 20, "flush"), blank(room, 32768)
+    guest = Guest(room, ["--image", image], linux(room, "flush", data))
+    guest.wait_for("^CHECK flushed", 120)
+    time.sleep(2)
+    child = guest.child()
+    guest.kill()
+    time.sleep(1)
+    state = subprocess.run(["ps", "-o", "stat=", "-p", str(child)], capture_output=True, text=True, check=False).stdout
+    expect(state.strip()[:1] in ("", "Z"), "QEMU goes on without the program")
+    expect(file_of_ext4(room, image, "first") == data, "what was flushed is not in the image")
+    flushes = guest.codes().get(0xE7, 0) + guest.codes().get(0xEA, 0)
+    expect(flushes > 0, "no flush came")
+    return f"{flushes} flushes, the file is in the image"
+
+
+def run_uml(room: str, kernel: str, image: str) -> Guest:
+    """One run of guests/queue.sh."""
+    words = ["mem=256M", f"initrd={images.initrd(room, 'queue', b'', None)}", "con=null", "con0=null,fd:1", "loglevel=7", "panic=1"]
+    guest = Guest(room, ["--image", image, "--pick", "high"], [kernel, *words], mode="uml", log=False, first=True)
+    guest.process.wait(150)
+    with open(os.path.join(room, "serial"), "w", encoding="utf-8") as file:
+        file.write(guest.said())
+    return guest
+
+
+def user_mode_linux(room: str) -> str:
+    """A kernel of User Mode Linux finds the controller on its own PCI bus. It gives a read 40 ms, and goes wrong after that; so there is no log,
+    and a run on a machine that is too busy for that is made again."""
+    kernel = os.path.join(images.OUT, "uml/linux")
+    if not os.path.exists(kernel):
+        raise Missing(f"there is no {os.path.relpath(kernel)} (./uml_kernel out/uml makes it)")
+    for _ in range(4):
+        image = blank(room, 131072)
+        guest = run_uml(room, kernel, image)
+        if "um virt-pci delay" not in guest.serial():
+            guest.end(1, said=".*")
+            # at the end this kernel takes the device away before the disk has gone to sleep
+            guest.linux_is_usual([r"ata1\.00: (Entering standby power mode|STANDBY IMMEDIATE failed \(err_mask=0x40\)|disable device)",
+                                  r"ata1: failed to stop engine \(-19\)", r"ahci 0000:00:00\.0: AHCI controller unavailable!"])
+            return queue_right(guest, image)
+    raise Missing("the machine was too busy in four runs: a read took more than 40 ms")

@@ -1,0 +1,185 @@
+"""The program with a guest, and what is looked at of both."""
+from __future__ import annotations
+
+import contextlib
+import hashlib
+import os
+import re
+import shutil
+import signal
+import subprocess
+import time
+from typing import Dict, List, Optional, Sequence
+
+import images
+from images import program
+
+HERE = os.path.dirname(os.path.dirname(os.path.realpath(__file__)))
+PROGRAM = os.path.join(HERE, "out", "ahci-hba")
+SANITIZED = PROGRAM + ".sanitized"
+STARVED = PROGRAM + ".starved"
+SECTOR = 512
+
+# what a log has in any run
+USUAL = [r"(read|write) \S+ [0-9a-f]+", r"config (read|write) [0-9a-f]+/\d [0-9a-f]+", r"command \d+ [0-9a-f]{40}", r"memory [0-9a-f]+ to [0-9a-f]+",
+         r"interrupt message [0-9a-f]+ [0-9a-f]{4}", r"signature", r"reset of the PCI function", r"starts .*", r"the same, \d+ times more"]
+
+# what Linux says of a disk that works
+USUAL_OF_LINUX = [r"ahci 0000:00:..\.0: (version 3\.0|AHCI 0001\.0301 32 slots 1 ports 3 Gbps 0x1 impl SATA mode|flags: 64bit ncq clo only)",
+                  r"ahci 0000:00:..\.0: .*(bus master|enabling device|legacy IRQ|PCI->APIC).*", r"scsi host0: ahci",
+                  r"ata1: SATA max UDMA/133 abar m4096@0x[0-9a-f]+ port 0x[0-9a-f]+ irq \d+", r"ata1: SATA link up 3\.0 Gbps \(SStatus 123 SControl 300\)",
+                  r"ata1\.00: ATA-10: SOFTWARE NCQ DISK, 1\.0, max UDMA/100", r"ata1\.00: \d+ sectors, multi 0: LBA48 NCQ \(depth \d+\)", r"ata1\.00: configured for UDMA/100",
+                  r"scsi 0:0:0:0: Direct-Access     ATA      SOFTWARE NCQ DIS 1\.0  PQ: 0 ANSI: 5", r"sd 0:0:0:0: Attached scsi generic sg0 type 0",
+                  r"sd 0:0:0:0: \[sda\] (\d+ 512-byte logical blocks: .*|Write Protect is off|Mode Sense: .*|Write cache: .*|Preferred minimum I/O size 512 bytes|Attached SCSI disk|Stopping disk)",
+                  r"EXT4-fs \(sda\): (mounted filesystem with ordered data mode\. .*|unmounting filesystem.*)"]
+
+
+class Failed(Exception):
+    """What a check found wrong."""
+
+
+def expect(right: bool, what: str) -> None:
+    if not right:
+        raise Failed(what)
+
+
+def go_first() -> None:
+    """Takes a process before others, if that is allowed."""
+    with contextlib.suppress(PermissionError):
+        os.nice(-10)
+
+
+class Guest:
+    """The program with a guest."""
+
+    def __init__(self, room: str, options: Sequence[str], command: Sequence[str], mode: str = "run", binary: str = PROGRAM, log: bool = True, first: bool = False) -> None:
+        self.serial_path, self.log_path, self.said_path = (os.path.join(room, it) for it in ("serial", "log", "said"))
+        for path in (self.serial_path, self.log_path):
+            with contextlib.suppress(OSError):
+                os.remove(path)
+        words = [binary, mode, *(["--log", self.log_path] if log else []), *options, "--", *command]
+        with open(self.said_path, "wb") as said:
+            self.process = subprocess.Popen(words, stdin=subprocess.DEVNULL, stdout=said, stderr=said, preexec_fn=go_first if first else None)
+
+    def serial(self) -> str:
+        """What the guest has written to its serial port, without what only moves a cursor."""
+        try:
+            with open(self.serial_path, encoding="utf-8", errors="replace") as file:
+                text = file.read()
+        except FileNotFoundError:
+            return ""
+        return re.sub(r"\x1b\[[0-9;?=]*[A-Za-z]", "", text).replace("\r", "")
+
+    def said(self) -> str:
+        with open(self.said_path, encoding="utf-8", errors="replace") as file:
+            return file.read()
+
+    def log(self) -> List[str]:
+        if not os.path.exists(self.log_path):
+            return []
+        with open(self.log_path, encoding="utf-8") as file:
+            return [re.sub(r"^ *[\d.]* ", "", line.rstrip("\n")).strip() for line in file]
+
+    def wait_for(self, text: str, seconds: int) -> None:
+        """Waits until the guest has written a text."""
+        begun = time.monotonic()
+        while not re.search(text, self.serial(), re.MULTILINE):
+            late = time.monotonic() - begun > seconds
+            if late or self.process.poll() is not None:
+                why = "didn't come in time" if late else f"didn't come before the end, status {self.process.returncode}"
+                self.kill()
+                raise Failed(f"`{text}` {why}; the last lines:\n{self.said()[-500:]}{self.serial()[-1500:]}")
+            time.sleep(0.1)
+
+    def kill(self) -> None:
+        self.process.kill()
+        self.process.wait()
+
+    def end(self, seconds: int, how: Optional[signal.Signals] = None, status: int = 0, said: str = "") -> None:
+        """Waits for the end, and looks at the status and at what was said."""
+        if how:
+            self.process.send_signal(how)
+        try:
+            self.process.wait(seconds)
+        except subprocess.TimeoutExpired:
+            self.kill()
+            raise Failed(f"it did not end in {seconds} s; the last lines:\n{self.serial()[-1500:]}") from None
+        expect(self.process.returncode == status, f"status {self.process.returncode}, not {status}: {self.said()[-1500:]}{self.serial()[-1000:]}")
+        expect(bool(re.fullmatch(said, self.said(), re.DOTALL)), f"it said: {self.said()}")
+
+    def log_is_usual(self, more: Sequence[str] = ()) -> None:
+        """Each line of the log is one that such a run has."""
+        forms = re.compile("|".join([*USUAL, *more]))
+        for line in self.log():
+            expect(bool(forms.fullmatch(line)), f"the log has a line that nobody expects: {line}")
+
+    def linux_is_usual(self, more: Sequence[str] = ()) -> None:
+        """Each line of Linux that names the disk is one that such a run has."""
+        forms = re.compile("|".join([*USUAL_OF_LINUX, *more]))
+        lines = [line.strip() for line in re.findall(r"^(?:\[ *[\d.]+\] )?(?!CHECK)(.*)$", self.serial(), re.MULTILINE)]
+        strange = [line for line in lines if re.search(r"\bata\d|\bahci \d|\bsd[a ]|scsi|EXT4|I/O error|blk_|Buffer", line) and not forms.fullmatch(line)]
+        expect(not strange, "Linux says what nobody expects: " + "; ".join(strange[:8]))
+
+    def told(self) -> Dict[str, str]:
+        """The guest's lines `CHECK NAME TEXT`."""
+        found = re.findall(r"CHECK (\S+) ?(.*)$", self.serial(), re.MULTILINE)
+        for name, text in found:
+            expect(name != "failed:", f"the guest failed: {text}")
+        return dict(found)
+
+    def child(self) -> int:
+        """The process of the guest's program."""
+        children = subprocess.run(["ps", "-o", "pid=", "--ppid", str(self.process.pid)], capture_output=True, text=True, check=True).stdout.split()
+        expect(len(children) == 1, f"the program has the children {children}")
+        return int(children[0])
+
+    def codes(self) -> Dict[int, int]:
+        """How many commands of each code were read."""
+        codes: Dict[int, int] = {}
+        for line in self.log():
+            if line.startswith("command "):
+                code = int(line.split()[2][4:6], 16)
+                codes[code] = codes.get(code, 0) + 1
+        return codes
+
+
+def qemu(room: str, *more: str, memory: str = "512M") -> List[str]:
+    """A machine with no other disk."""
+    return [program("qemu-system-x86_64", "qemu-system-x86"), "-nodefaults", "-display", "none", "-machine", "q35,sata=off", "-cpu", "max", "-m", memory,
+            "-serial", f"file:{room}/serial", *more]
+
+
+def linux(room: str, test: str, data: bytes = b"", memory: str = "512M") -> List[str]:
+    image, modules = images.kernel()
+    words = "console=ttyS0 loglevel=7 panic=1 no_timer_check"
+    return qemu(room, "-kernel", image, "-initrd", images.initrd(room, test, data, modules), "-append", words, memory=memory)
+
+
+def contents(path: str) -> bytes:
+    with open(path, "rb") as file:
+        return file.read()
+
+
+def digest(content: bytes) -> str:
+    return hashlib.sha256(content).hexdigest()
+
+
+def blank(room: str, sectors: int) -> str:
+    path = os.path.join(room, "disk.img")
+    with open(path, "wb") as file:
+        file.truncate(sectors * SECTOR)
+    return path
+
+
+def file_of_ext4(room: str, image: str, name: str) -> bytes:
+    """A file of an ext4 image, which has to be sound after its journal was replayed."""
+    copy, out = os.path.join(room, "copy.img"), os.path.join(room, "dumped")
+    shutil.copy(image, copy)
+    fsck = subprocess.run([program("e2fsck", "e2fsprogs"), "-fy", copy], stdin=subprocess.DEVNULL, capture_output=True, text=True, check=False)
+    expect(fsck.returncode in (0, 1), f"e2fsck: status {fsck.returncode}: {fsck.stdout}")
+    images.ran([program("debugfs", "e2fsprogs"), "-R", f"dump {name} {out}", copy])
+    return contents(out)
+
+
+def counted(codes: Dict[int, int]) -> str:
+    return " ".join(f"{code:02X}h:{codes[code]}" for code in sorted(codes))

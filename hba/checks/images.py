@@ -1,0 +1,206 @@
+"""What the checks run on the controller: disk images, and a Linux with its initial RAM disk, made of Debian's packages."""
+from __future__ import annotations
+
+import glob
+import gzip
+import hashlib
+import os
+import shutil
+import struct
+import subprocess
+from typing import Dict, List, Optional, Sequence, Tuple
+
+HERE = os.path.dirname(os.path.dirname(os.path.realpath(__file__)))
+OUT = os.path.join(HERE, "out")
+GUESTS = os.path.join(HERE, "guests")
+SECTOR = 512
+PARTITION = 2048  # the first sector of a GRUB image's partition
+
+# the modules of Debian's kernel that the disk and a file system want, each after those that it uses
+MODULES = """crypto/crc32c_generic crypto/crct10dif_common crypto/crct10dif_generic lib/crc64 crypto/crc64_rocksoft_generic lib/crc64-rocksoft
+drivers/scsi/scsi_common drivers/scsi/scsi_mod lib/crc-t10dif block/t10-pi drivers/scsi/sd_mod drivers/ata/libata
+drivers/ata/libahci drivers/ata/ahci fs/jbd2/jbd2 fs/mbcache lib/crc16 fs/ext4/ext4""".split()
+
+
+class Missing(Exception):
+    """A program or a package that is not there."""
+
+
+def program(name: str, package: str) -> str:
+    """Where a program is."""
+    found = shutil.which(name, path=os.environ.get("PATH", "") + ":/usr/sbin:/sbin")
+    if not found:
+        raise Missing(f"there is no {name} (package {package})")
+    return found
+
+
+def file_of(path: str, package: str) -> str:
+    """A file of a package."""
+    if not os.path.exists(path):
+        raise Missing(f"there is no {path} (package {package})")
+    return path
+
+
+def ran(words: Sequence[str], **more: object) -> str:
+    """What a program of this machine printed, if it ended with status 0."""
+    done = subprocess.run(list(words), stdin=subprocess.DEVNULL, stdout=subprocess.PIPE, stderr=subprocess.STDOUT, text=True, errors="replace",
+                          check=False, timeout=120, **more)  # type: ignore[call-overload]
+    if done.returncode:
+        raise RuntimeError(f"{' '.join(words)}: status {done.returncode}\n{done.stdout[-2000:]}")
+    return done.stdout
+
+
+def pattern(count: int, seed: str) -> bytes:
+    """So many bytes that don't repeat, the same for the same seed."""
+    out, at = bytearray(), 0
+    while len(out) < count:
+        out += hashlib.sha256(f"{seed} {at}".encode()).digest()
+        at += 1
+    return bytes(out[:count])
+
+
+# ---- a boot sector ----
+
+
+def sector_image(room: str) -> Tuple[str, int]:
+    """An image of 8 MiB that begins with guests/sector.S, and the sum of the bytes that it adds up, below 2^16."""
+    objects, boot = os.path.join(room, "sector.o"), os.path.join(room, "sector.bin")
+    ran([program("as", "binutils"), "--32", "-o", objects, os.path.join(GUESTS, "sector.S")])
+    ran([program("ld", "binutils"), "-m", "elf_i386", "-Ttext", "0x7c00", "--oformat", "binary", "-o", boot, objects])
+    image = bytearray(8 << 20)
+    with open(boot, "rb") as file:
+        image[:SECTOR] = file.read(SECTOR)
+    image[SECTOR:2 * SECTOR] = b"sector 1\n".ljust(SECTOR, b"\0")
+    summed = pattern(64 * SECTOR, "sum")
+    image[64 * SECTOR:128 * SECTOR] = summed
+    path = os.path.join(room, "sector.img")
+    with open(path, "wb") as file:
+        file.write(image)
+    return path, sum(summed) & 0xFFFF
+
+
+# ---- a disk with GRUB ----
+
+
+def grub_files(room: str) -> Dict[str, bytes]:
+    """The files of a GRUB image."""
+    with open(os.path.join(GUESTS, "grub.cfg"), "rb") as file:
+        config = file.read()
+    environment = b"# GRUB Environment Block\n"
+    files = {"hello.txt": b"hello from the disk\n", "large.bin": pattern(4 << 20, "large"), "env.bin": environment.ljust(1024, b"#"), "boot/grub/grub.cfg": config}
+    for platform, package in (("i386-pc", "grub-pc-bin"), ("x86_64-efi", "grub-efi-amd64-bin")):
+        folder = file_of(f"/usr/lib/grub/{platform}", package)
+        for path in glob.glob(f"{folder}/*.mod") + glob.glob(f"{folder}/*.lst"):
+            with open(path, "rb") as file:
+                files[f"boot/grub/{platform}/{os.path.basename(path)}"] = file.read()
+    efi = os.path.join(room, "grub.efi")
+    ran([program("grub-mkimage", "grub-common"), "-O", "x86_64-efi", "-o", efi, "-p", "/boot/grub", "part_msdos", "fat", "normal"])
+    with open(efi, "rb") as file:
+        files["EFI/BOOT/BOOTX64.EFI"] = file.read()
+    return files
+
+
+def fill_partition(path: str, room: str, files: Dict[str, bytes]) -> None:
+    """A FAT file system with these files."""
+    at = f"{path}@@{PARTITION * SECTOR}"
+    tree = os.path.join(room, "tree")
+    for name, content in files.items():
+        os.makedirs(os.path.dirname(os.path.join(tree, name)), exist_ok=True)
+        with open(os.path.join(tree, name), "wb") as file:
+            file.write(content)
+    sectors = os.path.getsize(path) // SECTOR - PARTITION
+    ran([program("mformat", "mtools"), "-i", at, "-T", str(sectors), "-h", "16", "-s", "63", "-H", str(PARTITION), "-c", "4", "::"])
+    ran([program("mcopy", "mtools"), "-i", at, "-s", *sorted(os.path.join(tree, it) for it in os.listdir(tree)), "::"])
+    shutil.rmtree(tree)
+
+
+def grub_image(room: str) -> str:
+    """An image of 64 MiB with one partition, GRUB for BIOS in front of it and GRUB for UEFI in it."""
+    path, core = os.path.join(room, "grub.img"), os.path.join(room, "core.img")
+    ran([program("grub-mkimage", "grub-common"), "-O", "i386-pc", "-o", core, "-p", "(hd0,msdos1)/boot/grub", "biosdisk", "part_msdos", "fat", "normal"])
+    with open(file_of("/usr/lib/grub/i386-pc/boot.img", "grub-pc-bin"), "rb") as file:
+        boot = bytearray(file.read(SECTOR))
+    sectors = (64 << 20) // SECTOR
+    boot[446:510] = struct.pack("<B3sB3sII48x", 0x80, b"\xfe\xff\xff", 0x0C, b"\xfe\xff\xff", PARTITION, sectors - PARTITION)
+    boot[510:512] = b"\x55\xaa"
+    with open(core, "rb") as file:
+        text = file.read()
+    with open(path, "wb") as file:
+        file.truncate(sectors * SECTOR)
+        file.write(boot)
+        file.write(text)
+    fill_partition(path, room, grub_files(room))
+    return path
+
+
+def file_in(path: str, name: str) -> bytes:
+    """A file of a GRUB image."""
+    done = subprocess.run([program("mtype", "mtools"), "-i", f"{path}@@{PARTITION * SECTOR}", f"::{name}"], stdin=subprocess.DEVNULL, capture_output=True, check=False)
+    if done.returncode:
+        raise RuntimeError(f"{path} has no {name}: {done.stderr.decode(errors='replace')}")
+    return done.stdout
+
+
+# ---- Linux ----
+
+
+def kernel() -> Tuple[str, str]:
+    """Debian's kernel and the folder of its modules: those of ./fetch."""
+    images = glob.glob(os.path.join(OUT, "kernel/boot/vmlinuz-*"))
+    if not images:
+        raise Missing("there is no kernel (./fetch has not got linux-image-amd64)")
+    version = os.path.basename(images[0])[len("vmlinuz-"):]
+    return images[0], os.path.join(OUT, "kernel/lib/modules", version, "kernel")
+
+
+def libraries(path: str) -> List[str]:
+    """The shared libraries of a program, and its loader."""
+    words = [word for line in ran(["ldd", path]).splitlines() for word in line.split()]
+    return [word for word in words if word.startswith("/")]
+
+
+def entry(name: str, mode: int, content: bytes) -> bytes:
+    """One file of a cpio archive ("newc")."""
+    fields = [0, mode, 0, 0, 1, 0, len(content), 0, 0, 0, 0, len(name) + 1, 0]
+    head = b"070701" + b"".join(b"%08x" % it for it in fields) + name.encode() + b"\0"
+    return head + b"\0" * (-len(head) % 4) + content + b"\0" * (-len(content) % 4)
+
+
+def archive(files: Dict[str, bytes]) -> bytes:
+    """A cpio archive of programs and data, with their folders."""
+    folders = {"/".join(name.split("/")[:i]) for name in files for i in range(1, name.count("/") + 1)}
+    out = b"".join(entry(name, 0o040755, b"") for name in sorted(folders, key=lambda it: (it.count("/"), it)))
+    out += b"".join(entry(name, 0o100755, content) for name, content in sorted(files.items()))
+    return out + entry("TRAILER!!!", 0, b"")
+
+
+def read(path: str) -> bytes:
+    with open(path, "rb") as file:
+        return file.read()
+
+
+def initrd(room: str, test: str, data: bytes, modules: Optional[str]) -> str:
+    """An initial RAM disk that runs guests/TEST.sh, with `data` as /data; with the modules of a folder if one is named."""
+    requests, mkfs = os.path.join(room, "requests"), program("mkfs.ext4", "e2fsprogs")
+    if not os.path.exists(requests):
+        ran([program("gcc", "gcc"), "-O2", "-Wall", "-Wextra", "-Werror", "-static", "-o", requests, os.path.join(GUESTS, "requests.c")])
+    files = {"init": read(os.path.join(GUESTS, "init")), "test": read(os.path.join(GUESTS, f"{test}.sh")), "data": data,
+             "bin/busybox": read(file_of("/bin/busybox", "busybox-static")), "bin/requests": read(requests), "sbin/mkfs.ext4": read(mkfs)}
+    for path in libraries(mkfs):
+        files[path.lstrip("/")] = read(os.path.realpath(path))
+    if modules:
+        for it in MODULES:
+            files[f"modules/{os.path.basename(it)}.ko"] = read(os.path.join(modules, f"{it}.ko"))
+        files["modules/order"] = "".join(f"{os.path.basename(it)}.ko\n" for it in MODULES).encode()
+    path = os.path.join(room, f"{test}.initrd")
+    with gzip.open(path, "wb", compresslevel=1) as file:
+        file.write(archive(files))
+    return path
+
+
+def numbered_blocks(blocks: int, size: int) -> bytes:
+    """The first text of each block, as guests/requests.c has it."""
+    out = bytearray()
+    for block in range(blocks):
+        out += struct.pack(f"<{size // 8}Q", *(block << 40 | 1 << 24 | place for place in range(size // 8)))
+    return bytes(out)

@@ -1,0 +1,70 @@
+#include "command.h"
+
+#include <ahci.h>
+#include <stddef.h>
+
+#define H2D 0x27
+
+/* Where a command has the number of its sectors. */
+enum place {
+    PLACE_NONE,  /* it names no sectors */
+    PLACE_QUEUE, /* 16 bits of Features; an LBA of 48 bits */
+    PLACE_LONG,  /* 16 bits of Count; an LBA of 48 bits */
+    PLACE_SHORT  /* 8 bits of Count; an LBA of 28 bits */
+};
+
+static enum place place_of(uint8_t code) {
+    switch (code) {
+    case AHCI_READ_FPDMA_QUEUED:
+    case AHCI_WRITE_FPDMA_QUEUED:
+        return PLACE_QUEUE;
+    case 0x24: /* READ SECTOR(S) EXT */
+    case 0x25: /* READ DMA EXT */
+    case 0x34: /* WRITE SECTOR(S) EXT */
+    case 0x35: /* WRITE DMA EXT */
+    case 0x42: /* READ VERIFY SECTOR(S) EXT */
+        return PLACE_LONG;
+    case 0x20: /* READ SECTOR(S) */
+    case 0xC8: /* READ DMA */
+    case 0x30: /* WRITE SECTOR(S) */
+    case 0xCA: /* WRITE DMA */
+    case 0x40: /* READ VERIFY SECTOR(S) */
+        return PLACE_SHORT;
+    default:
+        return PLACE_NONE;
+    }
+}
+
+/* A count of sectors, of which 0 is the largest. */
+static uint32_t count_of(uint32_t field, uint32_t largest) {
+    return field ? field : largest;
+}
+
+struct command command_of(const uint8_t fis[COMMAND_FIS_BYTES]) {
+    struct command command = {.flushes = false};
+    ahci_fis it;
+    if (ahci_fis_decode(fis, COMMAND_FIS_BYTES, &it) != AHCI_OK || it.kind != H2D || !it.c)
+        return command;
+    command.flushes = it.command == AHCI_FLUSH_CACHE_EXT || it.command == 0xE7;
+    command.lba = it.lba;
+    switch (place_of(it.command)) {
+    case PLACE_QUEUE:
+        command.queued = true;
+        command.sectors = count_of(it.features, 65536);
+        break;
+    case PLACE_LONG:
+        command.sectors = count_of(it.count, 65536);
+        break;
+    case PLACE_SHORT:
+        command.sectors = count_of(it.count & 0xFF, 256);
+        command.lba = (it.lba & 0xFFFFFF) | (uint64_t)(it.device & 0x0F) << 24;
+        break;
+    default:
+        break;
+    }
+    return command;
+}
+
+bool command_touches(const struct command *command, uint64_t lba) {
+    return lba >= command->lba && lba - command->lba < command->sectors;
+}

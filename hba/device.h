@@ -1,0 +1,56 @@
+/* The controller with its disk, and the device's turn: it moves the bytes that the controller reads and writes, and chooses which command
+   goes on. All registers, commands, FISes and interrupts are the library's. */
+#ifndef AHCI_HBA_DEVICE_H
+#define AHCI_HBA_DEVICE_H
+
+#include "command.h"
+#include "memory.h"
+#include "record.h"
+#include "settings.h"
+
+#include <ahci.h>
+
+/* Why the device takes no step although there is one. */
+enum wait { WAIT_NOTHING, WAIT_DELAY, WAIT_MEMORY };
+
+struct device {
+    struct settings *settings;
+    struct memory *memory; /* the guest's */
+    ahci_hba hba;
+    ahci_hba_state state;  /* what the controller does next */
+    struct record record;
+    struct command commands[AHCI_MOST_TAGS]; /* by slot: what was read there last */
+    uint32_t reading; /* the slot whose command is read */
+    uint32_t runs;    /* how many runs of it were read */
+    uint32_t stuck;   /* slots whose step was refused, until the driver writes a register */
+    bool mute;        /* no signature is sent until then either, since there was no memory for the last FIS */
+    uint64_t random;  /* the state of PICK_RANDOM */
+    enum wait wait;
+    uint64_t due;     /* until when, in nanoseconds of the monotonic clock */
+    bool starved;     /* memory was refused once, and this was said */
+    bool unsaved;     /* some sector may have changed since the image was written */
+    bool save_failed; /* the image could not be written at some flush */
+    uint8_t *buffer;  /* for a run of the guest's memory */
+    size_t room;
+};
+
+/* Makes the controller over the image's sectors. It answers 0, or -1 once the reason was written to standard error. */
+int device_begin(struct device *device, struct settings *settings, struct memory *memory);
+
+/* Writes the image back, and frees all. It answers 0, or -1 if something could not be written. */
+int device_end(struct device *device);
+
+/* An access of the driver to the registers, in 1, 2, 4 or 8 bytes. */
+uint64_t device_read(struct device *device, uint32_t offset, uint32_t bytes);
+void device_write(struct device *device, uint32_t offset, uint32_t bytes, uint64_t value);
+
+/* The PCI function is reset. */
+void device_reset(struct device *device);
+
+/* Takes the device's next step, if there is one that is due. */
+void device_turn(struct device *device);
+
+/* How many nanoseconds until the next step: 0 if it is due, -1 if there is none. */
+int64_t device_waits(const struct device *device);
+
+#endif

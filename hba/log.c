@@ -1,0 +1,98 @@
+#include "log.h"
+
+#include <stdarg.h>
+#include <stdio.h>
+#include <string.h>
+#include <time.h>
+
+#define MOST_LINE 256
+#define BUFFER (1 << 20) /* bytes of lines that wait to be written */
+#define HOLD 1000000     /* microseconds for which they wait at most while lines come */
+
+static FILE *file;
+static struct timespec begun;
+static char last[MOST_LINE]; /* the line that was written last */
+static unsigned long repeats; /* how many times it has come again since */
+static long flushed;          /* when the lines were handed to the system last */
+
+int log_begin(const char *path) {
+    clock_gettime(CLOCK_MONOTONIC, &begun);
+    if (!path)
+        return 0;
+    file = fopen(path, "we");
+    if (!file) {
+        complain("--log %s: %m", path);
+        return -1;
+    }
+    setvbuf(file, NULL, _IOFBF, BUFFER);
+    return 0;
+}
+
+bool log_is_open(void) {
+    return file != NULL;
+}
+
+/* Microseconds since the start. */
+static long stamp(void) {
+    struct timespec now;
+    clock_gettime(CLOCK_MONOTONIC, &now);
+    return (now.tv_sec - begun.tv_sec) * 1000000L + (now.tv_nsec - begun.tv_nsec) / 1000;
+}
+
+static void write_repeats(void) {
+    if (repeats)
+        fprintf(file, "             the same, %lu times more\n", repeats);
+    repeats = 0;
+}
+
+static void put(const char *line) {
+    if (!strcmp(line, last)) {
+        repeats++;
+        return;
+    }
+    long micros = stamp();
+    write_repeats();
+    fprintf(file, "%5ld.%06ld %s\n", micros / 1000000, micros % 1000000, line);
+    strcpy(last, line);
+    if (micros - flushed > HOLD)
+        log_flush();
+}
+
+void log_line(const char *format, ...) {
+    char line[MOST_LINE];
+    va_list rest;
+    if (!file)
+        return;
+    va_start(rest, format);
+    vsnprintf(line, sizeof line, format, rest);
+    va_end(rest);
+    put(line);
+}
+
+void complain(const char *format, ...) {
+    char line[MOST_LINE];
+    va_list rest;
+    va_start(rest, format);
+    vsnprintf(line, sizeof line, format, rest);
+    va_end(rest);
+    fprintf(stderr, "ahci-hba: %s\n", line);
+    if (file)
+        put(line);
+}
+
+void log_flush(void) {
+    if (!file)
+        return;
+    fflush(file);
+    flushed = stamp();
+}
+
+int log_end(void) {
+    if (!file)
+        return 0;
+    write_repeats();
+    int failed = ferror(file);
+    failed |= fclose(file);
+    file = NULL;
+    return failed ? -1 : 0;
+}

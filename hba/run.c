@@ -1,0 +1,204 @@
+#include "run.h"
+
+#include "log.h"
+
+#include <ctype.h>
+#include <errno.h>
+#include <fcntl.h>
+#include <inttypes.h>
+#include <signal.h>
+#include <stdbool.h>
+#include <stdint.h>
+#include <stdio.h>
+#include <stdlib.h>
+#include <string.h>
+#include <sys/prctl.h>
+#include <sys/socket.h>
+#include <unistd.h>
+
+#define MOST_ADDED 16
+
+/* A command line that is put together. */
+struct line {
+    char **words;
+    size_t count;
+};
+
+static int begin_line(struct line *line, char *const *command) {
+    line->count = 0;
+    while (command[line->count])
+        line->count++;
+    line->words = calloc(line->count + MOST_ADDED + 1, sizeof *line->words);
+    if (!line->words) {
+        complain("there is no memory for a command line");
+        return -1;
+    }
+    memcpy(line->words, command, line->count * sizeof *line->words);
+    return 0;
+}
+
+static void add(struct line *line, char *word) {
+    line->words[line->count++] = word;
+}
+
+/* Whether an option of the command, or its value, has a text. */
+static bool has(char *const *command, const char *option, const char *text) {
+    for (; *command; command++)
+        if (!strcmp(*command, option) && (!text || (command[1] && strstr(command[1], text))))
+            return true;
+    return false;
+}
+
+static bool has_option(char *const *command, const char *option) {
+    return has(command, option, NULL);
+}
+
+/* The size of -m in bytes (QEMU's default is 128 MiB, and its unit MiB); 0 once it was said that it can't be read. */
+static uint64_t memory_size(char *const *command) {
+    static const char units[] = "KMGT";
+    const char *text = "128";
+    for (; *command; command++)
+        if (!strcmp(*command, "-m") && command[1])
+            text = command[1];
+    if (!strncmp(text, "size=", 5))
+        text += 5;
+    char *end;
+    errno = 0;
+    uint64_t size = strtoull(text, &end, 10);
+    const char *unit = *end ? strchr(units, toupper((unsigned char)*end)) : &units[1];
+    unsigned shift = unit ? 10 * (unsigned)(unit - units + 1) : 0;
+    if (errno || !isdigit((unsigned char)*text) || size > UINT64_MAX >> shift || (*end && *end != ',' && (!unit || (end[1] && end[1] != ',')))) {
+        complain("-m %s: the size of the guest's memory can't be read", text);
+        return 0;
+    }
+    return size << (unit ? shift : 20);
+}
+
+/* A memory backend, if the command names none for its machine. `backend` has room for it. */
+static int add_memory(struct line *line, char *const *command, char *backend, size_t room) {
+    if (has(command, "-machine", "memory-backend=") || has(command, "-M", "memory-backend="))
+        return 0;
+    uint64_t size = memory_size(command);
+    if (size == 0)
+        return -1;
+    snprintf(backend, room, "memory-backend-memfd,id=ahci-hba-memory,size=%" PRIu64 ",share=on", size);
+    add(line, "-object");
+    add(line, backend);
+    add(line, "-machine");
+    add(line, "memory-backend=ahci-hba-memory");
+    return 0;
+}
+
+/* One thread for all processors of TCG: with several, interrupts that come by the qtest socket are lost. */
+static void add_accelerator(struct line *line, char *const *command) {
+    if (has_option(command, "-accel") || has_option(command, "-enable-kvm") || has(command, "-machine", "accel=") || has(command, "-M", "accel="))
+        return;
+    add(line, "-accel");
+    add(line, "tcg,thread=single");
+}
+
+static void add_devices(struct line *line, char *const *command, char *proxy, char *qtest, size_t room) {
+    if (!has(command, "-device", "x-pci-proxy-dev")) {
+        snprintf(proxy, room, "x-pci-proxy-dev,id=ahci-hba,fd=%d", RUN_PROXY_FILE);
+        add(line, "-device");
+        add(line, proxy);
+    }
+    snprintf(qtest, room, "socket,id=ahci-hba-messages,fd=%d", RUN_QTEST_FILE);
+    add(line, "-chardev");
+    add(line, qtest);
+    add(line, "-object");
+    add(line, "qtest,id=ahci-hba-qtest,chardev=ahci-hba-messages,log=none");
+}
+
+/* Gives two files their numbers in the program that is started. */
+static void hand_over(int proxy, int qtest) {
+    int high_proxy = fcntl(proxy, F_DUPFD_CLOEXEC, RUN_QTEST_FILE + 1), high_qtest = fcntl(qtest, F_DUPFD_CLOEXEC, RUN_QTEST_FILE + 1);
+    dup2(high_proxy, RUN_PROXY_FILE);
+    dup2(high_qtest, RUN_QTEST_FILE);
+}
+
+/* What the child does before its program begins: it ends with its parent, and takes signals again. */
+static void begin_child(void) {
+    sigset_t none;
+    sigemptyset(&none);
+    sigprocmask(SIG_SETMASK, &none, NULL);
+    prctl(PR_SET_PDEATHSIG, SIGKILL);
+}
+
+static void become(char **words) {
+    execvp(words[0], words);
+    fprintf(stderr, "ahci-hba: %s: %s\n", words[0], strerror(errno));
+    _exit(127);
+}
+
+static pid_t start_qemu(struct line *line, int proxy, int qtest) {
+    pid_t child = fork();
+    if (child < 0)
+        complain("no process can be made: %m");
+    if (child == 0) {
+        begin_child();
+        hand_over(proxy, qtest);
+        become(line->words);
+    }
+    return child;
+}
+
+static int make_sockets(int proxy[2], int qtest[2]) {
+    if (socketpair(AF_UNIX, SOCK_STREAM | SOCK_CLOEXEC, 0, proxy) == 0) {
+        if (socketpair(AF_UNIX, SOCK_STREAM | SOCK_CLOEXEC, 0, qtest) == 0)
+            return 0;
+        close(proxy[0]);
+        close(proxy[1]);
+    }
+    complain("no socket can be made: %m");
+    return -1;
+}
+
+static void log_command(char *const *words) {
+    char text[200];
+    size_t at = 0;
+    text[0] = 0;
+    for (; *words && at + strlen(*words) + 2 < sizeof text; words++)
+        at += (size_t)snprintf(text + at, sizeof text - at, " %s", *words);
+    log_line("starts%s%s", text, *words ? " .." : "");
+}
+
+pid_t run_qemu(char *const *command, int *proxy, int *qtest) {
+    char backend[96], device[64], chardev[64];
+    int proxies[2], qtests[2];
+    struct line line;
+    pid_t child = -1;
+    if (begin_line(&line, command))
+        return -1;
+    add_accelerator(&line, command);
+    add_devices(&line, command, device, chardev, sizeof device);
+    if (add_memory(&line, command, backend, sizeof backend) == 0 && make_sockets(proxies, qtests) == 0) {
+        log_command(line.words);
+        child = start_qemu(&line, proxies[1], qtests[1]);
+        close(proxies[1]);
+        close(qtests[1]);
+        *proxy = proxies[0];
+        *qtest = qtests[0];
+    }
+    free(line.words);
+    return child;
+}
+
+pid_t run_uml(char *const *command, const char *socket_path) {
+    char device[256];
+    struct line line;
+    if (begin_line(&line, command))
+        return -1;
+    snprintf(device, sizeof device, "virtio_uml.device=%s:1234", socket_path);
+    add(&line, device);
+    log_command(line.words);
+    pid_t child = fork();
+    if (child < 0)
+        complain("no process can be made: %m");
+    if (child == 0) {
+        begin_child();
+        become(line.words);
+    }
+    free(line.words);
+    return child;
+}

@@ -1,0 +1,35 @@
+/* User Mode Linux's side: its PCI bus over virtio, whose device is served by vhost-user. The kernel wants CONFIG_UML_PCI_OVER_VIRTIO. */
+#ifndef AHCI_HBA_VHOST_H
+#define AHCI_HBA_VHOST_H
+
+#include "memory.h"
+#include "pci.h"
+#include "ring.h"
+#include "transport.h"
+
+#define VHOST_RINGS 2
+
+struct vhost {
+    char folder[80]; /* with the socket, for as long as there is one */
+    char path[96];
+    int listening;
+    int socket; /* -1 until the kernel has come */
+    int back;   /* by which a device may ask the kernel; it takes the device away once this is closed */
+    struct ring rings[VHOST_RINGS]; /* the kernel's accesses, and the device's interrupts */
+    unsigned unsignalled; /* accesses that were answered since the kernel was signalled */
+    struct pci *pci;
+    struct memory *memory;
+};
+
+/* Makes a socket for the kernel. It answers 0, or -1 once the reason was written to standard error. */
+int vhost_begin(struct vhost *vhost, struct pci *pci, struct memory *memory);
+
+/* The socket's path, for the kernel's command line. */
+const char *vhost_path(const struct vhost *vhost);
+
+struct transport vhost_transport(struct vhost *vhost);
+struct wire vhost_wire(struct vhost *vhost);
+
+void vhost_end(struct vhost *vhost);
+
+#endif
