@@ -397,7 +397,7 @@ typedef enum ahci_rule {
     AHCI_RULE_COMMAND_WHILE_STOPPED = 11, /* a bit of PxCI is set while ST is 0 (section 3.3.14) */
     AHCI_RULE_COMMAND_WHILE_HALTED = 12, /* a bit of PxCI is set after an error and before ST is cleared (section 6.2.2) */
     AHCI_RULE_MIXED_COMMANDS = 13, /* queued commands and others are outstanding together (section 5.5.1) */
-    AHCI_RULE_INTERRUPT_NOT_CLEARED = 14, /* IS is cleared before the enabled bits of PxIS (section 10.7.2) */
+    AHCI_RULE_INTERRUPT_NOT_CLEARED = 14, /* IS is cleared while an enabled bit of PxIS is 1: it comes again (section 10.7.2) */
     AHCI_RULE_RESERVED_BITS = 15, /* reserved bits of a register are written 1 (section 3) */
     AHCI_RULE_FIS_LENGTH = 16, /* CFL is not the five dwords of a Register FIS - Host to Device (section 4.2.2) */
     AHCI_RULE_NO_COMMAND_FIS = 17, /* CFIS is no Register FIS - Host to Device (section 4.2.3) */

@@ -96,6 +96,7 @@ static bool move_in(struct device *device) {
         return false;
     if (status != AHCI_OK)
         disagree("ahci_hba_supply", status);
+    judge_run(&device->judge, &device->hba, device->reading, device->state.address, bytes, count);
     if (device->runs++ == FIS_RUN && count == COMMAND_FIS_BYTES)
         note_command(device, bytes);
     return true;
@@ -173,9 +174,16 @@ static bool fail_if_unsaved(struct device *device, uint32_t slot) {
     return device->unsaved && ahci_hba_refuse(&device->hba, slot, AHCI_ERROR_ABRT, 0) == AHCI_OK;
 }
 
+/* Whether a step answers a command. */
+static bool is_answer(uint8_t kind) {
+    return kind == AHCI_STEP_SERVE || kind == AHCI_STEP_EXECUTE;
+}
+
 static void take_step(struct device *device, uint32_t slot) {
     uint8_t kind = device->state.next[slot];
     uint64_t entries = 0;
+    if (is_answer(kind))
+        judge_answer(&device->judge, device->memory, slot);
     uint32_t status = ahci_hba_step(&device->hba, slot, &entries);
     if (status == AHCI_OUT_OF_MEMORY) {
         wait_for_memory(device);
@@ -190,6 +198,7 @@ static void take_step(struct device *device, uint32_t slot) {
         device->reading = slot;
         device->runs = 0;
         device->commands[slot] = (struct command){.flushes = false};
+        judge_fetch(&device->judge, slot);
     }
     device->unsaved |= kind == AHCI_STEP_SERVE;
     follow(device, entries, kind == AHCI_STEP_RECOVER);
@@ -215,10 +224,6 @@ static uint32_t pick_of(struct device *device, uint32_t set) {
             set &= set - 1;
     }
     return (uint32_t)__builtin_ctz(set);
-}
-
-static bool is_answer(uint8_t kind) {
-    return kind == AHCI_STEP_SERVE || kind == AHCI_STEP_EXECUTE;
 }
 
 /* The slots with a step that answers a command, or those with any other step. */
@@ -314,6 +319,7 @@ uint64_t device_read(struct device *device, uint32_t offset, uint32_t bytes) {
 
 void device_write(struct device *device, uint32_t offset, uint32_t bytes, uint64_t value) {
     uint64_t entries = 0;
+    judge_write(&device->judge, &device->hba, offset, bytes, value);
     uint32_t status = ahci_hba_write(&device->hba, offset, bytes, value, &entries);
     if (status != AHCI_OK)
         log_line("a write of %" PRIu32 " bytes at %03" PRIx32 " was refused: status %" PRIu32, bytes, offset, status);
@@ -353,16 +359,20 @@ int device_begin(struct device *device, struct settings *settings, struct memory
         ahci_hba_free(&device->hba);
         return -1;
     }
+    judge_begin(&device->judge, settings->judge, settings->json);
     look(device);
     return 0;
 }
 
-int device_end(struct device *device) {
+int device_end(struct device *device, int *broken) {
     const struct settings *settings = device->settings;
     int failed = device->save_failed ? -1 : 0;
     if (settings->image && device->unsaved && image_write(settings->image, &device->hba, settings->sectors))
         failed = -1;
     if (record_end(&device->record))
+        failed = -1;
+    *broken = judge_end(&device->judge);
+    if (*broken < 0)
         failed = -1;
     ahci_hba_free(&device->hba);
     free(device->buffer);

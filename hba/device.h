@@ -4,6 +4,7 @@
 #define AHCI_HBA_DEVICE_H
 
 #include "command.h"
+#include "judge.h"
 #include "memory.h"
 #include "record.h"
 #include "settings.h"
@@ -19,6 +20,7 @@ struct device {
     ahci_hba hba;
     ahci_hba_state state;  /* what the controller does next */
     struct record record;
+    struct judge judge;
     struct command commands[AHCI_MOST_TAGS]; /* by slot: what was read there last */
     uint32_t reading; /* the slot whose command is read */
     uint32_t runs;    /* how many runs of it were read */
@@ -37,8 +39,9 @@ struct device {
 /* Makes the controller over the image's sectors. It answers 0, or -1 once the reason was written to standard error. */
 int device_begin(struct device *device, struct settings *settings, struct memory *memory);
 
-/* Writes the image back, and frees all. It answers 0, or -1 if something could not be written. */
-int device_end(struct device *device);
+/* Writes the image back, and the judge's table, and frees all. It answers 0, or -1 if something could not be written. *broken is how many rules
+   the driver broke, if it was judged. */
+int device_end(struct device *device, int *broken);
 
 /* An access of the driver to the registers, in 1, 2, 4 or 8 bytes. */
 uint64_t device_read(struct device *device, uint32_t offset, uint32_t bytes);

@@ -130,19 +130,21 @@ static int run_with_uml(const struct settings *settings, struct device *device, 
     return child < 0 ? -1 : end_child(child);
 }
 
+/* Runs the guest. The answer is the exit status. */
 static int run(struct settings *settings) {
     struct memory memory = {.count = 0};
+    int broken = 0;
     struct device device;
     sigset_t waiting;
     if (device_begin(&device, settings, &memory))
-        return -1;
+        return 1;
     begin_signals(&waiting);
     int failed = settings->guest == GUEST_UML ? run_with_uml(settings, &device, &memory, &waiting)
                                               : run_with_qemu(settings, &device, &memory, &waiting);
     memory_clear(&memory);
-    if (device_end(&device))
-        failed = -1;
-    return failed;
+    if (device_end(&device, &broken) || failed)
+        return 1;
+    return broken ? 3 : 0;
 }
 
 int main(int count, char **words) {
@@ -152,10 +154,10 @@ int main(int count, char **words) {
         return asked == ASKED_NOTHING ? (fflush(stdout) ? 1 : 0) : 2;
     if (log_begin(settings.log))
         return 1;
-    int failed = run(&settings);
+    int status = run(&settings);
     if (log_end()) {
         complain("--log %s: it could not be written", settings.log);
-        failed = -1;
+        status = 1;
     }
-    return failed ? 1 : 0;
+    return status;
 }

@@ -33,11 +33,14 @@ static const char help[] =
     "      --delay MICROSECONDS     The device waits so long before it answers a command (default 0)\n"
     "      --record FILE            A script of `ahci replay` of what the disk's queue does, line by line as it happens\n"
     "      --log FILE               A line for each access of the guest\n"
+    "      --judge                  Writes which rules of AHCI 1.3.1 the guest's driver breaks to standard error, as it breaks them,\n"
+    "                               and a table at the end\n"
+    "      --json FILE              The same table as JSON; judges also without --judge\n"
     "  -h, --help                   Writes this text\n"
     "      --version                Writes the version\n"
     "\n"
     "Status: 0 if the guest's program ended with 0 and all was written; 1 if it did not, or if the image, the record or the log\n"
-    "could not be written; 2 if the command line is wrong.\n";
+    "could not be written; 2 if the command line is wrong; 3 if all went well but the driver broke a rule that the standard has.\n";
 
 #define MOST_DELAY 10000000
 
@@ -137,6 +140,10 @@ static int take_option(struct settings *settings, const char *name, const char *
         return take_file(name, value, &settings->record);
     if (!strcmp(name, "--log"))
         return take_file(name, value, &settings->log);
+    if (!strcmp(name, "--json")) {
+        settings->judge = true;
+        return take_file(name, value, &settings->json);
+    }
     complain("%s: there is no such option", name);
     return -1;
 }
@@ -187,6 +194,10 @@ static int take_words(struct settings *settings, char **words) {
         }
         if (equals)
             *equals = 0;
+        if (!equals && !strcmp(*words, "--judge")) {
+            settings->judge = true;
+            continue;
+        }
         const char *name = *words, *value = equals ? equals + 1 : *++words;
         if (!value || (!equals && !strcmp(value, "--"))) {
             complain("%s: a value is wanted", name);

@@ -30,6 +30,8 @@ struct settings {
     const char *image;  /* a file with the disk's sectors, or NULL */
     const char *record; /* a file for the script of what happens, or NULL */
     const char *log;    /* a file for a line of each access, or NULL */
+    bool judge;         /* the driver is judged */
+    const char *json;   /* a file for what the judge found, or NULL */
     struct failure failures[MOST_FAILURES];
     unsigned failure_count;
     char **command; /* the guest's program and its arguments, with NULL at the end */

@@ -106,5 +106,6 @@ section_of rule.ListTooLong = codes "4.2.3"
 abbrev pub verdict_of : Rule → Verdict
 verdict_of rule.StartWithReceiving = verdict.Open
 verdict_of rule.CommandWhileHalted = verdict.Odd
+verdict_of rule.InterruptNotCleared = verdict.Odd
 verdict_of rule.ListTooLong = verdict.Odd
 verdict_of other = verdict.Broken

@@ -63,9 +63,9 @@ abbrev pub active_rule : Rule → HbaState → ℕ → Bool
 active_rule rule.ActiveWhileStopped s word = not (is_started s) && not (nat_eq word 0)
 active_rule other s word = false
 
--- of PxCI: with this word, commands are outstanding of which some are queued and some aren't
+-- of PxCI: queued commands are outstanding (PxSACT), and with this word one that is not queued
 abbrev pub is_mixed : ℕ → ℕ → Bool
-is_mixed sact all = any_of all sact && not (nat_eq (bit_and all sact) all)
+is_mixed sact all = not (nat_eq sact 0) && not (nat_eq (bit_and all sact) all)
 
 abbrev pub issue_rule : Rule → HbaState → ℕ → Bool
 issue_rule rule.CommandWhileStopped s word = not (is_started s) && not (nat_eq word 0)

@@ -36,7 +36,7 @@ pub enum Rule {
     CommandWhileHalted,
     /// Queued commands and others are outstanding together (section 5.5.1).
     MixedCommands,
-    /// IS is cleared before the enabled bits of PxIS (section 10.7.2).
+    /// IS is cleared while an enabled bit of PxIS is 1: it comes again (section 10.7.2).
     InterruptNotCleared,
     /// Reserved bits of a register are written 1 (section 3).
     ReservedBits,
@@ -181,7 +181,8 @@ impl Rule {
     {
         match self {
             Rule::StartWithReceiving => Verdict::Open,
-            Rule::CommandWhileHalted | Rule::ListTooLong => Verdict::Odd,
+            Rule::CommandWhileHalted | Rule::InterruptNotCleared | Rule::ListTooLong =>
+                Verdict::Odd,
             _ => Verdict::Broken,
         }
     }

@@ -154,7 +154,7 @@ fn active_rule(rule: Rule, registers: &HbaRegs, word: u32) -> bool
 fn is_mixed(sact: u32, all: u32) -> bool
     ensures { result ≡ is_mixed sact all }
 {
-    any_of(all, sact) && all & sact != all
+    sact != 0 && all & sact != all
 }
 
 /// PxCI.

@@ -1,0 +1,44 @@
+"""Checks of the judge: a driver that keeps the rules, and one that breaks each."""
+from __future__ import annotations
+
+import json
+import os
+import subprocess
+from concurrent.futures import ThreadPoolExecutor
+from typing import Dict, List
+
+from harness import BROKE_A_RULE, HERE, SANITIZED, expect
+
+DRIVER = os.path.join(HERE, "checks", "driver")
+SLOW = ["--delay", "50000"]  # so that the command is outstanding when its memory changes
+WHILE_OUTSTANDING = ["table_changed", "data_changed", "mixed", "list_moved", "area_moved", "clo_while_started", "comreset_while_started"]
+
+
+def faults() -> Dict[str, str]:
+    """The faults that the driver knows, and the rule that each breaks."""
+    shown = subprocess.run([DRIVER, "--list"], capture_output=True, text=True, check=True).stdout
+    return dict(line.split(" ") for line in shown.splitlines())
+
+
+def judged(room: str, fault: str) -> List[Dict[str, str]]:
+    """The rules that the judge names, of a run with a fault."""
+    found = os.path.join(room, f"{fault}.json")
+    options = SLOW if fault in WHILE_OUTSTANDING else ["--fail", "3:40"] if fault == "log_not_read" else []
+    ran = subprocess.run([SANITIZED, "run", "--sectors", "64", "--json", found, *options, "--", DRIVER, fault], capture_output=True, text=True, check=False)
+    with open(found, encoding="utf-8") as file:
+        rules: List[Dict[str, str]] = json.load(file)["rules"]
+    broken = any(it["verdict"] == "broken" for it in rules)
+    expect(ran.returncode == (BROKE_A_RULE if broken else 0), f"{fault}: status {ran.returncode}: {ran.stderr}")
+    return rules
+
+
+def planted(room: str) -> str:
+    """Each fault is named, with its section; the driver without one breaks no rule."""
+    wanted = faults()
+    with ThreadPoolExecutor(4) as pool:
+        found = dict(zip(wanted, pool.map(lambda fault: judged(room, fault), wanted)))
+    for fault, rule in wanted.items():
+        expect(any(it["rule"] == rule and it["section"] for it in found[fault]), f"{fault}: {rule} is not named, but {found[fault]}")
+    right = judged(room, "none")
+    expect(not right, f"a driver that keeps the rules is said to break {right}")
+    return f"{len(wanted)} faults named, and none of a driver without one"

@@ -1,0 +1,53 @@
+#include "rules.h"
+
+#include <stddef.h>
+
+const struct rule rules[JUDGE_RULES] = {
+    [AHCI_RULE_START_WITHOUT_RECEIVING] = {"StartWithoutReceiving", "10.3.1", VERDICT_BROKEN, "ST is set while FRE is 0 and stays 0"},
+    [AHCI_RULE_START_WITH_RECEIVING] = {"StartWithReceiving", "10.3.1", VERDICT_OPEN, "ST and FRE are set by one write"},
+    [AHCI_RULE_START_WHILE_BUSY] = {"StartWhileBusy", "10.3.1", VERDICT_BROKEN, "ST is set while BSY or DRQ is 1, without CLO"},
+    [AHCI_RULE_START_WITHOUT_DEVICE] = {"StartWithoutDevice", "10.3.1", VERDICT_BROKEN, "ST is set while PxSSTS.DET is not 3"},
+    [AHCI_RULE_RECEIVING_CLEARED_WHILE_STARTED] = {"ReceivingClearedWhileStarted", "10.3.2", VERDICT_BROKEN, "FRE is cleared while ST is 1"},
+    [AHCI_RULE_LIST_MOVED_WHILE_STARTED] = {"ListMovedWhileStarted", "10.3.1", VERDICT_BROKEN, "PxCLB or PxCLBU is changed while ST is 1"},
+    [AHCI_RULE_AREA_MOVED_WHILE_RECEIVING] = {"AreaMovedWhileReceiving", "10.3.2", VERDICT_BROKEN, "PxFB or PxFBU is changed while FRE is 1"},
+    [AHCI_RULE_CLEAR_BUSY_WHILE_STARTED] = {"ClearBusyWhileStarted", "3.3.7", VERDICT_BROKEN, "CLO is set while ST is 1"},
+    [AHCI_RULE_LINK_CHANGED_WHILE_STARTED] = {"LinkChangedWhileStarted", "3.3.11", VERDICT_BROKEN, "PxSCTL.DET is changed while ST is 1"},
+    [AHCI_RULE_RESERVED_LINK_STATE] = {"ReservedLinkState", "3.3.11", VERDICT_BROKEN, "PxSCTL.DET is set to a reserved value"},
+    [AHCI_RULE_ACTIVE_WHILE_STOPPED] = {"ActiveWhileStopped", "3.3.13", VERDICT_BROKEN, "a bit of PxSACT is set while ST is 0"},
+    [AHCI_RULE_COMMAND_WHILE_STOPPED] = {"CommandWhileStopped", "3.3.14", VERDICT_BROKEN, "a bit of PxCI is set while ST is 0"},
+    [AHCI_RULE_COMMAND_WHILE_HALTED] = {"CommandWhileHalted", "6.2.2", VERDICT_ODD, "a bit of PxCI is set after an error and before ST is cleared"},
+    [AHCI_RULE_MIXED_COMMANDS] = {"MixedCommands", "5.5.1", VERDICT_BROKEN, "queued commands and others are outstanding together"},
+    [AHCI_RULE_INTERRUPT_NOT_CLEARED] = {"InterruptNotCleared", "10.7.2", VERDICT_ODD, "IS is cleared while an enabled bit of PxIS is 1: it comes again"},
+    [AHCI_RULE_RESERVED_BITS] = {"ReservedBits", "3", VERDICT_BROKEN, "reserved bits of a register are written 1"},
+    [AHCI_RULE_FIS_LENGTH] = {"FisLength", "4.2.2", VERDICT_BROKEN, "CFL is not the five dwords of a Register FIS - Host to Device"},
+    [AHCI_RULE_NO_COMMAND_FIS] = {"NoCommandFis", "4.2.3", VERDICT_BROKEN, "CFIS is no Register FIS - Host to Device"},
+    [AHCI_RULE_ATAPI_FLAG] = {"AtapiFlag", "4.2.2", VERDICT_BROKEN, "A is 1 for a disk"},
+    [AHCI_RULE_WRITE_FLAG] = {"WriteFlag", "4.2.2", VERDICT_BROKEN, "W does not tell the direction of the data"},
+    [AHCI_RULE_ACTIVE_WITHOUT_QUEUE] = {"ActiveWithoutQueue", "3.3.13", VERDICT_BROKEN, "PxSACT has the slot of a command that is not queued"},
+    [AHCI_RULE_QUEUE_WITHOUT_ACTIVE] = {"QueueWithoutActive", "5.5.1", VERDICT_BROKEN, "PxSACT does not have the slot of a queued command"},
+    [AHCI_RULE_TAG_NOT_SLOT] = {"TagNotSlot", "3.3.13", VERDICT_BROKEN, "the tag of a queued command is not its slot"},
+    [AHCI_RULE_RESERVED_HEADER] = {"ReservedHeader", "4.2.2", VERDICT_BROKEN, "reserved dwords of a command header are not 0"},
+    [AHCI_RULE_TABLE_UNALIGNED] = {"TableUnaligned", "4.2.2", VERDICT_BROKEN, "CTBA is not a multiple of 128"},
+    [AHCI_RULE_ODD_ADDRESS] = {"OddAddress", "4.2.3", VERDICT_BROKEN, "DBA of a PRDT entry is odd"},
+    [AHCI_RULE_EVEN_COUNT] = {"EvenCount", "4.2.3", VERDICT_BROKEN, "bit 0 of DBC is 0: the length is odd"},
+    [AHCI_RULE_LIST_TOO_SHORT] = {"ListTooShort", "3.3.5", VERDICT_BROKEN, "the PRDT has fewer bytes than the command moves"},
+    [AHCI_RULE_LIST_TOO_LONG] = {"ListTooLong", "4.2.3", VERDICT_ODD, "the PRDT has more bytes than the command moves"},
+    [JUDGE_UNALIGNED_ACCESS] = {"UnalignedAccess", "3", VERDICT_BROKEN, "an access is not aligned to its size"},
+    [JUDGE_SMALL_ACCESS] = {"SmallAccess", "3", VERDICT_ODD, "a register is written in 1 or 2 bytes"},
+    [JUDGE_NO_REGISTER] = {"NoRegister", "3", VERDICT_BROKEN, "a value other than 0 is written where no register is"},
+    [JUDGE_TABLE_CHANGED] = {"TableChanged", "5.5.1", VERDICT_BROKEN, "a command header or table is changed before its command has ended"},
+    [JUDGE_DATA_CHANGED] = {"DataChanged", "5.5.1", VERDICT_BROKEN, "the data of a write are changed before its command has ended"},
+    [JUDGE_LOG_NOT_READ] = {"LogNotRead", "6.2.2", VERDICT_BROKEN, "after a failed queued command another command than READ LOG EXT of log 10h comes first"},
+};
+
+const char *verdict_text(enum verdict verdict) {
+    switch (verdict) {
+    case VERDICT_BROKEN:
+        return "broken";
+    case VERDICT_OPEN:
+        return "the standard leaves it open";
+    case VERDICT_ODD:
+        return "allowed, and odd";
+    }
+    return NULL;
+}
