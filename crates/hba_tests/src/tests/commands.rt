@@ -100,8 +100,8 @@ static ANSWERS: [(&str, Answered); 24] = [
 ];
 
 /// Plays one of them: the D2H Register FIS with I, PxTFD, PxIS and PxCI. A port that has failed it goes on once ST is cleared and set.
-fn answers(rt: &impl Abort, player: &mut Player, name: &'static str, answered: Answered) {
-    let (fis, status, error, lba, count) = answered;
+fn answers(rt: &impl Abort, player: &mut Player, name: &'static str, answered: &Answered) {
+    let (fis, status, error, lba, count) = *answered;
     let failed = status % 2;
     let rows = [
         Lays(0, NONE, TABLE, fis, NO_PIECES),
@@ -120,7 +120,7 @@ fn answers(rt: &impl Abort, player: &mut Player, name: &'static str, answered: A
 fn each_command_without_data_is_answered(rt: HostRuntime) -> Result<(), Fail> {
     let mut player = Player::new(rt.alloc(), 8, 32, MEMORY)?;
     player.play(&rt, "the port is started", 0, START);
-    for (name, answered) in ANSWERS {
+    for (name, answered) in &ANSWERS {
         answers(&rt, &mut player, name, answered);
     }
     Ok(())
