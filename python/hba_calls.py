@@ -1,0 +1,139 @@
+"""Every call of ahci_hba.py, over the life of a driver: start, IDENTIFY DEVICE, a queued write and read, an error and its log, resets, and rules."""
+from __future__ import annotations
+
+import struct
+from typing import Callable
+
+import ahci
+from ahci_hba import Hba, Rule, Step, Want, command_breaks, entry_breaks, length_breaks
+
+PXCLB, PXFB, PXIS, PXIE, PXCMD, PXTFD, PXSIG, PXSERR, PXSACT, PXCI = 0x100, 0x108, 0x110, 0x114, 0x118, 0x120, 0x124, 0x130, 0x134, 0x138
+LIST, RECEIVED, TABLES, DATA = 0x1000, 0x400, 0x2000, 0x8000
+SECTORS = 64
+
+
+def refused(status: ahci.Status, call: Callable[[], object]) -> None:
+    """The call is refused for this reason."""
+    try:
+        call()
+    except ahci.Refused as why:
+        assert why.status == status, why
+    else:
+        raise AssertionError(f"not {status.name}")
+
+
+def lay(memory: bytearray, slot: int, fis: bytes, bytes_moved: int, write: bool) -> None:
+    """Lays out a command: header, command FIS and one PRDT entry (AHCI 1.3.1, sections 4.2.2 and 4.2.3)."""
+    table = TABLES + 0x100 * slot
+    memory[LIST + 32 * slot:LIST + 32 * slot + 32] = struct.pack("<HHIQ16x", 5 | write << 6, 1 if bytes_moved else 0, 0, table)
+    memory[table:table + 20] = fis.ljust(20, b"\0")
+    memory[table + 0x80:table + 0x90] = struct.pack("<QII", DATA, 0, max(bytes_moved, 1) - 1)
+
+
+def queued(code: int, slot: int, lba: int) -> bytes:
+    """READ or WRITE FPDMA QUEUED of one sector (ACS-3)."""
+    return bytes([0x27, 0x80, code, 1, lba, 0, 0, 0x40, 0, 0, 0, 0, slot << 3, 0])
+
+
+def issue(hba: Hba, slot: int, is_queued: bool) -> None:
+    if is_queued:
+        hba.write(PXSACT, 1 << slot)
+    hba.write(PXCI, 1 << slot)
+
+
+def until(hba: Hba, memory: bytearray, slot: int, step: Step) -> None:
+    """Goes on with a slot's command up to this step."""
+    while hba.look().next[slot] != step:
+        assert hba.move(memory) or hba.look().next[slot] != Step.NONE, "the command is stuck"
+        if hba.look().want == Want.NOTHING and hba.look().next[slot] not in (step, Step.NONE):
+            hba.step(slot)
+
+
+memory = bytearray(0x10000)
+with Hba(bytes(SECTORS * 512), depth=32) as hba:
+    assert (hba.read(0x00), hba.read(0x10), hba.read(0x13C), hba.read(0x104, 8)) == (0xC1241F00, 0x00010301, 0, 0)
+    refused(ahci.Status.WRONG_LENGTH, lambda: hba.read(0, 3))
+    refused(ahci.Status.WRONG_LENGTH, lambda: hba.write(0, 0, 5))
+    refused(ahci.Status.NOT_READY, hba.sign)
+    assert hba.write(0x04, 0x80000002) == 0
+    hba.write(PXCLB, LIST)
+    hba.write(PXFB, RECEIVED)
+    assert hba.write_breaks(Rule.START_WITHOUT_RECEIVING, PXCMD, 1) and not hba.write_breaks(Rule.START_WITHOUT_RECEIVING, PXCMD, 0x10)
+    refused(ahci.Status.NO_SUCH_REGISTER, lambda: hba.write_breaks(Rule.RESERVED_BITS, 0x13C, 1))
+    hba.write(PXCMD, 0x10)
+    assert hba.look().sign and hba.look().depth == 32
+    hba.sign()
+    assert (hba.look().want, hba.look().address, len(hba.bytes())) == (Want.WRITE, RECEIVED + 0x40, 20)
+    hba.run(memory)
+    assert (hba.read(PXSIG), hba.read(PXTFD), memory[RECEIVED + 0x40]) == (0x101, 0x150, 0x34)
+    hba.write(PXSERR, 0xFFFFFFFF)
+    hba.write(PXIS, 0xFFFFFFFF)
+    hba.write(PXIE, 0x7800000F)
+    hba.write(PXCMD, 0x11)
+
+    # IDENTIFY DEVICE: the model number, and an interrupt
+    lay(memory, 0, bytes([0x27, 0x80, 0xEC]), 512, False)
+    issue(hba, 0, False)
+    hba.run(memory)
+    assert bytes(memory[DATA + 54:DATA + 64]) == b"OSTFAWERN " and hba.look().interrupt
+
+    # a queued write, and what the journal says of it
+    memory[DATA:DATA + 512] = b"\xAA" * 512
+    lay(memory, 3, queued(0x61, 3, 5), 512, True)
+    issue(hba, 3, True)
+    until(hba, memory, 3, Step.SERVE)
+    number = hba.port().numbers[3]
+    assert hba.entry(number).lba == 5 and hba.entry_bytes(number) == b"\xAA" * 512 and hba.copy(5) == bytes(512)
+    hba.run(memory)
+    assert hba.copy(5) == b"\xAA" * 512 and hba.read(PXSACT) == 0
+    refused(ahci.Status.NO_SUCH_SECTOR, lambda: hba.copy(SECTORS))
+    refused(ahci.Status.NO_SUCH_ENTRY, lambda: hba.entry(1 << 40))
+
+    # a queued read fails; the port halts, and its log is read once it was started again
+    lay(memory, 1, queued(0x60, 1, 5), 512, False)
+    issue(hba, 1, True)
+    until(hba, memory, 1, Step.SERVE)
+    refused(ahci.Status.NOT_READY, lambda: hba.fail(1, 0x40, 6))
+    refused(ahci.Status.BAD_TAG, lambda: hba.fail(32, 0x40, 5))
+    hba.fail(1, 0x40, 5)
+    hba.run(memory)
+    assert hba.read(PXTFD) == 0x4041
+    hba.write(PXCMD, 0x10)
+    hba.write(PXCMD, 0x11)
+    lay(memory, 0, bytes([0x27, 0x80, 0x2F, 0, 0x10, 0, 0, 0, 0, 0, 0, 0, 1]), 512, False)
+    issue(hba, 0, False)
+    until(hba, memory, 0, Step.RECOVER)
+    assert hba.step(0) > 0
+    hba.run(memory)
+    assert (memory[DATA], memory[DATA + 3], memory[DATA + 4]) == (1, 0x40, 5)
+
+    # a read that the disk refuses, and an address that is no memory
+    lay(memory, 0, bytes([0x27, 0x80, 0xC8, 0, 5, 0, 0, 0x40, 0, 0, 0, 0, 1]), 512, False)
+    issue(hba, 0, False)
+    until(hba, memory, 0, Step.SEND)
+    refused(ahci.Status.BAD_LBA, lambda: hba.refuse(0, 0x40, 1 << 48))
+    hba.refuse(0, 0x40, 5)
+    hba.run(memory)
+    assert hba.read(PXTFD) == 0x4041
+    refused(ahci.Status.NOT_READY, lambda: hba.step(0))
+    hba.write(PXCMD, 0x10)
+    hba.write(PXCLB, 0x00F00000)
+    hba.write(PXCMD, 0x11)
+    issue(hba, 0, False)
+    hba.step(0)
+    refused(ahci.Status.WRONG_LENGTH, lambda: hba.supply(b""))
+    hba.unmapped()
+    assert hba.read(PXIS) & 1 << 29
+
+    # a reset hands the journal out if the queue has requests
+    hba.write(0x04, 0x80000001)
+    assert (hba.read(PXCMD), hba.read(PXSIG)) == (6, 0xFFFFFFFF)
+
+header, fis = struct.pack("<HHIQ16x", 5, 1, 0, TABLES), queued(0x60, 2, 5).ljust(20, b"\0")
+assert command_breaks(Rule.TAG_NOT_SLOT, 3, True, header, fis) and not command_breaks(Rule.TAG_NOT_SLOT, 2, True, header, fis)
+assert command_breaks(Rule.QUEUE_WITHOUT_ACTIVE, 2, False, header, fis)
+assert entry_breaks(Rule.ODD_ADDRESS, struct.pack("<QII", DATA + 1, 0, 511)) and not entry_breaks(Rule.EVEN_COUNT, struct.pack("<QII", DATA, 0, 511))
+assert length_breaks(Rule.LIST_TOO_SHORT, fis, 511) and not length_breaks(Rule.LIST_TOO_LONG, fis, 512)
+refused(ahci.Status.BAD_SIZE, lambda: Hba(bytes(100), 32))
+refused(ahci.Status.BAD_DEPTH, lambda: Hba(bytes(512), 33))
+print("every call of a controller, and every refusal that it has")
