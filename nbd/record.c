@@ -34,8 +34,6 @@ static int write_whole(int file, const char *bytes, size_t count) {
 
 /* Appends a line that ends in its line feed. */
 static void put(struct record *record, const char *line, size_t count) {
-    if (record->file < 0)
-        return;
     if (record->bytes + count + sizeof full > MOST_SCRIPT) {
         nbdkit_error("the record ends, since a script has at most %u bytes", MOST_SCRIPT);
         write_whole(record->file, full, sizeof full - 1);
@@ -62,6 +60,8 @@ int record_begin(struct record *record, const char *path, uint32_t sectors, uint
 void record_line(struct record *record, const char *format, ...) {
     char line[MOST_LINE + 2];
     va_list rest;
+    if (record->file < 0)
+        return;
     va_start(rest, format);
     int count = vsnprintf(line, MOST_LINE, format, rest);
     va_end(rest);
@@ -83,6 +83,8 @@ static size_t spell(char *line, size_t at, const uint8_t *bytes, size_t count) {
 
 void record_window(struct record *record, uint32_t tag, const uint8_t *header, const uint8_t *bytes, size_t count) {
     char line[MOST_LINE + 2];
+    if (record->file < 0)
+        return;
     size_t at = (size_t)snprintf(line, sizeof line, "raw %" PRIu32 " ", tag);
     if (at + 2 * (AHCI_HEADER_BYTES + count) + 1 > MOST_LINE) {
         nbdkit_error("the record ends, since a window of %zu bytes is no line of a script", count);
@@ -98,6 +100,8 @@ void record_window(struct record *record, uint32_t tag, const uint8_t *header, c
 
 void record_served(struct record *record, const uint8_t *tags, unsigned count) {
     char line[6 + 4 * AHCI_MOST_TAGS];
+    if (record->file < 0)
+        return;
     size_t at = (size_t)snprintf(line, sizeof line, "serve");
     for (unsigned i = 0; i < count; i++)
         at += (size_t)snprintf(line + at, sizeof line - at, " %u", tags[i]);
