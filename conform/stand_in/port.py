@@ -134,7 +134,7 @@ class StandIn(Adapter):
         count = (cfis[3] | cfis[11] << 8) or 65_536
         write = cfis[2] == 0x61
         data = b"".join(self.memory.read(*piece) for piece in self.pieces(tag)) if write else b""
-        return Command(write, self.lba(cfis), count, data)
+        return Command(write, self.lba(cfis), count, data[: count * layout.SECTOR])  # a list may have more bytes than the command moves
 
     def lba(self, cfis: bytes) -> int:
         return int.from_bytes(cfis[4:7] + cfis[8:11], "little")

@@ -4,10 +4,10 @@ import unittest
 from typing import List, Type
 
 from judge.adapter import EmulatorFault
-from judge.judge import Judged, judge
+from judge.judge import PLAIN, Judged, Way, judge
 from judge.known import NOTHING, Known, known_of
 from judge.report import as_json, counts, differences_text, table
-from judge.window import memory_of, pieces_of, window_of
+from judge.window import Layer, memory_of, pieces_of
 from stand_in.faults import FAULTS, named
 from stand_in.port import StandIn
 from tests.common import stored
@@ -27,8 +27,8 @@ class Dies(Counted):
         raise EmulatorFault("it has ended by signal 9")
 
 
-def run(made: Type[StandIn], known: Known = NOTHING) -> Judged:
-    return judge("queue", stored(), made(), known)
+def run(made: Type[StandIn], known: Known = NOTHING, way: Way = PLAIN) -> Judged:
+    return judge("queue", stored(), made, known, way)
 
 
 # the lines of the stored script at which SDBS begins to be wanting: `recover` clears it, and `serve 2` finds it wanting already
@@ -76,19 +76,19 @@ class Whole(unittest.TestCase):
 
 class Reports(unittest.TestCase):
     def test_a_difference_is_told_with_its_line_its_bits_and_the_trace(self) -> None:
-        text = "\n".join(differences_text(run(named("no_sdbs")), "the stand-in"))
+        text = "\n".join(differences_text(run(named("no_sdbs"))))
         for part in ("queue, line 19: fail 1 40 7 (PxIS)", "PxIS  (AHCI 1.3.1, section 3.3.5)", "expected  40000008  SDBS, TFES", "got       40000000  TFES",
                      "differs   SDBS", ">    19  fail 1 40 7"):
             self.assertIn(part, text)
 
     def test_each_place_is_told_up_to_eight(self) -> None:
         judged = run(named("goes_on_after_an_error"))
-        text = differences_text(judged, "the stand-in")
+        text = differences_text(judged)
         for place in ("DMA Setup FIS", "PxSACT", "PxTFD", "Set Device Bits FIS"):
             self.assertEqual(sum(line.startswith(f"  {place}  (") for line in text), 1, place)
         self.assertEqual(len(as_json(judged)["new"]["differences"]), 4)
-        many = differences_text(judged._replace(new=judged.new[:1] * 10), "the stand-in")
-        self.assertEqual((sum(line.startswith("    expected  ") for line in many), many.count("  and 2 more")), (8, 1))
+        many = differences_text(judged._replace(new=judged.new[:1] * 10))
+        self.assertEqual((sum(line.startswith("    expected  ") for line in many), many.count("  and 2 more places")), (8, 1))
 
     def test_scripts_and_lines_of_a_known_difference_are_counted(self) -> None:
         one = run(StandIn)
