@@ -12,7 +12,8 @@ With --raw the script is another one, in which `raw` lines stand too: windows of
 what the port ignores, and now and then one that breaks a rule.
 
 With --large it is another one again: an eighth of the scripts has a disk of up to 131,072 sectors, and there a few commands have 129
-sectors and more, 65,536 at most, so many that all scripts together take little longer.
+sectors and more, 65,536 at most, so many that all scripts together take little longer; and in all of them commands end with the last sector,
+or pass it by one, more often.
 """
 import random
 import signal
@@ -97,10 +98,10 @@ class Writer:
         self.first = self.one_of(["", "", "", " 0", " 7", f" {2**63 - 40}", f" {2**63}"])
         self.port = Port(1 + self.below(64), 1 + self.below(32), int(self.first or 0))
         self.likings = {word: 1 + self.below(most) for word, (_, most) in self.commands.items()}
-        self.left = 0  # sectors that large commands may still have
+        self.large, self.left = large, 0  # sectors that large commands may still have
         if large and self.below(8) == 0:
             self.port.sectors = self.up_to(256, 131_072)
-            self.left = self.up_to(1024, 131_072) if self.below(8) == 0 else 1024
+            self.left = self.up_to(2048, 131_072) if self.below(8) == 0 else 2048
 
     def below(self, end):
         return int(self.random() * end)
@@ -142,6 +143,8 @@ class Writer:
         if self.seldom():
             return self.one_of([self.below(end + 8), 2**48 - 1, 2**48, 2**64 - 1]), self.one_of([0, 1, 9, 65_537, 131_072])
         count = 1 + self.below(min(end, 8))
+        if self.large and self.below(32) == 0:
+            return end - count + self.below(2), count  # the last sector, or one more
         if self.left >= 129 and self.below(16) == 0:
             count = self.up_to(129, min(end, self.left, 65_536))
             self.left -= count

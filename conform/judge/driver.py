@@ -85,7 +85,7 @@ class Driver:
         self.image = Image(sectors)
         self.started = True  # so that `stop` ends one that came up half way
         self.adapter.start(sectors, depth)
-        self.layer.high = bool(self.read(0) & S64A)
+        self.layer.guest = self.layer.guest._replace(high=bool(self.read(0) & S64A))
         self.adapter.write_memory(layout.COMMAND_LIST, bytes(32 * 32))
         self.clear_area()
         self.write(layout.PX_CLB, step.registers["PxCLB"])

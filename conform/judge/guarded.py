@@ -37,7 +37,9 @@ class Guarded(Adapter):
         except (Exception, SystemExit) as why:
             raise why if isinstance(why, EmulatorFault) else fault_of("constructor", why) from why
         self.title, self.patience, self.quiet = str(self.adapter.title), float(self.adapter.patience), float(self.adapter.quiet)
-        self.memory = memory_of(self.adapter.memory)
+        self.memory, self.entries = memory_of(self.adapter.memory), self.checked("`entries`", self.adapter.entries, int)
+        if not 64 <= self.entries <= 65_535:
+            raise EmulatorFault(f"the adapter's `entries` is {self.entries}, and not 64 to 65,535")
 
     def call(self, name: str, *given: Any) -> Any:
         try:

@@ -33,8 +33,8 @@ class Image:
         """What is looked at after a command: of a large disk also those sectors to which a part of the LBA would lead."""
         if self.count <= WHOLE:
             return [range(self.count)]
-        firsts = {lba: count, 0: 1, self.count - 1: 1, lba & 0xFF: 1, lba & 0xFFFF: 1}
-        return [range(max(0, at - AROUND), min(self.count, at + many + AROUND)) for at, many in firsts.items()]
+        firsts = ((lba, count), (0, 1), (self.count - 1, 1), (lba & 0xFF, 1), (lba & 0xFFFF, 1))
+        return [range(max(0, at - AROUND), min(self.count, at + many + AROUND)) for at, many in firsts]
 
     def all(self) -> List[range]:
         """What is looked at at a script's end: everything, or of a large disk what was written, and the sectors around it."""

@@ -9,7 +9,7 @@ from .driver import Driver
 from .guarded import Guarded
 from .known import Known
 from .model import Step, Trace
-from .scatter import NoRoom
+from .scatter import Guest, NoRoom
 from .window import Layer
 
 
@@ -89,7 +89,7 @@ def blind(adapter: Guarded) -> Tuple[str, ...]:
 def judge(name: str, trace: Trace, make: Callable[[], Adapter], known: Known, way: Way = PLAIN, draft: Optional[Draft] = None) -> Judged:
     """Plays a script to its end, or to the first line that differs in a way that the list doesn't have."""
     adapter = Guarded(make)
-    driver = Driver(adapter, Layer(way.pieces, way.seed, adapter.memory), trace.page)
+    driver = Driver(adapter, Layer(way.pieces, way.seed, Guest(adapter.memory, adapter.entries)), trace.page)
     comparer, sorter = Comparer(driver), Sorter(name, known, draft)
     step, at, end = None, -1, ""
     try:

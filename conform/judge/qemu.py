@@ -20,6 +20,7 @@ class Qemu(Adapter):
 
     title = "QEMU"
     memory = ((0x10000000, 0x80000000), (0x100000000, 0x10000000))
+    entries = 1024  # with more QEMU's request to the host has too many parts, and fails
 
     def __init__(self, program: str = PROGRAM) -> None:
         self.program = program

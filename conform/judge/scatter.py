@@ -8,7 +8,7 @@ from typing import List, NamedTuple, Sequence
 from .adapter import Place
 
 PAGE = 4096
-MOST_ENTRIES = 65_535
+SPARE = 16  # entries that are left for pieces that are cut, and for those after the data
 MOST_UNITS = 1 << 21  # of two bytes: a piece has 4 MiB at most
 USERS = 33  # the slots, and the commands that aren't queued
 INTERRUPT = 1 << 31  # I of an entry
@@ -68,9 +68,9 @@ def rooms_of(memory: Sequence[Place], user: int, high: bool) -> List[Room]:
     return found
 
 
-def how_many(draws: Draws, units: int) -> int:
+def how_many(draws: Draws, units: int, entries: int) -> int:
     """How many pieces: most often a few, and now and then as many as can be."""
-    most, kind = min(units, MOST_ENTRIES - 4), draws.below(16)
+    most, kind = min(units, entries - SPARE), draws.below(16)
     if kind < 2:
         return 1
     if kind < 9:
@@ -80,14 +80,14 @@ def how_many(draws: Draws, units: int) -> int:
     return int(most ** draws.random())
 
 
-def lengths_of(draws: Draws, total: int) -> List[int]:
+def lengths_of(draws: Draws, total: int, entries: int) -> List[int]:
     """Even lengths that have this sum."""
     units = total // 2
     if draws.once_in(8):
-        size = max(256 << draws.below(5), units >> 15)
+        size = max(256 << draws.below(5), 2 * units // entries)
         found = [size] * (units // size) + [units % size] * (units % size > 0)
     else:
-        many = how_many(draws, units)
+        many = how_many(draws, units, entries)
         weights = [draws.random() ** 3 for _ in range(many)]
         scale = (units - many) / (sum(weights) or 1)
         found = [1 + int(it * scale) for it in weights]
@@ -149,12 +149,20 @@ def table_place(draws: Draws, rooms: List[Room], entries: int) -> int:
     raise NoRoom(f"a command table of {size:,} bytes has no room in the memory that the adapter offers")
 
 
-def scattered(draws: Draws, memory: Sequence[Place], user: int, high: bool, total: int) -> Laid:
+class Guest(NamedTuple):
+    """What a driver may use of the guest."""
+
+    memory: Sequence[Place]
+    entries: int  # of a PRDT at most
+    high: bool = False  # CAP has S64A
+
+
+def scattered(draws: Draws, guest: Guest, user: int, total: int) -> Laid:
     """A place for a command of so many bytes of data."""
-    rooms = rooms_of(memory, user, high)
+    rooms = rooms_of(guest.memory, user, guest.high)
     if not rooms:
         raise NoRoom("the adapter offers too little memory below 4 GiB for 33 commands")
-    lengths = beyond(draws, lengths_of(draws, total)) if total else []
+    lengths = beyond(draws, lengths_of(draws, total, guest.entries)) if total else []
     table_at = table_place(draws, rooms, len(lengths))
     places = [0] * len(lengths)
     for room in rooms:
@@ -205,4 +213,4 @@ def own_bytes(draws: Draws, fill: bytes, sectors: int) -> bytes:
     return b"".join(fill + (at & 0xFFFF).to_bytes(2, "little") + tails[at % 509 : at % 509 + 509] for at in range(sectors))
 
 
-__all__ = ["Draws", "Laid", "NoRoom", "decorated", "in_one_piece", "own_bytes", "prdt_of", "scattered"]
+__all__ = ["Draws", "Guest", "Laid", "NoRoom", "decorated", "in_one_piece", "own_bytes", "prdt_of", "scattered"]

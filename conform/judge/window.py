@@ -5,7 +5,7 @@ from typing import Dict, Iterator, List, NamedTuple, Optional, Sequence, Tuple
 from . import layout
 from .adapter import Place
 from .model import Sent
-from .scatter import Draws, Laid, decorated, in_one_piece, own_bytes, prdt_of, scattered
+from .scatter import Draws, Guest, Laid, decorated, in_one_piece, own_bytes, prdt_of, scattered
 
 UNTOUCHED = 0xC5  # what stands where a read's data shall come, and around all pieces
 GUARD = 64  # bytes around them that nobody may change
@@ -120,9 +120,8 @@ def rooms_of_model(tag: int) -> List[Place]:
 class Layer:
     """Makes windows by one way: `plain`, `scattered`, or, if `both`, one or the other as it comes."""
 
-    def __init__(self, way: str, seed: str, memory: Sequence[Place]) -> None:
-        self.way, self.seed, self.memory = way, seed, memory
-        self.high = False  # CAP has S64A
+    def __init__(self, way: str, seed: str, guest: Guest) -> None:
+        self.way, self.seed, self.guest = way, seed, guest
         self.times: Dict[str, int] = {}
 
     def draws(self, line: str) -> Draws:
@@ -160,17 +159,17 @@ class Layer:
     def has(self, tag: int) -> bool:
         """Whether the memory is there at which the model lays this window."""
         first = layout.window_base(tag)
-        return tag == PLAIN or any(address <= first and first + layout.WINDOW_SIZE <= address + length for address, length in self.memory)
+        return tag == PLAIN or any(address <= first and first + layout.WINDOW_SIZE <= address + length for address, length in self.guest.memory)
 
     def plain(self, made: Window, sent: Sent) -> Window:
         """As the model has it; or in one piece, if the memory is elsewhere."""
         if not self.has(made.tag):
-            return laid(made, in_one_piece(self.memory, made.tag, len(made.text)), [], b"")
+            return laid(made, in_one_piece(self.guest.memory, made.tag, len(made.text)), [], b"")
         table = made.table + b"".join(sent.prdt)
         return made._replace(table_at=base_of(made.tag), table=table, pieces=pieces_of(sent.prdt), rooms=rooms_of_model(made.tag), way="as the model lays it")
 
     def spread(self, made: Window, draws: Draws, dirt: Optional[Draws]) -> Window:
-        place = scattered(draws, self.memory, made.tag, self.high, len(made.text))
+        place = scattered(draws, self.guest, made.tag, len(made.text))
         return laid(made, place, prdt_of(draws, place.pieces, dirt is not None), dirt.data(16) if dirt else b"")
 
 

@@ -18,7 +18,7 @@ DONE = "        done += piece;\n"
 
 # those of a trial by an emulator's author, who found 6 of them by none of 300 random scripts of one piece and a few sectors
 TRIED: List[Planted] = [
-    Planted("count_of_one_byte", "A command has 255 sectors at most.", ("DMA Setup FIS", "D2H Register FIS"),
+    Planted("count_of_one_byte", "A command has 255 sectors at most.", (*DATA, "DMA Setup FIS", "D2H Register FIS"),
             (("count = fis[3] | fis[11] << 8", "count = fis[3]"),)),
     Planted("sixteen_entries", "A PRDT has 16 entries at most.", DATA, ((LOOP, "list && at < entries && at < 16 && done < length"),)),
     Planted("interrupt_in_the_length", "I is a bit of DBC.", DATA, ((LENGTH, "(word(entry + 12) & 0x803fffff) + 1"),)),
