@@ -100,8 +100,9 @@ class Writer:
         self.likings = {word: 1 + self.below(most) for word, (_, most) in self.commands.items()}
         self.large, self.left = large, 0  # sectors that large commands may still have
         if large and self.below(8) == 0:
-            self.port.sectors = self.up_to(256, 131_072)
-            self.left = self.up_to(2048, 131_072) if self.below(8) == 0 else 2048
+            self.port.sectors, self.left = self.up_to(256, 131_072), 8192
+            if self.below(8) == 0:
+                self.port.sectors = self.left = self.up_to(8193, 131_072)
 
     def below(self, end):
         return int(self.random() * end)
@@ -145,8 +146,9 @@ class Writer:
         count = 1 + self.below(min(end, 8))
         if self.large and self.below(32) == 0:
             return end - count + self.below(2), count  # the last sector, or one more
-        if self.left >= 129 and self.below(16) == 0:
-            count = self.up_to(129, min(end, self.left, 65_536))
+        if self.left >= 129 and self.below(8) == 0:
+            most = min(end, self.left, 65_536)
+            count = most if most > 8192 else self.up_to(129, most)
             self.left -= count
         return self.below(end - count + 1), count
 

@@ -15,7 +15,7 @@ from .adapter import EmulatorFault
 from .nbd import NbdDisk
 
 SECONDS = 10.0
-AT_ONCE = 500  # commands: their answers have to fit the sockets' buffers while more are given
+AT_ONCE = 100  # commands: a socket holds some 270 answers that nobody has read yet, and QEMU waits then
 
 
 def die_with_parent() -> None:
@@ -145,7 +145,7 @@ class Qtest:
             raise EmulatorFault(self.death()) from why
 
     def ask(self, *commands: str) -> List[str]:
-        """Gives commands of the qtest protocol, some hundred at a time, and answers what stands after each OK."""
+        """Gives commands of the qtest protocol, not too many at a time, and answers what stands after each OK."""
         answers: List[str] = []
         for at in range(0, len(commands), AT_ONCE):
             part = commands[at : at + AT_ONCE]
