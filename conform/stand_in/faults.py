@@ -188,12 +188,12 @@ class AllTagsInOneFis(StandIn):
 
 class Fault(NamedTuple):
     name: str
-    place: str  # where it has to be found
+    place: str  # where it has to be found; ` or ` stands between several
     stand_in: Type[StandIn]
 
 
 PLACES: List[Tuple[Type[StandIn], str]] = [
-    (CiClearedAtTheCompletion, "PxCI"), (NoSdbs, "PxIS"), (SactWrittenWhole, "PxSACT"), (DbcWithoutItsOne, "data of tag *"),
+    (CiClearedAtTheCompletion, "PxCI"), (NoSdbs, "PxIS"), (SactWrittenWhole, "PxSACT"), (DbcWithoutItsOne, "data of tag * or log 10h"),
     (GoesOnAfterAnError, "PxTFD"), (ErrorClearsSact, "PxSACT"), (NoTfes, "PxIS"), (ErrorByteLost, "PxTFD"), (IsWrittenWhole, "PxIS"),
     (StopKeepsSact, "PxSACT"), (SetDeviceBitsAt60h, "Set Device Bits FIS"), (DhrsWithoutI, "PxIS"), (LbaOf24Bits, "D2H Register FIS"),
     (DataOfTheAcceptance, "data of tag *"), (FailedWriteOnTheDisk, "disk, sector *"), (LastSectorRefused, "PxTFD"),

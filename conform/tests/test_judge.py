@@ -7,7 +7,8 @@ from judge.adapter import EmulatorFault
 from judge.judge import PLAIN, Judged, Way, judge
 from judge.known import NOTHING, Known, known_of
 from judge.report import as_json, counts, differences_text, table
-from judge.window import Layer, memory_of, pieces_of
+from judge.scatter import Guest
+from judge.window import Layer, Window, memory_of, pieces_of
 from stand_in.faults import FAULTS, named
 from stand_in.port import StandIn
 from tests.common import stored
@@ -77,7 +78,7 @@ class Whole(unittest.TestCase):
 class Reports(unittest.TestCase):
     def test_a_difference_is_told_with_its_line_its_bits_and_the_trace(self) -> None:
         text = "\n".join(differences_text(run(named("no_sdbs"))))
-        for part in ("queue, line 19: fail 1 40 7 (PxIS)", "PxIS  (AHCI 1.3.1, section 3.3.5)", "expected  40000008  SDBS, TFES", "got       40000000  TFES",
+        for part in ("queue, line 19: fail 1 40 7 (PxIS)", "PxIS  (AHCI 1.3.1, section 3.3.5 (an I beside ERR))", "rule      the model's own choice", "expected  40000008  SDBS, TFES", "got       40000000  TFES",
                      "differs   SDBS", ">    19  fail 1 40 7"):
             self.assertIn(part, text)
 
@@ -108,16 +109,29 @@ class Reports(unittest.TestCase):
 
 
 class Windows(unittest.TestCase):
+    def window(self, at: int) -> Window:
+        step = stored().steps[at]
+        assert step.sent
+        return Layer("plain", "", Guest(StandIn.memory, 65_535)).queued(0, step.line, step.sent, False, 0, bytes(512))
+
     def test_pieces_have_one_byte_more_than_dbc_says(self) -> None:
         sent = stored().steps[1].sent
         assert sent
         self.assertEqual(pieces_of(sent.prdt), [(0x10001000, 512)])
 
     def test_a_reads_pieces_are_filled_so_that_missing_bytes_show(self) -> None:
-        sent = stored().steps[1].sent
-        assert sent
-        places = dict(memory_of(window_of(0, sent, False, 0, bytes(512))))
-        self.assertEqual((places[0x10001000], places[0x10001200]), (b"\xc5" * 512, b"\xc5" * 64))
+        parts = dict(memory_of(self.window(1)).parts())
+        self.assertEqual(parts[0x10000FC0], b"\xc5" * (64 + 512 + 64))
+
+    def test_a_raw_window_is_played_byte_by_byte(self) -> None:
+        """Bytes of ACMD, and of CFIS from 14h on, are the port's to ignore; a table without them would be another one."""
+        cfis = bytes.fromhex("2780600107000040000000000000000000000000")
+        table = cfis + b"\x11" * 44 + b"\x22" * 64 + (0x10000090).to_bytes(8, "little") + bytes(4) + (511).to_bytes(4, "little")
+        header = bytes.fromhex("0500010000000000") + (0x10000000).to_bytes(8, "little") + bytes(16)
+        for way in ("plain", "scattered"):
+            window = Layer(way, "1", Guest(StandIn.memory, 65_535)).raw(0, "raw 0", header, table + bytes(512), False, 7)
+            self.assertEqual((window.table[:0x80], len(window.text)), (table[:0x80], 512))
+            self.assertEqual(memory_of(window).take(window.table_at, len(window.table)), window.table)
 
 
 if __name__ == "__main__":
