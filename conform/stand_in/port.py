@@ -140,9 +140,10 @@ class StandIn(Adapter):
         return int.from_bytes(cfis[4:7] + cfis[8:11], "little")
 
     def scatter(self, pieces: List[Tuple[int, int]], data: bytes) -> None:
+        done = 0
         for address, length in pieces:
-            self.memory.write(address, data[:length])
-            data = data[length:]
+            self.memory.write(address, data[done : done + length])
+            done += length
 
     def send_page(self, tag: int, page: Optional[bytes]) -> None:
         """PIO data-in: the PIO Setup FIS, the page, and its E_Status."""
