@@ -1,4 +1,5 @@
 """Judges one script: the model's trace, the emulator line by line, and what differs."""
+from contextlib import suppress
 from typing import Callable, Dict, List, NamedTuple, Optional, Tuple
 
 from .adapter import Adapter, EmulatorFault
@@ -45,13 +46,24 @@ class Judged(NamedTuple):
         return not self.new
 
 
-class Sorter:
-    """Sorts the differences of a script into those that the list knows and those that are new."""
+class Run:
+    """One script on one emulator: sorts its differences into those that the list knows and those that are new."""
 
-    def __init__(self, name: str, known: Known, draft: Optional[Draft]) -> None:
-        self.name, self.known, self.draft = name, known, draft
+    def __init__(self, name: str, trace: Trace, adapter: Guarded, known: Known, way: Way, draft: Optional[Draft]) -> None:
+        self.name, self.trace, self.known, self.draft = name, trace, known, draft
+        self.driver = Driver(adapter, Layer(way.pieces, way.seed, Guest(adapter.memory, adapter.entries)), trace.page)
+        self.comparer = Comparer(self.driver)
+        self.at = -1  # the place in the trace of the line that is played
         self.seen: Dict[str, Tuple[int, int]] = {}
         self.names: List[List[str]] = []
+
+    @property
+    def where(self) -> str:
+        """The line that is played, in words."""
+        if self.at < 0:
+            return self.name
+        step = self.trace.steps[self.at]
+        return f"{self.name}, line {step.number} ({step.line[:60]})"
 
     def count(self, step: Step, entry: str) -> None:
         times, first = self.seen.get(entry, (0, step.number))
@@ -71,6 +83,29 @@ class Sorter:
                 new.append(left)
         return new
 
+    def play(self) -> List[Difference]:
+        """Plays the lines, and answers what is new at the first that differs."""
+        for self.at, step in enumerate(self.trace.steps):
+            self.names.append([])
+            new = self.new_of(step, self.driver.play(step) + self.comparer.compare(step))
+            if new:
+                return new
+            self.comparer.go_on(step)
+        return self.new_of(self.trace.steps[-1], self.driver.compare_end()) if self.trace.steps else []
+
+    def whole(self) -> Tuple[List[Difference], str]:
+        """Plays, and ends the emulator whatever happens; the second is why a script wasn't played to its end."""
+        try:
+            new, end = self.play(), ""
+        except NoRoom as why:
+            new, end = [], f"line {self.trace.steps[self.at].number}: {why}"
+        except BaseException:
+            with suppress(EmulatorFault):
+                self.driver.stop()
+            raise
+        self.driver.stop()
+        return new, end
+
 
 def blind(adapter: Guarded) -> Tuple[str, ...]:
     """What the optional methods that are missing leave out."""
@@ -88,23 +123,11 @@ def blind(adapter: Guarded) -> Tuple[str, ...]:
 
 def judge(name: str, trace: Trace, make: Callable[[], Adapter], known: Known, way: Way = PLAIN, draft: Optional[Draft] = None) -> Judged:
     """Plays a script to its end, or to the first line that differs in a way that the list doesn't have."""
-    adapter = Guarded(make)
-    driver = Driver(adapter, Layer(way.pieces, way.seed, Guest(adapter.memory, adapter.entries)), trace.page)
-    comparer, sorter = Comparer(driver), Sorter(name, known, draft)
-    step, at, end = None, -1, ""
+    run = None
     try:
-        for at, step in enumerate(trace.steps):
-            sorter.names.append([])
-            new = sorter.new_of(step, driver.play(step) + comparer.compare(step))
-            if new:
-                break
-            comparer.go_on(step)
-        else:
-            new = sorter.new_of(step, driver.compare_end()) if step else []
-    except NoRoom as why:
-        new, end = [], f"line {step.number if step else 0}: {why}"
+        adapter = Guarded(make)
+        run = Run(name, trace, adapter, known, way, draft)
+        new, end = run.whole()
     except EmulatorFault as why:
-        raise EmulatorFault(f"{name}, line {step.number} ({step.line[:60]}): {why}" if step else f"{name}: {why}") from why
-    finally:
-        driver.stop()
-    return Judged(name, adapter.title, trace, sorter.names, sorter.seen, at if new else -1, new, end, blind(adapter))
+        raise EmulatorFault(f"{run.where if run else name}: {why}") from why
+    return Judged(name, adapter.title, trace, run.names, run.seen, run.at if new else -1, new, end, blind(adapter))

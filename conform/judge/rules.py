@@ -29,7 +29,12 @@ FIS = "Serial ATA, \"{}\"; AHCI 1.3.1, section 4.2.1"
 D2H, SDB, DMA, PIO = (FIS.format(it) for it in ("Register - Device to Host FIS", "Set Device Bits FIS", "DMA Setup FIS", "PIO Setup FIS"))
 TEXTS = [*range(10, 20), *range(23, 47)]
 
+FIRST = "AHCI 1.3.1, sections 3.3.8 and 3.3.9 (the device's first FIS, which a new port of the model has had)"
+LATE = "ACS-3, READ FPDMA QUEUED (a command past the last sector, which the model refuses when it is to be accepted)"
+
 RULES: List[Rule] = [
+    *(Rule(it, "model", FIRST, lines=("disk",)) for it in ("D2H Register FIS", "PxIS", "PxTFD")),
+    *(Rule(it, "model", LATE, lines=("accept",), answer="failed *") for it in ("D2H Register FIS", "Set Device Bits FIS", "PxIS", "PxTFD", "PxCI")),
     Rule("CAP", "standard", "AHCI 1.3.1, section 3.1.1 (SNCQ)", "40000000"),
     Rule("CAP", "model", "AHCI 1.3.1, section 3.1.1"),
     Rule("GHC", "model", "AHCI 1.3.1, section 3.1.2"),
@@ -37,7 +42,6 @@ RULES: List[Rule] = [
     Rule("VS", "model", "AHCI 1.3.1, section 3.1.5"),
     Rule("PxIS", "model", "AHCI 1.3.1, section 3.3.5 (DPS): the standard sets it after an entry with I", "00000020"),
     Rule("PxIS", "model", "AHCI 1.3.1, section 3.3.5 (an I beside ERR)", "0000000f", ("fail",)),
-    Rule("PxIS", "model", "AHCI 1.3.1, section 3.3.5 (an I beside ERR)", "0000000f", ("accept",), "failed *"),
     Rule("PxIS", "standard", "AHCI 1.3.1, section 3.3.5"),
     Rule("PxCMD", "standard", "AHCI 1.3.1, section 3.3.7 (ST, FRE, FR, CR)", "0000c011"),
     Rule("PxCMD", "model", "AHCI 1.3.1, section 3.3.7"),
@@ -46,7 +50,6 @@ RULES: List[Rule] = [
     Rule("PxSSTS", "model", "AHCI 1.3.1, section 3.3.10 (SPD)", "000000f0"),
     Rule("PxSCTL", "model", "AHCI 1.3.1, section 3.3.11"),
     Rule("PxSERR", "model", "AHCI 1.3.1, section 3.3.12"),
-    Rule("PxCI", "model", "AHCI 1.3.1, section 3.3.14 (a slot whose command is refused)", lines=("accept",), answer="failed *"),
     Rule("PxCI", "standard", "AHCI 1.3.1, section 3.3.14"),
     Rule("PxSACT", "standard", "AHCI 1.3.1, section 3.3.13"),
     Rule("PxSIG", "standard", "AHCI 1.3.1, section 3.3.9"),
