@@ -18,8 +18,8 @@ class Adapter(ABC):
     title = "an emulator"  # how reports name it
     patience = 0.5  # seconds to wait for what the model says should come
     quiet = 0.02  # seconds to look whether something comes that should not
-    memory: Sequence[Place] = ((0x10000000, 0x80000000),)  # of the guest, for tables and data; those above 4 GiB are used if CAP has S64A
-    entries = 65_535  # of a PRDT at most: 64 and more
+    guest_memory: Sequence[Place] = ((0x10000000, 0x80000000),)  # of the guest, for tables and data; those above 4 GiB are used if CAP has S64A
+    most_entries = 65_535  # of a PRDT at most: 64 and more
 
     @abstractmethod
     def start(self, sectors: int, depth: int) -> None:

@@ -145,7 +145,7 @@ def adapter_of(asked: argparse.Namespace) -> Callable[[], Adapter]:
 
 def known_for(asked: argparse.Namespace) -> Known:
     path = asked.known or LISTS.get(asked.emulator)
-    known = NOTHING if path in (None, "none") else read_known(path)
+    known = NOTHING if not path or path == "none" else read_known(path)
     base = asked.base or ("none" if asked.shown or asked.without else BASE)
     known = known if base == "none" else known.over(read_known(base))
     if asked.without and asked.without not in [entry.name for entry in known.entries]:

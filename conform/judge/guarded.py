@@ -17,13 +17,13 @@ def memory_of(given: Any) -> List[Place]:
     try:
         places = sorted((int(address), int(length)) for address, length in given)
     except (TypeError, ValueError) as why:
-        raise EmulatorFault("the adapter's `memory` is no list of addresses and lengths") from why
+        raise EmulatorFault("the adapter's `guest_memory` is no list of addresses and lengths") from why
     after = 0
     for address, length in places:
         if address < after or length <= 0 or address + length > 2**64:
-            raise EmulatorFault(f"the adapter's `memory` has a place at {address:x}h that overlaps another, or has no bytes")
+            raise EmulatorFault(f"the adapter's `guest_memory` has a place at {address:x}h that overlaps another, or has no bytes")
         if address < layout.FIXED_END and address + length > layout.COMMAND_LIST:
-            raise EmulatorFault(f"the adapter's `memory` has a place at {address:x}h in 10000h to {layout.FIXED_END - 1:x}h, which the tool uses for other things")
+            raise EmulatorFault(f"the adapter's `guest_memory` has a place at {address:x}h in 10000h to {layout.FIXED_END - 1:x}h, which the tool uses for other things")
         after = address + length
     return places
 
@@ -37,9 +37,10 @@ class Guarded(Adapter):
         except (Exception, SystemExit) as why:
             raise why if isinstance(why, EmulatorFault) else fault_of("constructor", why) from why
         self.title, self.patience, self.quiet = str(self.adapter.title), float(self.adapter.patience), float(self.adapter.quiet)
-        self.memory, self.entries = memory_of(self.adapter.memory), self.checked("`entries`", self.adapter.entries, int)
-        if not 64 <= self.entries <= 65_535:
-            raise EmulatorFault(f"the adapter's `entries` is {self.entries}, and not 64 to 65,535")
+        self.guest_memory = memory_of(self.adapter.guest_memory)
+        self.most_entries = self.checked("`most_entries`", self.adapter.most_entries, int)
+        if not 64 <= self.most_entries <= 65_535:
+            raise EmulatorFault(f"the adapter's `most_entries` is {self.most_entries}, and not 64 to 65,535")
 
     def call(self, name: str, *given: Any) -> Any:
         try:

@@ -51,7 +51,7 @@ class Run:
 
     def __init__(self, name: str, trace: Trace, adapter: Guarded, known: Known, way: Way, draft: Optional[Draft]) -> None:
         self.name, self.trace, self.known, self.draft = name, trace, known, draft
-        self.driver = Driver(adapter, Layer(way.pieces, way.seed, Guest(adapter.memory, adapter.entries)), trace.page)
+        self.driver = Driver(adapter, Layer(way.pieces, way.seed, Guest(adapter.guest_memory, adapter.most_entries)), trace.page)
         self.comparer = Comparer(self.driver)
         self.at = -1  # the place in the trace of the line that is played
         self.seen: Dict[str, Tuple[int, int]] = {}
@@ -116,8 +116,8 @@ def blind(adapter: Guarded) -> Tuple[str, ...]:
         found.append("one Set Device Bits FIS for several tags (the adapter has no `complete_together`)")
     if not adapter.has("put_sector"):
         found.append("a sector that differs in a known way, from then on (the adapter has no `put_sector`)")
-    if not any(address + length > 1 << 32 for address, length in adapter.memory):
-        found.append("data above 4 GiB (the adapter's `memory` has none)")
+    if not any(address + length > 1 << 32 for address, length in adapter.guest_memory):
+        found.append("data above 4 GiB (the adapter's `guest_memory` has none)")
     return tuple(found)
 
 

@@ -2,7 +2,7 @@
 import json
 import os
 import re
-from typing import Any, Dict, List, NamedTuple, Optional, Tuple
+from typing import Any, Dict, List, Mapping, NamedTuple, Optional, Tuple
 
 from .differences import Difference, masked
 from .model import Step
@@ -79,7 +79,7 @@ COVER = {"place": str, "lines": list, "answer": str, "bits": str, "got": str, "e
 BESIDE = {"title": str, "section": str, "emulator": str, "model": str}
 
 
-def checked(value: Any, shape: Dict[str, type], needed: Tuple[str, ...], where: str) -> Dict[str, Any]:
+def checked(value: Any, shape: Mapping[str, type], needed: Tuple[str, ...], where: str) -> Dict[str, Any]:
     """An object with these members alone."""
     if not isinstance(value, dict):
         raise ListFault(f"{where} is no object")

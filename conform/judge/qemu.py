@@ -19,8 +19,8 @@ class Qemu(Adapter):
     """Debian's QEMU: the processor never runs, and the disk's requests wait at breakpoints before they reach the disk."""
 
     title = "QEMU"
-    memory = ((0x10000000, 0x80000000), (0x100000000, 0x10000000))
-    entries = 1024  # with more QEMU's request to the host has too many parts, and fails
+    guest_memory = ((0x10000000, 0x80000000), (0x100000000, 0x10000000))
+    most_entries = 1024  # with more QEMU's request to the host has too many parts, and fails
 
     def __init__(self, program: str = PROGRAM) -> None:
         self.program = program

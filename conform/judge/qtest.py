@@ -184,6 +184,7 @@ class Qtest:
         if self.process:
             self.process.kill()
             self.process.wait()
-        for end in (self.qtest, self.monitor, self.disk):
+        for end in (self.qtest, self.monitor):
             end.close()
+        self.disk.close()
         shutil.rmtree(self.folder, ignore_errors=True)

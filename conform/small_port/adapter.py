@@ -14,7 +14,7 @@ SECONDS = 10.0
 class SmallPort(Adapter):
     title = "the small port"
     patience = quiet = 0.0  # what comes has come when a call returns
-    memory = ((0x10000000, 0x80000000), (0x100000000, 0x10000000))
+    guest_memory = ((0x10000000, 0x80000000), (0x100000000, 0x10000000))
     program = os.path.join(HERE, "out", "small_port")  # `make -C conform/small_port` builds it
     run: Optional["subprocess.Popen[bytes]"] = None
 

@@ -211,4 +211,7 @@ FAULTS: List[Fault] = [Fault(name_of(made), place, made) for made, place in PLAC
 
 def named(name: Optional[str]) -> Type[StandIn]:
     """The stand-in with this fault, or with none. KeyError where there is no such fault."""
-    return StandIn if name is None else {fault.name: fault.stand_in for fault in FAULTS}[name]
+    found: Dict[str, Type[StandIn]] = {fault.name: fault.stand_in for fault in FAULTS}
+    if name is None:
+        return StandIn
+    return found[name]

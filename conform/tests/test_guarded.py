@@ -59,19 +59,19 @@ class Faults(unittest.TestCase):
 
     def test_memory_that_cannot_be_is_told(self) -> None:
         for memory, told in (
-            (5, "the adapter's `memory` is no list of addresses and lengths"),
-            ([(0x100000, 0)], "the adapter's `memory` has a place at 100000h that overlaps another, or has no bytes"),
+            (5, "the adapter's `guest_memory` is no list of addresses and lengths"),
+            ([(0x100000, 0)], "the adapter's `guest_memory` has a place at 100000h that overlaps another, or has no bytes"),
             ([(0x100000, 0x1000), (0x100800, 0x1000)], "a place at 100800h that overlaps another"),
             ([(0, 0x100000)], "a place at 0h in 10000h to 203ffh, which the tool uses for other things"),
         ):
-            self.assertIn(told, self.fault(broken("memory", memory)))
-        self.assertIn("the adapter's `entries` is 7, and not 64 to 65,535", self.fault(broken("entries", 7)))
+            self.assertIn(told, self.fault(broken("guest_memory", memory)))
+        self.assertIn("the adapter's `most_entries` is 7, and not 64 to 65,535", self.fault(broken("most_entries", 7)))
 
 
 class Small(StandIn):
     """A guest with 64 MiB at 1 MiB, and none where the model lays its windows."""
 
-    memory = [(0x100000, 64 << 20)]
+    guest_memory = [(0x100000, 64 << 20)]
 
     def write_memory(self, address: int, data: bytes) -> None:
         if data and not (0x10000 <= address and address + len(data) <= 0x20400 or 0x100000 <= address and address + len(data) <= 0x4100000):

@@ -112,7 +112,7 @@ class Windows(unittest.TestCase):
     def window(self, at: int) -> Window:
         step = stored().steps[at]
         assert step.sent
-        return Layer("plain", "", Guest(StandIn.memory, 65_535)).queued(0, step.line, step.sent, False, 0, bytes(512))
+        return Layer("plain", "", Guest(StandIn.guest_memory, 65_535)).queued(0, step.line, step.sent, False, 0, bytes(512))
 
     def test_pieces_have_one_byte_more_than_dbc_says(self) -> None:
         sent = stored().steps[1].sent
@@ -129,7 +129,7 @@ class Windows(unittest.TestCase):
         table = cfis + b"\x11" * 44 + b"\x22" * 64 + (0x10000090).to_bytes(8, "little") + bytes(4) + (511).to_bytes(4, "little")
         header = bytes.fromhex("0500010000000000") + (0x10000000).to_bytes(8, "little") + bytes(16)
         for way in ("plain", "scattered"):
-            window = Layer(way, "1", Guest(StandIn.memory, 65_535)).raw(0, "raw 0", header, table + bytes(512), False, 7)
+            window = Layer(way, "1", Guest(StandIn.guest_memory, 65_535)).raw(0, "raw 0", header, table + bytes(512), False, 7)
             self.assertEqual((window.table[:0x80], len(window.text)), (table[:0x80], 512))
             self.assertEqual(memory_of(window).take(window.table_at, len(window.table)), window.table)
 
