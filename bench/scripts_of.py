@@ -108,8 +108,9 @@ class Writer:
         return int(self.random() * end)
 
     def up_to(self, first, last):
-        """A number whose logarithm is even between these."""
-        return int(first * (last / first) ** self.random())
+        """A number between these, as likely in each doubling of the first."""
+        low = first << self.below((last // first).bit_length())
+        return min(last, low + self.below(low))
 
     def one_of(self, values):
         return values[self.below(len(values))]

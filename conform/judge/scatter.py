@@ -77,7 +77,8 @@ def how_many(draws: Draws, units: int, entries: int) -> int:
         return min(most, 2 + draws.below(7))
     if kind < 14:
         return min(most, 9 + draws.below(40))
-    return int(most ** draws.random())
+    low = 1 << draws.below(most.bit_length())
+    return min(most, low + draws.below(low))
 
 
 def lengths_of(draws: Draws, total: int, entries: int) -> List[int]:
@@ -88,7 +89,7 @@ def lengths_of(draws: Draws, total: int, entries: int) -> List[int]:
         found = [size] * (units // size) + [units % size] * (units % size > 0)
     else:
         many = how_many(draws, units, entries)
-        weights = [draws.random() ** 3 for _ in range(many)]
+        weights = [draws.random() * draws.random() * draws.random() for _ in range(many)]
         scale = (units - many) / (sum(weights) or 1)
         found = [1 + int(it * scale) for it in weights]
         found[draws.below(many)] += units - sum(found)
