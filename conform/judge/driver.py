@@ -16,6 +16,11 @@ OWN_IMAGE = "the tool's own image of the disk"  # a difference here is a fault o
 LOOKED_AT = 1 << 16  # bytes of a write whose memory is looked at again when it is done
 
 
+def first_apart(expected: bytes, got: bytes) -> int:
+    """The first byte that isn't the same."""
+    return next((at for at, (before, after) in enumerate(zip(expected, got)) if before != after), min(len(expected), len(got)))
+
+
 class Driver:
     """What a driver has to remember: its windows, which slots it has told the port of, and what the disk should hold."""
 
@@ -146,14 +151,14 @@ class Driver:
         places = expected.places()
         got = Memory([(address, data) for (address, _), data in zip(places, self.adapter.read_places(places))])
         data = got.gather(window.used)
-        if window.tag != PLAIN:
-            self.tell(f"data of tag {window.tag}", text, data, window.way)
+        if window.tag != PLAIN and data != text:
+            self.tell(f"data of tag {window.tag}", text, data, f"{window.spot(first_apart(text, data))} (laid {window.way})")
         self.tell("command table", window.table, got.take(window.table_at, len(window.table)), f"at {window.table_at:x}h")
         got.put(window.table_at, window.table)
         got.scatter(window.used, expected.gather(window.used))
         who = f"tag {window.tag}" if window.tag != PLAIN else "slot 0"
         for (address, _), before, after in zip(places, expected.blocks, got.blocks):
-            self.tell(f"memory beside the data of {who}", bytes(before), bytes(after), f"from {address:x}h on; {window.way}")
+            self.tell(f"memory beside the data of {who}", bytes(before), bytes(after), f"from {address:x}h on (laid {window.way})")
         return data
 
     # the disk
@@ -162,9 +167,11 @@ class Driver:
         windows = [self.windows[tag] for tag in tags]
         ranges = [it for window in windows for it in self.image.near(window.lba, window.sectors)]
         for lba, got in self.image.apart(self.adapter, ranges):
-            written = any(it.write and it.lba <= lba < it.lba + it.sectors for it in windows)
+            expected = self.image.sector(lba)
+            writers = [it for it in windows if it.write and it.lba <= lba < it.lba + it.sectors]
+            spots = [f"tag {it.tag}, {it.spot((lba - it.lba) * layout.SECTOR + first_apart(expected, got))} (laid {it.way})" for it in writers]
             if halted or lba not in self.spoiled:
-                self.tell(f"disk, sector {lba}", self.image.sector(lba), got, "" if written else "no command of this line writes this sector")
+                self.tell(f"disk, sector {lba}", expected, got, "; ".join(spots) or "no command of this line writes this sector")
 
     def compare_sectors(self, ranges: Sequence[range], note: str = "") -> None:
         for lba, got in self.image.apart(self.adapter, ranges):
@@ -234,7 +241,7 @@ class Driver:
         self.wait(lambda: bool(self.read(layout.PX_TFD) & ERR) or not self.read(layout.PX_CI) & 1)
         self.wait(lambda: not self.read(layout.PX_TFD) & BUSY)
         self.adapter.settle()
-        self.tell("PRDBC", window.header[7:3:-1], self.adapter.read_memory(place + 4, 4)[::-1], f"slot 0, whose list has {window.way}")
+        self.tell("PRDBC", window.header[7:3:-1], self.adapter.read_memory(place + 4, 4)[::-1], f"slot 0 (laid {window.way})")
         data = self.compare_memory(window, window.text)
         self.adapter.write_memory(place, aside)
         return data

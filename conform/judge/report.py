@@ -27,6 +27,9 @@ def step_lines(step: Step, mark: str) -> List[str]:
     return lines
 
 
+TOGETHER = ("disk", "identify words")
+
+
 def kind(place: str) -> str:
     """Sectors of the disk are told together, and so are words of the identify page."""
     return "disk" if place.startswith("disk, ") else "identify words" if word_of(place) >= 0 else place
@@ -44,19 +47,18 @@ def one(step: Step, it: Difference) -> List[str]:
 
 
 def told(step: Step, new: List[Difference]) -> List[str]:
-    """Each place; of many sectors, and of many words of the identify page, the first, and the numbers of the others."""
+    """Each place; of many sectors, words of the identify page, or blocks of memory the first ones, and the numbers of the others."""
     groups: Dict[str, List[Difference]] = {}
     for at, it in enumerate(new):
-        groups.setdefault(kind(it.place) if kind(it.place) != it.place else f"{it.place} {at}", []).append(it)
+        alone = kind(it.place) not in TOGETHER and not it.place.startswith("memory")
+        groups.setdefault(f"{it.place} {at}" if alone else kind(it.place), []).append(it)
     lines: List[str] = []
     for name, them in list(groups.items())[:MOST_TOLD]:
-        if name == "identify words":
-            lines += [line for it in them[:MOST_TOLD] for line in one(step, it)]
-        else:
-            lines += one(step, them[0])
-        rest = them[MOST_TOLD:] if name == "identify words" else them[1:]
+        shown = MOST_TOLD if name == "identify words" else 1
+        lines += [line for it in them[:shown] for line in one(step, it)]
+        rest = them[shown:]
         if rest:
-            lines.append(f"    and {len(rest)} more: {spans([int(it.place.split()[-1]) for it in rest])}")
+            lines.append(f"    and {len(rest)} more" + (f": {spans([int(it.place.split()[-1]) for it in rest])}" if name in TOGETHER else ""))
     return lines + [f"  and {len(groups) - MOST_TOLD} more places"] * (len(groups) > MOST_TOLD)
 
 
@@ -107,7 +109,7 @@ def table(runs: List[Judged], known: Known, seconds: float) -> List[str]:
 def draft_table(runs: List[Judged], entries: List[Entry], known: Known, path: str) -> List[str]:
     """The end of a run that drafts a list: each new entry, with whose choice it is."""
     found = counts(runs)
-    lines = [f"{len(entries)} kinds of differences are in {path}, each to be described or mended.", "", "| Entry | whose rule | scripts | times | first |", "|---|---|---|---|---|"]
+    lines = [f"Kinds of differences in {path}, each to be described or mended: {len(entries)}", "", "| Entry | whose rule | scripts | times | first |", "|---|---|---|---|---|"]
     lines += [f"| {it.name} | {it.choice} | {found[it.name]['scripts']:,} | {found[it.name]['times']:,} | {found[it.name]['first']} |" for it in entries if it.name in found]
     names = [it.name for it in known.entries]
     return lines + known_table("Known difference", [it for it in names if it not in known.base], found) + known_table("Any port may differ here", list(known.base), found)

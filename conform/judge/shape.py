@@ -40,9 +40,9 @@ def value(place: str, data: bytes) -> str:
 
 def rows(it: Difference) -> List[str]:
     """The bytes around the first that differs, and around the last if that is elsewhere."""
-    apart = [at for at, byte in enumerate(it.mask) if byte]
+    places = [at for at, byte in enumerate(it.mask) if byte]
     lines, shown = [], set()
-    for name, at in (("first", apart[0]), ("last", apart[-1])):
+    for name, at in (("first", places[0]), ("last", places[-1])):
         row = at // ROW * ROW
         if row in shown:
             continue
@@ -54,15 +54,20 @@ def rows(it: Difference) -> List[str]:
     return lines
 
 
-def fields(it: Difference) -> List[str]:
-    """Of a FIS or a page: each field that differs, with both values."""
-    named = layout.field_names(it.place)
+def apart(place: str, mask: bytes) -> Dict[str, List[int]]:
+    """The fields of a FIS or a page in which some bit is 1, and the bytes of each."""
+    named = layout.field_names(place)
     found: Dict[str, List[int]] = {}
-    for at, byte in enumerate(it.mask):
+    for at, byte in enumerate(mask):
         if byte:
             name = named.get(at, f"byte {at:x}h")
             found[name] = [other for other, its in named.items() if its == name] or [at]
-    lines = []
+    return found
+
+
+def fields(it: Difference) -> List[str]:
+    """Of a FIS or a page: each field that differs, with both values."""
+    found, lines = apart(it.place, it.mask), []
     for name, places in list(found.items())[:8]:
         before, after = (bytes(data[at] if at < len(data) else 0 for at in reversed(places)).hex() for data in (it.expected, it.got))
         lines.append(f"    {name}: expected {before}h, got {after}h{meaning(name, before, after)}")
@@ -97,8 +102,9 @@ def excused(it: Difference) -> List[str]:
     """What the list explains of this difference, and what is left is new."""
     lines = []
     for entry, bits in it.excused:
-        names = layout.fields_of(it.place, bits)
-        lines.append(f"    excused   {', '.join(names)} by {entry}")
+        names = layout.fields_of(it.place, bits) if it.place in layout.REGISTERS else [
+            f"{name} {bits[places[0]]:02x}h" if len(places) == 1 else name for name, places in apart(it.place, bits).items()]
+        lines.append(f"    excused   {', '.join(names[:8])} by {entry}")
     return lines
 
 

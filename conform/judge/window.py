@@ -37,6 +37,16 @@ class Window(NamedTuple):
         return list(cut(self.pieces, len(self.text)))
 
 
+    def spot(self, at: int) -> str:
+        """Where a byte of the data lies, in words."""
+        left = at
+        for number, (address, length) in enumerate(self.used, 1):
+            if left < length:
+                return f"byte {at % layout.SECTOR:x}h of LBA {self.lba + at // layout.SECTOR}: piece {number} of {len(self.pieces)}, byte {left:x}h of it, at {address + left:x}h"
+            left -= length
+        return ""
+
+
 def cut(pieces: Sequence[Place], total: int) -> Iterator[Place]:
     for address, length in pieces:
         if total <= 0:
@@ -166,7 +176,7 @@ class Layer:
         if not self.has(made.tag):
             return laid(made, in_one_piece(self.guest.memory, made.tag, len(made.text)), [], b"")
         table = made.table + b"".join(sent.prdt)
-        return made._replace(table_at=base_of(made.tag), table=table, pieces=pieces_of(sent.prdt), rooms=rooms_of_model(made.tag), way="as the model lays it")
+        return made._replace(table_at=base_of(made.tag), table=table, pieces=pieces_of(sent.prdt), rooms=rooms_of_model(made.tag), way="as in the model")
 
     def spread(self, made: Window, draws: Draws, dirt: Optional[Draws]) -> Window:
         place = scattered(draws, self.guest, made.tag, len(made.text))
@@ -177,5 +187,5 @@ def laid(made: Window, place: Laid, prdt: List[bytes], reserved: bytes) -> Windo
     """A window at a place: its header has another CTBA and PRDTL, and reserved bytes where they are given."""
     prdt = prdt or [address.to_bytes(8, "little") + bytes(4) + (length - 1).to_bytes(4, "little") for address, length in place.pieces]
     header = made.header[:2] + len(prdt).to_bytes(2, "little") + made.header[4:8] + place.table_at.to_bytes(8, "little") + (reserved or made.header[16:32])
-    way = f"{len(prdt)} piece{'s' if len(prdt) != 1 else ''}, the table at {place.table_at:x}h"
+    way = f"in {len(prdt)} piece{'s' if len(prdt) != 1 else ''}, the table at {place.table_at:x}h"
     return made._replace(header=header, table_at=place.table_at, table=made.table + b"".join(prdt), pieces=place.pieces, rooms=place.rooms, way=way)
