@@ -3,8 +3,8 @@ import time
 from typing import Callable, Dict, List, Optional, Sequence, Set
 
 from . import layout
-from .adapter import Adapter
 from .differences import Difference, differs
+from .guarded import Guarded
 from .image import Image
 from .model import Sent, Step, log_page
 from .window import PLAIN, Layer, Memory, Window, memory_of
@@ -24,7 +24,7 @@ def first_apart(expected: bytes, got: bytes) -> int:
 class Driver:
     """What a driver has to remember: its windows, which slots it has told the port of, and what the disk should hold."""
 
-    def __init__(self, adapter: Adapter, layer: Layer, page: bytes = b"") -> None:
+    def __init__(self, adapter: Guarded, layer: Layer, page: bytes = b"") -> None:
         self.adapter, self.layer, self.page = adapter, layer, page
         self.started = False
         self.windows: Dict[int, Window] = {}
@@ -179,10 +179,10 @@ class Driver:
                 self.tell(f"disk, sector {lba}", self.image.sector(lba), got, note)
 
     def compare_end(self) -> List[Difference]:
-        """At a script's end: the whole disk, or of a large one what was written and the sectors around it."""
+        """At a script's end."""
         self.found = []
         if self.started:
-            self.compare_sectors(self.image.all(), "it has changed at some line before")
+            self.compare_sectors(self.image.all(self.adapter.has("sectors")), "it has changed at some line before")
         return self.found
 
     def fail(self, step: Step) -> None:

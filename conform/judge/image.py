@@ -36,9 +36,9 @@ class Image:
         firsts = ((lba, count), (0, 1), (self.count - 1, 1), (lba & 0xFF, 1), (lba & 0xFFFF, 1))
         return [range(max(0, at - AROUND), min(self.count, at + many + AROUND)) for at, many in firsts]
 
-    def all(self) -> List[range]:
-        """What is looked at at a script's end: everything, or of a large disk what was written, and the sectors around it."""
-        if self.count <= 4096:
+    def all(self, fast: bool) -> List[range]:
+        """What is looked at at a script's end: everything, or of a large disk that is slow what was written, and the sectors around it."""
+        if fast or self.count <= 4096:
             return [range(self.count)]
         return [range(max(0, it.start - AROUND), min(self.count, it.stop + AROUND)) for it in self.written]
 

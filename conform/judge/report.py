@@ -11,7 +11,7 @@ from .shape import body, excused, spans, value, word_of
 
 AROUND = 6  # lines of the trace before a difference
 MOST_TOLD = 8  # differences of one line
-WHOSE = {"standard": "the standard's rule", "model": "the model's own choice, where the standard leaves one"}
+WHOSE = {"standard": "the standard's rule", "model": "a choice of the model, which the standard leaves open"}
 
 
 def step_lines(step: Step, mark: str) -> List[str]:
@@ -31,7 +31,7 @@ TOGETHER = ("disk", "identify words")
 
 
 def kind(place: str) -> str:
-    """Sectors of the disk are told together, and so are words of the identify page."""
+    """Sectors of the disk are one kind of place, and so are words of the identify page."""
     return "disk" if place.startswith("disk, ") else "identify words" if word_of(place) >= 0 else place
 
 
@@ -43,7 +43,7 @@ def places(judged: Judged) -> str:
 def one(step: Step, it: Difference) -> List[str]:
     rule = rule_of(step, it)
     lines = [f"  {it.place}" + (f"  ({rule.section})" if rule.section else ""), f"    rule      {WHOSE[rule.choice]}", *body(it)]
-    return lines + ([f"    where     {it.note}"] if it.note else []) + excused(it)
+    return lines + ([f"    note      {it.note}"] if it.note else []) + excused(it)
 
 
 def told(step: Step, new: List[Difference]) -> List[str]:
@@ -74,7 +74,7 @@ def differences_text(judged: Judged) -> List[str]:
 
 
 def counts(runs: List[Judged]) -> Dict[str, Dict[str, Any]]:
-    """By known difference: how many scripts and lines have it, and where it stood first."""
+    """By known difference: how many scripts and lines have it, and where it came first."""
     found: Dict[str, Dict[str, Any]] = {}
     for run in runs:
         for name, (times, first) in run.known.items():

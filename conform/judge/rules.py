@@ -1,4 +1,4 @@
-"""Which rule a difference breaks: one of the standards, or a choice of the model where they leave one."""
+"""Which rule a difference breaks: one of the standards, or a choice that they leave to the model."""
 from fnmatch import fnmatchcase
 from typing import List, NamedTuple, Tuple
 

@@ -7,7 +7,7 @@ from .adapter import Place
 from .model import Sent
 from .scatter import Draws, Guest, Laid, decorated, in_one_piece, own_bytes, prdt_of, scattered
 
-UNTOUCHED = 0xC5  # what stands where a read's data shall come, and around all pieces
+UNTOUCHED = 0xC5  # fills the place of a read's data, and the memory around all pieces
 GUARD = 64  # bytes around them that nobody may change
 NEAR = 256  # pieces that are no further apart are read and written as one block
 PLAIN = 32  # in the place of a tag: the commands that aren't queued
@@ -56,7 +56,7 @@ def cut(pieces: Sequence[Place], total: int) -> Iterator[Place]:
 
 
 class Memory:
-    """Blocks of the guest's memory with what stands in them."""
+    """Blocks of the guest's memory with their contents."""
 
     def __init__(self, blocks: List[Tuple[int, bytes]]) -> None:
         self.firsts = [address for address, _ in blocks]
@@ -104,7 +104,7 @@ def blocks_of(places: Sequence[Place], rooms: Sequence[Place]) -> List[Place]:
 
 
 def memory_of(window: Window) -> Memory:
-    """What stands where before the command is issued."""
+    """The memory of a command before it is issued."""
     places = [it for it in window.pieces if it[1]] + [(window.table_at, len(window.table))]
     memory = Memory([(address, bytes([UNTOUCHED]) * length) for address, length in blocks_of(places, window.rooms)])
     memory.put(window.table_at, window.table)
@@ -184,7 +184,7 @@ class Layer:
 
 
 def laid(made: Window, place: Laid, prdt: List[bytes], reserved: bytes) -> Window:
-    """A window at a place: its header has another CTBA and PRDTL, and reserved bytes where they are given."""
+    """A window at a place: its header has another CTBA and PRDTL, and reserved bytes if they are given."""
     prdt = prdt or [address.to_bytes(8, "little") + bytes(4) + (length - 1).to_bytes(4, "little") for address, length in place.pieces]
     header = made.header[:2] + len(prdt).to_bytes(2, "little") + made.header[4:8] + place.table_at.to_bytes(8, "little") + (reserved or made.header[16:32])
     way = f"in {len(prdt)} piece{'s' if len(prdt) != 1 else ''}, the table at {place.table_at:x}h"

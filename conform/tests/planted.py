@@ -8,7 +8,7 @@ class Planted(NamedTuple):
     name: str
     belief: str
     places: Tuple[str, ...]  # it has to be found at one of these
-    edits: Tuple[Tuple[str, str], ...]  # a text of port.c, which stands there once, and what it becomes
+    edits: Tuple[Tuple[str, str], ...]  # a text that port.c has once, and what it becomes
 
 
 LENGTH = "(word(entry + 12) & 0x3fffff) + 1"
@@ -71,9 +71,9 @@ PLANTED: List[Planted] = TRIED + OWN
 
 
 def edited(source: str, planted: Planted) -> str:
-    """port.c with the fault. ValueError: a text doesn't stand there once."""
+    """port.c with the fault. ValueError: port.c doesn't have a text once."""
     for old, new in planted.edits:
         if source.count(old) != 1:
-            raise ValueError(f"{planted.name}: `{old}` stands {source.count(old)} times in port.c")
+            raise ValueError(f"{planted.name}: port.c has `{old}` {source.count(old)} times")
         source = source.replace(old, new)
     return source

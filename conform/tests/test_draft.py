@@ -117,7 +117,7 @@ class Rules(unittest.TestCase):
             self.assertEqual(rule_of(step(line, answer), difference).choice, choice, (line, difference))
 
     def test_each_rule_is_reached(self) -> None:
-        """None stands behind another that takes all of its differences."""
+        """No rule comes after another that takes all of its differences."""
         for at, rule in enumerate(RULES):
             bits = bytes.fromhex(rule.bits) or b"\xff" * 4
             difference = Difference(rule.place.replace("*", "9"), bytes(len(bits)), bits, bits)

@@ -1,4 +1,4 @@
-"""Whatever an adapter does wrong is told as a fault of the emulator, with script and line."""
+"""Whatever an adapter does wrong is reported as a fault of the emulator, with script and line."""
 import unittest
 from typing import Any, List, Type
 
@@ -69,7 +69,7 @@ class Faults(unittest.TestCase):
 
 
 class Small(StandIn):
-    """A guest with 64 MiB at 1 MiB, and none where the model lays its windows."""
+    """A guest with 64 MiB at 1 MiB, and none at the places of the model's windows."""
 
     guest_memory = [(0x100000, 64 << 20)]
 

@@ -33,7 +33,7 @@ class Blocks(unittest.TestCase):
             "expected  000010  00 00 00 00 00 00 00 00 00 00 00 00 00 00 00 00",
             "got       000010  00 00 00 00 00 00 00 00 00 00 00 aa 00 00 00 00", "^^", "last at 1e4h",
             "expected  0001e0  00 00 00 00 00 00 00 00 00 00 00 00 00 00 00 00",
-            "got       0001e0  00 00 00 00 bb 00 00 00 00 00 00 00 00 00 00 00", "^^", "where     byte 1bh of LBA 7"])
+            "got       0001e0  00 00 00 00 bb 00 00 00 00 00 00 00 00 00 00 00", "^^", "note      byte 1bh of LBA 7"])
 
     def test_log_10h_is_shown_by_its_fields(self) -> None:
         page = bytearray(512)
@@ -67,7 +67,7 @@ class Fields(unittest.TestCase):
         judged = judge("queue", stored(), type("It", (StandIn,), {"send_page": counting}), NOTHING)
         lines = [line.strip() for line in differences_text(judged)]
         self.assertIn("got       000001ff  511 bytes", lines)
-        self.assertTrue(any(line.startswith("where     slot 0 (laid ") for line in lines))
+        self.assertTrue(any(line.startswith("note      slot 0 (laid ") for line in lines))
 
     def test_spans_are_few(self) -> None:
         self.assertEqual(spans([1, 2, 3, 7]), "1 to 3, 7")
