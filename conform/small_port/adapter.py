@@ -31,7 +31,7 @@ class SmallPort(Adapter):
         """One request. Those without an answer wait in the buffer for the next one that has some."""
         assert self.run and self.run.stdin and self.run.stdout
         self.run.stdin.write(struct.pack("<cQQ", letter.encode(), first, second) + data)
-        found = b""
+        found = bytearray()
         while len(found) < answer:
             self.run.stdin.flush()
             ready, _, _ = select.select([self.run.stdout], [], [], SECONDS)
@@ -39,7 +39,7 @@ class SmallPort(Adapter):
             if not part:
                 raise EmulatorFault(f"it has ended with status {self.run.wait(1)}" if ready else f"it has answered nothing for {SECONDS:.0f} seconds")
             found += part
-        return found
+        return bytes(found)
 
     def read_memory(self, address: int, length: int) -> bytes:
         return self.ask("r", address, length, answer=length)
