@@ -104,7 +104,7 @@ def script_maker() -> Callable[..., List[str]]:
 
 def scripts_in(asked: argparse.Namespace) -> Iterator[Tuple[str, str, Way]]:
     """Names, texts, and where their data lie."""
-    way = Way(asked.pieces or "plain", str(asked.pieces_seed or 1))
+    way = Way(asked.pieces or "plain", str(1 if asked.pieces_seed is None else asked.pieces_seed))
     for path in asked.scripts:
         try:
             with (open(0, encoding="latin-1", closefd=False) if path == "-" else open(path, encoding="latin-1")) as text:
