@@ -202,7 +202,7 @@ def write_draft(asked: argparse.Namespace, draft: Draft, known: Known, runs: Lis
             out.write(draft.text(title))
     except OSError as why:
         raise Wrong(f"{asked.draft_list} can't be written: {why.strerror}") from why
-    print("\n".join(report.draft_table(runs, draft.known.entries, known, asked.draft_list)))
+    print("\n".join(report.draft_table(runs, draft, known, asked.draft_list)))
     return 1 if draft.written else 0
 
 

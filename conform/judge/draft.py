@@ -35,13 +35,20 @@ class Draft:
     def __init__(self) -> None:
         self.written: Dict[str, Dict[str, Any]] = {}
         self.known = Known("a draft", [], [])
+        self.script, self.line, self.cause = "", 0, ""  # the first entry of the standard's in this script, at a line before
+        self.after: Dict[str, str] = {}  # by entry: what came before its first time, and may be its cause
 
     def explain(self, script: str, step: Step, difference: Difference) -> Difference:
         """The draft explains each difference: what it doesn't know yet is added to it."""
+        if script != self.script:
+            self.script, self.line, self.cause = script, 0, ""
         left = self.known.explain(step, difference)
         if any(left.mask):
             self.add(script, step, left)
             left = self.known.explain(step, left)
+        broken = [name for name, _ in left.excused if name in self.written and self.written[name]["choice"] == "standard"]
+        if broken and not self.cause:
+            self.line, self.cause = step.number, broken[0]
         return left
 
     def add(self, script: str, step: Step, it: Difference) -> None:
@@ -49,9 +56,12 @@ class Draft:
         group = "identify words" if it.place.startswith("identify word") else general(it.place).replace(" *", "")
         name = re.sub("[^a-z0-9]+", "_", f"{group} at {word} {rule.choice}".lower()).strip("_")
         if name not in self.written:
+            after = self.cause if self.line < step.number else ""
+            self.after[name] = after
             self.written[name] = {
                 "name": name, "title": f"{group} at `{word}`", "section": rule.section or "none", "choice": rule.choice,
-                "emulator": f"To be described. First at {script}, line {step.number} (`{step.line[:40]}`): {it.got[:32].hex()}.",
+                "emulator": f"To be described. First at {script}, line {step.number} (`{step.line[:40]}`): {it.got[:32].hex()}."
+                            + (f" It came after {after}, and may follow from it." if after else ""),
                 "model": f"To be described. There: {it.expected[:32].hex()}.", "covers": [],
             }
         self.cover(self.written[name]["covers"], step, it)

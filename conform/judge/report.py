@@ -3,8 +3,9 @@ from typing import Any, Dict, List
 
 from . import layout
 from .differences import Difference
+from .draft import Draft
 from .judge import Judged
-from .known import Entry, Known
+from .known import Known
 from .model import Step
 from .rules import rule_of
 from .shape import body, excused, spans, value, word_of
@@ -106,11 +107,12 @@ def table(runs: List[Judged], known: Known, seconds: float) -> List[str]:
     return lines + blind_lines(runs)
 
 
-def draft_table(runs: List[Judged], entries: List[Entry], known: Known, path: str) -> List[str]:
+def draft_table(runs: List[Judged], draft: Draft, known: Known, path: str) -> List[str]:
     """The end of a run that drafts a list: each new entry, with whose choice it is."""
+    entries = draft.known.entries
     found = counts(runs)
-    lines = [f"Kinds of differences in {path}, each to be described or mended: {len(entries)}", "", "| Entry | whose rule | scripts | times | first |", "|---|---|---|---|---|"]
-    lines += [f"| {it.name} | {it.choice} | {found[it.name]['scripts']:,} | {found[it.name]['times']:,} | {found[it.name]['first']} |" for it in entries if it.name in found]
+    lines = [f"Kinds of differences in {path}, each to be described or mended: {len(entries)}", "", "| Entry | whose rule | scripts | times | first | may follow from |", "|---|---|---|---|---|---|"]
+    lines += [f"| {it.name} | {it.choice} | {found[it.name]['scripts']:,} | {found[it.name]['times']:,} | {found[it.name]['first']} | {draft.after[it.name]} |" for it in entries if it.name in found]
     names = [it.name for it in known.entries]
     return lines + known_table("Known difference", [it for it in names if it not in known.base], found) + known_table("Any port may differ here", list(known.base), found)
 

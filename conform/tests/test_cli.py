@@ -128,7 +128,7 @@ class Known(unittest.TestCase):
         status, out, _ = self.judge("--draft-list", path, self.file("one", SERVED), self.file("two", SERVED))
         self.assertEqual(status, 1)
         self.assertIn(f"Kinds of differences in {path}, each to be described or mended: 1", out)
-        self.assertIn("| pxis_at_serve_standard | standard | 2 | 2 | one, line 4 |", out)
+        self.assertIn("| pxis_at_serve_standard | standard | 2 | 2 | one, line 4 |  |", out)
         self.assertEqual(self.judge("--known", path, self.file("one", SERVED))[0], 0)
         status, _, err = self.judge("--draft-list", os.path.join(self.room, "no", "where"), self.file("one", SERVED))
         self.assertEqual((status, "can't be written: No such file" in err), (2, True))

@@ -71,6 +71,12 @@ class Drafts(unittest.TestCase):
         kinds = {name: len(it["covers"]) for name, it in draft.written.items()}
         self.assertEqual(kinds, {"data_of_tag_at_serve_standard": 1, "pxsact_at_serve_standard": 1})
 
+    def test_what_may_follow_from_an_earlier_difference_says_so(self) -> None:
+        _, draft = drafted(named("set_device_bits_at_60h"))
+        first = list(draft.after)[0]
+        self.assertEqual(list(draft.after.values()), ["", "", first, first])
+        self.assertIn(f"It came after {first}, and may follow from it.", draft.text("it"))
+
     def test_a_run_without_differences_drafts_nothing(self) -> None:
         _, draft = drafted(StandIn)
         self.assertEqual(json.loads(draft.text("it")), {"title": "it", "differences": []})
