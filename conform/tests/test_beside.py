@@ -147,6 +147,14 @@ class Beside(unittest.TestCase):
         self.issue(0)
         self.assertEqual((self.read(PX_IS) >> 24 & 1, self.read(PX_SACT), self.sector()), (1, 1, b"\0"))
 
+    def test_a_command_with_reserved_bits_beside_c_is_ignored(self) -> None:
+        self.run_port()
+        for slot, flags in enumerate((0x90, 0xC0, 0x81)):
+            self.put(slot, flags=flags)
+            self.issue(slot)
+            self.qemu.settle()
+            self.assertEqual((self.read(PX_SACT) >> slot & 1, self.read(PX_CI) >> slot & 1, self.sector()), (1, 1, b"\0"))
+
     def test_a_list_of_1024_pieces_is_executed_and_one_more_fails(self) -> None:
         for most, entries in ((True, 1024), (False, 1025)):
             self.qemu.stop()
