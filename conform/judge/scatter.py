@@ -212,6 +212,3 @@ def own_bytes(draws: Draws, fill: bytes, sectors: int) -> bytes:
     tail = draws.data(509)
     tails = tail + tail
     return b"".join(fill + (at & 0xFFFF).to_bytes(2, "little") + tails[at % 509 : at % 509 + 509] for at in range(sectors))
-
-
-__all__ = ["Draws", "Guest", "Laid", "NoRoom", "decorated", "in_one_piece", "own_bytes", "prdt_of", "scattered"]
