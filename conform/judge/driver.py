@@ -103,9 +103,8 @@ class Driver:
     def issue(self, step: Step) -> None:
         """Header, table and data, then PxSACT. PxCI is written when the script wants the command accepted."""
         tag = int(step.words[1])
-        if step.words[0] != "reissue":
-            self.windows[tag] = self.new_window(tag, step)
-        window = self.windows[tag]
+        window = self.layer.again(self.windows[tag], step.line) if step.words[0] == "reissue" else self.new_window(tag, step)
+        self.windows[tag] = window
         self.adapter.write_places([*memory_of(window).parts(), (layout.header_place(tag), window.header)])
         self.write(layout.PX_SACT, 1 << tag)
         self.untold.add(tag)

@@ -160,6 +160,11 @@ class Layer:
         made = Window(tag, header, 0, window[:0x80], [], [], write, lba, text, "")
         return self.spread(made, draws, None) if self.scatters(draws) else self.plain(made, sent)
 
+    def again(self, window: Window, line: str) -> Window:
+        """The same command for a `reissue`: scattered, it lies elsewhere now."""
+        draws = self.draws(line)
+        return self.spread(window._replace(table=window.table[:0x80]), draws, None) if self.scatters(draws) else window
+
     def unqueued(self, line: str, sent: Sent) -> Window:
         """A window for a command by slot 0 that isn't queued."""
         draws, data = self.draws(line), bytes(sum(length for _, length in pieces_of(sent.prdt)))

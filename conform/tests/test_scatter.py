@@ -102,6 +102,15 @@ class Bits(unittest.TestCase):
             seen |= fis[7] & 0x80 | fis[13] >> 6
         self.assertEqual(seen, 0x83)  # FUA and both bits of PRIO
 
+    def test_a_command_that_is_issued_again_lies_elsewhere(self) -> None:
+        cfis = bytes.fromhex("2780610107000040000000000000000000000000")
+        layer = Layer("scattered", "1", GUEST)
+        window = layer.queued(0, "write 0 7 1 aa", Sent(bytes(32), cfis, []), True, 7, b"\xaa" * 512)
+        again = layer.again(window, "reissue 0")
+        self.assertNotEqual(again.pieces, window.pieces)
+        self.assertEqual((again.table[:0x80], again.text, again.lba), (window.table[:0x80], window.text, 7))
+        self.assertEqual(memory_of(again).gather(again.used), window.text)
+
     def test_guards_stand_around_all_pieces(self) -> None:
         cfis = bytes.fromhex("2780600107000040000000000000000000000000")
         for seed in range(40):
