@@ -78,7 +78,7 @@ def how_many(draws: Draws, units: int, entries: int) -> int:
     if kind < 14:
         return min(most, 9 + draws.below(40))
     low = 1 << draws.below(most.bit_length())
-    return min(most, low + draws.below(low))
+    return most if draws.once_in(8) else min(most, low + draws.below(low))
 
 
 def lengths_of(draws: Draws, total: int, entries: int) -> List[int]:
@@ -99,8 +99,10 @@ def lengths_of(draws: Draws, total: int, entries: int) -> List[int]:
     return [2 * it for it in cut]
 
 
-def beyond(draws: Draws, lengths: List[int]) -> List[int]:
-    """More than the data need: a last piece that is longer, and entries after it."""
+def beyond(draws: Draws, lengths: List[int], entries: int) -> List[int]:
+    """More than the data need: a last piece that is longer, and entries after it; a list that is almost full is filled."""
+    if len(lengths) >= entries - SPARE:
+        return lengths + [2] * (entries - len(lengths))
     if draws.once_in(8) and lengths[-1] < 1 << 20:
         lengths = [*lengths[:-1], lengths[-1] + 2 + 2 * draws.below(256)]
     return lengths + [2 + 2 * draws.below(1024) for _ in range(1 + draws.below(3))] if draws.once_in(4) else lengths
@@ -163,7 +165,7 @@ def scattered(draws: Draws, guest: Guest, user: int, total: int) -> Laid:
     rooms = rooms_of(guest.memory, user, guest.high)
     if not rooms:
         raise NoRoom("the adapter offers too little memory below 4 GiB for 33 commands")
-    lengths = beyond(draws, lengths_of(draws, total, guest.entries)) if total else []
+    lengths = beyond(draws, lengths_of(draws, total, guest.entries), guest.entries) if total else []
     table_at = table_place(draws, rooms, len(lengths))
     places = [0] * len(lengths)
     for room in rooms:

@@ -63,6 +63,10 @@ class Lists(unittest.TestCase):
         for (address, length), (after, _) in zip(rooms, rooms[1:]):
             self.assertLessEqual(address + length, after)
 
+    def test_a_list_has_as_many_entries_as_there_can_be_now_and_then(self) -> None:
+        self.assertEqual(max(len(laid(seed, 512 * 300).pieces) for seed in range(80)), 65_535)
+        self.assertEqual(max(len(laid(seed, 4096, GUEST._replace(entries=64)).pieces) for seed in range(80)), 64)
+
     def test_an_emulator_that_takes_few_entries_gets_few(self) -> None:
         for seed in range(60):
             for total in TOTALS:
