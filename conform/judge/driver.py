@@ -33,11 +33,12 @@ class Driver:
         self.texts: Dict[int, bytes] = {}  # what the commands of the slots have read
         self.spoiled: Set[int] = set()  # sectors that the port may have changed while it was halted
         self.failure = (0, 0)  # error and LBA of the failed command
+        self.alone: Optional[int] = None  # of several tags that were completed one by one, the last
         self.found: List[Difference] = []
 
     def play(self, step: Step) -> List[Difference]:
         """Plays one line, and answers what differs beside the registers and the received FIS area."""
-        self.found = []
+        self.found, self.alone = [], None
         word = step.words[0]
         if step.answer.startswith("refused"):
             if step.answer == "refused Halted" and word in ("accept", "serve"):
@@ -130,6 +131,7 @@ class Driver:
     def serve(self, step: Step) -> None:
         tags = [int(it) for it in step.words[1:]]
         if len(tags) == 1 or not self.adapter.complete_together(tags):
+            self.alone = tags[-1] if len(tags) > 1 else None
             for tag in tags:
                 if not self.adapter.complete(tag):
                     self.tell("disk request", b"\1", b"\0", f"the disk was asked for nothing by tag {tag}")

@@ -102,6 +102,16 @@ class Qemu(Adapter):
     def complete(self, tag: int) -> bool:
         return self.let_go(tag, 0)
 
+    def complete_together(self, tags: Sequence[int]) -> bool:
+        """QEMU completes each by a FIS of its own, also when they end together: the received FIS area has that of the last."""
+        for tag in tags:
+            if not self.complete(tag):
+                return False
+            for _ in range(1000):
+                if not self.read_register(layout.PX_SACT) >> tag & 1:
+                    break
+        return True
+
     def fail(self, tag: int, error: int, lba: int) -> bool:
         return self.let_go(tag, IO_ERROR)  # QEMU makes ABRT of any error, with no LBA
 

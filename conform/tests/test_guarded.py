@@ -1,12 +1,14 @@
 """Whatever an adapter does wrong is reported as a fault of the emulator, with script and line."""
+import json
 import unittest
-from typing import Any, List, Type
+from typing import Any, List, Sequence, Type
 
 from judge.adapter import Adapter, EmulatorFault
 from judge.judge import Way, judge
 from judge.known import NOTHING
+from judge.model import Trace, steps_of
 from stand_in.port import StandIn
-from tests.common import stored
+from tests.common import stored, text_of
 
 
 class Broken(StandIn):
@@ -68,6 +70,14 @@ class Faults(unittest.TestCase):
         self.assertIn("the adapter's `most_entries` is 7, and not 64 to 65,535", self.fault(broken("most_entries", 7)))
 
 
+def together_of_one(port: StandIn, tags: Sequence[int]) -> bool:
+    """Completes one tag, and not several."""
+    return len(tags) == 1 and StandIn.complete_together(port, tags)
+
+
+SETUP = "4120000001" + "00" * 15 + "00020000" + "00" * 4  # the DMA Setup FIS of tag 1, one sector to the host
+
+
 class Small(StandIn):
     """A guest with 64 MiB at 1 MiB, and none at the places of the model's windows."""
 
@@ -84,6 +94,16 @@ class Offers(unittest.TestCase):
         for way in (Way(), Way("scattered", "1"), Way("scattered", "2")):
             judged = judge("queue", stored(), Small, NOTHING, way)
             self.assertEqual((judged.new, judged.end, judged.lines), ([], "", len(stored().steps)))
+
+    def test_tags_that_can_only_be_completed_one_by_one_are_no_difference(self) -> None:
+        before = text_of("examples", "error_in_a_queue.json").splitlines()[:7]
+        made = type("It", (StandIn,), {"complete_together": together_of_one})
+        line = json.dumps({"line": 14, "command": "serve 0 1", "answer": "completed 6 7", "entries": [], "writes": [], "sent": None, "transfers": [],
+                           "received": {"dma_setup": SETUP, "set_device_bits": "a140400003000000"}, "slots": [],
+                           "registers": [{"name": "PxSACT", "before": "00000007", "word": "00000004", "bits": []}, {"name": "PxIS", "before": "00000000", "word": "00000008", "bits": []}]})
+        trace = Trace(steps_of("\n".join([*before, line])), "")
+        self.assertEqual(judge("two", trace, made, NOTHING).new, [])
+        self.assertEqual(judge("two", trace, StandIn, NOTHING).new, [])
 
     def test_what_is_not_compared_is_said(self) -> None:
         names: List[str] = ["sector", "put_sector", "complete_together"]
