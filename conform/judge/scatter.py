@@ -5,12 +5,13 @@ Where they lie is the driver's choice (AHCI 1.3.1, sections 4.2.2 and 4.2.3), so
 import random
 from typing import List, NamedTuple, Sequence
 
+from . import layout
 from .adapter import Place
 
 PAGE = 4096
 SPARE = 16  # entries that are left for pieces that are cut, and for those after the data
 MOST_UNITS = 1 << 21  # of two bytes: a piece has 4 MiB at most
-USERS = 33  # the slots, and the commands that aren't queued
+SLOTS = 32
 INTERRUPT = 1 << 31  # I of an entry
 
 
@@ -56,15 +57,22 @@ class Laid(NamedTuple):
     rooms: List[Place]  # nothing else lies in these
 
 
-def rooms_of(memory: Sequence[Place], user: int, high: bool) -> List[Room]:
-    """The parts of one slot in each place that the adapter offers: above 4 GiB they count if CAP has S64A."""
+def has_windows(place: Place) -> bool:
+    """Whether the memory is there at which the model lays the windows of all slots."""
+    return place[0] <= layout.WINDOWS and layout.window_base(SLOTS) <= sum(place)
+
+
+def rooms_of(memory: Sequence[Place], tag: int, high: bool) -> List[Room]:
+    """The parts of one slot in each place that the adapter offers: above 4 GiB they count if CAP has S64A. A slot's part is its window
+    where the model's windows are, so that no other slot's is there. A command that isn't queued takes the last slot's part: no other command
+    is under way then."""
     found = []
-    for address, length in memory:
-        end = address + length if high else min(address + length, 1 << 32)
-        first = -(-address // PAGE) * PAGE
-        size = (end - first) // USERS // PAGE * PAGE
+    for place in memory:
+        first, end = (layout.WINDOWS, layout.window_base(SLOTS)) if has_windows(place) else (-(-place[0] // PAGE) * PAGE, sum(place))
+        size = ((end if high else min(end, 1 << 32)) - first) // SLOTS // PAGE * PAGE
         if size > 0:
-            found.append(Room(first + user * size, first + (user + 1) * size))
+            at = first + min(tag, SLOTS - 1) * size
+            found.append(Room(at, at + size))
     return found
 
 
@@ -160,11 +168,11 @@ class Guest(NamedTuple):
     high: bool = False  # CAP has S64A
 
 
-def scattered(draws: Draws, guest: Guest, user: int, total: int) -> Laid:
+def scattered(draws: Draws, guest: Guest, tag: int, total: int) -> Laid:
     """A place for a command of so many bytes of data."""
-    rooms = rooms_of(guest.memory, user, guest.high)
+    rooms = rooms_of(guest.memory, tag, guest.high)
     if not rooms:
-        raise NoRoom("the adapter offers too little memory below 4 GiB for 33 commands")
+        raise NoRoom("the adapter offers too little memory below 4 GiB for 32 slots")
     lengths = beyond(draws, lengths_of(draws, total, guest.entries), guest.entries) if total else []
     table_at = table_place(draws, rooms, len(lengths))
     places = [0] * len(lengths)
@@ -175,9 +183,9 @@ def scattered(draws: Draws, guest: Guest, user: int, total: int) -> Laid:
     return Laid(table_at, list(zip(places, lengths)), [(it.first, it.end - it.first) for it in rooms])
 
 
-def in_one_piece(memory: Sequence[Place], user: int, total: int) -> Laid:
+def in_one_piece(memory: Sequence[Place], tag: int, total: int) -> Laid:
     """The plain way, for an emulator that doesn't have the memory at which the model lays its windows."""
-    rooms = rooms_of(memory, user, False)
+    rooms = rooms_of(memory, tag, False)
     lengths = [min(total - at, 2 * MOST_UNITS) for at in range(0, total, 2 * MOST_UNITS)]
     for room in rooms:
         table_at, at = room.first, room.first + PAGE

@@ -5,7 +5,7 @@ from typing import Dict, Iterator, List, NamedTuple, Optional, Sequence, Tuple
 from . import layout
 from .adapter import Place
 from .model import Sent
-from .scatter import Draws, Guest, Laid, decorated, in_one_piece, own_bytes, prdt_of, scattered
+from .scatter import Draws, Guest, Laid, decorated, has_windows, in_one_piece, own_bytes, prdt_of, scattered
 
 UNTOUCHED = 0xC5  # fills the place of a read's data, and the memory around all pieces
 GUARD = 64  # bytes around them that nobody may change
@@ -171,14 +171,9 @@ class Layer:
         made = Window(PLAIN, sent.header, 0, sent.cfis.ljust(0x80, b"\0"), [], [], False, 0, data, "")
         return self.spread(made, draws, None) if self.scatters(draws) else self.plain(made, sent)
 
-    def has(self, tag: int) -> bool:
-        """Whether the memory is there at which the model lays this window."""
-        first = layout.window_base(tag)
-        return tag == PLAIN or any(address <= first and first + layout.WINDOW_SIZE <= address + length for address, length in self.guest.memory)
-
     def plain(self, made: Window, sent: Sent) -> Window:
         """As the model has it; or in one piece, if the memory is elsewhere."""
-        if not self.has(made.tag):
+        if made.tag != PLAIN and not any(map(has_windows, self.guest.memory)):
             return laid(made, in_one_piece(self.guest.memory, made.tag, len(made.text)), [], b"")
         table = made.table + b"".join(sent.prdt)
         return made._replace(table_at=base_of(made.tag), table=table, pieces=pieces_of(sent.prdt), rooms=rooms_of_model(made.tag), way="as in the model")

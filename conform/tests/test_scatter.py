@@ -12,8 +12,8 @@ GUEST = Guest((LOW, HIGH), 65_535, True)
 TOTALS = [512, 1024, 4096, 512 * 129, 512 * 8192]
 
 
-def laid(seed: int, total: int, guest: Guest = GUEST, user: int = 3) -> Laid:
-    return scattered(Draws(str(seed)), guest, user, total)
+def laid(seed: int, total: int, guest: Guest = GUEST, tag: int = 3) -> Laid:
+    return scattered(Draws(str(seed)), guest, tag, total)
 
 
 class Lists(unittest.TestCase):
@@ -59,9 +59,22 @@ class Lists(unittest.TestCase):
             self.assertTrue(all(address + length <= 1 << 32 for address, length in [*place.pieces, (place.table_at, 0)]))
 
     def test_slots_share_no_byte(self) -> None:
-        rooms = sorted(room for user in range(33) for room in laid(1, 512, user=user).rooms)
-        for (address, length), (after, _) in zip(rooms, rooms[1:]):
-            self.assertLessEqual(address + length, after)
+        for memory in (GUEST.memory, [(0x0F001000, 0x84000000)], [(0x100000, 64 << 20), (0x100000000, 64 << 20)], [(0x10000000, 0x40000000)]):
+            rooms = sorted(room for tag in range(32) for room in laid(1, 512, GUEST._replace(memory=memory), tag).rooms)
+            for (address, length), (after, _) in zip(rooms, rooms[1:]):
+                self.assertLessEqual(address + length, after)
+                self.assertTrue(any(first <= address and address + length <= first + size for first, size in memory))
+
+    def test_a_slots_part_has_its_plain_window_too(self) -> None:
+        cfis = bytes.fromhex("2780600107000040000000000000000000000000")
+        for memory in (GUEST.memory, [(0x0F001000, 0x84000000)], [(0x100000, 64 << 20)], [(0x10000000, 0x40000000)]):
+            for tag in range(32):
+                guest = GUEST._replace(memory=memory)
+                entry = (0x10001000 + tag * 0x04000000).to_bytes(8, "little") + bytes(4) + (511).to_bytes(4, "little")
+                window = Layer("plain", "1", guest).queued(tag, "read 0 7 1", Sent(bytes(32), cfis, [entry]), False, 7, bytes(512))
+                rooms = laid(1, 512, guest, tag).rooms
+                for address, length in [*window.pieces, (window.table_at, len(window.table))]:
+                    self.assertTrue(any(first <= address and address + length <= first + size for first, size in rooms), (tag, memory))
 
     def test_a_list_has_as_many_entries_as_there_can_be_now_and_then(self) -> None:
         self.assertEqual(max(len(laid(seed, 512 * 300).pieces) for seed in range(80)), 65_535)
