@@ -1,7 +1,7 @@
 #!/usr/bin/env python3
 """Prints the script of one seed for `ahci replay`: some hundred lines, most of them lawful, no one a fault of the language.
 
-    bench/scripts_of.py [--raw] SEED
+    bench/scripts_of.py [--raw] [--large] SEED
 
 The same seed has the same script with every version of Python: nothing is drawn but by `random()`, whose numbers are
 fixed. Each script has its own disk of 1 to 64 sectors, its own depth of 1 to 32, now and then a first number, and its own liking for
@@ -10,6 +10,10 @@ line that the port has to refuse stands in it now and then. The last line is `jo
 
 With --raw the script is another one, in which `raw` lines stand too: windows of one or two sectors as docs/LAYOUTS.md has them, some with
 what the port ignores, and now and then one that breaks a rule.
+
+With --large it is another one again: an eighth of the scripts has a disk of up to 131,072 sectors, and there a few commands have 129
+sectors and more, 65,536 at most, so many that all scripts together take little longer; and in all of them commands end with the last sector,
+or pass it by one, more often.
 """
 import random
 import signal
@@ -88,15 +92,25 @@ class Writer:
         "trim": (None, 6),
     }
 
-    def __init__(self, seed, raw=False):
+    def __init__(self, seed, raw=False, large=False):
         self.random = random.Random(seed).random
         self.commands = {**self.COMMANDS, "raw": (FREE, 6)} if raw else self.COMMANDS
         self.first = self.one_of(["", "", "", " 0", " 7", f" {2**63 - 40}", f" {2**63}"])
         self.port = Port(1 + self.below(64), 1 + self.below(32), int(self.first or 0))
         self.likings = {word: 1 + self.below(most) for word, (_, most) in self.commands.items()}
+        self.large, self.left = large, 0  # sectors that large commands may still have
+        if large and self.below(8) == 0:
+            self.port.sectors, self.left = self.up_to(256, 131_072), 8192
+            if self.below(8) == 0:
+                self.port.sectors = self.left = self.up_to(8193, 131_072)
 
     def below(self, end):
         return int(self.random() * end)
+
+    def up_to(self, first, last):
+        """A number between these, as likely in each doubling of the first."""
+        low = first << self.below((last // first).bit_length())
+        return min(last, low + self.below(low))
 
     def one_of(self, values):
         return values[self.below(len(values))]
@@ -131,6 +145,12 @@ class Writer:
         if self.seldom():
             return self.one_of([self.below(end + 8), 2**48 - 1, 2**48, 2**64 - 1]), self.one_of([0, 1, 9, 65_537, 131_072])
         count = 1 + self.below(min(end, 8))
+        if self.large and self.below(32) == 0:
+            return end - count + self.below(2), count  # the last sector, or one more
+        if self.left >= 129 and self.below(8) == 0:
+            most = min(end, self.left, 65_536)
+            count = most if most > 8192 else self.up_to(129, most)
+            self.left -= count
         return self.below(end - count + 1), count
 
     def window(self, tag):
@@ -200,9 +220,9 @@ class Writer:
         return " ".join([word, *map(str, given)]) + tail
 
 
-def script_of(seed, raw=False):
-    """The lines of a seed's script, with or without lines of `raw`."""
-    writer = Writer(seed, raw)
+def script_of(seed, raw=False, large=False):
+    """The lines of a seed's script, with or without lines of `raw`, on a disk of 64 sectors at most or now and then on a large one."""
+    writer = Writer(seed, raw, large)
     lines = [writer.one_of(["disk 0 1", "disk 131073 1", "disk 1 0", "disk 1 33", f"disk 1 1 {2**63 + 1}"])] if writer.seldom() else []
     lines.append(f"disk {writer.port.sectors} {len(writer.port.slots)}{writer.first}")
     lines += [writer.line() for _ in range(200 + writer.below(300))]
@@ -211,7 +231,7 @@ def script_of(seed, raw=False):
 
 if __name__ == "__main__":
     WORDS = sys.argv[1:]
-    if len(WORDS) not in (1, 2) or WORDS[:-1] not in ([], ["--raw"]) or not WORDS[-1].isdecimal():
+    if WORDS[:-1] not in ([], ["--raw"], ["--large"], ["--raw", "--large"]) or not WORDS[-1:] or not WORDS[-1].isdecimal():
         sys.exit(__doc__)
     signal.signal(signal.SIGPIPE, signal.SIG_DFL)  # the script may go to a reader that ends early
-    print("\n".join(script_of(int(WORDS[-1]), len(WORDS) == 2)))
+    print("\n".join(script_of(int(WORDS[-1]), "--raw" in WORDS, "--large" in WORDS)))

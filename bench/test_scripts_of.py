@@ -88,11 +88,32 @@ class ScriptsOf(unittest.TestCase):
             missing = [it for it, count in found.items() if not count]
             self.assertEqual([] if raw else ["raw T H B"], missing)
 
+    def test_large_scripts_have_large_disks_and_commands_now_and_then(self) -> None:
+        scripts = [script_of(seed, True, True) for seed in range(1, 301)]
+        sectors = [int([line for line in script if line.startswith("disk ")][-1].split()[1]) for script in scripts]
+        self.assertTrue(20 <= sum(it > 64 for it in sectors) <= 60)
+        self.assertTrue(100_000 < max(sectors) <= 131_072)
+        counts = [int(line.split()[3]) for script in scripts for line in script if line.startswith(("read ", "write "))]
+        proper = [it for it in counts if 129 <= it <= 65_536]
+        self.assertTrue(100 <= len(proper) <= 1000)
+        self.assertGreater(max(proper), 20_000)
+        self.assertIn(65_536, [int(line.split()[3]) for line in script_of(860, True, True) if line.startswith(("read ", "write "))])
+        self.assertLess(sum(proper), 300 * 4096)
+        self.assertLess(max(map(len, (line for script in scripts for line in script))), 4097)
+
+    def test_large_commands_end_with_the_last_sector_or_pass_it_by_one(self) -> None:
+        ends = set()
+        for seed in range(1, 41):
+            script = script_of(seed, True, True)
+            last = int([line for line in script if line.startswith("disk ")][-1].split()[1])
+            ends |= {int(line.split()[2]) + int(line.split()[3]) - last for line in script if line.startswith(("read ", "write "))}
+        self.assertLessEqual({0, 1}, ends)
+
     def test_a_seed_has_one_script(self) -> None:
-        for words in ([], ["--raw"]):
+        for words in ([], ["--raw"], ["--large"], ["--raw", "--large"]):
             said = [subprocess.run([sys.executable, os.path.join(TOP, "bench/scripts_of.py"), *words, "7"], stdout=subprocess.PIPE, check=True).stdout for _ in range(2)]
             self.assertEqual(said[0], said[1])
-            self.assertEqual("\n".join(script_of(7, bool(words))) + "\n", said[0].decode())
+            self.assertEqual("\n".join(script_of(7, "--raw" in words, "--large" in words)) + "\n", said[0].decode())
         self.assertNotEqual(script_of(7), script_of(8))
 
     def test_the_scripts_are_those_of_earlier_campaigns(self) -> None:
@@ -119,7 +140,7 @@ class ScriptsOf(unittest.TestCase):
         self.assertLess(sum(found.values()) // 2, found["a read"] + found["a write"])
 
     def test_wrong_words_are_told(self) -> None:
-        for words in ([], ["x"], ["--raw"], ["7", "--raw"], ["--raw", "7", "8"]):
+        for words in ([], ["x"], ["--raw"], ["7", "--raw"], ["--raw", "7", "8"], ["--large", "--raw", "7"], ["--raw", "--large"]):
             ran = subprocess.run([sys.executable, os.path.join(TOP, "bench/scripts_of.py"), *words], capture_output=True, text=True, check=False)
             self.assertEqual((1, ""), (ran.returncode, ran.stdout), words)
 

@@ -30,6 +30,8 @@ def compare(count, ahci, play, *words):
 
 
 def main():
+    if len(sys.argv) != 4 or not sys.argv[1].isdecimal():
+        sys.exit(__doc__)
     count, ahci, play = int(sys.argv[1]), sys.argv[2], sys.argv[3]
     print(f"{count} random scripts with {compare(count, ahci, play)} answers: no difference", flush=True)
     print(f"{count // 5} random scripts with windows of any bytes, with {compare(count // 5, ahci, play, '--raw')} answers: no difference")

@@ -37,8 +37,8 @@ printf '#!/bin/sh\\necho "proved: $0"\\nfor it; do echo "<$it>"; done\\nod -An -
 chmod +x "$ROOM/crates/ahci/out/rlib/ahci/ahci"
 """
 UNPROVED = "ahci: unproved, checked as it runs; ./ahci --build proves and builds the program, about half an hour"
-STALE = "ahci: unproved, checked as it runs, since the proved program is older than its sources; ./ahci --build proves and builds the program, about half an hour"
-TOOLS = "awk bash cat chmod env find grep head mkdir mktemp od printf readlink rm sed sh stat touch wc dirname".split()
+STALE = "ahci: unproved, checked as it runs, since the proved program is made from other sources; ./ahci --build proves and builds the program, about half an hour"
+TOOLS = "awk bash cat chmod env find grep head mkdir mktemp od printf readlink rm sed sh sha256sum sort stat touch wc xargs dirname".split()
 
 
 class Ahci(unittest.TestCase):
@@ -85,10 +85,10 @@ class Ahci(unittest.TestCase):
         self.calls()
 
     def edit(self, path: str) -> None:
-        """Makes a file newer than all that was built."""
+        """Gives a file other bytes, at the time at which it was written."""
+        before = os.stat(f"{self.room}/{path}").st_mtime
         self.write(path, "edited")
-        later = os.stat(f"{self.room}/crates/ahci/out/rlib/ahci/built-from").st_mtime + 5
-        os.utime(f"{self.room}/{path}", (later, later))
+        os.utime(f"{self.room}/{path}", (before, before))
 
     def input_of_rt(self) -> Optional[int]:
         with open(f"{self.room}/input", encoding="utf-8") as it:
@@ -150,7 +150,6 @@ class Ahci(unittest.TestCase):
                 self.build()
                 self.edit(f"crates/{crate}/{part}/one")
                 self.assertEqual((0, "an answer\n", [STALE, "said by the program"]), self.run_with("replay"), (crate, part))
-                os.utime(f"{self.room}/crates/{crate}/{part}/one", (1, 1))
         self.build()
         self.calls()
         self.edit("crates/beside/src/one")
@@ -158,9 +157,26 @@ class Ahci(unittest.TestCase):
         self.write("crates.txt", CRATES.replace("low clap", "low"))
         self.assertEqual([STALE, "said by the program"], self.run_with("replay")[2])
 
+    def test_a_copy_is_not_stale_whatever_its_times_are(self) -> None:
+        self.build()
+        for at, _, names in os.walk(self.room):
+            for name in names:
+                if not os.path.islink(f"{at}/{name}"):
+                    os.utime(f"{at}/{name}", (2_000_000_000, 2_000_000_000))
+        os.utime(f"{self.room}/crates/ahci/out/rlib/ahci/built-from", (1, 1))
+        self.assertEqual(3, self.run_with("replay")[0])
+
+    def test_a_source_that_is_gone_or_new_makes_it_stale(self) -> None:
+        self.build()
+        self.write("crates/low/src/two", "low")
+        self.assertEqual([STALE, "said by the program"], self.run_with("replay")[2])
+        os.remove(f"{self.room}/crates/low/src/two")
+        self.assertEqual(3, self.run_with("replay")[0])
+        os.remove(f"{self.room}/crates/low/src/one")
+        self.assertEqual([STALE, "said by the program"], self.run_with("replay")[2])
+
     def test_a_source_that_is_edited_during_a_build_makes_it_stale(self) -> None:
-        self.write("tools/build", BUILD + 'sleep 0.05; touch "$ROOM/crates/low/src/one"; sleep 0.05\n', 0o755)
-        os.symlink(str(shutil.which("sleep")), f"{self.room}/bin/sleep")
+        self.write("tools/build", BUILD + 'echo edited >"$ROOM/crates/low/src/one"\n', 0o755)
         self.build()
         self.assertEqual([STALE, "said by the program"], self.run_with("replay")[2])
 
@@ -173,7 +189,7 @@ class Ahci(unittest.TestCase):
         self.edit("crates/low/specs/one")
         os.remove(f"{self.room}/bin/rt")
         status, output, said = self.run_with("replay")
-        warning = "ahci: warning: the proved program is older than its sources, and rt, of the Rattle kit, is not on the PATH to build it anew"
+        warning = "ahci: warning: the proved program is made from other sources, and rt, of the Rattle kit, is not on the PATH to build it anew"
         self.assertEqual((3, [f"proved: {self.program}", "<replay>"], [warning, "untouched"]), (status, output.splitlines(), said))
 
     def test_without_rt_and_program_one_line_says_so(self) -> None:

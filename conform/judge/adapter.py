@@ -1,6 +1,8 @@
 """What an emulator has to offer to be judged: one small class. conform/ADAPTERS.md shows how to write one."""
 from abc import ABC, abstractmethod
-from typing import List, Optional, Sequence
+from typing import List, Optional, Sequence, Tuple
+
+Place = Tuple[int, int]  # an address and a length
 
 
 class EmulatorFault(Exception):
@@ -16,6 +18,8 @@ class Adapter(ABC):
     title = "an emulator"  # how reports name it
     patience = 0.5  # seconds to wait for what the model says should come
     quiet = 0.02  # seconds to look whether something comes that should not
+    guest_memory: Sequence[Place] = ((0x10000000, 0x80000000),)  # of the guest, for tables and data; those above 4 GiB are used if CAP has S64A
+    most_entries = 65_535  # of a PRDT at most: 64 and more
 
     @abstractmethod
     def start(self, sectors: int, depth: int) -> None:
@@ -54,6 +58,15 @@ class Adapter(ABC):
         """Many registers at once, where that is faster."""
         return [self.read_register(offset) for offset in offsets]
 
+    def read_places(self, places: Sequence[Place]) -> List[bytes]:
+        """Many places of the guest's memory at once, where that is faster."""
+        return [self.read_memory(address, length) for address, length in places]
+
+    def write_places(self, places: Sequence[Tuple[int, bytes]]) -> None:
+        """Writes many places at once, where that is faster."""
+        for address, data in places:
+            self.write_memory(address, data)
+
     def complete_together(self, tags: Sequence[int]) -> bool:
         """Completes several in this order, by one Set Device Bits FIS. False: it can't, and they go one by one."""
         return False
@@ -61,6 +74,11 @@ class Adapter(ABC):
     def sector(self, lba: int) -> Optional[bytes]:
         """A sector as it is on the disk now. None: the disk can't be looked at."""
         return None
+
+    def sectors(self, lba: int, count: int) -> Optional[bytes]:
+        """Sectors that follow each other, where that is faster than one by one."""
+        found = [self.sector(at) for at in range(lba, lba + count)]
+        return b"".join(it or b"" for it in found) if all(found) else None
 
     def put_sector(self, lba: int, data: bytes) -> None:
         """Puts a sector onto the disk behind the port's back, to go on after a known difference."""

@@ -13,33 +13,38 @@ from stand_in import faults
 
 from . import model, page, report, shown
 from .adapter import Adapter, EmulatorFault
-from .judge import Judged, judge
+from .draft import Draft
+from .judge import Judged, Way, judge
 from .known import NOTHING, Known, ListFault, read_known
 from .qemu import Qemu
 
 TOP = os.path.dirname(os.path.dirname(os.path.dirname(os.path.abspath(__file__))))
 CONFORM = os.path.join(TOP, "conform")
 LISTS = {"qemu": os.path.join(CONFORM, "qemu-7.2.json")}
+BASE = os.path.join(CONFORM, "any_port.json")
 ABOUT = """\
 Plays scripts on an emulator's AHCI port as a driver would, and compares the port with the reference model after each line:
-all registers, the FISes received at the line, a read's data, the disk, PRDBC where it counts. A script ends at the first line
-with a difference that the list of known ones doesn't have; the line, what was expected, what was got and the trace around it
-are told.
+all registers, the FISes received at the line, a read's data, the memory around them, the disk, the identify page, PRDBC where it counts.
+A script ends at the first line with a difference that the list of known ones doesn't have; the line, what was expected, what was got,
+whose rule it is and the trace around it are told.
 """
 EXAMPLES = """\
 Exit status:
   0  every difference is on the list
   1  some script has a new difference
   2  the command line is wrong, or the model, the list or a script can't be read
-  3  the emulator can't be started, has died, or answers nothing
+  3  the emulator can't be started, has died, or answers nothing; or its adapter ends with an exception
 
 Examples:
   conform/ahci_conform examples/two_writes.ahci           one script on QEMU
-  conform/ahci_conform --seed 1-500                       500 random scripts, as bench/scripts_of.py makes them
+  conform/ahci_conform --seed 1-500                       500 random scripts, as bench/scripts_of.py --raw --large makes them
+  conform/ahci_conform --seed 7 --pieces scattered        one, with all data in many pieces; --pieces-seed 8 lays them otherwise
   conform/ahci_conform --seed 7 --json | jq .new          one seed, for tools
   conform/ahci_conform --without no_error_log conform/qemu/no_error_log.ahci
                                                           a known difference, told as a new one
   conform/ahci_conform --emulator mine.py:Mine s.ahci     an adapter of your own (conform/ADAPTERS.md)
+  conform/ahci_conform --emulator mine.py:Mine --seed 1-50 --draft-list mine.json
+                                                          a first list of what it does otherwise
   conform/ahci_conform --shown conform/qemu               each entry of QEMU's list by its own script
   conform/ahci_conform --page conform/qemu-7.2.json       the list as the page docs/QEMU.md
 """
@@ -62,7 +67,11 @@ def words() -> Words:
     made.add_argument("--seed", metavar="A-B", help="judge the random scripts of these seeds, as 7, 1-500 or 1-50,77")
     made.add_argument("--model", metavar="PATH", help="the model's program (default: the one that ./ahci --build makes, else ./ahci, unproved and slow)")
     made.add_argument("--known", metavar="FILE", help="the list of known differences, or `none` (default: the emulator's own)")
+    made.add_argument("--base", metavar="FILE", help="the list of what any port may do otherwise, or `none` (default: conform/any_port.json; none with --shown and --without)")
     made.add_argument("--without", metavar="NAME", help="leave this entry out of the list, so that it is told as a new difference")
+    made.add_argument("--pieces", choices=("plain", "scattered", "both"), help="where data lie: as in the model, in many pieces, or now one and now the other (default: both for --seed, plain for SCRIPT)")
+    made.add_argument("--pieces-seed", metavar="N", type=int, help="the seed of the pieces (default: that of the script, 1 for SCRIPT)")
+    made.add_argument("--draft-list", metavar="FILE", help="go on past every difference, and write a first list of them to this file")
     made.add_argument("--fault", metavar="NAME", help="plant this fault in the stand-in; `list` names them")
     made.add_argument("--go-on", action="store_true", help="judge the scripts after one with a new difference too")
     made.add_argument("--json", action="store_true", help="an object a script, a line each, in the place of text and table")
@@ -82,7 +91,7 @@ def seeds_in(text: str) -> List[int]:
     return seeds
 
 
-def script_maker() -> Callable[[int], List[str]]:
+def script_maker() -> Callable[..., List[str]]:
     """`script_of` of bench/scripts_of.py."""
     path = os.path.join(TOP, "bench", "scripts_of.py")
     found = importlib.util.spec_from_file_location("scripts_of", path)
@@ -93,18 +102,20 @@ def script_maker() -> Callable[[int], List[str]]:
     return module.script_of  # type: ignore[no-any-return]
 
 
-def scripts_in(asked: argparse.Namespace) -> Iterator[Tuple[str, str]]:
-    """Names and texts."""
+def scripts_in(asked: argparse.Namespace) -> Iterator[Tuple[str, str, Way]]:
+    """Names, texts, and where their data lie."""
+    way = Way(asked.pieces or "plain", str(1 if asked.pieces_seed is None else asked.pieces_seed))
     for path in asked.scripts:
         try:
             with (open(0, encoding="latin-1", closefd=False) if path == "-" else open(path, encoding="latin-1")) as text:
-                yield "standard input" if path == "-" else os.path.basename(path), text.read()
+                yield "standard input" if path == "-" else os.path.basename(path), text.read(), way
         except OSError as why:
             raise Wrong(f"{path} can't be read: {why.strerror}") from why
     if asked.seed:
         script_of = script_maker()
         for seed in seeds_in(asked.seed):
-            yield f"seed {seed}", "".join(f"{line}\n" for line in script_of(seed))
+            way = Way(asked.pieces or "both", str(seed if asked.pieces_seed is None else asked.pieces_seed))
+            yield f"seed {seed}", "".join(f"{line}\n" for line in script_of(seed, True, True)), way
 
 
 def adapter_of(asked: argparse.Namespace) -> Callable[[], Adapter]:
@@ -134,15 +145,17 @@ def adapter_of(asked: argparse.Namespace) -> Callable[[], Adapter]:
 
 def known_for(asked: argparse.Namespace) -> Known:
     path = asked.known or LISTS.get(asked.emulator)
-    known = NOTHING if path in (None, "none") else read_known(path)
+    known = NOTHING if not path or path == "none" else read_known(path)
+    base = asked.base or ("none" if asked.shown or asked.without else BASE)
+    known = known if base == "none" else known.over(read_known(base))
     if asked.without and asked.without not in [entry.name for entry in known.entries]:
         raise Wrong(f"the list has no entry '{asked.without}': it has {', '.join(entry.name for entry in known.entries) or 'none'}")
     return known._replace(entries=[entry for entry in known.entries if entry.name != asked.without])
 
 
-def tell(asked: argparse.Namespace, judged: Judged, title: str) -> None:
+def tell(asked: argparse.Namespace, judged: Judged) -> None:
     """What is told of one script when it has ended."""
-    text = "\n".join(report.differences_text(judged, title)) if judged.new else ""
+    text = "\n".join(report.differences_text(judged)) if judged.new else ""
     if asked.json:
         print(json.dumps(report.as_json(judged)), flush=True)
     elif asked.each_line:
@@ -154,6 +167,8 @@ def tell(asked: argparse.Namespace, judged: Judged, title: str) -> None:
     else:
         if judged.trace.end:
             print(f"{judged.name}: judged up to the model's `{judged.trace.end}`", flush=True)
+        if judged.end:
+            print(f"{judged.name}: judged up to {judged.end}", flush=True)
         if text:
             print(text, flush=True)
 
@@ -163,17 +178,32 @@ def run(asked: argparse.Namespace) -> int:
     if not asked.scripts and not asked.seed:
         raise Wrong("SCRIPT or --seed is missing (conform/ahci_conform --help explains)")
     make, known, program = adapter_of(asked), known_for(asked), model.program_at(asked.model, TOP)
+    draft = Draft() if asked.draft_list else None
     runs: List[Judged] = []
     begun = time.monotonic()
-    for name, text in scripts_in(asked):
-        judged = judge(name, model.trace_of(program, text), make(), known)
+    for name, text, way in scripts_in(asked):
+        judged = judge(name, model.trace_of(program, text), make, known, way, draft)
         runs.append(judged)
-        tell(asked, judged, make().title)
+        tell(asked, judged)
         if judged.new and not asked.go_on:
             break
+    if draft:
+        return write_draft(asked, draft, known, runs)
     if not asked.json and not asked.each_line:
         print("\n".join(report.table(runs, known, time.monotonic() - begun)))
     return 0 if all(it.passed for it in runs) else 1
+
+
+def write_draft(asked: argparse.Namespace, draft: Draft, known: Known, runs: List[Judged]) -> int:
+    """The list of what was found, beside what is known already."""
+    title = runs[-1].title if runs else "an emulator"
+    try:
+        with open(asked.draft_list, "w", encoding="utf-8") as out:
+            out.write(draft.text(title))
+    except OSError as why:
+        raise Wrong(f"{asked.draft_list} can't be written: {why.strerror}") from why
+    print("\n".join(report.draft_table(runs, draft, known, asked.draft_list)))
+    return 1 if draft.written else 0
 
 
 def check_list(asked: argparse.Namespace) -> int:
@@ -184,8 +214,12 @@ def check_list(asked: argparse.Namespace) -> int:
     return 1 if faults else 0
 
 
+class Stopped(BaseException):
+    """A signal has come. No adapter's `except Exception` catches it."""
+
+
 def stop(number: int, _: object) -> None:
-    sys.exit(128 + number)
+    raise Stopped(128 + number)
 
 
 def main(given: Optional[List[str]] = None) -> int:
@@ -207,6 +241,8 @@ def main(given: Optional[List[str]] = None) -> int:
     except EmulatorFault as why:
         print(f"ahci_conform: {why}", file=sys.stderr)
         return 3
+    except Stopped as why:
+        return int(why.args[0])
     except KeyboardInterrupt:
         print("ahci_conform: stopped", file=sys.stderr)
         return 130

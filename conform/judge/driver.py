@@ -3,34 +3,42 @@ import time
 from typing import Callable, Dict, List, Optional, Sequence, Set
 
 from . import layout
-from .adapter import Adapter
 from .differences import Difference, differs
+from .guarded import Guarded
+from .image import Image
 from .model import Sent, Step, log_page
-from .window import GUARD, UNTOUCHED, Window, memory_of, table_of, window_of, raw_text, pieces_of
+from .window import PLAIN, Layer, Memory, Window, memory_of
 
 ERR, BUSY = 0x01, 0x88  # of a status: ERR; BSY and DRQ
 ALL = 0xFFFFFFFF
+S64A = 0x80000000  # of CAP
 OWN_IMAGE = "the tool's own image of the disk"  # a difference here is a fault of the tool
+LOOKED_AT = 1 << 16  # bytes of a write whose memory is looked at again when it is done
+
+
+def first_apart(expected: bytes, got: bytes) -> int:
+    """The first byte that isn't the same."""
+    return next((at for at, (before, after) in enumerate(zip(expected, got)) if before != after), min(len(expected), len(got)))
 
 
 class Driver:
     """What a driver has to remember: its windows, which slots it has told the port of, and what the disk should hold."""
 
-    def __init__(self, adapter: Adapter) -> None:
-        self.adapter = adapter
+    def __init__(self, adapter: Guarded, layer: Layer, page: bytes = b"") -> None:
+        self.adapter, self.layer, self.page = adapter, layer, page
         self.started = False
-        self.sectors = 0
         self.windows: Dict[int, Window] = {}
         self.untold: Set[int] = set()  # issued, with PxCI not yet written: the port would accept at once
-        self.image: Dict[int, bytes] = {}
+        self.image = Image(0)
         self.texts: Dict[int, bytes] = {}  # what the commands of the slots have read
         self.spoiled: Set[int] = set()  # sectors that the port may have changed while it was halted
         self.failure = (0, 0)  # error and LBA of the failed command
+        self.alone: Optional[int] = None  # of several tags that were completed one by one, the last
         self.found: List[Difference] = []
 
     def play(self, step: Step) -> List[Difference]:
         """Plays one line, and answers what differs beside the registers and the received FIS area."""
-        self.found = []
+        self.found, self.alone = [], None
         word = step.words[0]
         if step.answer.startswith("refused"):
             if step.answer == "refused Halted" and word in ("accept", "serve"):
@@ -79,9 +87,11 @@ class Driver:
     # the lines
     def disk(self, step: Step) -> None:
         """Starts the emulator, and its port as AHCI 1.3.1 wants it ("System Software Specific Initialization")."""
-        self.sectors, depth = int(step.words[1]), int(step.words[2])
+        sectors, depth = int(step.words[1]), int(step.words[2])
+        self.image = Image(sectors)
         self.started = True  # so that `stop` ends one that came up half way
-        self.adapter.start(self.sectors, depth)
+        self.adapter.start(sectors, depth)
+        self.layer.guest = self.layer.guest._replace(high=bool(self.read(0) & S64A))
         self.adapter.write_memory(layout.COMMAND_LIST, bytes(32 * 32))
         self.clear_area()
         self.write(layout.PX_CLB, step.registers["PxCLB"])
@@ -94,27 +104,19 @@ class Driver:
     def issue(self, step: Step) -> None:
         """Header, table and data, then PxSACT. PxCI is written when the script wants the command accepted."""
         tag = int(step.words[1])
-        assert step.sent
-        if step.words[0] != "reissue":
-            self.windows[tag] = self.new_window(tag, step, step.sent)
-        window = self.windows[tag]
-        for address, data in memory_of(window):
-            self.adapter.write_memory(address, data)
-        if step.words[0] == "raw":
-            self.adapter.write_memory(window.base, bytes.fromhex(step.words[3]))
-        self.adapter.write_memory(layout.header_place(tag), window.header)
+        window = self.layer.again(self.windows[tag], step.line) if step.words[0] == "reissue" else self.new_window(tag, step)
+        self.windows[tag] = window
+        self.adapter.write_places([*memory_of(window).parts(), (layout.header_place(tag), window.header)])
         self.write(layout.PX_SACT, 1 << tag)
         self.untold.add(tag)
 
-    def new_window(self, tag: int, step: Step, sent: Sent) -> Window:
-        entry = step.entries[0]
-        length = entry["sectors"] * layout.SECTOR
-        text = bytes(length)
-        if step.words[0] == "write":
-            text = bytes.fromhex(step.words[4]) * length
-        elif step.words[0] == "raw":
-            text = raw_text(layout.window_base(tag), pieces_of(sent.prdt), bytes.fromhex(step.words[3]))
-        return window_of(tag, sent, entry["write"], entry["lba"], text)
+    def new_window(self, tag: int, step: Step) -> Window:
+        entry, words = step.entries[0], step.words
+        if words[0] == "raw":
+            return self.layer.raw(tag, step.line, bytes.fromhex(words[2]), bytes.fromhex(words[3]), entry["write"], entry["lba"])
+        assert step.sent
+        text = (bytes.fromhex(words[4]) if words[0] == "write" else b"\0") * (entry["sectors"] * layout.SECTOR)
+        return self.layer.queued(tag, step.line, step.sent, entry["write"], entry["lba"], text)
 
     def accept(self, step: Step) -> None:
         tag = int(step.words[1])
@@ -129,48 +131,59 @@ class Driver:
     def serve(self, step: Step) -> None:
         tags = [int(it) for it in step.words[1:]]
         if len(tags) == 1 or not self.adapter.complete_together(tags):
+            self.alone = tags[-1] if len(tags) > 1 else None
             for tag in tags:
                 if not self.adapter.complete(tag):
                     self.tell("disk request", b"\1", b"\0", f"the disk was asked for nothing by tag {tag}")
                 self.wait(lambda tag=tag: not self.read(layout.PX_SACT) >> tag & 1)  # type: ignore[misc]
         self.wait_for("set_device_bits")
         windows = [self.windows[tag] for tag in tags]
-        texts = [self.effect(window) for window in windows]
+        texts = [self.image.effect(window) for window in windows]
         self.texts.update(zip(tags, texts))
         for window, text in zip(windows, texts):
-            self.compare_done(window, text)
+            self.compare_memory(window, text)
+        self.compare_disk(tags)
 
-    def effect(self, window: Window) -> bytes:
-        """What a command does, in the order of the line: the disk is changed, or its bytes at this moment are read."""
-        sectors = range(window.lba, window.lba + window.sectors)
-        if window.write:
-            for at, lba in enumerate(sectors):
-                self.image[lba] = window.text[at * layout.SECTOR : (at + 1) * layout.SECTOR]
-        return b"".join(self.image.get(lba, bytes(layout.SECTOR)) for lba in sectors)
+    def compare_memory(self, window: Window, text: bytes) -> bytes:
+        """A read's data should have come, and nothing else is changed. Answers what stands in the pieces."""
+        expected = memory_of(window)
+        if window.write and len(text) > LOOKED_AT:
+            return text
+        places = expected.places()
+        got = Memory([(address, data) for (address, _), data in zip(places, self.adapter.read_places(places))])
+        data = got.gather(window.used)
+        if window.tag != PLAIN and data != text:
+            self.tell(f"data of tag {window.tag}", text, data, f"{window.spot(first_apart(text, data))} (laid {window.way})")
+        self.tell("command table", window.table, got.take(window.table_at, len(window.table)), f"at {window.table_at:x}h")
+        got.put(window.table_at, window.table)
+        got.scatter(window.used, expected.gather(window.used))
+        who = f"tag {window.tag}" if window.tag != PLAIN else "slot 0"
+        for (address, _), before, after in zip(places, expected.blocks, got.blocks):
+            self.tell(f"memory beside the data of {who}", bytes(before), bytes(after), f"from {address:x}h on (laid {window.way})")
+        return data
 
-    def compare_done(self, window: Window, text: bytes) -> None:
-        """The disk should hold what was written, memory what was read, and nothing else is changed."""
-        if window.write:
-            self.compare_sectors(range(window.lba, window.lba + window.sectors))
-        else:
-            self.tell(f"data of tag {window.tag}", text, b"".join(self.adapter.read_memory(*it) for it in window.pieces))
-        self.tell("command table", window.table, self.adapter.read_memory(window.base, len(window.table)))
-        end, guard = memory_of(window)[1]
-        if len(guard) == GUARD and guard[:1] == bytes([UNTOUCHED]):
-            self.tell(f"memory after the data of tag {window.tag}", guard, self.adapter.read_memory(end, GUARD))
+    # the disk
+    def compare_disk(self, tags: Sequence[int], halted: bool = False) -> None:
+        """After commands: the whole disk, or of a large one what is near."""
+        windows = [self.windows[tag] for tag in tags]
+        ranges = [it for window in windows for it in self.image.near(window.lba, window.sectors)]
+        for lba, got in self.image.apart(self.adapter, ranges):
+            expected = self.image.sector(lba)
+            writers = [it for it in windows if it.write and it.lba <= lba < it.lba + it.sectors]
+            spots = [f"tag {it.tag}, {it.spot((lba - it.lba) * layout.SECTOR + first_apart(expected, got))} (laid {it.way})" for it in writers]
+            if halted or lba not in self.spoiled:
+                self.tell(f"disk, sector {lba}", expected, got, "; ".join(spots) or "no command of this line writes this sector")
 
-    def compare_sectors(self, sectors: Sequence[int]) -> None:
-        for lba in sectors:
-            data = self.adapter.sector(lba)
-            if data is None:
-                return
-            self.tell(f"disk, sector {lba}", self.image.get(lba, bytes(layout.SECTOR)), data)
+    def compare_sectors(self, ranges: Sequence[range], note: str = "") -> None:
+        for lba, got in self.image.apart(self.adapter, ranges):
+            if lba not in self.spoiled:
+                self.tell(f"disk, sector {lba}", self.image.sector(lba), got, note)
 
-    def compare_disk(self) -> List[Difference]:
-        """At a script's end: the whole disk, or of a large one what was written."""
+    def compare_end(self) -> List[Difference]:
+        """At a script's end."""
         self.found = []
-        sectors = range(self.sectors) if self.started and self.sectors <= 4096 else sorted(self.image)
-        self.compare_sectors([lba for lba in sectors if lba not in self.spoiled])
+        if self.started:
+            self.compare_sectors(self.image.all(self.adapter.has("sectors")), "it has changed at some line before")
         return self.found
 
     def fail(self, step: Step) -> None:
@@ -180,8 +193,7 @@ class Driver:
             self.tell("disk request", b"\1", b"\0", f"the disk was asked for nothing by tag {tag}")
         self.wait(lambda: bool(self.read(layout.PX_TFD) & ERR))
         self.wait_for("set_device_bits")
-        window = self.windows[tag]
-        self.compare_sectors(range(window.lba, window.lba + window.sectors) if window.write else [])
+        self.compare_disk([tag])
 
     def try_halted(self, step: Step) -> None:
         """After an error nothing goes on: the disk's requests are let go, and a slot is told, all the same."""
@@ -198,18 +210,18 @@ class Driver:
                 self.adapter.complete(tag)
             window = self.windows[tag]
             if window.write:
-                self.spoiled.update(range(window.lba, min(self.sectors, window.lba + window.sectors)))
+                self.spoiled.update(range(window.lba, min(self.image.count, window.lba + window.sectors)))
         self.wait(lambda: (self.read(layout.PX_SACT), self.area()) != before, self.adapter.quiet)
         self.adapter.settle()
-        self.compare_sectors(sorted(self.spoiled))
+        self.compare_disk(tags, halted=True)
 
     def ack(self, step: Step) -> None:
         self.write(layout.PX_IS, int(step.words[1], 16))
 
     def show(self, step: Step) -> None:
         lba = int(step.words[1])
-        self.compare_sectors([lba])
-        self.tell(OWN_IMAGE, bytes.fromhex(step.answer.split(" ")[2]), self.image.get(lba, bytes(1))[:1])
+        self.compare_sectors([range(lba, lba + 1)])
+        self.tell(OWN_IMAGE, bytes.fromhex(step.answer.split(" ")[2]), self.image.sector(lba)[:1])
 
     def collect(self, step: Step) -> None:
         """The model's answer shows whether the tool's own image, which data are compared with, is the model's."""
@@ -219,37 +231,34 @@ class Driver:
             self.tell(OWN_IMAGE, bytes.fromhex("".join(answer[2:])), text[:: layout.SECTOR])
 
     # commands that aren't queued
-    def plain(self, sent: Sent) -> None:
-        """A command by slot 0, whose own header is put aside meanwhile."""
-        place = layout.header_place(0)
+    def plain(self, step: Step) -> bytes:
+        """A command by slot 0, whose own header is put aside meanwhile. Answers its data."""
+        assert step.sent
+        window, place = self.layer.unqueued(step.line, step.sent), layout.header_place(0)
         aside = self.adapter.read_memory(place, 32)
-        for address, length in pieces_of(sent.prdt):
-            self.adapter.write_memory(address, bytes([UNTOUCHED]) * length)
-        self.adapter.write_memory(layout.PLAIN_TABLE, table_of(sent))
-        self.adapter.write_memory(place, sent.header)
+        self.adapter.write_places([*memory_of(window).parts(), (place, window.header)])
         self.write(layout.PX_CI, 1)
         self.wait(lambda: any(self.area()[it.offset] for it in layout.FIS_PLACES if it.member in ("pio_setup", "d2h_register")))
         self.wait(lambda: bool(self.read(layout.PX_TFD) & ERR) or not self.read(layout.PX_CI) & 1)
         self.wait(lambda: not self.read(layout.PX_TFD) & BUSY)
         self.adapter.settle()
-        self.tell("PRDBC", sent.header[7:3:-1], self.adapter.read_memory(place + 4, 4)[::-1])
+        self.tell("PRDBC", window.header[7:3:-1], self.adapter.read_memory(place + 4, 4)[::-1], f"slot 0 (laid {window.way})")
+        data = self.compare_memory(window, window.text)
         self.adapter.write_memory(place, aside)
+        return data
 
     def identify(self, step: Step) -> None:
-        """One word of the page is compared: the one that the line asks for."""
-        assert step.sent
-        self.plain(step.sent)
-        word, expected = int(step.words[1]), step.answer.split(" ")[2]
-        got = self.adapter.read_memory(layout.PLAIN_DATA + 2 * word, 2)[::-1]
-        self.tell(f"identify word {word}", bytes.fromhex(expected), got)
+        """All words of the page are compared; without the model's page the one that the line asks for."""
+        data, word, shown = self.plain(step), int(step.words[1]), bytes.fromhex(step.answer.split(" ")[2])
+        expected = {at: self.page[2 * at : 2 * at + 2][::-1] for at in range(len(self.page) // 2)}
+        for at, there in {**expected, word: shown}.items():
+            self.tell(f"identify word {at}", there, data[2 * at : 2 * at + 2][::-1])
 
     def flush(self, step: Step) -> None:
-        assert step.sent
-        self.plain(step.sent)
+        self.plain(step)
 
     def recover(self, step: Step) -> None:
         """AHCI 1.3.1, section 6.2.2: stop, clear, start, and read the log of the error."""
-        assert step.sent
         self.write(layout.PX_CMD, layout.FRE)
         self.wait(lambda: not self.read(layout.PX_CMD) & 0x8000)
         self.tell("PxSACT", bytes(4), self.read(layout.PX_SACT).to_bytes(4, "big"), "while ST is 0")
@@ -260,15 +269,14 @@ class Driver:
         self.write(layout.PX_SERR, ALL)
         self.write(layout.PX_IS, ALL)
         self.write(layout.PX_CMD, layout.FRE | layout.ST)
-        self.plain(step.sent)
-        error, lba = self.failure
-        self.tell("log 10h", log_page(step.entries[0]["tag"], error, lba), self.adapter.read_memory(layout.PLAIN_DATA, layout.SECTOR))
+        data, (error, lba) = self.plain(step), self.failure
+        self.tell("log 10h", log_page(step.entries[0]["tag"], error, lba), data)
         for at in sorted(self.spoiled):
-            self.adapter.put_sector(at, self.image.get(at, bytes(layout.SECTOR)))
+            self.adapter.put_sector(at, self.image.sector(at))
+            self.image.told.pop(at, None)
         self.spoiled.clear()
 
     def stop(self) -> None:
         if self.started:
             self.adapter.stop()
         self.started = False
-

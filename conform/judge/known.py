@@ -2,7 +2,7 @@
 import json
 import os
 import re
-from typing import Any, Dict, List, NamedTuple, Optional, Tuple
+from typing import Any, Dict, List, Mapping, NamedTuple, Optional, Tuple
 
 from .differences import Difference, masked
 from .model import Step
@@ -54,18 +54,23 @@ class Known(NamedTuple):
     title: str
     entries: List[Entry]
     beside: List[Dict[str, str]]  # what no script can show
+    base: Tuple[str, ...] = ()  # names of entries that any port may have
 
-    def explain(self, step: Step, difference: Difference) -> Tuple[List[Entry], Difference]:
-        """The entries that explain some of a difference's bits, and what is left of it."""
-        used = []
+    def over(self, base: "Known") -> "Known":
+        """The same list, and after it what any port may have."""
+        more = [it for it in base.entries if it.name not in [entry.name for entry in self.entries]]
+        return self._replace(entries=[*self.entries, *more], base=tuple(it.name for it in more))
+
+    def explain(self, step: Step, difference: Difference) -> Difference:
+        """What is left of a difference, and which entries explain its other bits."""
         for entry in self.entries:
+            bits = bytes(len(difference.mask))
             for cover in entry.covers:
-                bits = cover.explains(step, difference)
-                if any(bits):
-                    difference = difference._replace(mask=bytes(a & ~b for a, b in zip(difference.mask, bits)))
-                    if entry not in used:
-                        used.append(entry)
-        return used, difference
+                more = cover.explains(step, difference)
+                bits = bytes(a | b for a, b in zip(bits, more)) if more else bits
+            if any(bits):
+                difference = difference.without(entry.name, bits)
+        return difference
 
 
 NOTHING = Known("no known differences", [], [])
@@ -74,14 +79,14 @@ COVER = {"place": str, "lines": list, "answer": str, "bits": str, "got": str, "e
 BESIDE = {"title": str, "section": str, "emulator": str, "model": str}
 
 
-def checked(value: Any, shape: Dict[str, type], needed: Tuple[str, ...], where: str) -> Dict[str, Any]:
+def checked(value: Any, shape: Mapping[str, type], needed: Tuple[str, ...], where: str) -> Dict[str, Any]:
     """An object with these members alone."""
     if not isinstance(value, dict):
         raise ListFault(f"{where} is no object")
     for name, member in value.items():
         if name not in shape:
             raise ListFault(f"{where} has a member '{name}', which means nothing here")
-        if not isinstance(member, shape[name]) or member == "" or member == [] and name != "differences":
+        if not isinstance(member, shape[name]) or member == "" or member == [] and name not in ("differences", "beside"):
             raise ListFault(f"{where}: '{name}' is {'empty' if isinstance(member, shape[name]) else 'no ' + shape[name].__name__}")
     for name in needed:
         if name not in value:

@@ -7,6 +7,7 @@ RECEIVED_AREA = 0x10400
 RECEIVED_SIZE = 0x100
 PLAIN_TABLE = 0x20000  # the command table of a command that isn't queued
 PLAIN_DATA = 0x20200
+FIXED_END = 0x20400  # the end of what lies at fixed places
 WINDOWS, WINDOW_SIZE = 0x10000000, 0x04000000
 
 PX_CLB, PX_FB, PX_IS, PX_CMD, PX_SCTL, PX_SERR, PX_SACT, PX_CI = 0x100, 0x108, 0x110, 0x118, 0x12C, 0x130, 0x134, 0x138
@@ -55,7 +56,7 @@ FIS_PLACES: List[FisPlace] = [
     FisPlace("D2H Register FIS", 0x40, 20, "d2h_register", {0: "type", 1: "I", 2: "status", 3: "error", **LBA_AND_COUNT}),
     FisPlace("Set Device Bits FIS", 0x58, 8, "set_device_bits", {0: "type", 1: "I", 2: "status", 3: "error", **{it: "SActive" for it in range(4, 8)}}),
 ]
-FIS_TYPES = {"D2H Register FIS": 0x34, "Set Device Bits FIS": 0xA1, "PIO Setup FIS": 0x5F, "DMA Setup FIS": 0x41}
+LOG_FIELDS: Dict[int, str] = {0: "NQ, tag", 2: "status", 3: "error", **{it: "LBA" for it in (4, 5, 6, 8, 9, 10)}, 511: "checksum"}
 
 
 def window_base(tag: int) -> int:
@@ -74,23 +75,19 @@ def bits_of(place: str, word: int) -> List[str]:
     return [names.get(bit, f"bit {bit}") for bit in range(32) if word >> bit & 1]
 
 
+def field_names(place: str) -> Dict[int, str]:
+    """By byte: the fields of a FIS, or of the log's page."""
+    return LOG_FIELDS if place == "log 10h" else next((it.fields for it in FIS_PLACES if it.name == place), {})
+
+
 def fields_of(place: str, mask: bytes) -> List[str]:
     """What differs, by name: bits of a register, fields of a FIS, and else the bytes' offsets."""
     if place in REGISTERS:
         return bits_of(place, int.from_bytes(mask, "big"))
-    fields: Dict[int, str] = next((it.fields for it in FIS_PLACES if it.name == place), {})
+    fields = field_names(place)
     found: Dict[str, None] = {}
     for at, byte in enumerate(mask):
         if byte:
             found[fields.get(at, f"byte {at:x}h")] = None
     names = list(found)
     return names if len(names) <= 8 else [*names[:8], ".."]
-
-
-def section_of(place: str) -> str:
-    """Where the standards say it."""
-    if place in REGISTERS:
-        return f"AHCI 1.3.1, section {REGISTERS[place][1]}"
-    if place.endswith("FIS"):
-        return "AHCI 1.3.1, section 4.2.1, and Serial ATA, the FIS of that name"
-    return {"PRDBC": "AHCI 1.3.1, section 4.2.2", "command table": "AHCI 1.3.1, section 4.2.3"}.get(place.split(",")[0], "")

@@ -2,6 +2,7 @@
 import json
 import os
 import subprocess
+from functools import lru_cache
 from typing import Any, Dict, List, NamedTuple, Optional
 
 from . import layout
@@ -37,6 +38,7 @@ class Step(NamedTuple):
 class Trace(NamedTuple):
     steps: List[Step]
     end: str  # empty, or what the model said when it ended at a faulty line
+    page: bytes = b""  # of IDENTIFY DEVICE, if the script has an `identify` and the program can tell
 
 
 def commands_of(script: str) -> List["tuple[int, str]"]:
@@ -88,7 +90,21 @@ def trace_of(program: str, script: str, seconds: float = 600.0) -> Trace:
     steps = steps_of(ran.stdout.decode("ascii"))
     if not faults and len(steps) != len(commands_of(script)):
         raise ModelFault(f"the model, {program}, answered {len(steps)} of {len(commands_of(script))} lines")
-    return Trace(steps, faults[0] if faults else "")
+    disk = next((it.words for it in steps if it.words[0] == "disk" and not it.answer.startswith("refused")), None)
+    asks = disk and any(it.words[0] == "identify" for it in steps)
+    return Trace(steps, faults[0] if faults else "", page_of(program, int(disk[1]), int(disk[2])) if disk and asks else b"")
+
+
+@lru_cache(maxsize=None)
+def page_of(program: str, sectors: int, depth: int) -> bytes:
+    """The 512 bytes of the model's identify page: `ahci identify --raw`."""
+    try:
+        ran = subprocess.run([program, "identify", "--sectors", str(sectors), "--depth", str(depth), "--raw"], capture_output=True, timeout=600, check=False)
+    except (OSError, subprocess.TimeoutExpired) as why:
+        raise ModelFault(f"the model, {program}, can't be run for its identify page: {why}") from why
+    if ran.returncode or len(ran.stdout) != layout.SECTOR:
+        raise ModelFault(f"the model, {program}, has no identify page of a disk of {sectors} sectors: status {ran.returncode}")
+    return ran.stdout
 
 
 def program_at(given: Optional[str], top: str) -> str:

@@ -10,8 +10,8 @@ CHOICES = {
 HEAD = """\
 # {title} beside the model
 
-The same scripts were played on {title}'s AHCI port and on the model, and compared after each line: registers, received FISes,
-data, disk ([conform](../conform/README.md)). A command that succeeds goes the same way in both, in any order: PxSACT and PxCI,
+The same scripts were played on {title}'s AHCI port and on the model, with data as the model lays them and in many pieces, and compared
+after each line: registers, received FISes, data, disk ([conform](../conform/README.md)). A command that succeeds goes the same way in both, in any order: PxSACT and PxCI,
 the FISes and their bytes, the data, the scatter lists and the sectors are those of the model. What differs is below, and nothing
 else was found. This page is made from `conform/{file}` by `conform/ahci_conform --page`; `make -C conform check` compares them.
 

@@ -1,21 +1,26 @@
 """QEMU's AHCI port: the q35 machine has an ICH9 controller, and memory at all places of the model."""
 import shutil
-from typing import List, Optional, Sequence, Set
+from base64 import b64decode, b64encode
+from itertools import accumulate
+from typing import List, Optional, Sequence, Set, Tuple
 
 from . import layout
-from .adapter import Adapter, EmulatorFault
+from .adapter import Adapter, EmulatorFault, Place
 from .nbd import IO_ERROR
 from .qtest import Qtest
 
 PROGRAM = "qemu-system-x86_64"
 ABAR = 0xE0000000  # above the machine's memory, below what it maps itself
 CONTROLLER = 0x8000FA00  # PCI 00:1f.2, by the ports CF8h and CFCh
+PART = 48 << 10  # bytes of memory in one command: QEMU looks through the whole command at each part of it that comes
 
 
 class Qemu(Adapter):
     """Debian's QEMU: the processor never runs, and the disk's requests wait at breakpoints before they reach the disk."""
 
     title = "QEMU"
+    guest_memory = ((0x10000000, 0x80000000), (0x100000000, 0x10000000))
+    most_entries = 1024  # with more QEMU's request to the host has too many parts, and fails
 
     def __init__(self, program: str = PROGRAM) -> None:
         self.program = program
@@ -31,7 +36,7 @@ class Qemu(Adapter):
     def start(self, sectors: int, depth: int) -> None:
         if not shutil.which(self.program):
             raise EmulatorFault(f"there is no {self.program}: Debian's package is qemu-system-x86")
-        self.run = Qtest(self.program, sectors, ["-machine", "q35", "-m", "2560", "-device", "ide-hd,drive=d0,bus=ide.0"])
+        self.run = Qtest(self.program, sectors, ["-machine", "q35,max-ram-below-4g=2304M", "-m", "2560", "-device", "ide-hd,drive=d0,bus=ide.0"])
         self.configure(0x24, ABAR)  # BAR 5
         self.configure(0x04, 0x6)  # memory space, and bus master
 
@@ -44,11 +49,20 @@ class Qemu(Adapter):
         self.run, self.held = None, set()
 
     def read_memory(self, address: int, length: int) -> bytes:
-        return bytes.fromhex(self.qtest.ask(f"read {address:#x} {length:#x}")[0][2:]) if length else b""
+        return self.read_places([(address, length)])[0]
 
     def write_memory(self, address: int, data: bytes) -> None:
-        if data:
-            self.qtest.ask(f"write {address:#x} {len(data):#x} 0x{data.hex()}")
+        self.write_places([(address, data)])
+
+    def read_places(self, places: Sequence[Place]) -> List[bytes]:
+        parts = [(address + at, min(PART, length - at)) for address, length in places for at in range(0, length, PART)]
+        found = b"".join(map(b64decode, self.qtest.ask(*(f"b64read {address:#x} {length:#x}" for address, length in parts))))
+        ends = list(accumulate(length for _, length in places))
+        return [found[end - length : end] for end, (_, length) in zip(ends, places)]
+
+    def write_places(self, places: Sequence[Tuple[int, bytes]]) -> None:
+        parts = [(address + at, data[at : at + PART]) for address, data in places for at in range(0, len(data), PART)]
+        self.qtest.ask(*(f"b64write {address:#x} {len(data):#x} {b64encode(data).decode()}" for address, data in parts))
 
     def read_register(self, offset: int) -> int:
         return self.read_registers([offset])[0]
@@ -65,7 +79,7 @@ class Qemu(Adapter):
 
     def hold(self, tag: int) -> None:
         """A breakpoint for the request that a slot's command will make; one that passes the disk's end makes none."""
-        place = int.from_bytes(self.read_memory(layout.header_place(tag) + 8, 4), "little")
+        place = int.from_bytes(self.read_memory(layout.header_place(tag) + 8, 8), "little") & ~0x7F
         cfis = self.read_memory(place, 16)
         event = {0x60: "read_aio", 0x61: "write_aio"}.get(cfis[2])
         lba = int.from_bytes(cfis[4:7] + cfis[8:11], "little")
@@ -88,11 +102,24 @@ class Qemu(Adapter):
     def complete(self, tag: int) -> bool:
         return self.let_go(tag, 0)
 
+    def complete_together(self, tags: Sequence[int]) -> bool:
+        """QEMU completes each by a FIS of its own, also when they end together: the received FIS area has that of the last."""
+        for tag in tags:
+            if not self.complete(tag):
+                return False
+            for _ in range(1000):
+                if not self.read_register(layout.PX_SACT) >> tag & 1:
+                    break
+        return True
+
     def fail(self, tag: int, error: int, lba: int) -> bool:
         return self.let_go(tag, IO_ERROR)  # QEMU makes ABRT of any error, with no LBA
 
     def sector(self, lba: int) -> Optional[bytes]:
         return bytes(self.qtest.disk.image[lba * layout.SECTOR : (lba + 1) * layout.SECTOR])
+
+    def sectors(self, lba: int, count: int) -> Optional[bytes]:
+        return bytes(self.qtest.disk.image[lba * layout.SECTOR : (lba + count) * layout.SECTOR])
 
     def put_sector(self, lba: int, data: bytes) -> None:
         self.qtest.disk.image[lba * layout.SECTOR : (lba + 1) * layout.SECTOR] = data

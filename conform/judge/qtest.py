@@ -15,6 +15,7 @@ from .adapter import EmulatorFault
 from .nbd import NbdDisk
 
 SECONDS = 10.0
+AT_ONCE = 100  # commands: a socket holds some 270 answers that nobody has read yet, and QEMU waits then
 
 
 def die_with_parent() -> None:
@@ -144,9 +145,12 @@ class Qtest:
             raise EmulatorFault(self.death()) from why
 
     def ask(self, *commands: str) -> List[str]:
-        """Gives commands of the qtest protocol, and answers what stands after each OK."""
-        self.give(self.qtest, "".join(f"{it}\n" for it in commands))
-        answers = [self.line(self.qtest) for _ in commands]
+        """Gives commands of the qtest protocol, not too many at a time, and answers what stands after each OK."""
+        answers: List[str] = []
+        for at in range(0, len(commands), AT_ONCE):
+            part = commands[at : at + AT_ONCE]
+            self.give(self.qtest, "".join(f"{it}\n" for it in part))
+            answers += [self.line(self.qtest) for _ in part]
         for command, answer in zip(commands, answers):
             if not answer.startswith("OK"):
                 raise EmulatorFault(f"QEMU answers '{answer}' to '{command[:60]}'")
@@ -180,6 +184,7 @@ class Qtest:
         if self.process:
             self.process.kill()
             self.process.wait()
-        for end in (self.qtest, self.monitor, self.disk):
+        for end in (self.qtest, self.monitor):
             end.close()
+        self.disk.close()
         shutil.rmtree(self.folder, ignore_errors=True)

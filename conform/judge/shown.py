@@ -22,8 +22,8 @@ def faults_of(known: Known, folder: str, program: str, make: Callable[[], Adapte
         except OSError as why:
             yield f"{entry.name}: {path} can't be read: {why.strerror}"
             continue
-        whole = judge(entry.name, trace, make(), known)
-        others = judge(entry.name, trace, make(), known._replace(entries=[it for it in known.entries if it is not entry]))
+        whole = judge(entry.name, trace, make, known)
+        others = judge(entry.name, trace, make, known._replace(entries=[it for it in known.entries if it is not entry]))
         if whole.new:
             yield f"{entry.name}: line {trace.steps[whole.step].number} of its script has a difference that isn't on the list: {whole.new[0].place}"
         elif not others.new:

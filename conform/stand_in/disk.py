@@ -8,7 +8,7 @@ ABORT, NOT_FOUND = 0x04, 0x10
 class Command(NamedTuple):
     write: bool
     lba: int
-    count: int
+    count: int  # type: ignore[assignment]
     data: bytes  # of a write
 
 

@@ -188,12 +188,12 @@ class AllTagsInOneFis(StandIn):
 
 class Fault(NamedTuple):
     name: str
-    place: str  # where it has to be found
+    place: str  # where it has to be found; ` or ` stands between several
     stand_in: Type[StandIn]
 
 
 PLACES: List[Tuple[Type[StandIn], str]] = [
-    (CiClearedAtTheCompletion, "PxCI"), (NoSdbs, "PxIS"), (SactWrittenWhole, "PxSACT"), (DbcWithoutItsOne, "data of tag *"),
+    (CiClearedAtTheCompletion, "PxCI"), (NoSdbs, "PxIS"), (SactWrittenWhole, "PxSACT"), (DbcWithoutItsOne, "data of tag * or log 10h"),
     (GoesOnAfterAnError, "PxTFD"), (ErrorClearsSact, "PxSACT"), (NoTfes, "PxIS"), (ErrorByteLost, "PxTFD"), (IsWrittenWhole, "PxIS"),
     (StopKeepsSact, "PxSACT"), (SetDeviceBitsAt60h, "Set Device Bits FIS"), (DhrsWithoutI, "PxIS"), (LbaOf24Bits, "D2H Register FIS"),
     (DataOfTheAcceptance, "data of tag *"), (FailedWriteOnTheDisk, "disk, sector *"), (LastSectorRefused, "PxTFD"),
@@ -211,4 +211,7 @@ FAULTS: List[Fault] = [Fault(name_of(made), place, made) for made, place in PLAC
 
 def named(name: Optional[str]) -> Type[StandIn]:
     """The stand-in with this fault, or with none. KeyError where there is no such fault."""
-    return StandIn if name is None else {fault.name: fault.stand_in for fault in FAULTS}[name]
+    found: Dict[str, Type[StandIn]] = {fault.name: fault.stand_in for fault in FAULTS}
+    if name is None:
+        return StandIn
+    return found[name]

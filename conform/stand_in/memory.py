@@ -19,11 +19,12 @@ class Memory:
         return bytes(found)
 
     def write(self, address: int, data: bytes) -> None:
-        while data:
-            at = address % PAGE
-            part = data[: PAGE - at]
-            self.pages.setdefault(address - at, bytearray(PAGE))[at : at + len(part)] = part
-            address, data = address + len(part), data[len(part) :]
+        done = 0
+        while done < len(data):
+            at = (address + done) % PAGE
+            part = data[done : done + PAGE - at]
+            self.pages.setdefault(address + done - at, bytearray(PAGE))[at : at + len(part)] = part
+            done += len(part)
 
     def word(self, address: int) -> int:
         return int.from_bytes(self.read(address, 4), "little")

@@ -134,15 +134,16 @@ class StandIn(Adapter):
         count = (cfis[3] | cfis[11] << 8) or 65_536
         write = cfis[2] == 0x61
         data = b"".join(self.memory.read(*piece) for piece in self.pieces(tag)) if write else b""
-        return Command(write, self.lba(cfis), count, data)
+        return Command(write, self.lba(cfis), count, data[: count * layout.SECTOR])  # a list may have more bytes than the command moves
 
     def lba(self, cfis: bytes) -> int:
         return int.from_bytes(cfis[4:7] + cfis[8:11], "little")
 
     def scatter(self, pieces: List[Tuple[int, int]], data: bytes) -> None:
+        done = 0
         for address, length in pieces:
-            self.memory.write(address, data[:length])
-            data = data[length:]
+            self.memory.write(address, data[done : done + length])
+            done += length
 
     def send_page(self, tag: int, page: Optional[bytes]) -> None:
         """PIO data-in: the PIO Setup FIS, the page, and its E_Status."""

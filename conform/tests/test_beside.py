@@ -3,6 +3,7 @@ import unittest
 from typing import Optional, Sequence
 
 from judge import layout
+from judge.adapter import EmulatorFault
 from judge.layout import FRE, PX_CI, PX_CLB, PX_CMD, PX_FB, PX_SACT, PX_TFD, ST, header_place, window_base
 from judge.qemu import Qemu
 from tests.common import needs_qemu
@@ -27,14 +28,14 @@ class Beside(unittest.TestCase):
         for offset, value in ((PX_CLB, layout.COMMAND_LIST), (PX_FB, layout.RECEIVED_AREA), (PX_CMD, FRE), (PX_CMD, FRE | ST)):
             self.write(offset, value)
 
-    def put(self, slot: int, tag: Optional[int] = None, command: int = 0x61, device: int = 0x40, lengths: Sequence[int] = (512,), flags: int = 0x80, header: int = 0x45) -> None:
-        """A command of one sector, LBA 0, whose window is filled with AAh."""
+    def put(self, slot: int, tag: Optional[int] = None, command: int = 0x61, device: int = 0x40, lengths: Sequence[int] = (512,), flags: int = 0x80, header: int = 0x45, count: int = 1) -> None:
+        """A command from LBA 0 on, whose window is filled with AAh; all pieces of its list are there."""
         base = window_base(slot)
-        cfis = bytes([0x27, flags, command, 1, 0, 0, 0, device, 0, 0, 0, 0, (slot if tag is None else tag) << 3])
-        entries = [(base + 0x1000).to_bytes(4, "little") + bytes(8) + (length - 1).to_bytes(4, "little") for length in lengths]
+        cfis = bytes([0x27, flags, command, count, 0, 0, 0, device, 0, 0, 0, 0, (slot if tag is None else tag) << 3])
+        entries = [(base + 0x8000).to_bytes(4, "little") + bytes(8) + (length - 1).to_bytes(4, "little") for length in lengths]
         self.qemu.write_memory(base, cfis.ljust(0x80, b"\0") + b"".join(entries))
-        self.qemu.write_memory(base + 0x1000, b"\xaa" * 512)
-        first = bytes([header, 0, len(lengths), 0]) + bytes(4) + base.to_bytes(4, "little")
+        self.qemu.write_memory(base + 0x8000, b"\xaa" * 512)
+        first = bytes([header, 0]) + len(lengths).to_bytes(2, "little") + bytes(4) + base.to_bytes(4, "little")
         self.qemu.write_memory(header_place(slot), first.ljust(32, b"\0"))
 
     def issue(self, slot: int) -> None:
@@ -145,6 +146,28 @@ class Beside(unittest.TestCase):
         self.put(0, lengths=(256,))
         self.issue(0)
         self.assertEqual((self.read(PX_IS) >> 24 & 1, self.read(PX_SACT), self.sector()), (1, 1, b"\0"))
+
+    def test_a_command_with_reserved_bits_beside_c_is_ignored(self) -> None:
+        self.run_port()
+        for slot, flags in enumerate((0x90, 0xC0, 0x81)):
+            self.put(slot, flags=flags)
+            self.issue(slot)
+            self.qemu.settle()
+            self.assertEqual((self.read(PX_SACT) >> slot & 1, self.read(PX_CI) >> slot & 1, self.sector()), (1, 1, b"\0"))
+
+    def test_a_list_of_1024_pieces_is_executed_and_one_more_fails(self) -> None:
+        for most, entries in ((True, 1024), (False, 1025)):
+            self.qemu.stop()
+            self.qemu.start(8, 32)
+            self.run_port()
+            self.put(0, lengths=[2] * (entries - 1) + [8 * 512 - 2 * (entries - 1)], count=8)
+            self.issue(0)
+            if most:
+                self.release(0)
+                self.assertEqual((self.sector(), self.read(PX_SACT)), (b"\xaa", 0))
+            else:
+                with self.assertRaisesRegex(EmulatorFault, "the emulator has closed its disk"):
+                    self.qemu.complete(0)
 
     def test_a_command_without_c_is_ignored(self) -> None:
         self.run_port()

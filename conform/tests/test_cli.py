@@ -1,6 +1,7 @@
 """The command line: what is wrong is told in one line, with its own status."""
 import json
 import os
+import re
 import subprocess
 import sys
 import tempfile
@@ -14,6 +15,9 @@ from tests.common import CONFORM, MODEL, needs_model
 def run(*words: str, script: str = "") -> Tuple[int, str, str]:
     ran = subprocess.run([sys.executable, os.path.join(CONFORM, "ahci_conform"), *words], input=script, capture_output=True, text=True, check=False, timeout=60)
     return ran.returncode, ran.stdout, ran.stderr
+
+
+SERVED = "disk 1 1\nread 0 0 1\naccept 0\nserve 0\n"
 
 
 class Words(unittest.TestCase):
@@ -70,9 +74,27 @@ class Runs(unittest.TestCase):
         self.assertIn("ahci_conform: standard input, line 1 (disk 1 1): there is no /nowhere/qemu", err)
 
 
+    def test_an_adapter_that_ends_with_an_exception_has_status_3(self) -> None:
+        assert MODEL
+        with tempfile.TemporaryDirectory() as room:
+            path = os.path.join(room, "mine.py")
+            with open(path, "w", encoding="ascii") as out:
+                out.write("from stand_in.port import StandIn\nclass Mine(StandIn):\n    def complete(self, tag):\n        raise OSError(5, 'gone')\n")
+            status, out_text, err = run("--model", MODEL, "--emulator", f"{path}:Mine", "-", script=SERVED)
+        self.assertEqual((status, out_text, err.count("\n")), (3, "", 1))
+        self.assertIn("ahci_conform: standard input, line 4 (serve 0): the adapter's complete has ended with OSError: [Errno 5] gone", err)
+
+    def test_the_same_pieces_come_from_the_same_seed(self) -> None:
+        words = ("--fault", "dbc_without_its_one", "--pieces", "scattered", "--pieces-seed")
+        first, again, other = (self.judge(*words, seed, script=SERVED)[1] for seed in ("3", "3", "4"))
+        without = [re.sub(r"seconds \\| [0-9.]+", "", it) for it in (first, again, other)]
+        self.assertIn("standard input, line 4: serve 0 (data of tag 0", first)
+        self.assertEqual(without[0].splitlines()[:9], without[1].splitlines()[:9])
+        self.assertNotEqual(without[0], without[2])
+
+
 SILENT = {"title": "a silent one", "differences": [{"name": "silent", "title": "No SDBS", "section": "3.3.5", "choice": "standard", "emulator": "none",
                                                     "model": "SDBS", "covers": [{"place": "PxIS", "bits": "00000008"}]}]}
-SERVED = "disk 1 1\nread 0 0 1\naccept 0\nserve 0\n"
 
 
 @needs_model
@@ -100,6 +122,16 @@ class Known(unittest.TestCase):
         status, out, _ = self.judge("--known", self.known, self.file("one", SERVED), self.file("two", SERVED))
         self.assertEqual(status, 0)
         self.assertIn("| silent | 2 | 2 | one, line 4 |", out)
+
+    def test_a_first_list_is_drafted_in_one_run(self) -> None:
+        path = os.path.join(self.room, "drafted.json")
+        status, out, _ = self.judge("--draft-list", path, self.file("one", SERVED), self.file("two", SERVED))
+        self.assertEqual(status, 1)
+        self.assertIn(f"Kinds of differences in {path}, each to be described or mended: 1", out)
+        self.assertIn("| pxis_at_serve_standard | standard | 2 | 2 | one, line 4 |  |", out)
+        self.assertEqual(self.judge("--known", path, self.file("one", SERVED))[0], 0)
+        status, _, err = self.judge("--draft-list", os.path.join(self.room, "no", "where"), self.file("one", SERVED))
+        self.assertEqual((status, "can't be written: No such file" in err), (2, True))
 
     def test_an_entry_that_is_left_out_is_a_new_difference(self) -> None:
         status, out, _ = self.judge("--known", self.known, "--without", "silent", self.file("one", SERVED))

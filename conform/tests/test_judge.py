@@ -4,10 +4,11 @@ import unittest
 from typing import List, Type
 
 from judge.adapter import EmulatorFault
-from judge.judge import Judged, judge
+from judge.judge import PLAIN, Judged, Way, judge
 from judge.known import NOTHING, Known, known_of
 from judge.report import as_json, counts, differences_text, table
-from judge.window import memory_of, pieces_of, window_of
+from judge.scatter import Guest
+from judge.window import Layer, Window, memory_of, pieces_of
 from stand_in.faults import FAULTS, named
 from stand_in.port import StandIn
 from tests.common import stored
@@ -27,8 +28,8 @@ class Dies(Counted):
         raise EmulatorFault("it has ended by signal 9")
 
 
-def run(made: Type[StandIn], known: Known = NOTHING) -> Judged:
-    return judge("queue", stored(), made(), known)
+def run(made: Type[StandIn], known: Known = NOTHING, way: Way = PLAIN) -> Judged:
+    return judge("queue", stored(), made, known, way)
 
 
 # the lines of the stored script at which SDBS begins to be wanting: `recover` clears it, and `serve 2` finds it wanting already
@@ -76,19 +77,19 @@ class Whole(unittest.TestCase):
 
 class Reports(unittest.TestCase):
     def test_a_difference_is_told_with_its_line_its_bits_and_the_trace(self) -> None:
-        text = "\n".join(differences_text(run(named("no_sdbs")), "the stand-in"))
-        for part in ("queue, line 19: fail 1 40 7 (PxIS)", "PxIS  (AHCI 1.3.1, section 3.3.5)", "expected  40000008  SDBS, TFES", "got       40000000  TFES",
+        text = "\n".join(differences_text(run(named("no_sdbs"))))
+        for part in ("queue, line 19: fail 1 40 7 (PxIS)", "PxIS  (AHCI 1.3.1, section 3.3.5 (an I beside ERR))", "rule      a choice of the model", "expected  40000008  SDBS, TFES", "got       40000000  TFES",
                      "differs   SDBS", ">    19  fail 1 40 7"):
             self.assertIn(part, text)
 
     def test_each_place_is_told_up_to_eight(self) -> None:
         judged = run(named("goes_on_after_an_error"))
-        text = differences_text(judged, "the stand-in")
+        text = differences_text(judged)
         for place in ("DMA Setup FIS", "PxSACT", "PxTFD", "Set Device Bits FIS"):
             self.assertEqual(sum(line.startswith(f"  {place}  (") for line in text), 1, place)
         self.assertEqual(len(as_json(judged)["new"]["differences"]), 4)
-        many = differences_text(judged._replace(new=judged.new[:1] * 10), "the stand-in")
-        self.assertEqual((sum(line.startswith("    expected  ") for line in many), many.count("  and 2 more")), (8, 1))
+        many = differences_text(judged._replace(new=judged.new[:1] * 10))
+        self.assertEqual((sum(line.startswith("    expected  ") for line in many), many.count("  and 2 more places")), (8, 1))
 
     def test_scripts_and_lines_of_a_known_difference_are_counted(self) -> None:
         one = run(StandIn)
@@ -108,16 +109,29 @@ class Reports(unittest.TestCase):
 
 
 class Windows(unittest.TestCase):
+    def window(self, at: int) -> Window:
+        step = stored().steps[at]
+        assert step.sent
+        return Layer("plain", "", Guest(StandIn.guest_memory, 65_535)).queued(0, step.line, step.sent, False, 0, bytes(512))
+
     def test_pieces_have_one_byte_more_than_dbc_says(self) -> None:
         sent = stored().steps[1].sent
         assert sent
         self.assertEqual(pieces_of(sent.prdt), [(0x10001000, 512)])
 
     def test_a_reads_pieces_are_filled_so_that_missing_bytes_show(self) -> None:
-        sent = stored().steps[1].sent
-        assert sent
-        places = dict(memory_of(window_of(0, sent, False, 0, bytes(512))))
-        self.assertEqual((places[0x10001000], places[0x10001200]), (b"\xc5" * 512, b"\xc5" * 64))
+        parts = dict(memory_of(self.window(1)).parts())
+        self.assertEqual(parts[0x10000FC0], b"\xc5" * (64 + 512 + 64))
+
+    def test_a_raw_window_is_played_byte_by_byte(self) -> None:
+        """Bytes of ACMD, and of CFIS from 14h on, are the port's to ignore; a table without them would be another one."""
+        cfis = bytes.fromhex("2780600107000040000000000000000000000000")
+        table = cfis + b"\x11" * 44 + b"\x22" * 64 + (0x10000090).to_bytes(8, "little") + bytes(4) + (511).to_bytes(4, "little")
+        header = bytes.fromhex("0500010000000000") + (0x10000000).to_bytes(8, "little") + bytes(16)
+        for way in ("plain", "scattered"):
+            window = Layer(way, "1", Guest(StandIn.guest_memory, 65_535)).raw(0, "raw 0", header, table + bytes(512), False, 7)
+            self.assertEqual((window.table[:0x80], len(window.text)), (table[:0x80], 512))
+            self.assertEqual(memory_of(window).take(window.table_at, len(window.table)), window.table)
 
 
 if __name__ == "__main__":

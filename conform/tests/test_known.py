@@ -45,7 +45,6 @@ class Reading(unittest.TestCase):
             (text(title=4), "list.json, difference 1: 'title' is no str"),
             (text(covers=[]), "list.json, difference 1: 'covers' is empty"),
             (text(covers=[{"place": "PxIS", "lines": []}]), "list.json, difference 1 (one), cover 1: 'lines' is empty"),
-            ('{"title": "it", "differences": [], "beside": []}', "list.json: 'beside' is empty"),
             (text(covers=[{}]), "list.json, difference 1 (one), cover 1 has no 'place'"),
             (text(covers=[{"place": "PxIS", "bits": "xy"}]), "cover 1: 'bits': 'xy' are no hexadecimal bytes"),
             (text(covers=[{"place": "PxIS", "bits": "0000"}]), "no bit of 'bits' is 1"),
@@ -53,8 +52,10 @@ class Reading(unittest.TestCase):
         ):
             self.assertIn(told, self.fault(given))
 
-    def test_a_list_may_have_no_differences(self) -> None:
-        self.assertEqual(known_of('{"title": "it", "differences": []}', "list.json").entries, [])
+    def test_a_list_may_have_no_differences_and_nothing_beside(self) -> None:
+        for given in ('{"title": "it", "differences": []}', '{"title": "it", "differences": [], "beside": []}'):
+            known = known_of(given, "list.json")
+            self.assertEqual((known.entries, known.beside), ([], []))
 
     def test_a_file_that_is_missing_is_told(self) -> None:
         with self.assertRaisesRegex(ListFault, "nowhere.json can't be read: No such file"):
@@ -64,7 +65,7 @@ class Reading(unittest.TestCase):
 class Matching(unittest.TestCase):
     def left(self, cover: Dict[str, Any], line: str, answer: str, difference: Difference) -> str:
         known = known_of(text(covers=[cover]), "it")
-        return known.explain(step(line, answer), difference)[1].mask.hex()
+        return known.explain(step(line, answer), difference).mask.hex()
 
     def test_a_cover_explains_its_bits_alone(self) -> None:
         both = word("PxIS", 0x40000008, 0)
@@ -86,8 +87,8 @@ class Matching(unittest.TestCase):
 
     def test_two_entries_explain_one_difference_together(self) -> None:
         entries = [{**ENTRY, "covers": [{"place": "PxTFD", "bits": "0000ff00"}]}, {**ENTRY, "name": "two", "covers": [{"place": "PxTFD", "bits": "00000010"}]}]
-        used, left = known_of(json.dumps({"title": "it", "differences": entries}), "it").explain(step("serve 0", ""), word("PxTFD", 0x40, 0x150))
-        self.assertEqual(([it.name for it in used], left.mask.hex()), (["one", "two"], "00000000"))
+        left = known_of(json.dumps({"title": "it", "differences": entries}), "it").explain(step("serve 0", ""), word("PxTFD", 0x40, 0x150))
+        self.assertEqual((left.excused, left.mask.hex()), ((("one", bytes.fromhex("00000100")), ("two", bytes.fromhex("00000010"))), "00000000"))
 
 
 class Pages(unittest.TestCase):

@@ -51,6 +51,16 @@ class Programs(unittest.TestCase):
         self.assertEqual(([(5, "disk 1000 32")], "ahci: line 6: not understood"), ([(it.number, it.line) for it in trace.steps], trace.end))
 
 
+    def test_a_script_with_identify_has_the_whole_page(self) -> None:
+        disk = text_of("examples", "error_in_a_queue.json").splitlines()[0]
+        word = '{"line":6,"command":"identify 0","answer":"word 0 0000","entries":[],"writes":[],"sent":null,"transfers":[],"received":{},"registers":[],"slots":[]}'
+        body = f"case $1 in trace) cat <<'END'\n{disk}\n{word}\nEND\n;; *) printf '%s' \"$*\"; head -c %d /dev/zero;; esac"
+        asked = b"identify --sectors 1000 --depth 32 --raw"
+        script = "disk 1000 32\nidentify 0\n"
+        self.assertEqual(model.trace_of(self.program(body.replace("%d", "472")), script).page, asked.ljust(512, b"\0"))
+        self.assertIn("has no identify page of a disk of 1000 sectors: status 0", self.fault(self.program(body.replace("%d", "3")), script))
+
+
 class Traces(unittest.TestCase):
     def test_comments_and_empty_lines_count_as_lines(self) -> None:
         self.assertEqual(model.commands_of("# a\n\ndisk 1 1\njournal\n"), [(3, "disk 1 1"), (4, "journal")])
