@@ -10,7 +10,7 @@ import time
 from typing import List, Sequence
 
 import images
-from harness import SECTOR, Failed, Guest, blank, contents, counted, digest, expect, file_of_ext4, linux, qemu
+from harness import SECTOR, Guest, blank, contents, counted, digest, expect, file_of_ext4, linux, qemu
 from images import Missing, file_in, file_of, pattern
 
 
