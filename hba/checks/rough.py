@@ -162,6 +162,18 @@ def killed_guest(room: str) -> str:
     return "status 1, the image is written"
 
 
+def unkept(room: str) -> str:
+    """If the image can't be written at a flush, the flush fails, and Linux says so to who asked for it."""
+    image = blank(room, 2048)
+    before = contents(image)
+    os.mkdir(f"{image}.new")
+    guest = Guest(room, ["--image", image], linux(room, "keep"))
+    guest.end(240, status=1, said=f"(ahci-hba: --image {re.escape(image)}: it can't be written back: Is a directory\n)+")
+    expect(guest.told()["flush"] == "wrong", "Linux takes the write for kept")
+    expect(contents(image) == before, "the image has changed though it could not be written")
+    return "Linux sees the error"
+
+
 def full(room: str) -> str:
     """A record, a log or an image that can't be written is named, and the guest goes on."""
     image, _ = images.sector_image(room)
