@@ -190,9 +190,13 @@ def linux_reset(room: str) -> str:
     guest = Guest(room, ["--image", image, "--delay", "200"], linux(room, "reset"))
     guest.end(240)
     guest.log_is_usual([r"the queue's journal of \d+ entries was handed out"])
-    guest.linux_is_usual()
     told = guest.told()
-    expect("first" in told, "the machine was not reset")
+    first, _, rest = guest.serial().partition("CHECK first done\n")
+    _, reset, second = rest.partition("reboot: machine restart\n")
+    expect(bool(reset), "the machine was not reset")
+    # between the two it may warn of a command that is done when its port is frozen already (ata_pci_shutdown_one)
+    guest.linux_is_usual(text=first)
+    guest.linux_is_usual(text=second)
     expect(bool(re.fullmatch(r"requests 2000 compared [1-9]\d* errors 0 wrong 0", told["again"])), f"again: {told['again']}")
     return "the second boot finds what the first one wrote"
 
