@@ -1,6 +1,7 @@
 """The program with a guest, and what is looked at of both."""
 from __future__ import annotations
 
+import atexit
 import contextlib
 import hashlib
 import os
@@ -60,6 +61,7 @@ class Guest:
         words = [binary, mode, *(["--log", self.log_path] if log else []), *options, "--", *command]
         with open(self.said_path, "wb") as said:
             self.process = subprocess.Popen(words, stdin=subprocess.DEVNULL, stdout=said, stderr=said, preexec_fn=go_first if first else None)
+        atexit.register(self.kill)
 
     def serial(self) -> str:
         """What the guest has written to its serial port, without what only moves a cursor."""
