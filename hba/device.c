@@ -170,8 +170,13 @@ static bool fail_if_unsaved(struct device *device, uint32_t slot) {
         return false;
     log_flush();
     device->unsaved = image_write(device->settings->image, &device->hba, device->settings->sectors) != 0;
-    device->save_failed |= device->unsaved;
-    return device->unsaved && ahci_hba_refuse(&device->hba, slot, AHCI_ERROR_ABRT, 0) == AHCI_OK;
+    if (!device->unsaved)
+        return false;
+    device->save_failed = true;
+    uint32_t status = ahci_hba_refuse(&device->hba, slot, AHCI_ERROR_ABRT, 0);
+    if (status != AHCI_OK)
+        disagree("ahci_hba_refuse", status);
+    return true;
 }
 
 /* Whether a step answers a command. */

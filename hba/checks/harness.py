@@ -1,6 +1,7 @@
 """The program with a guest, and what is looked at of both."""
 from __future__ import annotations
 
+import atexit
 import contextlib
 import hashlib
 import os
@@ -64,6 +65,7 @@ class Guest:
         words = [binary, mode, *(["--log", self.log_path] if log else []), *JUDGED, *options, "--", *command]
         with open(self.said_path, "wb") as said:
             self.process = subprocess.Popen(words, stdin=subprocess.DEVNULL, stdout=said, stderr=said, preexec_fn=go_first if first else None)
+        atexit.register(self.kill)
 
     def serial(self) -> str:
         """What the guest has written to its serial port, without what only moves a cursor."""
@@ -119,10 +121,11 @@ class Guest:
         for line in self.log():
             expect(bool(forms.fullmatch(line)), f"the log has a line that nobody expects: {line}")
 
-    def linux_is_usual(self, more: Sequence[str] = ()) -> None:
-        """Each line of Linux that names the disk is one that such a run has."""
+    def linux_is_usual(self, more: Sequence[str] = (), text: Optional[str] = None) -> None:
+        """Each line of Linux that names the disk is one that such a run has; in a part of what it wrote, or in all of it."""
+        text = self.serial() if text is None else text
         forms = re.compile("|".join([*USUAL_OF_LINUX, *more]))
-        lines = [line.strip() for line in re.findall(r"^(?:\[ *[\d.]+\] )?(?!CHECK)(.*)$", self.serial(), re.MULTILINE)]
+        lines = [line.strip() for line in re.findall(r"^(?:\[ *[\d.]+\] )?(?!CHECK)(.*)$", text, re.MULTILINE)]
         strange = [line for line in lines if re.search(r"\bata\d|\bahci \d|\bsd[a ]|scsi|EXT4|I/O error|blk_|Buffer", line) and not forms.fullmatch(line)]
         expect(not strange, "Linux says what nobody expects: " + "; ".join(strange[:8]))
 

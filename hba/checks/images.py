@@ -50,6 +50,11 @@ def ran(words: Sequence[str], **more: object) -> str:
     return done.stdout
 
 
+def read(path: str) -> bytes:
+    with open(path, "rb") as file:
+        return file.read()
+
+
 def pattern(count: int, seed: str) -> bytes:
     """So many bytes that don't repeat, the same for the same seed."""
     out, at = bytearray(), 0
@@ -82,12 +87,11 @@ def sector_image(room: str) -> Tuple[str, int]:
 # ---- a disk with GRUB ----
 
 
-def grub_files(room: str) -> Dict[str, bytes]:
-    """The files of a GRUB image."""
-    with open(os.path.join(GUESTS, "grub.cfg"), "rb") as file:
-        config = file.read()
+def grub_files(room: str, config: str) -> Dict[str, bytes]:
+    """The files of a GRUB image with a configuration of guests/."""
     environment = b"# GRUB Environment Block\n"
-    files = {"hello.txt": b"hello from the disk\n", "large.bin": pattern(4 << 20, "large"), "env.bin": environment.ljust(1024, b"#"), "boot/grub/grub.cfg": config}
+    files = {"hello.txt": b"hello from the disk\n", "large.bin": pattern(4 << 20, "large"), "env.bin": environment.ljust(1024, b"#"), 
+             "boot/grub/grub.cfg": read(os.path.join(GUESTS, config))}
     for platform, package in (("i386-pc", "grub-pc-bin"), ("x86_64-efi", "grub-efi-amd64-bin")):
         folder = file_of(f"/usr/lib/grub/{platform}", package)
         for path in glob.glob(f"{folder}/*.mod") + glob.glob(f"{folder}/*.lst"):
@@ -114,8 +118,8 @@ def fill_partition(path: str, room: str, files: Dict[str, bytes]) -> None:
     shutil.rmtree(tree)
 
 
-def grub_image(room: str) -> str:
-    """An image of 64 MiB with one partition, GRUB for BIOS in front of it and GRUB for UEFI in it."""
+def grub_image(room: str, config: str, more: Dict[str, bytes]) -> str:
+    """An image of 64 MiB with one partition, GRUB for BIOS in front of it, and in it GRUB for UEFI and some files more."""
     path, core = os.path.join(room, "grub.img"), os.path.join(room, "core.img")
     ran([program("grub-mkimage", "grub-common"), "-O", "i386-pc", "-o", core, "-p", "(hd0,msdos1)/boot/grub", "biosdisk", "part_msdos", "fat", "normal"])
     with open(file_of("/usr/lib/grub/i386-pc/boot.img", "grub-pc-bin"), "rb") as file:
@@ -129,7 +133,7 @@ def grub_image(room: str) -> str:
         file.truncate(sectors * SECTOR)
         file.write(boot)
         file.write(text)
-    fill_partition(path, room, grub_files(room))
+    fill_partition(path, room, {**grub_files(room, config), **more})
     return path
 
 
@@ -172,11 +176,6 @@ def archive(files: Dict[str, bytes]) -> bytes:
     out = b"".join(entry(name, 0o040755, b"") for name in sorted(folders, key=lambda it: (it.count("/"), it)))
     out += b"".join(entry(name, 0o100755, content) for name, content in sorted(files.items()))
     return out + entry("TRAILER!!!", 0, b"")
-
-
-def read(path: str) -> bytes:
-    with open(path, "rb") as file:
-        return file.read()
 
 
 def initrd(room: str, test: str, data: bytes, modules: Optional[str]) -> str:

@@ -99,14 +99,20 @@ def replayed(record: str, room: str) -> bytes:
     return contents(image)
 
 
-def last_record(record: str) -> str:
-    """The file that a record ends in."""
-    number = 2
-    last = record
+def files_of(record: str) -> List[str]:
+    """The files of a record, in their order."""
+    files, number = [record], 2
     while os.path.exists(f"{record}.{number}"):
-        last = f"{record}.{number}"
+        files.append(f"{record}.{number}")
         number += 1
-    return last
+    return files
+
+
+def makes(record: str, image: str, room: str) -> int:
+    """Plays each file of a record, of which the last one has to make an image. How many there are."""
+    disks = [replayed(path, room) for path in files_of(record)]
+    expect(disks[-1] == contents(image), f"{record} makes another disk than the one that was saved")
+    return len(disks)
 
 
 def record(room: str) -> str:
@@ -119,24 +125,23 @@ def record(room: str) -> str:
     expect("LBA48 NCQ (depth 8)" in guest.serial(), "Linux was not told a depth of 8")
     told = guest.told()
     expect(told["reads"] == "requests 2000 compared 1999 errors 1 wrong 0", f"reads: {told['reads']}")
-    saved = contents(image)
-    expect(saved[-65536:] == pattern(65536, "record"), "the image has not what Linux wrote")
-    expect(replayed(last_record(script), room) == saved, "the record makes another disk")
+    expect(contents(image)[-65536:] == pattern(65536, "record"), "the image has not what Linux wrote")
+    files = makes(script, image, room)
     lines = contents(script).decode().split("\n")
     expect(any(line.startswith("fail ") and line.endswith(" 40 1000") for line in lines), "the record has no failure")
-    return f"{len(lines)} lines, {'1 file' if last_record(script) == script else 'more files'}"
+    return f"{len(lines)} lines in the first of {files} files"
 
 
 def garbage(room: str) -> str:
     """Random accesses over random tables, under the sanitizers; the record makes the image that was saved."""
-    steps = 0
+    steps, files = 0, 0
     for seed in range(4):
         image, script = blank(room, 256), os.path.join(room, f"garbage{seed}.ahci")
         guest = Guest(room, ["--image", image, "--record", script, "--pick", "random", "--fail", "5:40:3", "--fail", "100:04:2"], [GARBAGE, str(seed), "20000"], binary=SANITIZED)
         guest.end(200)
         steps += 20000
-        expect(replayed(last_record(script), room) == contents(image), f"seed {seed}: the record makes another disk")
-    return f"{steps} accesses"
+        files += makes(script, image, room)
+    return f"{steps} accesses, {files} files of records"
 
 
 def refused_memory(room: str) -> str:
@@ -160,6 +165,18 @@ def killed_guest(room: str) -> str:
     guest.end(30, status=1, said="ahci-hba: the guest's program was ended by signal 9\n")
     expect(contents(image)[200 * SECTOR:202 * SECTOR] == b"\x5a" * (2 * SECTOR), "the image has not what was written")
     return "status 1, the image is written"
+
+
+def unkept(room: str) -> str:
+    """If the image can't be written at a flush, the flush fails, and Linux says so to who asked for it."""
+    image = blank(room, 2048)
+    before = contents(image)
+    os.mkdir(f"{image}.new")
+    guest = Guest(room, ["--image", image], linux(room, "keep"))
+    guest.end(240, status=1, said=f"(ahci-hba: --image {re.escape(image)}: it can't be written back: Is a directory\n)+")
+    expect(guest.told()["flush"] == "wrong", "Linux takes the write for kept")
+    expect(contents(image) == before, "the image has changed though it could not be written")
+    return "Linux sees the error"
 
 
 def full(room: str) -> str:
