@@ -583,13 +583,16 @@ uint32_t ahci_hba_fail(ahci_hba *hba, uint32_t slot, uint8_t error, uint64_t lba
    AHCI_BAD_LBA, AHCI_NOT_READY. */
 uint32_t ahci_hba_refuse(ahci_hba *hba, uint32_t slot, uint8_t error, uint64_t lba);
 
-/* The disk sends its signature, once FRE is 1. AHCI_NOT_READY if `sign` is 0. */
+/* The disk sends its signature, once FRE is 1. AHCI_NOT_READY if `sign` is 0. If its place is no memory (ahci_hba_unmapped), PxIS has
+   HBDS and `sign` is 1 again: send it after the driver's next write of a register, not in a loop. */
 uint32_t ahci_hba_sign(ahci_hba *hba);
 
 /* Copies a sector of the disk as it is now. AHCI_WRONG_LENGTH if out_bytes is not 512, AHCI_NO_SUCH_SECTOR. */
 uint32_t ahci_hba_copy(ahci_hba *hba, uint64_t lba, uint8_t *out, size_t out_bytes);
 
-/* An entry of the disk's journal, and the bytes of the write that it issued: as ahci_port_entry and ahci_port_entry_bytes. */
+/* An entry of the disk's journal, and the bytes of the write that it issued: as ahci_port_entry and ahci_port_entry_bytes. Where
+   commands are dropped, their journal is handed out, and its entries can't be read any more; the two that AHCI_STEP_RECOVER adds, a
+   recover and a collect, never can. */
 uint32_t ahci_hba_entry(ahci_hba *hba, uint64_t number, ahci_entry *entry);
 uint32_t ahci_hba_entry_bytes(ahci_hba *hba, uint64_t number, uint8_t *out, size_t out_bytes);
 
