@@ -1,4 +1,4 @@
-/* What a command FIS asks, as far as --fail and --image have to know it (ACS-3, the commands by their titles). */
+/* What a command FIS asks, as far as --fail, --stall and --image have to know it (ACS-3, the commands by their titles). */
 #ifndef AHCI_HBA_COMMAND_H
 #define AHCI_HBA_COMMAND_H
 

@@ -145,18 +145,44 @@ static struct failure *failure_of(struct device *device, uint32_t slot) {
     return NULL;
 }
 
-/* Fails the command of a slot if --fail says so, and if this is the moment: a queued one once the device has taken it, any other before. */
+/* The command of a slot is not answered any more. */
+static void stall(struct device *device, struct failure *failure, uint32_t slot) {
+    failure->left--;
+    device->stalled |= UINT32_C(1) << slot;
+    log_line("stall %" PRIu32 " at sector %" PRIu64, slot, failure->lba);
+}
+
+/* Aborts the command of a slot if it reads the log of a failed queued command, and --refuse-log says so. */
+static bool refuse_log_if_wanted(struct device *device, uint32_t slot) {
+    if (!device->settings->refuse_log || device->state.next[slot] != AHCI_STEP_RECOVER)
+        return false;
+    uint32_t status = ahci_hba_refuse(&device->hba, slot, AHCI_ERROR_ABRT, 0);
+    if (status != AHCI_OK)
+        disagree("ahci_hba_refuse", status);
+    log_line("the log is refused to %" PRIu32, slot);
+    return true;
+}
+
+/* Whether the device may fail or stall the command of a slot now: a queued one once it has taken it, any other before. */
+static bool is_moment(const struct device *device, uint32_t slot) {
+    uint8_t kind = device->state.next[slot];
+    return device->commands[slot].queued ? kind == AHCI_STEP_SERVE : kind == AHCI_STEP_SEND || kind == AHCI_STEP_EXECUTE;
+}
+
+/* Fails or stalls the command of a slot if --fail or --stall says so. */
 static bool fail_if_wanted(struct device *device, uint32_t slot) {
-    struct failure *failure = failure_of(device, slot);
+    struct failure *failure = is_moment(device, slot) ? failure_of(device, slot) : NULL;
     uint32_t status;
     if (!failure)
         return false;
-    if (device->commands[slot].queued && device->state.next[slot] == AHCI_STEP_SERVE)
+    if (failure->stalls) {
+        stall(device, failure, slot);
+        return true;
+    }
+    if (device->commands[slot].queued)
         status = ahci_hba_fail(&device->hba, slot, failure->error, failure->lba);
-    else if (!device->commands[slot].queued && (device->state.next[slot] == AHCI_STEP_SEND || device->state.next[slot] == AHCI_STEP_EXECUTE))
-        status = ahci_hba_refuse(&device->hba, slot, failure->error, failure->lba);
     else
-        return false;
+        status = ahci_hba_refuse(&device->hba, slot, failure->error, failure->lba);
     if (status != AHCI_OK)
         return false;
     failure->left--;
@@ -237,7 +263,7 @@ static uint32_t slots_with(const struct device *device, bool answers) {
     for (uint32_t slot = 0; slot < AHCI_MOST_TAGS; slot++)
         if (device->state.next[slot] != AHCI_STEP_NONE && is_answer(device->state.next[slot]) == answers)
             set |= UINT32_C(1) << slot;
-    return set & ~device->stuck;
+    return set & ~(device->stuck | device->stalled);
 }
 
 /* Whether the device has waited for as long as --delay says. */
@@ -265,7 +291,7 @@ static bool choose(struct device *device, uint32_t *slot) {
 
 /* Takes the next step with a slot's command, or fails it. */
 static void go_on(struct device *device, uint32_t slot) {
-    if (fail_if_wanted(device, slot) || fail_if_unsaved(device, slot))
+    if (fail_if_wanted(device, slot) || fail_if_unsaved(device, slot) || refuse_log_if_wanted(device, slot))
         follow(device, 0, false);
     else
         take_step(device, slot);
@@ -329,6 +355,7 @@ void device_write(struct device *device, uint32_t offset, uint32_t bytes, uint64
     if (status != AHCI_OK)
         log_line("a write of %" PRIu32 " bytes at %03" PRIx32 " was refused: status %" PRIu32, bytes, offset, status);
     device->stuck = 0;
+    device->stalled &= (uint32_t)(device_read(device, AHCI_REG_PXCI, 4) | device_read(device, AHCI_REG_PXSACT, 4));
     device->mute = false;
     follow(device, entries, false);
     look(device);

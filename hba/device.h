@@ -25,6 +25,7 @@ struct device {
     uint32_t reading; /* the slot whose command is read */
     uint32_t runs;    /* how many runs of it were read */
     uint32_t stuck;   /* slots whose step was refused, until the driver writes a register */
+    uint32_t stalled; /* slots whose command is never answered, until the driver drops it */
     bool mute;        /* no signature is sent until then either, since there was no memory for the last FIS */
     uint64_t random;  /* the state of PICK_RANDOM */
     enum wait wait;

@@ -29,7 +29,10 @@ static const char help[] =
     "      --pick WHICH             The command that the device goes on with: low, high or random slot (default low)\n"
     "      --seed N                 The seed of --pick random (default 1)\n"
     "      --fail LBA:EE[:COUNT]    The device fails so many commands (default 1) that touch the sector, with the error byte EE,\n"
-    "                               two hexadecimal digits. May be given up to 64 times\n"
+    "                               two hexadecimal digits\n"
+    "      --stall LBA[:COUNT]      The device never answers so many commands (default 1) that touch the sector; the driver has to\n"
+    "                               drop them. --fail and --stall may be given up to 64 times together\n"
+    "      --refuse-log             The device aborts each command that reads the log of a failed queued command\n"
     "      --delay MICROSECONDS     The device waits so long before it answers a command (default 0)\n"
     "      --record FILE            A script of `ahci replay` of what the disk's queue does, line by line as it happens\n"
     "      --log FILE               A line for each access of the guest\n"
@@ -91,20 +94,22 @@ static const char *take_error(const char *text, uint8_t *error) {
     return text + 3;
 }
 
-/* LBA:EE or LBA:EE:COUNT. */
-static int take_failure(struct settings *settings, const char *text) {
-    struct failure failure = {.left = 1};
+/* LBA:EE or LBA:EE:COUNT of --fail; LBA or LBA:COUNT of --stall. */
+static int take_failure(struct settings *settings, const char *name, const char *text) {
+    struct failure failure = {.left = 1, .stalls = !strcmp(name, "--stall")};
     if (settings->failure_count == MOST_FAILURES) {
-        complain("--fail %s: one too many, since %d may be given", text, MOST_FAILURES);
+        complain("%s %s: one too many, since %d may be given", name, text, MOST_FAILURES);
         return -1;
     }
     const char *at = take_digits(text, &failure.lba);
-    if (at)
+    if (at && !failure.stalls)
         at = take_error(at, &failure.error);
     if (at && *at == ':')
         at = take_digits(at + 1, &failure.left);
     if (!at || *at || failure.left == 0) {
-        complain("--fail %s: LBA:EE or LBA:EE:COUNT is wanted, with two hexadecimal digits and a count from 1 on", text);
+        complain("%s %s: %s", name, text,
+                 failure.stalls ? "LBA or LBA:COUNT is wanted, with a count from 1 on"
+                                : "LBA:EE or LBA:EE:COUNT is wanted, with two hexadecimal digits and a count from 1 on");
         return -1;
     }
     settings->failures[settings->failure_count++] = failure;
@@ -130,8 +135,8 @@ static int take_option(struct settings *settings, const char *name, const char *
         return take_pick(value, &settings->pick);
     if (!strcmp(name, "--seed"))
         return take_number(name, value, 0, UINT64_MAX, &settings->seed);
-    if (!strcmp(name, "--fail"))
-        return take_failure(settings, value);
+    if (!strcmp(name, "--fail") || !strcmp(name, "--stall"))
+        return take_failure(settings, name, value);
     if (!strcmp(name, "--delay"))
         return take_small(name, value, 0, MOST_DELAY, &settings->delay);
     if (!strcmp(name, "--image"))
@@ -178,10 +183,19 @@ static int settle(struct settings *settings) {
         return -1;
     for (unsigned i = 0; i < settings->failure_count; i++)
         if (settings->failures[i].lba >= settings->sectors) {
-            complain("--fail %" PRIu64 ":..: the disk has %" PRIu32 " sectors", settings->failures[i].lba, settings->sectors);
+            complain("--%s %" PRIu64 ":..: the disk has %" PRIu32 " sectors", settings->failures[i].stalls ? "stall" : "fail",
+                     settings->failures[i].lba, settings->sectors);
             return -1;
         }
     return 0;
+}
+
+/* Whether a word is an option without a value, which is taken. */
+static bool take_flag(struct settings *settings, const char *word) {
+    bool judges = !strcmp(word, "--judge"), refuses = !strcmp(word, "--refuse-log");
+    settings->judge |= judges;
+    settings->refuse_log |= refuses;
+    return judges || refuses;
 }
 
 /* Reads the words after the subcommand, --NAME VALUE or --NAME=VALUE, up to the guest's command. */
@@ -194,10 +208,8 @@ static int take_words(struct settings *settings, char **words) {
         }
         if (equals)
             *equals = 0;
-        if (!equals && !strcmp(*words, "--judge")) {
-            settings->judge = true;
+        if (!equals && take_flag(settings, *words))
             continue;
-        }
         const char *name = *words, *value = equals ? equals + 1 : *++words;
         if (!value || (!equals && !strcmp(value, "--"))) {
             complain("%s: a value is wanted", name);

@@ -11,11 +11,12 @@ enum guest { GUEST_QEMU, GUEST_UML };
 /* Which of the commands that the device has taken it goes on with. */
 enum pick { PICK_LOW, PICK_HIGH, PICK_RANDOM };
 
-/* Commands that touch a sector and that the device fails. */
+/* Commands that touch a sector and that the device fails, or never answers. */
 struct failure {
     uint64_t lba;
-    uint64_t left; /* how many more it fails */
-    uint8_t error; /* the error byte, as 40h (UNC) */
+    uint64_t left; /* how many more of them */
+    bool stalls;   /* they are never answered */
+    uint8_t error; /* else the error byte, as 40h (UNC) */
 };
 
 #define MOST_FAILURES 64
@@ -27,6 +28,7 @@ struct settings {
     enum pick pick;
     uint64_t seed;      /* of PICK_RANDOM */
     uint32_t delay;     /* microseconds before the device answers a command */
+    bool refuse_log;    /* the log of a failed queued command can't be read */
     const char *image;  /* a file with the disk's sectors, or NULL */
     const char *record; /* a file for the script of what happens, or NULL */
     const char *log;    /* a file for a line of each access, or NULL */

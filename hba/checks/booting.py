@@ -131,16 +131,24 @@ def linux_high(room: str) -> str:
     return codes
 
 
-def linux_queue(room: str) -> str:
+def linux_queue(room: str, more: Sequence[str] = ()) -> str:
     """Random requests of Linux at depth 32, in a random order of the device."""
     image = blank(room, 131072)
-    guest = Guest(room, ["--image", image, "--pick", "random", "--seed", "7", "--delay", "1000"], linux(room, "queue"))
-    guest.end(240)
+    guest = Guest(room, ["--image", image, "--pick", "random", "--seed", "7", "--delay", "1000"], linux(room, "queue") + list(more))
+    guest.end(300)
     guest.log_is_usual()
     guest.linux_is_usual()
     right, deep = queue_right(guest, image), deepest(guest)
     expect(deep >= 24, f"only {deep} commands were in the queue at once")
     return f"{right}; {deep} at once"
+
+
+def linux_two(room: str) -> str:
+    """The same on two processors."""
+    said = linux_queue(room, ["-smp", "2"])
+    with open(os.path.join(room, "serial"), encoding="utf-8", errors="replace") as file:
+        expect("Brought up 1 node, 2 CPUs" in file.read(), "Linux has not started two processors")
+    return said
 
 
 def queue_right(guest: Guest, image: str) -> str:
@@ -162,19 +170,29 @@ def deepest(guest: Guest) -> int:
     return most
 
 
-def linux_error(room: str) -> str:
-    """One of the commands in the queue fails: its request fails, and all others come right."""
+# what Linux says of commands that did not come right, and of those that failed by UNC at sector 1000
+ENDED = [r"ata1(\.00)?: (exception Emask .*|irq_stat 0x40000008|failed command: READ FPDMA QUEUED|cmd 60/.*|status: \{ DRDY (ERR )?\}|EH complete|device reported .*)"]
+MEDIUM = [r"ata1\.00: (error: \{ UNC \}|.*NCQ.*)", r"(blk_update_request: )?(I/O|critical medium) error, dev sda, sector 1000 .*",
+          r"sd 0:0:0:0: \[sda\] tag#\d+ (FAILED Result: .*|Sense Key : Medium Error \[current\] ?|Add\. Sense: Unrecovered read error - auto reallocate failed|CDB: Read\(10\) .*)",
+          r"Buffer I/O error on dev sda, logical block 125, async page read"]
+
+
+def numbered(room: str) -> str:
+    """An image whose blocks say where they are."""
     image = os.path.join(room, "disk.img")
     with open(image, "wb") as file:
         file.write(images.numbered_blocks(512, 4096))
+    return image
+
+
+def linux_error(room: str) -> str:
+    """One of the commands in the queue fails: its request fails, and all others come right."""
+    image = numbered(room)
     before = contents(image)
     guest = Guest(room, ["--image", image, "--fail", "1000:40", "--delay", "2000"], linux(room, "error"))
     guest.end(240)
-    ata = [r"ata1(\.00)?: (exception Emask .*|irq_stat 0x40000008|failed command: READ FPDMA QUEUED|cmd 60/.*|status: \{ DRDY ERR \}|error: \{ UNC \}|EH complete|configured for UDMA/100)",
-           r"sd 0:0:0:0: \[sda\] tag#\d+ (FAILED Result: .*|Sense Key : Medium Error \[current\] ?|Add\. Sense: Unrecovered read error - auto reallocate failed|CDB: Read\(10\) .*)",
-           r"(blk_update_request: )?(I/O|critical medium) error, dev sda, sector 1000 .*", r"ata1\.00: (device reported .*|.*NCQ.*)", r" +res 41/40:.*"]
     guest.log_is_usual([r"fail \d+ with 40 at sector 1000", r"the queue's journal of \d+ entries was handed out"])
-    guest.linux_is_usual(ata)
+    guest.linux_is_usual([*ENDED, *MEDIUM])
     told = guest.told()
     expect(told["reads"] == "requests 5000 compared 4999 errors 1 wrong 0", f"reads: {told['reads']}")
     expect(told["again"] == "512", "the sector can't be read afterwards")
@@ -182,6 +200,50 @@ def linux_error(room: str) -> str:
     expect(contents(image) == before, "the image has changed, and nobody wrote")
     expect(guest.codes().get(0x2F, 0) == 1, f"the log of the failed command was not read once: {counted(guest.codes())}")
     return "1 of 5,000 reads failed, 4,999 right, log 10h read"
+
+
+def troubled(room: str, test: str, options: Sequence[str], logged: Sequence[str], linux_says: Sequence[str]) -> Guest:
+    """Reads on a disk that goes wrong. Nobody writes, so the image stays."""
+    image = numbered(room)
+    before = contents(image)
+    guest = Guest(room, ["--image", image, "--delay", "2000", *options], linux(room, test))
+    guest.end(300)
+    guest.log_is_usual([*logged, r"the queue's journal of \d+ entries was handed out"])
+    guest.linux_is_usual(linux_says)
+    expect(contents(image) == before, "the image has changed, and nobody wrote")
+    return guest
+
+
+def linux_lasting(room: str) -> str:
+    """A sector fails always: so do its requests, and all others come right."""
+    guest = troubled(room, "lasting", ["--fail", "1000:40:1000000"], [r"fail \d+ with 40 at sector 1000"], [*ENDED, *MEDIUM])
+    told = guest.told()
+    reads = re.fullmatch(r"requests 5000 compared (\d+) errors ([1-9]\d*) wrong 0", told["reads"])
+    if not reads:
+        raise Failed(f"reads: {told['reads']}")
+    expect(int(reads[1]) + int(reads[2]) == 5000, f"reads: {told['reads']}")
+    expect((told["first"], told["again"], told["beside"]) == ("0", "0", "512"), f"first, again and beside: {told}")
+    return f"{reads[2]} of 5,000 reads failed, {reads[1]} right"
+
+
+def linux_refused_log(room: str) -> str:
+    """A command of the queue fails, and the log that would tell which can't be read: Linux asks all again, and loses none."""
+    says = [r"ata1: failed to read log page 10h \(errno=-5\)", r"ata1\.00: (Read log 0x10 page 0x00 failed, Emask 0x1|revalidation failed \(errno=-2\))", r"ata1: hard resetting link"]
+    guest = troubled(room, "error", ["--fail", "1000:40", "--refuse-log"], [r"fail \d+ with 40 at sector 1000", r"the log is refused to \d+"], [*ENDED, *says])
+    told = guest.told()
+    expect(told["reads"] == "requests 5000 compared 5000 errors 0 wrong 0", f"reads: {told['reads']}")
+    expect(any(line.startswith("the log is refused") for line in guest.log()), "the log was not asked for")
+    return "5,000 reads right"
+
+
+def linux_stalled(room: str) -> str:
+    """A command of the queue is never answered: Linux resets the link, asks all again, and loses none."""
+    guest = troubled(room, "stall", ["--stall", "1000", "--pick", "random"], [r"stall \d+ at sector 1000"], [*ENDED, r"ata1: hard resetting link"])
+    told = guest.told()
+    expect(told["reads"] == "requests 5000 compared 5000 errors 0 wrong 0", f"reads: {told['reads']}")
+    expect(any(line.startswith("stall ") for line in guest.log()), "no command was stalled")
+    expect(bool(re.search(r"ata1: hard resetting link", guest.serial())), "Linux has not reset the link")
+    return "5,000 reads right after a reset of the link"
 
 
 def linux_reset(room: str) -> str:
@@ -219,8 +281,8 @@ def linux_flush(room: str) -> str:
 
 
 def run_uml(room: str, kernel: str, image: str) -> Guest:
-    """One run of guests/queue.sh."""
-    words = ["mem=256M", f"initrd={images.initrd(room, 'queue', b'', None)}", "con=null", "con0=null,fd:1", "loglevel=7", "panic=1"]
+    """One run of guests/queue.sh, with 100,000 requests of one page."""
+    words = ["mem=256M", f"initrd={images.initrd(room, 'queue', b'', None)}", "con=null", "con0=null,fd:1", "loglevel=7", "panic=1", "small=100000"]
     guest = Guest(room, ["--image", image, "--pick", "high"], [kernel, *words], mode="uml", log=False, first=True)
     guest.process.wait(150)
     with open(os.path.join(room, "serial"), "w", encoding="utf-8") as file:

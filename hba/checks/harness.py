@@ -54,6 +54,24 @@ def go_first() -> None:
         os.nice(-10)
 
 
+def serial_of(path: str) -> str:
+    """What a guest has written to its serial port, without what only moves a cursor."""
+    try:
+        with open(path, encoding="utf-8", errors="replace") as file:
+            text = file.read()
+    except FileNotFoundError:
+        return ""
+    return re.sub(r"\x1b\[[0-9;?=]*[A-Za-z]", "", text).replace("\r", "")
+
+
+def told_by(path: str) -> Dict[str, str]:
+    """A guest's lines `CHECK NAME TEXT`."""
+    found = re.findall(r"CHECK (\S+) ?(.*)$", serial_of(path), re.MULTILINE)
+    for name, text in found:
+        expect(name != "failed:", f"the guest failed: {text}")
+    return dict(found)
+
+
 class Guest:
     """The program with a guest."""
 
@@ -68,13 +86,7 @@ class Guest:
         atexit.register(self.kill)
 
     def serial(self) -> str:
-        """What the guest has written to its serial port, without what only moves a cursor."""
-        try:
-            with open(self.serial_path, encoding="utf-8", errors="replace") as file:
-                text = file.read()
-        except FileNotFoundError:
-            return ""
-        return re.sub(r"\x1b\[[0-9;?=]*[A-Za-z]", "", text).replace("\r", "")
+        return serial_of(self.serial_path)
 
     def said(self) -> str:
         with open(self.said_path, encoding="utf-8", errors="replace") as file:
@@ -131,10 +143,7 @@ class Guest:
 
     def told(self) -> Dict[str, str]:
         """The guest's lines `CHECK NAME TEXT`."""
-        found = re.findall(r"CHECK (\S+) ?(.*)$", self.serial(), re.MULTILINE)
-        for name, text in found:
-            expect(name != "failed:", f"the guest failed: {text}")
-        return dict(found)
+        return told_by(self.serial_path)
 
     def child(self) -> int:
         """The process of the guest's program."""

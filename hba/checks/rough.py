@@ -74,6 +74,8 @@ def command_lines(room: str) -> str:
         (["run", "--fail", "1:4", *run], "--fail 1:4: LBA:EE or LBA:EE:COUNT is wanted, with two hexadecimal digits and a count from 1 on"),
         (["run", "--fail", "1:40:0", *run], "--fail 1:40:0: LBA:EE or LBA:EE:COUNT is wanted, with two hexadecimal digits and a count from 1 on"),
         (["run", "--sectors", "8", "--fail", "8:40", *run], "--fail 8:..: the disk has 8 sectors"),
+        (["run", "--stall", "1:40:2", *run], "--stall 1:40:2: LBA or LBA:COUNT is wanted, with a count from 1 on"),
+        (["run", "--sectors", "8", "--stall", "8", *run], "--stall 8:..: the disk has 8 sectors"),
         (["run", "--image", image, "--sectors", "3", *run], f"--image {image}: it has 4 sectors, and the disk 1 to 3"),
         (["run", "--image", f"{room}/none", *run], f"--image {room}/none: No such file or directory"),
         (["run", "--record", "", *run], "--record: a file is wanted"),
@@ -135,9 +137,9 @@ def record(room: str) -> str:
 def garbage(room: str) -> str:
     """Random accesses over random tables, under the sanitizers; the record makes the image that was saved."""
     steps, files = 0, 0
-    for seed in range(4):
+    for seed in range(5):
         image, script = blank(room, 256), os.path.join(room, f"garbage{seed}.ahci")
-        guest = Guest(room, ["--image", image, "--record", script, "--pick", "random", "--fail", "5:40:3", "--fail", "100:04:2"], [GARBAGE, str(seed), "20000"], binary=SANITIZED)
+        guest = Guest(room, ["--image", image, "--record", script, "--pick", "random", "--fail", "5:40:3", "--fail", "100:04:2", "--stall", "17:3"], [GARBAGE, str(seed), "20000"], binary=SANITIZED)
         guest.end(200)
         steps += 20000
         files += makes(script, image, room)
