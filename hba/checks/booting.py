@@ -18,7 +18,7 @@ def sector(room: str) -> str:
     """SeaBIOS boots a sector that reads, writes and reads again."""
     image, summed = images.sector_image(room)
     before = bytearray(contents(image))
-    guest = Guest(room, ["--image", image], qemu(room))
+    guest = Guest(room, ["--image", image], qemu(room), recorded=image)
     guest.wait_for("^end$", 60)
     guest.end(20, signal.SIGTERM)
     guest.log_is_usual()
@@ -32,7 +32,7 @@ def sector_error(room: str) -> str:
     """The disk fails the sector's second read, and INT 13h says so."""
     image, _ = images.sector_image(room)
     before = contents(image)
-    guest = Guest(room, ["--image", image, "--fail", "70:40"], qemu(room))
+    guest = Guest(room, ["--image", image, "--fail", "70:40"], qemu(room), recorded=image)
     guest.wait_for("^INT 13h failed: AX (?!00)[0-9A-F]{4}$", 60)
     guest.end(20, signal.SIGTERM)
     guest.log_is_usual([r"fail 0 with 40 at sector 70"])
@@ -44,7 +44,7 @@ def grub(room: str, firmware: Sequence[str], platform: str, root: str) -> str:
     image = images.grub_image(room, "grub.cfg", {})
     before = contents(image)
     large = file_in(image, "large.bin")
-    guest = Guest(room, ["--image", image], qemu(room, *firmware))
+    guest = Guest(room, ["--image", image], qemu(room, *firmware), recorded=image)
     guest.wait_for("^CHECK end$", 240)
     guest.end(60)
     guest.log_is_usual()
@@ -73,7 +73,7 @@ def boot(room: str, firmware: Sequence[str]) -> str:
     files = {"vmlinuz": contents(kernel), "initrd": contents(images.initrd(room, "boot", b"", modules))}
     image = images.grub_image(room, "boot.cfg", files)
     before = contents(image)
-    guest = Guest(room, ["--image", image], qemu(room, *firmware))
+    guest = Guest(room, ["--image", image], qemu(room, *firmware), recorded=image)
     guest.end(240)
     guest.log_is_usual()
     guest.linux_is_usual([r"sda: sda1"])
@@ -114,7 +114,7 @@ def files_right(room: str, guest: Guest, image: str, data: bytes) -> None:
 def linux_files(room: str, memory: str = "512M") -> str:
     """Linux makes ext4, writes files, mounts it again and reads them."""
     data, image = pattern(8 << 20, "files"), blank(room, 131072)
-    guest = Guest(room, ["--image", image], linux(room, "files", data, memory))
+    guest = Guest(room, ["--image", image], linux(room, "files", data, memory), recorded=image)
     guest.end(240)
     guest.log_is_usual()
     guest.linux_is_usual()
@@ -189,7 +189,7 @@ def linux_error(room: str) -> str:
     """One of the commands in the queue fails: its request fails, and all others come right."""
     image = numbered(room)
     before = contents(image)
-    guest = Guest(room, ["--image", image, "--fail", "1000:40", "--delay", "2000"], linux(room, "error"))
+    guest = Guest(room, ["--image", image, "--fail", "1000:40", "--delay", "2000"], linux(room, "error"), recorded=image)
     guest.end(240)
     guest.log_is_usual([r"fail \d+ with 40 at sector 1000", r"the queue's journal of \d+ entries was handed out"])
     guest.linux_is_usual([*ENDED, *MEDIUM])
@@ -206,7 +206,7 @@ def troubled(room: str, test: str, options: Sequence[str], logged: Sequence[str]
     """Reads on a disk that goes wrong. Nobody writes, so the image stays."""
     image = numbered(room)
     before = contents(image)
-    guest = Guest(room, ["--image", image, "--delay", "2000", *options], linux(room, test))
+    guest = Guest(room, ["--image", image, "--delay", "2000", *options], linux(room, test), recorded=image)
     guest.end(300)
     guest.log_is_usual([*logged, r"the queue's journal of \d+ entries was handed out"])
     guest.linux_is_usual(linux_says)

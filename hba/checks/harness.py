@@ -13,12 +13,13 @@ import time
 from typing import Dict, List, Optional, Sequence
 
 import images
-from images import program
+from images import Missing, program
 
 HERE = os.path.dirname(os.path.dirname(os.path.realpath(__file__)))
 PROGRAM = os.path.join(HERE, "out", "ahci-hba")
 SANITIZED = PROGRAM + ".sanitized"
 STARVED = PROGRAM + ".starved"
+PLAYER = os.path.join(HERE, "out", "play")
 SECTOR = 512
 
 # what a log has in any run
@@ -54,6 +55,35 @@ def go_first() -> None:
         os.nice(-10)
 
 
+def replayed(record: str, room: str) -> bytes:
+    """The disk after the commands of a record, by a player over the library."""
+    if not os.path.exists(PLAYER):
+        raise Missing(f"there is no {PLAYER}")
+    image = os.path.join(room, "replayed.img")
+    with open(record, "rb") as script:
+        done = subprocess.run([PLAYER, "--image", image], stdin=script, stdout=subprocess.PIPE, stderr=subprocess.PIPE, timeout=240, check=False)
+    expect(done.returncode == 0, f"{record} is not played to its end: {done.stderr.decode()}")
+    wrong = [line for line in done.stdout.decode().split("\n") if line.startswith("refused")]
+    expect(not wrong, f"{record}: the player answers {wrong[:3]}")
+    return contents(image)
+
+
+def files_of(record: str) -> List[str]:
+    """The files of a record, in their order."""
+    files, number = [record], 2
+    while os.path.exists(f"{record}.{number}"):
+        files.append(f"{record}.{number}")
+        number += 1
+    return files
+
+
+def makes(record: str, image: str, room: str) -> int:
+    """Plays each file of a record, of which the last one has to make an image. How many there are."""
+    disks = [replayed(path, room) for path in files_of(record)]
+    expect(disks[-1] == contents(image), f"{record} makes another disk than the one that was saved")
+    return len(disks)
+
+
 def serial_of(path: str) -> str:
     """What a guest has written to its serial port, without what only moves a cursor."""
     try:
@@ -75,12 +105,17 @@ def told_by(path: str) -> Dict[str, str]:
 class Guest:
     """The program with a guest."""
 
-    def __init__(self, room: str, options: Sequence[str], command: Sequence[str], mode: str = "run", binary: str = PROGRAM, log: bool = True, first: bool = False) -> None:
+    def __init__(self, room: str, options: Sequence[str], command: Sequence[str], mode: str = "run", binary: str = PROGRAM, log: bool = True, first: bool = False,
+                 recorded: str = "") -> None:
+        """`recorded` is the image, which the record has to make too once the guest has ended."""
         self.serial_path, self.log_path, self.said_path = (os.path.join(room, it) for it in ("serial", "log", "said"))
         for path in (self.serial_path, self.log_path):
             with contextlib.suppress(OSError):
                 os.remove(path)
-        words = [binary, mode, *(["--log", self.log_path] if log else []), *JUDGED, *options, "--", *command]
+        self.recorded, self.room = "" if JUDGED else recorded, room
+        self.record_path = os.path.join(room, "life.ahci")
+        kept = [*(["--log", self.log_path] if log else []), *(["--record", self.record_path] if self.recorded else [])]
+        words = [binary, mode, *kept, *JUDGED, *options, "--", *command]
         with open(self.said_path, "wb") as said:
             self.process = subprocess.Popen(words, stdin=subprocess.DEVNULL, stdout=said, stderr=said, preexec_fn=go_first if first else None)
         atexit.register(self.kill)
@@ -126,6 +161,8 @@ class Guest:
             return
         expect(self.process.returncode == status, f"status {self.process.returncode}, not {status}: {self.said()[-1500:]}{self.serial()[-1000:]}")
         expect(bool(JUDGED) or bool(re.fullmatch(said, self.said(), re.DOTALL)), f"it said: {self.said()}")
+        if self.recorded:
+            makes(self.record_path, self.recorded, self.room)
 
     def log_is_usual(self, more: Sequence[str] = ()) -> None:
         """Each line of the log is one that such a run has."""

@@ -8,10 +8,9 @@ import subprocess
 from typing import List
 
 import images
-from harness import HERE, PROGRAM, SANITIZED, SECTOR, STARVED, Guest, blank, contents, digest, expect, linux, qemu
-from images import Missing, pattern
+from harness import HERE, PROGRAM, SANITIZED, SECTOR, STARVED, Guest, blank, contents, digest, expect, linux, makes, qemu
+from images import pattern
 
-PLAYER = os.path.join(HERE, "out", "play")
 GARBAGE = os.path.join(HERE, "checks", "garbage")
 
 
@@ -86,35 +85,6 @@ def command_lines(room: str) -> str:
     for words, says in cases:
         refused(words, says)
     return f"{len(cases)} are refused"
-
-
-def replayed(record: str, room: str) -> bytes:
-    """The disk after the commands of a record, by a player over the library."""
-    if not os.path.exists(PLAYER):
-        raise Missing(f"there is no {PLAYER}")
-    image = os.path.join(room, "replayed.img")
-    with open(record, "rb") as script:
-        done = subprocess.run([PLAYER, "--image", image], stdin=script, stdout=subprocess.PIPE, stderr=subprocess.PIPE, timeout=240, check=False)
-    expect(done.returncode == 0, f"{record} is not played to its end: {done.stderr.decode()}")
-    wrong = [line for line in done.stdout.decode().split("\n") if line.startswith("refused")]
-    expect(not wrong, f"{record}: the player answers {wrong[:3]}")
-    return contents(image)
-
-
-def files_of(record: str) -> List[str]:
-    """The files of a record, in their order."""
-    files, number = [record], 2
-    while os.path.exists(f"{record}.{number}"):
-        files.append(f"{record}.{number}")
-        number += 1
-    return files
-
-
-def makes(record: str, image: str, room: str) -> int:
-    """Plays each file of a record, of which the last one has to make an image. How many there are."""
-    disks = [replayed(path, room) for path in files_of(record)]
-    expect(disks[-1] == contents(image), f"{record} makes another disk than the one that was saved")
-    return len(disks)
 
 
 def record(room: str) -> str:
