@@ -237,7 +237,8 @@ def linux_refused_log(room: str) -> str:
 
 
 def linux_stalled(room: str) -> str:
-    """A command of the queue is never answered: Linux resets the link, asks all again, and loses none."""
+    """A command of the queue is never answered: Linux resets the link, asks all again, and loses none. The device picks at random, since by
+    the lowest slot others wait for longer than Linux does."""
     guest = troubled(room, "stall", ["--stall", "1000", "--pick", "random"], [r"stall \d+ at sector 1000"], [*ENDED, r"ata1: hard resetting link"])
     told = guest.told()
     expect(told["reads"] == "requests 5000 compared 5000 errors 0 wrong 0", f"reads: {told['reads']}")
