@@ -173,6 +173,48 @@ static void way_back(void)
     READS(SACT, 0);
 }
 
+/* The command of tag 0 fails at its sector. */
+static void fails(void)
+{
+    ahci_stepped step;
+    uint64_t number;
+    CHECK(ahci_port_submit(&port, 0, AHCI_READ, 3, 1, NULL, 0, &number) == AHCI_OK);
+    CHECK(ahci_port_accept(&port, 0, &step) == AHCI_OK && ahci_port_fail(&port, 0, 0x40, 3, &step) == AHCI_OK);
+}
+
+static void recovers(void)
+{
+    uint32_t tag = 9;
+    ahci_state state;
+    ahci_reply reply;
+    CHECK(ahci_port_state(&port, &state) == AHCI_OK);
+    CHECK(ahci_port_recover(&port, &tag) == AHCI_OK && tag == 0);
+    CHECK(ahci_port_collect(&port, 0, state.next - 3, &reply, NULL, 0) == AHCI_OK && reply.outcome == AHCI_DID_FAIL);
+}
+
+/* Calls that take the place of register writes leave nothing half written, and refused ones leave it. */
+static void superseded(void)
+{
+    uint64_t number;
+    NOTES(SACT, 4);
+    READS(SACT, 4);
+    CHECK(ahci_port_submit(&port, 0, AHCI_READ, 3, 0, NULL, 0, &number) == AHCI_BAD_COUNT);
+    READS(SACT, 4);
+    fails();
+    READS(SACT, 1); /* slot 2 is announced no more */
+    NOTES(CMD, 0x10);
+    READS(CMD, 0x4010);
+    recovers();
+    READS(CMD, 0xC011);
+    REFUSES(CI, 4, AHCI_NOT_QUEUED);
+    fails();
+    READS(CMD, 0xC011); /* a failure after it finds a port that runs */
+    READS(SACT, 1);
+    NOTES(CMD, 0x11);   /* and ST, which was not off, recovers nothing */
+    REFUSES(SACT, 1, AHCI_HALTED);
+    recovers();
+}
+
 /* The other registers take what their table says; the arguments are looked at first. */
 static void others(void)
 {
@@ -194,7 +236,7 @@ static void others(void)
 
 int main(void)
 {
-    static void (*const stories[])(void) = { queue, way_back, others };
+    static void (*const stories[])(void) = { queue, way_back, superseded, others };
     for (size_t i = 0; i < sizeof stories / sizeof *stories; i++) {
         memset(list, 0, sizeof list);
         memset(windows, 0, sizeof windows);

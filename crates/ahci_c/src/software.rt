@@ -4,7 +4,7 @@ ghost use Rattle.std.specs.Prelude.{◌≡◌, ⊤};
 ghost use Rattle.ahci_ffi.specs.{
   Asked.{AnswersIssue},
   Calls.{AnswersCollect, AnswersFlush, AnswersIdentify, AnswersRecover, AnswersReissue, AnswersSubmit, AnswersTrim},
-  Over.{Changes},
+  Over.{Changes, Supersedes},
   PlaceView.{view_of},
 };
 
@@ -21,10 +21,10 @@ pub extern "C" fn ahci_port_issue(
     memory: &[u8],
     number: &mut u64,
 ) -> u32
-    ensures { Changes result (view_of port.old) (view_of port.new) (number.new ≡ number.old)
+    ensures { Supersedes result (view_of port.old) (view_of port.new) (number.new ≡ number.old)
         (λ answer old new. AnswersIssue tag header.now memory.now answer old new number.old number.new) }
 {
-    over!(
+    superseding!(
         port,
         heap,
         |held| ahci_ffi::issue(&mut held, heap, tag, header, memory, number)
@@ -43,10 +43,10 @@ pub extern "C" fn ahci_port_submit(
     payload: &[u8],
     number: &mut u64,
 ) -> u32
-    ensures { Changes result (view_of port.old) (view_of port.new) (number.new ≡ number.old)
+    ensures { Supersedes result (view_of port.old) (view_of port.new) (number.new ≡ number.old)
         (λ answer old new. AnswersSubmit tag kind lba sectors payload.now answer old new number.old number.new) }
 {
-    over!(
+    superseding!(
         port,
         heap,
         |held| ahci_ffi::submit(&mut held, heap, tag, kind, lba, sectors, payload, number)
@@ -56,19 +56,19 @@ pub extern "C" fn ahci_port_submit(
 /// Software recovers from a failure.
 #[unsafe(no_mangle)]
 pub extern "C" fn ahci_port_recover(port: &mut Place, heap: Global, tag: &mut u32) -> u32
-    ensures { Changes result (view_of port.old) (view_of port.new) (tag.new ≡ tag.old)
+    ensures { Supersedes result (view_of port.old) (view_of port.new) (tag.new ≡ tag.old)
         (λ answer old new. AnswersRecover answer old new tag.old tag.new) }
 {
-    over!(port, heap, |held| ahci_ffi::recover(&mut held, tag))
+    superseding!(port, heap, |held| ahci_ffi::recover(&mut held, tag))
 }
 
 /// Software issues a held command again.
 #[unsafe(no_mangle)]
 pub extern "C" fn ahci_port_reissue(port: &mut Place, heap: Global, tag: u32) -> u32
-    ensures { Changes result (view_of port.old) (view_of port.new) ⊤
+    ensures { Supersedes result (view_of port.old) (view_of port.new) ⊤
         (λ answer old new. AnswersReissue tag answer old new) }
 {
-    over!(port, heap, |held| ahci_ffi::reissue(&mut held, tag))
+    superseding!(port, heap, |held| ahci_ffi::reissue(&mut held, tag))
 }
 
 /// Takes the answer of a request, and frees its slot.

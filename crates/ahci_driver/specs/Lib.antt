@@ -1,4 +1,5 @@
 pub mod Choosing
+pub mod Crowding
 pub mod Finishing
 pub mod Pumping
 pub mod Received

@@ -1,5 +1,6 @@
 use ahci_port::IssueFault;
 use ahci_table::BuildFault;
+use std::alloc::AllocError;
 
 /// Why a command was not submitted. The cases are tested in this order.
 #[derive(Clone, Copy, Debug, PartialEq, Eq)]
@@ -33,4 +34,15 @@ pub enum SettleFault {
     Extra(u64),
     /// A growth was refused.
     OutOfMemory,
+}
+
+impl From<AllocError> for SettleFault {
+    ghost use Rattle.std.specs.Prelude.{◌≡◌};
+    ghost use Rattle.ahci_driver.specs.declared.fault.SettleFault.TheVariants as the-fault;
+
+    ghost from_gives = { λ _ fault. fault ≡ the-fault.OutOfMemory };
+
+    fn from(_refused: AllocError) -> SettleFault {
+        SettleFault::OutOfMemory
+    }
 }

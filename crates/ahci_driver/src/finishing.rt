@@ -5,6 +5,7 @@ ghost use Rattle.ahci_driver.specs.{Finishing.{HasFinished, HasGotOn}, Tickets.{
 
 use crate::chooser::Chooser;
 use crate::collecting::{Answered, take_locked};
+use crate::fault::PumpFault;
 use crate::pumping::pump_locked;
 use crate::ticket::Ticket;
 use crate::unfinished::Unfinished;
@@ -39,9 +40,9 @@ pub(crate) fn finish_locked<A: Allocator, C: Chooser>(
             Err((waiting, CollectFault::Stranger)) => return Err((waiting, Unfinished::Stranger)),
             Err((waiting, CollectFault::NotYet)) => ticket = waiting,
         }
-        let Ok(_) = pump_locked(port, chooser) else {
+        if let Err(PumpFault::OutOfMemory) = pump_locked(port, chooser) {
             return Err((ticket, Unfinished::OutOfMemory));
-        };
+        }
     }
     Err((ticket, Unfinished::NotYet))
 }

@@ -4,6 +4,7 @@
 
 mod chooser;
 mod collecting;
+mod crowd;
 mod driver;
 mod fault;
 mod finishing;

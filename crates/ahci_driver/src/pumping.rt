@@ -3,13 +3,13 @@
 ghost use Rattle.std.specs.Prelude.{◌≡◌, false, true, IfOk, OnErr};
 ghost use Rattle.ncq_journal.specs.Halted.{halted, busy};
 ghost use Rattle.word_bits.specs.Places.{bits, IsLowest};
-ghost use Rattle.ahci_port.specs.{Looking.{issued_tags, accepted_tags, held_tags}, Faults.{step_refusal}};
+ghost use Rattle.ahci_port.specs.{Looking.{issued_tags, accepted_tags, held_tags}, Faults.{step_refusal}, Steps.{LacksRoom}};
 ghost use Rattle.ahci_driver.specs.Pumping.{HasAsked, HasStepped, IsPumped, IsRunning, LeadsTo};
 
 use crate::chooser::{Chooser, lowest_step};
 use crate::fault::PumpFault;
 use crate::pumped::Pumped;
-use ahci_port::{DeviceStep, Port, Stepped, TagSets};
+use ahci_port::{DeviceStep, Port, RecoverFault, Stepped, TagSets};
 use std::alloc::Allocator;
 use word_bits::lowest;
 
@@ -18,7 +18,7 @@ use word_bits::lowest;
 /// where the port refuses that, the step of `Low`. The chooser is asked once in the last case, and never in the others.
 ///
 /// # Errors
-/// `OutOfMemory` where the port is halted and a growth was refused; nothing has changed.
+/// `OutOfMemory` if the port is halted and room for its entries could not be allocated; nothing has changed.
 #[tactic(auto, using(crate::proofs::PumpingLemmas::idle_words, crate::proofs::PumpingLemmas::busy_words))]
 pub fn pump_locked<A: Allocator, C: Chooser>(
     port: &mut Port<A>,
@@ -27,6 +27,7 @@ pub fn pump_locked<A: Allocator, C: Chooser>(
     ensures ok { IfOk result (λ p. IsPumped port.old port.new p) }
     ensures asked { IfOk result (λ p. HasAsked C.gives chooser.old chooser.new port.old port.new p) }
     ensures fault { OnErr result (halted port.old.past ≡ true) }
+    ensures lacking { OnErr result (LacksRoom port.old) }
     ensures err { OnErr result (port.new ≡ port.old) }
     ensures unasked { OnErr result (chooser.new ≡ chooser.old) }
 {
@@ -47,11 +48,13 @@ pub fn pump_locked<A: Allocator, C: Chooser>(
 fn recover<A: Allocator>(port: &mut Port<A>) -> Result<Pumped, PumpFault>
     requires { halted port.old.past ≡ true }
     ensures ok { IfOk result (λ p. IsPumped port.old port.new p) }
+    ensures lacking { OnErr result (LacksRoom port.old) }
     ensures err { OnErr result (port.new ≡ port.old) }
 {
     match port.recover() {
         Ok(tag) => Ok(Pumped::Recovered(tag)),
-        Err(_) => Err(PumpFault::OutOfMemory),
+        Err(RecoverFault::OutOfMemory) => Err(PumpFault::OutOfMemory),
+        Err(RecoverFault::NotHalted) => unreachable!(),
     }
 }
 

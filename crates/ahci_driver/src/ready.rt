@@ -48,7 +48,7 @@ impl<A: Allocator + Clone> Ready<A> {
                 asked,
                 buffer,
             }),
-            Err(_) => Err(BuildFault::OutOfMemory),
+            Err(refused) => Err(refused.into()),
         }
     }
 

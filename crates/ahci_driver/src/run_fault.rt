@@ -1,4 +1,6 @@
 use crate::fault::SettleFault;
+use std::alloc::AllocError;
+use tag_board::BoardFault;
 
 /// Why a run gave up its port. `NotFresh` and `BadJob` are found first, in this order, before a thread starts; `Lost`, `Foreign`
 /// and `Unsettled` after all workers have ended, in this order. `OutOfMemory` is found wherever a growth was refused, and before
@@ -17,4 +19,28 @@ pub enum RunFault {
     Foreign,
     /// The run isn't settled.
     Unsettled(SettleFault),
+}
+
+impl From<AllocError> for RunFault {
+    ghost use Rattle.std.specs.Prelude.{◌≡◌};
+    ghost use Rattle.ahci_driver.specs.declared.run_fault.RunFault.TheVariants as the-fault;
+
+    ghost from_gives = { λ _ fault. fault ≡ the-fault.OutOfMemory };
+
+    fn from(_refused: AllocError) -> RunFault {
+        RunFault::OutOfMemory
+    }
+}
+
+impl From<BoardFault> for RunFault {
+    ghost use Rattle.std.specs.Prelude.{◌≡◌};
+    ghost use Rattle.ahci_driver.specs.declared.run_fault.RunFault.TheVariants as the-fault;
+
+    ghost from_gives = { λ _ fault. fault ≡ the-fault.OutOfMemory };
+
+    fn from(fault: BoardFault) -> RunFault {
+        match fault {
+            BoardFault::OutOfMemory => RunFault::OutOfMemory,
+        }
+    }
 }

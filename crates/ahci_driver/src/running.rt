@@ -11,6 +11,7 @@ ghost use Rattle.ahci_driver.specs.{
 };
 
 use crate::chooser::Chooser;
+use crate::crowd::Crowd;
 use crate::driver::Driver;
 use crate::fault::SettleFault;
 use crate::gate::Gate;
@@ -68,6 +69,7 @@ fn crew<'a, A: Allocator + Clone, C: Chooser + Drop, G: Gate>(
     jobs: &'a [Op<A>],
     gate: &'a G,
     flag: &'a AtomicBool,
+    crowd: &'a Crowd,
     alloc: &A,
     choosers: Vec<C, A>,
 ) -> Result<Vec<Worker<'a, A, C, G>, A>, AllocError>
@@ -84,6 +86,7 @@ fn crew<'a, A: Allocator + Clone, C: Chooser + Drop, G: Gate>(
             jobs,
             gate,
             flag,
+            crowd,
             alloc: alloc.clone()?,
             seat: own,
             chooser,
@@ -179,23 +182,23 @@ fn worked<R, G, C, A>(
     jobs: &[Op<A>],
     choosers: Vec<C, A>,
     gate: &G,
-) -> Result<(Port<A>, Ends<A>), AllocError>
+) -> Result<(Port<A>, Ends<A>), RunFault>
 where
     R: Threads + Wait + Sync,
     G: Gate,
     C: Chooser + Send + Drop,
     A: Allocator + Clone + Send + Sync,
     requires { 1 ≤ vec_len choosers }
-    ensures { IfOk result (λ done. AreAmong (length (map work_of jobs.now)) done.1.items) }
+    ensures among { IfOk result (λ done. AreAmong (length (map work_of jobs.now)) done.1.items) }
+    ensures fault { IfErr result (λ fault. fault ≡ RunFault.OutOfMemory) }
 {
     port.shape();
     let depth = port.depth();
-    let Ok((board, seat)) = TagBoard::new(alloc.clone()?, depth) else {
-        return Err(AllocError);
-    };
+    let (board, seat) = TagBoard::new(alloc.clone()?, depth)?;
     let driver = Driver::new(port, board);
     let flag = AtomicBool::new(false);
-    let crew = crew(&driver, seat, jobs, gate, &flag, alloc, choosers)?;
+    let crowd = Crowd::new(choosers.len(), depth as usize);
+    let crew = crew(&driver, seat, jobs, gate, &flag, &crowd, alloc, choosers)?;
     let ends = thread::map_vec(rt, crew, &|worker: Worker<A, C, G>| worker.work(rt))?;
     let (port, _board) = driver.into_parts();
     Ok((port, ends))
@@ -273,12 +276,7 @@ fn ended<A: Allocator + Clone>(
     if let Some(fault) = why_stopped(&ends) {
         return Err(fault);
     }
-    let Ok(own) = alloc.clone() else {
-        return Err(RunFault::OutOfMemory);
-    };
-    let Ok(replies) = in_order(own, ends, jobs.len(), workers as usize) else {
-        return Err(RunFault::OutOfMemory);
-    };
+    let replies = in_order(alloc.clone()?, ends, jobs.len(), workers as usize)?;
     checked(alloc, port, handed, jobs, replies, workers)
 }
 
@@ -347,11 +345,7 @@ where
     if let Some(fault) = early_fault(&port, jobs) {
         return Err(fault);
     }
-    let Ok(handed) = kept(&alloc, &port) else {
-        return Err(RunFault::OutOfMemory);
-    };
-    let Ok((port, ends)) = worked(rt, &alloc, port, jobs, choosers, gate) else {
-        return Err(RunFault::OutOfMemory);
-    };
+    let handed = kept(&alloc, &port)?;
+    let (port, ends) = worked(rt, &alloc, port, jobs, choosers, gate)?;
     ended(alloc, port, &handed, ends, jobs, workers)
 }

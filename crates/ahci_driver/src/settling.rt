@@ -269,15 +269,8 @@ pub fn settle<A: Allocator, B: Allocator, C: Allocator + Clone>(
     if receipts.len() != jobs.len() {
         return Err(SettleFault::Count);
     }
-    let Ok(own) = alloc.clone() else {
-        return Err(SettleFault::OutOfMemory);
-    };
-    let Ok(claims) = claimed(own, port, jobs, receipts, workers) else {
-        return Err(SettleFault::OutOfMemory);
-    };
-    let Ok(holding) = holding(alloc, port, &claims.places) else {
-        return Err(SettleFault::OutOfMemory);
-    };
+    let claims = claimed(alloc.clone()?, port, jobs, receipts, workers)?;
+    let holding = holding(alloc, port, &claims.places)?;
     if let Some(index) = first_wrong(port, jobs, receipts, workers, &claims, &holding) {
         return Err(SettleFault::Wrong(index));
     }

@@ -6,8 +6,9 @@ ghost use Rattle.ahci_driver.specs.Pumping.{HasGotOn};
 ghost use Rattle.ahci_driver.specs.Stopping.{IsStopAmong, IsStopAt, stop_at, stop_waiting};
 
 use crate::chooser::Chooser;
+use crate::crowd::Crowd;
 use crate::driver::Driver;
-use crate::fault::SubmitFault;
+use crate::fault::{PumpFault, SubmitFault};
 use crate::gate::Gate;
 use crate::pumped::Pumped;
 use crate::receipt::Receipt;
@@ -16,7 +17,7 @@ use crate::unfinished::Unfinished;
 use ahci_port::{IssueFault, Reply};
 use ahci_table::BuildFault;
 use ncq_journal::{Bytes, Op};
-use std::alloc::Allocator;
+use std::alloc::{AllocError, Allocator};
 use std::sync::Wait;
 use std::sync::atomic::AtomicBool;
 use std::sync::atomic::Ordering::SeqCst;
@@ -34,6 +35,17 @@ pub(crate) enum Stop {
     FlagRaised,
 }
 
+impl From<AllocError> for Stop {
+    ghost use Rattle.std.specs.Prelude.{◌≡◌};
+    ghost use Rattle.ahci_driver.specs.declared.worker.Stop.TheVariants as the-fault;
+
+    ghost from_gives = { λ _ fault. fault ≡ the-fault.OutOfMemory };
+
+    fn from(_refused: AllocError) -> Stop {
+        Stop::OutOfMemory
+    }
+}
+
 /// One worker of a run: job i is that of worker i mod `workers`.
 #[derive(Drop)]
 pub(crate) struct Worker<'a, A: Allocator, C, G> {
@@ -42,6 +54,7 @@ pub(crate) struct Worker<'a, A: Allocator, C, G> {
     pub(crate) gate: &'a G,
     /// Raised by the first worker that has to stop.
     pub(crate) flag: &'a AtomicBool,
+    pub(crate) crowd: &'a Crowd,
     pub(crate) alloc: A,
     pub(crate) seat: TagSeat,
     pub(crate) chooser: C,
@@ -83,6 +96,7 @@ impl<'a, A: Allocator + Clone, C: Chooser, G: Gate> Worker<'a, A, C, G> {
         ensures { IfErr result (IsStopAmong (length self.entry.jobs.now)) }
     {
         let done = self.all(rt);
+        self.crowd.retire();
         if done.is_err() {
             self.flag.store(true, SeqCst);
         }
@@ -93,19 +107,12 @@ impl<'a, A: Allocator + Clone, C: Chooser, G: Gate> Worker<'a, A, C, G> {
     fn all<R: Wait>(&mut self, rt: &R) -> Result<Vec<Receipt<A>, A>, Stop>
         ensures { IfErr result (IsStopAmong (length self.old.jobs.now)) }
     {
-        let Ok(alloc) = self.alloc.clone() else {
-            return Err(Stop::OutOfMemory);
-        };
         let (jobs, workers) = (self.jobs, self.workers);
-        let Ok(mut receipts) = Vec::with_capacity(alloc, jobs.len().div_ceil(workers)) else {
-            return Err(Stop::OutOfMemory);
-        };
+        let mut receipts = Vec::with_capacity(self.alloc.clone()?, jobs.len().div_ceil(workers))?;
         let mut job = self.first;
         while let Some(op) = jobs.get(job) {
             let receipt = self.one(rt, job, op)?;
-            let Ok(()) = receipts.push(receipt) else {
-                return Err(Stop::OutOfMemory);
-            };
+            receipts.push(receipt)?;
             job = job.saturating_add(workers);
         }
         Ok(receipts)
@@ -117,7 +124,9 @@ impl<'a, A: Allocator + Clone, C: Chooser, G: Gate> Worker<'a, A, C, G> {
     {
         self.gate.before(job);
         let ticket = self.submitted(rt, job, op)?;
+        self.crowd.enter();
         let (reply, bytes) = self.answered(rt, job, ticket)?;
+        self.crowd.leave();
         self.gate.after(job);
         let bytes = Bytes::from_vec(bytes);
         Ok(Receipt { reply, bytes })
@@ -132,9 +141,7 @@ impl<'a, A: Allocator + Clone, C: Chooser, G: Gate> Worker<'a, A, C, G> {
             if self.flag.load(SeqCst) {
                 return Err(Stop::FlagRaised);
             }
-            let Ok(alloc) = self.alloc.clone() else {
-                return Err(Stop::OutOfMemory);
-            };
+            let alloc = self.alloc.clone()?;
             match self.driver.submit(rt, alloc, &mut self.seat, op) {
                 Ok(ticket) => return Ok(ticket),
                 Err(fault) => {
@@ -185,12 +192,13 @@ impl<'a, A: Allocator + Clone, C: Chooser, G: Gate> Worker<'a, A, C, G> {
         ensures asked { OnOk result (HasGotOn C.gives self.old.chooser self.new.chooser) }
         ensures stop { IfErr result (λ stop. stop ≡ Stop.OutOfMemory) }
     {
-        let Ok(pumped) = self.driver.pump(rt, &mut self.chooser) else {
-            return Err(Stop::OutOfMemory);
-        };
-        if let Pumped::Idle = pumped {
-            thread::yield_now();
+        match self.driver.pump(rt, &mut self.chooser) {
+            Ok(Pumped::Idle) => {
+                thread::yield_now();
+                Ok(())
+            }
+            Ok(_) => Ok(()),
+            Err(PumpFault::OutOfMemory) => Err(Stop::OutOfMemory),
         }
-        Ok(())
     }
 }

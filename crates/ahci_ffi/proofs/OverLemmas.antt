@@ -1,5 +1,5 @@
 -- How a call over a place follows from the call on its port.
-use Rattle.std.proofs.Common.{◌≡◌, ◌∙◌, ℕ, Option, None, Some, Result, Ok, Err, true, is_some, ap, refl, sym, subst, inl, inr}
+use Rattle.std.proofs.Common.{◌≡◌, ◌∙◌, ◌×◌, ℕ, Option, None, Some, Result, Ok, Err, true, is_some, ap, refl, sym, subst, inl, inr}
 use Rattle.std.specs.Prelude.{Box}
 use Rattle.std.proofs.lemmas.Bool.{false≢true}
 use Rattle.ahci_port.specs.Headline.{Headline}
@@ -7,7 +7,7 @@ use Rattle.ahci_port.specs.PortView.{PortView}
 use Rattle.ahci_port.specs.Writes.{nothing_pending}
 use Rattle.ahci_port.specs.declared.pending.Pending.{Pending}
 use Rattle.ahci_ffi.specs.Making.{Makes}
-use Rattle.ahci_ffi.specs.Over.{Changes, ChangesPort, Fills, FillsPlace, IsFilled, Reads, ReadsPort, Writes}
+use Rattle.ahci_ffi.specs.Over.{Changes, ChangesPort, Fills, FillsPlace, IsFilled, Reads, ReadsPort, Supersedes, Writes, left_pending}
 use Rattle.ahci_ffi.specs.PlaceView.{PlaceView}
 use Rattle.ahci_ffi.specs.Status.{code_of}
 use Rattle.ahci_ffi.specs.declared.status.Status.{Status}
@@ -53,6 +53,20 @@ pub some_writes : (old new : PlaceView) (before after : PortView) (pending : Pen
 some_writes old new before after pending answer number same holds was back h code so =
     changed number old.port new.port before after answer ((new.pending ≡ old.pending) × same) (λ said was is. holds said was is old.pending new.pending) was
     (ap (λ p. p.port) back) h code (subst (λ p. holds answer before after old.pending p) (sym (ap (λ p. p.pending) back)) so)
+
+-- the same of a call that takes the place of register writes
+pub none_supersedes : (old new : PlaceView) (same : Type 0) (holds : Status → PortView → PortView → Type 0) → old.port ≡ None
+    → new ≡ record old { port = None } → same → Supersedes (code_of status.NoPort) old new same holds
+none_supersedes old new same holds is left s =
+    none_writes old new same (λ answer before after pending done. holds answer before after × (done ≡ left_pending answer pending)) is left s
+
+pub some_supersedes : (old taken new : PlaceView) (before after : PortView) (answer : Status) (number : ℕ) (same : Type 0)
+    (holds : Status → PortView → PortView → Type 0) → old.port ≡ Some before → taken ≡ record old { port = None }
+    → new ≡ record { port = Some after; pending = left_pending answer taken.pending } → Headline after → number ≡ code_of answer
+    → holds answer before after → Supersedes number old new same holds
+some_supersedes old taken new before after answer number same holds was left back h code so =
+    some_writes old new before after (left_pending answer taken.pending) answer number same
+    (λ said was is pending done. holds said was is × (done ≡ left_pending said pending)) was back h code (so, ap (λ p. left_pending answer p.pending) left)
 
 pub some_reads : (old taken new : PlaceView) (port : PortView) (answer : Status) (number : ℕ) (same : Type 0) (holds : Status → PortView → Type 0)
     → old.port ≡ Some port → taken ≡ record old { port = None } → new ≡ record taken { port = Some port } → Headline port → number ≡ code_of answer

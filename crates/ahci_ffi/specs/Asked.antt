@@ -1,9 +1,9 @@
 -- How a command that C asks for is answered: its arguments first, then what the port says.
 use Rattle.std.specs.Prelude.{◌≡◌, ℕ, ◌*◌, ◌&&◌, not, nat_eq, nat_lt, List, length, Option, None, Some, if◌then◌else◌}
 use Rattle.std.specs.Option.{option_or}
-use Rattle.ahci_port.specs.Faults.{submit_refusal}
+use Rattle.ahci_port.specs.Faults.{early_refusal, submit_refusal}
 use Rattle.ahci_port.specs.PortView.{PortView}
-use Rattle.ahci_port.specs.Refusals.{of_submit}
+use Rattle.ahci_port.specs.Refusals.{of_issue, of_submit}
 use Rattle.ahci_table.specs.Window.{WindowState}
 use Rattle.ncq_journal.specs.Work.{Work, Read, Write}
 use Rattle.ahci_ffi.specs.Done.{AnswersWindow, Same}
@@ -23,9 +23,13 @@ pub data AnswersCopy (window : WindowState) (answer : Status) (old new : PortVie
   is_answered : AnswersWindow window answer old new before after → AnswersCopy window answer old new before after
   lacks_memory : answer ≡ (status.Refused refusal.OutOfMemory) → new ≡ old → after ≡ before → AnswersCopy window answer old new before after
 
+-- why the memory of a window is not copied: its arguments, and then what the port says of its tag
+abbrev pub issue_refused : PortView → (tag header : ℕ) → Option Status
+issue_refused port tag header = option_or (with_tag tag (with_length 32 header None)) (refused of_issue (early_refusal port tag))
+
 abbrev pub AnswersIssue : ℕ → (header memory : List ℕ) → Status → PortView → PortView → (before after : ℕ) → Type 0
 AnswersIssue tag header memory answer old new before after =
-    AnswersUnless (with_tag tag (with_length 32 (length header) None)) answer
+    AnswersUnless (issue_refused old tag (length header)) answer
     (AnswersCopy (record { tag = tag; header = header; bytes = memory }) answer old new before after) (Same old new before after)
 
 -- why no command is made of these arguments: the kind, and the length of a write's data

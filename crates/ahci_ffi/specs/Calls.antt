@@ -8,7 +8,7 @@ use Rattle.ncq_core.specs.Identify.{identify_page}
 use Rattle.ahci_ffi.specs.Asked.{submit_refused, work_asked}
 use Rattle.ahci_ffi.specs.Done.{HasCollected, HasRecovered, HasStepped, Same}
 use Rattle.ahci_ffi.specs.Refusals.{accept_refusal, collect_refused, fail_refusal, flush_refusal, identify_refusal, recover_refused, reissue_refused, serve_refusal, trim_refused}
-use Rattle.ahci_ffi.specs.Told.{Told, ToldOr}
+use Rattle.ahci_ffi.specs.Told.{Told, ToldOr, ToldOrLacking}
 use Rattle.ahci_ffi.specs.declared.flat.FlatReply.{FlatReply}
 use Rattle.ahci_ffi.specs.declared.flat.FlatStep.{FlatStep}
 use Rattle.ahci_ffi.specs.declared.status.Status.{Status}
@@ -36,17 +36,17 @@ AnswersCollect tag number answer old new reply told buffer filled =
     ((new ≡ old) × (told ≡ reply) × (filled ≡ buffer))
 
 abbrev pub AnswersRecover : Status → PortView → PortView → (before after : ℕ) → Type 0
-AnswersRecover answer old new before after = ToldOr answer (recover_refused old) (HasRecovered old new after) (Same old new before after)
+AnswersRecover answer old new before after = ToldOrLacking old answer (recover_refused old) (HasRecovered old new after) (Same old new before after)
 
 abbrev pub AnswersReissue : (tag : ℕ) → Status → PortView → PortView → Type 0
 AnswersReissue tag answer old new = Told answer (reissue_refused old tag) (IsReissued tag old new) (new ≡ old)
 
 abbrev pub AnswersIdentify : Status → PortView → PortView → (before after : List ℕ) → Type 0
 AnswersIdentify answer old new before after =
-    ToldOr answer (identify_refusal old (length before)) (IsIdentified old new × (after ≡ identify_page (sectors_in old) old.depth)) (Same old new before after)
+    ToldOrLacking old answer (identify_refusal old (length before)) (IsIdentified old new × (after ≡ identify_page (sectors_in old) old.depth)) (Same old new before after)
 
 abbrev pub AnswersFlush : Status → PortView → PortView → Type 0
-AnswersFlush answer old new = ToldOr answer (flush_refusal old) (IsFlushed old new) (new ≡ old)
+AnswersFlush answer old new = ToldOrLacking old answer (flush_refusal old) (IsFlushed old new) (new ≡ old)
 
 abbrev pub AnswersTrim : Status → PortView → PortView → (before after : ℕ) → Type 0
 AnswersTrim answer old new before after =

@@ -39,6 +39,16 @@ abbrev pub Writes : ℕ → (old new : PlaceView) → (same : Type 0) → (Statu
 Writes number old new same holds =
     ChangesPort number old.port new.port ((new.pending ≡ old.pending) × same) (λ answer before after. holds answer before after old.pending new.pending)
 
+-- what stays half written after a call that takes the place of register writes: nothing, once it is done
+abbrev pub left_pending : Status → Pending → Pending
+left_pending status.Done pending = nothing_pending
+left_pending other pending = pending
+
+-- the same of a call that takes the place of register writes
+abbrev pub Supersedes : ℕ → (old new : PlaceView) → (same : Type 0) → (Status → PortView → PortView → Type 0) → Type 0
+Supersedes number old new same holds =
+    Writes number old new same (λ answer before after pending left. holds answer before after × (left ≡ left_pending answer pending))
+
 -- a port is made in an empty place, with nothing half written: none for exactly this reason, and else this one or want of memory
 abbrev pub FillsEmpty : ℕ → (old new : PlaceView) → Option Status → PortView → Type 0
 FillsEmpty number old new (Some reason) made = (number ≡ code_of reason) × (new ≡ old)

@@ -5,7 +5,7 @@ ghost use Rattle.ncq_journal.specs.Work.{work_of};
 ghost use Rattle.ahci_ffi.specs.{Asked.{AnswersIssue, kind_refusal, work_asked}, Calls.{AnswersSubmit}, Done.{AnswersWindow}};
 
 use crate::status::Status;
-use crate::windows::window_of;
+use crate::windows::{tag_and_header, window_over};
 use ahci_port::Port;
 use ahci_table::Window;
 use ncq_core::SECTOR;
@@ -13,7 +13,8 @@ use ncq_journal::{Bytes, Op};
 use port_refusal::Refusal;
 use std::alloc::{AllocError, Allocator};
 
-/// Issues the command of a window: its header, and the memory from the tag's base on. `number` is the request's then.
+/// Issues the command of a window: its header, and the memory from the tag's base on. `number` is the request's then. The port's
+/// own reasons are tested before the memory is copied.
 pub fn issue<A: Allocator + Copy>(
     port: &mut Port<A>,
     alloc: A,
@@ -24,9 +25,16 @@ pub fn issue<A: Allocator + Copy>(
 ) -> Status
     ensures { AnswersIssue tag header.now memory.now result port.old port.new number.old number.new }
 {
-    match window_of(alloc, tag, header, memory) {
+    let (tag, header) = match tag_and_header(tag, header) {
+        Ok(sized) => sized,
+        Err(refusal) => return refusal,
+    };
+    if let Some(fault) = port.early_fault(tag) {
+        return Status::Refused(fault.into());
+    }
+    match window_over(alloc, tag, header, memory) {
         Ok(window) => hand_in(port, window, number),
-        Err(refusal) => refusal,
+        Err(refused) => refused.into(),
     }
 }
 
@@ -54,15 +62,16 @@ pub fn submit<A: Allocator + Copy>(
     if let Some(fault) = port.submit_fault(tag, lba, u64::from(sectors)) {
         return Status::Refused(fault.into());
     }
-    let Ok(op) = asked(alloc, kind, lba, sectors, payload) else {
-        return Status::Refused(Refusal::OutOfMemory);
+    let op = match asked(alloc, kind, lba, sectors, payload) {
+        Ok(op) => op,
+        Err(refused) => return refused.into(),
     };
     match port.submit_tested(tag, op) {
         Ok(issued) => {
             *number = issued;
             Status::Done
         }
-        Err(_op) => Status::Refused(Refusal::OutOfMemory),
+        Err((_op, refused)) => refused.into(),
     }
 }
 

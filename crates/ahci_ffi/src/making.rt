@@ -5,7 +5,7 @@ ghost use Rattle.ahci_port.specs.PortView.{port_from};
 ghost use Rattle.ahci_ffi.specs.Making.{Makes, size_refusal};
 
 use crate::status::Status;
-use ahci_port::{MOST_FIRST, Port};
+use ahci_port::{MOST_FIRST, Port, ResumeFault};
 use ncq_core::{MAX_DEPTH, MAX_SECTORS, SECTOR};
 use port_refusal::Refusal;
 use std::alloc::Allocator;
@@ -23,9 +23,7 @@ pub fn make<A: Allocator + Copy>(
     if let Some(refusal) = size_refusal(image.len(), depth, first) {
         return Err(refusal);
     }
-    let Ok(bytes) = Vec::from_slice(alloc, image) else {
-        return Err(Status::Refused(Refusal::OutOfMemory));
-    };
+    let bytes = Vec::from_slice(alloc, image)?;
     boxed(alloc, bytes, depth, first)
 }
 
@@ -41,9 +39,7 @@ pub fn make_zeros<A: Allocator + Copy>(
     if let Some(refusal) = size_refusal(size, depth, 0) {
         return Err(refusal);
     }
-    let Ok(bytes) = vec![in alloc; 0u8; size] else {
-        return Err(Status::Refused(Refusal::OutOfMemory));
-    };
+    let bytes = vec![in alloc; 0u8; size]?;
     boxed(alloc, bytes, depth, 0)
 }
 
@@ -73,11 +69,9 @@ fn boxed<A: Allocator + Copy>(
     requires { size_refusal (length image.items) depth first ≡ None }
     ensures { Makes None result (λ box. box.value ≡ port_from first image.items depth) }
 {
-    let Ok(port) = Port::resume(alloc, image, depth, first) else {
-        return Err(Status::Refused(Refusal::OutOfMemory));
-    };
-    match Box::new(alloc, port) {
-        Ok(port) => Ok(port),
-        Err(_) => Err(Status::Refused(Refusal::OutOfMemory)),
+    match Port::resume(alloc, image, depth, first) {
+        Ok(port) => Ok(Box::new(alloc, port)?),
+        Err(ResumeFault::OutOfMemory) => Err(Status::Refused(Refusal::OutOfMemory)),
+        Err(_) => unreachable!(), // the sizes are a port's
     }
 }

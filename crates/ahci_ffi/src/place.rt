@@ -25,7 +25,7 @@ impl Place {
     ghost use Rattle.std.specs.Prelude.{◌≡◌, None, Some, is_some, Option};
     ghost use Rattle.std.specs.Option.{option_map};
     ghost use Rattle.ahci_port.specs.Headline.{Headline};
-    ghost use Rattle.ahci_ffi.specs.Over.{Empties, IsFilled};
+    ghost use Rattle.ahci_ffi.specs.Over.{Empties, IsFilled, left_pending};
     ghost use Rattle.ahci_ffi.specs.PlaceView.{view_of};
     ghost use Rattle.ahci_ffi.specs.Status.{code_of};
 
@@ -83,6 +83,19 @@ impl Place {
         ensures number { result ≡ code_of answer }
     {
         let pending = self.pending();
+        self.back_with(port, pending, answer)
+    }
+
+    /// The same after a call that takes the place of register writes: once it is done, nothing is half written.
+    pub fn back_anew(&mut self, port: Box<Port>, answer: Status) -> u32
+        ensures place { view_of self.new ≡ record { port = Some port.value; pending = left_pending answer (view_of self.old).pending } }
+        ensures headline { Headline port.value }
+        ensures number { result ≡ code_of answer }
+    {
+        let pending = match answer {
+            Status::Done => Pending::nothing(),
+            _ => self.pending(),
+        };
         self.back_with(port, pending, answer)
     }
 

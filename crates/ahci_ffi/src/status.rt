@@ -4,6 +4,7 @@ ghost use Rattle.std.specs.Prelude.{◌≡◌};
 ghost use Rattle.ahci_ffi.specs.Status.{code_of, name_of, refused_code};
 
 use port_refusal::Refusal;
+use std::alloc::AllocError;
 
 /// What a call answers: that it is done, or the one reason for which it was refused.
 #[derive(Clone, Copy, Debug, PartialEq, Eq)]
@@ -44,6 +45,18 @@ pub enum Status {
     NotReady,
     /// The port, its disk or its registers refuse it.
     Refused(Refusal),
+}
+
+impl From<AllocError> for Status {
+    ghost use Rattle.std.specs.Prelude.{◌≡◌};
+    ghost use Rattle.port_refusal.specs.declared.refusal.Refusal.TheVariants as the-refusal;
+    ghost use Rattle.ahci_ffi.specs.declared.status.Status.TheVariants as the-status;
+
+    ghost from_gives = { λ _ status. status ≡ the-status.Refused the-refusal.OutOfMemory };
+
+    fn from(_refused: AllocError) -> Status {
+        Status::Refused(Refusal::OutOfMemory)
+    }
 }
 
 impl Status {

@@ -1,14 +1,13 @@
 //! A window as it lies in memory, looked at with no port.
 
-ghost use Rattle.std.specs.Prelude.{◌≡◌, length, None};
+ghost use Rattle.std.specs.Prelude.{◌≡◌, length, None, Some, IfOk, IfErr};
 ghost use Rattle.ahci_table.specs.Prdt.{pieces};
-ghost use Rattle.ahci_ffi.specs.{Alone.{AnswersCheck, AnswersWindowCheck, flat_command}, Making.{Makes}, Refusals.{with_length, with_tag}};
+ghost use Rattle.ahci_ffi.specs.{Alone.{AnswersCheck, AnswersWindowCheck, flat_command}, Refusals.{with_length, with_tag}};
 
 use crate::flat::FlatCommand;
 use crate::status::Status;
 use ahci_table::{Command, Window};
-use port_refusal::Refusal;
-use std::alloc::Allocator;
+use std::alloc::{AllocError, Allocator};
 
 /// Whether a port would take a window, and what it asks for then.
 pub fn window_check<A: Allocator>(
@@ -20,31 +19,41 @@ pub fn window_check<A: Allocator>(
 ) -> Status
     ensures { AnswersCheck tag header.now memory.now result command.old command.new }
 {
-    match window_of(alloc, tag, header, memory) {
+    let (tag, header) = match tag_and_header(tag, header) {
+        Ok(sized) => sized,
+        Err(refusal) => return refusal,
+    };
+    match window_over(alloc, tag, header, memory) {
         Ok(window) => look(&window, command),
-        Err(refusal) => refusal,
+        Err(refused) => refused.into(),
     }
 }
 
-/// The window of a header, and of a copy of the memory from the tag's base on.
-pub(crate) fn window_of<A: Allocator>(
-    alloc: A,
-    tag: u32,
-    header: &[u8],
-    memory: &[u8],
-) -> Result<Window<A>, Status>
-    ensures { Makes (with_tag tag (with_length 32 (length header.now) None)) result (λ w. w ≡ record { tag = tag; header = header.now; bytes = memory.now }) }
+/// The tag and the header that C names, each of its size.
+pub(crate) fn tag_and_header(tag: u32, header: &[u8]) -> Result<(u8, [u8; 32]), Status>
+    ensures ok { IfOk result (λ sized. (with_tag tag (with_length 32 (length header.now) None) ≡ None) × (sized.0 ≡ tag) × (sized.1 ≡ header.now)) }
+    ensures refused { IfErr result (λ reason. with_tag tag (with_length 32 (length header.now) None) ≡ Some reason) }
 {
     if tag >= 32 {
         return Err(Status::BadTag);
     }
-    let Ok(header) = <[u8; 32]>::try_from(header) else {
-        return Err(Status::WrongLength);
-    };
-    match Vec::from_slice(alloc, memory) {
-        Ok(bytes) => Ok(Window::from_parts(tag as u8, header, bytes)),
-        Err(_) => Err(Status::Refused(Refusal::OutOfMemory)),
+    match <[u8; 32]>::try_from(header) {
+        Ok(header) => Ok((tag as u8, header)),
+        Err(_) => Err(Status::WrongLength),
     }
+}
+
+/// The window of a header, and of a copy of the memory from the tag's base on.
+pub(crate) fn window_over<A: Allocator>(
+    alloc: A,
+    tag: u8,
+    header: [u8; 32],
+    memory: &[u8],
+) -> Result<Window<A>, AllocError>
+    ensures { IfOk result (λ w. w ≡ record { tag = tag; header = header; bytes = memory.now }) }
+{
+    let bytes = Vec::from_slice(alloc, memory)?;
+    Ok(Window::from_parts(tag, header, bytes))
 }
 
 /// The same of a window that is copied.

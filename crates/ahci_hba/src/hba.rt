@@ -92,9 +92,7 @@ impl<A: Allocator + Copy> Hba<A> {
         ensures fault { AnswersOr result (new_fault image.items depth) DiskFault.OutOfMemory }
     {
         let port = port_for(alloc, image, depth)?;
-        let Ok(slots) = empty_slots(alloc) else {
-            return Err(DiskFault::OutOfMemory);
-        };
+        let slots = empty_slots(alloc)?;
         Ok(Hba {
             alloc,
             registers: HbaRegs::new(),

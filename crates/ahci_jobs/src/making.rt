@@ -50,9 +50,7 @@ fn add_job<A: Allocator + Clone>(
         return Err(JobsFault::Job(jobs.len() as u64));
     }
     let op = command(alloc.clone()?, job)?;
-    let Ok(()) = jobs.push(op) else {
-        return Err(JobsFault::OutOfMemory);
-    };
+    jobs.push(op)?;
     Ok(())
 }
 

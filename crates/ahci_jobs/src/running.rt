@@ -15,9 +15,9 @@ use crate::run_size::RunSize;
 use crate::telling::text_of;
 use ahci_driver::{Chooser, Open, RunEnd, RunFault, run};
 use ahci_port::Port;
-use ncq_core::SECTOR;
+use ncq_core::{DiskFault, SECTOR};
 use ncq_journal::Op;
-use std::alloc::{AllocError, Allocator};
+use std::alloc::Allocator;
 use std::io::{Read, Write};
 use std::sync::Wait;
 use std::thread::Threads;
@@ -38,23 +38,26 @@ fn given_up(fault: RunFault) -> JobsFault
 }
 
 /// A new port over a disk of zeros.
-fn blank<A: Allocator + Clone>(alloc: A, size: RunSize) -> Result<Port<A>, AllocError>
-    ensures { IfOk result (λ port. port ≡ blank_port size) }
+fn blank<A: Allocator + Clone>(alloc: A, size: RunSize) -> Result<Port<A>, RunFault>
+    ensures port { IfOk result (λ port. port ≡ blank_port size) }
+    ensures fault { IfErr result (λ fault. fault ≡ RunFault.OutOfMemory) }
 {
     let image = vec![in alloc.clone()?; 0; size.sectors() as usize * SECTOR]?;
     match Port::new(alloc, image, size.depth()) {
         Ok(port) => Ok(port),
-        Err(_) => Err(AllocError),
+        Err(DiskFault::OutOfMemory) => Err(RunFault::OutOfMemory),
+        Err(_) => unreachable!(), // a run's sizes are a disk's
     }
 }
 
 /// A new port, and a chooser for each worker.
-fn crew<C, A>(alloc: &A, size: RunSize, chooser: C) -> Result<(Port<A>, Vec<C, A>), AllocError>
+fn crew<C, A>(alloc: &A, size: RunSize, chooser: C) -> Result<(Port<A>, Vec<C, A>), RunFault>
 where
     C: Copy + Drop,
     A: Allocator + Clone,
     ensures port { IfOk result (λ crew. crew.0 ≡ blank_port size) }
     ensures choosers { IfOk result (λ crew. vec_len crew.1 ≡ size.workers) }
+    ensures fault { IfErr result (λ fault. fault ≡ RunFault.OutOfMemory) }
 {
     let port = blank(alloc.clone()?, size)?;
     let choosers = vec![in alloc.clone()?; chooser; size.workers() as usize]?;
@@ -77,9 +80,7 @@ where
     ensures ok { IfOk result (λ end. HasRun (blank_port size) end.port (map work_of jobs.now) (map received_of end.replies.items) size.workers) }
     ensures fault { IfErr result (IsGivenUp (blank_port size) (map work_of jobs.now)) }
 {
-    let Ok((port, choosers)) = crew(&alloc, size, chooser) else {
-        return Err(RunFault::OutOfMemory);
-    };
+    let (port, choosers) = crew(&alloc, size, chooser)?;
     run(rt, alloc, port, jobs, size.workers(), choosers, &Open)
 }
 

@@ -50,6 +50,10 @@ pub record UsesRoom (count : ℕ) (old new : PortView) : Type 0 where
 abbrev pub call_room : ℕ
 call_room = 129
 
+-- less memory is held than the port's entries and those of one more call need: only then can such a call lack memory
+abbrev pub LacksRoom : PortView → Type 0
+LacksRoom port = port.held < length port.past + call_room
+
 -- an entry is appended once there is room for so many. Memory is asked for only where less is held than they need
 pub record ReservesRoom (old new : PortView) : Type 0 where
   pub room_is : new.room + 1 ≡ max old.room call_room

@@ -15,7 +15,7 @@ use Rattle.ncq_journal.specs.Phase.{phase, is_failed}
 use Rattle.word_bits.specs.Places.{bits, has_place, minus, no_places, only_below, union, word_of}
 use Rattle.ahci_port.specs.Faults.{MayTake, RefusesIssue, is_held}
 use Rattle.ahci_port.specs.PortView.{PortView}
-use Rattle.ahci_port.specs.Steps.{IsIssued, IsRecovered, IsReissued}
+use Rattle.ahci_port.specs.Steps.{IsIssued, IsRecovered, IsReissued, LacksRoom}
 use Rattle.ahci_port.specs.declared.fault.IssueFault.{IssueFault}
 use Rattle.ahci_port.specs.declared.fault.IssueFault.TheVariants as issue
 use Rattle.ahci_port.specs.declared.fault.WriteFault.{WriteFault}
@@ -177,7 +177,7 @@ RefusesStart word port before (write_fault.Register Running) = has_place (bits w
 RefusesStart word port before write_fault.NotHalted =
     (has_place (bits word) 4 ≡ true) × (has_place (bits word) 0 ≡ false) × (halted port.past ≡ false)
 RefusesStart word port before write_fault.OutOfMemory =
-    (has_place (bits word) 4 ≡ true) × (has_place (bits word) 0 ≡ true) × (before.stopped ≡ true) × (halted port.past ≡ true)
+    (has_place (bits word) 4 ≡ true) × (has_place (bits word) 0 ≡ true) × (before.stopped ≡ true) × (halted port.past ≡ true) × LacksRoom port
 RefusesStart word port before other = ⊥
 
 -- why one of any other register is not

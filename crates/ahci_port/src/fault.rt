@@ -1,6 +1,7 @@
 //! Why each call of a port is refused, an enum a call, in the order of its tests.
 
 use ahci_regs::RegFault;
+use std::alloc::AllocError;
 
 /// Why a command was not issued. The cases are tested in this order.
 #[derive(Clone, Copy, Debug, PartialEq, Eq)]
@@ -21,6 +22,17 @@ pub enum IssueFault {
     BadList,
     /// Room for a write's bytes or for the request's entries was refused.
     OutOfMemory,
+}
+
+impl From<AllocError> for IssueFault {
+    ghost use Rattle.std.specs.Prelude.{◌≡◌};
+    ghost use Rattle.ahci_port.specs.declared.fault.IssueFault.TheVariants as the-fault;
+
+    ghost from_gives = { λ _ fault. fault ≡ the-fault.OutOfMemory };
+
+    fn from(_refused: AllocError) -> IssueFault {
+        IssueFault::OutOfMemory
+    }
 }
 
 /// Why a command was not submitted. The cases are tested in this order, and then those of an issue.
@@ -97,6 +109,17 @@ pub enum RecoverFault {
     OutOfMemory,
 }
 
+impl From<AllocError> for RecoverFault {
+    ghost use Rattle.std.specs.Prelude.{◌≡◌};
+    ghost use Rattle.ahci_port.specs.declared.fault.RecoverFault.TheVariants as the-fault;
+
+    ghost from_gives = { λ _ fault. fault ≡ the-fault.OutOfMemory };
+
+    fn from(_refused: AllocError) -> RecoverFault {
+        RecoverFault::OutOfMemory
+    }
+}
+
 /// Why a held command was not issued again. The cases are tested in this order.
 #[derive(Clone, Copy, Debug, PartialEq, Eq)]
 pub enum ReissueFault {
@@ -115,6 +138,17 @@ pub enum PlainFault {
     QueueBusy,
     /// Room for the command's entry was refused.
     OutOfMemory,
+}
+
+impl From<AllocError> for PlainFault {
+    ghost use Rattle.std.specs.Prelude.{◌≡◌};
+    ghost use Rattle.ahci_port.specs.declared.fault.PlainFault.TheVariants as the-fault;
+
+    ghost from_gives = { λ _ fault. fault ≡ the-fault.OutOfMemory };
+
+    fn from(_refused: AllocError) -> PlainFault {
+        PlainFault::OutOfMemory
+    }
 }
 
 /// Why a write to a register was not taken. Of each register the cases are tested in this order.

@@ -147,13 +147,11 @@ impl<A: Allocator + Clone> Port<A> {
     {
         let starting = Self::copy_of(&alloc, image.as_slice());
         let disk = Disk::new(image, depth)?;
-        let Ok(starting) = starting else {
-            return Err(DiskFault::OutOfMemory);
-        };
+        let starting = starting?;
         let depth = disk.depth();
         match Self::over(alloc, starting, disk, depth, first) {
             Ok(port) => Ok(port),
-            Err(_) => Err(DiskFault::OutOfMemory),
+            Err(refused) => Err(refused.into()),
         }
     }
 

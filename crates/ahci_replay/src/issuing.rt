@@ -79,7 +79,7 @@ fn submit<A: Allocator + Copy>(
 {
     match port.submit_tested(tag, op) {
         Ok(number) => Ok(ScriptAnswer::Issued(number)),
-        Err(_op) => Err(AllocError),
+        Err((_op, refused)) => Err(refused),
     }
 }
 

@@ -105,7 +105,7 @@ impl<A: Allocator> Window<A> {
         }
         match Self::written(alloc, tag, op, pieces) {
             Ok(window) => Ok(window),
-            Err(_) => Err(BuildFault::OutOfMemory),
+            Err(refused) => Err(refused.into()),
         }
     }
 

@@ -1,6 +1,7 @@
 //! Why no window is built, and which rule a window breaks.
 
 use port_refusal::Refusal;
+use std::alloc::AllocError;
 use std::error::Error as StdError;
 use std::fmt;
 use std::fmt::{Display, Formatter, Write};
@@ -36,6 +37,17 @@ pub enum BuildFault {
     /// A growth was refused.
     #[error("out of memory")]
     OutOfMemory,
+}
+
+impl From<AllocError> for BuildFault {
+    ghost use Rattle.std.specs.Prelude.{◌≡◌};
+    ghost use Rattle.ahci_table.specs.declared.fault.BuildFault.TheVariants as the-fault;
+
+    ghost from_gives = { λ _ fault. fault ≡ the-fault.OutOfMemory };
+
+    fn from(_refused: AllocError) -> BuildFault {
+        BuildFault::OutOfMemory
+    }
 }
 
 /// The first rule that a window breaks. The rules are tested in this order.

@@ -59,8 +59,9 @@ fn tell_fault<W: Write, A: Allocator + Copy>(
     ensures told { TellsFault fault (W.contents writer.old) (W.contents writer.new) result }
     ensures writes { TellWrites writes.old writes.new result }
 {
-    let Ok(text) = fault_line(alloc, fault) else {
-        return ScriptFault::OutOfMemory;
+    let text = match fault_line(alloc, fault) {
+        Ok(text) => text,
+        Err(refused) => return refused.into(),
     };
     match writes.write_whole(writer, &text) {
         Ok(()) => fault,

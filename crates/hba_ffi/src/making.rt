@@ -6,6 +6,7 @@ ghost use Rattle.ahci_hba.specs.States.{new_hba};
 
 use ahci_ffi::{Status, size_refusal};
 use ahci_hba::Hba;
+use ncq_core::DiskFault;
 use port_refusal::Refusal;
 use std::alloc::Allocator;
 
@@ -25,16 +26,13 @@ pub fn make<A: Allocator + Copy>(
 
 /// The same of a size and a depth that nothing is wrong with.
 fn boxed<A: Allocator + Copy>(alloc: A, image: &[u8], depth: u32) -> Result<Box<Hba<A>, A>, Status>
+    requires { size_refusal (length image.now) depth 0 ≡ None }
     ensures { Makes None result (λ box. box.value ≡ new_hba image.now depth) }
 {
-    let Ok(bytes) = Vec::from_slice(alloc, image) else {
-        return Err(Status::Refused(Refusal::OutOfMemory));
-    };
-    let Ok(hba) = Hba::new(alloc, bytes, depth) else {
-        return Err(Status::Refused(Refusal::OutOfMemory));
-    };
-    match Box::new(alloc, hba) {
-        Ok(hba) => Ok(hba),
-        Err(_) => Err(Status::Refused(Refusal::OutOfMemory)),
+    let bytes = Vec::from_slice(alloc, image)?;
+    match Hba::new(alloc, bytes, depth) {
+        Ok(hba) => Ok(Box::new(alloc, hba)?),
+        Err(DiskFault::OutOfMemory) => Err(Status::Refused(Refusal::OutOfMemory)),
+        Err(_) => unreachable!(), // the sizes are a disk's
     }
 }

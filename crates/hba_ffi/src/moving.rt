@@ -6,7 +6,6 @@ ghost use Rattle.hba_ffi.specs.Calls.{AnswersBytes, AnswersSupply};
 
 use ahci_ffi::Status;
 use ahci_hba::Hba;
-use port_refusal::Refusal;
 use std::alloc::Allocator;
 
 /// Supplies the bytes that the controller reads.
@@ -18,7 +17,7 @@ pub fn supply<A: Allocator + Copy>(hba: &mut Hba<A>, bytes: &[u8]) -> Status
     }
     match hba.supply(bytes) {
         Ok(()) => Status::Done,
-        Err(_) => Status::Refused(Refusal::OutOfMemory),
+        Err(refused) => refused.into(),
     }
 }
 

@@ -1,4 +1,5 @@
 use port_refusal::Refusal;
+use std::alloc::AllocError;
 use std::error::Error;
 use std::fmt;
 use std::fmt::{Display, Formatter, Write};
@@ -12,6 +13,17 @@ pub enum DiskFault {
     BadDepth,
     /// Room for the image or the journal was refused.
     OutOfMemory,
+}
+
+impl From<AllocError> for DiskFault {
+    ghost use Rattle.std.specs.Prelude.{◌≡◌};
+    ghost use Rattle.ncq_core.specs.declared.disk_fault.DiskFault.TheVariants as the-fault;
+
+    ghost from_gives = { λ _ fault. fault ≡ the-fault.OutOfMemory };
+
+    fn from(_refused: AllocError) -> DiskFault {
+        DiskFault::OutOfMemory
+    }
 }
 
 impl From<DiskFault> for Refusal {

@@ -130,8 +130,6 @@ pub fn take_lines<T: TakesLines<O>, O, R: Read, A: Allocator>(
     ensures unfailed { OnOk result (reads.new.failed ≡ reads.old.failed) }
     ensures why { IfErr result (ReadsAs reads.old reads.new) }
 {
-    let Ok(mut reading) = Reading::new(alloc) else {
-        return Err(Stopped::OutOfMemory);
-    };
+    let mut reading = Reading::new(alloc)?;
     reading.take_all(reader, reads, taker, output)
 }

@@ -1,4 +1,5 @@
 use crate::input_failed::InputFailed;
+use std::alloc::AllocError;
 
 /// Why an input was not read to its end.
 #[derive(Clone, Copy, Debug, PartialEq, Eq)]
@@ -35,5 +36,16 @@ impl<F> From<InputFailed> for Stopped<F> {
 
     fn from(_failed: InputFailed) -> Stopped<F> {
         Stopped::Read
+    }
+}
+
+impl<F> From<AllocError> for Stopped<F> {
+    ghost use Rattle.std.specs.Prelude.{◌≡◌};
+    ghost use Rattle.streams.specs.declared.stopped.Stopped.TheVariants as stopped;
+
+    ghost from_gives = { λ _ fault. fault ≡ stopped.OutOfMemory };
+
+    fn from(_refused: AllocError) -> Stopped<F> {
+        Stopped::OutOfMemory
     }
 }

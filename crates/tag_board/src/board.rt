@@ -44,9 +44,7 @@ impl<A: Allocator> TagBoard<A> {
         ensures depth { IfOk result (λ made. made.0.depth ≡ depth) }
         ensures seat { IfOk result (λ made. made.1 ≡ newcomer made.0) }
     {
-        let Ok((table, place)) = Table::of_words(alloc, &[u64::from(below(depth))], &depth) else {
-            return Err(BoardFault::OutOfMemory);
-        };
+        let (table, place) = Table::of_words(alloc, &[u64::from(below(depth))], &depth)?;
         Ok((TagBoard { table, depth }, TagSeat { held: 0, place }))
     }
 

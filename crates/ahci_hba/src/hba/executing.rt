@@ -13,6 +13,7 @@ use crate::hba::Hba;
 use crate::hba::answering::REGISTER;
 use crate::hba::delivering::ending_of;
 use crate::hba::fetching::is_alone;
+use ahci_port::PlainFault;
 use hba_command::{Log, Protocol, Span, Task, controller_page, directory_page, not_queued_page};
 use hba_memory::Scatter;
 use sata_fis::{D2h, Fis};
@@ -247,15 +248,14 @@ impl<A: Allocator + Copy> Hba<A> {
         ensures err { IfErr result (λ e. (e ≡ HbaFault.OutOfMemory) × (self.new ≡ self.old)) }
     {
         let page = controller_page(self.port.sectors(), self.depth);
-        let Ok(page) = Vec::from_slice(self.alloc, &page) else {
-            return Err(HbaFault::OutOfMemory);
-        };
+        let page = Vec::from_slice(self.alloc, &page)?;
         match self.port.identify() {
             Ok(_) => {
                 self.give_page(slot, Protocol::Pio, page);
                 Ok(())
             }
-            Err(_lacking) => Err(HbaFault::OutOfMemory),
+            Err(PlainFault::OutOfMemory) => Err(HbaFault::OutOfMemory),
+            Err(_) => unreachable!(), // the port takes it
         }
     }
 
@@ -266,11 +266,14 @@ impl<A: Allocator + Copy> Hba<A> {
         ensures ok { OnOk result (Flushes slot self.old self.new) }
         ensures err { IfErr result (λ e. (e ≡ HbaFault.OutOfMemory) × (self.new ≡ self.old)) }
     {
-        let Ok(()) = self.port.flush() else {
-            return Err(HbaFault::OutOfMemory);
-        };
-        self.conclude(slot, d2h_fis(0x40, 0, 0, 0));
-        Ok(())
+        match self.port.flush() {
+            Ok(()) => {
+                self.conclude(slot, d2h_fis(0x40, 0, 0, 0));
+                Ok(())
+            }
+            Err(PlainFault::OutOfMemory) => Err(HbaFault::OutOfMemory),
+            Err(_) => unreachable!(), // the port takes it
+        }
     }
 
     /// READ LOG EXT and READ LOG DMA EXT, with no queued command failed.
@@ -279,9 +282,7 @@ impl<A: Allocator + Copy> Hba<A> {
         ensures ok { OnOk result (self.new ≡ paged self.old slot protocol (list_in (command_at self.old slot)) (log_page log)) }
         ensures err { IfErr result (λ e. (e ≡ HbaFault.OutOfMemory) × (self.new ≡ self.old)) }
     {
-        let Ok(page) = Vec::from_slice(self.alloc, &log_page(log)) else {
-            return Err(HbaFault::OutOfMemory);
-        };
+        let page = Vec::from_slice(self.alloc, &log_page(log))?;
         self.give_page(slot, protocol, page);
         Ok(())
     }

@@ -95,11 +95,11 @@ impl<A: Allocator + Copy> Hba<A> {
         let Some(protocol) = self.error_log_in(slot) else {
             unreachable!() // it reads that log
         };
-        let Ok(page) = Vec::with_capacity(self.alloc, 512) else {
-            return Err(HbaFault::OutOfMemory);
-        };
-        let Ok((tag, reply)) = recover(&mut self.port) else {
-            return Err(HbaFault::OutOfMemory); // the port is halted
+        let page = Vec::with_capacity(self.alloc, 512)?;
+        let (tag, reply) = match recover(&mut self.port) {
+            Ok(recovered) => recovered,
+            Err(RecoverFault::OutOfMemory) => return Err(HbaFault::OutOfMemory),
+            Err(RecoverFault::NotHalted) => unreachable!(), // the port is halted
         };
         let journal = reset(&mut self.port);
         self.give_page(

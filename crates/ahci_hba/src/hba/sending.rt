@@ -156,9 +156,9 @@ impl<A: Allocator + Copy> Hba<A> {
                 self.put(slot, Command::Sent(task, list));
                 Ok(())
             }
-            Err(op) => {
+            Err((op, refused)) => {
                 self.put(slot, Command::Fetched(task, list, put_back(op, left)));
-                Err(HbaFault::OutOfMemory)
+                Err(refused.into())
             }
         }
     }

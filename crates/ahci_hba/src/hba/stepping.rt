@@ -8,7 +8,7 @@ use crate::hba::Hba;
 use crate::step::Step;
 use crate::work::Work;
 use ahci_port::Journal;
-use std::alloc::{AllocError, Allocator};
+use std::alloc::Allocator;
 
 impl<A: Allocator> Hba<A> {
     /// Whether the port has done the command of a slot, and its answer is to be put together.
@@ -79,11 +79,7 @@ impl<A: Allocator + Copy> Hba<A> {
             Step::Accept => self.accept(slot)?,
             Step::Serve => self.serve(slot)?,
             Step::Execute => self.execute(slot)?,
-            Step::Deliver => {
-                if let Err(AllocError) = self.deliver() {
-                    return Err(HbaFault::OutOfMemory);
-                }
-            }
+            Step::Deliver => self.deliver()?,
             Step::Control => return self.control(slot),
             Step::Recover => return self.recover(slot),
         }

@@ -1,9 +1,9 @@
 //! How software issues a command.
 
-ghost use Rattle.std.specs.Prelude.{◌≡◌, ◌≢◌, IfOk, IfErr, OnOk};
+ghost use Rattle.std.specs.Prelude.{◌≡◌, ◌≢◌, true, false, IfOk, IfErr, OnOk, OnErr};
 ghost use Rattle.ahci_table.specs.{Command.{op, queued_of}, Fit.{IsFit}, Prdt.{pieces}};
-ghost use Rattle.ncq_journal.specs.Work.{work_of};
-ghost use Rattle.ahci_port.specs.{Faults.{RefusesIssue, MayTake, early_refusal}, Moves.{issue_fault_of}, PortView.{next_number}, Steps.{IsIssued}};
+ghost use Rattle.ncq_journal.specs.{Image.{is_write}, Work.{work_of}};
+ghost use Rattle.ahci_port.specs.{Faults.{RefusesIssue, MayTake, early_refusal}, Moves.{issue_fault_of}, PortView.{next_number}, Steps.{IsIssued, LacksRoom}};
 
 use crate::fault::IssueFault;
 use crate::port::{Port, ROOM};
@@ -37,6 +37,7 @@ fn op_of<A: Allocator + Clone>(
     requires queued { queued.now ≡ queued_of window.now }
     requires list { list.now ≡ pieces window.now }
     ensures work { IfOk result (λ o. work_of o ≡ op window.now) }
+    ensures lacking { OnErr result (is_write (op window.now) ≡ true) }
 {
     let lba = queued.lba;
     if !queued.write {
@@ -51,8 +52,8 @@ fn op_of<A: Allocator + Clone>(
 }
 
 impl<A: Allocator> Port<A> {
-    /// Why a window of this tag is not looked at.
-    pub(super) fn early_fault(&self, tag: u8) -> Option<IssueFault>
+    /// Why the port takes no window of this tag, whatever the window holds: `Halted`, `NoSuchTag`, `SlotOwned`.
+    pub fn early_fault(&self, tag: u8) -> Option<IssueFault>
         ensures { result ≡ early_refusal self.now tag }
     {
         if self.halted() {
@@ -94,12 +95,13 @@ impl<A: Allocator + Clone> Port<A> {
     ///
     /// # Errors
     /// `Halted`, `NoSuchTag` where the tag is not below the depth, `SlotOwned`, the first rule that the window breaks, and
-    /// `OutOfMemory` where a growth was refused; the window comes back as it was.
+    /// `OutOfMemory` if a write's bytes or room for the request's entries could not be allocated; the window comes back as it was.
     pub fn issue(&mut self, window: Window<A>) -> Result<u64, (Window<A>, IssueFault)>
         ensures number { IfOk result (λ n. n ≡ next_number self.old) }
         ensures issued { OnOk result (IsIssued window self.old self.new) }
         ensures taken { OnOk result (MayTake self.old window.tag × IsFit window) }
         ensures fault { IfErr result (λ e. RefusesIssue self.old window e.1) }
+        ensures lacking { IfErr result (λ e. e.1 ≡ IssueFault.OutOfMemory → is_write (op window) ≡ false → LacksRoom self.old) }
         ensures err { IfErr result (λ e. (e.0 ≡ window) × (self.new ≡ self.old)) }
     {
         let command = match self.command_of(&window) {
@@ -108,7 +110,7 @@ impl<A: Allocator + Clone> Port<A> {
         };
         match op_of(&self.alloc, &window, &command.queued, &command.pieces) {
             Ok(op) => self.entered(window, command, op),
-            Err(_) => Err((window, IssueFault::OutOfMemory)),
+            Err(refused) => Err((window, refused.into())),
         }
     }
 
@@ -116,7 +118,7 @@ impl<A: Allocator + Clone> Port<A> {
     /// of a write no byte is copied.
     ///
     /// # Errors
-    /// Those of `issue`; the window comes back as it was.
+    /// Those of `issue`, but that only room for entries can be lacking; the window comes back as it was.
     pub fn issue_asked(
         &mut self,
         window: Window<A>,
@@ -127,6 +129,7 @@ impl<A: Allocator + Clone> Port<A> {
         ensures issued { OnOk result (IsIssued window self.old self.new) }
         ensures taken { OnOk result (MayTake self.old window.tag × IsFit window) }
         ensures fault { IfErr result (λ e. RefusesIssue self.old window e.1) }
+        ensures lacking { IfErr result (λ e. e.1 ≡ IssueFault.OutOfMemory → LacksRoom self.old) }
         ensures err { IfErr result (λ e. (e.0 ≡ window) × (self.new ≡ self.old)) }
     {
         match self.command_of(&window) {
@@ -151,11 +154,12 @@ impl<A: Allocator + Clone> Port<A> {
         ensures number { IfOk result (λ n. n ≡ next_number self.old) }
         ensures issued { OnOk result (IsIssued window self.old self.new) }
         ensures fault { IfErr result (λ e. e.1 ≡ IssueFault.OutOfMemory) }
+        ensures lacking { OnErr result (LacksRoom self.old) }
         ensures err { IfErr result (λ e. (e.0 ≡ window) × (self.new ≡ self.old)) }
     {
         match self.enter(window, command, asked) {
             Ok(number) => Ok(number),
-            Err((window, _asked)) => Err((window, IssueFault::OutOfMemory)),
+            Err((window, _asked, refused)) => Err((window, refused.into())),
         }
     }
 
@@ -169,7 +173,7 @@ impl<A: Allocator + Clone> Port<A> {
         window: Window<A>,
         command: Command,
         asked: Op<A>,
-    ) -> Result<u64, (Window<A>, Op<A>)>
+    ) -> Result<u64, (Window<A>, Op<A>, AllocError)>
         requires taken { MayTake self.old window.tag }
         requires fit { IsFit window }
         requires queued { command.queued ≡ queued_of window }
@@ -177,12 +181,14 @@ impl<A: Allocator + Clone> Port<A> {
         requires asked { work_of asked ≡ op window }
         ensures number { IfOk result (λ n. n ≡ next_number self.old) }
         ensures issued { OnOk result (IsIssued window self.old self.new) }
+        ensures lacking { OnErr result (LacksRoom self.old) }
         ensures err { IfErr result (λ e. (e.0 ≡ window) × (e.1 ≡ asked) × (self.new ≡ self.old)) }
     {
         let tag = window.tag();
-        let Ok(()) = self.journal.reserve(ROOM) else {
-            return Err((window, asked));
-        };
+        match self.journal.reserve(ROOM) {
+            Ok(()) => {}
+            Err(refused) => return Err((window, asked, refused)),
+        }
         let place = self.journal.len();
         let number = self.journal.end();
         self.headers[tag as usize] = *window.header();

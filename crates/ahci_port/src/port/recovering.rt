@@ -1,10 +1,10 @@
 //! How software recovers from a failure, and sends commands that are not queued, by slot 0 (AHCI 1.3.1, section 6.2.2;
 //! ACS-3, READ LOG EXT, IDENTIFY DEVICE and FLUSH CACHE EXT).
 
-ghost use Rattle.std.specs.Prelude.{◌≡◌, true, IfOk, OnOk, OnErr};
+ghost use Rattle.std.specs.Prelude.{◌≡◌, true, IfOk, IfErr, OnOk, OnErr};
 ghost use Rattle.ncq_core.specs.Identify.{identify_page};
 ghost use Rattle.ncq_journal.specs.{Lawful.{IsJournalled}, Phase.{phase, is_failed}, declared.plain.Plain.TheVariants.{Identify}};
-ghost use Rattle.ahci_port.specs.{Faults.{AnswersOr, recover_refusal, plain_refusal}, PortView.{sectors_in}, Steps.{IsCarriedOut, IsRecovered, IsIdentified, IsFlushed}};
+ghost use Rattle.ahci_port.specs.{Faults.{AnswersOr, recover_refusal, plain_refusal}, PortView.{sectors_in}, Steps.{IsCarriedOut, IsRecovered, IsIdentified, IsFlushed, LacksRoom}};
 
 use crate::fault::{PlainFault, RecoverFault};
 use crate::port::{Port, ROOM};
@@ -19,19 +19,18 @@ impl<A: Allocator> Port<A> {
     /// which is the answer. The failed request is done, and every other command that was issued or accepted is held.
     ///
     /// # Errors
-    /// `NotHalted` where no command has failed, else `OutOfMemory` where a growth was refused.
+    /// `NotHalted` if no command has failed, else `OutOfMemory` if room for the entries that follow could not be allocated.
     pub fn recover(&mut self) -> Result<u8, RecoverFault>
         ensures failed { IfOk result (λ tag. is_failed (phase self.old.past tag) ≡ true) }
         ensures recovered { IfOk result (λ tag. IsRecovered tag self.old self.new) }
         ensures fault { AnswersOr result (recover_refusal self.old) RecoverFault.OutOfMemory }
+        ensures lacking { IfErr result (λ e. e ≡ RecoverFault.OutOfMemory → LacksRoom self.old) }
         ensures err { OnErr result (self.new ≡ self.old) }
     {
         if !self.halted() {
             return Err(RecoverFault::NotHalted);
         }
-        let Ok(()) = self.journal.reserve(ROOM) else {
-            return Err(RecoverFault::OutOfMemory);
-        };
+        self.journal.reserve(ROOM)?;
         restart(&mut self.registers);
         carry_out(
             Plain::ReadLog,
@@ -51,11 +50,12 @@ impl<A: Allocator> Port<A> {
     ///
     /// # Errors
     /// `Halted` where a command has failed and the port has not recovered, `QueueBusy` where a queued command is issued or
-    /// accepted, else `OutOfMemory` where a growth was refused.
+    /// accepted, else `OutOfMemory` if room for the entries that follow could not be allocated.
     pub fn identify(&mut self) -> Result<[u8; 512], PlainFault>
         ensures page { IfOk result (λ page. page ≡ identify_page (sectors_in self.old) self.old.depth) }
         ensures identified { OnOk result (IsIdentified self.old self.new) }
         ensures fault { AnswersOr result (plain_refusal self.old) PlainFault.OutOfMemory }
+        ensures lacking { IfErr result (λ e. e ≡ PlainFault.OutOfMemory → LacksRoom self.old) }
         ensures err { OnErr result (self.new ≡ self.old) }
     {
         self.send_unqueued(Plain::Identify)
@@ -68,6 +68,7 @@ impl<A: Allocator> Port<A> {
     pub fn flush(&mut self) -> Result<(), PlainFault>
         ensures flushed { OnOk result (IsFlushed self.old self.new) }
         ensures fault { AnswersOr result (plain_refusal self.old) PlainFault.OutOfMemory }
+        ensures lacking { IfErr result (λ e. e ≡ PlainFault.OutOfMemory → LacksRoom self.old) }
         ensures err { OnErr result (self.new ≡ self.old) }
     {
         self.send_unqueued(Plain::Flush)?;
@@ -82,14 +83,13 @@ impl<A: Allocator> Port<A> {
         ensures page { IfOk result (λ page. plain ≡ Identify → page ≡ identify_page (sectors_in self.old) self.old.depth) }
         ensures carried { OnOk result (IsCarriedOut plain self.old self.new) }
         ensures fault { AnswersOr result (plain_refusal self.old) PlainFault.OutOfMemory }
+        ensures lacking { IfErr result (λ e. e ≡ PlainFault.OutOfMemory → LacksRoom self.old) }
         ensures err { OnErr result (self.new ≡ self.old) }
     {
         if let Some(fault) = self.plain_fault() {
             return Err(fault);
         }
-        let Ok(()) = self.journal.reserve(ROOM) else {
-            return Err(PlainFault::OutOfMemory);
-        };
+        self.journal.reserve(ROOM)?;
         carry_out(
             plain,
             &mut self.headers,

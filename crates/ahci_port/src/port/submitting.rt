@@ -8,7 +8,7 @@ use crate::fault::{IssueFault, SubmitFault};
 use crate::port::Port;
 use ahci_table::Window;
 use ncq_journal::{LBA_LIMIT, MAX_COUNT, Op};
-use std::alloc::Allocator;
+use std::alloc::{AllocError, Allocator};
 
 impl<A: Allocator> Port<A> {
     /// Why a command of so many sectors from an LBA on would not be submitted for a tag, memory aside. All of it can be known
@@ -57,7 +57,7 @@ impl<A: Allocator + Clone> Port<A> {
         }
         match self.submit_tested(tag, op) {
             Ok(number) => Ok(number),
-            Err(op) => Err((op, SubmitFault::Issue(IssueFault::OutOfMemory))),
+            Err((op, refused)) => Err((op, SubmitFault::Issue(refused.into()))),
         }
     }
 
@@ -65,22 +65,24 @@ impl<A: Allocator + Clone> Port<A> {
     ///
     /// # Errors
     /// The command comes back where room for the window or for the request's entries was refused.
-    pub fn submit_tested(&mut self, tag: u8, op: Op<A>) -> Result<u64, Op<A>>
+    pub fn submit_tested(&mut self, tag: u8, op: Op<A>) -> Result<u64, (Op<A>, AllocError)>
         requires whole { is_ragged (work_of op) ≡ false }
         requires free { submit_refusal self.old tag (lba_of (work_of op)) (sectors_of (work_of op)) ≡ None }
         ensures number { IfOk result (λ n. n ≡ next_number self.old) }
         ensures submitted { OnOk result (IsSubmitted tag (work_of op) self.old self.new) }
-        ensures err { IfErr result (λ e. (e ≡ op) × (self.new ≡ self.old)) }
+        ensures err { IfErr result (λ e. (e.0 ≡ op) × (self.new ≡ self.old)) }
     {
-        let Ok(alloc) = self.alloc.clone() else {
-            return Err(op);
+        let alloc = match self.alloc.clone() {
+            Ok(alloc) => alloc,
+            Err(refused) => return Err((op, refused)),
         };
-        let Ok((window, command)) = Window::over_default_pieces(alloc, tag, &op) else {
-            return Err(op);
+        let (window, command) = match Window::over_default_pieces(alloc, tag, &op) {
+            Ok(made) => made,
+            Err(refused) => return Err((op, refused)),
         };
         match self.enter(window, command, op) {
             Ok(number) => Ok(number),
-            Err((_window, op)) => Err(op),
+            Err((_window, op, refused)) => Err((op, refused)),
         }
     }
 }

@@ -6,10 +6,11 @@ ghost use Rattle.ncq_journal.specs.Halted.{halted};
 ghost use Rattle.word_bits.specs.Places.{bits, has_place, minus, only_below, union, word_of};
 ghost use Rattle.ahci_port.specs.{
   Headline.{Headline},
+  Steps.{LacksRoom},
   Writes.{CommandsBelow, CommandsSlot, Leaves, RefusesCi, RefusesSact, RefusesSlot, RefusesStart, RefusesWord, RefusesWrite, Starts, StoresWord, TakesCi, TakesCommand, TakesSact, TakesWrite, keeps_commands, newly_set, share, shown, unannounced},
 };
 
-use crate::fault::{IssueFault, ReissueFault, WriteFault};
+use crate::fault::{IssueFault, RecoverFault, ReissueFault, WriteFault};
 use crate::pending::Pending;
 use crate::port::Port;
 use crate::written::Written;
@@ -220,9 +221,7 @@ impl<A: Allocator + Clone> Port<A> {
         if let Some(fault) = self.early_fault(slot) {
             return Err(fault);
         }
-        let Ok(bytes) = Self::copy_of(&self.alloc, bytes_from(windows, slot)) else {
-            return Err(IssueFault::OutOfMemory);
-        };
+        let bytes = Self::copy_of(&self.alloc, bytes_from(windows, slot))?;
         match self.issue(Window::from_parts(slot, header_from(list, slot), bytes)) {
             Ok(_number) => Ok(()),
             Err((_window, fault)) => Err(fault),
@@ -317,15 +316,18 @@ impl<A: Allocator> Port<A> {
     /// ST goes on.
     fn start(&mut self, pending: &mut Pending) -> Result<Written, WriteFault>
         ensures ok { IfOk result (λ did. Starts (pending.old.stopped && halted self.old.past) self.old self.new did × (pending.new ≡ record pending.old { stopped = false })) }
-        ensures fault { IfErr result (λ fault. (fault ≡ WriteFault.OutOfMemory) × (pending.old.stopped ≡ true) × (halted self.old.past ≡ true)) }
+        ensures fault { IfErr result (λ fault. (fault ≡ WriteFault.OutOfMemory) × (pending.old.stopped ≡ true) × (halted self.old.past ≡ true) × LacksRoom self.old) }
         ensures err { OnErr result ((self.new ≡ self.old) × (pending.new ≡ pending.old)) }
     {
         if self.is_stopped(pending) {
-            let Ok(tag) = self.recover() else {
-                return Err(WriteFault::OutOfMemory);
+            return match self.recover() {
+                Ok(tag) => {
+                    pending.stopped = false;
+                    Ok(Written::Recovered(tag))
+                }
+                Err(RecoverFault::OutOfMemory) => Err(WriteFault::OutOfMemory),
+                Err(RecoverFault::NotHalted) => unreachable!(),
             };
-            pending.stopped = false;
-            return Ok(Written::Recovered(tag));
         }
         pending.stopped = false;
         Ok(Written::Noted)

@@ -1,8 +1,8 @@
 use Rattle.std.proofs.Common.{Some, ap, sym, ◌∙◌}
-use Rattle.ahci_ffi.proofs.OverLemmas.{some_changes}
+use Rattle.ahci_ffi.proofs.OverLemmas.{some_supersedes}
 use Rattle.ahci_c.proofs.software.ahci_port_submit.Goals as goal
 
 pub returns : goal.returns
 returns c =
-    some_changes _ _ _ _ _ c.submit-answer.result _ _ _ (sym c.in-Some.ensures.taken ∙ ap Some (sym c.deref_mut.ensures.value)) c.in-Some.ensures.left c.back.ensures.place
+    some_supersedes _ _ _ _ _ c.submit-answer.result _ _ _ (sym c.in-Some.ensures.taken ∙ ap Some (sym c.deref_mut.ensures.value)) c.in-Some.ensures.left c.back.ensures.place
     c.back.ensures.headline c.back.ensures.number c.submit-answer.ensures

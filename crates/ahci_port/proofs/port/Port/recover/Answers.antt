@@ -45,9 +45,9 @@ returns-clause-failed g c = rw (← c.self.view_is) (bad g c)
 pub invariant_of-self-2 : goal.invariant_of-self-2
 invariant_of-self-2 g c =
     let i = c.self.inside in
-    rw (c.carry_out.ensures.headers, c.carry_out.ensures.disk, regs g c, slots g c, c.push_reserved.ensures.past, c.in-Ok.ensures.past)
+    rw (c.carry_out.ensures.headers, c.carry_out.ensures.disk, regs g c, slots g c, c.push_reserved.ensures.past, c.in_ok-reserve.ensures.past)
     (keeps_recover i.starting.items i.disk i.registers i.slots.items i.headers i.journal.past i.journal.room c.push_reserved.new.self.room
-    (get_or c.page.result.now 0 0 % 32) c.self.invariant (bad g c) (let a = c.in-Ok.ensures.room in let b = c.push_reserved.ensures.room in omega arith))
+    (get_or c.page.result.now 0 0 % 32) c.self.invariant (bad g c) (let a = c.in_ok-reserve.ensures.room in let b = c.push_reserved.ensures.room in omega arith))
 
 pub returns-clause-recovered : goal.returns-clause-recovered
 returns-clause-recovered g c =
@@ -57,12 +57,12 @@ returns-clause-recovered g c =
       appended = record {
         starting_same = refl;
         image_same = ap (λ d. d.image) c.carry_out.ensures.disk;
-        first_same = c.push_reserved.ensures.first ∙ c.in-Ok.ensures.first;
+        first_same = c.push_reserved.ensures.first ∙ c.in_ok-reserve.ensures.first;
         depth_same = ap (λ d. d.depth) c.carry_out.ensures.disk;
-        past_is = c.push_reserved.ensures.past ∙ ap (λ p. Recover (get_or c.page.result.now 0 0 % 32) ∷ p) c.in-Ok.ensures.past;
+        past_is = c.push_reserved.ensures.past ∙ ap (λ p. Recover (get_or c.page.result.now 0 0 % 32) ∷ p) c.in_ok-reserve.ensures.past;
         sent_is = c.carry_out.ensures.sent;
       };
-      room = reserves_room _ _ _ _ c.in-Ok.ensures.room c.in-Ok.ensures.same c.in-Ok.ensures.more c.push_reserved.ensures.room c.push_reserved.ensures.held;
+      room = reserves_room _ _ _ _ c.in_ok-reserve.ensures.room c.in_ok-reserve.ensures.same c.in_ok-reserve.ensures.more c.push_reserved.ensures.room c.push_reserved.ensures.held;
       registers_are = regs g c;
       area_is = c.carry_out.ensures.area;
       windows_same = ap (map window_in) (slots g c) ∙ windows_recover i.slots.items;
