@@ -40,8 +40,9 @@ pub(crate) fn finish_locked<A: Allocator, C: Chooser>(
             Err((waiting, CollectFault::Stranger)) => return Err((waiting, Unfinished::Stranger)),
             Err((waiting, CollectFault::NotYet)) => ticket = waiting,
         }
-        if let Err(PumpFault::OutOfMemory) = pump_locked(port, chooser) {
-            return Err((ticket, Unfinished::OutOfMemory));
+        match pump_locked(port, chooser) {
+            Ok(_) => {}
+            Err(PumpFault::OutOfMemory) => return Err((ticket, Unfinished::OutOfMemory)),
         }
     }
     Err((ticket, Unfinished::NotYet))

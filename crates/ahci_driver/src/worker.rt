@@ -112,7 +112,9 @@ impl<'a, A: Allocator + Clone, C: Chooser, G: Gate> Worker<'a, A, C, G> {
         let mut job = self.first;
         while let Some(op) = jobs.get(job) {
             let receipt = self.one(rt, job, op)?;
-            receipts.push(receipt)?;
+            if let Err(failed) = receipts.push(receipt) {
+                return Err(AllocError::from(failed).into());
+            }
             job = job.saturating_add(workers);
         }
         Ok(receipts)

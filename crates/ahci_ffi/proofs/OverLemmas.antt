@@ -1,5 +1,5 @@
 -- How a call over a place follows from the call on its port.
-use Rattle.std.proofs.Common.{◌≡◌, ◌∙◌, ◌×◌, ℕ, Option, None, Some, Result, Ok, Err, true, is_some, ap, refl, sym, subst, inl, inr}
+use Rattle.std.proofs.Common.{◌≡◌, ◌∙◌, ℕ, Option, None, Some, Result, Ok, Err, true, is_some, ap, refl, sym, subst, inl, inr}
 use Rattle.std.specs.Prelude.{Box}
 use Rattle.std.proofs.lemmas.Bool.{false≢true}
 use Rattle.ahci_port.specs.Headline.{Headline}

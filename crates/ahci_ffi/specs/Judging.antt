@@ -1,12 +1,14 @@
 -- A journal given as structs: which events may follow which, with no port (AHCI 1.3.1, "Native Command Queuing" and section 6.2.2).
-use Rattle.std.specs.Prelude.{◌≡◌, ℕ, ◌==◌, nat_le, nat_lt, List, if◌then◌else◌}
-use Rattle.ncq_journal.specs.EventKind.{IsFirstUnlawful, journal_of}
+use Rattle.std.specs.Prelude.{◌≡◌, ℕ, ◌<◌, ◌==◌, nat_le, nat_lt, List, if◌then◌else◌}
+use Rattle.ncq_journal.specs.Entry.{Entry}
+use Rattle.ncq_journal.specs.EventKind.{HasLowTag, IsFirstUnlawful, journal_of, kind_of}
 use Rattle.ncq_journal.specs.Lawful.{IsLawful}
 use Rattle.ncq_journal.specs.declared.event_kind.EventKind.{EventKind}
 use Rattle.ncq_journal.specs.declared.event_kind.EventKind.TheVariants as kind
 use Rattle.ncq_journal.specs.declared.plain.Plain.TheVariants.{Identify, Flush, ReadLog}
 use Rattle.ahci_ffi.specs.Alone.{depth_refusal}
 use Rattle.ahci_ffi.specs.Asked.{AnswersUnless}
+use Rattle.ahci_ffi.specs.Flat.{flat_entry}
 use Rattle.ahci_ffi.specs.declared.flat.FlatEntry.{FlatEntry}
 use Rattle.ahci_ffi.specs.declared.status.Status.{Status}
 use Rattle.ahci_ffi.specs.declared.status.Status.TheVariants as status
@@ -32,6 +34,15 @@ kind_named e =
     if e.kind == 8 then kind.Plain Identify
     else (if e.kind == 9 then kind.Plain Flush
     else (if nat_lt e.tag 32 then tagged e e.tag else nameless))
+
+-- an error is one byte
+abbrev pub HasByteError : EventKind → Type 0
+HasByteError (kind.Fail tag error lba) = error < 256
+HasByteError other = Unit {0}
+
+-- the struct of an entry names the entry's event
+abbrev pub DoEntriesNameTheirEvents : Type 0
+DoEntriesNameTheirEvents = (e : Entry) → HasLowTag (kind_of e) → HasByteError (kind_of e) → kind_named (flat_entry e) ≡ kind_of e
 
 -- events were looked at: all are lawful; or the place of the first that can't come where it is
 pub data AnswersEvents (s d : ℕ) (events : List FlatEntry) (answer : Status) (before after : ℕ) : Type 0 where

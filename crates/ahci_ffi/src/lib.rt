@@ -9,6 +9,7 @@ mod flat;
 mod held;
 mod issuing;
 mod judging;
+mod laws;
 mod looking;
 mod making;
 mod naming;
@@ -32,6 +33,7 @@ pub use flat::{
 pub use held::Held;
 pub use issuing::{issue, submit};
 pub use judging::journal_check;
+pub use laws::entries_name_their_events;
 pub use looking::{copy, depth, received, register, sectors, slot, tag_sets};
 pub use making::{make, make_zeros, size_refusal};
 pub use naming::status_text;

@@ -8,7 +8,7 @@ use crate::status::Status;
 use ahci_port::{MOST_FIRST, Port, ResumeFault};
 use ncq_core::{MAX_DEPTH, MAX_SECTORS, SECTOR};
 use port_refusal::Refusal;
-use std::alloc::Allocator;
+use std::alloc::{AllocError, Allocator};
 
 /// A port over a copy of an image, whose journal's first entry has the number `first`. Size, depth and number are looked at
 /// before memory is asked for.
@@ -69,9 +69,13 @@ fn boxed<A: Allocator + Copy>(
     requires { size_refusal (length image.items) depth first ≡ None }
     ensures { Makes None result (λ box. box.value ≡ port_from first image.items depth) }
 {
-    match Port::resume(alloc, image, depth, first) {
-        Ok(port) => Ok(Box::new(alloc, port)?),
-        Err(ResumeFault::OutOfMemory) => Err(Status::Refused(Refusal::OutOfMemory)),
+    let port = match Port::resume(alloc, image, depth, first) {
+        Ok(port) => port,
+        Err(ResumeFault::OutOfMemory) => return Err(Status::Refused(Refusal::OutOfMemory)),
         Err(_) => unreachable!(), // the sizes are a port's
+    };
+    match Box::new(alloc, port) {
+        Ok(port) => Ok(port),
+        Err(failed) => Err(AllocError::from(failed).into()),
     }
 }

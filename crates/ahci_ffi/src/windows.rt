@@ -1,8 +1,8 @@
 //! A window as it lies in memory, looked at with no port.
 
-ghost use Rattle.std.specs.Prelude.{◌≡◌, length, None, Some, IfOk, IfErr};
+ghost use Rattle.std.specs.Prelude.{◌≡◌, ◌<◌, length, None, Some, IfOk, IfErr};
 ghost use Rattle.ahci_table.specs.Prdt.{pieces};
-ghost use Rattle.ahci_ffi.specs.{Alone.{AnswersCheck, AnswersWindowCheck, flat_command}, Refusals.{with_length, with_tag}};
+ghost use Rattle.ahci_ffi.specs.{Alone.{AnswersCheck, AnswersWindowCheck, flat_command}, Refusals.{most_tags, with_length, with_tag}};
 
 use crate::flat::FlatCommand;
 use crate::status::Status;
@@ -31,7 +31,7 @@ pub fn window_check<A: Allocator>(
 
 /// The tag and the header that C names, each of its size.
 pub(crate) fn tag_and_header(tag: u32, header: &[u8]) -> Result<(u8, [u8; 32]), Status>
-    ensures ok { IfOk result (λ sized. (with_tag tag (with_length 32 (length header.now) None) ≡ None) × (sized.0 ≡ tag) × (sized.1 ≡ header.now)) }
+    ensures ok { IfOk result (λ sized. (with_tag tag (with_length 32 (length header.now) None) ≡ None) × (tag < most_tags) × (sized.0 ≡ tag) × (sized.1 ≡ header.now)) }
     ensures refused { IfErr result (λ reason. with_tag tag (with_length 32 (length header.now) None) ≡ Some reason) }
 {
     if tag >= 32 {
@@ -50,6 +50,7 @@ pub(crate) fn window_over<A: Allocator>(
     header: [u8; 32],
     memory: &[u8],
 ) -> Result<Window<A>, AllocError>
+    requires { tag < most_tags }
     ensures { IfOk result (λ w. w ≡ record { tag = tag; header = header; bytes = memory.now }) }
 {
     let bytes = Vec::from_slice(alloc, memory)?;

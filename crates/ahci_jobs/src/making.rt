@@ -50,8 +50,10 @@ fn add_job<A: Allocator + Clone>(
         return Err(JobsFault::Job(jobs.len() as u64));
     }
     let op = command(alloc.clone()?, job)?;
-    jobs.push(op)?;
-    Ok(())
+    match jobs.push(op) {
+        Ok(()) => Ok(()),
+        Err(failed) => Err(AllocError::from(failed).into()),
+    }
 }
 
 /// Appends the command that a line of the given number asks for.

@@ -69,9 +69,15 @@ impl<A: Allocator> Host for Memory<A> {
 
     ghost keeps = { λ a b. IsKept a.window b.window };
 
+    ghost saw = { λ a fises b. Unit {0} };
+
     ghost keeps_itself = { λ a. kept_itself a.window };
 
     ghost keeps_on = { λ a b c ab bc. kept_on a.window b.window c.window ab bc };
+
+    ghost saw_none = { λ a. unit };
+
+    ghost saw_more = { λ a b c first then ab bc. unit };
 
     fn setup(&mut self, fis: &[u8; 28]) {
         self.setup = *fis;

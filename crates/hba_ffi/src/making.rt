@@ -8,7 +8,7 @@ use ahci_ffi::{Status, size_refusal};
 use ahci_hba::Hba;
 use ncq_core::DiskFault;
 use port_refusal::Refusal;
-use std::alloc::Allocator;
+use std::alloc::{AllocError, Allocator};
 
 /// A controller after power-on, in front of a disk with a copy of an image. Size and depth are looked at before memory is asked for.
 pub fn make<A: Allocator + Copy>(
@@ -30,9 +30,13 @@ fn boxed<A: Allocator + Copy>(alloc: A, image: &[u8], depth: u32) -> Result<Box<
     ensures { Makes None result (λ box. box.value ≡ new_hba image.now depth) }
 {
     let bytes = Vec::from_slice(alloc, image)?;
-    match Hba::new(alloc, bytes, depth) {
-        Ok(hba) => Ok(Box::new(alloc, hba)?),
-        Err(DiskFault::OutOfMemory) => Err(Status::Refused(Refusal::OutOfMemory)),
+    let hba = match Hba::new(alloc, bytes, depth) {
+        Ok(hba) => hba,
+        Err(DiskFault::OutOfMemory) => return Err(Status::Refused(Refusal::OutOfMemory)),
         Err(_) => unreachable!(), // the sizes are a disk's
+    };
+    match Box::new(alloc, hba) {
+        Ok(hba) => Ok(hba),
+        Err(failed) => Err(AllocError::from(failed).into()),
     }
 }

@@ -1,4 +1,5 @@
 pub mod MovingLemmas
 pub mod DiskLemmas
 pub mod PageLemmas
+pub mod TrafficLemmas
 pub mod VerdictLemmas

@@ -5,5 +5,6 @@ pub mod Identify
 pub mod Log
 pub mod Refusals
 pub mod Serving
+pub mod Traffic
 pub mod Verdict
 pub mod VerdictTable

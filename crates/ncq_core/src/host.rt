@@ -1,12 +1,13 @@
-ghost use Rattle.std.specs.Prelude.{◌≡◌, ℕ, ◌+◌, ◌≤◌, ◌++◌, List, length, drop, slice_range};
+ghost use Rattle.std.specs.Prelude.{◌≡◌, ℕ, ◌+◌, ◌≤◌, ◌++◌, ◌∷◌, [], List, length, drop, slice_range};
 ghost use Rattle.std.specs.List.{replace_range};
 ghost use Rattle.sata_fis.specs.Encoding.{data_head_bytes};
 ghost use Rattle.sata_fis.specs.Payload.{IsPayload};
 ghost use Rattle.ncq_core.specs.DiskFis.{activate_bytes};
+ghost use Rattle.ncq_core.specs.Traffic.{Passed, Setup, Data, Activate};
 
 /// The memory that a command's data come from and go to (Serial ATA, "DMA Setup FIS", "DMA Activate FIS" and
 /// "Data FIS"). A host has a text, which is a list of bytes, the last DMA Setup that came, and an offset: the place
-/// in the text at which the next Data FIS begins.
+/// in the text at which the next Data FIS begins. Contracts also see which FISes it saw, and in which order.
 pub trait Host {
     // the bytes that a read fills and a write takes
     ghost text: { Self → List ℕ };
@@ -20,11 +21,15 @@ pub trait Host {
     // the second is the first but for its text, its last DMA Setup and its offset
     ghost keeps: { Self → Self → Type 0 };
 
+    // the first has become the second by these FISes, the first of them first
+    ghost saw: { Self → List Passed → Self → Type 0 };
+
     /// Takes a DMA Setup. The next Data FIS begins at the beginning of the text.
     fn setup(&mut self, fis: &[u8; 28])
         ensures setup { last_setup self.new ≡ fis.now }
         ensures offset { offset self.new ≡ 0 }
         ensures text { text self.new ≡ text self.old }
+        ensures saw { saw self.old (Setup fis.now ∷ []) self.new }
         ensures others { keeps self.old self.new };
 
     /// Takes a whole Data FIS, whose reserved bytes are 0, and puts its payload at the offset.
@@ -35,6 +40,7 @@ pub trait Host {
         ensures text { text self.new ≡ replace_range (text self.old) (offset self.old) (offset self.old + length (drop 4 fis.now)) (drop 4 fis.now) }
         ensures offset { offset self.new ≡ offset self.old + length (drop 4 fis.now) }
         ensures setup { last_setup self.new ≡ last_setup self.old }
+        ensures saw { saw self.old (Data (length (drop 4 fis.now)) ∷ []) self.new }
         ensures others { keeps self.old self.new };
 
     /// Takes a DMA Activate, whose reserved bytes are 0, and fills `out` with a whole Data FIS: 4 bytes of head, and the text from the offset on.
@@ -46,6 +52,7 @@ pub trait Host {
         ensures text { text self.new ≡ text self.old }
         ensures offset { offset self.new ≡ offset self.old + length (drop 4 out.old) }
         ensures setup { last_setup self.new ≡ last_setup self.old }
+        ensures saw { saw self.old (Activate (length (drop 4 out.old)) ∷ []) self.new }
         ensures others { keeps self.old self.new };
 
     // `keeps` is reflexive
@@ -53,4 +60,10 @@ pub trait Host {
 
     // `keeps` is transitive
     ghost keeps_on: { (a b c : Self) → keeps a b → keeps b c → keeps a c };
+
+    // no FIS leaves the host as it is
+    ghost saw_none: { (a : Self) → saw a [] a };
+
+    // FISes after one another
+    ghost saw_more: { (a b c : Self) (first then : List Passed) → saw a first b → saw b then c → saw a (first ++ then) c };
 }

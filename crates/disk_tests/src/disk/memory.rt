@@ -51,9 +51,15 @@ impl Host for Memory {
 
     ghost keeps = { λ a b. vec_len b.text ≡ vec_len a.text };
 
+    ghost saw = { λ a fises b. Unit {0} };
+
     ghost keeps_itself = { λ a. refl };
 
     ghost keeps_on = { λ a b c ab bc. Prim.cc };
+
+    ghost saw_none = { λ a. unit };
+
+    ghost saw_more = { λ a b c first then ab bc. unit };
 
     fn setup(&mut self, fis: &[u8; 28]) {
         self.link.setup = *fis;

@@ -1,11 +1,12 @@
 //! Data FISes between the disk and a host (Serial ATA, "Data FIS" and "DMA Activate FIS"). Each has 8,192 bytes of
 //! payload, the last one the rest. Every byte is copied once here: into a Data FIS, or out of one.
 
-ghost use Rattle.std.specs.Prelude.{◌≡◌, ◌+◌, ◌*◌, ◌/◌, ◌≤◌, ◌++◌, length, take, drop, slice_range};
+ghost use Rattle.std.specs.Prelude.{◌≡◌, ◌+◌, ◌*◌, ◌/◌, ◌≤◌, ◌++◌, ◌∷◌, [], true, false, length, take, drop, slice_range};
 ghost use Rattle.std.specs.List.{replace_range};
 ghost use Rattle.sata_fis.specs.Encoding.{data_head_bytes};
 ghost use Rattle.sata_fis.specs.Payload.{IsPayload};
 ghost use Rattle.ncq_core.specs.Serving.{HasMoved, IsRead, IsWritten, byte_count};
+ghost use Rattle.ncq_core.specs.Traffic.{Activate, Data, moved_by};
 
 use crate::disk::answers::activate;
 use crate::host::Host;
@@ -34,6 +35,7 @@ fn deliver_one<H: Host>(host: &mut H, room: &mut [u8; DATA_FIS], payload: &[u8])
     ensures text { H.text host.new ≡ replace_range (H.text host.old) (H.offset host.old) (H.offset host.old + length payload.now) payload.now }
     ensures offset { H.offset host.new ≡ H.offset host.old + length payload.now }
     ensures setup { H.last_setup host.new ≡ H.last_setup host.old }
+    ensures saw { H.saw host.old (Data (length payload.now) ∷ []) host.new }
     ensures others { H.keeps host.old host.new }
 {
     let fis = &mut room[..4 + payload.len()];
@@ -49,6 +51,7 @@ fn fetch_one<H: Host>(host: &mut H, room: &mut [u8; DATA_FIS], out: &mut [u8])
     ensures text { H.text host.new ≡ H.text host.old }
     ensures offset { H.offset host.new ≡ H.offset host.old + length out.old }
     ensures setup { H.last_setup host.new ≡ H.last_setup host.old }
+    ensures saw { H.saw host.old (Activate (length out.old) ∷ []) host.new }
     ensures others { H.keeps host.old host.new }
 {
     let fis = &mut room[..4 + out.len()];
@@ -64,6 +67,7 @@ fn deliver<H: Host>(host: &mut H, room: &mut [u8; DATA_FIS], bytes: &[u8])
     ensures text { H.text host.new ≡ bytes.now ++ drop (length bytes.now) (H.text host.old) }
     ensures offset { H.offset host.new ≡ length bytes.now }
     ensures setup { H.last_setup host.new ≡ H.last_setup host.old }
+    ensures saw { H.saw host.old (moved_by false (length bytes.now)) host.new }
     ensures others { H.keeps host.old host.new }
 {
     let mut sent = 0;
@@ -83,6 +87,7 @@ fn fetch<H: Host>(host: &mut H, room: &mut [u8; DATA_FIS], out: &mut [u8])
     ensures text { H.text host.new ≡ H.text host.old }
     ensures offset { H.offset host.new ≡ length out.old }
     ensures setup { H.last_setup host.new ≡ H.last_setup host.old }
+    ensures saw { H.saw host.old (moved_by true (length out.old)) host.new }
     ensures others { H.keeps host.old host.new }
 {
     let mut filled = 0;
@@ -116,6 +121,7 @@ fn read_data<H: Host>(host: &mut H, room: &mut [u8; DATA_FIS], command: &Queued,
     ensures data { IsRead command.now image.now image.now (H.text host.old) (H.text host.new) }
     ensures offset { H.offset host.new ≡ byte_count command.now }
     ensures setup { H.last_setup host.new ≡ H.last_setup host.old }
+    ensures saw { H.saw host.old (moved_by false (byte_count command.now)) host.new }
     ensures others { H.keeps host.old host.new }
 {
     let start = first_byte(command);
@@ -130,6 +136,7 @@ fn write_data<H: Host>(host: &mut H, room: &mut [u8; DATA_FIS], command: &Queued
     ensures data { IsWritten command.now image.old image.new (H.text host.old) (H.text host.new) }
     ensures offset { H.offset host.new ≡ byte_count command.now }
     ensures setup { H.last_setup host.new ≡ H.last_setup host.old }
+    ensures saw { H.saw host.old (moved_by true (byte_count command.now)) host.new }
     ensures others { H.keeps host.old host.new }
 {
     let start = first_byte(command);
@@ -149,6 +156,7 @@ pub(super) fn move_data<H: Host>(
     ensures data { HasMoved command.now image.old image.new (H.text host.old) (H.text host.new) }
     ensures offset { H.offset host.new ≡ byte_count command.now }
     ensures setup { H.last_setup host.new ≡ H.last_setup host.old }
+    ensures saw { H.saw host.old (moved_by command.now.write (byte_count command.now)) host.new }
     ensures others { H.keeps host.old host.new }
 {
     if command.write {

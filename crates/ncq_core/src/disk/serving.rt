@@ -6,6 +6,7 @@ ghost use Rattle.ncq_core.specs.DiskFis.{setup_bytes, failed_bytes};
 ghost use Rattle.ncq_core.specs.Verdict.{stopped_by};
 ghost use Rattle.ncq_core.specs.Log.{log_page};
 ghost use Rattle.ncq_core.specs.Serving.{HasMoved, answered, byte_count, fail_fault, covers_sector, serve_fault, served};
+ghost use Rattle.ncq_core.specs.Traffic.{moved_by, passed_for};
 
 use crate::disk::Disk;
 use crate::disk::answers::{dma_setup, failed};
@@ -25,7 +26,8 @@ fn covers_sector(command: &Queued, lba: u64) -> bool
 }
 
 impl<A: Allocator> Disk<A> {
-    /// Serves the command outstanding at a tag: one DMA Setup, then its data. A read puts its sectors at the beginning of
+    /// Serves the command outstanding at a tag: one DMA Setup, then its data, in Data FISes with 8,192 bytes of payload and the rest; each of
+    /// a write after a DMA Activate. A read puts its sectors at the beginning of
     /// the host's text; a write makes its sectors the first bytes of that text. Which Set Device Bits FIS tells that it is
     /// completed, alone or with others, `completed` says.
     ///
@@ -38,6 +40,7 @@ impl<A: Allocator> Disk<A> {
         ensures data { OnOk result (IsSomeAnd (command_of self.old tag) (λ q. HasMoved q self.old.image self.new.image (H.text host.old) (H.text host.new))) }
         ensures setup { OnOk result (IsSomeAnd (command_of self.old tag) (λ q. H.last_setup host.new ≡ setup_bytes q)) }
         ensures offset { OnOk result (IsSomeAnd (command_of self.old tag) (λ q. H.offset host.new ≡ byte_count q)) }
+        ensures saw { OnOk result (IsSomeAnd (command_of self.old tag) (λ q. H.saw host.old (passed_for q) host.new)) }
         ensures others { H.keeps host.old host.new }
         ensures disk_at_err { OnErr result (self.new ≡ self.old) }
         ensures host_at_err { OnErr result (host.new ≡ host.old) }
@@ -104,6 +107,7 @@ impl<A: Allocator> Disk<A> {
         ensures data { HasMoved command.now self.old.image self.new.image (H.text host.old) (H.text host.new) }
         ensures offset { H.offset host.new ≡ byte_count command.now }
         ensures setup { H.last_setup host.new ≡ H.last_setup host.old }
+        ensures saw { H.saw host.old (moved_by command.now.write (byte_count command.now)) host.new }
         ensures others { H.keeps host.old host.new }
     {
         move_data(host, &mut self.room, command, self.image.as_mut_slice());

@@ -4,8 +4,8 @@ use Rattle.ahci_driver.proofs.settling.settle.Goals as goal
 
 pub unclaimed-requires : goal.unclaimed-requires
 unclaimed-requires g c = rw c.deref-3.ensures.value
-    (all_claimed c.args.port.now c.args.jobs.now c.args.receipts.now c.args.workers c.in-Ok-claimed.claims.count c.in-Ok-claimed.claims.places.items (omega arith)
-    c.in-Ok-claimed.ensures.fit c.in-Ok-claimed.ensures.end c.in_default-first_wrong.ensures)
+    (all_claimed c.args.port.now c.args.jobs.now c.args.receipts.now c.args.workers c.in_ok-claims.claims.count c.in_ok-claims.claims.places.items (omega arith)
+    c.in_ok-claims.ensures.fit c.in_ok-claims.ensures.end c.in_default-first_wrong.ensures)
 
 pub returns-clause-ok : goal.returns-clause-ok
 returns-clause-ok g c = record {

@@ -1,5 +1,6 @@
 -- what has been sent so far
-use Rattle.std.proofs.Common.{◌≡◌, ◌-◌, ◌*◌, ◌/◌, ◌≤◌, ◌++◌, length, take, drop}
+use Rattle.std.proofs.Common.{◌≡◌, ◌-◌, ◌*◌, ◌/◌, ◌%◌, ◌<◌, ◌≤◌, ◌++◌, false, length, take, drop}
+use Rattle.ncq_core.specs.Traffic.{moved_by}
 use Rattle.ncq_core.proofs.disk.moving.deliver.Given as goal
 
 abbrev pub invariant-loop-sent : goal.invariant-loop-sent
@@ -9,6 +10,8 @@ invariant-loop-sent g l = record {
   offset : g.H.Host.offset l.host ≡ l.sent;
   text : g.H.Host.text l.host ≡ take l.sent l.bytes ++ drop l.sent (g.H.Host.text l.fn.host);
   setup : g.H.Host.last_setup l.host ≡ g.H.Host.last_setup l.fn.host;
+  aligned : l.sent < length l.bytes → l.sent % 8192 ≡ 0;
+  saw : g.H.Host.saw l.fn.host (moved_by false l.sent) l.host;
   others : g.H.Host.keeps l.fn.host l.host;
 }
 

@@ -1,6 +1,8 @@
-use Rattle.std.proofs.Common.{◌≡◌, ◌+◌, ◌-◌, ◌≤◌, length, take, drop, ap, ◌∙◌, arith, length-take, length-drop}
+use Rattle.std.proofs.Common.{◌≡◌, ◌+◌, ◌-◌, ◌%◌, ◌≤◌, ◌++◌, ◌∷◌, [], true, length, take, drop, ap, subst, ◌∙◌, arith, length-take, length-drop}
 use Rattle.std.specs.List.{slice_range}
+use Rattle.ncq_core.specs.Traffic.{Activate, moved_by}
 use Rattle.ncq_core.proofs.MovingLemmas.{fetched_more, length-put_mid}
+use Rattle.ncq_core.proofs.TrafficLemmas.{fetched_on}
 use Rattle.ncq_core.proofs.disk.moving.fetch.Goals as goal
 
 pub loop-filled-preserved : goal.loop-filled-preserved
@@ -11,6 +13,7 @@ loop-filled-preserved g c =
     let n = end - done in
     let text = g.H.Host.text c.args.host.now in
     let size : length (take n (drop done out)) ≡ n = length-take n (drop done out) ∙ (let d = length-drop done out in omega arith) in
+    let aligned : done % 8192 ≡ 0 = c.loop-filled.invariant.aligned (omega arith) in
     let at = c.loop-filled.invariant.offset in
     let same = c.loop-filled.invariant.text in
     let part = c.fetch_one.ensures.out
@@ -27,5 +30,9 @@ loop-filled-preserved g c =
       text = c.fetch_one.ensures.text ∙ same;
       out = fetched_more out text c.fetch_one.new.out done end n (omega arith) (omega arith) (omega arith) c.loop-filled.invariant.out part;
       setup = c.fetch_one.ensures.setup ∙ c.loop-filled.invariant.setup;
+      aligned = λ less. (omega arith);
+      saw = subst (λ fises. g.H.Host.saw c.args.host.now fises c.fetch_one.new.host)
+          (ap (λ k. moved_by true done ++ Activate k ∷ []) size ∙ fetched_on done end n aligned (omega arith) (omega arith) (omega arith))
+          (g.met.H.Host.saw_more c.args.host.now c.loop-filled.host c.fetch_one.new.host _ _ c.loop-filled.invariant.saw c.fetch_one.ensures.saw);
       others = g.met.H.Host.keeps_on c.args.host.now c.loop-filled.host c.fetch_one.new.host c.loop-filled.invariant.others c.fetch_one.ensures.others;
     }

@@ -1,5 +1,6 @@
 -- what has been filled so far
-use Rattle.std.proofs.Common.{◌≡◌, ◌-◌, ◌*◌, ◌/◌, ◌≤◌, length, take}
+use Rattle.std.proofs.Common.{◌≡◌, ◌-◌, ◌*◌, ◌/◌, ◌%◌, ◌<◌, ◌≤◌, true, length, take}
+use Rattle.ncq_core.specs.Traffic.{moved_by}
 use Rattle.ncq_core.proofs.disk.moving.fetch.Given as goal
 
 abbrev pub invariant-loop-filled : goal.invariant-loop-filled
@@ -11,6 +12,8 @@ invariant-loop-filled g l = record {
   text : g.H.Host.text l.host ≡ g.H.Host.text l.fn.host;
   out : take l.filled l.out ≡ take l.filled (g.H.Host.text l.fn.host);
   setup : g.H.Host.last_setup l.host ≡ g.H.Host.last_setup l.fn.host;
+  aligned : l.filled < length l.fn.out → l.filled % 8192 ≡ 0;
+  saw : g.H.Host.saw l.fn.host (moved_by true l.filled) l.host;
   others : g.H.Host.keeps l.fn.host l.host;
 }
 

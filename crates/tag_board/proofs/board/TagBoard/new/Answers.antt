@@ -12,4 +12,4 @@ of_words-requires g c =
 
 pub invariant_of-result-2 : goal.invariant_of-result-2
 invariant_of-result-2 g c =
-    let me = c.in-Ok.ensures.4 in (bits_zero ∙ sym (tags_after _ _ me), slots_after _ _ me)
+    let me = c.in_ok-table.ensures.4 in (bits_zero ∙ sym (tags_after _ _ me), slots_after _ _ me)
