@@ -1,13 +1,13 @@
 /* One AHCI port with its NCQ disk, as C calls of the static library libahci.a or the shared one libahci.so.0: `make -C c` builds both.
 
-   Every call answers a status, AHCI_OK or the one reason for which it was refused (ahci_status). A refused call has changed
-   nothing: neither the port nor what its pointers lead to, but where ahci_port_write_register says so. AHCI_OUT_OF_MEMORY stands
-   for nothing but refused memory.
+   Every call returns a status: AHCI_OK, or the one reason for which it was refused (ahci_status). A refused call has changed
+   nothing, neither the port nor what its pointers lead to; ahci_port_write_register describes the one exception.
+   AHCI_OUT_OF_MEMORY means that an allocation failed, and nothing else.
 
-   What the caller owes, since nothing checks it: each pointer is valid for the bytes said, aligned for its type, and not null,
-   also where 0 bytes are said; no two of one call overlap; an ahci_port is never copied and its fields are never read or
-   written; one call at a time is made of one port. Calls of different ports may run at once on different threads, and a port
-   may go from one thread to another if something orders the calls. docs/C.md has all of it.
+   What the caller owes, since nothing checks it: each pointer is valid for the bytes given, aligned for its type, and not null,
+   even for 0 bytes; no two pointers of one call overlap; an ahci_port is never copied, and the caller never reads or writes its
+   fields; one call at a time for one port. Calls for different ports may run at once on different threads, and a port may move
+   to another thread if something orders the calls. docs/C.md has all of it.
 
    "Section" is one of AHCI 1.3.1, "SATA" Serial ATA, and ACS-3 the ATA command set. A sector has 512 bytes. */
 #ifndef AHCI_H
@@ -21,8 +21,8 @@
 extern "C" {
 #endif
 
-/* The version of this header: major, minor and patch, a byte each. That of the library is what ahci_version answers. */
-#define AHCI_VERSION 0x000100u
+/* The version of this header: major, minor and patch, a byte each. ahci_version returns that of the library. */
+#define AHCI_VERSION 0x010000u
 
 #define AHCI_SECTOR_BYTES 512
 #define AHCI_MOST_SECTORS 131072   /* of one port's disk: 64 MiB */
@@ -109,7 +109,7 @@ extern "C" {
 #define AHCI_ERROR_IDNF 0x10u
 #define AHCI_ERROR_UNC 0x40u
 
-/* A place for a port. All zeros is an empty place. */
+/* The place of a port, in the caller's memory. All zeros is an empty place. */
 typedef struct ahci_port {
     void *at;
     bool full;
@@ -118,45 +118,45 @@ typedef struct ahci_port {
 } ahci_port;
 #define AHCI_PORT_EMPTY { NULL, false, false, 0 }
 
-/* What a call answers. Each stands for one thing. */
+/* What a call returns. Each has one meaning. */
 typedef enum ahci_status {
     AHCI_OK = 0,
-    /* of places, arguments and memory */
+    /* places, arguments and memory */
     AHCI_NO_PORT = 1,           /* the place is empty */
     AHCI_PORT_THERE = 2,        /* the place has a port already */
-    AHCI_OUT_OF_MEMORY = 3,     /* the system gave no memory */
-    AHCI_BUFFER_TOO_SMALL = 4,  /* the answer has more bytes than the buffer */
-    AHCI_WRONG_LENGTH = 5,      /* a buffer of one fixed length has another */
+    AHCI_OUT_OF_MEMORY = 3,     /* an allocation failed */
+    AHCI_BUFFER_TOO_SMALL = 4,  /* the result has more bytes than the buffer */
+    AHCI_WRONG_LENGTH = 5,      /* a buffer that has a fixed length has another */
     AHCI_BAD_TAG = 6,           /* the tag is not 0 to 31 */
-    AHCI_BAD_KIND = 7,          /* the kind is none of those that the call knows */
+    AHCI_BAD_KIND = 7,          /* the call does not know this kind */
     AHCI_NO_SUCH_SECTOR = 8,    /* the LBA is past the last sector */
     AHCI_NO_SUCH_ENTRY = 9,     /* the journal has no entry of this number, or it has no bytes */
     AHCI_TOO_MANY_TAGS = 10,    /* a list of over 32 tags */
-    /* of making a port */
+    /* making a port */
     AHCI_BAD_SIZE = 11,         /* the disk is not 1 to 131,072 whole sectors */
     AHCI_BAD_DEPTH = 12,        /* the depth is not 1 to 32 */
     AHCI_BAD_FIRST = 13,        /* the number of the first entry is over 2^63 */
-    /* of registers */
+    /* registers */
     AHCI_UNALIGNED = 16,        /* the offset isn't a multiple of 4 */
-    AHCI_NO_SUCH_REGISTER = 17, /* no register of this model stands at the offset */
-    AHCI_NOT_STARTED = 18,      /* a write of PxSACT or PxCI while ST is 0: no call answers it, since a port here is started */
-    AHCI_NOT_RECEIVING = 19,    /* a write that sets ST while FRE is 0: no call answers it, since FRE is 1 here */
+    AHCI_NO_SUCH_REGISTER = 17, /* this model has no register at the offset */
+    AHCI_NOT_STARTED = 18,      /* a write of PxSACT or PxCI while ST is 0: no call returns it, since a port here is started */
+    AHCI_NOT_RECEIVING = 19,    /* a write that sets ST while FRE is 0: no call returns it, since FRE is 1 here */
     AHCI_RUNNING = 20,          /* a write that clears FRE, or moves PxCLB or PxFB */
     AHCI_NOT_QUEUED = 21,       /* a write that sets a bit of PxCI whose bit of PxSACT was not written before */
-    /* of the port */
+    /* the port */
     AHCI_HALTED = 32,           /* a command has failed, and the port has not recovered */
     AHCI_NO_SUCH_TAG = 33,      /* the tag is not below the depth */
     AHCI_SLOT_OWNED = 34,       /* the slot has a request */
-    AHCI_BAD_HEADER = 35,       /* the command header is none that the port takes, or its table isn't in the window */
-    AHCI_BAD_COMMAND = 36,      /* CFIS is no READ or WRITE FPDMA QUEUED in the header's direction */
+    AHCI_BAD_HEADER = 35,       /* the port does not take this command header, or its table isn't in the window */
+    AHCI_BAD_COMMAND = 36,      /* CFIS is not a READ or WRITE FPDMA QUEUED in the header's direction */
     AHCI_WRONG_TAG = 37,        /* the command's tag is not the window's */
-    AHCI_BAD_LIST = 38,         /* the PRDT is none that the port takes */
-    AHCI_BAD_COUNT = 39,        /* not 1 to 65,536 sectors, or a write whose bytes are not as many sectors */
+    AHCI_BAD_LIST = 38,         /* the port does not take this PRDT */
+    AHCI_BAD_COUNT = 39,        /* not 1 to 65,536 sectors, or a write with another number of bytes */
     AHCI_BAD_LBA = 40,          /* the LBA doesn't fit 48 bits */
-    AHCI_NOT_ISSUED = 41,       /* the tag's command does not wait for the device */
-    AHCI_NOT_ACCEPTED = 42,     /* the command of the tag, or of some tag of the list, is not accepted */
+    AHCI_NOT_ISSUED = 41,       /* the tag's command is not waiting for the device */
+    AHCI_NOT_ACCEPTED = 42,     /* the command of the tag, or of a tag of the list, is not accepted */
     AHCI_OUTSIDE_COMMAND = 43,  /* the sector is not one of the command's */
-    AHCI_BAD_TAGS = 44,         /* a list of no tag, or with one tag twice */
+    AHCI_BAD_TAGS = 44,         /* an empty list, or one with a tag twice */
     AHCI_NOT_HALTED = 45,       /* no command has failed */
     AHCI_NOT_HELD = 46,         /* the tag's command is not held */
     AHCI_QUEUE_BUSY = 47,       /* a queued command is issued or accepted */
@@ -165,15 +165,15 @@ typedef enum ahci_status {
     AHCI_BUSY = 50,             /* some slot is not free */
     AHCI_SPENT = 51,            /* the number of the next entry is over 2^63 */
     AHCI_NOT_READY = 52,        /* the controller can't take this step now */
-    /* of FISes */
+    /* FISes */
     AHCI_EMPTY_FIS = 64,        /* there are no bytes */
     AHCI_UNKNOWN_TYPE = 65,     /* the type is none of the seven */
     AHCI_WRONG_FIS_LENGTH = 66, /* the type doesn't have so many bytes */
     AHCI_BAD_FLAG = 67,         /* a flag that is neither 0 nor 1 */
     AHCI_BAD_STATUS = 68,       /* bit 7 or 3 of a Set Device Bits FIS's status is 1 */
     AHCI_BAD_PAYLOAD = 69,      /* the payload of a Data FIS is not 4 to 8,192 bytes, a multiple of 4 */
-    /* of journals */
-    AHCI_NOT_ALLOWED = 80       /* an event that can't come where it stands */
+    /* journals */
+    AHCI_NOT_ALLOWED = 80       /* an event that can't come at this place */
 } ahci_status;
 
 /* What a command does. */
@@ -182,7 +182,7 @@ typedef enum ahci_kind {
     AHCI_WRITE = 1
 } ahci_kind;
 
-/* Where a tag's command stands. */
+/* How far a tag's command is. */
 typedef enum ahci_phase {
     AHCI_PHASE_FREE = 0,        /* the slot has no request */
     AHCI_PHASE_ISSUED = 1,      /* the command waits for the device */
@@ -202,7 +202,7 @@ typedef enum ahci_did {
 
 typedef struct ahci_stepped {
     uint64_t first; /* the number of the step's first entry */
-    uint32_t count; /* how many entries it has: one, but for a list of tags */
+    uint32_t count; /* how many entries it has: one, or one for each tag of a list */
     uint32_t did;   /* ahci_did */
 } ahci_stepped;
 
@@ -224,20 +224,20 @@ typedef struct ahci_reply {
 
 /* One slot of a port. */
 typedef struct ahci_slot {
-    uint64_t number; /* that of the request that owns it; 0 where it is free */
-    uint64_t bytes;  /* how many bytes its request reads: those that collect wants room for; 0 for a write or a free slot */
+    uint64_t number; /* that of the request that owns it; 0 if it is free */
+    uint64_t bytes;  /* how many bytes its request reads, for which collect needs room; 0 for a write or a free slot */
     uint32_t phase;  /* ahci_phase */
-    uint32_t owned;  /* 1 where a request owns it, else 0 */
+    uint32_t owned;  /* 1 if a request owns it, else 0 */
 } ahci_slot;
 
-/* Which tags wait for what, each set as the bits of a word. */
+/* Tags by what they wait for, each set as the bits of a word. */
 typedef struct ahci_tag_sets {
-    uint32_t issued;   /* their command waits for the device */
+    uint32_t issued;   /* their command is waiting for the device */
     uint32_t accepted; /* the device has taken their command, and it has not failed */
     uint32_t held;     /* another command's error has ended theirs */
 } ahci_tag_sets;
 
-/* What an entry of the journal says. */
+/* What an entry of the journal records. */
 typedef enum ahci_event {
     AHCI_EVENT_READ = 0,     /* a read is issued: tag, lba, sectors */
     AHCI_EVENT_WRITE = 1,    /* a write is issued: tag, lba, sectors */
@@ -249,10 +249,10 @@ typedef enum ahci_event {
     AHCI_EVENT_COLLECT = 7,  /* tag */
     AHCI_EVENT_IDENTIFY = 8, /* IDENTIFY DEVICE was carried out */
     AHCI_EVENT_FLUSH = 9,    /* FLUSH CACHE EXT was carried out */
-    AHCI_EVENT_READ_LOG = 10 /* READ LOG EXT by itself: no port does so */
+    AHCI_EVENT_READ_LOG = 10 /* READ LOG EXT by itself: no port records it */
 } ahci_event;
 
-/* One entry. What its kind doesn't name is 0. */
+/* One entry. What its kind doesn't have is 0. */
 typedef struct ahci_entry {
     uint64_t lba;
     uint32_t sectors;
@@ -263,7 +263,7 @@ typedef struct ahci_entry {
 
 /* What a driver's write of a register did. */
 typedef enum ahci_wrote {
-    AHCI_WROTE_WORD = 0,    /* no command has moved */
+    AHCI_WROTE_WORD = 0,    /* no command was issued or ended */
     AHCI_WROTE_COMMANDS = 1, /* PxCI: the commands of `slots` are issued, or issued again */
     AHCI_WROTE_START = 2,   /* PxCMD: the port has recovered from the failure of `tag` */
     AHCI_WROTE_SOME = 3     /* PxCI, refused: the command of slot `tag` is not issued, and those of the slots below it are */
@@ -275,14 +275,14 @@ typedef struct ahci_written {
     uint32_t tag;   /* of AHCI_WROTE_START and AHCI_WROTE_SOME; else 0 */
 } ahci_written;
 
-/* All that can be seen of a port at once, with no padding: two ports that have done the same are equal by memcmp. */
+/* The whole visible state of a port, without padding: two ports that have done the same are equal by memcmp. */
 typedef struct ahci_state {
     uint64_t first;         /* the number of the journal's first entry, and of the next one */
     uint64_t next;
-    uint64_t numbers[32];   /* by tag: that of the request that owns the slot; 0 where it is free */
+    uint64_t numbers[32];   /* by tag: that of the request that owns the slot; 0 if it is free */
     uint32_t depth;
     uint32_t sectors;
-    uint32_t halted;        /* 1 where a command has failed and the port has not recovered, else 0 */
+    uint32_t halted;        /* 1 if a command has failed and the port has not recovered, else 0 */
     uint32_t issued;        /* as in ahci_tag_sets */
     uint32_t accepted;
     uint32_t held;
@@ -332,7 +332,7 @@ typedef struct ahci_fis {
     uint8_t tag;       /* DMA Setup: below 32 */
 } ahci_fis;
 
-/* What a window asks for. */
+/* The command of a window. */
 typedef struct ahci_command {
     uint64_t lba;
     uint32_t sectors;
@@ -343,7 +343,7 @@ typedef struct ahci_command {
 
 /* ---- a controller ---- */
 
-/* A place for a controller. All zeros is an empty place. */
+/* The place of a controller, in the caller's memory. All zeros is an empty place. */
 typedef struct ahci_hba {
     void *at;
     bool full;
@@ -354,7 +354,7 @@ typedef struct ahci_hba {
 typedef enum ahci_want {
     AHCI_WANT_NOTHING = 0,
     AHCI_WANT_READ = 1,  /* it reads a run of bytes: ahci_hba_supply gives them */
-    AHCI_WANT_WRITE = 2  /* it writes some bytes: ahci_hba_bytes has them, and ahci_hba_written says that they are written */
+    AHCI_WANT_WRITE = 2  /* it writes some bytes: ahci_hba_bytes copies them out, and ahci_hba_written confirms that they are written */
 } ahci_want;
 
 /* The next step with the command of a slot. Which of the slots comes first is the caller's choice. */
@@ -364,13 +364,13 @@ typedef enum ahci_hba_step_kind {
     AHCI_STEP_SEND = 2,    /* it goes to the disk's queue: its request is in the journal then */
     AHCI_STEP_ACCEPT = 3,  /* the disk takes it, or refuses it if it passes the last sector */
     AHCI_STEP_SERVE = 4,   /* the disk moves its data and completes it; or ahci_hba_fail fails it */
-    AHCI_STEP_DELIVER = 5, /* its answer is put together, and written next */
+    AHCI_STEP_DELIVER = 5, /* its answer is assembled, and written next */
     AHCI_STEP_EXECUTE = 6, /* a command that does not move sectors is carried out, or aborted */
     AHCI_STEP_CONTROL = 7, /* a control FIS sets or clears SRST (section 10.4.1): all commands are dropped */
     AHCI_STEP_RECOVER = 8  /* the log of a failed queued command is read (section 6.2.2): what it held up is dropped */
 } ahci_hba_step_kind;
 
-/* All that says what a controller does next, with no padding. */
+/* What a controller does next, without padding. */
 typedef struct ahci_hba_state {
     uint64_t address;   /* where it reads or writes next; 0 if it does neither */
     uint64_t length;    /* how many bytes; 0 if it does neither */
@@ -402,7 +402,7 @@ typedef enum ahci_rule {
     AHCI_RULE_FIS_LENGTH = 16, /* CFL is not the five dwords of a Register FIS - Host to Device (section 4.2.2) */
     AHCI_RULE_NO_COMMAND_FIS = 17, /* CFIS is no Register FIS - Host to Device (section 4.2.3) */
     AHCI_RULE_ATAPI_FLAG = 18, /* A is 1 for a disk (section 4.2.2) */
-    AHCI_RULE_WRITE_FLAG = 19, /* W does not tell the direction of the data (section 4.2.2) */
+    AHCI_RULE_WRITE_FLAG = 19, /* W is not the direction of the data (section 4.2.2) */
     AHCI_RULE_ACTIVE_WITHOUT_QUEUE = 20, /* PxSACT has the slot of a command that is not queued (section 3.3.13) */
     AHCI_RULE_QUEUE_WITHOUT_ACTIVE = 21, /* PxSACT does not have the slot of a queued command (section 5.5.1) */
     AHCI_RULE_TAG_NOT_SLOT = 22, /* the tag of a queued command is not its slot (section 3.3.13) */
@@ -424,11 +424,11 @@ uint32_t ahci_port_new(ahci_port *port, const uint8_t *image, size_t image_bytes
 /* The same over a disk of zeros. */
 uint32_t ahci_port_new_zeros(ahci_port *port, uint32_t sectors, uint32_t depth);
 
-/* As ahci_port_new, where the journal goes on from an earlier one: its first entry has the number `first`, at most 2^63.
+/* As ahci_port_new, but the journal continues an earlier one: its first entry has the number `first`, at most 2^63.
    AHCI_BAD_FIRST after AHCI_BAD_DEPTH. */
 uint32_t ahci_port_resume(ahci_port *port, const uint8_t *image, size_t image_bytes, uint32_t depth, uint64_t first);
 
-/* Frees a port, and leaves its place empty. AHCI_NO_PORT, as of every call from here on to ahci_port_state. */
+/* Frees a port, and leaves its place empty. AHCI_NO_PORT, as every call from here to ahci_port_state. */
 uint32_t ahci_port_free(ahci_port *port);
 
 /* How many slots there are, 1 to 32. */
@@ -437,87 +437,87 @@ uint32_t ahci_port_depth(ahci_port *port, uint32_t *depth);
 /* How many sectors the disk has, 1 to 131,072. */
 uint32_t ahci_port_sectors(ahci_port *port, uint32_t *sectors);
 
-/* Reads the register at an offset from the HBA's base, in bytes (sections 3.1 and 3.3): port 0's stand from 100h on.
+/* Reads the register at an offset from the HBA's base, in bytes (sections 3.1 and 3.3); those of port 0 begin at 100h.
    AHCI_UNALIGNED, AHCI_NO_SUCH_REGISTER. */
 uint32_t ahci_port_register(ahci_port *port, uint32_t offset, uint32_t *word);
 
 /* Software writes a word to PxIS, in which a 1 clears (section 3.3.5). */
 uint32_t ahci_port_acknowledge(ahci_port *port, uint32_t mask);
 
-/* Takes a word that a driver writes to the register at an offset (section 3.3). *done tells what the write did.
+/* Takes a word that a driver writes to the register at an offset (section 3.3). *done reports what the write did.
    PxSACT: a bit announces a command, of a slot that the port has and whose bit is not set already. AHCI_HALTED.
-   PxCI: each newly set bit issues the command of that slot, the lowest slot first. Its header stands in `list`, the 1,024 bytes
-   at PxCLB, and its window, from the tag's base on as of ahci_port_issue, in `windows`, of which slot s has the bytes from
-   s * (windows_bytes / 32) on. A held command is issued again as it stands in its slot. AHCI_HALTED, AHCI_NOT_QUEUED, and nothing
-   has changed; or what ahci_port_issue says against the first command that is not issued, with *done as AHCI_WROTE_SOME: the commands of
-   the slots below it are issued, and the others wait to be written again.
-   PxCMD, with FRE: without ST it stops a port whose command has failed, AHCI_NOT_HALTED else; with ST it starts the port again, which
-   recovers by it as by ahci_port_recover. AHCI_RUNNING without FRE; AHCI_OUT_OF_MEMORY.
-   PxIS: a 1 clears. PxIE keeps the interrupts that the port has. PxCLB and PxFB: AHCI_RUNNING where they would move. All others
-   ignore the word, as do the bits of a register that the port has not (CLO, SUD, POD of PxCMD): it reads as it did.
-   AHCI_WRONG_LENGTH where list_bytes is not 1,024, also where the register is another, AHCI_UNALIGNED, AHCI_NO_SUCH_REGISTER. */
+   PxCI: each newly set bit issues the command of that slot, the lowest slot first. Its header is in `list`, the 1,024 bytes
+   at PxCLB. Its window, from the tag's base on as in ahci_port_issue, is in `windows`; slot s has the bytes from
+   s * (windows_bytes / 32) on. A held command is issued again as it is in its slot. AHCI_HALTED, AHCI_NOT_QUEUED, and nothing
+   has changed; or the status of ahci_port_issue for the first command that is not issued, with *done as AHCI_WROTE_SOME: the commands
+   of the slots below it are issued, and the others have to be written again.
+   PxCMD, with FRE: without ST it stops a port whose command has failed, else AHCI_NOT_HALTED; with ST it starts the port again, which
+   then recovers as by ahci_port_recover. AHCI_RUNNING without FRE; AHCI_OUT_OF_MEMORY.
+   PxIS: a 1 clears. PxIE keeps the interrupts that the port has. PxCLB and PxFB: AHCI_RUNNING if they would move. All others
+   ignore the word, and so do bits that the port does not have (CLO, SUD, POD of PxCMD).
+   AHCI_WRONG_LENGTH if list_bytes is not 1,024, for every register; AHCI_UNALIGNED, AHCI_NO_SUCH_REGISTER. */
 uint32_t ahci_port_write_register(ahci_port *port, uint32_t offset, uint32_t word, const uint8_t *list, size_t list_bytes, const uint8_t *windows, size_t windows_bytes, ahci_written *done);
 
 /* Reads a register as a driver finds it between its writes: PxSACT has the bits that are announced, and a port that was stopped
-   by PxCMD shows no ST and no command. Else as ahci_port_register. AHCI_UNALIGNED, AHCI_NO_SUCH_REGISTER. */
+   by PxCMD shows no ST and no command. Otherwise as ahci_port_register. AHCI_UNALIGNED, AHCI_NO_SUCH_REGISTER. */
 uint32_t ahci_port_read_register(ahci_port *port, uint32_t offset, uint32_t *word);
 
 /* Copies the received FIS area (section 4.2.1): DMA Setup at 00h, PIO Setup at 20h, D2H Register at 40h, Set Device Bits at
-   58h. AHCI_WRONG_LENGTH where out_bytes is not 256. */
+   58h. AHCI_WRONG_LENGTH if out_bytes is not 256. */
 uint32_t ahci_port_received(ahci_port *port, uint8_t *out, size_t out_bytes);
 
-/* Issues the command of a window as it lies in memory ("Building a Command"): the 32 bytes of its command header, and the
-   memory from the tag's base on, 10000000h + tag * 4000000h, in which the header's table and the PRDT's data stand. Its number is *number, that of its Issue
-   entry. AHCI_BAD_TAG where the tag is not below 32, AHCI_WRONG_LENGTH where the header has not 32 bytes, then AHCI_HALTED,
+/* Issues the command of a window as it is in memory ("Building a Command"): the 32 bytes of its command header, and the
+   memory from the tag's base on, 10000000h + tag * 4000000h, with the header's table and the PRDT's data. Its number is *number, that of its Issue
+   entry. AHCI_BAD_TAG if the tag is not below 32, AHCI_WRONG_LENGTH if the header has not 32 bytes, then AHCI_HALTED,
    AHCI_NO_SUCH_TAG, AHCI_SLOT_OWNED, AHCI_BAD_HEADER, AHCI_BAD_COMMAND, AHCI_WRONG_TAG, AHCI_BAD_LIST, AHCI_OUT_OF_MEMORY. */
 uint32_t ahci_port_issue(ahci_port *port, uint32_t tag, const uint8_t *header, size_t header_bytes, const uint8_t *memory, size_t memory_bytes, uint64_t *number);
 
 /* Issues a read or a write of `sectors` sectors from `lba` on, in a window that the library lays out: pieces of 4,096 bytes
-   for up to 256 sectors, and of 1 MiB for more. A write has 512 * sectors bytes of payload; that of a read is not looked at.
-   AHCI_BAD_TAG, AHCI_BAD_KIND, AHCI_BAD_COUNT, AHCI_BAD_LBA, then as of ahci_port_issue. */
+   for up to 256 sectors, and of 1 MiB for more. A write has 512 * sectors bytes of payload; a read's payload is ignored.
+   AHCI_BAD_TAG, AHCI_BAD_KIND, AHCI_BAD_COUNT, AHCI_BAD_LBA, then as ahci_port_issue. */
 uint32_t ahci_port_submit(ahci_port *port, uint32_t tag, uint32_t kind, uint64_t lba, uint32_t sectors, const uint8_t *payload, size_t payload_bytes, uint64_t *number);
 
-/* The device takes a tag's command: a D2H Register FIS. One that passes the last sector it fails with error 10h: *done tells
-   which. It takes no memory. AHCI_BAD_TAG, AHCI_HALTED, AHCI_NOT_ISSUED. */
+/* The device takes a tag's command: a D2H Register FIS. It fails one that passes the last sector with error 10h: *done reports
+   which. Doesn't allocate. AHCI_BAD_TAG, AHCI_HALTED, AHCI_NOT_ISSUED. */
 uint32_t ahci_port_accept(ahci_port *port, uint32_t tag, ahci_stepped *done);
 
 /* The device moves the data of the commands of 1 to 32 tags, a byte each, one after the other, and completes them by one Set
-   Device Bits FIS. It takes no memory. AHCI_TOO_MANY_TAGS, AHCI_HALTED, AHCI_NOT_ACCEPTED, AHCI_BAD_TAGS. */
+   Device Bits FIS. Doesn't allocate. AHCI_TOO_MANY_TAGS, AHCI_HALTED, AHCI_NOT_ACCEPTED, AHCI_BAD_TAGS. */
 uint32_t ahci_port_serve(ahci_port *port, const uint8_t *tags, size_t count, ahci_stepped *done);
 
-/* The device fails an accepted command at one of its sectors, with an error byte: a Set Device Bits FIS with ERR. It takes no
-   memory. AHCI_BAD_TAG, AHCI_HALTED, AHCI_NOT_ACCEPTED, AHCI_OUTSIDE_COMMAND. */
+/* The device fails an accepted command at one of its sectors, with an error byte: a Set Device Bits FIS with ERR. Doesn't
+   allocate. AHCI_BAD_TAG, AHCI_HALTED, AHCI_NOT_ACCEPTED, AHCI_OUTSIDE_COMMAND. */
 uint32_t ahci_port_fail(ahci_port *port, uint32_t tag, uint8_t error, uint64_t lba, ahci_stepped *done);
 
-/* Software recovers (section 6.2.2): the port is stopped and started, and READ LOG EXT tells the failed tag, which is *tag.
+/* Software recovers (section 6.2.2): the port is stopped and started, and READ LOG EXT names the failed tag, which is *tag.
    AHCI_NOT_HALTED, AHCI_OUT_OF_MEMORY. */
 uint32_t ahci_port_recover(ahci_port *port, uint32_t *tag);
 
-/* Software issues a held command again. It takes no memory. AHCI_BAD_TAG, AHCI_HALTED, AHCI_NOT_HELD. */
+/* Software issues a held command again. Doesn't allocate. AHCI_BAD_TAG, AHCI_HALTED, AHCI_NOT_HELD. */
 uint32_t ahci_port_reissue(ahci_port *port, uint32_t tag);
 
-/* Takes the answer of request `number` of a tag, and frees its slot. What a read has read is copied to `out`, which has room
-   for all bytes of the request, also where it failed: ahci_port_slot tells how many. It takes no memory. AHCI_BAD_TAG,
-   AHCI_STRANGER, AHCI_NOT_YET, AHCI_BUFFER_TOO_SMALL: the request is as it was then, and can be collected again. */
+/* Takes the answer of request `number` of a tag, and frees its slot. A read's data is copied to `out`, which has room
+   for all bytes of the request, even if it failed: ahci_port_slot reports how many. Doesn't allocate. AHCI_BAD_TAG,
+   AHCI_STRANGER, AHCI_NOT_YET, AHCI_BUFFER_TOO_SMALL: the request is unchanged then, and can be collected again. */
 uint32_t ahci_port_collect(ahci_port *port, uint32_t tag, uint64_t number, ahci_reply *reply, uint8_t *out, size_t out_bytes);
 
 /* Sends IDENTIFY DEVICE (ACS-3), by slot 0: its page is copied to `out`, word w in bytes 2w and 2w + 1.
-   AHCI_WRONG_LENGTH where out_bytes is not 512, AHCI_HALTED, AHCI_QUEUE_BUSY, AHCI_OUT_OF_MEMORY. */
+   AHCI_WRONG_LENGTH if out_bytes is not 512, AHCI_HALTED, AHCI_QUEUE_BUSY, AHCI_OUT_OF_MEMORY. */
 uint32_t ahci_port_identify(ahci_port *port, uint8_t *out, size_t out_bytes);
 
 /* Sends FLUSH CACHE EXT (ACS-3), by slot 0. AHCI_HALTED, AHCI_QUEUE_BUSY, AHCI_OUT_OF_MEMORY. */
 uint32_t ahci_port_flush(ahci_port *port);
 
-/* Which tags wait for what. */
+/* Tags by what they wait for. */
 uint32_t ahci_port_tag_sets(ahci_port *port, ahci_tag_sets *sets);
 
 /* One slot. AHCI_BAD_TAG; a tag that is not below the depth is a free slot. */
 uint32_t ahci_port_slot(ahci_port *port, uint32_t tag, ahci_slot *slot);
 
-/* Copies a sector as it is now. AHCI_WRONG_LENGTH where out_bytes is not 512, AHCI_NO_SUCH_SECTOR. */
+/* Copies a sector as it is now. AHCI_WRONG_LENGTH if out_bytes is not 512, AHCI_NO_SUCH_SECTOR. */
 uint32_t ahci_port_copy(ahci_port *port, uint64_t lba, uint8_t *out, size_t out_bytes);
 
-/* Throws the journal away where every slot is free, and its memory with it: *entries is how many it had. Numbers go on.
+/* Discards the journal and its memory if every slot is free: *entries is how many entries it had. Numbers keep counting.
    AHCI_BUSY, AHCI_SPENT. */
 uint32_t ahci_port_trim(ahci_port *port, uint64_t *entries);
 
@@ -525,46 +525,46 @@ uint32_t ahci_port_trim(ahci_port *port, uint64_t *entries);
 uint32_t ahci_port_entry(ahci_port *port, uint64_t number, ahci_entry *entry);
 
 /* Copies the bytes of the write that the entry of a number issued, 512 * sectors of them, to the beginning of `out`.
-   AHCI_NO_SUCH_ENTRY where there is none or it issues no write, AHCI_BUFFER_TOO_SMALL. */
+   AHCI_NO_SUCH_ENTRY if there is none or it issues no write, AHCI_BUFFER_TOO_SMALL. */
 uint32_t ahci_port_entry_bytes(ahci_port *port, uint64_t number, uint8_t *out, size_t out_bytes);
 
-/* All that can be seen of a port at once. It takes no memory. */
+/* The whole visible state of a port. Doesn't allocate. */
 uint32_t ahci_port_state(ahci_port *port, ahci_state *state);
 
 /* ---- a controller: one HBA with one port, as a driver finds it (chapters 3, 4, 5, 6.2 and 10.1) ----
 
-   The caller has the driver's memory, and no call reads or writes it: ahci_hba_state says which run of bytes is read or written next, and
-   the caller copies. So a device's turn is: while `want` is not AHCI_WANT_NOTHING, move bytes; then choose a slot whose `next` is not
+   The caller has the driver's memory, and no call reads or writes it: ahci_hba_state names the run of bytes to be read or written next, and
+   the caller copies. A device's turn: while `want` is not AHCI_WANT_NOTHING, move bytes; then choose a slot whose `next` is not
    AHCI_STEP_NONE and take its step. Each byte of the memory is read at most once for a command, and may be anything.
 
-   A reset, cleared ST, COMRESET or a recovery drops the commands there are. If the disk's queue had requests then, its journal is
-   handed out: *entries is how many entries it had, and 0 else. The journal goes on with the next number over the disk as it is. */
+   A reset, cleared ST, COMRESET or a recovery drops all commands. If the disk's queue had requests then, its journal is
+   discarded: *entries is how many entries it had, else 0. The new journal continues with the next number over the disk as it is. */
 
 /* Makes a controller after power-on, in front of a disk with a copy of this image, in an empty place. Its command list has 32 slots;
-   `depth` is the queue depth that IDENTIFY DEVICE tells. AHCI_PORT_THERE, AHCI_BAD_SIZE, AHCI_BAD_DEPTH, AHCI_OUT_OF_MEMORY. */
+   `depth` is the queue depth of IDENTIFY DEVICE. AHCI_PORT_THERE, AHCI_BAD_SIZE, AHCI_BAD_DEPTH, AHCI_OUT_OF_MEMORY. */
 uint32_t ahci_hba_new(ahci_hba *hba, const uint8_t *image, size_t image_bytes, uint32_t depth);
 
-/* Frees a controller, and leaves its place empty. AHCI_NO_PORT, as of every call from here on to ahci_hba_port. */
+/* Frees a controller, and leaves its place empty. AHCI_NO_PORT, as every call from here to ahci_hba_port. */
 uint32_t ahci_hba_free(ahci_hba *hba);
 
-/* What a driver reads at an offset of the registers, in 1, 2, 4 or 8 bytes. Each offset answers: a place without a register reads 0, and
+/* What a driver reads at an offset of the registers, in 1, 2, 4 or 8 bytes. Every offset can be read: a place without a register reads 0, and
    so does an access that is not aligned to its size. AHCI_WRONG_LENGTH for any other size. */
 uint32_t ahci_hba_read(ahci_hba *hba, uint32_t offset, uint32_t bytes, uint64_t *value);
 
 /* Takes what a driver writes there. AHCI_WRONG_LENGTH for any other size. */
 uint32_t ahci_hba_write(ahci_hba *hba, uint32_t offset, uint32_t bytes, uint64_t value, uint64_t *entries);
 
-/* What the controller does next. It takes no memory. */
+/* What the controller does next. Doesn't allocate. */
 uint32_t ahci_hba_look(ahci_hba *hba, ahci_hba_state *state);
 
-/* Supplies the bytes that the controller reads: as many as `length` says, none if it reads none. AHCI_WRONG_LENGTH, AHCI_OUT_OF_MEMORY: the
+/* Supplies the bytes that the controller reads: `length` bytes, none if it reads none. AHCI_WRONG_LENGTH, AHCI_OUT_OF_MEMORY: the
    same bytes can be supplied again. */
 uint32_t ahci_hba_supply(ahci_hba *hba, const uint8_t *bytes, size_t count);
 
-/* Copies the bytes that the controller writes: as many as `length` says, none if it writes none. AHCI_WRONG_LENGTH. */
+/* Copies the bytes that the controller writes: `length` bytes, none if it writes none. AHCI_WRONG_LENGTH. */
 uint32_t ahci_hba_bytes(ahci_hba *hba, uint8_t *out, size_t out_bytes);
 
-/* The bytes that the controller writes are written. With the last ones of an answer the registers move, and the interrupt may come. */
+/* The bytes that the controller writes are written. With the last ones of an answer the registers change, and the interrupt may be asserted. */
 uint32_t ahci_hba_written(ahci_hba *hba);
 
 /* The address that the controller reads or writes is no memory: HBFS or HBDS, and the port halts (section 6.1). */
@@ -583,27 +583,27 @@ uint32_t ahci_hba_fail(ahci_hba *hba, uint32_t slot, uint8_t error, uint64_t lba
    AHCI_BAD_LBA, AHCI_NOT_READY. */
 uint32_t ahci_hba_refuse(ahci_hba *hba, uint32_t slot, uint8_t error, uint64_t lba);
 
-/* The disk sends its signature, once FRE is 1. AHCI_NOT_READY if `sign` is 0. If its place is no memory (ahci_hba_unmapped), PxIS has
-   HBDS and `sign` is 1 again: send it after the driver's next write of a register, not in a loop. */
+/* The disk sends its signature, once FRE is 1. AHCI_NOT_READY if `sign` is 0. If its address is no memory (ahci_hba_unmapped), PxIS has
+   HBDS and `sign` is 1 again: send it after the driver's next register write, not in a loop. */
 uint32_t ahci_hba_sign(ahci_hba *hba);
 
 /* Copies a sector of the disk as it is now. AHCI_WRONG_LENGTH if out_bytes is not 512, AHCI_NO_SUCH_SECTOR. */
 uint32_t ahci_hba_copy(ahci_hba *hba, uint64_t lba, uint8_t *out, size_t out_bytes);
 
-/* An entry of the disk's journal, and the bytes of the write that it issued: as ahci_port_entry and ahci_port_entry_bytes. Where
-   commands are dropped, their journal is handed out, and its entries can't be read any more; the two that AHCI_STEP_RECOVER adds, a
+/* An entry of the disk's journal, and the bytes of the write that it issued: as ahci_port_entry and ahci_port_entry_bytes. When
+   commands are dropped their journal is discarded, and its entries can't be read any more; the two that AHCI_STEP_RECOVER adds, a
    recover and a collect, never can. */
 uint32_t ahci_hba_entry(ahci_hba *hba, uint64_t number, ahci_entry *entry);
 uint32_t ahci_hba_entry_bytes(ahci_hba *hba, uint64_t number, uint8_t *out, size_t out_bytes);
 
-/* All that can be seen of the queue behind the controller, as ahci_port_state: its requests by slot, its journal's numbers. Its registers
+/* The whole visible state of the queue behind the controller, as ahci_port_state: its requests by slot, its journal's numbers. Its registers
    are the queue's own; the driver's are those of ahci_hba_read. */
 uint32_t ahci_hba_port(ahci_hba *hba, ahci_state *state);
 
 /* ---- the rules for drivers: nothing here changes anything. *broken is 1 if the rule is broken, else 0 ---- */
 
 /* Whether a word that a driver is about to write at an offset of the registers breaks a rule, before it is written.
-   AHCI_NO_PORT, AHCI_BAD_KIND for a number that is no rule, AHCI_NO_SUCH_REGISTER if no register of the controller is there. */
+   AHCI_NO_PORT, AHCI_BAD_KIND for a number that is not a rule, AHCI_NO_SUCH_REGISTER if no register of the controller is there. */
 uint32_t ahci_hba_write_breaks(ahci_hba *hba, uint32_t rule, uint32_t offset, uint32_t word, uint32_t *broken);
 
 /* Whether the command of a slot breaks a rule: the 32 bytes of its header, and the first 20 of its command table. `active` is not 0 if PxSACT
@@ -613,45 +613,45 @@ uint32_t ahci_command_breaks(uint32_t rule, uint32_t slot, uint32_t active, cons
 /* Whether an entry of a PRDT, of 16 bytes, breaks a rule. AHCI_BAD_KIND, AHCI_WRONG_LENGTH. */
 uint32_t ahci_entry_breaks(uint32_t rule, const uint8_t *entry, size_t entry_bytes, uint32_t *broken);
 
-/* Whether a PRDT of so many bytes in all breaks a rule, for the command of a command FIS of 20 bytes. AHCI_BAD_KIND, AHCI_WRONG_LENGTH. */
+/* Whether a PRDT with this total of bytes breaks a rule, for the command of a command FIS of 20 bytes. AHCI_BAD_KIND, AHCI_WRONG_LENGTH. */
 uint32_t ahci_length_breaks(uint32_t rule, const uint8_t *fis, size_t fis_bytes, uint64_t total, uint32_t *broken);
 
 /* ---- the layers alone, with no port ---- */
 
-/* Reads a FIS, which takes all of the bytes. Reserved bits are ignored. The payload of a Data FIS stands after its first four
+/* Reads a FIS, which takes all of the bytes. Reserved bits are ignored. The payload of a Data FIS comes after its first four
    bytes. AHCI_EMPTY_FIS, AHCI_UNKNOWN_TYPE, AHCI_WRONG_FIS_LENGTH. */
 uint32_t ahci_fis_decode(const uint8_t *bytes, size_t count, ahci_fis *fis);
 
 /* Writes a FIS, reserved bits 0, to the beginning of `out`: *length bytes, 8,196 at most. Fields that its type doesn't have are
-   not looked at. A Data FIS has this payload; for others the payload is not looked at. AHCI_UNKNOWN_TYPE, then what is out of
-   its range: AHCI_BAD_FLAG, AHCI_BAD_LBA, AHCI_BAD_TAG, AHCI_BAD_STATUS, AHCI_BAD_PAYLOAD; AHCI_BUFFER_TOO_SMALL. */
+   ignored. A Data FIS has this payload; for others it is ignored. AHCI_UNKNOWN_TYPE, then what is out of
+   range: AHCI_BAD_FLAG, AHCI_BAD_LBA, AHCI_BAD_TAG, AHCI_BAD_STATUS, AHCI_BAD_PAYLOAD; AHCI_BUFFER_TOO_SMALL. */
 uint32_t ahci_fis_encode(const ahci_fis *fis, const uint8_t *payload, size_t payload_bytes, uint8_t *out, size_t out_bytes, size_t *length);
 
-/* Whether a port would take a window, and what it asks for: AHCI_BAD_TAG, AHCI_WRONG_LENGTH, AHCI_OUT_OF_MEMORY, then the
+/* Whether a port would take a window, and its command: AHCI_BAD_TAG, AHCI_WRONG_LENGTH, AHCI_OUT_OF_MEMORY, then the
    first rule that it breaks: AHCI_BAD_HEADER, AHCI_BAD_COMMAND, AHCI_WRONG_TAG, AHCI_BAD_LIST. `memory` begins at the tag's
-   base, as of ahci_port_issue. */
+   base, as in ahci_port_issue. */
 uint32_t ahci_window_check(uint32_t tag, const uint8_t *header, size_t header_bytes, const uint8_t *memory, size_t memory_bytes, ahci_command *command);
 
-/* The page of IDENTIFY DEVICE (ACS-3) of a disk of so many sectors with 1 to 32 slots.
-   AHCI_WRONG_LENGTH where out_bytes is not 512, AHCI_BAD_DEPTH. */
+/* The page of IDENTIFY DEVICE (ACS-3) of a disk of this size with 1 to 32 slots.
+   AHCI_WRONG_LENGTH if out_bytes is not 512, AHCI_BAD_DEPTH. */
 uint32_t ahci_identify_page(uint32_t sectors, uint32_t depth, uint8_t *out, size_t out_bytes);
 
 /* Page 0 of log 10h (ACS-3, "NCQ Command Error log") after the error of a tag's command at a sector.
-   AHCI_WRONG_LENGTH where out_bytes is not 512, AHCI_BAD_TAG, AHCI_BAD_LBA. */
+   AHCI_WRONG_LENGTH if out_bytes is not 512, AHCI_BAD_TAG, AHCI_BAD_LBA. */
 uint32_t ahci_log_page(uint32_t tag, uint8_t error, uint64_t lba, uint8_t *out, size_t out_bytes);
 
-/* Looks at `count` events, the oldest first, as the journal of a port of 1 to 32 slots over so many sectors, from its beginning
-   on: which may follow which, in a time that grows with their number. It takes no memory. AHCI_NOT_ALLOWED: the event at place
+/* Judges `count` events, the oldest first, as the journal of a port of 1 to 32 slots over a disk of this size, from its beginning:
+   which may follow which, in linear time. Doesn't allocate. AHCI_NOT_ALLOWED: the event at place
    *first_bad, counted from 0, can't come after those before it, and these can. An event is read as ahci_port_entry fills it, and
-   what its kind doesn't name is not looked at; a write has 512 * sectors bytes, which say nothing of when it may come. One with
+   what its kind doesn't have is ignored; a write's bytes don't matter. One with
    another kind, a tag that is not below 32 or an error over 255 can't come anywhere. AHCI_BAD_DEPTH. */
 uint32_t ahci_journal_check(uint32_t sectors, uint32_t depth, const ahci_entry *events, size_t count, size_t *first_bad);
 
 /* ---- the library ---- */
 
-/* The name of a status as `ahci replay` writes it, as "OutsideCommand", or as here for one that it has not, as "NoPort"; "Ok" of
-   AHCI_OK. It is copied to the beginning of `out` with a 0 byte after it, and *length is the name's, without the 0.
-   AHCI_BAD_KIND for a number that is no status, AHCI_BUFFER_TOO_SMALL: 32 bytes are enough. */
+/* The name of a status as `ahci replay` writes it, as "OutsideCommand"; one that it never writes is named as here, as "NoPort"; AHCI_OK
+   is "Ok". It is copied to the beginning of `out` with a 0 byte after it, and *length is the name's, without the 0.
+   AHCI_BAD_KIND for a number that is not a status, AHCI_BUFFER_TOO_SMALL: 32 bytes are enough. */
 uint32_t ahci_status_text(uint32_t status, uint8_t *out, size_t out_bytes, size_t *length);
 
 /* The library's version, as AHCI_VERSION. */

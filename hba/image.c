@@ -7,6 +7,7 @@
 #include <errno.h>
 #include <fcntl.h>
 #include <stdio.h>
+#include <stdbool.h>
 #include <stdlib.h>
 #include <string.h>
 #include <unistd.h>
@@ -19,9 +20,8 @@ uint8_t *image_read(const char *path, uint32_t sectors) {
     if (!bytes || !path)
         return bytes;
     FILE *file = fopen(path, "rbe");
-    if (file)
-        fread(bytes, 1, count, file);
-    if (!file || ferror(file)) {
+    bool is_read = file && (fread(bytes, 1, count, file) == count || !ferror(file)); /* a shorter file is filled with zeros */
+    if (!is_read) {
         complain("--image %s: it can't be read: %m", path);
         free(bytes);
         bytes = NULL;

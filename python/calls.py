@@ -1,13 +1,18 @@
-"""Each method and function of ahci.py, its answers against values worked out by hand from docs/LAYOUTS.md and docs/PROGRAM.md:
+"""Each method and function of ahci, its answers against values worked out by hand from docs/LAYOUTS.md and docs/PROGRAM.md:
 `make check` here and in ../c runs it, and it prints one line."""
+import array
+import copy
+import mmap
+import pickle
 import resource
+import tempfile
 from typing import Callable, Dict, Optional, Tuple
 
 import ahci
-from ahci import Command, Entry, Event, Fis, Port, Reply, Slot, Status, Stepped, TagSets, Written
+from ahci import Command, Did, Entry, Event, Fis, FisType, Kind, Outcome, Phase, Port, Register, Reply, Slot, Status, Stepped, TagSets, Written, Wrote
 
-FREE, ISSUED, ACCEPTED, BROKEN, HELD, DONE = 0, 1, 2, 4, 5, 6  # ahci_phase
-PX_CMD, PX_SACT, PX_CI = 0x118, 0x134, 0x138
+FREE, ISSUED, ACCEPTED, BROKEN, HELD, DONE = Phase.FREE, Phase.ISSUED, Phase.ACCEPTED, Phase.BROKEN, Phase.HELD, Phase.DONE
+PX_CMD, PX_SACT, PX_CI = Register.PXCMD, Register.PXSACT, Register.PXCI
 
 
 def refused(status: Status, call: Callable[[], object], slot: Optional[int] = None) -> None:
@@ -55,24 +60,24 @@ def failing_queue() -> None:
     with Port(b"".join(bytes([at]) * 512 for at in range(8)), 4, 10) as port:
         assert port.state().first == port.state().next == 10 and port.copy(7) == b"\7" * 512
         header, memory = raw_read(3, 7)
-        assert ahci.window_check(3, header, memory) == Command(lba=7, sectors=1, kind=0, tag=3, pieces=1)
+        assert ahci.window_check(3, header, memory) == Command(lba=7, sectors=1, kind=Kind.READ, tag=3, pieces=1)
         assert (port.read(2, 2, 2), port.write(1, 5, b"\xbb" * 512), port.issue(3, header, memory)) == (10, 11, 12)
         assert port.tag_sets() == TagSets(issued=0b1110, accepted=0, held=0)
-        assert port.accept(2) == Stepped(first=13, count=1, did=0) and port.accept(1) == Stepped(14, 1, 0)
+        assert port.accept(2) == Stepped(first=13, count=1, did=Did.ACCEPTED) and port.accept(1) == Stepped(14, 1, Did.ACCEPTED)
         assert port.tag_sets() == TagSets(0b1000, 0b0110, 0) and ahci.tags_of(0b0110) == [1, 2] and ahci.tags_of(1 << 31 | 1) == [0, 31]
         assert port.received()[0x40:0x54] == b"\x34\0\x40" + bytes(17)
         refused(Status.OUTSIDE_COMMAND, lambda: port.fail(2, 0x40, 4))
 
         # the second sector of tag 2 can't be read: UNC
-        assert port.fail(2, 0x40, 3) == Stepped(first=15, count=1, did=2)
+        assert port.fail(2, 0x40, 3) == Stepped(first=15, count=1, did=Did.FAILED)
         state = port.state()
         assert (state.halted, state.issued, state.accepted, state.held) == (1, 0b1000, 0b0010, 0)  # the failed one is in no set
         assert (state.registers["px_tfd"], state.registers["px_is"]) == (0x4041, 0x40000008)  # ERR; TFES and SDBS
         assert (state.registers["px_sact"], state.registers["px_ci"]) == (0b1110, 0b1000)
         assert state.received[0x58:0x60] == b"\xa1\x40\x41\x40" + bytes(4)
         assert state.phases == (FREE, ACCEPTED, BROKEN, ISSUED) + (FREE,) * 28 and state.numbers == (0, 11, 10, 12) + (0,) * 28
-        assert port.slot(2) == Slot(number=10, bytes=1024, phase=BROKEN, owned=1) and port.slot(1) == Slot(11, 0, ACCEPTED, 1)
-        assert port.slot(0) == Slot(0, 0, FREE, 0)
+        assert port.slot(2) == Slot(number=10, bytes=1024, phase=BROKEN, owned=True) and port.slot(1) == Slot(11, 0, ACCEPTED, True)
+        assert port.slot(0) == Slot(0, 0, FREE, False)
         assert port.entry(15) == Entry(lba=3, sectors=0, kind=Event.FAIL, tag=2, error=0x40)
         for call in (lambda: port.accept(3), lambda: port.serve([1]), port.flush, port.identify):
             refused(Status.HALTED, call)
@@ -90,12 +95,12 @@ def failing_queue() -> None:
         port.reissue(1)
         port.reissue(3)
         assert port.entry(18) == Entry(0, 0, Event.REISSUE, 3, 0) and port.tag_sets() == TagSets(0b1010, 0, 0)
-        assert (port.accept(3), port.accept(1), port.serve([1, 3])) == (Stepped(19, 1, 0), Stepped(20, 1, 0), Stepped(21, 2, 1))
+        assert (port.accept(3), port.accept(1), port.serve([1, 3])) == (Stepped(19, 1, Did.ACCEPTED), Stepped(20, 1, Did.ACCEPTED), Stepped(21, 2, Did.COMPLETED))
         assert port.received()[0x58:0x60] == b"\xa1\x40\x40\0\x0a\0\0\0"
         refused(Status.STRANGER, lambda: port.collect(2, 11))
-        assert port.collect(2, 10) == (Reply(number=10, entry=15, lba=3, bytes=0, outcome=2, error=0x40), b"")
-        assert port.collect(1, 11) == (Reply(number=11, entry=21, lba=0, bytes=0, outcome=1, error=0), b"")
-        assert port.collect(3, 12) == (Reply(number=12, entry=22, lba=0, bytes=512, outcome=0, error=0), b"\7" * 512)
+        assert port.collect(2, 10) == (Reply(number=10, entry=15, lba=3, bytes=0, outcome=Outcome.FAIL, error=0x40), b"")
+        assert port.collect(1, 11) == (Reply(number=11, entry=21, lba=0, bytes=0, outcome=Outcome.WRITE, error=0), b"")
+        assert port.collect(3, 12) == (Reply(number=12, entry=22, lba=0, bytes=512, outcome=Outcome.READ, error=0), b"\7" * 512)
         assert port.copy(5) == b"\xbb" * 512 and port.copy(4) == b"\4" * 512
 
         # what is not queued; and 18 entries, from 10 to 27, are thrown away
@@ -112,17 +117,17 @@ def failing_queue() -> None:
 def registers() -> None:
     """A driver's writes: two commands that are not there, one that is, its failure and its recovery by PxCMD."""
     with Port.zeros(sectors=8, depth=4) as port:
-        assert port.write_register(PX_SACT, 3) == Written(0, 0, 0) and port.read_register(PX_SACT) == 3 and port.register(PX_SACT) == 0
+        assert port.write_register(PX_SACT, 3) == Written(Wrote.WORD, 0, 0) and port.read_register(PX_SACT) == 3 and port.register(PX_SACT) == 0
         refused(Status.NOT_QUEUED, lambda: port.write_register(PX_CI, 4))
         refused(Status.BAD_HEADER, lambda: port.write_register(PX_CI, 2), slot=1)
         header, table = raw_read(1, 3)
         headers, windows = bytes(32) + header + bytes(960), bytes(0x290) + table + bytes(30 * 0x290)
-        assert port.write_register(PX_CI, 2, headers, windows) == Written(did=1, slots=2, tag=0)
+        assert port.write_register(PX_CI, 2, headers, windows) == Written(did=Wrote.COMMANDS, slots=2, tag=0)
         assert port.entry(0) == Entry(3, 1, Event.READ, 1, 0) and port.read_register(PX_CI) == 2
         port.accept(1)
         port.fail(1, 0x10, 3)
-        assert port.write_register(PX_CMD, 0x10) == Written(0, 0, 0) and port.read_register(PX_CMD) == 0x4010  # FRE, and FR
-        assert port.write_register(PX_CMD, 0x11) == Written(did=2, slots=0, tag=1) and port.state().phases[1] == DONE
+        assert port.write_register(PX_CMD, 0x10) == Written(Wrote.WORD, 0, 0) and port.read_register(PX_CMD) == 0x4010  # FRE, and FR
+        assert port.write_register(PX_CMD, 0x11) == Written(did=Wrote.START, slots=0, tag=1) and port.state().phases[1] == DONE
 
 
 def layers() -> None:
@@ -147,7 +152,7 @@ def layers() -> None:
     assert ahci.status_text(Status.OUTSIDE_COMMAND) == "OutsideCommand"
     refused(Status.BAD_KIND, lambda: ahci.status_text(14))
     refused(Status.BAD_DEPTH, lambda: ahci.journal_check(8, 33, []))
-    assert ahci.version() == 0x000100
+    assert ahci.version() == 0x010000
     refused(Status.BAD_HEADER, lambda: ahci.window_check(0, bytes(32), bytes(1024)))
 
 
@@ -189,20 +194,81 @@ def wide_numbers() -> None:
         assert port.state().next == 0
 
 
+def buffers() -> None:
+    """Bytes of every kind are taken as bytes are; a number or a text is none."""
+    image = b"".join(bytes([at]) * 512 for at in range(8))
+    data = b"\x5a" * 1024
+    wide = bytearray(2 * len(data))
+    wide[::2] = data
+    with tempfile.TemporaryFile() as file:
+        file.write(data)
+        file.flush()
+        with mmap.mmap(file.fileno(), len(data)) as mapped, mmap.mmap(file.fileno(), len(data), access=mmap.ACCESS_READ) as shown:
+            for given in (data, bytearray(data), memoryview(data), memoryview(bytearray(data)), memoryview(wide)[::2], mapped, shown,
+                          memoryview(array.array("I", data))):
+                for disk in (image, bytearray(image), memoryview(image)):
+                    with Port(disk, 4) as port:
+                        number = port.write(0, 2, given)  # type: ignore[arg-type]
+                        assert port.entry(number) == Entry(2, 2, Event.WRITE, 0, 0) and port.entry_bytes(number) == data and port.copy(7) == b"\7" * 512
+    with Port.zeros(8, 4) as port:
+        header, table = raw_read(1, 3)
+        assert port.issue(1, bytearray(header), memoryview(table)) == 0 and ahci.window_check(1, memoryview(header), bytearray(table)).kind is Kind.READ
+        assert ahci.fis_decode(bytearray(b"\x39\0\0\0")).kind is FisType.DMA_ACTIVATE
+        grown = bytearray(512)
+        port.write(0, 0, grown)
+        grown.extend(b"more")  # the call has let go of it
+        refused(Status.BAD_COUNT, lambda: port.write(2, 0, bytearray()))
+        for none in (5, "a text", None):
+            calls: Tuple[Callable[[], object], ...] = (lambda: port.write(2, 0, none), lambda: ahci.fis_decode(none))  # type: ignore[arg-type]
+            for call in calls:
+                try:
+                    call()
+                except TypeError:
+                    continue
+                raise AssertionError(f"{none!r} was taken for bytes")
+
+
+def copies() -> None:
+    """A port is not copied: two objects would free it twice."""
+    with Port.zeros(8, 4) as port:
+        calls: Tuple[Callable[[], object], ...] = (lambda: copy.copy(port), lambda: copy.deepcopy(port), lambda: pickle.dumps(port))
+        for call in calls:
+            try:
+                call()
+            except TypeError as why:
+                assert str(why) == "a Port can't be copied or pickled"
+                continue
+            raise AssertionError("a port was copied")
+        assert port.depth() == 4
+
+
+def enums() -> None:
+    """What was a bare number has its name, and is the number all the same."""
+    with Port.zeros(8, 4) as port:
+        number = port.read(0, 3, 1)
+        assert port.slot(0).phase is Phase.ISSUED and port.slot(0).owned is True and port.state().halted is False
+        assert port.accept(0).did is Did.ACCEPTED and port.state().phases[0] is Phase.ACCEPTED and int(Phase.ACCEPTED) == 2
+        assert port.serve([0]).did is Did.COMPLETED
+        reply, _ = port.collect(0, number)
+        assert reply.outcome is Outcome.READ and port.write_register(Register.PXIS, 0).did is Wrote.WORD
+        assert port.register(Register.VS) == 0x00010301
+
+
 def size_of_this() -> int:
     """How many bytes of addresses this process has."""
     with open("/proc/self/statm", encoding="ascii") as words:
         return int(words.read().split()[0]) * resource.getpagesize()
 
 
-def without_memory(call: Callable[[], object], more: int) -> None:
-    """A call for which `more` bytes are not enough raises MemoryError."""
+def without_memory(call: Callable[[], object], more: int) -> ahci.OutOfMemory:
+    """A call for which `more` bytes are not enough raises MemoryError, and names the slot that was refused."""
     before = resource.getrlimit(resource.RLIMIT_AS)
     resource.setrlimit(resource.RLIMIT_AS, (size_of_this() + more, before[1]))
     try:
         call()
-    except MemoryError:
-        return
+    except ahci.OutOfMemory as why:
+        assert isinstance(why, MemoryError)
+        return why
     finally:
         resource.setrlimit(resource.RLIMIT_AS, before)
     raise AssertionError("there was memory")
@@ -217,14 +283,14 @@ def memory() -> None:
         header, table = raw_read(0, 3)
         windows = table + bytes((1 << 26) - len(table))
         port.write_register(PX_SACT, 1)
-        without_memory(lambda: port.write_register(PX_CI, 1, header + bytes(992), windows), 0)
-        assert port.write_register(PX_CI, 1, header + bytes(992), windows) == Written(1, 1, 0)
+        assert without_memory(lambda: port.write_register(PX_CI, 1, header + bytes(992), windows), 0).slot == 0
+        assert port.write_register(PX_CI, 1, header + bytes(992), windows) == Written(Wrote.COMMANDS, 1, 0)
     before = size_of_this()
     for _ in range(4):
         Port.zeros(131072, 1)
     assert size_of_this() < before + (64 << 20)
 
 
-for part in (looks, failing_queue, registers, layers, wide_numbers, memory):
+for part in (looks, failing_queue, registers, layers, wide_numbers, buffers, copies, enums, memory):
     part()
-print("the calls of ahci.py: as told")
+print("the calls of ahci: as in docs/LAYOUTS.md and docs/PROGRAM.md")

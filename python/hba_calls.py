@@ -1,11 +1,12 @@
-"""Every call of ahci_hba.py, over the life of a driver: start, IDENTIFY DEVICE, a queued write and read, an error and its log, resets, and rules."""
+"""Every call of ahci.hba, over the life of a driver: start, IDENTIFY DEVICE, a queued write and read, an error and its log, resets, and rules."""
 from __future__ import annotations
 
 import struct
 from typing import Callable
 
 import ahci
-from ahci_hba import Hba, Rule, Step, Want, command_breaks, entry_breaks, length_breaks
+from ahci import Rule, Step, Want, command_breaks, entry_breaks, length_breaks
+from ahci.hba import Hba
 
 PXCLB, PXFB, PXIS, PXIE, PXCMD, PXTFD, PXSIG, PXSERR, PXSACT, PXCI = 0x100, 0x108, 0x110, 0x114, 0x118, 0x120, 0x124, 0x130, 0x134, 0x138
 LIST, RECEIVED, TABLES, DATA = 0x1000, 0x400, 0x2000, 0x8000

@@ -121,9 +121,42 @@ class Ahci(unittest.TestCase):
         for words in (["replay"], ["trace", "--json"], ["check"], ["draw"], ["run", "--depth", "1"]):
             self.run_with(*words, given=b"12345")
             self.assertEqual(5, self.input_of_rt(), words)
-        for words in (["replay", "--help"], ["run", "-h"], ["identify"], ["--version"], []):
+        for words in (["replay", "--json", "--help"], ["run", "-h"], ["identify"], ["-h"], []):
             self.run_with(*words, given=b"12345")
             self.assertEqual(0, self.input_of_rt(), words)
+
+    def test_help_and_version_are_stored_for_a_program_that_is_not_built(self) -> None:
+        self.write("VERSION", "7.8.9\n")
+        for name in ("help", "help_replay", "help_log"):
+            self.write(f"crates/ahci_examples/data/{name}.out", f"stored {name}\n")
+        for words, text in ((["--help"], "stored help\n"), (["replay", "--help"], "stored help_replay\n"), (["log", "--help"], "stored help_log\n"),
+                            (["--version"], "ahci 7.8.9\n")):
+            self.assertEqual((0, text, []), self.run_with(*words), words)
+        self.assertEqual([], self.calls())
+        for words in (["-h"], ["replay --help"], ["replay", "-h"], ["replay", "--version"], ["runs", "--help"], ["--help", "replay"]):
+            self.assertEqual("an answer\n", self.run_with(*words)[1], words)
+        self.build()
+        self.assertIn("<--version>", self.run_with("--version")[1])
+
+    def test_a_file_among_the_arguments_is_refused_with_the_way_to_give_it(self) -> None:
+        self.write("script", "disk 1 1\n")
+        told = f"ahci: replay reads standard input and opens no file; give {self.room}/script by '<': ./ahci replay < {self.room}/script"
+        self.assertEqual((2, "", [told]), self.run_with("replay", f"{self.room}/script"))
+        self.assertEqual([], self.calls())
+        for words in (["replay", f"{self.room}/none"], ["identify", f"{self.room}/script"], ["run", "--depth", f"{self.room}/script"]):
+            self.assertEqual("an answer\n", self.run_with(*words)[1], words)
+        self.build()
+        self.assertEqual((2, "", [told]), self.run_with("replay", f"{self.room}/script"))
+
+    def test_a_pipe_without_a_reader_is_no_complaint(self) -> None:
+        complaint = "#!/bin/sh\necho 'ahci: output failed' >&2\necho another >&2\nexit 1\n"
+        self.build()
+        self.write("crates/ahci/out/rlib/ahci/ahci", complaint, 0o755)
+        self.assertEqual((1, "", ["another"]), self.run_with("replay"))
+        env = {"PATH": f"{self.room}/bin", "ROOM": self.room}
+        with open(f"{self.room}/answers", "wb") as out:
+            ran = subprocess.run([f"{self.room}/ahci", "replay"], stdin=subprocess.DEVNULL, stdout=out, stderr=subprocess.PIPE, env=env, check=False)
+        self.assertEqual((1, b"ahci: output failed\nanother\n"), (ran.returncode, ran.stderr))
 
     def test_nothing_is_left_behind(self) -> None:
         before = sorted(os.listdir(self.room))

@@ -19,7 +19,8 @@ TESTS_HEAD = "1 test of [low](../low). First check: 9 s."
 SIZES = "| Crate | src | specs | proofs | must-fail | wrong-bodies |\n|---|---|---|---|---|---|\n"
 FILES: Dict[str, str] = {
     "README.md": "# The whole\n\nSee [the proofs](docs/PROOFS.md#wrong-bodies) and `crates/low/src/lib.rt`.\n\n```text\n[not a link](nowhere.md) `no/file.rt`\n```\n",
-    "docs/PROOFS.md": f"# Proofs\n\n## Wrong bodies\n\n| Promise | Shown by |\n|---|---|\n| sums | `a_sum_is_0` |\n\n{SIZES}"
+    "docs/PROOFS.md": "# Proofs\n\n## Wrong bodies\n\n| Promise | Shown by |\n|---|---|\n| sums | `a_sum_is_0` |\n",
+    "bench/PROVING.md": f"# Sizes\n\n{SIZES}"
     "| low | 4 | 1 | 1 | 1 | 1 |\n| low_tests | 2 | 0 | 0 | 0 | 0 |\n| together | 6 | 1 | 1 | 1 | 1 |\n\nThe end.\n",
     "crates.txt": "# The crates.\nlow:\nlow_tests may_wait=2: low # on low alone\n",
     "crates/low_tests/README.md": f"# low_tests\n\n{TESTS_HEAD}\n\nThe tests.\n",
@@ -116,14 +117,14 @@ class Pages(unittest.TestCase):
 
     def test_sizes_are_those_of_the_files(self) -> None:
         self.after("crates/low/specs/Sum.antt", "-- a sum\n", "-- a sum\n-- of two\n",
-                   "docs/PROOFS.md:11: the sizes are | low | 4 | 2 | 1 | 1 | 1 | (tools/pages --sizes writes them)")
+                   "bench/PROVING.md:5: the sizes are | low | 4 | 2 | 1 | 1 | 1 | (tools/pages --sizes writes them)")
 
     def test_sizes_can_be_written(self) -> None:
         self.write("crates/low/specs/Sum.antt", "-- a sum\n-- of two\n")
-        before = self.read("docs/PROOFS.md")
+        before = self.read("bench/PROVING.md")
         self.assertEqual(0, self.run_with("--sizes").returncode)
         changed = before.replace("| 4 | 1 | 1 | 1 | 1 |", "| 4 | 2 | 1 | 1 | 1 |").replace("| 6 | 1 | 1 | 1 | 1 |", "| 6 | 2 | 1 | 1 | 1 |")
-        self.assertEqual(changed, self.read("docs/PROOFS.md"))
+        self.assertEqual(changed, self.read("bench/PROVING.md"))
         self.finds([])
 
     def wants(self, crate: str, line: int, head: str) -> str:
@@ -156,7 +157,7 @@ class Pages(unittest.TestCase):
 
     def test_a_head_of_tests_has_their_number(self) -> None:
         self.after("crates/low_tests/src/lib.rt", "#[test]\nfn", "#[test]\nfn one() {}\n\n#[test]\nfn",
-                   "docs/PROOFS.md:12: the sizes are | low_tests | 5 | 0 | 0 | 0 | 0 | (tools/pages --sizes writes them)",
+                   "bench/PROVING.md:6: the sizes are | low_tests | 5 | 0 | 0 | 0 | 0 | (tools/pages --sizes writes them)",
                    self.wants("low_tests", 3, TESTS_HEAD.replace("1 test", "2 tests")))
 
     def test_a_tested_crate_is_there(self) -> None:
@@ -180,7 +181,7 @@ class Pages(unittest.TestCase):
 
     def test_heads_are_written_after_a_crate_has_another_name(self) -> None:
         os.rename(os.path.join(self.room, "crates/low"), os.path.join(self.room, "crates/deep"))
-        for path, old, new in (("crates.txt", "low:", "deep:"), ("crates.txt", ": low", ": deep"), ("docs/PROOFS.md", "| low |", "| deep |"),
+        for path, old, new in (("crates.txt", "low:", "deep:"), ("crates.txt", ": low", ": deep"), ("bench/PROVING.md", "| low |", "| deep |"),
                                ("README.md", "crates/low/", "crates/deep/")):
             self.write(path, self.read(path).replace(old, new))
         gone = ["crates/low_tests/README.md:3: there is no crate low to test", "crates/low_tests/README.md:3: the link ../low leads to no file"]

@@ -78,6 +78,7 @@ fn subcommand<'a>(
     Command::new(alloc, name)
         .about(help.about)
         .long_about(help.long_about)
+        .override_usage(help.usage)
         .after_help(help.after_help)
         .args(options)
 }

@@ -1,13 +1,14 @@
 //! What help says.
 
-/// What help says of a subcommand: in a list of them, at the head of its own help, and at its end.
+/// What help says of a subcommand: in a list of them, at the head of its own help, its usage, and at its end.
 pub(crate) struct Help {
     pub(crate) about: &'static str,
     pub(crate) long_about: &'static str,
+    pub(crate) usage: &'static str,
     pub(crate) after_help: &'static str,
 }
 
-pub(crate) const VERSION: &str = "0.1.0";
+pub(crate) const VERSION: &str = "1.0.0";
 
 pub(crate) const ABOUT: &str = "A reference model of one AHCI port with native command queueing.
 It answers a script of commands one by one, tells or draws what each did, judges a script's lines,
@@ -23,6 +24,7 @@ pub(crate) static REPLAY: Help = Help {
     about: "Read a script on standard input, and answer it on standard output",
     long_about: "Read a script on standard input, and answer it on standard output.
 Each line is one command, and each command has one line as its answer.",
+    usage: "ahci replay < SCRIPT",
     after_help: "Commands of a script:
   disk S D         a disk of S sectors of zeros, and D slots: the first command
   disk S D F       the same, where the journal's first entry has the number F
@@ -66,6 +68,7 @@ pub(crate) static TRACE: Help = Help {
 After each answer stands, in lines that are indented by two spaces, what the command did to the
 port: the journal's new entries, what was written to registers, the bytes that were sent and
 received, registers that changed, and the slots that are owned.",
+    usage: "ahci trace [OPTIONS] < SCRIPT",
     after_help: "Lines after an answer:
   entry E: ..            a new entry of the journal, which has the number E
   wrote NAME WORD        a register that software wrote to issue or send a command, or to recover
@@ -92,6 +95,7 @@ pub(crate) static CHECK: Help = Help {
 Each line at which replay would end, and each one that every port with so many sectors and slots
 refuses, is told by its number, the column and what is wrong: one line on standard output, before
 more of the input is read.",
+    usage: "ahci check [OPTIONS] < LINES",
     after_help: "A column counts bytes from 1. Each line is told once at most: by the first word that is wrong, from
 the left. From the first good 'disk S D' on it is known how many sectors and slots there are. What
 a port refuses by what it has done before, as a tag that is not free, is not told.
@@ -121,6 +125,7 @@ used. A bar is a phase of the tag, a letter what an entry did to it: R and W iss
 again, A accepted, C completed, X failed, V recovered, E collected. Lines across all lanes are
 failures and recoveries; below them stands how many tags the device has. A pointer on a letter
 shows the entry in words.",
+    usage: "ahci draw [OPTIONS] < SCRIPT",
     after_help: "The commands of a script, its faults and the statuses are those of replay. At a fault the picture
 shows what was done before it.
 
@@ -138,6 +143,7 @@ pub(crate) static RUN: Help = Help {
     long_about: "Read jobs on standard input, let workers do them, and write their answers on standard output.
 The workers are threads over one port, whose disk begins with zeros. Each does its jobs one by
 one: of W workers, number K does the jobs K, K + W, K + 2W and so on.",
+    usage: "ahci run [OPTIONS] --workers <NUMBER> --depth <NUMBER> --sectors <NUMBER> < JOBS",
     after_help: "The options --workers, --depth and --sectors have no default. Each option is given once, and of
 --json, --journal and --image one at most.
 
@@ -190,6 +196,7 @@ pub(crate) static IDENTIFY: Help = Help {
     about: "Write the page that IDENTIFY DEVICE reads of a disk, as text or as it is",
     long_about: "Write the page that IDENTIFY DEVICE reads of a disk, as text or as it is.
 It is the page that the disk of a script with so many sectors and slots has.",
+    usage: "ahci identify [OPTIONS] --sectors <NUMBER> --depth <NUMBER>",
     after_help: "The options --sectors and --depth have no default. Each option is given once.
 
 The text:
@@ -220,6 +227,7 @@ pub(crate) static LOG: Help = Help {
     about: "Write page 0 of log 10h after an error, as text or as it is",
     long_about: "Write page 0 of log 10h after an error, as text or as it is.
 It is the NCQ Command Error log that a recovery reads: which command failed, how and where.",
+    usage: "ahci log [OPTIONS] --tag <NUMBER> --error <EE> --lba <NUMBER>",
     after_help: "The options --tag, --error and --lba have no default. Each option is given once.
 
 The text:

@@ -45,7 +45,7 @@ mod tests;
 /// The library's version: major, minor and patch, a byte each.
 #[unsafe(no_mangle)]
 pub extern "C" fn ahci_version() -> u32
-    ensures { result ≡ 0x000100 }
+    ensures { result ≡ 0x010000 }
 {
-    0x00_01_00
+    0x01_00_00
 }

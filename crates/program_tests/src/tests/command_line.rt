@@ -49,7 +49,7 @@ pub fn are_told(rt: &impl Abort, alloc: Global, first: &str, kinds: &[Kind]) -> 
 static WRONG: [Kind; 6] = [
     (
         ErrorKind::DisplayVersion,
-        &[("ahci --version", "ahci 0.1.0\n")],
+        &[("ahci --version", "ahci 1.0.0\n")],
     ),
     (
         ErrorKind::MissingSubcommand,
@@ -63,8 +63,8 @@ static WRONG: [Kind; 6] = [
         ErrorKind::UnknownArgument,
         &[
             ("ahci --replay", "unexpected argument '--replay'"),
-            ("ahci replay replay", "Usage: ahci replay"),
-            ("ahci replay --version", "Usage: ahci replay"),
+            ("ahci replay replay", "Usage: ahci replay < SCRIPT"),
+            ("ahci replay --version", "Usage: ahci replay < SCRIPT"),
             ("ahci trace --json 1", "unexpected argument '1'"),
             ("ahci trace --raw", "unexpected argument '--raw'"),
             ("ahci replay --json", "unexpected argument '--json'"),

@@ -1,0 +1,26 @@
+"""One AHCI port with its NCQ disk, over the shared library libahci.so.0 (c/ahci.h).
+
+    port = Port.zeros(sectors=64, depth=32)
+    number = port.write(tag=0, lba=5, data=b"\\xaa" * 512)
+    port.accept(0)
+    port.serve([0])
+    reply, _ = port.collect(0, number)
+
+`ahci.hba` has the controller around the port. Each method is one call of the library. A refused call raises `Refused` with the
+library's status and has changed nothing; a failed allocation raises `OutOfMemory`, which is a `MemoryError`. Bytes may be `bytes`,
+`bytearray`, `memoryview` or `mmap`. Threads may share a port. The environment variable `AHCI_LIBRARY` names the library's file if it is
+neither beside this module nor where the loader looks.
+"""
+from .layers import command_breaks, entry_breaks, fis_decode, fis_encode, identify_page, journal_check, length_breaks, log_page, status_text, tags_of, version, window_check
+from .library import OutOfMemory, Refused
+from .names import Did, Event, FisType, Kind, Outcome, Phase, Register, Rule, Status, Step, Want, Wrote
+from .port import Port
+from .records import Command, Entry, Fis, Look, Reply, Slot, State, Stepped, TagSets, Written
+
+__version__ = "1.0.0"
+__all__ = [
+    "Command", "Did", "Entry", "Event", "Fis", "FisType", "Kind", "Look", "OutOfMemory", "Outcome", "Phase", "Port", "Refused", "Register",
+    "Reply", "Rule", "Slot", "State", "Status", "Step", "Stepped", "TagSets", "Want", "Written", "Wrote", "command_breaks", "entry_breaks",
+    "fis_decode", "fis_encode", "identify_page", "journal_check", "length_breaks", "log_page", "status_text", "tags_of", "version",
+    "window_check",
+]

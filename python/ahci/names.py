@@ -1,0 +1,212 @@
+"""The numbers of c/ahci.h by name: statuses, events, phases, registers and the rules for drivers. Each is an `int` too."""
+from __future__ import annotations
+
+import enum
+
+
+class Status(enum.IntEnum):
+    """Why a call was refused (ahci_status)."""
+
+    OK = 0
+    NO_PORT = 1
+    PORT_THERE = 2
+    OUT_OF_MEMORY = 3
+    BUFFER_TOO_SMALL = 4
+    WRONG_LENGTH = 5
+    BAD_TAG = 6
+    BAD_KIND = 7
+    NO_SUCH_SECTOR = 8
+    NO_SUCH_ENTRY = 9
+    TOO_MANY_TAGS = 10
+    BAD_SIZE = 11
+    BAD_DEPTH = 12
+    BAD_FIRST = 13
+    UNALIGNED = 16
+    NO_SUCH_REGISTER = 17
+    NOT_STARTED = 18
+    NOT_RECEIVING = 19
+    RUNNING = 20
+    NOT_QUEUED = 21
+    HALTED = 32
+    NO_SUCH_TAG = 33
+    SLOT_OWNED = 34
+    BAD_HEADER = 35
+    BAD_COMMAND = 36
+    WRONG_TAG = 37
+    BAD_LIST = 38
+    BAD_COUNT = 39
+    BAD_LBA = 40
+    NOT_ISSUED = 41
+    NOT_ACCEPTED = 42
+    OUTSIDE_COMMAND = 43
+    BAD_TAGS = 44
+    NOT_HALTED = 45
+    NOT_HELD = 46
+    QUEUE_BUSY = 47
+    STRANGER = 48
+    NOT_YET = 49
+    BUSY = 50
+    SPENT = 51
+    NOT_READY = 52
+    EMPTY_FIS = 64
+    UNKNOWN_TYPE = 65
+    WRONG_FIS_LENGTH = 66
+    BAD_FLAG = 67
+    BAD_STATUS = 68
+    BAD_PAYLOAD = 69
+    NOT_ALLOWED = 80
+
+
+class Event(enum.IntEnum):
+    """What an entry of the journal records (ahci_event)."""
+
+    READ = 0
+    WRITE = 1
+    ACCEPT = 2
+    COMPLETE = 3
+    FAIL = 4
+    RECOVER = 5
+    REISSUE = 6
+    COLLECT = 7
+    IDENTIFY = 8
+    FLUSH = 9
+    READ_LOG = 10
+
+
+class Phase(enum.IntEnum):
+    """How far the command of a tag is (ahci_phase)."""
+
+    FREE = 0
+    ISSUED = 1
+    ACCEPTED = 2
+    REJECTED = 3
+    BROKEN = 4
+    HELD = 5
+    DONE = 6
+
+
+class Kind(enum.IntEnum):
+    """The direction of a command (ahci_kind)."""
+
+    READ = 0
+    WRITE = 1
+
+
+class Did(enum.IntEnum):
+    """What the device did in a step (ahci_did)."""
+
+    ACCEPTED = 0
+    COMPLETED = 1
+    FAILED = 2
+
+
+class Outcome(enum.IntEnum):
+    """How a request ended (ahci_outcome)."""
+
+    READ = 0
+    WRITE = 1
+    FAIL = 2
+
+
+class Wrote(enum.IntEnum):
+    """What a driver's write of a register did (ahci_wrote)."""
+
+    WORD = 0
+    COMMANDS = 1
+    START = 2
+    SOME = 3
+
+
+class Register(enum.IntEnum):
+    """Offsets of registers from the HBA's base (AHCI 1.3.1, sections 3.1 and 3.3), in bytes."""
+
+    CAP = 0x000
+    GHC = 0x004
+    IS = 0x008
+    PI = 0x00C
+    VS = 0x010
+    CAP2 = 0x024
+    BOHC = 0x028
+    PXCLB = 0x100
+    PXCLBU = 0x104
+    PXFB = 0x108
+    PXFBU = 0x10C
+    PXIS = 0x110
+    PXIE = 0x114
+    PXCMD = 0x118
+    PXTFD = 0x120
+    PXSIG = 0x124
+    PXSSTS = 0x128
+    PXSCTL = 0x12C
+    PXSERR = 0x130
+    PXSACT = 0x134
+    PXCI = 0x138
+    PXSNTF = 0x13C
+
+
+class FisType(enum.IntEnum):
+    """Byte 0 of a FIS (Serial ATA, "FIS types")."""
+
+    H2D = 0x27
+    D2H = 0x34
+    DMA_ACTIVATE = 0x39
+    DMA_SETUP = 0x41
+    DATA = 0x46
+    PIO_SETUP = 0x5F
+    SET_DEVICE_BITS = 0xA1
+
+
+class Want(enum.IntEnum):
+    """What a controller does next with the driver's memory (ahci_want)."""
+
+    NOTHING = 0
+    READ = 1
+    WRITE = 2
+
+
+class Step(enum.IntEnum):
+    """The next step with the command of a slot (ahci_hba_step_kind)."""
+
+    NONE = 0
+    FETCH = 1
+    SEND = 2
+    ACCEPT = 3
+    SERVE = 4
+    DELIVER = 5
+    EXECUTE = 6
+    CONTROL = 7
+    RECOVER = 8
+
+
+class Rule(enum.IntEnum):
+    """A rule of AHCI 1.3.1 for the software that drives a controller, named for what breaks it (ahci_rule)."""
+
+    START_WITHOUT_RECEIVING = 0
+    START_WITH_RECEIVING = 1
+    START_WHILE_BUSY = 2
+    START_WITHOUT_DEVICE = 3
+    RECEIVING_CLEARED_WHILE_STARTED = 4
+    LIST_MOVED_WHILE_STARTED = 5
+    AREA_MOVED_WHILE_RECEIVING = 6
+    CLEAR_BUSY_WHILE_STARTED = 7
+    LINK_CHANGED_WHILE_STARTED = 8
+    RESERVED_LINK_STATE = 9
+    ACTIVE_WHILE_STOPPED = 10
+    COMMAND_WHILE_STOPPED = 11
+    COMMAND_WHILE_HALTED = 12
+    MIXED_COMMANDS = 13
+    INTERRUPT_NOT_CLEARED = 14
+    RESERVED_BITS = 15
+    FIS_LENGTH = 16
+    NO_COMMAND_FIS = 17
+    ATAPI_FLAG = 18
+    WRITE_FLAG = 19
+    ACTIVE_WITHOUT_QUEUE = 20
+    QUEUE_WITHOUT_ACTIVE = 21
+    TAG_NOT_SLOT = 22
+    RESERVED_HEADER = 23
+    TABLE_UNALIGNED = 24
+    ODD_ADDRESS = 25
+    EVEN_COUNT = 26
+    LIST_TOO_SHORT = 27
+    LIST_TOO_LONG = 28
