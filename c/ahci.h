@@ -417,7 +417,8 @@ typedef enum ahci_rule {
 
 /* ---- a port ---- */
 
-/* Makes a port of `depth` slots over a copy of an image, in an empty place. It is started and has done nothing.
+/* Makes a port of `depth` slots over a copy of an image, in an empty place. It is started and has done nothing. The calls that make
+   a port take some 80 KiB of stack, all others 4 KiB (measured by `make -C c stack`; no promise).
    AHCI_PORT_THERE, AHCI_BAD_SIZE, AHCI_BAD_DEPTH, AHCI_OUT_OF_MEMORY. */
 uint32_t ahci_port_new(ahci_port *port, const uint8_t *image, size_t image_bytes, uint32_t depth);
 
@@ -450,11 +451,14 @@ uint32_t ahci_port_acknowledge(ahci_port *port, uint32_t mask);
    at PxCLB. Its window, from the tag's base on as in ahci_port_issue, is in `windows`; slot s has the bytes from
    s * (windows_bytes / 32) on. A held command is issued again as it is in its slot. AHCI_HALTED, AHCI_NOT_QUEUED, and nothing
    has changed; or the status of ahci_port_issue for the first command that is not issued, with *done as AHCI_WROTE_SOME: the commands
-   of the slots below it are issued, and the others have to be written again.
+   of the slots below it are issued, and the others have to be written again. A bit at or above the depth is AHCI_NOT_QUEUED, since no bit
+   of PxSACT announces it.
    PxCMD, with FRE: without ST it stops a port whose command has failed, else AHCI_NOT_HALTED; with ST it starts the port again, which
    then recovers as by ahci_port_recover. AHCI_RUNNING without FRE; AHCI_OUT_OF_MEMORY.
    PxIS: a 1 clears. PxIE keeps the interrupts that the port has. PxCLB and PxFB: AHCI_RUNNING if they would move. All others
    ignore the word, and so do bits that the port does not have (CLO, SUD, POD of PxCMD).
+   What is half written (bits of PxSACT that wait for PxCI, ST off) is forgotten once ahci_port_issue, ahci_port_submit,
+   ahci_port_recover or ahci_port_reissue has done something: these calls take the place of register writes.
    AHCI_WRONG_LENGTH if list_bytes is not 1,024, for every register; AHCI_UNALIGNED, AHCI_NO_SUCH_REGISTER. */
 uint32_t ahci_port_write_register(ahci_port *port, uint32_t offset, uint32_t word, const uint8_t *list, size_t list_bytes, const uint8_t *windows, size_t windows_bytes, ahci_written *done);
 
