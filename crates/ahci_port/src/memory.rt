@@ -75,9 +75,9 @@ impl<A: Allocator> Host for Memory<A> {
 
     ghost keeps_on = { λ a b c ab bc. kept_on a.window b.window c.window ab bc };
 
-    ghost saw_none = { λ a. unit };
+    ghost saw_none = { λ a. Prim.tt };
 
-    ghost saw_more = { λ a b c first then ab bc. unit };
+    ghost saw_more = { λ a b c first then ab bc. Prim.tt };
 
     fn setup(&mut self, fis: &[u8; 28]) {
         self.setup = *fis;

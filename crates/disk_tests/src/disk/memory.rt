@@ -57,9 +57,9 @@ impl Host for Memory {
 
     ghost keeps_on = { λ a b c ab bc. Prim.cc };
 
-    ghost saw_none = { λ a. unit };
+    ghost saw_none = { λ a. Prim.tt };
 
-    ghost saw_more = { λ a b c first then ab bc. unit };
+    ghost saw_more = { λ a b c first then ab bc. Prim.tt };
 
     fn setup(&mut self, fis: &[u8; 28]) {
         self.link.setup = *fis;
