@@ -53,6 +53,13 @@ fn grown(list: &mut Vec<u8>) -> Result<(), AllocError>
     Ok(())
 }
 
+fn again(fault: Fault) -> Result<(), AllocError> {
+    match fault {
+        Fault::OutOfMemory => Err(AllocError),
+        Fault::Full => Ok(()),
+    }
+}
+
 fn told(fault: Fault) -> bool {
     if let Err(Other::OutOfMemory) = other() {
         return is(Fault::OutOfMemory);
@@ -69,6 +76,7 @@ MEMORY = {
     "a refusal out of nothing": "fn f() -> Result<(), AllocError> { Err(AllocError) }",
     "one in a tuple": "fn f() -> Result<(), (Op, AllocError)> { Err((op, AllocError)) }",
     "one by another name": "use std::alloc::AllocError as Lack; fn f() -> Result<(), Lack> { Err(Lack) }",
+    "one of another fault": "fn f(x: Fault) -> Result<(), AllocError> { match x { Fault::Full => Err(AllocError), _ => Ok(()) } }",
     "one in a constant": "const LACK: AllocError = AllocError;",
     "one kept for later": "struct Keeper { lack: AllocError }",
     "one that a macro writes": "macro_rules! lack { () => { Err(AllocError) } }",

@@ -11,6 +11,7 @@ use std::thread;
 const MOST_YIELDS: u32 = 64;
 
 /// How many workers of a run have jobs left, and how many requests are outstanding. Only the schedule depends on it.
+#[derive(Drop)]
 pub(crate) struct Crowd {
     depth: usize,
     working: AtomicUsize,

@@ -10,7 +10,7 @@ ghost use Rattle.ahci_replay.specs.Refusals.{disk_refusal};
 use crate::issuing::uniform_sectors;
 use crate::running::run_on;
 use crate::unanswered::Unanswered;
-use ahci_port::{MOST_FIRST, Port};
+use ahci_port::{MOST_FIRST, Port, ResumeFault};
 use ahci_script::{Refusal, ScriptAnswer, ScriptCommand};
 use ncq_core::{MAX_DEPTH, MAX_SECTORS};
 use std::alloc::{AllocError, Allocator};
@@ -101,11 +101,11 @@ impl<A: Allocator + Copy> Session<A> {
             return Ok(ScriptAnswer::Refused(Refusal::BadFirst));
         }
         let image = uniform_sectors(self.alloc, sectors as u32, 0)?;
-        // The numbers were compared above: memory alone can be lacking.
-        let Ok(port) = Port::resume(self.alloc, image, depth as u32, number) else {
-            return Err(AllocError);
+        self.port = match Port::resume(self.alloc, image, depth as u32, number) {
+            Ok(port) => Some(port),
+            Err(ResumeFault::OutOfMemory) => return Err(AllocError),
+            Err(_) => unreachable!(), // the numbers were compared above
         };
-        self.port = Some(port);
         Ok(ScriptAnswer::Disk {
             sectors,
             depth,
