@@ -1,6 +1,7 @@
 //! How a driver reads the log of a failed queued command (AHCI 1.3.1, section 6.2.2; ACS-3, "NCQ Command Error log").
 
 ghost use Rattle.std.specs.Prelude.{◌≡◌, ◌<◌, ◌≤◌, true, [], IfErr, IfOk, OnErr, OnOk, vec_capacity};
+ghost use Rattle.ncq_journal.specs.Halted.{halted};
 ghost use Rattle.ahci_hba.specs.Queueing.{command_at};
 ghost use Rattle.ahci_hba.specs.Stepping.{fault_if, may_recover};
 ghost use Rattle.ahci_hba.specs.Recovering.{CollectsFailed, ReadsErrorLog, error_log_in, error_page};
@@ -60,13 +61,19 @@ impl<A: Allocator> Hba<A> {
     }
 }
 
-/// The port recovers, and the failed request is collected: its tag and its reply.
-fn recover<A: Allocator>(port: &mut Port<A>) -> Result<(u8, Reply), RecoverFault>
+/// A halted port recovers, and the failed request is collected: its tag and its reply.
+fn recover<A: Allocator>(port: &mut Port<A>) -> Result<(u8, Reply), HbaFault>
+    requires { halted port.old.past ≡ true }
     ensures ok { IfOk result (λ r. CollectsFailed r.0 r.1 port.old port.new) }
+    ensures fault { IfErr result (λ e. e ≡ HbaFault.OutOfMemory) }
     ensures err { OnErr result (port.new ≡ port.old) }
 {
     port.keeps_its_promise();
-    let tag = port.recover()?;
+    let tag = match port.recover() {
+        Ok(tag) => tag,
+        Err(RecoverFault::OutOfMemory) => return Err(HbaFault::OutOfMemory),
+        Err(RecoverFault::NotHalted) => unreachable!(),
+    };
     let Some(number) = port.owner(tag) else {
         unreachable!() // a failed command has a request
     };
@@ -98,8 +105,7 @@ impl<A: Allocator + Copy> Hba<A> {
         let page = Vec::with_capacity(self.alloc, 512)?;
         let (tag, reply) = match recover(&mut self.port) {
             Ok(recovered) => recovered,
-            Err(RecoverFault::OutOfMemory) => return Err(HbaFault::OutOfMemory),
-            Err(RecoverFault::NotHalted) => unreachable!(), // the port is halted
+            Err(fault) => return Err(fault),
         };
         let journal = reset(&mut self.port);
         self.give_page(

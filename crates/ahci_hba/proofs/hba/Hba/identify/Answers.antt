@@ -5,8 +5,8 @@ use Rattle.ahci_hba.specs.Queueing.{command_at, list_in}
 use Rattle.ahci_hba.proofs.DeliveringLemmas.{identifies}
 use Rattle.ahci_hba.proofs.hba.Hba.identify.Goals as goal
 
-pub returns-in-Ok-identify-clause-ok : goal.returns-in-Ok-identify-clause-ok
-returns-in-Ok-identify-clause-ok g c =
+pub returns-in-Ok-clause-ok : goal.returns-in-Ok-clause-ok
+returns-in-Ok-clause-ok g c =
     subst (λ v. Identifies c.args.slot (list_in (command_at v c.args.slot)) v c.give_page.new.self) c.self.view_is
-    (identifies c.args.slot _ c.give_page.new.self c.identify.new.self _ c.in-Ok-identify.ensures.identified
-    (c.in-Ok.ensures.items ∙ c.controller_page-page.ensures ∙ ap (λ n. controller_page n c.self.inside.depth) c.sectors.ensures) c.give_page.ensures)
+    (identifies c.args.slot _ c.give_page.new.self c.identify.new.self _ c.in-Ok.ensures.identified
+    (c.in_ok-page.ensures.items ∙ c.controller_page-page.ensures ∙ ap (λ n. controller_page n c.self.inside.depth) c.sectors.ensures) c.give_page.ensures)
