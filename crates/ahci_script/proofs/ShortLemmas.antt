@@ -62,11 +62,11 @@ decimal-spelled v ds d some few fits = record {
   whole = d.word;
   some = some;
   is =
-    let is : is_decimal ds ≡ true = and_from (ltb 0 (length ds)) (list_all is_ascii_digit ds) (lt-ltb 0 (length ds) some) d.all in
-    cond-true (is_decimal ds) _ (Err NotDecimal) is
-    ∙ cond-false (ltb 20 (length ds)) (Err LongNumber) _ (lt-leb 21 (length ds) (omega (arith, few)))
-    ∙ ap (λ w. ok_or (below (2 ^ 64) w) WideNumber) d.value
-    ∙ ap (λ o. ok_or o WideNumber) (cond-true (ltb v (2 ^ 64)) (Some v) None (lt-ltb v (2 ^ 64) fits));
+      let is : is_decimal ds ≡ true = and_from (ltb 0 (length ds)) (list_all is_ascii_digit ds) (lt-ltb 0 (length ds) some) d.all in
+      cond-true (is_decimal ds) _ (Err NotDecimal) is
+      ∙ cond-false (ltb 20 (length ds)) (Err LongNumber) _ (lt-leb 21 (length ds) (omega (arith, few)))
+      ∙ ap (λ w. ok_or (below (2 ^ 64) w) WideNumber) d.value
+      ∙ ap (λ o. ok_or o WideNumber) (cond-true (ltb v (2 ^ 64)) (Some v) None (lt-ltb v (2 ^ 64) fits));
 }
 
 -- a decimal number that ends at a space, and one that ends its text
@@ -94,6 +94,7 @@ number_below limit large rest others n is h = in_words (next_of rest) is
         let both : (m, after) ≡ (n, others) = cc in
         let same : m ≡ n = ap (λ (p : ℕ × Rest). p.0) both in
         ap (placed text after) (cond-true (ltb m limit) (Ok m) (Err (large m)) (lt-ltb m limit (omega (arith, same, h)))) ∙ e
+
     in_words : (w : Result (List ℕ × List ℕ × Rest) Breach) → (w >>= λ w. placed w.0 w.2 (decimal_of w.1)) ≡ Ok (n, others)
         → (w >>= λ w. placed w.0 w.2 (decimal_below limit large w.1)) ≡ Ok (n, others)
     in_words (Err breach) e = cc
@@ -120,8 +121,8 @@ hex-spelled v ds s some few = record {
   whole = s.word;
   some = some;
   is =
-    let short : (ltb 0 (length ds) && leb (length ds) 8) ≡ true = and_from (ltb 0 (length ds)) _ (lt-ltb 0 (length ds) some) (grind (arith, nat_tests)) in
-    ap (λ o. ok_or o (not_hexadecimal ds LongRegister)) (cond-true _ (hexadecimal_value ds) None short ∙ s.value);
+      let short : (ltb 0 (length ds) && leb (length ds) 8) ≡ true = and_from (ltb 0 (length ds)) _ (lt-ltb 0 (length ds) some) (grind (arith, nat_tests)) in
+      ap (λ o. ok_or o (not_hexadecimal ds LongRegister)) (cond-true _ (hexadecimal_value ds) None short ∙ s.value);
 }
 
 pub hex_before : (v i : ℕ) (xs : List ℕ) → i < length xs → get_or xs i 0 ≡ 32 → 0 < i → i ≤ 8 → HexDigits v (take i xs)

@@ -14,6 +14,8 @@ use crate::words::{Words, first};
 
 /// Reads a line, without its line feed: what it spells; else the first rule of the language that it breaks, from the left. A
 /// byte that no command has, and in a comment one over 127, is told before all else.
+// Inline where a line is answered: its command then goes from its words to its call with no move.
+#[inline(always)]
 pub fn read_line(line: &[u8]) -> Result<Line<'_>, Breach>
     ensures line { result ≡ reading line.now }
     ensures tags { IfOk result (λ line. HasSmallTags line) }
