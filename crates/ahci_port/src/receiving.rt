@@ -9,7 +9,7 @@ ghost use Rattle.sata_fis.specs.Spelling.{Spells};
 ghost use Rattle.ahci_port.specs.PortView.{put_at, setup_place, pio_place, register_place, bits_place};
 
 use ahci_regs::PortRegs;
-use sata_fis::{D2h, Fis, decode};
+use sata_fis::{D2h, d2h_at, pio_setup_at, set_bits_at};
 
 /// The places of the FISes.
 const SETUP: usize = 0x00;
@@ -49,13 +49,9 @@ pub(crate) fn receive_register(
     ensures answer { result ≡ d2h_at fis.now }
 {
     put(area, REGISTER, fis);
-    match &decode(fis) {
-        Ok(Fis::D2h(answer)) => {
-            registers.receive_register(answer.status, answer.error, answer.i, tag);
-            *answer
-        }
-        _ => unreachable!(),
-    }
+    let answer = d2h_at(fis);
+    registers.receive_register(answer.status, answer.error, answer.i, tag);
+    answer
 }
 
 /// A Set Device Bits FIS.
@@ -65,12 +61,8 @@ pub(crate) fn receive_bits(registers: &mut PortRegs, area: &mut [u8; 256], fis: 
     ensures registers { registers.new ≡ after_bits registers.old (set_bits_at fis.now).status (set_bits_at fis.now).error (set_bits_at fis.now).i (set_bits_at fis.now).sactive }
 {
     put(area, BITS, fis);
-    match &decode(fis) {
-        Ok(Fis::SetBits(bits)) => {
-            registers.receive_bits(bits.status, bits.error, bits.i, bits.sactive);
-        }
-        _ => unreachable!(),
-    }
+    let bits = set_bits_at(fis);
+    registers.receive_bits(bits.status, bits.error, bits.i, bits.sactive);
 }
 
 /// A PIO Setup FIS for slot 0, with its data after it.
@@ -80,11 +72,7 @@ pub(crate) fn receive_pio(registers: &mut PortRegs, area: &mut [u8; 256], fis: &
     ensures registers { registers.new ≡ after_pio_end (after_pio registers.old (pio_setup_at fis.now).status (pio_setup_at fis.now).error) (pio_setup_at fis.now).e_status (pio_setup_at fis.now).i 0 }
 {
     put(area, PIO, fis);
-    match &decode(fis) {
-        Ok(Fis::PioSetup(setup)) => {
-            registers.receive_pio(setup.status, setup.error);
-            registers.end_pio(setup.e_status, setup.i, 0);
-        }
-        _ => unreachable!(),
-    }
+    let setup = pio_setup_at(fis);
+    registers.receive_pio(setup.status, setup.error);
+    registers.end_pio(setup.e_status, setup.i, 0);
 }

@@ -23,6 +23,8 @@ const RECEIVED_AREA: u32 = 0x0001_0400;
 const ALL: u32 = 0xFFFF_FFFF;
 
 /// Software writes a word to a register. A port that refuses it stays as it is.
+// The register is known at each call, and what the others take goes away.
+#[inline(always)]
 pub(crate) fn write(registers: &mut PortRegs, register: Register, value: u32)
     ensures { registers.new ≡ after_write registers.old (offset_of register) value }
 {

@@ -11,7 +11,7 @@ use crate::receiving::{receive_pio, receive_register};
 use crate::sent::Sent;
 use crate::software::write;
 use ahci_regs::{PortRegs, Register};
-use ncq_core::{Disk, Taken};
+use ncq_core::Disk;
 use ncq_journal::Plain;
 use std::alloc::Allocator;
 
@@ -64,29 +64,26 @@ fn sent_for(plain: Plain) -> Sent
     }
 }
 
-/// Sends a command by slot 0: header and command table are put where the device finds them, PxCI[0] is set, and the device
-/// takes the command, which is the answer.
+/// Sends a command by slot 0: header and command table are put where the device finds them, and PxCI[0] is set. The device lets
+/// the command through, by which nothing of the disk changes: so its bytes, which are known here, are not read again.
+#[tactic(auto, using(crate::proofs::CarryingLemmas::passes_through, crate::proofs::CarryingLemmas::state_stays))]
 fn send<A: Allocator>(
     plain: Plain,
     header: &mut [u8; 32],
     table: &mut UnqueuedTable,
     registers: &mut PortRegs,
-    disk: &mut Disk<A>,
-) -> Plain
-    requires { (verdict disk.old (cfis_for plain)).answer ≡ taken.Plain plain }
-    ensures taken { result ≡ plain }
+    disk: &Disk<A>,
+)
+    requires { Passes plain disk.now }
+    ensures taken { (verdict disk.now (cfis_for plain)).answer ≡ taken.Plain plain }
+    ensures disk { (verdict disk.now (cfis_for plain)).state ≡ disk.now }
     ensures sent { table.new.sent ≡ sent_for plain }
     ensures header { header.new ≡ header_for plain }
     ensures registers { registers.new ≡ after_write registers.old (offset_of PxCi) 1 }
-    ensures disk { disk.new ≡ (verdict disk.old (cfis_for plain)).state }
 {
     table.sent = sent_for(plain);
     *header = table.sent.header;
     write(registers, Register::PxCi, 1);
-    match disk.take(&table.sent.cfis) {
-        Taken::Plain(taken) => taken,
-        _ => unreachable!(),
-    }
 }
 
 /// Receives what the device answers to a command that it has taken: a page by PIO, or the end of a flush.
@@ -138,8 +135,8 @@ pub(crate) fn carry_out<A: Allocator>(
     ensures disk { disk.new ≡ disk_after plain disk.old }
 {
     let aside = headers[0];
-    let taken = send(plain, &mut headers[0], table, registers, disk);
-    receive(taken, table, registers, area, disk);
+    send(plain, &mut headers[0], table, registers, &*disk);
+    receive(plain, table, registers, area, disk);
     headers[0] = aside;
 }
 

@@ -101,6 +101,8 @@ impl PortRegs {
     /// register's (`NoSuchRegister`); PxSACT and PxCI while ST is 0 (`NotStarted`); PxCMD where it sets ST while FRE
     /// is 0 now or in the value (`NotReceiving`), or clears FRE while ST is 1 (`Running`); PxCLB and PxFB where they
     /// would change while ST is 1 (`Running`).
+    // Where the offset is known, nothing is left but the register's own line.
+    #[inline(always)]
     pub fn write(&mut self, off: u32, value: u32) -> Result<(), RegFault>
         ensures ok { OnOk result (IsWritten off value self.old self.new) }
         ensures fault { IfErr result (RefusesWrite off value self.old) }

@@ -129,6 +129,7 @@ impl Register {
 
     /// The register at an offset: `Unaligned` where it isn't a multiple of 4, else `NoSuchRegister` where none stands.
     #[tactic(auto, unfolding(crate::specs::RegisterTable::register_at))]
+    #[inline(always)]
     pub fn at(off: u32) -> Result<Register, RegFault>
         ensures answer { result ≡ register_at off }
         ensures place { IfOk result (λ register. offset_of register ≡ off) }

@@ -2,6 +2,7 @@ pub mod DecimalLemmas
 pub mod HexBytesLemmas
 pub mod HexValueLemmas
 pub mod PrintingLemmas
+pub mod ShortLemmas
 pub mod TagsLemmas
 pub mod EntriesLemmas
 pub mod ReadBackLemmas

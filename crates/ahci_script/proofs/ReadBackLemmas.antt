@@ -5,8 +5,9 @@ use Rattle.std.specs.List.{All}
 use Rattle.streams.specs.Text.{hex_of}
 use Rattle.ahci_script.specs.Answers.{numbers_text}
 use Rattle.ahci_script.specs.Breaches.{◌>>=◌, seen_in}
-use Rattle.ahci_script.specs.Lines.{AreTags, accept_of, ack_of, collect_of, command_of, disk_of, fail_of, identify_of, named, named_device, named_disk, number_if_any, raw_of}
+use Rattle.ahci_script.specs.Lines.{AreTags, accept_of, ack_of, collect_of, command_of, disk_of, fail_of, identify_of, named, number_if_any, raw_of}
 use Rattle.ahci_script.specs.Lines.{read_of, reading, reg_of, reissue_of, serve_of, show_of, write_of}
+use Rattle.ahci_script.specs.Names.{device_name, disk_name, request_name}
 use Rattle.ahci_script.specs.Number.{sectors_limit}
 use Rattle.ahci_script.specs.Printing.{IsReadBack, before, hex_bytes}
 use Rattle.ahci_script.specs.Words.{Rest, ends, first_at, word_of}
@@ -92,7 +93,7 @@ serve-back : (t : ℕ) (ts : List ℕ) → AreTags (t ∷ ts) → serve_of (Some
 serve-back t ts are = ap (λ r. r >>= λ tags. Ok (Serve (record { items = tags }))) (tags-back t ts are)
 
 serve-line : (tags : List ℕ) → AreTags tags → reading (codes "serve" ++ numbers_text tags) ≡ Ok (line.Run (Serve (record { items = tags })))
-unfolding named named_disk named_device
+unfolding device_name disk_name request_name
 serve-line [] are = absurd (omega (arith, are.some))
 serve-line (t ∷ ts) are = by_name (codes "serve") (decimal t ++ numbers_text ts) (Serve (record { items = t ∷ ts })) refl refl (serve-back t ts are)
 
@@ -112,7 +113,7 @@ show-back : (lba : ℕ) → lba < 2 ^ 64 → show_of (Some (decimal lba)) ≡ Ok
 show-back lba h = last _ _ (number-spelled lba h) refl
 
 pub read_back : IsReadBack
-unfolding named named_disk named_device
+unfolding device_name disk_name request_name
 read_back (Disk sectors depth None) h =
     by_name (codes "disk") (before (decimal sectors) (decimal depth)) (Disk sectors depth None) refl refl (disk-back sectors depth h.0 h.1)
 read_back (Disk sectors depth (Some first)) h =

@@ -5,6 +5,7 @@ pub mod Results
 pub mod Number
 pub mod HexBytes
 pub mod Words
+pub mod Names
 pub mod Lines
 pub mod Said
 pub mod Answers

@@ -1,13 +1,15 @@
 -- The lines of a script: what each of them spells, or the first rule that it breaks.
-use Rattle.std.specs.Prelude.{ℕ, zero, suc, ◌<◌, ◌≤◌, ◌==◌, List, [], ◌∷◌, ◌++◌, Option, Some, None, Result, Ok, Err, length, codes, if◌then◌else◌}
+use Rattle.std.specs.Prelude.{ℕ, zero, suc, ◌<◌, ◌≤◌, ◌==◌, List, [], ◌∷◌, ◌++◌, Option, Some, None, Result, Ok, Err, length, if◌then◌else◌}
 use Rattle.std.specs.List.{All}
 use Rattle.std.specs.Result.{result_ok}
-use Rattle.std.specs.Str.{bytes_eq}
 use Rattle.ahci_script.specs.Breaches.{◌>>=◌, breach_at, comment_of, seen_in}
 use Rattle.ahci_script.specs.HexBytes.{header_of, hex_bytes_of}
+use Rattle.ahci_script.specs.Names.{name_of}
 use Rattle.ahci_script.specs.Number.{byte_of, decimal_of, hexadecimal_of, page_word_of, sectors_of, tag_of}
 use Rattle.ahci_script.specs.Words.{Rest, ends, first_of, word_of}
 use Rattle.ahci_script.specs.declared.breach.Breach.{Breach}
+use Rattle.ahci_script.specs.declared.command_name.CommandName.{CommandName}
+use Rattle.ahci_script.specs.declared.command_name.CommandName.TheVariants as the-name
 use Rattle.ahci_script.specs.declared.fault.Fault.TheVariants.{ManyTags, SpareSpace, UnknownCommand}
 use Rattle.ahci_script.specs.declared.line.ScriptCommand.{ScriptCommand}
 use Rattle.ahci_script.specs.declared.line.ScriptCommand.TheVariants.{Disk, Write, Read, Raw, Accept, Serve, Fail, Collect, Recover, Reissue, Reg, Ack, Identify, Flush, Show, Journal, Trim}
@@ -141,37 +143,29 @@ abbrev pub unnamed : List ℕ → List ℕ → Breach
 unnamed line [] = breach_at line SpareSpace
 unnamed line (b ∷ bs) = breach_at line UnknownCommand
 
--- a command by its name, the first word of its line: those of the device, and of the registers
-unfoldable pub named_device : List ℕ → List ℕ → Rest → Command
-named_device line name words =
-    if bytes_eq name (codes "accept") then accept_of words
-    else if bytes_eq name (codes "serve") then serve_of words
-    else if bytes_eq name (codes "fail") then fail_of words
-    else if bytes_eq name (codes "reg") then reg_of words
-    else if bytes_eq name (codes "ack") then ack_of words
-    else Err (unnamed line name)
+-- a command by its name, the first word of its line
+abbrev pub command_by : Option CommandName → List ℕ → List ℕ → Rest → Command
+command_by (Some the-name.Write) line name words = write_of words
+command_by (Some the-name.Read) line name words = read_of words
+command_by (Some the-name.Raw) line name words = raw_of words
+command_by (Some the-name.Collect) line name words = collect_of words
+command_by (Some the-name.Recover) line name words = alone Recover words
+command_by (Some the-name.Reissue) line name words = reissue_of words
+command_by (Some the-name.Disk) line name words = disk_of words
+command_by (Some the-name.Identify) line name words = identify_of words
+command_by (Some the-name.Flush) line name words = alone Flush words
+command_by (Some the-name.Show) line name words = show_of words
+command_by (Some the-name.Journal) line name words = alone Journal words
+command_by (Some the-name.Trim) line name words = alone Trim words
+command_by (Some the-name.Accept) line name words = accept_of words
+command_by (Some the-name.Serve) line name words = serve_of words
+command_by (Some the-name.Fail) line name words = fail_of words
+command_by (Some the-name.Reg) line name words = reg_of words
+command_by (Some the-name.Ack) line name words = ack_of words
+command_by None line name words = Err (unnamed line name)
 
--- and, before them, those of the disk and the journal
-unfoldable pub named_disk : List ℕ → List ℕ → Rest → Command
-named_disk line name words =
-    if bytes_eq name (codes "disk") then disk_of words
-    else if bytes_eq name (codes "identify") then identify_of words
-    else if bytes_eq name (codes "flush") then alone Flush words
-    else if bytes_eq name (codes "show") then show_of words
-    else if bytes_eq name (codes "journal") then alone Journal words
-    else if bytes_eq name (codes "trim") then alone Trim words
-    else named_device line name words
-
--- and, before them, those of requests
-unfoldable pub named : List ℕ → List ℕ → Rest → Command
-named line name words =
-    if bytes_eq name (codes "write") then write_of words
-    else if bytes_eq name (codes "read") then read_of words
-    else if bytes_eq name (codes "raw") then raw_of words
-    else if bytes_eq name (codes "collect") then collect_of words
-    else if bytes_eq name (codes "recover") then alone Recover words
-    else if bytes_eq name (codes "reissue") then reissue_of words
-    else named_disk line name words
+abbrev pub named : List ℕ → List ℕ → Rest → Command
+named line name words = command_by (name_of name) line name words
 
 -- a command, which is a name and its words
 abbrev pub command_of : List ℕ → Command

@@ -2,9 +2,10 @@
 
 ghost use Rattle.std.specs.Prelude.{◌≡◌, IfOk};
 ghost use Rattle.ahci_script.specs.Breaches.{comment_of};
-ghost use Rattle.ahci_script.specs.Lines.{HasSmallTag, HasSmallTags, accept_of, ack_of, alone, collect_of, command_of, disk_of, fail_of, identify_of, named, named_device, named_disk, raw_of, read_of, reading, reg_of, reissue_of, serve_of, show_of, unnamed, write_of};
+ghost use Rattle.ahci_script.specs.Lines.{HasSmallTag, HasSmallTags, accept_of, ack_of, alone, collect_of, command_of, disk_of, fail_of, identify_of, named, raw_of, read_of, reading, reg_of, reissue_of, serve_of, show_of, unnamed, write_of};
 
 use crate::breach::{Breach, high_byte};
+use crate::command_name::{CommandName, command_name};
 use crate::fault::Fault;
 use crate::line::{Line, ScriptCommand};
 use crate::raw_window::RawWindow;
@@ -13,6 +14,8 @@ use crate::words::{Words, first};
 
 /// Reads a line, without its line feed: what it spells; else the first rule of the language that it breaks, from the left. A
 /// byte that no command has, and in a comment one over 127, is told before all else.
+// Inline where a line is answered: its command then goes from its words to its call with no move.
+#[inline(always)]
 pub fn read_line(line: &[u8]) -> Result<Line<'_>, Breach>
     ensures line { result ≡ reading line.now }
     ensures tags { IfOk result (λ line. HasSmallTags line) }
@@ -59,70 +62,30 @@ fn alone<'a>(words: Words<'a>, command: ScriptCommand<'a>) -> Result<ScriptComma
     Ok(command)
 }
 
-/// The commands of requests, and all others.
-#[tactic(auto, unfolding(crate::specs::Lines::named))]
+/// A command by its name, the first word of its line.
 fn named<'a>(line: &[u8], name: &[u8], words: Words<'a>) -> Result<ScriptCommand<'a>, Breach>
     ensures command { result ≡ named line.now name.now words.entry }
     ensures tag { IfOk result (λ command. HasSmallTag command) }
 {
-    if name == b"write".as_slice() {
-        write(words)
-    } else if name == b"read".as_slice() {
-        read(words)
-    } else if name == b"raw".as_slice() {
-        raw(words)
-    } else if name == b"collect".as_slice() {
-        collect(words)
-    } else if name == b"recover".as_slice() {
-        alone(words, ScriptCommand::Recover)
-    } else if name == b"reissue".as_slice() {
-        reissue(words)
-    } else {
-        named_disk(line, name, words)
-    }
-}
-
-/// The commands of the disk and the journal, and those after them.
-#[tactic(auto, unfolding(crate::specs::Lines::named_disk))]
-fn named_disk<'a>(line: &[u8], name: &[u8], words: Words<'a>) -> Result<ScriptCommand<'a>, Breach>
-    ensures command { result ≡ named_disk line.now name.now words.entry }
-    ensures tag { IfOk result (λ command. HasSmallTag command) }
-{
-    if name == b"disk".as_slice() {
-        disk(words)
-    } else if name == b"identify".as_slice() {
-        identify(words)
-    } else if name == b"flush".as_slice() {
-        alone(words, ScriptCommand::Flush)
-    } else if name == b"show".as_slice() {
-        show(words)
-    } else if name == b"journal".as_slice() {
-        alone(words, ScriptCommand::Journal)
-    } else if name == b"trim".as_slice() {
-        alone(words, ScriptCommand::Trim)
-    } else {
-        named_device(line, name, words)
-    }
-}
-
-/// The commands of the device and of the registers.
-#[tactic(auto, unfolding(crate::specs::Lines::named_device))]
-fn named_device<'a>(line: &[u8], name: &[u8], words: Words<'a>) -> Result<ScriptCommand<'a>, Breach>
-    ensures command { result ≡ named_device line.now name.now words.entry }
-    ensures tag { IfOk result (λ command. HasSmallTag command) }
-{
-    if name == b"accept".as_slice() {
-        accept(words)
-    } else if name == b"serve".as_slice() {
-        serve(words)
-    } else if name == b"fail".as_slice() {
-        fail(words)
-    } else if name == b"reg".as_slice() {
-        reg(words)
-    } else if name == b"ack".as_slice() {
-        ack(words)
-    } else {
-        Err(unnamed(line, name))
+    match command_name(name) {
+        Some(CommandName::Write) => write(words),
+        Some(CommandName::Read) => read(words),
+        Some(CommandName::Raw) => raw(words),
+        Some(CommandName::Collect) => collect(words),
+        Some(CommandName::Recover) => alone(words, ScriptCommand::Recover),
+        Some(CommandName::Reissue) => reissue(words),
+        Some(CommandName::Disk) => disk(words),
+        Some(CommandName::Identify) => identify(words),
+        Some(CommandName::Flush) => alone(words, ScriptCommand::Flush),
+        Some(CommandName::Show) => show(words),
+        Some(CommandName::Journal) => alone(words, ScriptCommand::Journal),
+        Some(CommandName::Trim) => alone(words, ScriptCommand::Trim),
+        Some(CommandName::Accept) => accept(words),
+        Some(CommandName::Serve) => serve(words),
+        Some(CommandName::Fail) => fail(words),
+        Some(CommandName::Reg) => reg(words),
+        Some(CommandName::Ack) => ack(words),
+        None => Err(unnamed(line, name)),
     }
 }
 

@@ -3,6 +3,7 @@
 
 mod answer;
 mod breach;
+mod command_name;
 mod fault;
 mod grammar;
 mod hex_bytes;
@@ -15,6 +16,7 @@ mod printing;
 mod raw_window;
 mod result_line;
 mod result_text;
+mod short_number;
 mod tags;
 mod text;
 mod told;

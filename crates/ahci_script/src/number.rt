@@ -66,7 +66,7 @@ pub(crate) fn tag(word: &[u8]) -> Result<u8, Fault>
 }
 
 /// So many sectors the largest disk has.
-const MAX_SECTORS: u64 = 131_072;
+pub(crate) const MAX_SECTORS: u64 = 131_072;
 
 /// A number of sectors: a decimal number from 0 to 131,072.
 pub(crate) fn sectors(word: &[u8]) -> Result<u32, Fault>

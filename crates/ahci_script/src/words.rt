@@ -6,7 +6,8 @@ ghost use Rattle.ahci_script.specs.Words.{after_first, cut_of, first_of, placed,
 use crate::breach::Breach;
 use crate::fault::Fault;
 use crate::hex_bytes::{HexBytes, header, hex_bytes};
-use crate::number::{byte, decimal, hexadecimal, page_word, sectors, tag};
+use crate::number::{MAX_SECTORS, byte, decimal, hexadecimal, page_word, sectors, tag};
+use crate::short_number::{short_decimal, short_hexadecimal};
 use std::marker::Model;
 
 /// What is left of a line after some of its words: nothing, or a text after a space.
@@ -25,11 +26,28 @@ impl<'a> Model for Words<'a> {
 }
 
 impl<'a> Words<'a> {
-    ghost use Rattle.std.specs.Prelude.{◌≡◌, ◌<◌, IfErr, IfOk, Ok, Err, option_map};
+    ghost use Rattle.std.specs.Prelude.{◌≡◌, ◌+◌, ◌<◌, IfErr, IfOk, IfSome, Ok, Err, None, Some, drop, length, option_map};
     ghost use Rattle.ahci_script.specs.HexBytes.{header_of, hex_bytes_of};
     ghost use Rattle.ahci_script.specs.Lines.{number_if_any};
     ghost use Rattle.ahci_script.specs.Number.{byte_of, decimal_of, hexadecimal_of, page_word_of, sectors_of, tag_of};
     ghost use Rattle.ahci_script.specs.Words.{ends, next_of, word_of};
+
+    /// No word is left.
+    pub(crate) fn none() -> Self
+        ensures { result ≡ None }
+    {
+        Words { rest: None }
+    }
+
+    /// The words after a space that stands in a text.
+    pub(crate) fn after(text: &'a [u8], space: usize) -> Self
+        requires { space < length text.now }
+        ensures { result ≡ Some (drop (space + 1) text.now) }
+    {
+        Words {
+            rest: Some(&text[space + 1..]),
+        }
+    }
 
     /// The text that is left. `None` at the end of the line.
     pub(crate) fn text(&self) -> Option<&'a [u8]>
@@ -55,6 +73,19 @@ impl<'a> Words<'a> {
         Ok((text, word, others))
     }
 
+    /// The next word as a number below a limit, where it is short: its bytes are then looked at once.
+    fn short_below(&self, limit: u64) -> Option<(u64, Words<'a>)>
+        ensures below { IfSome result (λ n. n.0 < limit) }
+        ensures is { IfSome result (λ n. word_of decimal_of self.now ≡ Ok n) }
+    {
+        let (number, others) = short_decimal(self.rest?)?;
+        if number < limit {
+            Some((number, others))
+        } else {
+            None
+        }
+    }
+
     /// Nothing is left.
     pub(crate) fn end(self) -> Result<(), Breach>
         ensures { result ≡ ends self.entry }
@@ -70,34 +101,46 @@ impl<'a> Words<'a> {
     pub(crate) fn number(self) -> Result<(u64, Words<'a>), Breach>
         ensures { result ≡ word_of decimal_of self.entry }
     {
+        if let Some(number) = self.short_below(u64::MAX) {
+            return Ok(number);
+        }
         let (text, word, others) = self.next()?;
         placed(text, others, decimal(word))
     }
 
     /// A tag: a decimal number from 0 to 31.
-    #[tactic(auto, unfolding(crate::specs::Words::word_of))]
+    #[tactic(auto, using(crate::proofs::ShortLemmas::number_below), unfolding(crate::specs::Words::word_of))]
     pub(crate) fn tag(self) -> Result<(u8, Words<'a>), Breach>
         ensures value { result ≡ word_of tag_of self.entry }
         ensures small { IfOk result (λ t. t.0 < 32) }
     {
+        if let Some((number, others)) = self.short_below(32) {
+            return Ok((number as u8, others));
+        }
         let (text, word, others) = self.next()?;
         placed(text, others, tag(word))
     }
 
     /// A number of sectors: a decimal number from 0 to 131,072.
-    #[tactic(auto, unfolding(crate::specs::Words::word_of))]
+    #[tactic(auto, using(crate::proofs::ShortLemmas::number_below), unfolding(crate::specs::Words::word_of))]
     pub(crate) fn sectors(self) -> Result<(u32, Words<'a>), Breach>
         ensures { result ≡ word_of sectors_of self.entry }
     {
+        if let Some((number, others)) = self.short_below(MAX_SECTORS + 1) {
+            return Ok((number as u32, others));
+        }
         let (text, word, others) = self.next()?;
         placed(text, others, sectors(word))
     }
 
     /// A word of the identify page: a decimal number from 0 to 255.
-    #[tactic(auto, unfolding(crate::specs::Words::word_of))]
+    #[tactic(auto, using(crate::proofs::ShortLemmas::number_below), unfolding(crate::specs::Words::word_of))]
     pub(crate) fn page_word(self) -> Result<(u8, Words<'a>), Breach>
         ensures { result ≡ word_of page_word_of self.entry }
     {
+        if let Some((number, others)) = self.short_below(256) {
+            return Ok((number as u8, others));
+        }
         let (text, word, others) = self.next()?;
         placed(text, others, page_word(word))
     }
@@ -128,6 +171,11 @@ impl<'a> Words<'a> {
     pub(crate) fn register(self) -> Result<(u32, Words<'a>), Breach>
         ensures { result ≡ word_of hexadecimal_of self.entry }
     {
+        if let Some(text) = self.rest
+            && let Some(found) = short_hexadecimal(text)
+        {
+            return Ok(found);
+        }
         let (text, word, others) = self.next()?;
         placed(text, others, hexadecimal(word))
     }

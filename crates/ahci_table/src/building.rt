@@ -26,9 +26,8 @@ use crate::piece::Piece;
 use crate::refusing::refusal;
 use crate::runs;
 use crate::window::Window;
-use arrayvec::ArrayVec;
 use ncq_journal::Op;
-use sata_fis::{Fis, Queued, h2d_of};
+use sata_fis::{Queued, h2d_bytes, h2d_of};
 use std::alloc::{AllocError, Allocator};
 
 /// The header of a command with so many pieces.
@@ -61,14 +60,14 @@ fn queued_for<A: Allocator>(tag: u8, op: &Op<A>) -> Queued
 }
 
 /// The bytes of the command FIS.
-fn command_fis<A: Allocator>(tag: u8, op: &Op<A>) -> ArrayVec<u8, 28>
+fn command_fis<A: Allocator>(tag: u8, op: &Op<A>) -> [u8; 20]
     requires tag { tag < 32 }
     requires lba { lba_of (work_of op.now) < 2 ^ 48 }
     requires some { 1 ≤ sectors_of (work_of op.now) }
     requires most { sectors_of (work_of op.now) ≤ 65536 }
-    ensures { result.items ≡ h2d_bytes (h2d_for (queued_for tag (work_of op.now))) }
+    ensures { result ≡ h2d_bytes (h2d_for (queued_for tag (work_of op.now))) }
 {
-    Fis::H2d(h2d_of(&queued_for(tag, op))).encode()
+    h2d_bytes(&h2d_of(&queued_for(tag, op)))
 }
 
 /// The PRDT entry of a piece.

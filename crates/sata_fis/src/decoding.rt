@@ -67,7 +67,8 @@ fn h2d_at(bytes: &[u8]) -> H2d
     }
 }
 
-fn d2h_at(bytes: &[u8]) -> D2h
+/// What the 20 bytes of a Register FIS - Device to Host say. Its type is not looked at.
+pub fn d2h_at(bytes: &[u8]) -> D2h
     requires { length bytes.now ≡ 20 }
     ensures { result ≡ d2h_at bytes.now }
 {
@@ -95,7 +96,8 @@ fn dma_setup_at(bytes: &[u8]) -> DmaSetup
     }
 }
 
-fn pio_setup_at(bytes: &[u8]) -> PioSetup
+/// What the 20 bytes of a PIO Setup FIS say. Its type is not looked at.
+pub fn pio_setup_at(bytes: &[u8]) -> PioSetup
     requires { length bytes.now ≡ 20 }
     ensures { result ≡ pio_setup_at bytes.now }
 {
@@ -112,7 +114,8 @@ fn pio_setup_at(bytes: &[u8]) -> PioSetup
     }
 }
 
-fn set_bits_at(bytes: &[u8]) -> SetBits
+/// What the 8 bytes of a Set Device Bits FIS say. Its type is not looked at.
+pub fn set_bits_at(bytes: &[u8]) -> SetBits
     requires { length bytes.now ≡ 8 }
     ensures { result ≡ set_bits_at bytes.now }
 {

@@ -1,8 +1,8 @@
 //! Values as FIS bytes.
 
-ghost use Rattle.std.specs.Prelude.{◌≡◌, ◌++◌, ℕ, List, Result, Ok};
+ghost use Rattle.std.specs.Prelude.{◌≡◌, ◌≤◌, ◌++◌, ℕ, List, Result, Ok, length};
 ghost use Rattle.sata_fis.specs.declared.fis.Fis.{Fis};
-ghost use Rattle.sata_fis.specs.declared.fis.Fis.TheVariants.{Data};
+ghost use Rattle.sata_fis.specs.declared.fis.Fis.TheVariants.{Data, DmaActivate};
 ghost use Rattle.sata_fis.specs.declared.fault.FisFault.{FisFault};
 ghost use Rattle.sata_fis.specs.Payload.{IsPayload};
 ghost use Rattle.sata_fis.specs.Spelling.{Spells};
@@ -37,22 +37,40 @@ impl Fis<'_> {
         ensures back { (r : Result Fis FisFault) → Decodes result.items r → r ≡ Ok self.now }
     {
         match self {
-            Fis::H2d(f) => h2d_bytes(f),
-            Fis::D2h(f) => d2h_bytes(f),
-            Fis::DmaActivate => from_dwords(&[[0x39, 0, 0, 0]]),
-            Fis::DmaSetup(f) => dma_setup_bytes(f),
-            Fis::PioSetup(f) => pio_setup_bytes(f),
-            Fis::SetBits(f) => set_bits_bytes(f),
+            Fis::H2d(f) => held(&h2d_bytes(f)),
+            Fis::D2h(f) => held(&d2h_bytes(f)),
+            Fis::DmaActivate => held(&dma_activate_bytes()),
+            Fis::DmaSetup(f) => held(&dma_setup_bytes(f)),
+            Fis::PioSetup(f) => held(&pio_setup_bytes(f)),
+            Fis::SetBits(f) => held(&set_bits_bytes(f)),
             Fis::Data(_) => unreachable!(),
         }
     }
 }
 
+/// Bytes in room for the longest FIS but Data.
+fn held(bytes: &[u8]) -> ArrayVec<u8, 28>
+    requires { length bytes.now ≤ 28 }
+    ensures { result.items ≡ bytes.now }
+{
+    let mut room = ArrayVec::new();
+    room.try_extend_from_slice(bytes).unwrap();
+    room
+}
+
 // The bytes of each type, one line a dword, reserved bits 0.
 
-fn h2d_bytes(f: &H2d) -> ArrayVec<u8, 28>
-    ensures bytes { result.items ≡ h2d_bytes f.now }
-    ensures back { h2d_at result.items ≡ f.now }
+/// The bytes of a DMA Activate FIS.
+pub fn dma_activate_bytes() -> [u8; 4]
+    ensures { result ≡ encoded DmaActivate }
+{
+    [0x39, 0, 0, 0]
+}
+
+/// The bytes of a Register FIS - Host to Device.
+pub fn h2d_bytes(f: &H2d) -> [u8; 20]
+    ensures bytes { result ≡ h2d_bytes f.now }
+    ensures back { h2d_at result ≡ f.now }
 {
     let H2d {
         features,
@@ -72,9 +90,10 @@ fn h2d_bytes(f: &H2d) -> ArrayVec<u8, 28>
     ])
 }
 
-fn d2h_bytes(f: &D2h) -> ArrayVec<u8, 28>
-    ensures bytes { result.items ≡ d2h_bytes f.now }
-    ensures back { d2h_at result.items ≡ f.now }
+/// The bytes of a Register FIS - Device to Host.
+pub fn d2h_bytes(f: &D2h) -> [u8; 20]
+    ensures bytes { result ≡ d2h_bytes f.now }
+    ensures back { d2h_at result ≡ f.now }
 {
     let D2h { lba, count, .. } = *f;
     let [lba_0, lba_1, lba_2, lba_3, lba_4, lba_5, _, _] = lba.to_le_bytes();
@@ -88,9 +107,10 @@ fn d2h_bytes(f: &D2h) -> ArrayVec<u8, 28>
     ])
 }
 
-fn dma_setup_bytes(f: &DmaSetup) -> ArrayVec<u8, 28>
-    ensures bytes { result.items ≡ dma_setup_bytes f.now }
-    ensures back { dma_setup_at result.items ≡ f.now }
+/// The bytes of a DMA Setup FIS.
+pub fn dma_setup_bytes(f: &DmaSetup) -> [u8; 28]
+    ensures bytes { result ≡ dma_setup_bytes f.now }
+    ensures back { dma_setup_at result ≡ f.now }
 {
     from_dwords(&[
         [0x41, flags(f.a, f.i, f.d), 0, 0],
@@ -103,9 +123,10 @@ fn dma_setup_bytes(f: &DmaSetup) -> ArrayVec<u8, 28>
     ])
 }
 
-fn pio_setup_bytes(f: &PioSetup) -> ArrayVec<u8, 28>
-    ensures bytes { result.items ≡ pio_setup_bytes f.now }
-    ensures back { pio_setup_at result.items ≡ f.now }
+/// The bytes of a PIO Setup FIS.
+pub fn pio_setup_bytes(f: &PioSetup) -> [u8; 20]
+    ensures bytes { result ≡ pio_setup_bytes f.now }
+    ensures back { pio_setup_at result ≡ f.now }
 {
     let PioSetup {
         lba,
@@ -125,9 +146,10 @@ fn pio_setup_bytes(f: &PioSetup) -> ArrayVec<u8, 28>
     ])
 }
 
-fn set_bits_bytes(f: &SetBits) -> ArrayVec<u8, 28>
-    ensures bytes { result.items ≡ set_bits_bytes f.now }
-    ensures back { set_bits_at result.items ≡ f.now }
+/// The bytes of a Set Device Bits FIS.
+pub fn set_bits_bytes(f: &SetBits) -> [u8; 8]
+    ensures bytes { result ≡ set_bits_bytes f.now }
+    ensures back { set_bits_at result ≡ f.now }
 {
     from_dwords(&[
         [0xA1, flags(false, f.i, false), f.status, f.error],

@@ -26,9 +26,12 @@ mod set_bits;
 
 pub use command::Queued;
 pub use d2h::D2h;
-pub use decoding::{decode, one_answer};
+pub use decoding::{d2h_at, decode, one_answer, pio_setup_at, set_bits_at};
 pub use dma_setup::DmaSetup;
-pub use encoding::data_head;
+pub use encoding::{
+    d2h_bytes, data_head, dma_activate_bytes, dma_setup_bytes, h2d_bytes, pio_setup_bytes,
+    set_bits_bytes,
+};
 pub use fault::FisFault;
 pub use fis::Fis;
 pub use h2d::H2d;

@@ -1,10 +1,9 @@
 //! Fields by their places in a FIS.
 
-ghost use Rattle.std.specs.Prelude.{◌≡◌, ◌+◌, ◌<◌, ◌≤◌, ◌^◌, length};
+ghost use Rattle.std.specs.Prelude.{◌≡◌, ◌+◌, ◌*◌, ◌<◌, ◌≤◌, ◌^◌, length};
 ghost use Rattle.std.specs.List.{concat};
 ghost use Rattle.sata_fis.specs.Places.{bit, flags, lba_at, number};
 
-use arrayvec::ArrayVec;
 use byteorder::{ByteOrder, LittleEndian};
 
 /// Whether the bit at a place of a byte, 0 the lowest, is 1.
@@ -40,14 +39,12 @@ pub(crate) fn lba_of(bytes: &[u8]) -> u64
     u64::from(low_24(bytes, 4)) + (u64::from(low_24(bytes, 8)) << 24)
 }
 
-/// The bytes of at most seven dwords, in their order.
-pub(crate) fn from_dwords(dwords: &[[u8; 4]]) -> ArrayVec<u8, 28>
-    requires { length dwords.now ≤ 7 }
-    ensures { result.items ≡ concat dwords.now }
+/// The bytes of dwords, in their order.
+pub(crate) fn from_dwords<const N: usize>(dwords: &[[u8; 4]]) -> [u8; N]
+    requires { N ≡ 4 * length dwords.now }
+    ensures { result ≡ concat dwords.now }
 {
-    let mut bytes = ArrayVec::new();
-    for dword in dwords {
-        bytes.try_extend_from_slice(dword).unwrap();
-    }
+    let mut bytes = [0; N];
+    bytes.copy_from_slice(dwords.as_flattened());
     bytes
 }

@@ -37,6 +37,8 @@ pub struct Input<A: Allocator = Global> {
     bytes: Vec<u8, A>,
     start: usize,
     came: u64,
+    /// What a read gave last, before it goes on to the others. It is filled with zeros once, and not for each read.
+    chunk: [u8; CHUNK],
 }
 
 impl<A: Allocator> Model for Input<A> {
@@ -60,6 +62,7 @@ impl<A: Allocator> Input<A> {
             bytes: Vec::with_capacity(alloc, LINE_LIMIT + CHUNK)?,
             start: 0,
             came: 0,
+            chunk: [0; CHUNK],
         })
     }
 
@@ -116,9 +119,8 @@ impl<A: Allocator> Input<A> {
         ensures unfailed { OnOk result (reads.new.failed ≡ reads.old.failed) }
         ensures why { OnErr result (FailsReading reads.new) }
     {
-        let mut chunk = [0; CHUNK];
         let wanted = self.wanted();
-        let count = reads.read(reader, &mut chunk[..wanted])?;
+        let count = reads.read(reader, &mut self.chunk[..wanted])?;
         if count == 0 {
             return Ok(false);
         }
@@ -127,7 +129,7 @@ impl<A: Allocator> Input<A> {
         }
         drop_front(&mut self.bytes, self.start);
         self.start = 0;
-        push_reserved(&mut self.bytes, &chunk[..count]);
+        push_reserved(&mut self.bytes, &self.chunk[..count]);
         self.came += count as u64;
         Ok(true)
     }

@@ -1,10 +1,13 @@
 //! The FISes that the disk sends, by their bytes (Serial ATA, "FIS types").
 
-ghost use Rattle.std.specs.Prelude.{◌≡◌, ◌^◌, ◌<◌, bit_and, length};
-ghost use Rattle.sata_fis.specs.Encoding.{encoded, d2h_bytes, set_bits_bytes, IsNotData};
+ghost use Rattle.std.specs.Prelude.{◌≡◌, ◌^◌, ◌<◌, bit_and};
+ghost use Rattle.sata_fis.specs.Encoding.{d2h_bytes, set_bits_bytes};
 ghost use Rattle.ncq_core.specs.DiskFis.{accepted_bytes, aborted_bytes, not_found_bytes, flushed_bytes, pio_bytes, setup_bytes, activate_bytes, completed_bytes, failed_bytes, register_fis, done_fis};
 
-use sata_fis::{D2h, DmaSetup, Fis, PioSetup, Queued, SetBits};
+use sata_fis::{
+    D2h, DmaSetup, PioSetup, Queued, SetBits, d2h_bytes, dma_activate_bytes, dma_setup_bytes,
+    pio_setup_bytes, set_bits_bytes,
+};
 
 /// Status DRDY, the device is ready (ACS-3, "Status field").
 const READY: u8 = 0x40;
@@ -17,30 +20,19 @@ const ABRT: u8 = 0x04;
 /// Error IDNF, a sector was not found.
 pub(super) const IDNF: u8 = 0x10;
 
-/// The bytes of a FIS that has so many.
-fn bytes_of<const N: usize>(fis: &Fis<'_>) -> [u8; N]
-    requires not_data { IsNotData fis.now }
-    requires size { length (encoded fis.now) ≡ N }
-    ensures { result ≡ encoded fis.now }
-{
-    let mut bytes = [0; N];
-    bytes.copy_from_slice(fis.encode().as_slice());
-    bytes
-}
-
 /// A Register FIS - Device to Host with a status, an error and an LBA.
 fn register(i: bool, status: u8, error: u8, lba: u64) -> [u8; 20]
     requires { lba < 2 ^ 48 }
     ensures { result ≡ d2h_bytes (register_fis i status error lba) }
 {
-    bytes_of(&Fis::D2h(D2h {
+    d2h_bytes(&D2h {
         i,
         status,
         error,
         lba,
         device: 0,
         count: 0,
-    }))
+    })
 }
 
 /// A Set Device Bits FIS with a status, an error and the tags that are done.
@@ -48,12 +40,12 @@ fn set_bits(status: u8, error: u8, sactive: u32) -> [u8; 8]
     requires { bit_and status 0x77 ≡ status }
     ensures { result ≡ set_bits_bytes (done_fis status error sactive) }
 {
-    bytes_of(&Fis::SetBits(SetBits {
+    set_bits_bytes(&SetBits {
         i: true,
         status,
         error,
         sactive,
-    }))
+    })
 }
 
 /// A queued command is accepted.
@@ -89,7 +81,7 @@ pub(super) fn flushed() -> [u8; 20]
 pub(super) fn pio_setup() -> [u8; 20]
     ensures { result ≡ pio_bytes }
 {
-    bytes_of(&Fis::PioSetup(PioSetup {
+    pio_setup_bytes(&PioSetup {
         i: true,
         d: true,
         status: READY_WITH_DATA,
@@ -99,21 +91,21 @@ pub(super) fn pio_setup() -> [u8; 20]
         count: 0,
         e_status: READY,
         bytes: 512,
-    }))
+    })
 }
 
 /// The data of a command come next, all of them from the beginning of the buffer on.
 pub(super) fn dma_setup(command: &Queued) -> [u8; 28]
     ensures { result ≡ setup_bytes command.now }
 {
-    bytes_of(&Fis::DmaSetup(DmaSetup {
+    dma_setup_bytes(&DmaSetup {
         a: false,
         i: false,
         d: !command.write,
         tag: command.tag,
         offset: 0,
         count: 512 * command.sectors,
-    }))
+    })
 }
 
 /// The commands of a word's tags are completed.
@@ -134,5 +126,5 @@ pub(super) fn failed(error: u8) -> [u8; 8]
 pub(super) fn activate() -> [u8; 4]
     ensures { result ≡ activate_bytes }
 {
-    bytes_of(&Fis::DmaActivate)
+    dma_activate_bytes()
 }
