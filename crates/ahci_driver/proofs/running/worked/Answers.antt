@@ -8,8 +8,8 @@ use Rattle.ahci_driver.proofs.running.worked.Goals as goal
 pub map_vec-requires-after_bounds : goal.map_vec-requires-after_bounds
 map_vec-requires-after_bounds g c κs within = λ i x low e. (search rules, search rules, search rules, search rules, search rules, search rules)
 
-pub returns : goal.returns
-returns g c = λ k d low.
+pub returns-clause-among : goal.returns-clause-among
+returns-clause-among g c = λ k d low.
     let inside : k < length c.in_ok-crew.crew.items = let n = c.in_ok-ends.ensures.len in omega arith in
     let at = (c.in_ok-ends.ensures.each k d inside).1 in
     let same : at.job.jobs.now ≡ c.args.jobs.now = subst (λ worker. worker.jobs.now ≡ c.args.jobs.now) (at.job_is at.job) (c.in_ok-crew.ensures k at.job inside) in
