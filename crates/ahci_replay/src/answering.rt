@@ -1,15 +1,16 @@
 //! What the port has done, as a command's answer.
 
-ghost use Rattle.std.specs.Prelude.{◌≡◌, IfOk};
+ghost use Rattle.std.specs.Prelude.{◌≡◌, IfErr, IfOk};
 ghost use Rattle.ahci_port.specs.Slots.{bytes_in};
 ghost use Rattle.ahci_script.specs.Said.{said};
 ghost use Rattle.ahci_table.specs.Fit.{IsFit};
 ghost use Rattle.ahci_replay.specs.Commands.{EndsAt, outcome_said, step_said};
 
+use crate::unanswered::Unanswered;
 use ahci_port::{Outcome, Reply, Stepped};
 use ahci_script::ScriptAnswer;
 use ahci_table::Window;
-use std::alloc::{AllocError, Allocator};
+use std::alloc::Allocator;
 
 /// The answer of a device's step, after which the next entry has the number `end`.
 pub(crate) fn stepped<A: Allocator>(done: Stepped, end: u64) -> ScriptAnswer<A>
@@ -28,9 +29,10 @@ pub(crate) fn collected<A: Allocator>(
     alloc: A,
     reply: Reply,
     window: &Window<A>,
-) -> Result<ScriptAnswer<A>, AllocError>
+) -> Result<ScriptAnswer<A>, Unanswered>
     requires { IsFit window.now }
-    ensures { IfOk result (λ answer. said answer ≡ outcome_said reply.outcome reply.entry (bytes_in reply.outcome window.now)) }
+    ensures why { IfErr result (λ e. e ≡ Unanswered.OutOfMemory) }
+    ensures says { IfOk result (λ answer. said answer ≡ outcome_said reply.outcome reply.entry (bytes_in reply.outcome window.now)) }
 {
     let entry = reply.entry;
     match reply.outcome {

@@ -1,6 +1,6 @@
 //! How a script's commands are issued: by a window over the default pieces, or by one of any bytes.
 
-ghost use Rattle.std.specs.Prelude.{◌≡◌, ◌<◌, ◌≤◌, ◌*◌, false, IfOk, IsErr, IsOkAnd, None, OnErr, MatchOption, replicate};
+ghost use Rattle.std.specs.Prelude.{◌≡◌, ◌<◌, ◌≤◌, ◌*◌, false, IfErr, IfOk, IsErr, IsOkAnd, None, OnErr, MatchOption, replicate};
 ghost use Rattle.ncq_journal.specs.Work.{work_of, is_ragged, lba_of, sectors_of};
 ghost use Rattle.ahci_port.specs.Faults.{submit_refusal};
 ghost use Rattle.ahci_script.specs.Said.{said};
@@ -8,6 +8,7 @@ ghost use Rattle.ahci_replay.specs.Commands.{AnswersWindow, HasIssued, MayLackOn
 
 use crate::reading::read_window;
 use crate::refused::refused;
+use crate::unanswered::Unanswered;
 use ahci_port::{IssueFault, Port};
 use ahci_script::{RawWindow, ScriptAnswer, ScriptCommand};
 use ahci_table::Window;
@@ -28,6 +29,7 @@ pub(crate) fn uniform_sectors<A: Allocator>(
 }
 
 /// Issues a write. A command that is refused needs no data.
+#[inline(never)]
 pub(crate) fn write<A: Allocator + Copy>(
     port: &mut Port<A>,
     alloc: &A,
@@ -35,10 +37,11 @@ pub(crate) fn write<A: Allocator + Copy>(
     lba: u64,
     sectors: u32,
     fill: u8,
-) -> Result<ScriptAnswer<A>, AllocError>
+) -> Result<ScriptAnswer<A>, Unanswered>
     requires { tag < 32 }
     ensures ok { IfOk result (λ answer. RunsOn port.old (ScriptCommand.Write tag lba sectors fill) port.new (said answer)) }
     ensures err { OnErr result (port.new ≡ port.old) }
+    ensures why { IfErr result (λ e. e ≡ Unanswered.OutOfMemory) }
     ensures lacking { OnErr result (MayLackOn port.old (ScriptCommand.Write tag lba sectors fill)) }
 {
     if let Some(fault) = port.submit_fault(tag, lba, u64::from(sectors)) {
@@ -49,15 +52,17 @@ pub(crate) fn write<A: Allocator + Copy>(
 }
 
 /// Issues a read.
+#[inline(never)]
 pub(crate) fn read<A: Allocator + Copy>(
     port: &mut Port<A>,
     tag: u8,
     lba: u64,
     sectors: u32,
-) -> Result<ScriptAnswer<A>, AllocError>
+) -> Result<ScriptAnswer<A>, Unanswered>
     requires { tag < 32 }
     ensures ok { IfOk result (λ answer. RunsOn port.old (ScriptCommand.Read tag lba sectors) port.new (said answer)) }
     ensures err { OnErr result (port.new ≡ port.old) }
+    ensures why { IfErr result (λ e. e ≡ Unanswered.OutOfMemory) }
     ensures lacking { OnErr result (MayLackOn port.old (ScriptCommand.Read tag lba sectors)) }
 {
     if let Some(fault) = port.submit_fault(tag, lba, u64::from(sectors)) {
@@ -71,28 +76,31 @@ fn submit<A: Allocator + Copy>(
     port: &mut Port<A>,
     tag: u8,
     op: Op<A>,
-) -> Result<ScriptAnswer<A>, AllocError>
+) -> Result<ScriptAnswer<A>, Unanswered>
     requires whole { is_ragged (work_of op) ≡ false }
     requires free { submit_refusal port.old tag (lba_of (work_of op)) (sectors_of (work_of op)) ≡ None }
     ensures ok { IfOk result (λ answer. HasIssued tag (work_of op) port.old port.new (said answer)) }
     ensures err { OnErr result (port.new ≡ port.old) }
+    ensures why { IfErr result (λ e. e ≡ Unanswered.OutOfMemory) }
 {
     match port.submit_tested(tag, op) {
         Ok(number) => Ok(ScriptAnswer::Issued(number)),
-        Err((_op, refused)) => Err(refused),
+        Err((_op, refused)) => Err(refused.into()),
     }
 }
 
 /// Issues a window of any bytes.
+#[inline(never)]
 pub(crate) fn issue_raw<A: Allocator + Copy>(
     port: &mut Port<A>,
     alloc: &A,
     tag: u8,
     window: &RawWindow<'_>,
-) -> Result<ScriptAnswer<A>, AllocError>
+) -> Result<ScriptAnswer<A>, Unanswered>
     requires { tag < 32 }
     ensures ok { IfOk result (λ answer. RunsOn port.old (ScriptCommand.Raw tag window.now) port.new (said answer)) }
     ensures err { OnErr result (port.new ≡ port.old) }
+    ensures why { IfErr result (λ e. e ≡ Unanswered.OutOfMemory) }
 {
     issue_window(port, read_window(*alloc, tag, window)?)
 }
@@ -101,9 +109,10 @@ pub(crate) fn issue_raw<A: Allocator + Copy>(
 fn issue_window<A: Allocator + Copy>(
     port: &mut Port<A>,
     window: Window<A>,
-) -> Result<ScriptAnswer<A>, AllocError>
+) -> Result<ScriptAnswer<A>, Unanswered>
     ensures ok { IfOk result (λ answer. AnswersWindow window port.old port.new (said answer)) }
     ensures err { OnErr result (port.new ≡ port.old) }
+    ensures why { IfErr result (λ e. e ≡ Unanswered.OutOfMemory) }
 {
     told(port.issue(window))
 }
@@ -111,8 +120,9 @@ fn issue_window<A: Allocator + Copy>(
 /// What an issue is told as.
 fn told<A: Allocator>(
     issued: Result<u64, (Window<A>, IssueFault)>,
-) -> Result<ScriptAnswer<A>, AllocError>
-    ensures { MatchOption (issue_said issued) (IsErr result) (λ says. IsOkAnd result (λ answer. said answer ≡ says)) }
+) -> Result<ScriptAnswer<A>, Unanswered>
+    ensures why { IfErr result (λ e. e ≡ Unanswered.OutOfMemory) }
+    ensures says { MatchOption (issue_said issued) (IsErr result) (λ says. IsOkAnd result (λ answer. said answer ≡ says)) }
 {
     match issued {
         Ok(number) => Ok(ScriptAnswer::Issued(number)),

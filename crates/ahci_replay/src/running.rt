@@ -14,9 +14,12 @@ use crate::refused::refused;
 use crate::unanswered::Unanswered;
 use ahci_port::{DeviceStep, Port};
 use ahci_script::{Refusal, ScriptAnswer, ScriptCommand};
-use std::alloc::{AllocError, Allocator};
+use std::alloc::Allocator;
 
 /// Runs a command on the port.
+// What takes more than a few values has a frame of its own, which is cleared when it is entered: so it stays a call, and a line
+// that needs none of it does not pay.
+#[inline(always)]
 pub(crate) fn run_on<A: Allocator + Copy>(
     port: &mut Port<A>,
     alloc: &A,
@@ -37,20 +40,20 @@ pub(crate) fn run_on<A: Allocator + Copy>(
             lba,
             sectors,
             fill,
-        } => Ok(write(port, alloc, tag, lba, sectors, fill)?),
-        ScriptCommand::Read { tag, lba, sectors } => Ok(read(port, tag, lba, sectors)?),
-        ScriptCommand::Raw { tag, window } => Ok(issue_raw(port, alloc, tag, &window)?),
+        } => write(port, alloc, tag, lba, sectors, fill),
+        ScriptCommand::Read { tag, lba, sectors } => read(port, tag, lba, sectors),
+        ScriptCommand::Raw { tag, window } => issue_raw(port, alloc, tag, &window),
         ScriptCommand::Accept { tag } => Ok(step(port, DeviceStep::Accept(tag))),
         ScriptCommand::Serve { tags } => Ok(step(port, DeviceStep::Serve(tags))),
         ScriptCommand::Fail { tag, error, lba } => {
             let at = lba;
             Ok(step(port, DeviceStep::Fail { tag, error, at }))
         }
-        ScriptCommand::Collect { tag, number } => Ok(collect(port, alloc, tag, number)?),
-        ScriptCommand::Recover => Ok(recover(port)?),
+        ScriptCommand::Collect { tag, number } => collect(port, alloc, tag, number),
+        ScriptCommand::Recover => recover(port),
         ScriptCommand::Reissue { tag } => Ok(reissue(port, tag)),
-        ScriptCommand::Identify { word } => Ok(identify(port, word)?),
-        ScriptCommand::Flush => Ok(flush(port)?),
+        ScriptCommand::Identify { word } => identify(port, word),
+        ScriptCommand::Flush => flush(port),
         ScriptCommand::Reg { off } => Ok(register(port, off)),
         ScriptCommand::Ack { mask } => Ok(acknowledge(port, mask)),
         ScriptCommand::Show { lba } => Ok(show(port, lba)),
@@ -72,14 +75,16 @@ fn step<A: Allocator + Copy>(port: &mut Port<A>, step: DeviceStep) -> ScriptAnsw
 }
 
 /// Collects a request. Where memory is refused for the bytes of a read, it is collected all the same.
+#[inline(never)]
 fn collect<A: Allocator + Copy>(
     port: &mut Port<A>,
     alloc: &A,
     tag: u8,
     number: u64,
-) -> Result<ScriptAnswer<A>, AllocError>
+) -> Result<ScriptAnswer<A>, Unanswered>
     ensures ok { IfOk result (λ answer. RunsOn port.old (ScriptCommand.Collect tag number) port.new (said answer)) }
     ensures err { OnErr result (MayRunOn port.old (ScriptCommand.Collect tag number) port.new) }
+    ensures why { IfErr result (λ e. e ≡ Unanswered.OutOfMemory) }
     ensures lacking { OnErr result (refusal_on port.old (ScriptCommand.Collect tag number) ≡ None) }
 {
     match port.collect(tag, number) {
@@ -90,9 +95,11 @@ fn collect<A: Allocator + Copy>(
 
 /// Recovers from a failure.
 #[tactic(auto, using(crate::proofs::SessionLemmas::nothing_stands_against))]
-fn recover<A: Allocator + Copy>(port: &mut Port<A>) -> Result<ScriptAnswer<A>, AllocError>
+#[inline(never)]
+fn recover<A: Allocator + Copy>(port: &mut Port<A>) -> Result<ScriptAnswer<A>, Unanswered>
     ensures ok { IfOk result (λ answer. RunsOn port.old ScriptCommand.Recover port.new (said answer)) }
     ensures err { OnErr result (port.new ≡ port.old) }
+    ensures why { IfErr result (λ e. e ≡ Unanswered.OutOfMemory) }
     ensures lacking { OnErr result (refusal_on port.old ScriptCommand.Recover ≡ None) }
 {
     match port.recover() {
@@ -102,6 +109,7 @@ fn recover<A: Allocator + Copy>(port: &mut Port<A>) -> Result<ScriptAnswer<A>, A
 }
 
 /// Issues a held command again.
+#[inline(never)]
 fn reissue<A: Allocator + Copy>(port: &mut Port<A>, tag: u8) -> ScriptAnswer<A>
     ensures { RunsOn port.old (ScriptCommand.Reissue tag) port.new (said result) }
 {
@@ -113,12 +121,14 @@ fn reissue<A: Allocator + Copy>(port: &mut Port<A>, tag: u8) -> ScriptAnswer<A>
 
 /// Shows a word of the page that IDENTIFY DEVICE reads.
 #[tactic(auto, using(crate::proofs::SessionLemmas::nothing_stands_against))]
+#[inline(never)]
 fn identify<A: Allocator + Copy>(
     port: &mut Port<A>,
     word: u8,
-) -> Result<ScriptAnswer<A>, AllocError>
+) -> Result<ScriptAnswer<A>, Unanswered>
     ensures ok { IfOk result (λ answer. RunsOn port.old (ScriptCommand.Identify word) port.new (said answer)) }
     ensures err { OnErr result (port.new ≡ port.old) }
+    ensures why { IfErr result (λ e. e ≡ Unanswered.OutOfMemory) }
     ensures lacking { OnErr result (refusal_on port.old (ScriptCommand.Identify word) ≡ None) }
 {
     match port.identify() {
@@ -140,9 +150,11 @@ fn word_in(page: &[u8; 512], word: u8) -> u16
 
 /// Sends FLUSH CACHE EXT.
 #[tactic(auto, using(crate::proofs::SessionLemmas::nothing_stands_against))]
-fn flush<A: Allocator + Copy>(port: &mut Port<A>) -> Result<ScriptAnswer<A>, AllocError>
+#[inline(never)]
+fn flush<A: Allocator + Copy>(port: &mut Port<A>) -> Result<ScriptAnswer<A>, Unanswered>
     ensures ok { IfOk result (λ answer. RunsOn port.old ScriptCommand.Flush port.new (said answer)) }
     ensures err { OnErr result (port.new ≡ port.old) }
+    ensures why { IfErr result (λ e. e ≡ Unanswered.OutOfMemory) }
     ensures lacking { OnErr result (refusal_on port.old ScriptCommand.Flush ≡ None) }
 {
     match port.flush() {

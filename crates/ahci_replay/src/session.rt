@@ -46,6 +46,7 @@ impl<A: Allocator + Copy> Session<A> {
     /// `OutOfPlace` where the command stands before the disk, or is a second disk: then nothing changes. `OutOfMemory` where
     /// a growth was refused: then the port is as it was, or a read was collected and its bytes are lost. A command that takes
     /// no memory never lacks any, and of a disk or a write a bad size, count or address is told before.
+    #[inline(always)]
     pub fn run(&mut self, command: ScriptCommand<'_>) -> Result<ScriptAnswer<A>, Unanswered>
         requires { HasSmallTag command }
         ensures ok { IfOk result (λ answer. Runs self.old command.entry self.new (said answer)) }

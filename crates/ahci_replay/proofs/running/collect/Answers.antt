@@ -21,7 +21,7 @@ returns-in-Ok-clause-ok g c =
     let new = c.collect.new.self in
     let reply = c.in-Ok.reply in
     let bytes = bytes_in reply.outcome c.in-Ok.window in
-    if_ok_from c.collected.result (λ x. said x ≡ outcome_said reply.outcome reply.entry bytes) (λ x. RunsOn old (Collect a.tag a.number) new (said x)) c.collected.ensures
+    if_ok_from c.collected.result (λ x. said x ≡ outcome_said reply.outcome reply.entry bytes) (λ x. RunsOn old (Collect a.tag a.number) new (said x)) c.collected.ensures.says
     (λ x. collects _ _ a.tag a.number old new reply.outcome reply.entry bytes (said x) c.in-Ok.ensures.fault c.in-Ok.ensures.reply c.in-Ok.ensures.ok)
 
 pub returns-in-Ok-clause-err : goal.returns-in-Ok-clause-err
