@@ -46,7 +46,7 @@ class Ahci(unittest.TestCase):
         self.room = tempfile.mkdtemp(prefix="test-ahci-")
         self.addCleanup(shutil.rmtree, self.room)
         for name in ("low", "middle", "beside", "ahci"):
-            for part in ("src", "specs", "proofs"):
+            for part in ("src", "specs", "proofs") if name != "ahci" else ("src",):  # as in the repository, not every crate has all three
                 self.write(f"crates/{name}/{part}/one", name)
         for name, ends in (("replay", " < SCRIPT"), ("trace", " [OPTIONS] < SCRIPT"), ("check", " [OPTIONS] < LINES"), ("draw", " < SCRIPT"), ("run", " < JOBS"), ("log", " --tag <NUMBER>")):
             self.write(f"crates/ahci_examples/data/help_{name}.out", f"stored help_{name}\n\nUsage: ahci {name}{ends}\n")
@@ -181,7 +181,7 @@ class Ahci(unittest.TestCase):
 
     def test_an_edit_makes_the_program_stale(self) -> None:
         for crate in ("low", "middle", "ahci"):
-            for part in ("src", "specs", "proofs"):
+            for part in ("src", "specs", "proofs") if crate != "ahci" else ("src",):
                 self.build()
                 self.edit(f"crates/{crate}/{part}/one")
                 self.assertEqual((0, "an answer\n", [STALE, "said by the program"]), self.run_with("replay"), (crate, part))
