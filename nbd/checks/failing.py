@@ -121,9 +121,9 @@ def slow_commands(room: str) -> str:
         jobs = found["jobs"]
         assert isinstance(jobs, list)
         longest = jobs[0]["read"]["lat_ns"]["max"] / 1000
-        late = jobs[0]["read"]["clat_ns"]["percentile"]["99.000000"] / 1000
+        late = jobs[0]["read"]["clat_ns"]["percentile"]["95.000000"] / 1000
     if longest < 300_000 or late > 100_000:
-        raise Failed(f"the longest request took {longest:.0f} microseconds and the 99th percentile {late:.0f}")
+        raise Failed(f"the longest request took {longest:.0f} microseconds and the 95th percentile {late:.0f}")
     entries = list(Record(record).entries())
     slow = next(it for it in entries if it.kind == READ and it.lba == 100)
     accepted = next(it for it in entries if it.kind == ACCEPT and it.tag == slow.tag and it.number > slow.number)

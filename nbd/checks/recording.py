@@ -47,7 +47,8 @@ def a_long_record(room: str) -> str:
         raise Failed("the record ends with other sectors than the client read")
     if sum(it.kind == WRITE for it in record.entries()) != 262_144:
         raise Failed("some write is missing")
-    starts = [0, last // 2, last - 6000]
+    written = max(it.number for it in record.entries() if it.kind == WRITE)
+    starts = [0, written // 2, written - 6000]
     names = [must_play(folder, room, it, it + 6000 - 1) for it in starts]
     if len(record.parts) < 2:
         raise Failed("the record has one part alone")
@@ -58,7 +59,7 @@ def outstanding_commands(room: str) -> str:
     """Stretches that begin while commands are outstanding, of reads and writes of 1 to 40 sectors, several completed together, with failures."""
     folder = os.path.join(room, "record")
     with serving(room, "sectors=4096", f"record={folder}", "pick=random", "together=5", "delay=50", "fail=any:40:ever,rate=1/50") as server:
-        fio(server, "mixed", "--rw=randrw", "--bsrange=512-20k", "--bs_unaligned", "--iodepth=32", "--size=2m", "--io_size=16m", "--numjobs=2", "--continue_on_error=all",
+        fio(server, "mixed", "--rw=randrw", "--bsrange=512-20k", "--iodepth=32", "--size=2m", "--io_size=16m", "--numjobs=2", "--continue_on_error=all",
             "--error_dump=0", "--randseed=13", "--norandommap")
         found = out(server, os.path.join(room, "back"))
     if sectors_of(folder) != found:
@@ -148,7 +149,7 @@ def a_full_disk(room: str) -> str:
     with small_room(room, "8m") as place:
         folder = os.path.join(place, "record")
         with serving(room, "sectors=8192", f"record={folder}", says=r"record=.*: it can't be written: No space left on device; the record ends after \d+ entries") as server:
-            must_be_clean(fio(server, "full", "--rw=randwrite", "--bs=4k", "--iodepth=32", "--size=4m", "--io_size=16m", "--norandommap", "--verify=crc32c", "--do_verify=1"))
+            must_be_clean(fio(server, "full", "--rw=randwrite", "--bs=4k", "--iodepth=32", "--size=4m", "--loops=4", "--verify=crc32c", "--do_verify=1"))
         said = [line for line in server.said().splitlines() if "record=" in line]
         _, last, cut = bounds(Record(folder))
         if len(said) != 1 or cut or f"after {last + 1} entries" not in said[0] or last < 5000:
@@ -182,7 +183,7 @@ def answered_and_killed(room: str) -> str:
     for at in range(5):
         folder = os.path.join(room, f"record{at}")
         server = Server(room, PLUGIN, ["sectors=8192", f"record={folder}"])
-        client = subprocess.Popen(["qemu-io", "-f", "raw", "-c", f"write -P {at + 1} 0 16k", "-c", "sleep 60000", server.uri], stdin=subprocess.DEVNULL, stdout=subprocess.PIPE, text=True)
+        client = subprocess.Popen(["stdbuf", "-oL", "qemu-io", "-f", "raw", "-c", f"write -P {at + 1} 0 16k", "-c", "sleep 60000", server.uri], stdin=subprocess.DEVNULL, stdout=subprocess.PIPE, text=True)
         assert client.stdout
         client.stdout.readline()
         server.stop(signal.SIGKILL)
@@ -209,7 +210,7 @@ def stretch_words(room: str) -> str:
     """stretch: lists parts, names entries by number, by the last and by time, and refuses what there is not."""
     folder = os.path.join(room, "record")
     with serving(room, "sectors=64", f"record={folder}", "most-journal=2000") as server:
-        ran(["qemu-io", "-f", "raw", "-c", "write -P 1 0 512", "-c", "sleep 1200", "-c", "write -P 2 512 512", "-c", "write -P 3 0 512", server.uri])
+        ran(["qemu-io", "-t", "writeback", "-f", "raw", "-c", "write -P 1 0 512", "-c", "sleep 1200", "-c", "write -P 2 512 512", "-c", "write -P 3 0 512", server.uri])
     listed = ran([STRETCH, "list", folder])
     _, last, _ = bounds(Record(folder))
     if f"a disk of 64 sectors, 32 slots; entries 0 to {last}" not in listed or "part.000001: entries 0 to" not in listed:
