@@ -31,12 +31,12 @@ const char settings_help[] =
     "slow=WHERE:MICROSECONDS[+JITTER][:COUNT][,CONDITION]...  commands that take so long (default\n"
     "                     COUNT: ever). May be given up to 64 times\n"
     "most-journal=BYTES   size of the port's journal at which it is trimmed (default: 4 times the disk's\n"
-    "                     size, and at least 67108864)\n"
+    "                     size, and at least 4194304)\n"
     "record=FOLDER        a record of all that happens; ./stretch turns any part of it into a script\n"
     "record-limit=BYTES   the oldest half of the record is dropped so that it has no more bytes";
 
-#define LEAST_JOURNAL (UINT64_C(64) << 20) /* the default of a small disk; a trim takes as long as copying the disk */
-#define JOURNAL_DISKS 4
+#define LEAST_JOURNAL (UINT64_C(4) << 20) /* the default of a small disk */
+#define JOURNAL_DISKS 4                   /* that of others, in disks: a trim takes as long as copying the disk */
 #define MOST_DELAY 10000000u
 
 void settings_begin(struct settings *settings) {
