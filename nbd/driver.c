@@ -97,6 +97,7 @@ static void play(struct driver *driver) {
 }
 
 int driver_submit(struct driver *driver, struct request *mine) {
+    mine->plays = false; /* it may have been true for an earlier part */
     sem_init(&mine->answered, 0, 0);
     bool plays = gate_enter(&driver->gate, mine);
     if (!plays) {

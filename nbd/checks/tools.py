@@ -212,6 +212,13 @@ def bounded_memory(room: str) -> str:
     return f"{early // MIB} MiB, then {late // MIB} MiB; {told(server)}"
 
 
+def parts_among_others(room: str) -> str:
+    """Requests of several commands among short ones of four clients, so that the threads of some play the device more than once."""
+    with serving(room) as server:
+        must_be_clean(fio(server, "parts", "--rw=randwrite", "--bssplit=4k/90:9m/10", "--iodepth=32", "--size=63m", "--number_ios=400", "--numjobs=4", "--norandommap", "--group_reporting"))
+    return told(server)
+
+
 def no_races(room: str) -> str:
     """The plugin under ThreadSanitizer, without and with a thread of the device's own."""
     library = subprocess.run(["gcc", "-print-file-name=libtsan.so"], stdout=subprocess.PIPE, text=True, check=True).stdout.strip()
@@ -227,4 +234,4 @@ def no_races(room: str) -> str:
 
 CHECKS = [(wrong_words, []), (verified_writes, ["fio"]), (mixed_jobs, ["fio"]), (long_requests, ["qemu-io", "nbdcopy"]), (chosen_tags, ["fio"]),
           (bits_and_flushes, ["qemu-io", "nbdcopy"]), (waiting_flushes, ["fio"]), (a_file_system, ["nbdcopy", "mkfs.ext4", "debugfs"]), (by_qemu, ["qemu-img", "qemu-io"]),
-          (bounded_memory, ["fio"]), (no_races, ["fio", "gcc"])]
+          (bounded_memory, ["fio"]), (parts_among_others, ["fio"]), (no_races, ["fio", "gcc"])]
