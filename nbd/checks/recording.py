@@ -10,7 +10,7 @@ from typing import List, Set, Tuple
 
 from harness import MIB, PLAYER, PLUGIN, SECONDS, SECTOR, STRETCH, Failed, Server, fio, must_be_clean, out, ran, replayed, scripted, sectors_of, serving, told
 from images import small_room
-from records import COLLECT, READ, SERVE, TRIM, WRITE, Record, bounds
+from records import COLLECT, READ, TRIM, WRITE, Record, bounds
 
 
 def touched(record: Record, first: int, last: int) -> Set[int]:

@@ -6,7 +6,7 @@ import random
 import subprocess
 from typing import Dict, List
 
-from harness import HERE, MIB, PLUGIN, RACES_PLUGIN, SECONDS, Failed, counted, fio, must_be_clean, out, ran, replayed, scripted, serving, told
+from harness import MIB, PLUGIN, RACES_PLUGIN, SECONDS, Failed, counted, fio, must_be_clean, out, ran, replayed, scripted, serving, told
 from records import ACCEPT, COLLECT, FLUSH, SERVE, WRITE, Record
 
 
