@@ -1,81 +1,86 @@
 #include "device.h"
 
 #include <errno.h>
-#include <inttypes.h>
 #include <string.h>
 #include <time.h>
 
 #define NBDKIT_API_VERSION 2
 #include <nbdkit-plugin.h>
 
-/* The next number of a generator of its own, so that a seed gives the same choices everywhere (xorshift64*). */
-static uint64_t next_random(struct device *device) {
-    uint64_t x = device->random;
-    x ^= x >> 12;
-    x ^= x << 25;
-    x ^= x >> 27;
-    device->random = x;
-    return x * UINT64_C(2685821657736338717);
+#define SECOND UINT64_C(1000000000)
+
+static uint64_t now(void) {
+    struct timespec time;
+    clock_gettime(CLOCK_MONOTONIC, &time);
+    return (uint64_t)time.tv_sec * SECOND + (uint64_t)time.tv_nsec;
 }
 
-static ahci_tag_sets tag_sets(struct driver *driver) {
-    ahci_tag_sets sets;
-    uint32_t status = ahci_port_tag_sets(&driver->port, &sets);
-    if (status != AHCI_OK)
-        driver_disagrees("ahci_port_tag_sets", status);
-    return sets;
+static uint32_t lowest(uint32_t set) {
+    return (uint32_t)__builtin_ctz(set);
 }
+
+/* ---- which step ---- */
 
 /* The tag of a set that the device goes on with. */
-static uint32_t pick_of(struct device *device, uint32_t set) {
-    switch (device->driver->settings->pick) {
-    case PICK_HIGH:
+static uint32_t pick_of(struct driver *driver, uint32_t set) {
+    if (driver->settings->pick == PICK_HIGH)
         return 31u - (uint32_t)__builtin_clz(set);
-    case PICK_RANDOM: {
-        uint32_t skip = (uint32_t)(next_random(device) % (uint32_t)__builtin_popcount(set));
+    if (driver->settings->pick == PICK_RANDOM) {
+        uint32_t skip = (uint32_t)(next_random(&driver->random) % (uint32_t)__builtin_popcount(set));
         while (skip--)
             set &= set - 1;
-        return (uint32_t)__builtin_ctz(set);
     }
-    default:
-        return (uint32_t)__builtin_ctz(set);
-    }
+    return lowest(set);
 }
 
-/* The failure that a command is to meet, or NULL. */
-static struct failure *failure_of(struct driver *driver, uint32_t tag) {
-    const struct command *it = &driver->commands[tag];
-    for (unsigned at = 0; at < driver->settings->failure_count; at++) {
-        struct failure *failure = &driver->settings->failures[at];
-        if (failure->left && failure->lba >= it->lba && failure->lba - it->lba < it->sectors)
-            return failure;
-    }
-    return NULL;
+/* Applies the rules to a command, once: a command that is issued again keeps what was decided. */
+static void decide(struct driver *driver, struct command *it) {
+    struct settings *settings = driver->settings;
+    if (it->is_decided || settings->failures.count + settings->slow.count == 0)
+        return;
+    uint64_t time = now();
+    const struct occasion occasion = {.lba = it->request->lba, .sectors = it->request->sectors, .writes = it->request->kind == REQUEST_WRITE,
+                                      .number = it->serial, .since = (time - driver->started) / 1000};
+    struct rule *slow = rules_apply(&settings->slow, &occasion);
+    it->is_decided = true;
+    it->failure = rules_apply(&settings->failures, &occasion);
+    it->ready = slow ? time + 1000 * rule_delay(slow) : 0;
 }
 
-/* Takes every command that is issued. */
+/* Those accepted commands that are not slow, or whose time has come. */
+static uint32_t ready_of(const struct driver *driver) {
+    uint32_t ready = driver->accepted;
+    if (!driver->settings->slow.count)
+        return ready;
+    uint64_t time = now();
+    for (uint32_t set = ready; set; set &= set - 1)
+        if (driver->commands[lowest(set)].ready > time)
+            ready &= ~(UINT32_C(1) << lowest(set));
+    return ready;
+}
+
+/* ---- steps ---- */
+
 static void accept_all(struct driver *driver) {
-    uint32_t issued = tag_sets(driver).issued;
-    for (; issued; issued &= issued - 1) {
-        uint32_t tag = (uint32_t)__builtin_ctz(issued);
+    for (; driver->issued; driver->issued &= driver->issued - 1) {
+        uint32_t tag = lowest(driver->issued);
         ahci_stepped done;
-        uint32_t status = ahci_port_accept(&driver->port, tag, &done);
-        if (status != AHCI_OK)
-            driver_disagrees("ahci_port_accept", status);
-        record_line(&driver->record, "accept %" PRIu32, tag);
+        driver_must("ahci_port_accept", ahci_port_accept(&driver->port, tag, &done));
+        record_tag(&driver->record, RECORD_ACCEPT, tag);
+        decide(driver, &driver->commands[tag]);
+        driver->accepted |= UINT32_C(1) << tag;
     }
-    uint32_t deep = (uint32_t)__builtin_popcount(tag_sets(driver).accepted);
+    uint32_t deep = (uint32_t)__builtin_popcount(driver->accepted);
     if (deep > driver->counts.deepest)
         driver->counts.deepest = deep;
 }
 
-static void fail(struct driver *driver, uint32_t tag, struct failure *failure) {
+static void fail(struct driver *driver, uint32_t tag) {
+    const struct command *it = &driver->commands[tag];
+    uint64_t lba = it->failure->first_lba > it->request->lba ? it->failure->first_lba : it->request->lba;
     ahci_stepped done;
-    uint32_t status = ahci_port_fail(&driver->port, tag, failure->error, failure->lba, &done);
-    if (status != AHCI_OK)
-        driver_disagrees("ahci_port_fail", status);
-    record_line(&driver->record, "fail %" PRIu32 " %02x %" PRIu64, tag, failure->error, failure->lba);
-    failure->left--;
+    driver_must("ahci_port_fail", ahci_port_fail(&driver->port, tag, it->failure->error, lba, &done));
+    record_failed(&driver->record, tag, it->failure->error, lba);
     driver->counts.failed++;
     driver_recover(driver);
 }
@@ -84,7 +89,7 @@ static void fail(struct driver *driver, uint32_t tag, struct failure *failure) {
 static void count_order(struct driver *driver, uint32_t tag, uint32_t waiting) {
     driver->counts.served++;
     for (; waiting; waiting &= waiting - 1)
-        if (driver->commands[__builtin_ctz(waiting)].number < driver->commands[tag].number) {
+        if (driver->commands[lowest(waiting)].number < driver->commands[tag].number) {
             driver->counts.out_of_order++;
             return;
         }
@@ -92,75 +97,101 @@ static void count_order(struct driver *driver, uint32_t tag, uint32_t waiting) {
 
 static void serve(struct driver *driver, const uint8_t *tags, uint32_t count) {
     ahci_stepped done;
-    uint32_t status = ahci_port_serve(&driver->port, tags, count, &done);
-    if (status != AHCI_OK)
-        driver_disagrees("ahci_port_serve", status);
+    driver_must("ahci_port_serve", ahci_port_serve(&driver->port, tags, count, &done));
     record_served(&driver->record, tags, count);
     driver->counts.lists += count > 1;
     for (uint32_t at = 0; at < count; at++)
-        driver_answered(driver, tags[at]);
+        driver_collect(driver, tags[at]);
 }
 
-/* Serves some of the accepted commands, or fails one that is to fail. */
-static void step(struct device *device, uint32_t accepted) {
-    struct driver *driver = device->driver;
+/* Serves some of the commands, or fails the first that is to fail. */
+static void serve_some(struct driver *driver, uint32_t ready) {
     uint8_t tags[AHCI_MOST_TAGS];
     uint32_t count = 0;
-    while (accepted && count < driver->settings->together) {
-        uint32_t tag = pick_of(device, accepted);
-        struct failure *failure = failure_of(driver, tag);
-        if (failure) {
-            fail(driver, tag, failure);
+    while (ready && count < driver->settings->together) {
+        uint32_t tag = pick_of(driver, ready);
+        if (driver->commands[tag].failure && count)
+            break;
+        if (driver->commands[tag].failure) {
+            fail(driver, tag);
             return;
         }
-        accepted &= ~(UINT32_C(1) << tag);
-        count_order(driver, tag, accepted);
+        ready &= ~(UINT32_C(1) << tag);
+        count_order(driver, tag, ready);
         tags[count++] = (uint8_t)tag;
     }
-    serve(driver, tags, count);
+    if (count)
+        serve(driver, tags, count);
 }
 
-/* Lets go of the lock for as long as a step of the device takes, so that more commands come in. */
+void device_step(struct driver *driver) {
+    accept_all(driver);
+    serve_some(driver, ready_of(driver));
+}
+
+/* ---- a thread of its own ---- */
+
+/* Waits as long as delay= says. */
 static void wait_a_step(struct driver *driver) {
-    struct timespec wait = {.tv_sec = driver->settings->delay / 1000000, .tv_nsec = 1000L * (driver->settings->delay % 1000000)};
-    pthread_mutex_unlock(&driver->lock);
-    if (driver->settings->delay)
+    const struct settings *settings = driver->settings;
+    uint64_t delay = settings->delay + (settings->jitter ? next_random(&driver->random) % ((uint64_t)settings->jitter + 1) : 0);
+    struct timespec wait = {.tv_sec = (time_t)(delay / 1000000), .tv_nsec = (long)(1000 * (delay % 1000000))};
+    if (delay)
         while (nanosleep(&wait, &wait) && errno == EINTR)
             ;
-    pthread_mutex_lock(&driver->lock);
 }
 
-static void *play(void *it) {
-    struct device *device = it;
-    struct driver *driver = device->driver;
-    pthread_mutex_lock(&driver->lock);
+/* Sleeps until a request comes in, or a slow command can be served. */
+static void sleep_until_ready(struct driver *driver) {
+    uint64_t first = UINT64_MAX;
+    for (uint32_t set = driver->accepted; set; set &= set - 1)
+        if (driver->commands[lowest(set)].ready < first)
+            first = driver->commands[lowest(set)].ready;
+    const struct timespec until = {.tv_sec = (time_t)(first / SECOND), .tv_nsec = (long)(first % SECOND)};
+    if (first > now())
+        gate_sleep(&driver->gate, driver->accepted ? &until : NULL);
+}
+
+/* The last request says that no more come; the queue is empty then. */
+static bool must_stop(const struct driver *driver) {
+    return driver->first && driver->first->kind == REQUEST_STOP;
+}
+
+static void *run(void *it) {
+    struct driver *driver = it;
     for (;;) {
-        while (driver->owned == driver->done && !driver->stopping)
-            pthread_cond_wait(&driver->work, &driver->lock);
-        if (driver->owned == driver->done)
+        driver_take(driver);
+        if (must_stop(driver))
             break;
+        if (!driver->first && !driver->issued && !ready_of(driver)) {
+            sleep_until_ready(driver);
+            continue;
+        }
         wait_a_step(driver);
-        accept_all(driver);
-        uint32_t accepted = tag_sets(driver).accepted;
-        if (accepted)
-            step(device, accepted);
+        driver_take(driver);
+        driver_issue(driver);
+        device_step(driver);
+        driver_wake(driver_answered(driver));
     }
-    pthread_mutex_unlock(&driver->lock);
+    driver_wake(driver->first);
     return NULL;
 }
 
-int device_begin(struct device *device, struct driver *driver) {
-    *device = (struct device){.driver = driver, .random = driver->settings->seed * 2 + 1};
-    int why = pthread_create(&device->thread, NULL, play, device);
+int device_begin(struct driver *driver, pthread_t *thread) {
+    driver->started = now();
+    if (!driver->has_thread)
+        return 0;
+    gate_keep(&driver->gate);
+    int why = pthread_create(thread, NULL, run, driver);
     if (why)
         nbdkit_error("the device's thread can't be started: %s", strerror(why));
     return why ? -1 : 0;
 }
 
-void device_end(struct device *device) {
-    pthread_mutex_lock(&device->driver->lock);
-    device->driver->stopping = true;
-    pthread_cond_signal(&device->driver->work);
-    pthread_mutex_unlock(&device->driver->lock);
-    pthread_join(device->thread, NULL);
+void device_end(struct driver *driver, pthread_t thread) {
+    struct request last = {.kind = REQUEST_STOP};
+    if (!driver->has_thread)
+        return;
+    driver_submit(driver, &last);
+    pthread_join(thread, NULL);
 }

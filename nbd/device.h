@@ -1,19 +1,19 @@
-/* The disk's side of the port: a thread that takes what is issued, and serves or fails it. */
+/* The disk's side of the port: it accepts what is issued, and serves or fails it. Without waits the player takes its steps; with delay= or
+   slow= it has a thread of its own. */
 #ifndef AHCI_NBD_DEVICE_H
 #define AHCI_NBD_DEVICE_H
 
 #include "driver.h"
 
-struct device {
-    struct driver *driver;
-    uint64_t random; /* the state of PICK_RANDOM */
-    pthread_t thread;
-};
+#include <pthread.h>
 
-/* Starts the thread. It answers 0, or -1 with nbdkit told why. */
-int device_begin(struct device *device, struct driver *driver);
+/* Accepts every command that is issued, and takes one step with those that can be served now. */
+void device_step(struct driver *driver);
 
-/* Ends the thread, once every command has its answer. */
-void device_end(struct device *device);
+/* Starts the device's own thread, if it has one. It returns 0, or -1 after nbdkit_error. */
+int device_begin(struct driver *driver, pthread_t *thread);
+
+/* Ends it. Every request has its answer by now. */
+void device_end(struct driver *driver, pthread_t thread);
 
 #endif

@@ -1,234 +1,266 @@
 #include "driver.h"
 
-#include "image.h"
+#include "device.h"
 #include "window.h"
 
 #include <errno.h>
 #include <inttypes.h>
 #include <stdlib.h>
 #include <string.h>
+#include <time.h>
 
 #define NBDKIT_API_VERSION 2
 #include <nbdkit-plugin.h>
 
+#define ENTRY_BYTES 256               /* about what the journal's entries of one command take, without a write's bytes */
+
+
 static uint8_t nothing[1]; /* where no bytes are handed over */
 
-void driver_disagrees(const char *call, uint32_t status) {
+void driver_must(const char *call, uint32_t status) {
+    if (status == AHCI_OK)
+        return;
     nbdkit_error("%s was refused: status %" PRIu32 " of ahci.h", call, status);
     abort();
 }
 
-/* How many sectors the next command of a request has. */
-static uint32_t part_of(const struct driver *driver, uint32_t sectors, uint32_t most) {
-    uint32_t limit = driver->record.file >= 0 && most > RECORD_SECTORS ? RECORD_SECTORS : most;
-    return sectors < limit ? sectors : limit;
+static uint32_t bit_of(uint32_t tag) {
+    return UINT32_C(1) << tag;
 }
 
-static bool is_uniform(const uint8_t *bytes, uint32_t sectors) {
-    return !memcmp(bytes, bytes + 1, (size_t)sectors * AHCI_SECTOR_BYTES - 1);
+/* ---- requests ---- */
+
+static void append(struct driver *driver, struct request *list) {
+    *driver->last = list;
+    while (*driver->last)
+        driver->last = &(*driver->last)->next;
 }
 
-/* Waits for a slot, and takes the lowest. */
-static uint32_t take_tag(struct driver *driver) {
-    uint32_t all = driver->settings->depth == 32 ? UINT32_MAX : (UINT32_C(1) << driver->settings->depth) - 1;
-    while (driver->drains || driver->owned == all)
-        pthread_cond_wait(&driver->room, &driver->lock);
+static struct request *pop(struct driver *driver) {
+    struct request *it = driver->first;
+    driver->first = it->next;
+    if (!driver->first)
+        driver->last = &driver->first;
+    return it;
+}
+
+static void answer(struct driver *driver, struct request *it, int outcome) {
+    it->outcome = outcome;
+    it->next = driver->answered;
+    driver->answered = it;
+}
+
+void driver_take(struct driver *driver) {
+    append(driver, gate_take(&driver->gate));
+}
+
+struct request *driver_answered(struct driver *driver) {
+    struct request *list = driver->answered;
+    record_sync(&driver->record);
+    driver->answered = NULL;
+    return list;
+}
+
+void driver_wake(struct request *answered) {
+    while (answered) {
+        struct request *next = answered->next;
+        sem_post(&answered->answered); /* the request is gone from here on */
+        answered = next;
+    }
+}
+
+/* Makes the thread of the oldest request that has come in the player. */
+static void hand_over(struct driver *driver) {
+    driver_take(driver);
+    driver->first->plays = true;
+    sem_post(&driver->first->answered);
+}
+
+/* Plays until nothing is left; after some rounds another thread goes on, so that this one's client gets its answer. */
+static void play(struct driver *driver) {
+    for (unsigned round = 1;; round++) {
+        driver_take(driver);
+        while (driver->first || driver->owned) {
+            driver_issue(driver);
+            device_step(driver);
+        }
+        struct request *answered = driver_answered(driver);
+        bool is_over = gate_leave(&driver->gate);
+        if (!is_over && round == 4) {
+            hand_over(driver);
+            is_over = true;
+        }
+        driver_wake(answered);
+        if (is_over)
+            return;
+    }
+}
+
+int driver_submit(struct driver *driver, struct request *mine) {
+    mine->plays = false; /* it may have been true for an earlier part */
+    sem_init(&mine->answered, 0, 0);
+    bool plays = gate_enter(&driver->gate, mine);
+    if (!plays) {
+        gate_wait(mine, !driver->has_thread);
+        plays = mine->plays;
+    }
+    if (plays)
+        play(driver);
+    sem_destroy(&mine->answered);
+    return mine->outcome;
+}
+
+/* ---- commands ---- */
+
+/* Issues the command of a request by a tag, and returns a status. */
+static uint32_t issue_by(struct driver *driver, uint32_t tag, struct request *it, uint64_t *number) {
+    size_t count = (size_t)it->sectors * AHCI_SECTOR_BYTES;
+    uint8_t header[AHCI_HEADER_BYTES];
+    if (it->kind == REQUEST_READ)
+        return ahci_port_submit(&driver->port, tag, AHCI_READ, it->lba, it->sectors, nothing, 0, number);
+    if (!it->window)
+        return ahci_port_submit(&driver->port, tag, AHCI_WRITE, it->lba, it->sectors, it->from, count, number);
+    window_fill(header, it->window, tag, it->lba, it->sectors, it->fua);
+    return ahci_port_issue(&driver->port, tag, header, sizeof header, it->window, window_bytes(it->sectors), number);
+}
+
+static void issue(struct driver *driver, struct request *it) {
     uint32_t tag = (uint32_t)__builtin_ctz(~driver->owned);
-    driver->owned |= UINT32_C(1) << tag;
+    struct command *command = &driver->commands[tag];
+    *command = (struct command){.request = it};
+    uint32_t status = issue_by(driver, tag, it, &command->number);
+    if (status == AHCI_OUT_OF_MEMORY) {
+        answer(driver, it, ENOMEM);
+        return;
+    }
+    driver_must("a command", status);
+    bool writes = it->kind == REQUEST_WRITE;
+    command->serial = ++driver->counts.commands;
+    driver->owned |= bit_of(tag);
+    driver->issued |= bit_of(tag);
+    driver->journal += ENTRY_BYTES + (writes ? (uint64_t)it->sectors * AHCI_SECTOR_BYTES : 0);
+    record_command(&driver->record, writes, tag, it->lba, it->sectors, it->fua, it->from);
+}
+
+static void trim(struct driver *driver) {
+    uint64_t entries;
+    driver_must("ahci_port_trim", ahci_port_trim(&driver->port, &entries));
+    record_tag(&driver->record, RECORD_TRIM, 0);
+    driver->counts.trims++;
+    driver->journal = 0;
+}
+
+/* What a request may add to the record. */
+static uint64_t bytes_of(const struct request *it) {
+    return it->kind == REQUEST_WRITE ? (uint64_t)it->sectors * AHCI_SECTOR_BYTES : 0;
+}
+
+/* With sync=flush what a flush or a write with FUA covers is in the image before it is answered. */
+static int made_safe(struct driver *driver) {
+    return driver->settings->sync == SYNC_FLUSH ? image_write(&driver->image, &driver->port) : 0;
+}
+
+static void flush(struct driver *driver, struct request *it) {
+    uint32_t status = ahci_port_flush(&driver->port);
+    if (status == AHCI_OUT_OF_MEMORY) {
+        answer(driver, it, ENOMEM);
+        return;
+    }
+    driver_must("ahci_port_flush", status);
+    record_tag(&driver->record, RECORD_FLUSH, 0);
+    driver->journal += ENTRY_BYTES;
+    answer(driver, it, made_safe(driver));
+}
+
+/* Every slot is free: the time for what needs that. */
+static void settle(struct driver *driver) {
+    if (driver->journal >= driver->settings->most_journal)
+        trim(driver);
+    if (!record_has_room(&driver->record, bytes_of(driver->first)))
+        record_next_part(&driver->record, &driver->port);
+}
+
+/* Whether the next command waits until every slot is free. */
+static bool must_wait(const struct driver *driver) {
+    return driver->first->kind == REQUEST_FLUSH || driver->journal >= driver->settings->most_journal || !record_has_room(&driver->record, bytes_of(driver->first));
+}
+
+void driver_issue(struct driver *driver) {
+    uint32_t all = driver->settings->depth == 32 ? UINT32_MAX : bit_of(driver->settings->depth) - 1;
+    while (driver->first) {
+        if (!driver->owned)
+            settle(driver);
+        else if (driver->owned == all || must_wait(driver))
+            return;
+        struct request *it = pop(driver);
+        if (it->kind == REQUEST_FLUSH)
+            flush(driver, it);
+        else
+            issue(driver, it);
+    }
+}
+
+void driver_collect(struct driver *driver, uint32_t tag) {
+    struct command *command = &driver->commands[tag];
+    struct request *it = command->request;
+    bool reads = it->kind == REQUEST_READ;
+    size_t room = reads ? (size_t)it->sectors * AHCI_SECTOR_BYTES : 0;
+    ahci_reply reply;
+    driver_must("ahci_port_collect", ahci_port_collect(&driver->port, tag, command->number, &reply, reads ? it->into : nothing, room));
+    record_tag(&driver->record, RECORD_COLLECT, tag);
+    driver->owned &= ~bit_of(tag);
+    driver->accepted &= ~bit_of(tag);
+    if (reply.outcome == AHCI_DID_WRITE)
+        image_changed(&driver->image);
+    answer(driver, it, reply.outcome == AHCI_DID_FAIL ? EIO : it->fua ? made_safe(driver) : 0);
+}
+
+/* Recovery needs some memory, and nothing else can go on before it. */
+static uint32_t recover(struct driver *driver) {
+    const struct timespec wait = {.tv_nsec = 10000000};
+    uint32_t tag, status;
+    bool is_said = false;
+    while ((status = ahci_port_recover(&driver->port, &tag)) == AHCI_OUT_OF_MEMORY) {
+        if (!is_said)
+            nbdkit_error("no memory for the recovery from a failure; it is tried again");
+        is_said = true;
+        nanosleep(&wait, NULL);
+    }
+    driver_must("ahci_port_recover", status);
     return tag;
 }
 
-static void give_tag(struct driver *driver, uint32_t tag) {
-    driver->owned &= ~(UINT32_C(1) << tag);
-    driver->done &= ~(UINT32_C(1) << tag);
-    if (driver->owned == 0)
-        pthread_cond_broadcast(&driver->empty);
-    pthread_cond_signal(&driver->room);
-}
-
-/* Waits for the answer of a command that was issued, or, where issuing it was refused, gives the slot back. */
-static int finish(struct driver *driver, uint32_t tag, uint32_t status, uint8_t *out, size_t room) {
-    if (status != AHCI_OK && status != AHCI_OUT_OF_MEMORY)
-        driver_disagrees("a command", status);
-    if (status == AHCI_OUT_OF_MEMORY) {
-        give_tag(driver, tag);
-        return ENOMEM;
-    }
-    driver->counts.commands++;
-    pthread_cond_signal(&driver->work);
-    while (!(driver->done >> tag & 1))
-        pthread_cond_wait(&driver->answered[tag], &driver->lock);
-    ahci_reply reply;
-    uint64_t number = driver->commands[tag].number;
-    status = ahci_port_collect(&driver->port, tag, number, &reply, out, room);
-    if (status != AHCI_OK)
-        driver_disagrees("ahci_port_collect", status);
-    record_line(&driver->record, "collect %" PRIu32 " %" PRIu64, tag, number);
-    give_tag(driver, tag);
-    return reply.outcome == AHCI_DID_FAIL ? EIO : 0;
-}
-
-/* A read of so many sectors, by one command. */
-static int read_once(struct driver *driver, uint64_t lba, uint32_t sectors, uint8_t *bytes) {
-    uint32_t tag = take_tag(driver);
-    struct command *mine = &driver->commands[tag];
-    *mine = (struct command){.lba = lba, .sectors = sectors};
-    uint32_t status = ahci_port_submit(&driver->port, tag, AHCI_READ, lba, sectors, nothing, 0, &mine->number);
-    if (status == AHCI_OK)
-        record_line(&driver->record, "read %" PRIu32 " %" PRIu64 " %" PRIu32, tag, lba, sectors);
-    return finish(driver, tag, status, bytes, (size_t)sectors * AHCI_SECTOR_BYTES);
-}
-
-/* A write whose bytes are all one, in the library's own window: the record has it as a `write` line, of any length. */
-static int fill_once(struct driver *driver, uint64_t lba, uint32_t sectors, const uint8_t *bytes) {
-    uint32_t tag = take_tag(driver);
-    struct command *mine = &driver->commands[tag];
-    *mine = (struct command){.lba = lba, .sectors = sectors};
-    size_t count = (size_t)sectors * AHCI_SECTOR_BYTES;
-    uint32_t status = ahci_port_submit(&driver->port, tag, AHCI_WRITE, lba, sectors, bytes, count, &mine->number);
-    if (status == AHCI_OK) {
-        record_line(&driver->record, "write %" PRIu32 " %" PRIu64 " %" PRIu32 " %02x", tag, lba, sectors, bytes[0]);
-        driver->journal += count;
-    }
-    return finish(driver, tag, status, nothing, 0);
-}
-
-/* A write of any bytes, in a window of its own. The memory is the caller's: window_bytes of the sectors. */
-static int write_once(struct driver *driver, uint64_t lba, uint32_t sectors, const uint8_t *bytes, bool fua, uint8_t *memory) {
-    uint8_t header[AHCI_HEADER_BYTES];
-    uint32_t tag = take_tag(driver);
-    struct command *mine = &driver->commands[tag];
-    *mine = (struct command){.lba = lba, .sectors = sectors};
-    size_t count = (size_t)sectors * AHCI_SECTOR_BYTES;
-    window_fill(header, memory, tag, lba, sectors, fua);
-    memcpy(memory + WINDOW_DATA, bytes, count);
-    uint32_t status = ahci_port_issue(&driver->port, tag, header, sizeof header, memory, window_bytes(sectors), &mine->number);
-    if (status == AHCI_OK) {
-        record_window(&driver->record, tag, header, memory, window_bytes(sectors));
-        driver->journal += count;
-    }
-    return finish(driver, tag, status, nothing, 0);
-}
-
-/* Holds new commands back until every slot is free. */
-static void drain(struct driver *driver) {
-    driver->drains++;
-    while (driver->owned)
-        pthread_cond_wait(&driver->empty, &driver->lock);
-}
-
-static void end_drain(struct driver *driver) {
-    driver->drains--;
-    pthread_cond_broadcast(&driver->room);
-}
-
-/* Throws the journal away once it holds much. Who comes while slots drain waits for its slot after the trim. */
-static void trim_if_long(struct driver *driver) {
-    if (driver->journal < driver->settings->most_journal || driver->drains)
-        return;
-    drain(driver);
-    uint64_t entries;
-    uint32_t status = ahci_port_trim(&driver->port, &entries);
-    if (status != AHCI_OK)
-        driver_disagrees("ahci_port_trim", status);
-    record_line(&driver->record, "trim");
-    driver->counts.trims++;
-    driver->journal = 0;
-    end_drain(driver);
-}
-
-int driver_read(struct driver *driver, uint64_t lba, uint32_t sectors, uint8_t *bytes) {
-    int outcome = 0;
-    pthread_mutex_lock(&driver->lock);
-    while (sectors && !outcome) {
-        uint32_t part = sectors < WINDOW_SECTORS ? sectors : WINDOW_SECTORS;
-        outcome = read_once(driver, lba, part, bytes);
-        bytes += (size_t)part * AHCI_SECTOR_BYTES;
-        lba += part;
-        sectors -= part;
-    }
-    pthread_mutex_unlock(&driver->lock);
-    return outcome;
-}
-
-int driver_write(struct driver *driver, uint64_t lba, uint32_t sectors, const uint8_t *bytes, bool fua) {
-    uint8_t *memory = malloc(window_bytes(sectors < WINDOW_SECTORS ? sectors : WINDOW_SECTORS));
-    if (!memory)
-        return ENOMEM;
-    int outcome = 0;
-    pthread_mutex_lock(&driver->lock);
-    while (sectors && !outcome) {
-        uint32_t whole = sectors < WINDOW_SECTORS ? sectors : WINDOW_SECTORS;
-        bool fills = !fua && is_uniform(bytes, whole);
-        uint32_t part = fills ? whole : part_of(driver, sectors, WINDOW_SECTORS);
-        outcome = fills ? fill_once(driver, lba, part, bytes) : write_once(driver, lba, part, bytes, fua, memory);
-        bytes += (size_t)part * AHCI_SECTOR_BYTES;
-        lba += part;
-        sectors -= part;
-        trim_if_long(driver);
-    }
-    pthread_mutex_unlock(&driver->lock);
-    free(memory);
-    return outcome;
-}
-
-int driver_flush(struct driver *driver) {
-    pthread_mutex_lock(&driver->lock);
-    drain(driver);
-    uint32_t status = ahci_port_flush(&driver->port);
-    if (status == AHCI_OK)
-        record_line(&driver->record, "flush");
-    end_drain(driver);
-    pthread_mutex_unlock(&driver->lock);
-    if (status != AHCI_OK && status != AHCI_OUT_OF_MEMORY)
-        driver_disagrees("ahci_port_flush", status);
-    return status == AHCI_OK ? 0 : ENOMEM;
-}
-
-void driver_answered(struct driver *driver, uint32_t tag) {
-    driver->done |= UINT32_C(1) << tag;
-    pthread_cond_signal(&driver->answered[tag]);
-}
-
 void driver_recover(struct driver *driver) {
-    uint32_t tag, status = ahci_port_recover(&driver->port, &tag);
-    if (status != AHCI_OK)
-        driver_disagrees("ahci_port_recover", status);
-    record_line(&driver->record, "recover");
-    driver->counts.recoveries++;
-    driver_answered(driver, tag);
     ahci_tag_sets sets;
-    status = ahci_port_tag_sets(&driver->port, &sets);
-    if (status != AHCI_OK)
-        driver_disagrees("ahci_port_tag_sets", status);
-    for (uint32_t held = 0; held < AHCI_MOST_TAGS; held++)
-        if (sets.held >> held & 1) {
-            status = ahci_port_reissue(&driver->port, held);
-            if (status != AHCI_OK)
-                driver_disagrees("ahci_port_reissue", status);
-            record_line(&driver->record, "reissue %" PRIu32, held);
-        }
+    uint32_t failed = recover(driver);
+    record_tag(&driver->record, RECORD_RECOVER, 0);
+    driver->counts.recoveries++;
+    driver_must("ahci_port_tag_sets", ahci_port_tag_sets(&driver->port, &sets));
+    for (uint32_t held = sets.held; held; held &= held - 1) {
+        uint32_t tag = (uint32_t)__builtin_ctz(held);
+        driver_must("ahci_port_reissue", ahci_port_reissue(&driver->port, tag));
+        record_tag(&driver->record, RECORD_REISSUE, tag);
+    }
+    driver->issued = sets.issued | sets.held;
+    driver->accepted = sets.accepted;
+    driver_collect(driver, failed);
 }
+
+/* ---- beginning and end ---- */
 
 int driver_begin(struct driver *driver, struct settings *settings) {
-    *driver = (struct driver){.settings = settings, .record = RECORD_NONE};
-    pthread_mutex_init(&driver->lock, NULL);
-    pthread_cond_init(&driver->work, NULL);
-    pthread_cond_init(&driver->room, NULL);
-    pthread_cond_init(&driver->empty, NULL);
-    for (unsigned tag = 0; tag < AHCI_MOST_TAGS; tag++)
-        pthread_cond_init(&driver->answered[tag], NULL);
-    uint32_t status = ahci_port_new_zeros(&driver->port, settings->sectors, settings->depth);
-    if (status != AHCI_OK) {
-        nbdkit_error("the port can't be made: status %" PRIu32, status);
+    *driver = (struct driver){.settings = settings, .has_thread = settings_have_waits(settings), .random = settings->seed * 2 + 1};
+    driver->last = &driver->first;
+    gate_begin(&driver->gate);
+    if (image_begin(&driver->image, settings, &driver->port))
         return -1;
-    }
-    return settings->record ? record_begin(&driver->record, settings->record, settings->sectors, settings->depth) : 0;
+    return record_begin(&driver->record, settings->record, settings->record_limit, &driver->port);
 }
 
 int driver_end(struct driver *driver) {
-    int outcome = driver->settings->image ? image_write(&driver->port, driver->settings) : 0;
+    int why = image_write(&driver->image, &driver->port);
     record_end(&driver->record);
     ahci_port_free(&driver->port);
-    return outcome;
+    gate_end(&driver->gate);
+    return why ? -1 : 0;
 }

@@ -1,21 +1,25 @@
-/* Software's side of the port: requests become queued commands, and answers go back. One lock guards the port and all that
-   stands here; another thread plays the device (device.h). */
+/* Software's side of the port: requests become queued commands, and get their answers. Everything here but driver_submit is for the
+   player alone (gate.h). */
 #ifndef AHCI_NBD_DRIVER_H
 #define AHCI_NBD_DRIVER_H
 
+#include "gate.h"
+#include "image.h"
 #include "record.h"
 #include "settings.h"
 
 #include <ahci.h>
-#include <pthread.h>
 #include <stdbool.h>
 #include <stdint.h>
 
-/* What a tag's command is about: whoever plays the device looks for the sectors that are to fail. */
+/* The command of a tag that is not free. */
 struct command {
-    uint64_t lba;
-    uint32_t sectors;
-    uint64_t number; /* that of its request */
+    struct request *request;
+    uint64_t number;    /* that of its request in the port's journal */
+    uint64_t serial;    /* the first command is number 1 */
+    bool is_decided;    /* the rules were applied */
+    const struct rule *failure; /* the rule by which the device fails it, or NULL */
+    uint64_t ready;     /* when a slow command can be served, in nanoseconds of CLOCK_MONOTONIC; 0: at once */
 };
 
 struct counts {
@@ -30,44 +34,53 @@ struct counts {
 };
 
 struct driver {
-    pthread_mutex_t lock;
-    pthread_cond_t work;  /* a command was issued, or all is to end: for the device */
-    pthread_cond_t room;  /* a slot is free, or a drain has ended: for new commands */
-    pthread_cond_t empty; /* every slot is free: for who drains */
-    pthread_cond_t answered[AHCI_MOST_TAGS];
-    /* under the lock */
+    struct gate gate;
+    bool has_thread; /* the device has a thread of its own, which is the player for good */
+    /* the player's */
     ahci_port port;
     struct record record;
+    struct image image;
     struct settings *settings;
+    struct request *first, **last; /* those that wait for a slot, the oldest first */
+    struct request *answered;      /* those that have an outcome, and are not told yet */
     struct command commands[AHCI_MOST_TAGS];
-    uint32_t owned;    /* tags with a request */
-    uint32_t done;     /* those whose request has its answer */
-    unsigned drains;   /* who waits for all slots to be free: no new command begins */
-    uint64_t journal;  /* bytes that the journal's writes have */
-    bool stopping;
+    uint32_t owned;    /* tags with a request, as bits */
+    uint32_t issued;   /* those that the device has not accepted yet */
+    uint32_t accepted; /* those that it has */
+    uint64_t journal;  /* about how many bytes the port's journal has */
     struct counts counts;
+    uint64_t random;  /* the state of PICK_RANDOM, and of delay='s jitter */
+    uint64_t started; /* nanoseconds of CLOCK_MONOTONIC */
 };
 
-/* Makes the port over zeros, begins the record, and writes the image. It answers 0, or -1 with nbdkit told why. */
+/* Makes the port and begins the record. They return 0, or -1 after nbdkit_error. */
 int driver_begin(struct driver *driver, struct settings *settings);
 
-/* Reads or writes whole sectors by one command after the other, and waits for their answers. It answers 0 or an errno. */
-int driver_read(struct driver *driver, uint64_t lba, uint32_t sectors, uint8_t *bytes);
-int driver_write(struct driver *driver, uint64_t lba, uint32_t sectors, const uint8_t *bytes, bool fua);
-
-/* Waits for all that was issued before, and sends FLUSH CACHE EXT. It answers 0 or an errno. */
-int driver_flush(struct driver *driver);
-
-/* Under the lock: a command has failed, so the port is recovered, and what it held is issued again. */
-void driver_recover(struct driver *driver);
-
-/* Under the lock: the request of the tag has its answer. */
-void driver_answered(struct driver *driver, uint32_t tag);
-
-/* Writes the image back, and frees all. It answers 0, or -1 with nbdkit told why. */
+/* Writes the image back, and frees all. */
 int driver_end(struct driver *driver);
 
-/* Tells that a call was refused which can't be, and ends the process: the plugin and the port disagree. */
-__attribute__((noreturn)) void driver_disagrees(const char *call, uint32_t status);
+/* Hands a request to the player, or plays itself, and waits for its outcome, which it returns: 0 or an errno. */
+int driver_submit(struct driver *driver, struct request *mine);
+
+/* Takes the requests that have come in. */
+void driver_take(struct driver *driver);
+
+/* Issues commands for the requests that wait, as long as there are slots. */
+void driver_issue(struct driver *driver);
+
+/* Collects the answer of a tag that is done, and frees its slot. */
+void driver_collect(struct driver *driver, uint32_t tag);
+
+/* After a failure: the port recovers, the failed tag is collected, and the commands that it held up are issued again. */
+void driver_recover(struct driver *driver);
+
+/* The requests that are answered since the last call; the record has all that happened. */
+struct request *driver_answered(struct driver *driver);
+
+/* Wakes the threads of these requests. */
+void driver_wake(struct request *answered);
+
+/* Ends the process after a refusal that can't happen: the plugin and the port disagree. */
+void driver_must(const char *call, uint32_t status);
 
 #endif

@@ -5,14 +5,22 @@
 #include "settings.h"
 
 #include <ahci.h>
+#include <stdbool.h>
 
-struct driver;
+struct image {
+    const char *path; /* NULL if there is none */
+    uint32_t sectors;
+    bool is_changed; /* since it was read or written */
+};
 
-/* Writes the image's sectors that aren't all zero to the disk, by commands like any others. It answers 0, or -1 with nbdkit told
-   why. */
-int image_read(struct driver *driver);
+/* Makes the port over the image, or over zeros if there is none. It returns 0, or -1 after nbdkit_error. */
+int image_begin(struct image *image, const struct settings *settings, ahci_port *port);
 
-/* Writes the port's sectors to the image, which is replaced once they are all there. It answers as image_read. */
-int image_write(ahci_port *port, const struct settings *settings);
+/* A command has written. */
+void image_changed(struct image *image);
+
+/* Writes the port's sectors to FILE.new, which then takes the place of the image; nothing is done if no command has written. It returns
+   0, or an errno after nbdkit_error: the image is as it was then, and FILE.new stays. */
+int image_write(struct image *image, ahci_port *port);
 
 #endif

@@ -4,22 +4,31 @@
 
 #include "device.h"
 #include "driver.h"
-#include "image.h"
 #include "settings.h"
+#include "window.h"
 
 #include <errno.h>
 #include <inttypes.h>
+#include <limits.h>
+#include <malloc.h>
+#include <pthread.h>
 #include <stdio.h>
 #include <stdlib.h>
+#include <string.h>
 
 #define THREAD_MODEL NBDKIT_THREAD_MODEL_PARALLEL
 
 static struct settings settings;
 static struct driver driver;
-static struct device device;
+static pthread_t thread; /* the device's, if it has one */
 static bool has_port, has_device;
 
+/* The port's journal takes and frees the bytes of every write. This keeps freed memory in the process: without it most of the time goes to
+   pages that come and go. */
 static void ahci_load(void) {
+    mallopt(M_MMAP_THRESHOLD, 32 << 20);
+    mallopt(M_TRIM_THRESHOLD, INT_MAX);
+    mallopt(M_ARENA_MAX, 1);
     settings_begin(&settings);
 }
 
@@ -42,16 +51,14 @@ static int ahci_get_ready(void) {
 
 /* Threads begin after the fork into the background. */
 static int ahci_after_fork(void) {
-    has_device = !device_begin(&device, &driver);
-    if (!has_device)
-        return -1;
-    return settings.image ? image_read(&driver) : 0;
+    has_device = !device_begin(&driver, &thread);
+    return has_device ? 0 : -1;
 }
 
 /* nbdkit has answered every request by now. */
 static void ahci_cleanup(void) {
     if (has_device)
-        device_end(&device);
+        device_end(&driver, thread);
     if (!has_port)
         return;
     const struct counts *it = &driver.counts;
@@ -101,6 +108,25 @@ static bool is_whole(uint32_t count, uint64_t offset) {
     return false;
 }
 
+/* Hands the parts of a request to the port, one after the other. It returns 0 or an errno. */
+static int submit_parts(struct request request, uint32_t sectors) {
+    int outcome = 0;
+    while (sectors && !outcome) {
+        request.sectors = sectors < WINDOW_SECTORS ? sectors : WINDOW_SECTORS;
+        size_t bytes = (size_t)request.sectors * AHCI_SECTOR_BYTES;
+        if (request.window)
+            memcpy(request.window + WINDOW_DATA, request.from, bytes);
+        outcome = driver_submit(&driver, &request);
+        request.lba += request.sectors;
+        if (request.kind == REQUEST_READ)
+            request.into += bytes;
+        else
+            request.from += bytes;
+        sectors -= request.sectors;
+    }
+    return outcome;
+}
+
 static int ended(int why) {
     if (why)
         nbdkit_set_error(why);
@@ -112,21 +138,29 @@ static int ahci_pread(void *handle, void *bytes, uint32_t count, uint64_t offset
     (void)flags;
     if (!is_whole(count, offset))
         return -1;
-    return ended(driver_read(&driver, offset / AHCI_SECTOR_BYTES, count / AHCI_SECTOR_BYTES, bytes));
+    struct request request = {.kind = REQUEST_READ, .lba = offset / AHCI_SECTOR_BYTES, .into = bytes};
+    return ended(submit_parts(request, count / AHCI_SECTOR_BYTES));
 }
 
+/* A write with FUA is issued in a window of its own, since only its command FIS has that bit. */
 static int ahci_pwrite(void *handle, const void *bytes, uint32_t count, uint64_t offset, uint32_t flags) {
     (void)handle;
     if (!is_whole(count, offset))
         return -1;
-    bool fua = flags & NBDKIT_FLAG_FUA;
-    return ended(driver_write(&driver, offset / AHCI_SECTOR_BYTES, count / AHCI_SECTOR_BYTES, bytes, fua));
+    uint32_t sectors = count / AHCI_SECTOR_BYTES;
+    struct request request = {.kind = REQUEST_WRITE, .fua = flags & NBDKIT_FLAG_FUA, .lba = offset / AHCI_SECTOR_BYTES, .from = bytes};
+    if (request.fua && !(request.window = malloc(window_bytes(sectors < WINDOW_SECTORS ? sectors : WINDOW_SECTORS))))
+        return ended(ENOMEM);
+    int outcome = submit_parts(request, sectors);
+    free(request.window);
+    return ended(outcome);
 }
 
 static int ahci_flush(void *handle, uint32_t flags) {
+    struct request request = {.kind = REQUEST_FLUSH};
     (void)handle;
     (void)flags;
-    return ended(driver_flush(&driver));
+    return ended(driver_submit(&driver, &request));
 }
 
 static struct nbdkit_plugin plugin = {

@@ -1,114 +1,264 @@
 #include "record.h"
 
-#include <ahci.h>
+#include <dirent.h>
 #include <errno.h>
 #include <fcntl.h>
 #include <inttypes.h>
-#include <stdarg.h>
+#include <limits.h>
 #include <stdio.h>
+#include <stdlib.h>
 #include <string.h>
+#include <sys/stat.h>
+#include <time.h>
 #include <unistd.h>
 
 #define NBDKIT_API_VERSION 2
 #include <nbdkit-plugin.h>
 
-#define MOST_LINE 4096         /* bytes of a line, without its line feed */
-#define MOST_SCRIPT (64u << 20) /* bytes of a script */
-static const char full[] = "# the record ends here, since a script has at most 67108864 bytes\n";
+#define HEADER 64                  /* bytes of a part's header */
+#define PART (UINT64_C(512) << 20) /* bytes of a part, if there is no limit */
+#define SPARE (UINT64_C(1) << 20)  /* for the entries of the commands that are outstanding, and of a snapshot */
+#define MOST_WRITE (UINT64_C(8192) * AHCI_SECTOR_BYTES)
+#define RUN 64                     /* sectors of a snapshot's entry at most */
 
-/* Writes all of the bytes, or tells why it can't. */
-static int write_whole(int file, const char *bytes, size_t count) {
+static const char magic[8] = "ahcirec1";
+
+/* The header of a part, in the order of its bytes. */
+struct part_header {
+    char magic[8];
+    uint32_t sectors, depth;
+    uint64_t first; /* the number of its first entry, without its snapshot: entries are counted from the record's beginning */
+    uint64_t time;
+    uint64_t zeros[4];
+};
+_Static_assert(sizeof(struct part_header) == HEADER && sizeof(struct record_entry) == 24, "the record's format");
+_Static_assert(__BYTE_ORDER__ == __ORDER_LITTLE_ENDIAN__, "the record's numbers have their low byte first");
+
+static uint64_t now(void) {
+    struct timespec time;
+    clock_gettime(CLOCK_REALTIME, &time);
+    return (uint64_t)time.tv_sec * 1000000 + (uint64_t)time.tv_nsec / 1000;
+}
+
+/* The most bytes of a part. */
+static uint64_t part_bytes(const struct record *record) {
+    return record->limit ? record->limit / 2 : PART;
+}
+
+uint64_t record_least_limit(uint32_t sectors) {
+    return 2 * ((uint64_t)sectors * AHCI_SECTOR_BYTES + MOST_WRITE + 2 * SPARE);
+}
+
+static bool part_path(const struct record *record, uint64_t number, char *path) {
+    return snprintf(path, PATH_MAX, "%s/part.%06" PRIu64, record->folder, number) < PATH_MAX;
+}
+
+/* Ends the record before its time. */
+static void give_up(struct record *record, const char *what) {
+    nbdkit_error("record=%s: %s: %s; the record ends after %" PRIu64 " entries", record->folder, what, strerror(errno), record->entries);
+    if (record->file >= 0)
+        close(record->file);
+    record->file = -1;
+}
+
+/* Writes all of the pieces, which it uses up. */
+static int write_pieces(int file, struct iovec *piece, unsigned count) {
     while (count) {
-        ssize_t wrote = write(file, bytes, count);
+        ssize_t wrote = writev(file, piece, count < IOV_MAX ? (int)count : IOV_MAX);
         if (wrote < 0 && errno == EINTR)
             continue;
-        if (wrote <= 0) {
-            nbdkit_error("the record can't be written, and ends: %m");
+        if (wrote < 0)
             return -1;
+        while (count && (size_t)wrote >= piece->iov_len) {
+            wrote -= (ssize_t)piece->iov_len;
+            piece++;
+            count--;
         }
-        bytes += wrote;
-        count -= (size_t)wrote;
+        if (count) {
+            piece->iov_base = (char *)piece->iov_base + wrote;
+            piece->iov_len -= (size_t)wrote;
+        }
     }
     return 0;
 }
 
-/* Appends a line that ends in its line feed. */
-static void put(struct record *record, const char *line, size_t count) {
-    if (record->bytes + count + sizeof full > MOST_SCRIPT) {
-        nbdkit_error("the record ends, since a script has at most %u bytes", MOST_SCRIPT);
-        write_whole(record->file, full, sizeof full - 1);
-        record_end(record);
-        return;
-    }
-    if (write_whole(record->file, line, count))
-        record_end(record);
-    else
-        record->bytes += count;
+static void clear_group(struct record *record) {
+    record->group = 0;
+    record->pieces = 0;
+    record->group_bytes = 0;
+    record->time = 0;
 }
 
-int record_begin(struct record *record, const char *path, uint32_t sectors, uint32_t depth) {
-    record->bytes = 0;
-    record->file = open(path, O_WRONLY | O_CREAT | O_TRUNC | O_CLOEXEC, 0666);
-    if (record->file < 0) {
-        nbdkit_error("record=%s: %m", path);
+void record_sync(struct record *record) {
+    if (record->file >= 0 && record->group) {
+        if (write_pieces(record->file, record->piece, record->pieces)) {
+            int why = errno;
+            if (ftruncate(record->file, (off_t)record->bytes))
+                nbdkit_error("record=%s: its last entry is cut: %m", record->folder);
+            errno = why;
+            give_up(record, "it can't be written");
+        } else {
+            record->bytes += record->group_bytes;
+            record->entries += record->group;
+        }
+    }
+    clear_group(record);
+}
+
+static void add_piece(struct record *record, const void *bytes, size_t count) {
+    record->piece[record->pieces++] = (struct iovec){.iov_base = (void *)(uintptr_t)bytes, .iov_len = count};
+    record->group_bytes += count;
+}
+
+/* Appends an entry to the group, which is written first if it is full. */
+static struct record_entry *add(struct record *record, enum record_kind kind) {
+    if (record->group == RECORD_GROUP)
+        record_sync(record);
+    if (!record->time)
+        record->time = now();
+    struct record_entry *entry = &record->at[record->group++];
+    *entry = (struct record_entry){.kind = (uint8_t)kind, .time = record->time};
+    add_piece(record, entry, sizeof *entry);
+    return entry;
+}
+
+void record_command(struct record *record, bool writes, uint32_t tag, uint64_t lba, uint32_t sectors, bool fua, const uint8_t *bytes) {
+    if (record->file < 0)
+        return;
+    struct record_entry *entry = add(record, writes ? RECORD_WRITE : RECORD_READ);
+    entry->tag = (uint8_t)tag;
+    entry->flag = fua;
+    entry->count = sectors;
+    entry->lba = lba;
+    if (writes)
+        add_piece(record, bytes, (size_t)sectors * AHCI_SECTOR_BYTES);
+}
+
+void record_tag(struct record *record, enum record_kind kind, uint32_t tag) {
+    if (record->file >= 0)
+        add(record, kind)->tag = (uint8_t)tag;
+}
+
+void record_served(struct record *record, const uint8_t *tags, uint32_t count) {
+    if (record->file < 0)
+        return;
+    struct record_entry *entry = add(record, RECORD_SERVE);
+    uint8_t *copy = record->tags[entry - record->at];
+    entry->count = count;
+    memset(copy, 0, AHCI_MOST_TAGS);
+    memcpy(copy, tags, count);
+    add_piece(record, copy, (count + 7) / 8 * 8);
+}
+
+void record_failed(struct record *record, uint32_t tag, uint8_t error, uint64_t lba) {
+    if (record->file < 0)
+        return;
+    struct record_entry *entry = add(record, RECORD_FAIL);
+    entry->tag = (uint8_t)tag;
+    entry->flag = error;
+    entry->lba = lba;
+}
+
+bool record_has_room(const struct record *record, uint64_t bytes) {
+    return record->file < 0 || record->bytes + record->group_bytes + bytes + SPARE <= part_bytes(record);
+}
+
+/* Writes a run of sectors of the snapshot. */
+static int put_run(struct record *record, uint64_t lba, uint32_t count, const uint8_t *bytes) {
+    struct record_entry entry = {.kind = RECORD_SECTORS, .count = count, .lba = lba, .time = now()};
+    struct iovec pieces[] = {{.iov_base = &entry, .iov_len = sizeof entry}, {.iov_base = (void *)(uintptr_t)bytes, .iov_len = (size_t)count * AHCI_SECTOR_BYTES}};
+    if (!count)
+        return 0;
+    record->bytes += sizeof entry + (uint64_t)count * AHCI_SECTOR_BYTES;
+    return write_pieces(record->file, pieces, 2);
+}
+
+/* Writes the sectors as they are, those of zeros left out. */
+static int put_snapshot(struct record *record, ahci_port *port) {
+    static const uint8_t zeros[AHCI_SECTOR_BYTES];
+    uint8_t bytes[RUN * AHCI_SECTOR_BYTES];
+    uint32_t count = 0;
+    for (uint32_t lba = 0; lba < record->sectors; lba++) {
+        uint8_t *to = bytes + (size_t)count * AHCI_SECTOR_BYTES;
+        ahci_port_copy(port, lba, to, AHCI_SECTOR_BYTES);
+        bool is_blank = !memcmp(to, zeros, sizeof zeros);
+        count += !is_blank;
+        if (count < RUN && !is_blank)
+            continue;
+        if (put_run(record, lba + !is_blank - count, count, bytes))
+            return -1;
+        count = 0;
+    }
+    return put_run(record, record->sectors - count, count, bytes);
+}
+
+/* Begins a part with its header and its snapshot. */
+static int begin_part(struct record *record, ahci_port *port) {
+    char path[PATH_MAX];
+    struct part_header header = {.sectors = record->sectors, .depth = record->depth, .first = record->entries, .time = now()};
+    struct iovec piece = {.iov_base = &header, .iov_len = sizeof header};
+    memcpy(header.magic, magic, sizeof magic);
+    errno = ENAMETOOLONG;
+    if (!part_path(record, ++record->parts, path))
+        return -1;
+    record->bytes = HEADER;
+    record->file = open(path, O_WRONLY | O_CREAT | O_EXCL | O_CLOEXEC, 0666);
+    if (record->file < 0)
+        return -1;
+    if (!write_pieces(record->file, &piece, 1) && !put_snapshot(record, port))
+        return 0;
+    int why = errno;
+    unlink(path);
+    errno = why;
+    return -1;
+}
+
+void record_next_part(struct record *record, ahci_port *port) {
+    char path[PATH_MAX];
+    record_sync(record);
+    if (record->file < 0)
+        return;
+    close(record->file);
+    record->file = -1;
+    if (record->limit && record->parts > 1 && part_path(record, record->parts - 1, path))
+        unlink(path);
+    if (begin_part(record, port))
+        give_up(record, "its next part can't be written");
+}
+
+/* Whether the folder has a record; -1 if it can't be read. */
+static int has_parts(const char *folder) {
+    DIR *found = opendir(folder);
+    int has = 0;
+    if (!found)
+        return -1;
+    for (struct dirent *it = readdir(found); it && !has; it = readdir(found))
+        has = !strncmp(it->d_name, "part.", 5);
+    closedir(found);
+    return has;
+}
+
+int record_begin(struct record *record, const char *folder, uint64_t limit, ahci_port *port) {
+    record->folder = folder;
+    record->limit = limit;
+    record->file = -1;
+    clear_group(record);
+    if (!folder)
+        return 0;
+    int has = mkdir(folder, 0777) && errno != EEXIST ? -1 : has_parts(folder);
+    if (has > 0)
+        nbdkit_error("record=%s: the folder has a record already; remove it, or name another folder", folder);
+    if (has)
+        return has < 0 ? (nbdkit_error("record=%s: %m", folder), -1) : -1;
+    if (ahci_port_sectors(port, &record->sectors) != AHCI_OK || ahci_port_depth(port, &record->depth) != AHCI_OK || begin_part(record, port)) {
+        nbdkit_error("record=%s: %m", folder);
         return -1;
     }
-    record_line(record, "disk %" PRIu32 " %" PRIu32, sectors, depth);
     return 0;
-}
-
-void record_line(struct record *record, const char *format, ...) {
-    char line[MOST_LINE + 2];
-    va_list rest;
-    if (record->file < 0)
-        return;
-    va_start(rest, format);
-    int count = vsnprintf(line, MOST_LINE, format, rest);
-    va_end(rest);
-    if (count < 0 || count >= MOST_LINE)
-        return;
-    line[count] = '\n';
-    put(record, line, (size_t)count + 1);
-}
-
-/* Appends two hexadecimal digits for each byte. */
-static size_t spell(char *line, size_t at, const uint8_t *bytes, size_t count) {
-    static const char digits[] = "0123456789abcdef";
-    for (size_t i = 0; i < count; i++) {
-        line[at++] = digits[bytes[i] >> 4];
-        line[at++] = digits[bytes[i] & 15];
-    }
-    return at;
-}
-
-void record_window(struct record *record, uint32_t tag, const uint8_t *header, const uint8_t *bytes, size_t count) {
-    char line[MOST_LINE + 2];
-    if (record->file < 0)
-        return;
-    size_t at = (size_t)snprintf(line, sizeof line, "raw %" PRIu32 " ", tag);
-    if (at + 2 * (AHCI_HEADER_BYTES + count) + 1 > MOST_LINE) {
-        nbdkit_error("the record ends, since a window of %zu bytes is no line of a script", count);
-        record_end(record);
-        return;
-    }
-    at = spell(line, at, header, AHCI_HEADER_BYTES);
-    line[at++] = ' ';
-    at = spell(line, at, bytes, count);
-    line[at++] = '\n';
-    put(record, line, at);
-}
-
-void record_served(struct record *record, const uint8_t *tags, unsigned count) {
-    char line[6 + 4 * AHCI_MOST_TAGS];
-    if (record->file < 0)
-        return;
-    size_t at = (size_t)snprintf(line, sizeof line, "serve");
-    for (unsigned i = 0; i < count; i++)
-        at += (size_t)snprintf(line + at, sizeof line - at, " %u", tags[i]);
-    record_line(record, "%s", line);
 }
 
 void record_end(struct record *record) {
+    record_sync(record);
     if (record->file >= 0)
         close(record->file);
     record->file = -1;

@@ -1,6 +1,8 @@
-/* What the plugin is told on nbdkit's command line. */
+/* The parameters of nbdkit's command line. */
 #ifndef AHCI_NBD_SETTINGS_H
 #define AHCI_NBD_SETTINGS_H
+
+#include "rules.h"
 
 #include <stdbool.h>
 #include <stdint.h>
@@ -8,14 +10,8 @@
 /* Which accepted tag the device goes on with. */
 enum pick { PICK_LOW, PICK_HIGH, PICK_ALL, PICK_RANDOM };
 
-/* Commands that touch a sector and that the device fails. */
-struct failure {
-    uint64_t lba;
-    uint64_t left; /* how many more it fails */
-    uint8_t error; /* the error byte, as 40h (UNC) */
-};
-
-#define MOST_FAILURES 64
+/* When the image is written back. */
+enum sync { SYNC_END, SYNC_FLUSH };
 
 struct settings {
     uint32_t sectors; /* 1 to 131,072; 0 until it is known */
@@ -24,24 +20,30 @@ struct settings {
     uint64_t seed;     /* of PICK_RANDOM */
     uint32_t together; /* 1 to 32: tags that one Set Device Bits FIS completes at most */
     uint32_t delay;    /* microseconds before each step of the device */
-    uint64_t most_journal; /* bytes that are written until the journal is trimmed */
-    char *image;           /* a file with the disk's sectors, or NULL */
-    char *record;          /* a file for the script of what happens, or NULL */
-    struct failure failures[MOST_FAILURES];
-    unsigned failure_count;
+    uint32_t jitter;   /* and how many more at most, at random */
+    uint64_t most_journal; /* bytes of the journal after which it is trimmed */
+    char *image;           /* the file with the disk's sectors, its links followed; or NULL */
+    uint64_t image_bytes;
+    enum sync sync;
+    char *record;          /* a folder for the record, or NULL */
+    uint64_t record_limit; /* its bytes at most; 0: no limit */
+    struct rules failures, slow;
+    uint32_t given; /* parameters that were given, as bits */
 };
 
 /* The parameters as `nbdkit PLUGIN --help` shows them. */
 extern const char settings_help[];
 
-/* What stands before anything is given. */
 void settings_begin(struct settings *settings);
 
-/* Takes one KEY=VALUE. It answers 0, or -1 with nbdkit told why. */
+/* Takes one KEY=VALUE. It returns 0, or -1 after nbdkit_error. */
 int settings_take(struct settings *settings, const char *key, const char *value);
 
-/* Looks at all of them together, and finds the number of sectors. It answers as settings_take. */
+/* Looks at all of them together, and finds the number of sectors. It returns as settings_take. */
 int settings_complete(struct settings *settings);
+
+/* Whether the device waits at times, and so needs a thread of its own. */
+bool settings_have_waits(const struct settings *settings);
 
 void settings_end(struct settings *settings);
 

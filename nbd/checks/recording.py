@@ -1,0 +1,252 @@
+"""Checks of record= and stretch: a record has all that happened, and any stretch of it is a script that plays to the same sectors."""
+from __future__ import annotations
+
+import os
+import random
+import signal
+import subprocess
+import time
+from typing import List, Set, Tuple
+
+from harness import MIB, PLAYER, PLUGIN, SECONDS, SECTOR, STRETCH, Failed, Server, fio, must_be_clean, out, ran, replayed, scripted, sectors_of, serving, told
+from images import small_room
+from records import COLLECT, READ, TRIM, WRITE, Record, bounds
+
+
+def touched(record: Record, first: int, last: int) -> Set[int]:
+    """The sectors that the commands of a stretch name."""
+    found: Set[int] = set()
+    for it in record.entries(record.before(first)):
+        if it.number > last:
+            break
+        if it.kind in (READ, WRITE) and it.number >= first:
+            found.update(range(it.lba, it.lba + it.count))
+    return found
+
+
+def must_play(folder: str, room: str, first: int, last: int) -> int:
+    """A stretch plays to the sectors that the disk had after it; how many sectors it named."""
+    script = scripted(folder, os.path.join(room, f"stretch-{first}.ahci"), "--from", str(first), "--to", str(last))
+    played, wanted = replayed(script), sectors_of(folder, "--to", str(last))
+    names = touched(Record(folder), first, last)
+    wrong = [lba for lba in names if played[SECTOR * lba:SECTOR * (lba + 1)] != wanted[SECTOR * lba:SECTOR * (lba + 1)]]
+    if wrong or not names:
+        raise Failed(f"entries {first} to {last}: {len(wrong)} of {len(names)} sectors play to others: {wrong[:5]}")
+    return len(names)
+
+
+def a_long_record(room: str) -> str:
+    """A GiB of random writes: the record has each of them, and three stretches play to the same sectors."""
+    folder = os.path.join(room, "record")
+    with serving(room, f"record={folder}", "pick=random") as server:
+        must_be_clean(fio(server, "long", "--rw=randwrite", "--bs=4k", "--iodepth=32", "--size=64m", "--io_size=1g", "--norandommap", "--randseed=12"))
+        found = out(server, os.path.join(room, "back"))
+    record = Record(folder)
+    first, last, cut = bounds(record)
+    if cut or first or sectors_of(folder) != found:
+        raise Failed("the record ends with other sectors than the client read")
+    if sum(it.kind == WRITE for it in record.entries()) != 262_144:
+        raise Failed("some write is missing")
+    written = max(it.number for it in record.entries() if it.kind == WRITE)
+    starts = [0, written // 2, written - 6000]
+    names = [must_play(folder, room, it, it + 6000 - 1) for it in starts]
+    if len(record.parts) < 2:
+        raise Failed("the record has one part alone")
+    return f"{last + 1} entries in {len(record.parts)} parts; stretches of {names} sectors"
+
+
+def outstanding_commands(room: str) -> str:
+    """Stretches that begin while commands are outstanding, of reads and writes of 1 to 40 sectors, several completed together, with failures."""
+    folder = os.path.join(room, "record")
+    with serving(room, "sectors=4096", f"record={folder}", "pick=random", "together=5", "delay=50", "fail=any:40:ever,rate=1/50") as server:
+        fio(server, "mixed", "--rw=randrw", "--bsrange=512-20k", "--iodepth=32", "--size=2m", "--io_size=16m", "--numjobs=2", "--continue_on_error=all",
+            "--error_dump=0", "--randseed=13", "--norandommap")
+        found = out(server, os.path.join(room, "back"))
+    if sectors_of(folder) != found:
+        raise Failed("the record ends with other sectors than the client read")
+    _, last, _ = bounds(Record(folder))
+    draw = random.Random(14)
+    began = 0
+    for _ in range(6):
+        first = draw.randrange(last - 400)
+        must_play(folder, room, first, first + draw.randrange(50, 400))
+        began += outstanding_before(Record(folder), first) > 0
+    if began < 3:
+        raise Failed(f"{began} stretches of 6 began while commands were outstanding")
+    played = replayed(scripted(folder, os.path.join(room, "all.ahci")))
+    if played != found:
+        raise Failed("the whole record plays to other sectors")
+    return f"{began} of 6 stretches began while commands were outstanding; {last + 1} entries"
+
+
+def outstanding_before(record: Record, number: int) -> int:
+    count = 0
+    for it in record.entries():
+        if it.number >= number:
+            break
+        count += (it.kind in (READ, WRITE)) - (it.kind == COLLECT)
+    return count
+
+
+def an_image_recorded(room: str) -> str:
+    """The record of a disk with an image begins with its sectors: a script has those that the stretch reads."""
+    image, folder = os.path.join(room, "disk"), os.path.join(room, "record")
+    data = random.Random(15).randbytes(MIB)
+    with open(image, "wb") as file:
+        file.write(data)
+    with serving(room, f"image={image}", f"record={folder}") as server:
+        ran(["qemu-io", "-f", "raw", "-c", "read 100k 8k", "-c", "write -P 5 104k 2k", server.uri])
+        found = out(server, os.path.join(room, "back"))
+    if sectors_of(folder) != found:
+        raise Failed("the record has other sectors than the client read")
+    script = scripted(folder, os.path.join(room, "short.ahci"), "--to", "7")
+    played = replayed(script)
+    if played[100 * 1024:104 * 1024] != data[100 * 1024:104 * 1024] or played[104 * 1024:106 * 1024] != b"\5" * 2048 or any(played[:100 * 1024]):
+        raise Failed("the script has not the sectors that it needs, or has others")
+    if replayed(scripted(folder, os.path.join(room, "all.ahci"), "--to", "7", "--all-sectors")) != sectors_of(folder, "--to", "7"):
+        raise Failed("with --all-sectors some sector differs")
+    return told(server)
+
+
+def a_limit(room: str) -> str:
+    """record-limit=: the record never has more bytes, the oldest are dropped, and what is left plays to the same sectors."""
+    folder, limit = os.path.join(room, "record"), 40 * MIB
+    largest = 0
+    with serving(room, "sectors=8192", f"record={folder}", f"record-limit={limit}") as server:
+        job = subprocess.Popen(["fio", "--name=limit", "--ioengine=nbd", f"--uri={server.uri}", "--rw=randwrite", "--bs=16k", "--iodepth=32", "--size=4m", "--io_size=300m", "--norandommap"],
+                               stdin=subprocess.DEVNULL, stdout=subprocess.DEVNULL, stderr=subprocess.DEVNULL, cwd=room)
+        while job.poll() is None:
+            largest = max(largest, size_of(folder))
+            time.sleep(0.005)
+        if job.returncode:
+            raise Failed(f"fio: status {job.returncode}")
+        found = out(server, os.path.join(room, "back"))
+    largest = max(largest, size_of(folder))
+    first, last, _ = bounds(Record(folder))
+    if largest > limit or largest < limit // 2 or first == 0:
+        raise Failed(f"{largest} bytes at most, entries {first} to {last}")
+    if sectors_of(folder) != found:
+        raise Failed("the record ends with other sectors than the client read")
+    must_play(folder, room, first + 1000, first + 2000)
+    done = subprocess.run([STRETCH, "script", folder, "--from", "0"], stdout=subprocess.DEVNULL, stderr=subprocess.PIPE, text=True, check=False)
+    if done.returncode != 1 or "the record has entries" not in done.stderr:
+        raise Failed(f"a dropped entry was not refused: {done.stderr}")
+    return f"{largest} bytes at most, entries {first} to {last} are left"
+
+
+def size_of(folder: str) -> int:
+    total = 0
+    for name in os.listdir(folder):
+        try:
+            total += os.stat(os.path.join(folder, name)).st_size
+        except FileNotFoundError:  # it was dropped meanwhile
+            pass
+    return total
+
+
+def a_full_disk(room: str) -> str:
+    """Without room for the record the server goes on; the record ends at a whole entry, and the reason is printed once."""
+    with small_room(room, "8m") as place:
+        folder = os.path.join(place, "record")
+        with serving(room, "sectors=8192", f"record={folder}", says=r"record=.*: it can't be written: No space left on device; the record ends after \d+ entries") as server:
+            must_be_clean(fio(server, "full", "--rw=randwrite", "--bs=4k", "--iodepth=32", "--size=4m", "--loops=4", "--verify=crc32c", "--do_verify=1"))
+        said = [line for line in server.said().splitlines() if "record=" in line]
+        _, last, cut = bounds(Record(folder))
+        if len(said) != 1 or cut or f"after {last + 1} entries" not in said[0] or last < 5000:
+            raise Failed(f"the record ends with entry {last} and {cut} more bytes: {said}")
+        must_play(folder, room, last - 1000, last)
+    return f"{last + 1} entries"
+
+
+def killed(room: str) -> str:
+    """kill -9 in the middle of writes: every write that was answered is in the record, and it plays."""
+    folder = os.path.join(room, "record")
+    server = Server(room, PLUGIN, ["sectors=8192", f"record={folder}", "pick=random"])
+    log = os.path.join(room, "answered")
+    job = subprocess.Popen(["fio", "--name=cut", "--ioengine=nbd", f"--uri={server.uri}", "--rw=randwrite", "--bs=4k", "--iodepth=32", "--size=4m", "--time_based", "--runtime=60",
+                            f"--write_iolog={log}"], stdin=subprocess.DEVNULL, stdout=subprocess.DEVNULL, stderr=subprocess.DEVNULL, cwd=room)
+    begun = time.monotonic()
+    while time.monotonic() - begun < 20 and (not os.path.exists(folder) or size_of(folder) < 8 * MIB):
+        time.sleep(0.02)
+    server.stop(signal.SIGKILL)
+    job.kill()
+    job.wait()
+    first, last, cut = bounds(Record(folder))
+    if last < 1000 or first:
+        raise Failed(f"entries {first} to {last}")
+    must_play(folder, room, last - 2000, last)
+    return f"{last + 1} entries, and {cut} bytes of another"
+
+
+def answered_and_killed(room: str) -> str:
+    """What a client has its answer for is in the record when the server is killed at once."""
+    for at in range(5):
+        folder = os.path.join(room, f"record{at}")
+        server = Server(room, PLUGIN, ["sectors=8192", f"record={folder}"])
+        client = subprocess.Popen(["stdbuf", "-oL", "qemu-io", "-f", "raw", "-c", f"write -P {at + 1} 0 16k", "-c", "sleep 60000", server.uri], stdin=subprocess.DEVNULL, stdout=subprocess.PIPE, text=True)
+        assert client.stdout
+        client.stdout.readline()
+        server.stop(signal.SIGKILL)
+        client.kill()
+        client.wait()
+        if sectors_of(folder)[:16384] != bytes((at + 1,)) * 16384:
+            raise Failed("an answered write is not in the record")
+    return "five answered writes were in the records of killed servers"
+
+
+def same_commands(room: str) -> str:
+    """A record does not change the work: the same requests become the same commands with and without it."""
+    told_of: List[Tuple[int, ...]] = []
+    for given in ([], [f"record={room}/record"]):
+        with serving(room, "sectors=8192", *given) as server:
+            must_be_clean(fio(server, "same", "--rw=randwrite", "--bs=64k", "--iodepth=32", "--size=4m", "--randseed=16"))
+        told_of.append(tuple(int(it.strip().partition(" ")[0]) for it in told(server).split(",")[:2]))
+    if told_of[0] != told_of[1] or told_of[0][0] != 64:
+        raise Failed(f"commands and tags: {told_of}")
+    return f"{told_of[0][0]} commands each"
+
+
+def stretch_words(room: str) -> str:
+    """stretch: lists parts, names entries by number, by the last and by time, and refuses what there is not."""
+    folder = os.path.join(room, "record")
+    with serving(room, "sectors=64", f"record={folder}", "most-journal=2000") as server:
+        ran(["qemu-io", "-t", "writeback", "-f", "raw", "-c", "write -P 1 0 512", "-c", "sleep 1200", "-c", "write -P 2 512 512", "-c", "write -P 3 0 512", server.uri])
+    listed = ran([STRETCH, "list", folder])
+    _, last, _ = bounds(Record(folder))
+    if f"a disk of 64 sectors, 32 slots; entries 0 to {last}" not in listed or "part.000001: entries 0 to" not in listed:
+        raise Failed(listed)
+    by_time = ran([STRETCH, "script", folder, "--from-second", "1"])
+    until = ran([STRETCH, "script", folder, "--to-second", "1"])
+    if "write 0 1 1 02" not in by_time or "write 0 0 1 01" in by_time or "write 0 1 1 02" in until or "write 0 0 1 01" not in until:
+        raise Failed(f"{by_time}\n{until}")
+    if ran([STRETCH, "script", folder, "--last", "4"]) != ran([STRETCH, "script", folder, "--from", str(last - 3)]):
+        raise Failed("--last names other entries")
+    for words, why in ((["--from", str(last + 1)], "the record has entries"), (["--from", "3", "--to", "2"], "the record has entries"), (["--from-second", "99"], "no entry is after")):
+        said = ran([STRETCH, "script", folder, *words], status=1)
+        if why not in said:
+            raise Failed(said)
+    if "there is no record" not in ran([STRETCH, "list", room], status=1):
+        raise Failed("a folder without a record is not refused")
+    if not any(it.kind == TRIM for it in Record(folder).entries()) and "trim" in by_time:
+        raise Failed("a script trims what the record does not")
+    return f"{last + 1} entries"
+
+
+def a_script_too_long(room: str) -> str:
+    """A stretch whose script would have over 64 MiB ends at a whole entry and says so; what it has plays."""
+    folder, script = os.path.join(room, "record"), os.path.join(room, "script")
+    with serving(room, f"record={folder}") as server:
+        must_be_clean(fio(server, "long", "--rw=write", "--bs=64k", "--iodepth=8", "--size=64m"))
+    with open(script, "wb") as file:
+        done = subprocess.run([STRETCH, "script", folder], stdout=file, stderr=subprocess.PIPE, text=True, timeout=SECONDS, check=False)
+    if done.returncode != 1 or "the script ends after entry" not in done.stderr or os.path.getsize(script) > 64 * MIB:
+        raise Failed(f"status {done.returncode}, {os.path.getsize(script)} bytes: {done.stderr}")
+    with open(script, "rb") as text:
+        played = subprocess.run([PLAYER], stdin=text, stdout=subprocess.PIPE, stderr=subprocess.PIPE, timeout=SECONDS, check=False)
+    if played.returncode or b"refused" in played.stdout:
+        raise Failed(f"the script is not played: {played.stderr.decode()}")
+    return done.stderr.strip()
+
+
+CHECKS = [(a_long_record, ["fio", "nbdcopy"]), (outstanding_commands, ["fio", "nbdcopy"]), (an_image_recorded, ["qemu-io", "nbdcopy"]), (a_limit, ["fio", "nbdcopy"]),
+          (a_full_disk, ["fio", "mount"]), (killed, ["fio"]), (answered_and_killed, ["qemu-io"]), (same_commands, ["fio"]), (stretch_words, ["qemu-io"]), (a_script_too_long, ["fio"])]

@@ -1,0 +1,154 @@
+"""Reads the records that the plugin makes (record.h has their format)."""
+from __future__ import annotations
+
+import mmap
+import os
+import struct
+from typing import Dict, Iterator, List, NamedTuple, Optional, Set, Tuple
+
+SECTOR = 512
+HEADER = struct.Struct("<8sIIQQ32x")
+ENTRY = struct.Struct("<BBBBIQQ")
+MAGIC = b"ahcirec1"
+SECTORS, READ, WRITE, ACCEPT, SERVE, FAIL, RECOVER, REISSUE, COLLECT, FLUSH, TRIM = range(11)
+NAMES = ("sectors", "read", "write", "accept", "serve", "fail", "recover", "reissue", "collect", "flush", "trim")
+
+
+class Wrong(Exception):
+    """What is wrong with a record, or with what is asked of it."""
+
+
+class Entry(NamedTuple):
+    """One entry: `number` counts from the record's beginning, and is -1 for the sectors that a part begins with."""
+    number: int
+    kind: int
+    tag: int
+    flag: int
+    count: int
+    lba: int
+    time: int
+    data: memoryview
+
+
+def rest_of(kind: int, count: int) -> int:
+    """How many bytes an entry has behind it."""
+    if kind in (SECTORS, WRITE):
+        return SECTOR * count
+    return (count + 7) // 8 * 8 if kind == SERVE else 0
+
+
+class Part:
+    """One file of a record."""
+
+    def __init__(self, path: str) -> None:
+        self.path = path
+        with open(path, "rb") as file:
+            size = os.fstat(file.fileno()).st_size
+            if size < HEADER.size:
+                raise Wrong(f"{path}: it ends in its header, at byte {size}")
+            self.bytes = mmap.mmap(file.fileno(), 0, access=mmap.ACCESS_READ)
+        magic, self.sectors, self.depth, self.first, self.time = HEADER.unpack_from(self.bytes, 0)
+        if magic != MAGIC:
+            raise Wrong(f"{path}: this is no part of a record")
+        self.cut = 0  # bytes of an entry that is not whole, once entries() has come to the end
+
+    def entries(self) -> Iterator[Entry]:
+        """The entries that are whole: a killed server may leave a part of one."""
+        view, at, size, number = memoryview(self.bytes), HEADER.size, len(self.bytes), self.first
+        while at + ENTRY.size <= size:
+            kind, tag, flag, zero, count, lba, time = ENTRY.unpack_from(self.bytes, at)
+            if kind >= len(NAMES) or zero or tag > 31:
+                raise Wrong(f"{self.path}: byte {at}: this is no entry")
+            end = at + ENTRY.size + rest_of(kind, count)
+            if end > size:
+                break
+            yield Entry(-1 if kind == SECTORS else number, kind, tag, flag, count, lba, time, view[at + ENTRY.size:end])
+            number += kind != SECTORS
+            at = end
+        self.cut = size - at
+
+
+class Record:
+    """A folder of parts, the oldest first."""
+
+    def __init__(self, folder: str) -> None:
+        names = sorted(it for it in os.listdir(folder) if it.startswith("part."))
+        if not names:
+            raise Wrong(f"{folder}: there is no record")
+        self.parts: List[Part] = []
+        for name in names:
+            try:
+                self.parts.append(Part(os.path.join(folder, name)))
+            except (Wrong, ValueError):  # a server was killed when it had begun a part
+                if name != names[-1] or not self.parts:
+                    raise
+        self.sectors, self.depth = self.parts[0].sectors, self.parts[0].depth
+
+    def before(self, number: int) -> Part:
+        """The last part that begins at or before an entry."""
+        found = [it for it in self.parts if it.first <= number]
+        if not found:
+            raise Wrong(f"entry {number} was dropped: the record begins with entry {self.parts[0].first}")
+        return found[-1]
+
+    def entries(self, part: Optional[Part] = None) -> Iterator[Entry]:
+        """The entries from a part on (without one, from the oldest on), with the sectors that this part begins with."""
+        at = self.parts.index(part) if part else 0
+        yield from self.parts[at].entries()
+        for later in self.parts[at + 1:]:
+            yield from (it for it in later.entries() if it.kind != SECTORS)
+
+
+class State:
+    """The disk's sectors, and the commands that are outstanding."""
+
+    def __init__(self, record: Record) -> None:
+        self.disk = bytearray(SECTOR * record.sectors)
+        self.commands: Dict[int, Entry] = {}  # by tag: what issued it; tags in the order in which they were issued
+        self.accepted: List[int] = []
+        self.held: Set[int] = set()  # a failure has ended their commands
+        self.done: Set[int] = set()  # they wait to be collected, or to be recovered
+
+    def take(self, it: Entry) -> None:
+        """What an entry does."""
+        if it.kind == SECTORS:
+            self.disk[SECTOR * it.lba:SECTOR * (it.lba + it.count)] = it.data
+        elif it.kind in (READ, WRITE):
+            self.commands.pop(it.tag, None)
+            self.commands[it.tag] = it
+        elif it.kind == ACCEPT:
+            self.accepted.append(it.tag)
+        elif it.kind == SERVE:
+            for tag in it.data[:it.count]:
+                self.serve(tag)
+        elif it.kind == FAIL:
+            self.done.add(it.tag)
+            self.accepted = []
+            self.held = set(self.commands) - self.done
+        elif it.kind == REISSUE:
+            self.held.discard(it.tag)
+        elif it.kind == COLLECT:
+            self.done.discard(it.tag)
+            self.commands.pop(it.tag, None)
+
+    def serve(self, tag: int) -> None:
+        """A command is carried out."""
+        it = self.commands[tag]
+        if it.kind == WRITE:
+            self.disk[SECTOR * it.lba:SECTOR * (it.lba + it.count)] = it.data
+        self.accepted.remove(tag)
+        self.done.add(tag)
+
+    def is_between_steps(self) -> bool:
+        """Whether a stretch can begin here: no answer waits to be collected, and no failure for its recovery."""
+        return not self.done and not self.held
+
+
+def bounds(record: Record) -> Tuple[int, int, int]:
+    """The numbers of the first and of the last entry, and the bytes of a last one that is cut."""
+    last = record.parts[0].first - 1
+    for last_entry in record.parts[-1].entries():
+        last = max(last, last_entry.number)
+    if last < record.parts[-1].first:
+        last = record.parts[-1].first - 1
+    return record.parts[0].first, last, record.parts[-1].cut

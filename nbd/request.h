@@ -1,0 +1,25 @@
+/* A request of a client, on the stack of nbdkit's thread that has it. */
+#ifndef AHCI_NBD_REQUEST_H
+#define AHCI_NBD_REQUEST_H
+
+#include <semaphore.h>
+#include <stdbool.h>
+#include <stdint.h>
+
+enum request_kind { REQUEST_READ, REQUEST_WRITE, REQUEST_FLUSH, REQUEST_STOP };
+
+struct request {
+    struct request *next; /* in the list that it is in */
+    enum request_kind kind;
+    bool fua;            /* of a write */
+    bool plays;          /* its thread goes on as the player (gate.h) */
+    uint64_t lba;        /* of a read or a write, as all from here to `window` */
+    uint32_t sectors;    /* at most WINDOW_SECTORS, since it becomes one command */
+    uint8_t *into;       /* where a read's bytes go */
+    const uint8_t *from; /* a write's bytes */
+    uint8_t *window;     /* of a write with FUA: room for window_bytes(sectors), with its data in place; else NULL */
+    int outcome;         /* 0 or an errno */
+    sem_t answered;      /* posted once: the outcome is there, or `plays` is true */
+};
+
+#endif
