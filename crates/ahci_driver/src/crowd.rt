@@ -55,10 +55,10 @@ impl Crowd {
     }
 }
 
-/// Whether three in four of the requests that there can be at once are outstanding.
+/// Whether seven in eight of the requests that there can be at once are outstanding.
 fn is_enough(outstanding: usize, working: usize, depth: usize) -> bool
     ensures { result ≡ is_enough outstanding working depth }
 {
     let most = working.min(depth);
-    outstanding >= most - most / 4
+    outstanding >= most - most / 8
 }

@@ -4,5 +4,5 @@ use Rattle.ahci_c.proofs.software.ahci_port_submit.Goals as goal
 
 pub returns : goal.returns
 returns c =
-    some_supersedes _ _ _ _ _ c.submit-answer.result _ _ _ (sym c.in-Some.ensures.taken ∙ ap Some (sym c.deref_mut.ensures.value)) c.in-Some.ensures.left c.back.ensures.place
-    c.back.ensures.headline c.back.ensures.number c.submit-answer.ensures
+    some_supersedes _ _ _ _ _ c.submit-answer.result _ _ _ (sym c.in-Some.ensures.taken ∙ ap Some (sym c.deref_mut.ensures.value)) c.in-Some.ensures.left c.back_anew.ensures.place
+    c.back_anew.ensures.headline c.back_anew.ensures.number c.submit-answer.ensures
