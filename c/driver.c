@@ -187,9 +187,10 @@ static void recovers(void)
     uint32_t tag = 9;
     ahci_state state;
     ahci_reply reply;
+    uint8_t out[AHCI_SECTOR_BYTES];
     CHECK(ahci_port_state(&port, &state) == AHCI_OK);
     CHECK(ahci_port_recover(&port, &tag) == AHCI_OK && tag == 0);
-    CHECK(ahci_port_collect(&port, 0, state.next - 3, &reply, NULL, 0) == AHCI_OK && reply.outcome == AHCI_DID_FAIL);
+    CHECK(ahci_port_collect(&port, 0, state.next - 3, &reply, out, sizeof out) == AHCI_OK && reply.outcome == AHCI_DID_FAIL);
 }
 
 /* Calls that take the place of register writes leave nothing half written, and refused ones leave it. */
