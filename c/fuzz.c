@@ -58,6 +58,13 @@ static void compare(void)
     CHECK(driven(0x134) == (off ? 0 : state.px_sact | announced) && driven(0x138) == (off ? 0 : state.px_ci) && driven(0x118) == (off ? 0x4010u : 0xC011u));
 }
 
+/* A call that took the place of register writes: nothing is half written then. */
+static void end_writes(void)
+{
+    announced = 0;
+    stopped = false;
+}
+
 static void submit(void)
 {
     static uint8_t data[MOST * AHCI_SECTOR_BYTES];
@@ -73,6 +80,7 @@ static void submit(void)
     if (wanted != AHCI_OK)
         return;
     CHECK(number == next);
+    end_writes();
     tags[tag] = (struct tag){ .phase = AHCI_PHASE_ISSUED, .kind = kind, .count = count, .lba = lba, .number = next++, .fill = fill };
 }
 
@@ -168,8 +176,10 @@ static void recover(void)
 {
     uint32_t tag = 99;
     CHECK(ahci_port_recover(&port, &tag) == (halted ? AHCI_OK : AHCI_NOT_HALTED));
-    if (halted)
+    if (halted) {
         recovers(tag);
+        end_writes();
+    }
 }
 
 static uint32_t writes(uint32_t offset, uint32_t word, ahci_written *did)
@@ -238,6 +248,7 @@ static void reissue(void)
     uint32_t wanted = tag >= 32 ? AHCI_BAD_TAG : halted ? AHCI_HALTED : tags[tag].phase != AHCI_PHASE_HELD ? AHCI_NOT_HELD : AHCI_OK;
     CHECK(ahci_port_reissue(&port, tag) == wanted);
     if (wanted == AHCI_OK) {
+        end_writes();
         tags[tag].phase = AHCI_PHASE_ISSUED;
         next++;
     }
