@@ -59,6 +59,14 @@ class JobList(unittest.TestCase):
         self.assertEqual([f"collect 0 {4 * i}" for i in range(300)], script[4::4])
 
 
+class Outstanding(unittest.TestCase):
+    def test_a_request_is_outstanding_until_it_is_collected(self) -> None:
+        journal = "disk 8 2\nwrite 0 0 1 aa\nread 1 0 1\naccept 1\nserve 1\ncollect 1 1\naccept 0\nserve 0\ncollect 0 0\n"
+        sys.path.insert(0, HERE)
+        self.assertEqual(((1 + 2 + 2 + 2 + 1 + 1 + 1 + 0) / 8, 2), loaded("outstanding.py").outstanding(journal))
+        self.assertEqual((0, 0), loaded("outstanding.py").outstanding("disk 8 2\n"))
+
+
 class Replay(unittest.TestCase):
     def test_a_script_is_lawful_and_has_its_lines(self) -> None:
         for commands, sectors, trimmed in ((100, 1, 0), (100, 256, 0), (2048, 1, 1024), (3, 65_536, 0)):
