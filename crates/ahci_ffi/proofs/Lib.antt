@@ -1,7 +1,7 @@
 pub mod ArgumentLemmas
 pub mod CollectingLemmas
 pub mod EntryLemmas
-pub mod IssuingLemmas
+pub mod JudgedLemmas
 pub mod NamingLemmas
 pub mod OverLemmas
 pub mod Walks

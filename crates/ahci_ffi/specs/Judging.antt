@@ -1,8 +1,9 @@
 -- A journal given as structs: which events may follow which, with no port (AHCI 1.3.1, "Native Command Queuing" and section 6.2.2).
-use Rattle.std.specs.Prelude.{◌≡◌, ℕ, ◌<◌, ◌==◌, nat_le, nat_lt, List, if◌then◌else◌}
-use Rattle.ncq_journal.specs.Entry.{Entry}
+use Rattle.std.specs.Prelude.{◌≡◌, ℕ, ◌<◌, ◌≤◌, ◌==◌, ◌↔◌, nat_le, nat_lt, List, map, reverse, if◌then◌else◌}
+use Rattle.std.specs.List.{All}
+use Rattle.ncq_journal.specs.Entry.{Entry, Issue}
 use Rattle.ncq_journal.specs.EventKind.{HasLowTag, IsFirstUnlawful, journal_of, kind_of}
-use Rattle.ncq_journal.specs.Lawful.{IsLawful}
+use Rattle.ncq_journal.specs.Lawful.{IsLawful, IsWhole}
 use Rattle.ncq_journal.specs.declared.event_kind.EventKind.{EventKind}
 use Rattle.ncq_journal.specs.declared.event_kind.EventKind.TheVariants as kind
 use Rattle.ncq_journal.specs.declared.plain.Plain.TheVariants.{Identify, Flush, ReadLog}
@@ -43,6 +44,21 @@ HasByteError other = Unit {0}
 -- the struct of an entry names the entry's event
 abbrev pub DoEntriesNameTheirEvents : Type 0
 DoEntriesNameTheirEvents = (e : Entry) → HasLowTag (kind_of e) → HasByteError (kind_of e) → kind_named (flat_entry e) ≡ kind_of e
+
+-- a write's bytes are whole sectors
+abbrev pub IsWholeEntry : Entry → Type 0
+IsWholeEntry (Issue tag work) = IsWhole work
+IsWholeEntry entry = Unit {0}
+
+-- the struct of an entry has all of the entry but a write's bytes
+abbrev pub IsNameable : Entry → Type 0
+IsNameable entry = HasByteError (kind_of entry) × IsWholeEntry entry
+
+-- a list of entries, the oldest first, is a lawful journal exactly if its structs are judged to be one
+abbrev pub AreEntriesJudged : Type 0
+AreEntriesJudged =
+    (s d : ℕ) (entries : List Entry) → d ≤ 32 → All IsNameable (reverse entries)
+    → IsLawful s d (reverse entries) ↔ IsLawful s d (journal_of kind_named (map flat_entry entries))
 
 -- events were looked at: all are lawful; or the place of the first that can't come where it is
 pub data AnswersEvents (s d : ℕ) (events : List FlatEntry) (answer : Status) (before after : ℕ) : Type 0 where
