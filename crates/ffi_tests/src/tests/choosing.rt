@@ -65,26 +65,37 @@ fn a_turn_has_tags_up_to_one_that_is_to_fail(rt: HostRuntime) {
     }
 }
 
+/// No tag can be chosen.
+const NONE: Status = Status::Refused(Refusal::BadTags);
+
+/// The number of an order, a set, and what is answered for a tag, and for a list of 4 tags over a buffer of 3.
+struct Answers(u32, u32, Status, Status);
+
+static ANSWERS: [Answers; 5] = [
+    Answers(3, SET, Status::BadKind, Status::BadKind),
+    Answers(0xffff_ffff, 0, Status::BadKind, Status::BadKind),
+    Answers(0, 0, NONE, NONE),
+    Answers(2, 0, NONE, NONE),
+    Answers(1, SET, Status::Done, Status::BufferTooSmall),
+];
+
 #[test]
 fn a_number_that_is_no_order_is_refused_first(rt: HostRuntime) {
-    let (mut tag, mut tags, mut len) = (99, [0xEE; 3], 9);
-    let none = Status::Refused(Refusal::BadTags);
-    assert_eq!(rt; choose_tag(2, SET, 6, &mut tag), Status::Done);
-    assert_eq!(rt; choose_tag(3, 0, 0, &mut tag), Status::BadKind);
-    assert_eq!(rt; choose_tag(2, 0, 0, &mut tag), none);
-    assert_eq!(rt;
-        choose_tags(3, 0, 0, 1, &DRAWS, &mut tags, &mut len),
-        Status::BadKind
-    );
-    assert_eq!(rt; choose_tags(2, 0, 0, 1, &DRAWS, &mut tags, &mut len), none);
-    assert_eq!(rt;
-        choose_tags(1, SET, 0, 4, &DRAWS, &mut tags, &mut len),
-        Status::BufferTooSmall
-    );
-    assert_eq!(rt; (tag, len), (4, 9));
-    assert_eq!(rt;
-        choose_tags(1, SET, 0, 2, &DRAWS, &mut tags, &mut len),
-        Status::Done
-    );
-    assert!(rt; len == 2 && &tags[..] == [9, 4, 0xEE].as_slice());
+    for (row, Answers(order, set, of_tag, of_list)) in ANSWERS.iter().enumerate() {
+        let (mut tag, mut tags, mut len) = (99, [0xEE; 3], 9);
+        let one = choose_tag(*order, *set, 6, &mut tag);
+        let list = choose_tags(*order, *set, 0, 4, &DRAWS, &mut tags, &mut len);
+        assert_eq!(rt;
+            (one, list, tags, len),
+            (*of_tag, *of_list, [0xEE; 3], 9),
+            "at row {row}"
+        );
+    }
+}
+
+#[test]
+fn chosen_tags_are_copied_to_the_beginning_of_a_buffer(rt: HostRuntime) {
+    let (mut tags, mut len) = ([0xEE; 3], 9);
+    let answer = choose_tags(1, SET, 0, 2, &DRAWS, &mut tags, &mut len);
+    assert_eq!(rt; (answer, tags, len), (Status::Done, [9, 4, 0xEE], 2));
 }
