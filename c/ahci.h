@@ -156,7 +156,7 @@ typedef enum ahci_status {
     AHCI_NOT_ISSUED = 41,       /* the tag's command is not waiting for the device */
     AHCI_NOT_ACCEPTED = 42,     /* the command of the tag, or of a tag of the list, is not accepted */
     AHCI_OUTSIDE_COMMAND = 43,  /* the sector is not one of the command's */
-    AHCI_BAD_TAGS = 44,         /* an empty list, or one with a tag twice */
+    AHCI_BAD_TAGS = 44,         /* an empty list or set, or a list with a tag twice */
     AHCI_NOT_HALTED = 45,       /* no command has failed */
     AHCI_NOT_HELD = 46,         /* the tag's command is not held */
     AHCI_QUEUE_BUSY = 47,       /* a queued command is issued or accepted */
@@ -175,6 +175,13 @@ typedef enum ahci_status {
     /* journals */
     AHCI_NOT_ALLOWED = 80       /* an event that can't come at this place */
 } ahci_status;
+
+/* In which order the device goes on with the tags of a set. */
+typedef enum ahci_order {
+    AHCI_ORDER_LOWEST = 0,  /* the lowest tag first */
+    AHCI_ORDER_HIGHEST = 1, /* the highest tag first */
+    AHCI_ORDER_DRAWN = 2    /* the tag that a draw falls on: the lowest is number 0, and the draw counts modulo how many there are */
+} ahci_order;
 
 /* What a command does. */
 typedef enum ahci_kind {
@@ -650,6 +657,17 @@ uint32_t ahci_log_page(uint32_t tag, uint8_t error, uint64_t lba, uint8_t *out, 
    what its kind doesn't have is ignored; a write's bytes don't matter. One with
    another kind, a tag that is not below 32 or an error over 255 can't come anywhere. AHCI_BAD_DEPTH. */
 uint32_t ahci_journal_check(uint32_t sectors, uint32_t depth, const ahci_entry *events, size_t count, size_t *first_bad);
+
+/* Which tag of a set, the bits of a word, an order names (ahci_order). A draw is any number, and only AHCI_ORDER_DRAWN looks at it.
+   AHCI_BAD_KIND for a number that is not an order, AHCI_BAD_TAGS if the set is empty. */
+uint32_t ahci_choose_tag(uint32_t order, uint32_t set, uint64_t draw, uint32_t *tag);
+
+/* Which tags of a set the device completes next, by one Set Device Bits FIS: up to `most` tags, at most 32, each named by the order out of those
+   that are left. The tag named at place i has draws[i], and a draw that isn't there is 0. The list ends before the first tag of `failing`,
+   the tags that the device is to fail; if that comes first, it is the only one. So either all tags are to be completed, or one is to be failed.
+   The tags are copied to the beginning of `tags`, a byte each, and *length is how many there are: at least one, if `most` is not 0.
+   AHCI_BAD_KIND for a number that is not an order, AHCI_BAD_TAGS if the set is empty, AHCI_BUFFER_TOO_SMALL. */
+uint32_t ahci_choose_tags(uint32_t order, uint32_t set, uint32_t failing, uint32_t most, const uint64_t *draws, size_t count, uint8_t *tags, size_t tags_bytes, size_t *length);
 
 /* ---- the library ---- */
 

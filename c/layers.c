@@ -204,6 +204,45 @@ static void journals(void)
     BREAKS(event(11, 0, 0, 0, 0));
 }
 
+/* Sets, orders and draws, each with the tags worked out by hand. */
+static void choices(void)
+{
+    static const struct { uint32_t order, set, failing, most; uint64_t draws[3]; size_t count; uint8_t tags[5]; size_t length; } rows[] = {
+        /* the tags 1, 3, 4, 9 */
+        { AHCI_ORDER_LOWEST, 0x21A, 0, 1, { 0 }, 0, { 1 }, 1 },
+        { AHCI_ORDER_LOWEST, 0x21A, 0, 32, { 0 }, 0, { 1, 3, 4, 9 }, 4 },
+        { AHCI_ORDER_LOWEST, 0x21A, 0, 0, { 0 }, 0, { 0 }, 0 },
+        { AHCI_ORDER_HIGHEST, 0x21A, 0, 2, { 0 }, 0, { 9, 4 }, 2 },
+        { AHCI_ORDER_HIGHEST, 0x80000001, 0, UINT32_MAX, { 0 }, 0, { 31, 0 }, 2 },
+        /* 6 mod 4 is 2: tag 4; of 1, 3, 9 number 1: tag 3; of 1, 9 number 7 mod 2: tag 9; then no draw is there: tag 1 */
+        { AHCI_ORDER_DRAWN, 0x21A, 0, 4, { 6, 1, 7 }, 3, { 4, 3, 9, 1 }, 4 },
+        { AHCI_ORDER_DRAWN, 0x21A, 0, 1, { UINT64_MAX }, 1, { 9 }, 1 },
+        /* up to a tag that is to fail, or that one alone */
+        { AHCI_ORDER_LOWEST, 0x21A, 0x10, 32, { 0 }, 0, { 1, 3 }, 2 },
+        { AHCI_ORDER_LOWEST, 0x21A, 0x12, 32, { 0 }, 0, { 1 }, 1 },
+        { AHCI_ORDER_HIGHEST, 0x21A, 0x210, 32, { 0 }, 0, { 9 }, 1 },
+        { AHCI_ORDER_LOWEST, 0x21A, 0xFFFFFDE5, 32, { 0 }, 0, { 1, 3, 4, 9 }, 4 }, /* none of these is in the set */
+    };
+    uint8_t tags[AHCI_MOST_TAGS];
+    size_t length = 99;
+    uint32_t tag = 99;
+    for (size_t at = 0; at < sizeof rows / sizeof *rows; at++) {
+        memset(tags, 0xEE, sizeof tags);
+        CHECK(ahci_choose_tags(rows[at].order, rows[at].set, rows[at].failing, rows[at].most, rows[at].draws, rows[at].count, tags, sizeof tags, &length) == AHCI_OK);
+        CHECK(length == rows[at].length && memcmp(tags, rows[at].tags, length) == 0 && tags[length] == 0xEE);
+        CHECK(ahci_choose_tag(rows[at].order, rows[at].set, rows[at].count ? rows[at].draws[0] : 0, &tag) == AHCI_OK);
+        CHECK(!length || tag == tags[0]);
+    }
+    tag = length = 99;
+    CHECK(ahci_choose_tag(3, 1, 0, &tag) == AHCI_BAD_KIND);
+    CHECK(ahci_choose_tag(AHCI_ORDER_DRAWN, 0, 7, &tag) == AHCI_BAD_TAGS);
+    CHECK(ahci_choose_tags(3, 0, 0, 1, rows->draws, 0, tags, sizeof tags, &length) == AHCI_BAD_KIND);
+    CHECK(ahci_choose_tags(AHCI_ORDER_LOWEST, 0, 0, 1, rows->draws, 0, tags, 0, &length) == AHCI_BAD_TAGS);
+    CHECK(ahci_choose_tags(AHCI_ORDER_LOWEST, 0x21A, 0, 32, rows->draws, 0, tags, 3, &length) == AHCI_BUFFER_TOO_SMALL);
+    CHECK(tag == 99 && length == 99);
+    CHECK(ahci_choose_tags(AHCI_ORDER_LOWEST, UINT32_MAX, 0, 32, rows->draws, 0, tags, sizeof tags, &length) == AHCI_OK && length == 32 && tags[31] == 31);
+}
+
 static void names(void)
 {
     char text[32] = "unchanged";
@@ -224,6 +263,7 @@ int main(void)
     fises();
     sizes();
     journals();
+    choices();
     names();
     puts("the calls without a port: as the standards have it");
     return 0;

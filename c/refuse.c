@@ -185,8 +185,10 @@ static int alone(void)
     const ahci_entry event = { .kind = AHCI_EVENT_WRITE, .lba = 3, .sectors = 1 };
     ahci_port none = AHCI_PORT_EMPTY;
     ahci_command command = { 9, 9, 9, 9, 9 };
+    const uint64_t draw = 3;
     ahci_fis fis;
     uint8_t out[32];
+    uint32_t tag;
     size_t length;
     int lacking = 0;
     NONE(ahci_fis_decode(bits, sizeof bits, &fis));
@@ -194,6 +196,8 @@ static int alone(void)
     NONE(ahci_identify_page(8, 4, page, sizeof page));
     NONE(ahci_log_page(3, 0x40, 7, page, sizeof page));
     NONE(ahci_journal_check(8, 4, &event, 1, &length));
+    NONE(ahci_choose_tag(AHCI_ORDER_HIGHEST, 6, 0, &tag));
+    NONE(ahci_choose_tags(AHCI_ORDER_DRAWN, 6, 4, 2, &draw, 1, out, sizeof out, &length));
     NONE(ahci_status_text(AHCI_HALTED, out, sizeof out, &length));
     NONE(ahci_version() == AHCI_VERSION ? AHCI_OK : AHCI_BAD_KIND);
     TRY(&none, command, ahci_window_check(0, list, AHCI_HEADER_BYTES, windows, 0x290, &command));

@@ -245,18 +245,6 @@ static uint64_t next_random(struct device *device) {
     return x * UINT64_C(2685821657736338717);
 }
 
-/* The slot of a set that --pick names. */
-static uint32_t pick_of(struct device *device, uint32_t set) {
-    if (device->settings->pick == PICK_HIGH)
-        return 31u - (uint32_t)__builtin_clz(set);
-    if (device->settings->pick == PICK_RANDOM) {
-        uint32_t skip = (uint32_t)(next_random(device) % (uint32_t)__builtin_popcount(set));
-        while (skip--)
-            set &= set - 1;
-    }
-    return (uint32_t)__builtin_ctz(set);
-}
-
 /* The slots with a step that answers a command, or those with any other step. */
 static uint32_t slots_with(const struct device *device, bool answers) {
     uint32_t set = 0;
@@ -283,7 +271,9 @@ static bool choose(struct device *device, uint32_t *slot) {
     uint32_t early = slots_with(device, false), answers = slots_with(device, true);
     if (!early && (!answers || !has_waited(device)))
         return false;
-    *slot = pick_of(device, early ? early : answers);
+    uint32_t status = ahci_choose_tag(device->settings->pick, early ? early : answers, next_random(device), slot);
+    if (status != AHCI_OK)
+        disagree("ahci_choose_tag", status);
     if (!early)
         device->wait = WAIT_NOTHING;
     return true;

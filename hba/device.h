@@ -27,7 +27,7 @@ struct device {
     uint32_t stuck;   /* slots whose step was refused, until the driver writes a register */
     uint32_t stalled; /* slots whose command is never answered, until the driver drops it */
     bool mute;        /* no signature is sent until then either, since there was no memory for the last FIS */
-    uint64_t random;  /* the state of PICK_RANDOM */
+    uint64_t random;  /* the state of --pick random */
     enum wait wait;
     uint64_t due;     /* until when, in nanoseconds of the monotonic clock */
     bool starved;     /* memory was refused once, and this was said */

@@ -74,11 +74,11 @@ static int take_small(const char *name, const char *text, uint32_t least, uint32
     return 0;
 }
 
-static int take_pick(const char *text, enum pick *pick) {
-    static const char *const names[] = {"low", "high", "random"};
+static int take_pick(const char *text, ahci_order *pick) {
+    static const char *const names[] = {[AHCI_ORDER_LOWEST] = "low", [AHCI_ORDER_HIGHEST] = "high", [AHCI_ORDER_DRAWN] = "random"};
     for (unsigned i = 0; i < sizeof names / sizeof *names; i++)
         if (!strcmp(text, names[i])) {
-            *pick = (enum pick)i;
+            *pick = (ahci_order)i;
             return 0;
         }
     complain("--pick %s: low, high or random is wanted", text);

@@ -2,14 +2,12 @@
 #ifndef AHCI_HBA_SETTINGS_H
 #define AHCI_HBA_SETTINGS_H
 
+#include <ahci.h>
 #include <stdbool.h>
 #include <stdint.h>
 
 /* What starts: a program of QEMU, or a kernel of User Mode Linux. */
 enum guest { GUEST_QEMU, GUEST_UML };
-
-/* Which of the commands that the device has taken it goes on with. */
-enum pick { PICK_LOW, PICK_HIGH, PICK_RANDOM };
 
 /* Commands that touch a sector and that the device fails, or never answers. */
 struct failure {
@@ -25,8 +23,8 @@ struct settings {
     enum guest guest;
     uint32_t sectors; /* 1 to 131,072 */
     uint32_t depth;   /* 1 to 32: the queue depth that IDENTIFY DEVICE tells */
-    enum pick pick;
-    uint64_t seed;      /* of PICK_RANDOM */
+    ahci_order pick;    /* which of the commands that the device has taken it goes on with */
+    uint64_t seed;      /* of AHCI_ORDER_DRAWN */
     uint32_t delay;     /* microseconds before the device answers a command */
     bool refuse_log;    /* the log of a failed queued command can't be read */
     const char *image;  /* a file with the disk's sectors, or NULL */

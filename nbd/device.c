@@ -21,16 +21,22 @@ static uint32_t lowest(uint32_t set) {
 
 /* ---- which step ---- */
 
-/* The tag of a set that the device goes on with. */
-static uint32_t pick_of(struct driver *driver, uint32_t set) {
-    if (driver->settings->pick == PICK_HIGH)
-        return 31u - (uint32_t)__builtin_clz(set);
-    if (driver->settings->pick == PICK_RANDOM) {
-        uint32_t skip = (uint32_t)(next_random(&driver->random) % (uint32_t)__builtin_popcount(set));
-        while (skip--)
-            set &= set - 1;
-    }
-    return lowest(set);
+/* The numbers by which pick=random chooses tags, one for each that can be completed together; how many there are. */
+static size_t draw(struct driver *driver, uint64_t *draws) {
+    size_t count = driver->settings->pick == PICK_RANDOM ? driver->settings->together : 0;
+    for (size_t at = 0; at < count; at++)
+        draws[at] = next_random(&driver->random);
+    return count;
+}
+
+/* Chooses the tags of a set that the device completes next, or the one that it fails; how many there are. */
+static size_t choose(struct driver *driver, uint32_t set, uint32_t failing, uint8_t *tags) {
+    static const ahci_order orders[] = {
+        [PICK_LOW] = AHCI_ORDER_LOWEST, [PICK_HIGH] = AHCI_ORDER_HIGHEST, [PICK_ALL] = AHCI_ORDER_LOWEST, [PICK_RANDOM] = AHCI_ORDER_DRAWN};
+    uint64_t draws[AHCI_MOST_TAGS] = {0};
+    size_t drawn = draw(driver, draws), count = 0;
+    driver_must("ahci_choose_tags", ahci_choose_tags(orders[driver->settings->pick], set, failing, driver->settings->together, draws, drawn, tags, AHCI_MOST_TAGS, &count));
+    return count;
 }
 
 /* Applies the rules to a command, once: a command that is issued again keeps what was decided. */
@@ -59,15 +65,28 @@ static uint32_t ready_of(const struct driver *driver) {
     return ready;
 }
 
+/* Those commands of a set that the device is to fail. */
+static uint32_t failing_of(const struct driver *driver, uint32_t set) {
+    uint32_t failing = 0;
+    if (!driver->settings->failures.count)
+        return failing;
+    for (; set; set &= set - 1)
+        if (driver->commands[lowest(set)].failure)
+            failing |= UINT32_C(1) << lowest(set);
+    return failing;
+}
+
 /* ---- steps ---- */
 
 static void accept_all(struct driver *driver) {
-    for (; driver->issued; driver->issued &= driver->issued - 1) {
-        uint32_t tag = lowest(driver->issued);
+    while (driver->issued) {
+        uint32_t tag = 0;
         ahci_stepped done;
+        driver_must("ahci_choose_tag", ahci_choose_tag(AHCI_ORDER_LOWEST, driver->issued, 0, &tag));
         driver_must("ahci_port_accept", ahci_port_accept(&driver->port, tag, &done));
         record_tag(&driver->record, RECORD_ACCEPT, tag);
         decide(driver, &driver->commands[tag]);
+        driver->issued &= ~(UINT32_C(1) << tag);
         driver->accepted |= UINT32_C(1) << tag;
     }
     uint32_t deep = (uint32_t)__builtin_popcount(driver->accepted);
@@ -95,33 +114,30 @@ static void count_order(struct driver *driver, uint32_t tag, uint32_t waiting) {
         }
 }
 
-static void serve(struct driver *driver, const uint8_t *tags, uint32_t count) {
+static void serve(struct driver *driver, uint32_t ready, const uint8_t *tags, size_t count) {
     ahci_stepped done;
+    for (size_t at = 0; at < count; at++) {
+        ready &= ~(UINT32_C(1) << tags[at]);
+        count_order(driver, tags[at], ready);
+    }
     driver_must("ahci_port_serve", ahci_port_serve(&driver->port, tags, count, &done));
-    record_served(&driver->record, tags, count);
+    record_served(&driver->record, tags, (uint32_t)count);
     driver->counts.lists += count > 1;
-    for (uint32_t at = 0; at < count; at++)
+    for (size_t at = 0; at < count; at++)
         driver_collect(driver, tags[at]);
 }
 
-/* Serves some of the commands, or fails the first that is to fail. */
+/* Serves some of the commands, or fails one. */
 static void serve_some(struct driver *driver, uint32_t ready) {
     uint8_t tags[AHCI_MOST_TAGS];
-    uint32_t count = 0;
-    while (ready && count < driver->settings->together) {
-        uint32_t tag = pick_of(driver, ready);
-        if (driver->commands[tag].failure && count)
-            break;
-        if (driver->commands[tag].failure) {
-            fail(driver, tag);
-            return;
-        }
-        ready &= ~(UINT32_C(1) << tag);
-        count_order(driver, tag, ready);
-        tags[count++] = (uint8_t)tag;
-    }
-    if (count)
-        serve(driver, tags, count);
+    uint32_t failing = failing_of(driver, ready);
+    if (!ready)
+        return;
+    size_t count = choose(driver, ready, failing, tags);
+    if (failing >> tags[0] & 1)
+        fail(driver, tags[0]);
+    else
+        serve(driver, ready, tags, count);
 }
 
 void device_step(struct driver *driver) {

@@ -9,7 +9,7 @@ import tempfile
 from typing import Callable, Dict, Optional, Tuple
 
 import ahci
-from ahci import Command, Did, Entry, Event, Fis, FisType, Kind, Outcome, Phase, Port, Register, Reply, Slot, Status, Stepped, TagSets, Written, Wrote
+from ahci import Command, Did, Entry, Event, Fis, FisType, Kind, Order, Outcome, Phase, Port, Register, Reply, Slot, Status, Stepped, TagSets, Written, Wrote
 
 FREE, ISSUED, ACCEPTED, BROKEN, HELD, DONE = Phase.FREE, Phase.ISSUED, Phase.ACCEPTED, Phase.BROKEN, Phase.HELD, Phase.DONE
 PX_CMD, PX_SACT, PX_CI = Register.PXCMD, Register.PXSACT, Register.PXCI
@@ -149,6 +149,11 @@ def layers() -> None:
     assert ahci.fis_encode(Fis(kind=0x46), b"\1\2\3\4") == b"\x46\0\0\0\1\2\3\4"
     assert ahci.fis_decode(b"\x46\0\0\0\1\2\3\4") == Fis(kind=0x46, payload=4)
     refused(Status.BAD_FLAG, lambda: ahci.fis_encode(Fis(kind=0x27, c=2)))
+    assert [ahci.choose_tag(Order.LOWEST, 0b1010), ahci.choose_tag(Order.HIGHEST, 0b1010), ahci.choose_tag(Order.DRAWN, 0b1010, 5)] == [1, 3, 3]
+    assert ahci.choose_tags(Order.HIGHEST, 0b11010, failing=0b10) == [4, 3] and ahci.choose_tags(Order.LOWEST, 0b11010, failing=0b10) == [1]
+    assert ahci.choose_tags(Order.DRAWN, 0b11010, most=2, draws=[2, 1]) == [4, 3] and ahci.choose_tags(Order.LOWEST, (1 << 32) - 1) == list(range(32))
+    refused(Status.BAD_TAGS, lambda: ahci.choose_tag(Order.LOWEST, 0))
+    refused(Status.BAD_KIND, lambda: ahci.choose_tags(3, 1))  # type: ignore[arg-type]
     assert ahci.status_text(Status.OUTSIDE_COMMAND) == "OutsideCommand"
     refused(Status.BAD_KIND, lambda: ahci.status_text(14))
     refused(Status.BAD_DEPTH, lambda: ahci.journal_check(8, 33, []))
@@ -175,6 +180,10 @@ def wide_numbers() -> None:
             ("error", 8): (lambda it: port.fail(0, it, 0), lambda it: ahci.log_page(32, it, 0)),
             ("number", 64): (lambda it: port.collect(0, it), port.entry, port.entry_bytes),
             ("status", 32): (ahci.status_text,),
+            ("tags", 32): (lambda it: ahci.choose_tag(3, it), lambda it: ahci.choose_tags(3, it)),  # type: ignore[arg-type]
+            ("draw", 64): (lambda it: ahci.choose_tag(Order.DRAWN, 0, it), lambda it: ahci.choose_tags(Order.DRAWN, 0, draws=[0, it])),
+            ("failing", 32): (lambda it: ahci.choose_tags(Order.LOWEST, 0, it),),
+            ("most", 32): (lambda it: ahci.choose_tags(Order.LOWEST, 0, 0, it),),
             ("features", 16): (lambda it: ahci.fis_encode(Fis(kind=0, features=it)),),
         }
         for (name, bits), of_name in calls.items():

@@ -1,11 +1,11 @@
-"""The layers alone, without a port: FISes, windows, pages, journals, and the rules for drivers."""
+"""The layers alone, without a port: FISes, windows, pages, journals, the choice of the next tag, and the rules for drivers."""
 from __future__ import annotations
 
 import ctypes
 from typing import List, Optional, Sequence
 
-from .library import Bytes, CommandStruct, EntryStruct, FisStruct, call, done, fits, given, loaded, size, u32
-from .names import FisType, Kind, Rule, Status
+from .library import Bytes, CommandStruct, EntryStruct, FisStruct, call, done, fits, given, loaded, size, u32, u64
+from .names import FisType, Kind, Order, Rule, Status
 from .records import Command, Entry, Fis
 
 MOST_FIS_BYTES = 8196  # a Data FIS with 8,192 bytes of payload
@@ -64,6 +64,22 @@ def journal_check(sectors: int, depth: int, events: Sequence[Entry]) -> Optional
         return int(bad.value)
     done(status)
     return None
+
+
+def choose_tag(order: Order, tags: int, draw: int = 0) -> int:
+    """The tag of a set, the bits of a word, that an order names. Only `Order.DRAWN` looks at the draw, which is any number of 64 bits."""
+    tag = u32()
+    call("choose_tag", order, fits(tags, 32, "tags"), fits(draw, 64, "draw"), ctypes.byref(tag))
+    return int(tag.value)
+
+
+def choose_tags(order: Order, tags: int, failing: int = 0, most: int = 32, draws: Sequence[int] = ()) -> List[int]:
+    """The tags of a set that the device completes next: up to `most`, each named by the order out of those that are left, with a draw each. The
+    list ends before the first tag of `failing`; if that comes first, it is the only one."""
+    numbers = (u64 * len(draws))(*(fits(draw, 64, "draw") for draw in draws))
+    out, length = ctypes.create_string_buffer(32), size()
+    call("choose_tags", order, fits(tags, 32, "tags"), fits(failing, 32, "failing"), fits(most, 32, "most"), numbers, len(draws), out, 32, ctypes.byref(length))
+    return list(out.raw[: length.value])
 
 
 def _broken(name: str, *arguments: object) -> bool:

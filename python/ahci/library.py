@@ -158,6 +158,8 @@ CALLS: Dict[str, List[Any]] = {
     "identify_page": [u32, u32, _text, size],
     "log_page": [u32, u8, u64, _text, size],
     "journal_check": [u32, u32, to(EntryStruct), size, to(size)],
+    "choose_tag": [u32, u32, u64, to(u32)],
+    "choose_tags": [u32, u32, u32, u32, to(u64), size, _text, size, to(size)],
     "command_breaks": [u32, u32, u32, _text, size, _text, size, to(u32)],
     "entry_breaks": [u32, _text, size, to(u32)],
     "length_breaks": [u32, _text, size, u64, to(u32)],

@@ -85,6 +85,14 @@ class Phase(enum.IntEnum):
     DONE = 6
 
 
+class Order(enum.IntEnum):
+    """In which order the device goes on with the tags of a set (ahci_order)."""
+
+    LOWEST = 0
+    HIGHEST = 1
+    DRAWN = 2
+
+
 class Kind(enum.IntEnum):
     """The direction of a command (ahci_kind)."""
 

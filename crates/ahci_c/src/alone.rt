@@ -4,6 +4,7 @@ ghost use Rattle.std.specs.Prelude.{◌≡◌, length};
 ghost use Rattle.ncq_core.specs.{Identify.{identify_page}, Log.{log_page}};
 ghost use Rattle.ahci_ffi.specs.{
   Alone.{AnswersCheck, log_refusal, page_refusal},
+  Choosing.{AnswersTag, AnswersTurn},
   Fises.{AnswersDecode, AnswersEncode, fis_named},
   Judging.{AnswersJournal},
   Names.{AnswersText},
@@ -76,6 +77,30 @@ pub extern "C" fn ahci_journal_check(
     ensures { Numbered result (λ answer. AnswersJournal sectors depth events.now answer first_bad.old first_bad.new) }
 {
     ahci_ffi::journal_check(sectors, depth, events, first_bad).code()
+}
+
+/// The tag of a set that an order names.
+#[unsafe(no_mangle)]
+pub extern "C" fn ahci_choose_tag(order: u32, set: u32, draw: u64, tag: &mut u32) -> u32
+    ensures { Numbered result (λ answer. AnswersTag order set draw answer tag.old tag.new) }
+{
+    ahci_ffi::choose_tag(order, set, draw, tag).code()
+}
+
+/// The tags of a set that the device completes next, or the one that it fails.
+#[unsafe(no_mangle)]
+pub extern "C" fn ahci_choose_tags(
+    order: u32,
+    set: u32,
+    failing: u32,
+    most: u32,
+    draws: &[u64],
+    tags: &mut [u8],
+    length: &mut usize,
+) -> u32
+    ensures { Numbered result (λ answer. AnswersTurn order set failing most draws.now answer tags.old tags.new length.old length.new) }
+{
+    ahci_ffi::choose_tags(order, set, failing, most, draws, tags, length).code()
 }
 
 /// The name of the status of a number.

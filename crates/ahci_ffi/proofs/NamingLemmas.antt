@@ -1,8 +1,7 @@
 -- A struct that was filled in from an entry names that entry's event.
 use Rattle.std.proofs.Common.{◌≡◌, ◌<◌, ◌∙◌, ℕ, false, cond, nat_lt, ap, refl}
 use Rattle.std.proofs.lemmas.Bool.{lt-ltb}
-use Rattle.ncq_journal.specs.Entry.{Entry, Issue, Accept, Complete, Fail, Recover, Reissue, Collect, Unqueued}
-use Rattle.ncq_journal.specs.EventKind.{kind_of}
+use Rattle.ncq_journal.specs.Entry.{Issue, Accept, Complete, Fail, Recover, Reissue, Collect, Unqueued}
 use Rattle.ncq_journal.specs.Work.{Read, Write}
 use Rattle.ncq_journal.specs.declared.event_kind.EventKind.{EventKind}
 use Rattle.ncq_journal.specs.declared.event_kind.EventKind.TheVariants as kind

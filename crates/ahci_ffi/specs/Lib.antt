@@ -1,6 +1,7 @@
 pub mod Alone
 pub mod Asked
 pub mod Calls
+pub mod Choosing
 pub mod Done
 pub mod Fises
 pub mod Flat

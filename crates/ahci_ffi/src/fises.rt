@@ -47,7 +47,7 @@ fn put_fis(fis: &Fis<'_>, out: &mut [u8], len: &mut usize) -> Status
 }
 
 /// Writes some bytes, and more after them.
-fn put(head: &[u8], rest: &[u8], out: &mut [u8], len: &mut usize) -> Status
+pub(crate) fn put(head: &[u8], rest: &[u8], out: &mut [u8], len: &mut usize) -> Status
     ensures { PutsAll (head.now ++ rest.now) result out.old out.new len.old len.new }
 {
     let total = head.len() + rest.len();

@@ -2,6 +2,7 @@
 #![tactic(auto)]
 
 mod bare;
+mod choosing;
 mod collecting;
 mod entries;
 mod fises;
@@ -23,6 +24,7 @@ mod windows;
 mod writing;
 
 pub use bare::Bare;
+pub use choosing::{choose_tag, choose_tags};
 pub use collecting::collect;
 pub use entries::{entry, entry_bytes};
 pub use fises::{fis_decode, fis_encode};

@@ -1,4 +1,5 @@
 mod alone;
+mod choosing;
 mod guest;
 mod heap;
 mod making;

@@ -1,0 +1,3 @@
+pub mod OrdersLemmas
+pub mod TurnsLemmas
+pub mod LawsLemmas
