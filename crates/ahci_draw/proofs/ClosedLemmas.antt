@@ -1,21 +1,19 @@
 -- A picture of plain lines opens and closes its own elements alone.
-use Rattle.std.proofs.Common.{◌≡◌, ℕ, suc, zero, ◌+◌, ◌*◌, ◌%◌, ◌/◌, ◌-◌, ◌==◌, ◌≤◌, Bool, true, false, ◌||◌, List, [], ◌∷◌, ◌++◌, ap, sym, ◌∙◌, refl, arith, cond, codes, length, get_or, take, drop, filter, nat_le, Option, None, Some, position}
+use Rattle.std.proofs.Common.{◌≡◌, ℕ, suc, zero, ◌+◌, ◌*◌, ◌%◌, ◌/◌, ◌-◌, ◌==◌, ◌≤◌, Bool, true, false, ◌||◌, List, [], ◌∷◌, ◌++◌, sym, ◌∙◌, refl, arith, cond, codes, length, get_or, take, drop, filter, nat_le, Option, None, Some, position}
 use Rattle.std.specs.Fmt.{decimal}
 use Rattle.std.specs.List.{flat_map, list_all, onto_first, range_with_len, slice_split}
 use Rattle.std.proofs.lemmas.Bool.{and_from, and_parts, eqb-true}
 use Rattle.ahci_draw.specs.Grid.{across, down, grid_text}
-use Rattle.ahci_draw.specs.Heading.{heading_shape, heading_text, width_of}
-use Rattle.ahci_draw.specs.Lanes.{cells_in, device_text, lane_at, lane_text, lanes_text, name_shape, tags_in}
+use Rattle.ahci_draw.specs.Lanes.{cells_in, device_text, lane_at, lane_text, lanes_text, name_shape}
 use Rattle.ahci_draw.specs.Lines.{device_place, front_to, is_asked, label_of, lane_place, lines_from, sign_place, title_of}
-use Rattle.ahci_draw.specs.Markup.{IsClosed, Text, at, is_plain, is_sheet_byte, reads}
-use Rattle.ahci_draw.specs.Picture.{picture_of, picture_with}
+use Rattle.ahci_draw.specs.Markup.{Text, at, is_plain, is_sheet_byte}
 use Rattle.ahci_draw.specs.Row.{row_at, row_of, row_text, row_top, rows_in, rows_text}
 use Rattle.ahci_draw.specs.Signs.{column_head, column_sign, head_at, heads_text, label_at, label_shape, rule_at, rule_shape, sign_at, sign_shape, signs_text}
 use Rattle.ahci_draw.specs.Strip.{bar_shape, begins, colour_of, count_foot, left_of, level_shape, middle_of, run_at, run_length, run_text, runs_text}
 use Rattle.ahci_draw.specs.declared.strip.Strip.{Strip}
 use Rattle.ahci_draw.specs.declared.strip.Strip.TheVariants.{Lane, Device}
 use Rattle.ahci_draw.specs.Text.{letter, numbered}
-use Rattle.ahci_draw.proofs.MarkupLemmas.{Closes, closes_all, closes_both, closes_if, closes_none, number_in_text, number_in_value, past, plain_append, plain_decimal, plain_in_text, plain_in_value, reads-append}
+use Rattle.ahci_draw.proofs.MarkupLemmas.{Closes, closes_all, closes_both, closes_if, closes_none, number_in_text, number_in_value, past, plain_append, plain_decimal, plain_in_text, plain_in_value}
 
 abbrev pub Plain : List ℕ → Type 0
 Plain text = list_all is_plain text ≡ true

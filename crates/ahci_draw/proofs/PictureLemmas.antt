@@ -1,5 +1,5 @@
 -- An overview opens and closes its own elements alone, and so does a picture.
-use Rattle.std.proofs.Common.{◌≡◌, ℕ, ◌+◌, ◌-◌, ◌*◌, ◌/◌, ◌%◌, ◌==◌, true, List, [], ◌∷◌, ◌++◌, ap, ◌∙◌, refl, codes, length, get_or, nat_le, Option, None, Some, position}
+use Rattle.std.proofs.Common.{◌≡◌, ℕ, ◌+◌, ◌-◌, ◌*◌, ◌/◌, ◌%◌, ◌==◌, true, List, [], ◌∷◌, ◌++◌, ap, ◌∙◌, refl, codes, length, nat_le, Option, None, Some, position}
 use Rattle.std.specs.List.{list_all, range_with_len}
 use Rattle.ahci_draw.specs.Grid.{grid_text}
 use Rattle.ahci_draw.specs.Heading.{heading_shape, heading_text, height_of, width_of}
