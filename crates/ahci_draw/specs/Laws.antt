@@ -23,7 +23,7 @@ HaveCharactersAlone = (text : List ℕ) → IsClosed text → list_all is_charac
 abbrev pub HoldEachOnce : Type 0
 HoldEachOnce = (lines : List (List ℕ)) → flat_map (row_of lines) (range_with_len 0 (rows_in (length lines))) ≡ lines
 
--- an entry of an overview, of so many, stands at the place that its index has in proportion
+-- the entry of an index, of so many, is at place index * 1200 / count of an overview
 abbrev pub AreAtTheirPlaces : Type 0
 AreAtTheirPlaces = (count index : ℕ) → index < count
     → (edge count (index * 1200 / count) ≤ index) × (index < edge count (index * 1200 / count + 1))

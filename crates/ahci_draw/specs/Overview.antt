@@ -10,7 +10,7 @@ use Rattle.ahci_draw.specs.Row.{row_top, rows_in, rows_text}
 use Rattle.ahci_draw.specs.Signs.{label_at}
 use Rattle.ahci_draw.specs.Text.{numbered}
 
--- how far down it moves the rows of so many columns
+-- how far down the overview of so many columns moves the rows; a picture of a thousand and fewer has none
 abbrev pub overview_height : ℕ → ℕ
 overview_height columns = if nat_le columns 1000 then 0 else 88
 
@@ -31,7 +31,7 @@ mark_top sign = if sign == 88 then 24 else 40
 abbrev pub more_text : ℕ → List ℕ
 more_text more = if more == 0 then [] else numbered (codes " and ") more ++ codes " more"
 
--- a mark, and what a pointer shows there: the row of an entry, the entry in words, and how many more the mark has
+-- the beginning of a mark. A pointer shows its title: the row of an entry, the entry in words, and how many more the mark has
 unfoldable pub mark_head : List ℕ → (place top index : ℕ) → List ℕ
 mark_head colour place top index =
     codes "<path stroke-width='2' stroke='#" ++ (colour ++ (numbered (codes "' d='M") (place + 72) ++ (numbered (codes " ") top
@@ -80,6 +80,7 @@ counts_text signs lines =
 abbrev pub names_text : List ℕ
 names_text = codes "<text x='36' y='35'>failures</text><text x='36' y='51'>recoveries</text>"
 
+-- two lanes, as a row has them, with the marks
 unfoldable pub strip_text : List ℕ → List (List ℕ) → List ℕ
 strip_text signs lines = grid_text 2 100 ++ (tenths_text lines ++ (names_text ++ (marks_text 88 signs lines ++ marks_text 86 signs lines)))
 
@@ -98,6 +99,7 @@ row_name lanes row = numbered (codes "\n<text x='36' y='") (row_top lanes row + 
 unfoldable pub row_names : (lanes rows : ℕ) → List ℕ
 row_names lanes rows = flat_map (row_name lanes) (range_with_len 0 rows)
 
+-- an overview, and the rows
 unfoldable pub long_text : List ℕ → List (List ℕ) → List ℕ
 long_text tags lines =
     overview_text lines ++ (codes "\n<g transform='translate(0 88)'>" ++ (row_names (length tags) (rows_in (length lines)) ++ (rows_text tags lines ++ codes "\n</g>")))

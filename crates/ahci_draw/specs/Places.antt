@@ -1,7 +1,7 @@
--- The 1,200 places of an overview: the entry of an index stands at place index * 1200 / count, of so many entries in all (`AreAtTheirPlaces`).
+-- The 1,200 places of an overview: of so many entries, that of an index is at place index * 1200 / count (`AreAtTheirPlaces`).
 use Rattle.std.specs.Prelude.{ℕ, ◌+◌, ◌-◌, ◌*◌, ◌/◌, ◌==◌, List, count_by, drop, length, take, Option, position}
 
--- the first index that stands at a place or after it: place * count / 1200, rounded up
+-- the first index at a place or after it: place * count / 1200, rounded up
 abbrev pub edge : (count place : ℕ) → ℕ
 edge count place = (place * count + 1199) / 1200
 

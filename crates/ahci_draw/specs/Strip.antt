@@ -25,8 +25,7 @@ bar_shape lane colour start count =
     codes "<path stroke='#" ++ (colour ++ (numbered (codes "' d='M") (left_of start) ++ (numbered (codes " ") (16 * lane + 32)
     ++ (numbered (codes "h") (12 * count) ++ codes "'/>"))))
 
--- where the number of a device's tags stands below its bar: in every second column a number of two digits is a line lower, since it is
--- as wide as a column
+-- the foot of a count below its bar: in every second column a count of two digits is a line lower, since it is as wide as a column
 abbrev pub count_foot : (tags start : ℕ) → ℕ
 count_foot tags start = if nat_le 10 tags && (start % 2 == 1) then 49 else 40
 

@@ -22,7 +22,7 @@ pub fn rows_hold_each_entry_once()
     ensures { HoldEachOnce }
 {}
 
-/// An entry of an overview stands at place index * 1200 / count.
+/// The entry of an index is at place index * 1200 / count of an overview.
 pub fn entries_are_at_their_places()
     ensures { AreAtTheirPlaces }
 {}

@@ -3,7 +3,7 @@
 ghost use Rattle.std.specs.Prelude.{◌≡◌, ◌+◌, ◌<◌, ◌≤◌, IfSome, length};
 ghost use Rattle.ahci_draw.specs.Places.{count_of, edge, first_of, part_of};
 
-/// The first index, of so many, that stands at a place or after it.
+/// The first index, of so many, at a place or after it.
 pub(crate) fn edge(count: usize, place: usize) -> usize
     requires { place ≤ 1200 }
     ensures edge { result ≡ edge count place }

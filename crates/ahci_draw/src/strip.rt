@@ -83,7 +83,7 @@ fn push_bar<A: Allocator>(
     )
 }
 
-/// Where the number of a device's tags stands below its bar: in every second column a number of two digits is a line lower.
+/// The foot of a count below its bar: in every second column a count of two digits is a line lower.
 fn count_foot(tags: u8, start: usize) -> u128
     ensures { result ≡ count_foot tags start }
 {
