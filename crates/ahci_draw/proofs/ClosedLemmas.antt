@@ -1,28 +1,26 @@
 -- A picture of plain lines opens and closes its own elements alone.
-use Rattle.std.proofs.Common.{◌≡◌, ℕ, suc, zero, ◌+◌, ◌*◌, ◌%◌, ◌/◌, ◌-◌, ◌==◌, ◌≤◌, Bool, true, false, ◌||◌, List, [], ◌∷◌, ◌++◌, ap, sym, ◌∙◌, refl, arith, cond, codes, length, get_or, take, drop, filter, nat_le, Option, None, Some, position}
+use Rattle.std.proofs.Common.{◌≡◌, ℕ, suc, zero, ◌+◌, ◌*◌, ◌%◌, ◌/◌, ◌-◌, ◌==◌, ◌≤◌, Bool, true, false, ◌||◌, List, [], ◌∷◌, ◌++◌, sym, ◌∙◌, refl, arith, cond, codes, length, get_or, take, drop, filter, nat_le, Option, None, Some, position}
 use Rattle.std.specs.Fmt.{decimal}
 use Rattle.std.specs.List.{flat_map, list_all, onto_first, range_with_len, slice_split}
 use Rattle.std.proofs.lemmas.Bool.{and_from, and_parts, eqb-true}
 use Rattle.ahci_draw.specs.Grid.{across, down, grid_text}
-use Rattle.ahci_draw.specs.Heading.{heading_shape, heading_text, width_of}
-use Rattle.ahci_draw.specs.Lanes.{cells_in, device_text, lane_at, lane_text, lanes_text, name_shape, tags_in}
+use Rattle.ahci_draw.specs.Lanes.{cells_in, device_text, lane_at, lane_text, lanes_text, name_shape}
 use Rattle.ahci_draw.specs.Lines.{device_place, front_to, is_asked, label_of, lane_place, lines_from, sign_place, title_of}
-use Rattle.ahci_draw.specs.Markup.{IsClosed, Text, at, is_plain, is_sheet_byte, reads}
-use Rattle.ahci_draw.specs.Picture.{picture_of, picture_with}
+use Rattle.ahci_draw.specs.Markup.{Text, at, is_plain, is_sheet_byte}
 use Rattle.ahci_draw.specs.Row.{row_at, row_of, row_text, row_top, rows_in, rows_text}
 use Rattle.ahci_draw.specs.Signs.{column_head, column_sign, head_at, heads_text, label_at, label_shape, rule_at, rule_shape, sign_at, sign_shape, signs_text}
-use Rattle.ahci_draw.specs.Strip.{bar_shape, begins, colour_of, left_of, level_shape, middle_of, run_at, run_length, run_text, runs_text}
+use Rattle.ahci_draw.specs.Strip.{bar_shape, begins, colour_of, count_foot, left_of, level_shape, middle_of, run_at, run_length, run_text, runs_text}
 use Rattle.ahci_draw.specs.declared.strip.Strip.{Strip}
 use Rattle.ahci_draw.specs.declared.strip.Strip.TheVariants.{Lane, Device}
 use Rattle.ahci_draw.specs.Text.{letter, numbered}
-use Rattle.ahci_draw.proofs.MarkupLemmas.{Closes, closes_all, closes_both, closes_if, closes_none, number_in_text, number_in_value, past, plain_append, plain_decimal, plain_in_text, plain_in_value, reads-append}
+use Rattle.ahci_draw.proofs.MarkupLemmas.{Closes, closes_all, closes_both, closes_if, closes_none, number_in_text, number_in_value, past, plain_append, plain_decimal, plain_in_text, plain_in_value}
 
 abbrev pub Plain : List ℕ → Type 0
 Plain text = list_all is_plain text ≡ true
 
 -- ---- lists all of whose elements pass a test
 
-if_all : {X : Type 0} (p : X → Bool) (b : Bool) (xs ys : List X) → list_all p xs ≡ true → list_all p ys ≡ true → list_all p (cond b xs ys) ≡ true
+pub if_all : {X : Type 0} (p : X → Bool) (b : Bool) (xs ys : List X) → list_all p xs ≡ true → list_all p ys ≡ true → list_all p (cond b xs ys) ≡ true
 if_all p true xs ys h k = h
 if_all p false xs ys h k = k
 
@@ -31,7 +29,7 @@ all_take p zero xs h = refl
 all_take p (suc n) [] h = refl
 all_take p (suc n) (x ∷ xs) h = and_from _ _ (and_parts _ _ h).0 (all_take p n xs (and_parts _ _ h).1)
 
-all_drop : {X : Type 0} (p : X → Bool) (n : ℕ) (xs : List X) → list_all p xs ≡ true → list_all p (drop n xs) ≡ true
+pub all_drop : {X : Type 0} (p : X → Bool) (n : ℕ) (xs : List X) → list_all p xs ≡ true → list_all p (drop n xs) ≡ true
 all_drop p zero xs h = h
 all_drop p (suc n) [] h = refl
 all_drop p (suc n) (x ∷ xs) h = all_drop p n xs (and_parts _ _ h).1
@@ -40,7 +38,7 @@ all_filter : {X : Type 0} (p q : X → Bool) (xs : List X) → list_all p xs ≡
 all_filter p q [] h = refl
 all_filter p q (x ∷ xs) h = if_all p (q x) (x ∷ filter q xs) (filter q xs) (and_from _ _ (and_parts _ _ h).0 (all_filter p q xs (and_parts _ _ h).1)) (all_filter p q xs (and_parts _ _ h).1)
 
-all_at : {X : Type 0} (p : X → Bool) (d : X) → p d ≡ true → (xs : List X) (i : ℕ) → list_all p xs ≡ true → p (get_or xs i d) ≡ true
+pub all_at : {X : Type 0} (p : X → Bool) (d : X) → p d ≡ true → (xs : List X) (i : ℕ) → list_all p xs ≡ true → p (get_or xs i d) ≡ true
 all_at p d other [] i h = other
 all_at p d other (x ∷ xs) zero h = (and_parts _ _ h).0
 all_at p d other (x ∷ xs) (suc i) h = all_at p d other xs i (and_parts _ _ h).1
@@ -52,7 +50,7 @@ plain_before (x ∷ xs) zero j h low other = (and_parts _ _ h).0
 plain_before (x ∷ xs) (suc i) zero h low other = absurd (omega (arith, low))
 plain_before (x ∷ xs) (suc i) (suc j) h low other = plain_before xs i j (and_parts _ _ h).1 (omega (arith, low)) other
 
-closes_when : (b : Bool) (a : List ℕ) → (b ≡ true → Closes a) → Closes (cond b a [])
+pub closes_when : (b : Bool) (a : List ℕ) → (b ≡ true → Closes a) → Closes (cond b a [])
 closes_when true a p = p refl
 closes_when false a p = closes_none
 
@@ -80,7 +78,7 @@ unfolding level_shape numbered
 closes_level lanes tags start count = record {
   whole = λ opened.
       number_in_value (left_of start) _ _ _ ∙ number_in_value (19 * lanes + 30) _ _ _ ∙ number_in_value (3 * tags) _ _ _ ∙ number_in_value (12 * count) _ _ _
-      ∙ number_in_value (3 * tags) _ _ _ ∙ number_in_value (middle_of start) _ _ _ ∙ number_in_value (19 * lanes + 40) _ _ _ ∙ number_in_text tags _ _;
+      ∙ number_in_value (3 * tags) _ _ _ ∙ number_in_value (middle_of start) _ _ _ ∙ number_in_value (19 * lanes + count_foot tags start) _ _ _ ∙ number_in_text tags _ _;
 }
 
 closes_run : (strip : Strip) (cell start count : ℕ) → Closes (run_text strip cell start count)
@@ -118,7 +116,7 @@ closes_signs lane foot lines some plain =
     closes_all (column_sign lane foot lines) (range_with_len 0 (length lines))
     (λ column. closes_sign_at lane foot column (get_or lines column []) some (all_at (list_all is_plain) [] refl lines column plain))
 
-closes_label : (column : ℕ) (label : List ℕ) → Plain label → Closes (label_shape column label)
+pub closes_label : (column : ℕ) (label : List ℕ) → Plain label → Closes (label_shape column label)
 unfolding label_shape numbered
 closes_label column label plain = record {
   whole = λ opened.
@@ -126,7 +124,7 @@ closes_label column label plain = record {
       ∙ plain_in_text label (codes "</text>") (codes "txet" ∷ opened) plain;
 }
 
-plain_front : (title : List ℕ) (end : Option ℕ) → Plain title → Plain (front_to title end)
+pub plain_front : (title : List ℕ) (end : Option ℕ) → Plain title → Plain (front_to title end)
 plain_front title None plain = plain
 plain_front title (Some end) plain = all_take is_plain end title plain
 
@@ -207,7 +205,7 @@ plain_down lanes ten =
     plain_append (numbered (codes "M") (120 * ten + 72)) (numbered (codes " 24v") (16 * lanes)) (plain_numbered (codes "M") (120 * ten + 72) refl)
     (plain_numbered (codes " 24v") (16 * lanes) refl)
 
-closes_grid : (lanes columns : ℕ) → Closes (grid_text lanes columns)
+pub closes_grid : (lanes columns : ℕ) → Closes (grid_text lanes columns)
 unfolding grid_text
 closes_grid lanes columns = record {
   whole = λ opened.
@@ -217,7 +215,7 @@ closes_grid lanes columns = record {
       (all_flat_map (down lanes) (range_with_len 0 (columns / 10 + 1)) (plain_down lanes));
 }
 
--- ---- the picture
+-- ---- rows
 
 closes_row : (tags : List ℕ) (lines : List (List ℕ)) (row : ℕ) → list_all (list_all is_plain) lines ≡ true → Closes (row_text tags lines row)
 unfolding row_text numbered
@@ -236,28 +234,11 @@ closes_row tags lines row plain =
           ∙ past (device_text (length tags) lines) (codes "</g>") (at Text (codes "g" ∷ opened)) (d.whole (codes "g" ∷ opened));
     }
 
-closes_rows : (tags : List ℕ) (lines : List (List ℕ)) → list_all (list_all is_plain) lines ≡ true → Closes (rows_text tags lines)
+pub closes_rows : (tags : List ℕ) (lines : List (List ℕ)) → list_all (list_all is_plain) lines ≡ true → Closes (rows_text tags lines)
 unfolding rows_text
 closes_rows tags lines plain =
     closes_all (row_at tags lines) (range_with_len 0 (rows_in (length lines)))
     (λ row. closes_row tags (row_of lines row) row (all_take (list_all is_plain) 100 (drop (100 * row) lines) (all_drop (list_all is_plain) (100 * row) lines plain)))
-
-opens_heading : (columns lanes : ℕ) → reads (heading_text columns lanes) (at Text []) ≡ at Text (codes "gvs" ∷ [])
-unfolding heading_shape numbered
-opens_heading columns lanes =
-    let height = row_top lanes (rows_in columns) in
-    number_in_value (width_of columns) _ (codes "gvs") [] ∙ number_in_value height _ (codes "gvs") [] ∙ number_in_value (width_of columns) _ (codes "gvs") []
-    ∙ number_in_value height _ (codes "gvs") [] ∙ number_in_text columns _ (codes "txet" ∷ codes "g" ∷ codes "gvs" ∷ []) ∙ number_in_text lanes _ (codes "txet" ∷ codes "g" ∷ codes "gvs" ∷ [])
-
-pub closed_picture : (lines : List (List ℕ)) → list_all (list_all is_plain) lines ≡ true → IsClosed (picture_of lines ++ 10 ∷ [])
-unfolding picture_with
-closed_picture lines plain =
-    let rows = closes_rows (tags_in lines) lines plain in
-    reads-append (picture_of lines) (10 ∷ []) (at Text [])
-    ∙ ap (reads (10 ∷ []))
-    (reads-append (heading_text (length lines) (length (tags_in lines))) (rows_text (tags_in lines) lines ++ codes "\n</svg>") (at Text [])
-    ∙ ap (reads (rows_text (tags_in lines) lines ++ codes "\n</svg>")) (opens_heading (length lines) (length (tags_in lines)))
-    ∙ past (rows_text (tags_in lines) lines) (codes "\n</svg>") (at Text (codes "gvs" ∷ [])) (rows.whole (codes "gvs" ∷ [])))
 
 -- ---- the lines of a sheet
 

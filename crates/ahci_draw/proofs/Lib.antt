@@ -1,7 +1,9 @@
 pub mod PieceLemmas
 pub mod LinesLemmas
+pub mod PlaceLemmas
 pub mod MarkupLemmas
 pub mod ClosedLemmas
+pub mod PictureLemmas
 pub mod CharacterLemmas
 pub mod PlainLemmas
 pub mod SheetLemmas

@@ -26,6 +26,11 @@ pub four : {X : Type 0} (old t1 t2 t3 new a a' b b' c c' d d' : List X) → t1 �
 four old t1 t2 t3 new a a' b b' c c' d d' p1 p2 p3 p4 q1 q2 q3 q4 =
     two old t1 new a a' (b' ++ (c' ++ d')) (b' ++ (c' ++ d')) p1 (three t1 t2 t3 new b b' c c' d d' p2 p3 p4 q2 q3 q4) q1 refl
 
+pub five : {X : Type 0} (old t1 t2 t3 t4 new a a' b b' c c' d d' e e' : List X) → t1 ≡ old ++ a → t2 ≡ t1 ++ b → t3 ≡ t2 ++ c → t4 ≡ t3 ++ d → new ≡ t4 ++ e
+    → a ≡ a' → b ≡ b' → c ≡ c' → d ≡ d' → e ≡ e' → new ≡ old ++ (a' ++ (b' ++ (c' ++ (d' ++ e'))))
+five old t1 t2 t3 t4 new a a' b b' c c' d d' e e' p1 p2 p3 p4 p5 q1 q2 q3 q4 q5 =
+    four old t1 t2 t3 new a a' b b' c c' (d' ++ e') (d' ++ e') p1 p2 p3 (two t3 t4 new d d' e e' p4 p5 q4 q5) q1 q2 q3 refl
+
 pub seven : {X : Type 0} (old t1 t2 t3 t4 t5 t6 new a a' b b' c c' d d' e e' f f' g g' : List X) → t1 ≡ old ++ a → t2 ≡ t1 ++ b → t3 ≡ t2 ++ c → t4 ≡ t3 ++ d → t5 ≡ t4 ++ e → t6 ≡ t5 ++ f → new ≡ t6 ++ g
     → a ≡ a' → b ≡ b' → c ≡ c' → d ≡ d' → e ≡ e' → f ≡ f' → g ≡ g' → new ≡ old ++ (a' ++ (b' ++ (c' ++ (d' ++ (e' ++ (f' ++ g'))))))
 seven old t1 t2 t3 t4 t5 t6 new a a' b b' c c' d d' e e' f f' g g' p1 p2 p3 p4 p5 p6 p7 q1 q2 q3 q4 q5 q6 q7 =

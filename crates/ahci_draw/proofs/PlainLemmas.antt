@@ -30,7 +30,8 @@ use Rattle.ahci_draw.specs.Text.{letter, numbered}
 use Rattle.ahci_draw.specs.Words.{entry_words, failure_words, issue_words, title_text}
 use Rattle.ahci_draw.specs.declared.tag_state.TagState.{TagState}
 use Rattle.ahci_draw.proofs.MarkupLemmas.{plain_append, plain_decimal, plain_hex}
-use Rattle.ahci_draw.proofs.ClosedLemmas.{Plain, closed_picture, plain_lines, plain_numbered}
+use Rattle.ahci_draw.proofs.ClosedLemmas.{Plain, plain_lines, plain_numbered}
+use Rattle.ahci_draw.proofs.PictureLemmas.{closed_picture}
 
 -- ---- words
 

@@ -1,6 +1,7 @@
 -- What stands before the rows of a picture. It has no style sheet: each colour stands where it is used, so that nothing of a
 -- picture reaches the rest of a page.
 use Rattle.std.specs.Prelude.{ℕ, ◌+◌, ◌*◌, List, ◌++◌, codes, max, min}
+use Rattle.ahci_draw.specs.Overview.{overview_height}
 use Rattle.ahci_draw.specs.Row.{row_top, rows_in}
 use Rattle.ahci_draw.specs.Text.{numbered}
 
@@ -30,5 +31,9 @@ heading_shape width height columns lanes =
     ++ (numbered (codes "' viewBox='0 0 ") width ++ (numbered (codes " ") height ++ (key_text
     ++ (numbered (codes "<text x='8' y='18' font-size='13'>entries: ") columns ++ (numbered (codes ", tags: ") lanes ++ codes "</text></g>"))))))
 
+-- how high it is: its heading, its overview and its rows
+abbrev pub height_of : (columns lanes : ℕ) → ℕ
+height_of columns lanes = row_top lanes (rows_in columns) + overview_height columns
+
 abbrev pub heading_text : (columns lanes : ℕ) → List ℕ
-heading_text columns lanes = heading_shape (width_of columns) (row_top lanes (rows_in columns)) columns lanes
+heading_text columns lanes = heading_shape (width_of columns) (height_of columns lanes) columns lanes

@@ -12,6 +12,8 @@ pub mod Signs
 pub mod Lanes
 pub mod Grid
 pub mod Row
+pub mod Places
+pub mod Overview
 pub mod Heading
 pub mod Picture
 pub mod Markup

@@ -1,5 +1,5 @@
 -- Strips of a row. Columns are 12 units wide, and lanes 16 high.
-use Rattle.std.specs.Prelude.{ℕ, ◌+◌, ◌-◌, ◌*◌, ◌==◌, nat_le, if◌then◌else◌, not, Bool, true, List, [], ◌++◌, codes, drop, flat_map, length, slice_index}
+use Rattle.std.specs.Prelude.{ℕ, ◌+◌, ◌-◌, ◌*◌, ◌%◌, ◌==◌, ◌&&◌, nat_le, if◌then◌else◌, not, Bool, true, List, [], ◌++◌, codes, drop, flat_map, length, slice_index}
 use Rattle.std.specs.List.{range_with_len, take_while}
 use Rattle.ahci_draw.specs.Text.{numbered}
 use Rattle.ahci_draw.specs.declared.strip.Strip.{Strip}
@@ -25,12 +25,16 @@ bar_shape lane colour start count =
     codes "<path stroke='#" ++ (colour ++ (numbered (codes "' d='M") (left_of start) ++ (numbered (codes " ") (16 * lane + 32)
     ++ (numbered (codes "h") (12 * count) ++ codes "'/>"))))
 
+-- the foot of a count below its bar: in every second column a count of two digits is a line lower, since it is as wide as a column
+abbrev pub count_foot : (tags start : ℕ) → ℕ
+count_foot tags start = if nat_le 10 tags && (start % 2 == 1) then 49 else 40
+
 -- a bar as high as so many tags of the device, three units for each, below so many lanes, and their number
 unfoldable pub level_shape : ℕ → ℕ → ℕ → ℕ → List ℕ
 level_shape lanes tags start count =
     numbered (codes "<path d='M") (left_of start) ++ (numbered (codes " ") (19 * lanes + 30) ++ (numbered (codes "v-") (3 * tags)
     ++ (numbered (codes "h") (12 * count) ++ (numbered (codes "v") (3 * tags) ++ (numbered (codes "z'/><text x='") (middle_of start)
-    ++ (numbered (codes "' y='") (19 * lanes + 40) ++ (numbered (codes "'>") tags ++ codes "</text>")))))))
+    ++ (numbered (codes "' y='") (19 * lanes + count_foot tags start) ++ (numbered (codes "'>") tags ++ codes "</text>")))))))
 
 -- what is drawn of a run of a letter, which has so many columns from one on: nothing of a free tag, and of a device with none
 abbrev pub run_text : Strip → ℕ → ℕ → ℕ → List ℕ

@@ -1,9 +1,9 @@
 //! The picture's frame, its key and its heading.
 
 ghost use Rattle.std.specs.Prelude.{◌≡◌, ◌++◌, ◌≤◌, OnOk};
-ghost use Rattle.ahci_draw.specs.Heading.{heading_text, width_of};
-ghost use Rattle.ahci_draw.specs.Row.{row_top, rows_in};
+ghost use Rattle.ahci_draw.specs.Heading.{heading_text, height_of, width_of};
 
+use crate::overview::overview_height;
 use crate::row::{row_top, rows_in};
 use crate::text::{Piece, push_pieces};
 use std::alloc::{AllocError, Allocator};
@@ -31,6 +31,14 @@ fn width_of(columns: usize) -> u128
     (12 * (columns.min(100) as u128) + 80).max(640)
 }
 
+/// How high the picture of so many columns and lanes is.
+fn height_of(columns: usize, lanes: usize) -> u128
+    requires { lanes ≤ 32 }
+    ensures { result ≡ height_of columns lanes }
+{
+    row_top(lanes, rows_in(columns)) + overview_height(columns)
+}
+
 /// Appends what stands before the rows, where there are so many columns and lanes.
 pub(crate) fn push_heading<A: Allocator>(
     text: &mut TextBuffer<A>,
@@ -41,7 +49,7 @@ pub(crate) fn push_heading<A: Allocator>(
     ensures { OnOk result (text.new.bytes ≡ text.old.bytes ++ heading_text columns lanes) }
 {
     let width = width_of(columns);
-    let height = row_top(lanes, rows_in(columns));
+    let height = height_of(columns, lanes);
     push_pieces(
         text,
         &[

@@ -52,7 +52,11 @@ fn bytes_at<A: Allocator>(alloc: A, lines: &[&[u8]], place: usize) -> Result<Vec
 }
 
 /// The letter that each column has at a place.
-fn cells_in<A: Allocator>(alloc: A, lines: &[&[u8]], place: usize) -> Result<Vec<u8, A>, AllocError>
+pub(crate) fn cells_in<A: Allocator>(
+    alloc: A,
+    lines: &[&[u8]],
+    place: usize,
+) -> Result<Vec<u8, A>, AllocError>
     ensures { IfOk result (λ cells. cells.items ≡ cells_in (texts lines.now) place) }
 {
     bytes_at(alloc, lines, place)

@@ -6,7 +6,7 @@ ghost use Rattle.ahci_draw.specs.Picture.{picture_of, picture_text, picture_with
 
 use crate::heading::push_heading;
 use crate::lanes::tags_in;
-use crate::row::push_rows;
+use crate::overview::push_body;
 use crate::sheet::lines_from;
 use std::alloc::{AllocError, Allocator};
 use streams::TextBuffer;
@@ -22,7 +22,7 @@ fn picture_with<A: Allocator + Copy>(
 {
     let mut text = TextBuffer::new(alloc);
     push_heading(&mut text, lines.len(), tags.len())?;
-    push_rows(&mut text, tags, lines)?;
+    push_body(&mut text, tags, lines)?;
     text.push(b"\n</svg>")?;
     Ok(text.into_bytes())
 }

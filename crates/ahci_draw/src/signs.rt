@@ -93,7 +93,7 @@ fn push_rule_at<A: Allocator>(
 
 /// Appends the entry's number above each tenth column.
 #[tactic(auto, unfolding(crate::specs::Signs::label_shape))]
-fn push_label_at<A: Allocator>(
+pub(crate) fn push_label_at<A: Allocator>(
     text: &mut TextBuffer<A>,
     column: usize,
     line: &[u8],

@@ -3,7 +3,7 @@
 
 ghost use Rattle.std.specs.Prelude.{◌≡◌, ◌++◌, ◌<◌, ◌==◌, OnOk, length};
 ghost use Rattle.std.specs.List.{take_while};
-ghost use Rattle.ahci_draw.specs.Strip.{bar_shape, begins, colour_of, level_shape, run_at, run_length, run_text, runs_text};
+ghost use Rattle.ahci_draw.specs.Strip.{bar_shape, begins, colour_of, count_foot, level_shape, run_at, run_length, run_text, runs_text};
 
 use crate::text::{Piece, push_pieces};
 use std::alloc::{AllocError, Allocator};
@@ -83,6 +83,13 @@ fn push_bar<A: Allocator>(
     )
 }
 
+/// The foot of a count below its bar: in every second column a count of two digits is a line lower.
+fn count_foot(tags: u8, start: usize) -> u128
+    ensures { result ≡ count_foot tags start }
+{
+    if tags >= 10 && start % 2 == 1 { 49 } else { 40 }
+}
+
 /// Appends a bar as high as so many tags of the device, and their number below its first column.
 #[tactic(auto, unfolding(crate::specs::Strip::level_shape))]
 fn push_level<A: Allocator>(
@@ -103,7 +110,7 @@ fn push_level<A: Allocator>(
             Piece::Numbered(b"h", 12 * (count as u128)),
             Piece::Numbered(b"v", 3 * (tags as u128)),
             Piece::Numbered(b"z'/><text x='", 12 * (start as u128) + 78),
-            Piece::Numbered(b"' y='", 19 * (lanes as u128) + 40),
+            Piece::Numbered(b"' y='", 19 * (lanes as u128) + count_foot(tags, start)),
             Piece::Numbered(b"'>", tags as u128),
             Piece::Word(b"</text>"),
         ],

@@ -1,4 +1,4 @@
-//! Pictures of more than one row, of every lane, and of entries by their numbers.
+//! Pictures of more than one row, of every lane, of entries by their numbers, and with an overview.
 use ahci_draw::draw;
 use std::alloc::Global;
 use std::test::Fail;
@@ -64,6 +64,51 @@ fn entries_are_drawn_by_their_numbers(rt: HostRuntime) -> Result<(), Fail> {
     let alloc = rt.alloc();
     for (numbers, text) in ASKED {
         assert!(rt; has(alloc, NUMBERED, numbers, text), "{numbers:?}");
+    }
+    Ok(())
+}
+
+/// A script of 1,001 entries, of which entry 998 is the only failure and entry 999 the only recovery.
+fn failing_late(alloc: Global) -> Result<Vec<u8>, Fail> {
+    let mut script = rounds(alloc, 249)?;
+    script.extend_from_slice(b"write 0 0 1 11\naccept 0\nfail 0 40 0\nrecover\ncollect 0 996\n")?;
+    Ok(script)
+}
+
+/// The entries that are drawn, and a part of their picture. The places of 998 and 999 are 998 * 1200 / 1001 = 1196 and 999 * 1200 / 1001
+/// = 1197; a strip begins 72 units from the left. A thousand entries have no overview: the first row follows the heading.
+static OVERVIEWS: [((u64, u64), &str); 5] = [
+    (
+        (0, u64::MAX),
+        "entries: 1001, rows: 11, failures: 1, recoveries: 1, first failure: 998</text>\n",
+    ),
+    (
+        (0, u64::MAX),
+        "recoveries</text><path stroke-width='2' stroke='#e55' d='M1268 24v16'>\
+         <title>row 10, 998: error 40h, tag 0, LBA 0</title></path>\
+         <path stroke-width='2' stroke='#96d' d='M1269 40v16'>\
+         <title>row 10, 999: recover, tag 0</title></path></g>",
+    ),
+    (
+        (0, u64::MAX),
+        "'>row 11</text>\n<g transform='translate(0 96)'>",
+    ),
+    (
+        (1, u64::MAX),
+        "entries: 1000, tags: 1</text></g>\n<g transform='translate(0 96)'>",
+    ),
+    (
+        (0, 999),
+        "entries: 1000, tags: 1</text></g>\n<g transform='translate(0 96)'>",
+    ),
+];
+
+#[test]
+fn more_than_a_thousand_entries_have_an_overview(rt: HostRuntime) -> Result<(), Fail> {
+    let alloc = rt.alloc();
+    let script = failing_late(alloc)?;
+    for (numbers, text) in OVERVIEWS {
+        assert!(rt; has(alloc, &script, numbers, text), "{numbers:?}: {text}");
     }
     Ok(())
 }

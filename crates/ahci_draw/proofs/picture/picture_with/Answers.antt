@@ -9,6 +9,6 @@ use Rattle.ahci_draw.proofs.picture.picture_with.Goals as goal
 pub returns : goal.returns
 unfolding picture_with
 returns g c =
-    c.into_bytes.ensures ∙ three _ _ _ _ _ _ _ _ _ _ c.in_ok-push_heading.ensures c.in_ok-push_rows.ensures c.in_ok-push.ensures.ok
+    c.into_bytes.ensures ∙ three _ _ _ _ _ _ _ _ _ _ c.in_ok-push_heading.ensures c.in_ok-push_body.ensures c.in_ok-push.ensures.ok
     (ap (λ n. heading_text n (length c.args.tags.now)) (sym (texts_count c.args.lines.now))) refl refl
     ∙ ap (λ t. t ++ picture_with c.args.tags.now (texts c.args.lines.now)) c.new-text.ensures
