@@ -6,3 +6,6 @@ pub mod SettlingLemmas
 pub mod RunningLemmas
 pub mod FinishingLemmas
 pub mod TrimmingLemmas
+pub mod SharingLemmas
+pub mod LeavingLemmas
+pub mod GatheringLemmas

@@ -1,10 +1,14 @@
 pub mod Choosing
+pub mod Crew
 pub mod Crowding
 pub mod Finishing
+pub mod Gathering
+pub mod Leaving
 pub mod Pumping
 pub mod Received
 pub mod Running
 pub mod Settled
+pub mod Sharing
 pub mod Stopping
 pub mod Submitting
 pub mod Tickets

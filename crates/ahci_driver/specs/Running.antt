@@ -5,6 +5,7 @@ use Rattle.std.specs.Option.{option_map}
 use Rattle.ncq_journal.specs.Lawful.{IsProper}
 use Rattle.ncq_journal.specs.Work.{Work}
 use Rattle.ahci_port.specs.PortView.{PortView}
+use Rattle.ahci_driver.specs.Leaving.{IsLeft}
 use Rattle.ahci_driver.specs.Received.{Received}
 use Rattle.ahci_driver.specs.Settled.{IsSettled, IsUnsettled}
 use Rattle.ahci_driver.specs.declared.run_fault.RunFault.{RunFault}
@@ -29,17 +30,22 @@ abbrev pub MayRun : PortView → List Work → Type 0
 MayRun port jobs = (port.past ≡ []) × IsFirstBad jobs None
 
 -- the run of these jobs by so many workers, from a port to a port: both have the same starting image, as many slots and the
--- same first number, and the run is settled
+-- same first number; what was added to the journal are the workers' entries, and every slot is free again; and the run is settled
 pub record HasRun (old new : PortView) (jobs : List Work) (receipts : List Received) (workers : ℕ) : Type 0 where
   pub fresh : MayRun old jobs
   pub starting_same : new.starting ≡ old.starting
   pub depth_same : new.depth ≡ old.depth
   pub first_same : new.first ≡ old.first
+  pub left : IsLeft new
   pub settled : IsSettled new jobs receipts workers
 
 -- a port has the starting image, the depth and the first number of the one that was handed in
 abbrev pub IsStill : {A : _} → PortView → Handed A → Type 0
 IsStill port handed = (port.starting ≡ handed.starting.items) × (port.depth ≡ handed.depth) × (port.first ≡ handed.first)
+
+-- that port, as workers leave it
+abbrev pub IsReturned : {A : _} → PortView → Handed A → Type 0
+IsReturned port handed = IsStill port handed × IsLeft port
 
 -- a fault of a run that has begun; want of memory is told as itself
 abbrev pub IsLate : RunFault → Type 0
@@ -73,12 +79,13 @@ abbrev pub unsettled : SettleFault → RunFault
 unsettled settle.OutOfMemory = OutOfMemory
 unsettled fault = Unsettled fault
 
--- why a run is given up whose workers have brought these receipts: the port is another one, or what `settle` says of them
+-- why a run is given up whose workers have brought these receipts: the port is another one, or not as they leave it, or what
+-- `settle` says of the receipts
 abbrev pub IsRefused : {A : _} → PortView → Handed A → List Work → List Received → ℕ → RunFault → Type 0
-IsRefused port handed jobs receipts workers Foreign = ¬ (IsStill port handed)
-IsRefused port handed jobs receipts workers OutOfMemory = IsStill port handed × IsUnsettled port jobs receipts workers settle.OutOfMemory
+IsRefused port handed jobs receipts workers Foreign = ¬ (IsReturned port handed)
+IsRefused port handed jobs receipts workers OutOfMemory = IsReturned port handed × IsUnsettled port jobs receipts workers settle.OutOfMemory
 IsRefused port handed jobs receipts workers (Unsettled settle.OutOfMemory) = ⊥
-IsRefused port handed jobs receipts workers (Unsettled fault) = IsStill port handed × IsUnsettled port jobs receipts workers fault
+IsRefused port handed jobs receipts workers (Unsettled fault) = IsReturned port handed × IsUnsettled port jobs receipts workers fault
 IsRefused port handed jobs receipts workers fault = ⊥
 
 -- a fault that names a job names one of so many

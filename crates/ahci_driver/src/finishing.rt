@@ -26,13 +26,14 @@ pub(crate) fn finish_locked<A: Allocator, C: Chooser>(
     chooser: &mut C,
     mut ticket: Ticket<A>,
 ) -> Result<Answered<A>, (Ticket<A>, Unfinished)>
-    ensures ok { IfOk result (λ a. HasFinished ticket.tag ticket.number port.old port.new a.reply.entry a.reply.outcome (bytes_in a.reply.outcome a.window)) }
+    ensures ok { IfOk result (λ a. HasFinished C.gives chooser.old chooser.new ticket.tag ticket.number port.old port.new
+        a.reply.entry a.reply.outcome (bytes_in a.reply.outcome a.window)) }
     ensures number { IfOk result (λ a. a.reply.number ≡ ticket.number) }
     ensures fit { IfOk result (λ a. IsFit a.window) }
     ensures length { IfOk result (λ a. has_length a.reply.outcome a.window (length a.buffer.items)) }
     ensures buffer { IfOk result (λ a. a.buffer.items ≡ ticket.buffer) }
     ensures same { IfErr result (λ e. e.0 ≡ ticket) }
-    ensures err { OnErr result (HasGotOn port.old port.new) }
+    ensures err { OnErr result (HasGotOn C.gives chooser.old chooser.new port.old port.new) }
 {
     for _ in 0..MOST_PUMPS {
         match take_locked(port, ticket) {

@@ -9,6 +9,8 @@ mod driver;
 mod fault;
 mod finishing;
 mod gate;
+mod gathering;
+mod leaving;
 mod pumped;
 mod pumping;
 mod ready;

@@ -15,7 +15,8 @@ pub enum RunFault {
     OutOfMemory,
     /// The least job that the port refused in a way that the driver's own protocol excludes.
     Lost(usize),
-    /// The port at the end doesn't have the starting image, the depth and the first number of the one handed in.
+    /// The port at the end doesn't have the starting image, the depth and the first number of the one handed in, or its journal has
+    /// an entry that no worker adds, or a slot that isn't free.
     Foreign,
     /// The run isn't settled.
     Unsettled(SettleFault),

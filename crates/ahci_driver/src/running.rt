@@ -1,13 +1,16 @@
 //! A whole run: its workers, their ends, and the check of what they bring back.
 
-ghost use Rattle.std.specs.Prelude.{◌≡◌, ◌≢◌, ◌↔◌, ◌⊎◌, ◌≤◌, map, length, vec_len, Err, IfOk, IfErr, IfSome, IsTrue, List, MatchOption, None, OnOk, Some};
+ghost use Rattle.std.specs.Prelude.{◌≡◌, ◌≢◌, ◌↔◌, ◌⊎◌, ◌<◌, ◌≤◌, ℕ, map, length, vec_len, Err, IfOk, IfErr, IfSome, IsSome, IsTrue, MatchOption, None, OnOk, Some};
+ghost use Rattle.std.specs.List.{list_any};
 ghost use Rattle.ncq_journal.specs.Work.{work_of};
-ghost use Rattle.ahci_driver.specs.Received.{Received, received_of};
-ghost use Rattle.std.specs.List.{All, list_any};
 ghost use Rattle.ahci_driver.specs.{
-  Stopping.{AreAmong},
+  Crew.{AreCrew},
+  Gathering.{HaveEnded, OfAllDone, receipts_in},
+  Received.{received_of},
+  Running.{HasRun, IsFirstBad, IsGivenUp, IsLate, IsRefused, IsReturned, IsStill, MayRun, NamesJob, is_lacking, least_lost, lost_by, unsettled, why_stopped},
   Settled.{IsSettled},
-  Running.{HasRun, IsFirstBad, IsGivenUp, IsLate, IsRefused, IsStill, MayRun, NamesJob, is_lacking, least_lost, lost_by, unsettled, why_stopped},
+  Sharing.{in_turn, of_job},
+  Stopping.{AreAmong},
 };
 
 use crate::chooser::Chooser;
@@ -15,6 +18,8 @@ use crate::crowd::Crowd;
 use crate::driver::Driver;
 use crate::fault::SettleFault;
 use crate::gate::Gate;
+use crate::gathering::{End, Ends, in_order};
+use crate::leaving::is_left;
 use crate::receipt::Receipt;
 use crate::run_fault::RunFault;
 use crate::settling::settle;
@@ -26,7 +31,6 @@ use std::sync::Wait;
 use std::sync::atomic::AtomicBool;
 use std::thread;
 use std::thread::Threads;
-use std::vec::IntoIter;
 use tag_board::{TagBoard, TagSeat};
 
 /// A run that is settled: the port as the workers left it, and the receipt of each job, in the order of the jobs.
@@ -75,7 +79,7 @@ fn crew<'a, A: Allocator + Clone, C: Chooser + Drop, G: Gate>(
 ) -> Result<Vec<Worker<'a, A, C, G>, A>, AllocError>
     requires seat { seat.board ≡ driver.now }
     requires some { 1 ≤ vec_len choosers }
-    ensures { IfOk result (λ crew. All (λ worker. worker.jobs.now ≡ jobs.now) crew.items) }
+    ensures { IfOk result (λ crew. AreCrew driver.now jobs.now gate.now choosers.items crew.items) }
 {
     let workers = choosers.len();
     let mut crew = Vec::new(alloc.clone()?);
@@ -96,12 +100,6 @@ fn crew<'a, A: Allocator + Clone, C: Chooser + Drop, G: Gate>(
     }
     Ok(crew)
 }
-
-/// The end of a worker.
-type End<A> = Result<Vec<Receipt<A>, A>, Stop>;
-
-/// The ends of the workers, in their order.
-type Ends<A> = Vec<End<A>, A>;
 
 /// Whether a worker has stopped for want of memory.
 fn is_lacking<A: Allocator>(end: &End<A>) -> bool
@@ -148,32 +146,6 @@ fn why_stopped<A: Allocator>(ends: &[End<A>]) -> Option<RunFault>
     }
 }
 
-/// The receipts of all jobs in the order of the jobs, of which job i is that of worker i mod `workers`.
-fn in_order<A: Allocator + Clone>(
-    alloc: A,
-    ends: Ends<A>,
-    jobs: usize,
-    workers: usize,
-) -> Result<Vec<Receipt<A>, A>, AllocError>
-    requires { 1 ≤ workers }
-{
-    let mut piles = Vec::new(alloc.clone()?);
-    for end in ends {
-        if let Ok(receipts) = end {
-            piles.push(receipts.into_iter())?;
-        }
-    }
-    let mut replies = Vec::with_capacity(alloc, jobs)?;
-    for job in 0..jobs {
-        if let Some(pile) = piles.get_mut(job % workers) {
-            if let Some(receipt) = pile.next() {
-                replies.push(receipt)?;
-            }
-        }
-    }
-    Ok(replies)
-}
-
 /// Puts the port behind a driver, lets the workers do the jobs, and takes it out again.
 fn worked<R, G, C, A>(
     rt: &R,
@@ -190,6 +162,8 @@ where
     A: Allocator + Clone + Send + Sync,
     requires { 1 ≤ vec_len choosers }
     ensures among { IfOk result (λ done. AreAmong (length (map work_of jobs.now)) done.1.items) }
+    ensures each { IfOk result (λ done. HaveEnded (length jobs.now) (vec_len choosers) done.1.items) }
+    ensures passed { IfOk result (λ done. OfAllDone (length jobs.now) (vec_len choosers) (λ job. G.began gate.now job × G.ended gate.now job) done.1.items) }
     ensures fault { IfErr result (λ fault. fault ≡ RunFault.OutOfMemory) }
 {
     port.shape();
@@ -242,12 +216,13 @@ fn checked<A: Allocator + Clone>(
     workers: u32,
 ) -> Result<RunEnd<A>, RunFault>
     requires { 1 ≤ workers }
-    ensures still { IfOk result (λ end. IsStill end.port handed.now) }
+    ensures still { IfOk result (λ end. IsReturned end.port handed.now) }
+    ensures replies { IfOk result (λ end. end.replies ≡ replies) }
     ensures settled { IfOk result (λ end. IsSettled end.port (map work_of jobs.now) (map received_of end.replies.items) workers) }
-    ensures foreign { ¬ (IsStill port handed.now) → result ≡ Err RunFault.Foreign }
+    ensures foreign { ¬ (IsReturned port handed.now) → result ≡ Err RunFault.Foreign }
     ensures why { IfErr result (IsRefused port handed.now (map work_of jobs.now) (map received_of replies.items) workers) }
 {
-    if !is_still(&port, handed) {
+    if !is_returned(&port, handed) {
         return Err(RunFault::Foreign);
     }
     let settled = settle(alloc, &port, jobs, &replies, workers);
@@ -265,13 +240,17 @@ fn ended<A: Allocator + Clone>(
 ) -> Result<RunEnd<A>, RunFault>
     requires some { 1 ≤ workers }
     requires among { AreAmong (length (map work_of jobs.now)) ends.items }
-    ensures still { IfOk result (λ end. IsStill end.port handed.now) }
+    requires each { HaveEnded (length jobs.now) workers ends.items }
+    ensures still { IfOk result (λ end. IsReturned end.port handed.now) }
+    ensures replies { IfOk result (λ end. end.replies.items ≡ in_turn (map receipts_in ends.items) workers (length jobs.now)) }
     ensures settled { IfOk result (λ end. IsSettled end.port (map work_of jobs.now) (map received_of end.replies.items) workers) }
+    ensures whole { OnOk result ((job : ℕ) → job < length jobs.now → IsSome (of_job (map receipts_in ends.items) workers job)) }
     ensures late { IfErr result IsLate }
     ensures names { IfErr result (NamesJob (length (map work_of jobs.now))) }
     ensures stopped { (fault : RunFault) → why_stopped ends.items ≡ Some fault → result ≡ Err fault }
-    ensures foreign { why_stopped ends.items ≡ None → ¬ (IsStill port handed.now) → (result ≡ Err RunFault.Foreign) ⊎ (result ≡ Err RunFault.OutOfMemory) }
-    ensures why { why_stopped ends.items ≡ None → IfErr result (λ f. f ≢ RunFault.OutOfMemory → (receipts : List Received) × IsRefused port handed.now (map work_of jobs.now) receipts workers f) }
+    ensures foreign { why_stopped ends.items ≡ None → ¬ (IsReturned port handed.now) → (result ≡ Err RunFault.Foreign) ⊎ (result ≡ Err RunFault.OutOfMemory) }
+    ensures why { why_stopped ends.items ≡ None → IfErr result (λ f. f ≢ RunFault.OutOfMemory
+        → IsRefused port handed.now (map work_of jobs.now) (map received_of (in_turn (map receipts_in ends.items) workers (length jobs.now))) workers f) }
 {
     if let Some(fault) = why_stopped(&ends) {
         return Err(fault);
@@ -301,6 +280,13 @@ fn is_still<A: Allocator>(port: &Port<A>, handed: &Handed<A>) -> bool
     port.starting_image() == handed.starting.as_slice()
 }
 
+/// Whether the port is still the one that was handed in, and is as workers leave it.
+fn is_returned<A: Allocator>(port: &Port<A>, handed: &Handed<A>) -> bool
+    ensures { IsTrue result ↔ IsReturned port.now handed.now }
+{
+    is_still(port, handed) && is_left(port)
+}
+
 /// A copy of what a run keeps.
 fn kept<A: Allocator + Clone>(alloc: &A, port: &Port<A>) -> Result<Handed<A>, AllocError>
     ensures { IfOk result (IsStill port.now) }
@@ -317,8 +303,9 @@ fn kept<A: Allocator + Clone>(alloc: &A, port: &Port<A>) -> Result<Handed<A>, Al
 
 /// Does all jobs on a port whose journal is empty, a new one or one that was trimmed: job i by worker i mod `workers`, each
 /// worker in rising order with one request at a time, on threads of their own where they can be made. Where it answers Ok,
-/// the port is over the same starting image with as many slots, its journal begins with the same number, and the run is
-/// settled, whatever the threads and the choosers did.
+/// the port is over the same starting image with as many slots, its journal begins with the same number and has only entries of
+/// the workers' calls, every slot is free, the run is settled, and each job has passed the gate before it was submitted and after
+/// it was answered, whatever the threads and the choosers did.
 ///
 /// # Errors
 /// The first case of `RunFault` that holds; the port is given up.
@@ -340,6 +327,7 @@ where
     requires most { workers ≤ 32 }
     requires choosers { vec_len choosers ≡ workers }
     ensures ok { IfOk result (λ end. HasRun port end.port (map work_of jobs.now) (map received_of end.replies.items) workers) }
+    ensures passed { OnOk result ((job : ℕ) → job < length jobs.now → G.began gate.now job × G.ended gate.now job) }
     ensures fault { IfErr result (IsGivenUp port (map work_of jobs.now)) }
 {
     if let Some(fault) = early_fault(&port, jobs) {

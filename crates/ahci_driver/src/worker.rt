@@ -1,9 +1,17 @@
 //! One worker of a run, and why it ends.
 
 ghost use Rattle.std.specs.Prelude.{◌≡◌, ◌≤◌, length, true, IfErr, IfOk, OnOk};
+ghost use Rattle.ncq_journal.specs.Work.{work_of};
 ghost use Rattle.word_bits.specs.Places.{has_place};
-ghost use Rattle.ahci_driver.specs.Pumping.{HasGotOn};
-ghost use Rattle.ahci_driver.specs.Stopping.{IsStopAmong, IsStopAt, stop_at, stop_waiting};
+ghost use Rattle.ahci_driver.specs.{
+  Finishing.{HasAnswered, HasReceived, HasWaited},
+  Pumping.{HasGotOn},
+  Received.{received_of},
+  Sharing.{OfEach, turns},
+  Stopping.{IsStopAmong, IsStopAt, stop_at, stop_waiting},
+  Submitting.{buffer_for},
+  Tickets.{answer_length},
+};
 
 use crate::chooser::Chooser;
 use crate::crowd::Crowd;
@@ -93,7 +101,10 @@ impl<'a, A: Allocator + Clone, C: Chooser, G: Gate> Worker<'a, A, C, G> {
     pub(crate) fn work<R: Wait>(mut self, rt: &R) -> Result<Vec<Receipt<A>, A>, Stop>
     where
         C: Drop,
-        ensures { IfErr result (IsStopAmong (length self.entry.jobs.now)) }
+        ensures all { IfOk result (λ receipts. length receipts.items ≡ turns (length self.entry.jobs.now) self.entry.workers self.entry.first) }
+        ensures passed { OnOk result (OfEach (length self.entry.jobs.now) self.entry.workers self.entry.first
+            (λ job. G.began self.entry.gate.now job × G.ended self.entry.gate.now job)) }
+        ensures stop { IfErr result (IsStopAmong (length self.entry.jobs.now)) }
     {
         let done = self.all(rt);
         self.crowd.retire();
@@ -104,8 +115,12 @@ impl<'a, A: Allocator + Clone, C: Chooser, G: Gate> Worker<'a, A, C, G> {
     }
 
     /// The receipts of the worker's jobs, in order.
+    #[tactic(auto, using(crate::proofs::SharingLemmas::turns_more, crate::proofs::SharingLemmas::turns_past))]
     fn all<R: Wait>(&mut self, rt: &R) -> Result<Vec<Receipt<A>, A>, Stop>
-        ensures { IfErr result (IsStopAmong (length self.old.jobs.now)) }
+        ensures all { IfOk result (λ receipts. length receipts.items ≡ turns (length self.old.jobs.now) self.old.workers self.old.first) }
+        ensures passed { OnOk result (OfEach (length self.old.jobs.now) self.old.workers self.old.first
+            (λ job. G.began self.old.gate.now job × G.ended self.old.gate.now job)) }
+        ensures stop { IfErr result (IsStopAmong (length self.old.jobs.now)) }
     {
         let (jobs, workers) = (self.jobs, self.workers);
         let mut receipts = Vec::with_capacity(self.alloc.clone()?, jobs.len().div_ceil(workers))?;
@@ -122,7 +137,11 @@ impl<'a, A: Allocator + Clone, C: Chooser, G: Gate> Worker<'a, A, C, G> {
 
     /// Does one job, from its submission to its answer.
     fn one<R: Wait>(&mut self, rt: &R, job: usize, op: &Op<A>) -> Result<Receipt<A>, Stop>
-        ensures { IfErr result (IsStopAt job) }
+        ensures received { IfOk result (λ receipt. HasReceived C.gives self.old.chooser self.new.chooser (received_of receipt)) }
+        ensures passed { OnOk result (G.began self.old.gate.now job × G.ended self.old.gate.now job) }
+        ensures gate { self.new.gate.now ≡ self.old.gate.now }
+        ensures length { IfOk result (λ receipt. length receipt.bytes.bytes ≡ answer_length receipt.reply.outcome (length (buffer_for (work_of op.now)))) }
+        ensures stop { IfErr result (IsStopAt job) }
     {
         self.gate.before(job);
         let ticket = self.submitted(rt, job, op)?;
@@ -136,7 +155,10 @@ impl<'a, A: Allocator + Clone, C: Chooser, G: Gate> Worker<'a, A, C, G> {
 
     /// Submits a job until it is taken, with one pump between two tries.
     fn submitted<R: Wait>(&mut self, rt: &R, job: usize, op: &Op<A>) -> Result<Ticket<A>, Stop>
+        ensures waited { OnOk result (HasWaited C.gives self.old.chooser self.new.chooser) }
         ensures held { IfOk result (λ t. has_place self.new.seat.tags t.tag ≡ true) }
+        ensures gate { self.new.gate.now ≡ self.old.gate.now }
+        ensures buffer { IfOk result (λ t. t.buffer ≡ buffer_for (work_of op.now)) }
         ensures stop { IfErr result (IsStopAt job) }
     {
         for _ in rt.forever() {
@@ -165,7 +187,11 @@ impl<'a, A: Allocator + Clone, C: Chooser, G: Gate> Worker<'a, A, C, G> {
         mut ticket: Ticket<A>,
     ) -> Result<(Reply, Vec<u8, A>), Stop>
         requires { has_place self.old.seat.tags ticket.tag ≡ true }
-        ensures { IfErr result (IsStopAt job) }
+        ensures answered { IfOk result (λ r. HasAnswered C.gives self.old.chooser self.new.chooser ticket.tag r.0.number r.0.entry r.0.outcome r.1.items) }
+        ensures gate { self.new.gate.now ≡ self.old.gate.now }
+        ensures number { IfOk result (λ r. r.0.number ≡ ticket.number) }
+        ensures length { IfOk result (λ r. length r.1.items ≡ answer_length r.0.outcome (length ticket.buffer)) }
+        ensures stop { IfErr result (IsStopAt job) }
     {
         for _ in rt.forever() {
             if self.flag.load(SeqCst) {
@@ -191,6 +217,7 @@ impl<'a, A: Allocator + Clone, C: Chooser, G: Gate> Worker<'a, A, C, G> {
     #[tactic(auto, using(crate::proofs::PumpingLemmas::got_on))]
     fn pump<R: Wait>(&mut self, rt: &R) -> Result<(), Stop>
         ensures seat { self.new.seat ≡ self.old.seat }
+        ensures gate { self.new.gate.now ≡ self.old.gate.now }
         ensures asked { OnOk result (HasGotOn C.gives self.old.chooser self.new.chooser) }
         ensures stop { IfErr result (λ stop. stop ≡ Stop.OutOfMemory) }
     {
