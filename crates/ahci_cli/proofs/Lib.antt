@@ -1,1 +1,2 @@
+pub mod JobsLemmas
 pub mod ProgramLemmas

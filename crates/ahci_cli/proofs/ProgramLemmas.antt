@@ -1,7 +1,6 @@
 -- What the program's parts do, put together.
-use Rattle.std.proofs.Common.{◌≡◌, ℕ, List, length, take, Bool, false, sym, subst, arith, inl, inr}
+use Rattle.std.proofs.Common.{◌≡◌, ℕ, List, take, Bool, false, sym, subst, arith, inl, inr}
 use Rattle.std.specs.Prelude.{Result, Ok, Err, IfErr, MatchResult, OnErr, OnOk}
-use Rattle.std.proofs.Math.Seq.{take-length}
 use Rattle.std.specs.Io.KnownBytes.{Appends}
 use Rattle.streams.specs.Ends.{WrittenSoFar, with_failed_write, with_flush}
 use Rattle.streams.specs.declared.output_failed.OutputFailed.{OutputFailed}
@@ -9,7 +8,7 @@ use Rattle.ahci_args.specs.Asking.{AsksFor}
 use Rattle.ahci_args.specs.declared.request.Asked.{Asked}
 use Rattle.ahci_args.specs.declared.request.Asked.TheVariants.{Replay, Run, Identify, Log, Trace, Check, Draw}
 use Rattle.ahci_cli.specs.Faults.{IsFaultOf}
-use Rattle.ahci_cli.specs.Program.{Did, HasRanges, IsTold, IsWritten, Known}
+use Rattle.ahci_cli.specs.Program.{Did, HasRanges, IsWritten, Known, error_stream}
 use Rattle.ahci_cli.specs.declared.fault.CliFault.{CliFault}
 
 -- what a call did that judges no line
@@ -19,16 +18,10 @@ pub did : {F : Type 0} (whole : Type 0) (into : F → CliFault) (early : F → T
 did whole into early (Ok done) result ok err is = subst (Did whole into early) (sym is) ok
 did whole into early (Err fault) result ok err is = subst (Did whole into early) (sym is) err
 
--- a text that a writer took to its end, or in part
-pub told : (before after : Known) (text : List ℕ) (outcome : Result (Unit {0}) OutputFailed)
-    → OnOk outcome (Appends before after text) → OnErr outcome ((n : ℕ) × Appends before after (take n text)) → IsTold before after text
-told before after text (Ok done) ok err = (length text, subst (Appends before after) (sym (take-length text)) ok)
-told before after text (Err failed) ok err = err
-
--- and how its writes went
+-- a text that a writer took to its end, or in part, and how its writes went
 pub written : (before after : Known) (text : List ℕ) (old new : WrittenSoFar) (outcome : Result (Unit {0}) OutputFailed)
     → OnOk outcome (Appends before after text) → OnErr outcome ((n : ℕ) × Appends before after (take n text))
-    → OnOk outcome (new ≡ with_flush old) → OnErr outcome (new ≡ with_failed_write old) → IsWritten before after text old new
+    → OnOk outcome (new ≡ with_flush old) → OnErr outcome (new ≡ with_failed_write old) → IsWritten (error_stream before after old new) text
 written before after text old new (Ok done) ok err flushed failed = inl (ok, flushed)
 written before after text old new (Err fault) ok err flushed failed = inr (err, failed)
 

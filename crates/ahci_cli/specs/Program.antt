@@ -113,46 +113,60 @@ Does (Run workers depth sectors pick wanted) s outcome =
 Does (Identify sectors depth raw) s outcome = DidPage (identify_output sectors depth raw) raw s outcome
 Does (Log tag error lba raw) s outcome = DidPage (log_output tag error lba raw) raw s outcome
 
--- ---- what standard error is told, and the status
+-- ---- what standard error has, and the status
 
--- the text was written, or, where a write failed, a first part of it
+-- what standard error has, and how the writes to it went, before and after
+pub record ErrorStream : Type 0 where
+  pub had : Known
+  pub has : Known
+  pub before : WrittenSoFar
+  pub after : WrittenSoFar
+
+abbrev pub error_stream : Known → Known → WrittenSoFar → WrittenSoFar → ErrorStream
+error_stream had has before after = record { had = had; has = has; before = before; after = after }
+
+-- nothing was written to it
+abbrev pub IsUnwritten : ErrorStream → Type 0
+IsUnwritten e = (e.has ≡ e.had) × (e.after ≡ e.before)
+
+-- the text was written, or, if a write failed, a first part of it
 abbrev pub IsTold : Known → Known → List ℕ → Type 0
 IsTold before after text = (n : ℕ) × Appends before after (take n text)
 
--- the whole text was written and flushed; or a write or a flush failed, and a first part of it was written
-abbrev pub IsWritten : Known → Known → List ℕ → WrittenSoFar → WrittenSoFar → Type 0
-IsWritten before after text old new =
-    (Appends before after text × (new ≡ with_flush old)) ⊎ (IsTold before after text × (new ≡ with_failed_write old))
+-- the whole text was written, once, and flushed; or a write or a flush failed, and a first part of it was written
+abbrev pub IsWritten : ErrorStream → List ℕ → Type 0
+IsWritten e text =
+    (Appends e.had e.has text × (e.after ≡ with_flush e.before)) ⊎ (IsTold e.had e.has text × (e.after ≡ with_failed_write e.before))
 
--- of a good outcome nothing is told, of a fault its text
-abbrev pub Tells : Known → Known → Result Bool CliFault → Type 0
-Tells before after (Ok faulty) = after ≡ before
-Tells before after (Err fault) = IsTold before after (fault_text fault)
+-- of a good outcome nothing is reported, of a fault its text
+abbrev pub Tells : ErrorStream → Result Bool CliFault → Type 0
+Tells e (Ok faulty) = IsUnwritten e
+Tells e (Err fault) = IsWritten e (fault_text fault)
 
--- 0 where all went to its end, 1 where a line that was judged is faulty, else the fault's
+-- 0 if all went to its end, 1 if a line that was judged is faulty, else the fault's
 abbrev pub status_for : Result Bool CliFault → ℕ
 status_for (Ok false) = 0
 status_for (Ok true) = 1
 status_for (Err fault) = status_of fault
 
--- the outcome is told, and the status is its own
-pub record Ends (before after : Known) (status : ℕ) (outcome : Result Bool CliFault) : Type 0 where
-  pub told : Tells before after outcome
+-- the outcome is reported, and the status is its own
+pub record Ends (e : ErrorStream) (status : ℕ) (outcome : Result Bool CliFault) : Type 0 where
+  pub told : Tells e outcome
   pub status_is : status ≡ status_for outcome
 
 -- ---- the whole
 
--- the words have no fault and ask for something, which is done, told and ended
-pub record Obeys (words : List (List ℕ)) (s : Streams) (before after : Known) (status : ℕ) : Type 0 where
+-- the words have no fault and ask for something, which is done, reported and ended
+pub record Obeys (words : List (List ℕ)) (s : Streams) (e : ErrorStream) (status : ℕ) : Type 0 where
   pub asked : Asked
   pub asks : AsksFor words asked
   pub picks : PickWords
   pub sound : usage_faults picks words ≡ []
   pub outcome : Result Bool CliFault
   pub does : Does asked s outcome
-  pub ends : Ends before after status outcome
+  pub ends : Ends e status outcome
 
--- a text that was asked for stands on the output, to its end or to where the output failed; memory for it may be refused
+-- a text that was asked for is on the output, to its end or to where the output failed; an allocation for it may fail
 abbrev pub IsShown : List ℕ → Known → Known → Result Bool CliFault → Type 0
 IsShown text held holds (Ok false) = Appends held holds text
 IsShown text held holds (Ok true) = ⊥
@@ -161,41 +175,40 @@ IsShown text held holds (Err fault.OutOfMemory) = holds ≡ held
 IsShown text held holds (Err other) = ⊥
 
 -- help, or the version
-pub record Shows (held holds before after : Known) (status : ℕ) : Type 0 where
+pub record Shows (held holds : Known) (e : ErrorStream) (status : ℕ) : Type 0 where
   pub text : List ℕ
   pub outcome : Result Bool CliFault
   pub shown : IsShown text held holds outcome
-  pub ends : Ends before after status outcome
+  pub ends : Ends e status outcome
 
--- a wrong command line: a text on the errors and 2; memory for the text may be refused
-abbrev pub Rejects : Known → Known → ℕ → Type 0
-Rejects before after status =
-    ((text : List ℕ) × IsTold before after text × (status ≡ 2)) ⊎ Ends before after status (Err fault.OutOfMemory)
+-- a wrong command line: a text on the errors and 2; an allocation for the text may fail
+abbrev pub Rejects : ErrorStream → ℕ → Type 0
+Rejects e status = ((text : List ℕ) × IsWritten e text × (status ≡ 2)) ⊎ Ends e status (Err fault.OutOfMemory)
 
--- what the parser of the command line has to say, by the kind of its fault
-abbrev pub Says : ErrorKind → Known → Known → Known → Known → ℕ → Type 0
-Says wrong.DisplayHelp held holds before after status = Shows held holds before after status
-Says wrong.DisplayVersion held holds before after status = Shows held holds before after status
-Says wrong.OutOfMemory held holds before after status = (holds ≡ held) × Ends before after status (Err fault.OutOfMemory)
-Says other held holds before after status = (holds ≡ held) × Rejects before after status
+-- what the parser of the command line reports, by the kind of its fault
+abbrev pub Says : ErrorKind → Known → Known → ErrorStream → ℕ → Type 0
+Says wrong.DisplayHelp held holds e status = Shows held holds e status
+Says wrong.DisplayVersion held holds e status = Shows held holds e status
+Says wrong.OutOfMemory held holds e status = (holds ≡ held) × Ends e status (Err fault.OutOfMemory)
+Says other held holds e status = (holds ≡ held) × Rejects e status
 
--- the words have one of the faults that the parser's rules find in them, or the parser lacked memory; nothing is read
-pub record Explains (words : List (List ℕ)) (s : Streams) (before after : Known) (status : ℕ) : Type 0 where
+-- the words have one of the faults that the parser's rules find in them, or the parser was out of memory; nothing is read
+pub record Explains (words : List (List ℕ)) (s : Streams) (e : ErrorStream) (status : ℕ) : Type 0 where
   pub picks : PickWords
   pub kind : ErrorKind
   pub fails : (kind ≡ wrong.OutOfMemory) ⊎ IsAmong kind (usage_faults picks words)
   pub unread : s.left ≡ s.had
-  pub says : Says kind s.held s.holds before after status
+  pub says : Says kind s.held s.holds e status
 
--- a run of the program, by the words of its command line, its reader and writer, standard error before and after, and its status
-abbrev pub Runs : List (List ℕ) → Streams → Known → Known → ℕ → Type 0
-Runs words s before after status = Obeys words s before after status ⊎ Explains words s before after status
+-- a run of the program, by the words of its command line, its reader and writer, standard error, and its status
+abbrev pub Runs : List (List ℕ) → Streams → ErrorStream → ℕ → Type 0
+Runs words s e status = Obeys words s e status ⊎ Explains words s e status
 
 -- the words could not be read: an argument is no text, or there is no memory
-abbrev pub RunsWithout : WordsFault → Known → Known → Known → Known → ℕ → Type 0
-RunsWithout NotText held holds before after status =
-    Says wrong.InvalidValue held holds before after status ⊎ Says wrong.OutOfMemory held holds before after status
-RunsWithout OutOfMemory held holds before after status = Says wrong.OutOfMemory held holds before after status
+abbrev pub RunsWithout : WordsFault → Known → Known → ErrorStream → ℕ → Type 0
+RunsWithout NotText held holds e status =
+    Says wrong.InvalidValue held holds e status ⊎ Says wrong.OutOfMemory held holds e status
+RunsWithout OutOfMemory held holds e status = Says wrong.OutOfMemory held holds e status
 
 -- the numbers of what is asked for are in their ranges
 abbrev pub HasRanges : Asked → Type 0

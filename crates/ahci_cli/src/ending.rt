@@ -1,9 +1,9 @@
-//! How the program ends: what is told of an outcome, and the status.
+//! How the program ends: what it reports of an outcome, and the status.
 
 ghost use Rattle.clap.specs.Words.{kind_of};
 ghost use Rattle.std.specs.Prelude.{◌≡◌, OnErr, OnOk};
 ghost use Rattle.streams.specs.Ends.{with_failed_write, with_flush};
-ghost use Rattle.ahci_cli.specs.Program.{Ends, IsShown, IsTold, IsWritten, Rejects, Says};
+ghost use Rattle.ahci_cli.specs.Program.{Ends, IsShown, IsWritten, Rejects, Says, error_stream};
 
 use crate::fault::CliFault;
 use crate::fault_text::text_of;
@@ -16,48 +16,57 @@ use streams::{OutputFailed, Writes};
 /// The exit status of a wrong command line.
 const USAGE: u8 = 2;
 
-/// Tells an outcome where it is a fault. The status: 0, 1 where a line is faulty, or the fault's.
-pub(crate) fn end<E: Write>(outcome: Result<bool, CliFault>, errors: &mut E) -> u8
-    ensures { Ends (E.contents errors.old) (E.contents errors.new) result outcome }
+/// Reports an outcome that is a fault. The status: 0, 1 if a line is faulty, or the fault's.
+pub(crate) fn end<E: Write>(
+    outcome: Result<bool, CliFault>,
+    errors: &mut E,
+    tells: &mut Writes,
+) -> u8
+    ensures { Ends (error_stream (E.contents errors.old) (E.contents errors.new) tells.old tells.new) result outcome }
 {
     match outcome {
         Ok(false) => 0,
         Ok(true) => 1,
         Err(fault) => {
             let text = text_of(fault);
-            tell(text.as_str().as_bytes(), errors, &mut Writes::new());
+            tell(text.as_str().as_bytes(), errors, tells);
             fault.status()
         }
     }
 }
 
 /// Writes a text, as far as it can be written.
-#[tactic(auto, using(crate::proofs::ProgramLemmas::told, crate::proofs::ProgramLemmas::written))]
-fn tell<E: Write>(text: &[u8], errors: &mut E, writes: &mut Writes)
-    ensures told { IsTold (E.contents errors.old) (E.contents errors.new) text.now }
-    ensures whole { IsWritten (E.contents errors.old) (E.contents errors.new) text.now writes.old writes.new }
+#[tactic(auto, using(crate::proofs::ProgramLemmas::written))]
+fn tell<E: Write>(text: &[u8], errors: &mut E, tells: &mut Writes)
+    ensures { IsWritten (error_stream (E.contents errors.old) (E.contents errors.new) tells.old tells.new) text.now }
 {
-    let _ = writes.write_whole(errors, text);
+    let _ = tells.write_whole(errors, text);
 }
 
-/// What the parser of the command line has to say: help and the version on the writer, a wrong command line on the errors.
+/// What the parser of the command line reports: help and the version on the writer, a wrong command line on the errors.
 pub(crate) fn explain<W: Write, E: Write>(
     alloc: Global,
     error: &Error,
     writer: &mut W,
     errors: &mut E,
+    tells: &mut Writes,
 ) -> u8
-    ensures { Says (kind_of error.now) (W.contents writer.old) (W.contents writer.new) (E.contents errors.old) (E.contents errors.new) result }
+    ensures { Says (kind_of error.now) (W.contents writer.old) (W.contents writer.new)
+        (error_stream (E.contents errors.old) (E.contents errors.new) tells.old tells.new) result }
 {
     match error.kind() {
-        ErrorKind::OutOfMemory => end(Err(CliFault::OutOfMemory), errors),
+        ErrorKind::OutOfMemory => end(Err(CliFault::OutOfMemory), errors, tells),
         ErrorKind::DisplayHelp | ErrorKind::DisplayVersion => {
             match format!(in alloc; "{error}") {
-                Ok(text) => end(show(text.as_bytes(), writer, &mut Writes::new()), errors),
-                Err(_) => end(Err(CliFault::OutOfMemory), errors),
+                Ok(text) => end(
+                    show(text.as_bytes(), writer, &mut Writes::new()),
+                    errors,
+                    tells,
+                ),
+                Err(_) => end(Err(CliFault::OutOfMemory), errors, tells),
             }
         }
-        _ => reject(alloc, error, errors),
+        _ => reject(alloc, error, errors, tells),
     }
 }
 
@@ -73,15 +82,15 @@ fn show<W: Write>(text: &[u8], writer: &mut W, writes: &mut Writes) -> Result<bo
     }
 }
 
-/// Says what is wrong with the command line.
-fn reject<E: Write>(alloc: Global, error: &Error, errors: &mut E) -> u8
-    ensures { Rejects (E.contents errors.old) (E.contents errors.new) result }
+/// Reports what is wrong with the command line.
+fn reject<E: Write>(alloc: Global, error: &Error, errors: &mut E, tells: &mut Writes) -> u8
+    ensures { Rejects (error_stream (E.contents errors.old) (E.contents errors.new) tells.old tells.new) result }
 {
     match format!(in alloc; "{error}") {
         Ok(text) => {
-            tell(text.as_bytes(), errors, &mut Writes::new());
+            tell(text.as_bytes(), errors, tells);
             USAGE
         }
-        Err(_) => end(Err(CliFault::OutOfMemory), errors),
+        Err(_) => end(Err(CliFault::OutOfMemory), errors, tells),
     }
 }

@@ -2,7 +2,7 @@
 
 ghost use Rattle.std.specs.Prelude.{map, ◌≡◌, IfErr, IfOk, OnErr};
 ghost use Rattle.std.specs.String.{string_bytes};
-ghost use Rattle.ahci_cli.specs.Program.{Does, HasRanges, Runs, RunsWithout, form_of_check, streams};
+ghost use Rattle.ahci_cli.specs.Program.{Does, HasRanges, Runs, RunsWithout, error_stream, form_of_check, streams};
 
 use crate::ending::{end, explain};
 use crate::fault::CliFault;
@@ -16,10 +16,12 @@ use std::alloc::Global;
 use std::io::{Read, Write};
 use std::sync::Wait;
 use std::thread::Threads;
+use streams::Writes;
 
 /// The whole program: does what the words ask for, of which the first is the program's name, with standard input, output and
-/// error. The exit status: 0; 1 for a fault, or where a line that was checked is faulty; 2 for a wrong command line; 3 for want of
-/// memory; 4 where lines were checked and input or output failed.
+/// error. The exit status: 0; 1 for a fault, or if a line that was checked is faulty; 2 for a wrong command line; 3 if out of
+/// memory; 4 if lines were checked and input or output failed. `tells` records how the writes to standard error went: a fault's text is
+/// written there whole, once, and flushed, unless one of them failed.
 pub fn program<H, R, W, E>(
     rt: &H,
     alloc: Global,
@@ -27,6 +29,7 @@ pub fn program<H, R, W, E>(
     reader: &mut R,
     writer: &mut W,
     errors: &mut E,
+    tells: &mut Writes,
 ) -> u8
 where
     H: Threads + Wait + Sync,
@@ -35,14 +38,14 @@ where
     E: Write,
     ensures { Runs (map string_bytes words.now)
         (streams (R.remaining reader.old) (R.remaining reader.new) (W.contents writer.old) (W.contents writer.new))
-        (E.contents errors.old) (E.contents errors.new) result }
+        (error_stream (E.contents errors.old) (E.contents errors.new) tells.old tells.new) result }
 {
     match asked(alloc, words) {
         Ok(asked) => {
             let outcome = done(rt, alloc, asked, reader, writer);
-            end(outcome, errors)
+            end(outcome, errors, tells)
         }
-        Err(error) => explain(alloc, &error, writer, errors),
+        Err(error) => explain(alloc, &error, writer, errors, tells),
     }
 }
 
@@ -52,14 +55,16 @@ pub fn program_without_words<W: Write, E: Write>(
     fault: WordsFault,
     writer: &mut W,
     errors: &mut E,
+    tells: &mut Writes,
 ) -> u8
-    ensures { RunsWithout fault (W.contents writer.old) (W.contents writer.new) (E.contents errors.old) (E.contents errors.new) result }
+    ensures { RunsWithout fault (W.contents writer.old) (W.contents writer.new)
+        (error_stream (E.contents errors.old) (E.contents errors.new) tells.old tells.new) result }
 {
     match fault {
         WordsFault::NotText => match not_text(alloc) {
-            Ok(error) | Err(error) => explain(alloc, &error, writer, errors),
+            Ok(error) | Err(error) => explain(alloc, &error, writer, errors, tells),
         },
-        WordsFault::OutOfMemory => end(Err(CliFault::OutOfMemory), errors),
+        WordsFault::OutOfMemory => end(Err(CliFault::OutOfMemory), errors, tells),
     }
 }
 
@@ -72,6 +77,7 @@ pub fn program_with<H, R, W, E>(
     reader: &mut R,
     writer: &mut W,
     errors: &mut E,
+    tells: &mut Writes,
 ) -> u8
 where
     H: Threads + Wait + Sync,
@@ -80,14 +86,15 @@ where
     E: Write,
     ensures words { IfOk words (λ words. Runs (map string_bytes words.items)
         (streams (R.remaining reader.old) (R.remaining reader.new) (W.contents writer.old) (W.contents writer.new))
-        (E.contents errors.old) (E.contents errors.new) result) }
+        (error_stream (E.contents errors.old) (E.contents errors.new) tells.old tells.new) result) }
     ensures unread { OnErr words (R.remaining reader.new ≡ R.remaining reader.old) }
     ensures without { IfErr words (λ fault. RunsWithout fault
-        (W.contents writer.old) (W.contents writer.new) (E.contents errors.old) (E.contents errors.new) result) }
+        (W.contents writer.old) (W.contents writer.new)
+        (error_stream (E.contents errors.old) (E.contents errors.new) tells.old tells.new) result) }
 {
     match words {
-        Ok(words) => program(rt, alloc, words.as_slice(), reader, writer, errors),
-        Err(fault) => program_without_words(alloc, fault, writer, errors),
+        Ok(words) => program(rt, alloc, words.as_slice(), reader, writer, errors, tells),
+        Err(fault) => program_without_words(alloc, fault, writer, errors, tells),
     }
 }
 

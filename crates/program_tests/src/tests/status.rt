@@ -1,5 +1,5 @@
 use crate::tests::command_line::words;
-use ahci_cli::program;
+use ahci_cli::{Writes, program};
 use std::alloc::Global;
 use std::io::{Read, Write};
 use std::sync::Wait;
@@ -16,5 +16,13 @@ pub fn status_of<H: Threads + Wait + Sync>(
     errors: &mut impl Write,
 ) -> Result<u8, Fail> {
     let line = words(alloc, line)?;
-    Ok(program(rt, alloc, line.as_slice(), reader, writer, errors))
+    Ok(program(
+        rt,
+        alloc,
+        line.as_slice(),
+        reader,
+        writer,
+        errors,
+        &mut Writes::new(),
+    ))
 }
