@@ -32,7 +32,11 @@ fn pile_of<A: Allocator>(end: End<A>) -> Pile<A>
 fn piles_of<A: Allocator + Clone>(alloc: A, ends: Ends<A>) -> Result<Vec<Pile<A>, A>, AllocError>
     ensures { IfOk result (λ piles. map left_in piles.items ≡ map receipts_in ends.items) }
 {
-    ends.into_iter().map(|end| pile_of(end)).collect(alloc)
+    let mut piles = Vec::with_capacity(alloc, ends.len())?;
+    for brought in ends {
+        piles.push(pile_of(brought))?;
+    }
+    Ok(piles)
 }
 
 /// The next of a worker's receipts.
