@@ -1,6 +1,6 @@
 -- Where all workers have ended well there is one receipt for each job.
-use Rattle.std.proofs.Common.{◌≡◌, ℕ, ◌+◌, ◌/◌, ◌%◌, ◌<◌, ◌≤◌, true, List, [], ◌∷◌, length, map, get_or, suc, zero, refl, ap, sym, subst, ◌∙◌, Option, None, Some, IsSomeAnd, Result, Ok, Err, arith, zero-add}
-use Rattle.std.specs.List.{All, cons_option, filter_map, range_with_len, slice_get}
+use Rattle.std.proofs.Common.{◌≡◌, ℕ, ◌/◌, ◌%◌, ◌<◌, ◌≤◌, List, [], ◌∷◌, length, map, get_or, suc, zero, refl, ap, sym, subst, ◌∙◌, Option, None, Some, IsSomeAnd, Result, Ok, Err, arith, zero-add}
+use Rattle.std.specs.List.{cons_option, filter_map, range_with_len, slice_get}
 use Rattle.std.specs.Option.{option_and_then, option_map}
 use Rattle.std.specs.Prelude.{IsOk, IsSome}
 use Rattle.std.specs.declared.vec.Vec.{Vec}

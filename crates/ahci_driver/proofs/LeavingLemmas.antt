@@ -1,5 +1,5 @@
 -- A port that workers leave, by its events and its slots.
-use Rattle.std.proofs.Common.{◌≡◌, ℕ, ◌<◌, ◌≤◌, Bool, true, false, ◌&&◌, List, [], ◌∷◌, ◌++◌, reverse, map, refl, ap, sym, ◌∙◌, inl, inr, arith}
+use Rattle.std.proofs.Common.{◌≡◌, ℕ, ◌<◌, Bool, true, false, ◌&&◌, List, [], ◌∷◌, reverse, map, refl, ap, sym, ◌∙◌, inl, inr, arith}
 use Rattle.std.specs.List.{list_all}
 use Rattle.std.specs.Prelude.{◌↔◌, IsTrue}
 use Rattle.std.proofs.lemmas.Bool.{cases_lt, false≢true}
@@ -10,7 +10,6 @@ use Rattle.ncq_journal.specs.declared.phase.Phase.TheVariants.{Free}
 use Rattle.ncq_journal.specs.Entry.{Entry, entry_of}
 use Rattle.ncq_journal.specs.History.{history_of}
 use Rattle.ncq_journal.specs.Laws.{AllFree}
-use Rattle.ncq_journal.specs.Lawful.{IsLawful}
 use Rattle.ncq_journal.specs.Phase.{phase}
 use Rattle.ncq_journal.proofs.PhaseLemmas.{free_past_depth}
 use Rattle.ahci_port.specs.PortView.{PortView, sectors_in}

@@ -1,5 +1,5 @@
 -- A journal is lawful exactly if its entries' structs are judged to be. When an entry may come depends on no byte of a write.
-use Rattle.std.proofs.Common.{inl, inr, ◌==◌, ◌≡◌, ◌∙◌, ◌↔◌, ℕ, ◌+◌, ◌*◌, ◌/◌, ◌<◌, ◌≤◌, ◌^◌, Bool, true, false, cond, nat_lt, List, [], ◌∷◌, ◌++◌, length, map, replicate, Option, Some, None, IsSomeAnd, IsTrue, ap, refl, subst, sym, arith}
+use Rattle.std.proofs.Common.{inl, inr, ◌==◌, ◌≡◌, ◌∙◌, ◌↔◌, ℕ, ◌+◌, ◌*◌, ◌/◌, ◌<◌, ◌≤◌, Bool, true, false, cond, nat_lt, List, [], ◌∷◌, ◌++◌, length, map, Option, Some, None, IsSomeAnd, ap, refl, subst, sym}
 use mathlib.Core.List.{reverse}
 use Rattle.std.specs.List.{All, list_any}
 use Rattle.std.specs.Option.{option_map}
@@ -11,7 +11,7 @@ use Rattle.ncq_journal.specs.Entry.{Entry, Issue, Accept, Complete, Fail, Recove
 use Rattle.ncq_journal.specs.EventKind.{HasLowTag, entry_of_kind, journal_of, kind_of, work_over}
 use Rattle.ncq_journal.specs.Halted.{busy, halted, tags}
 use Rattle.ncq_journal.specs.Image.{is_write}
-use Rattle.ncq_journal.specs.Lawful.{Fails, Fits, IsAllowed, IsLawful, IsProper, IsWhole}
+use Rattle.ncq_journal.specs.Lawful.{Fails, IsAllowed, IsLawful, IsProper, IsWhole}
 use Rattle.ncq_journal.specs.Phase.{is_busy, is_failed, phase, phase_after}
 use Rattle.ncq_journal.specs.Request.{Request, request}
 use Rattle.ncq_journal.specs.Work.{Work, Read, Write, lba_of, sectors_of}

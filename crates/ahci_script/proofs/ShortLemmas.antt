@@ -1,5 +1,5 @@
 -- Short numbers are read off a text with the word that they are.
-use Rattle.std.proofs.Common.{◌≡◌, ℕ, ◌+◌, ◌*◌, ◌-◌, ◌^◌, ◌<◌, ◌≤◌, ◌==◌, true, not, cond, ltb, List, [], ◌∷◌, ◌++◌, length, get_or, take, drop, refl, sym, ap, ◌∙◌, ◌&&◌, leb, Option, Some, None, Result, Ok, Err, ok_or, option_and_then, add-one, suc, arith, nat_eq}
+use Rattle.std.proofs.Common.{◌≡◌, ℕ, ◌+◌, ◌*◌, ◌-◌, ◌^◌, ◌<◌, ◌≤◌, ◌==◌, true, not, cond, ltb, List, [], ◌∷◌, ◌++◌, length, get_or, take, drop, refl, sym, ap, ◌∙◌, ◌&&◌, leb, Some, None, Result, Ok, Err, ok_or, option_and_then, add-one, arith}
 use Rattle.std.proofs.Math.Nat.{pow-le-pow_right, pow-suc}
 use Rattle.std.proofs.lemmas.Bool.{and_from, cond-false, cond-true, lt-leb, lt-ltb}
 use Rattle.std.proofs.lemmas.Bool.Decides.{nat_tests}
@@ -9,7 +9,7 @@ use Rattle.std.proofs.lemmas.List.Sums.{fold_push}
 use Rattle.std.specs.Char.{is_ascii_digit}
 use Rattle.std.specs.List.{list_all}
 use Rattle.ahci_script.specs.Breaches.{◌>>=◌}
-use Rattle.ahci_script.specs.Number.{below, decimal_below, decimal_of, digits_of, hex_digit_of, hexadecimal_of, hexadecimal_value, is_decimal, not_hexadecimal, with_digit, with_hex_digit}
+use Rattle.ahci_script.specs.Number.{below, decimal_below, decimal_of, hex_digit_of, hexadecimal_of, hexadecimal_value, is_decimal, not_hexadecimal, with_digit, with_hex_digit}
 use Rattle.ahci_script.specs.Printing.{before}
 use Rattle.ahci_script.specs.Words.{Rest, next_of, placed, word_of}
 use Rattle.ahci_script.specs.declared.breach.Breach.{Breach}

@@ -1,4 +1,4 @@
-use Rattle.std.proofs.Common.{◌∙◌, refl, rules}
+use Rattle.std.proofs.Common.{refl, rules}
 use Rattle.ahci_driver.specs.Finishing.{no_turn}
 use Rattle.ahci_driver.proofs.FinishingLemmas.{waited_on}
 use Rattle.ahci_driver.proofs.worker.Worker.answered.Goals as goal
