@@ -1,7 +1,7 @@
 //! `ahci`: a reference model of one AHCI port, run by scripts and by lists of jobs, and the pages of its disk.
 #![tactic(auto)]
 
-use ahci_cli::{WordsFault, Writes, program_with};
+use ahci_cli::{StreamLog, WordsFault, program_with};
 use std::process::ExitCode;
 
 fn main(rt: HostRuntime) -> ExitCode {
@@ -13,7 +13,7 @@ fn main(rt: HostRuntime) -> ExitCode {
         &mut input,
         &mut output,
         &mut errors,
-        &mut Writes::new(),
+        &mut StreamLog::new(),
     ))
 }
 

@@ -10,9 +10,11 @@ use crate::form::Form;
 use crate::judge::Judge;
 use crate::place::Place;
 use crate::sheet::Sheet;
+use ahci_script::Output;
 use std::alloc::Allocator;
 use std::io::{Read, Write};
-use streams::{Reads, take_lines};
+use std::mem;
+use streams::{Reads, Writes, take_lines};
 
 /// Judges each line of the script that the reader gives, runs nothing, and writes a line for each complaint in this form, in the
 /// order of the lines. `true` where there was any. A line of more than 4,096 bytes is the last that is judged. What was told is
@@ -32,12 +34,14 @@ pub fn check<R: Read, W: Write, A: Allocator + Clone>(
     ensures err { IfErr result (EndsCheck form (Judge.OfScript Place.BeforeDisk) (R.remaining reader.old) (R.remaining reader.new)
         (W.contents writer.old) (W.contents writer.new)) }
 {
-    checked(
+    check_with(
         alloc,
         form,
         Judge::OfScript(Place::BeforeDisk),
         reader,
+        &mut Reads::new(),
         writer,
+        &mut Writes::new(),
     )
 }
 
@@ -56,23 +60,45 @@ pub fn check_jobs<R: Read, W: Write, A: Allocator + Clone>(
     ensures err { IfErr result (EndsCheck form Judge.OfJobs (R.remaining reader.old) (R.remaining reader.new)
         (W.contents writer.old) (W.contents writer.new)) }
 {
-    checked(alloc, form, Judge::OfJobs, reader, writer)
+    check_with(
+        alloc,
+        form,
+        Judge::OfJobs,
+        reader,
+        &mut Reads::new(),
+        writer,
+        &mut Writes::new(),
+    )
 }
 
-/// Judges all lines, the first of them so.
-fn checked<R: Read, W: Write, A: Allocator + Clone>(
+/// The same of lines of which the first is judged so; `reads` and `writes` record how the reads and writes went.
+///
+/// # Errors
+/// Those of `check`.
+pub fn check_with<R: Read, W: Write, A: Allocator + Clone>(
     alloc: A,
     form: Form,
     judge: Judge,
     reader: &mut R,
+    reads: &mut Reads,
     writer: &mut W,
+    writes: &mut Writes,
 ) -> Result<bool, CheckFault>
     ensures ok { IfOk result (IsChecked form judge (R.remaining reader.old) (R.remaining reader.new) (W.contents writer.old) (W.contents writer.new)) }
     ensures err { IfErr result (EndsCheck form judge (R.remaining reader.old) (R.remaining reader.new) (W.contents writer.old) (W.contents writer.new)) }
+    ensures flushed { OnOk result (writes.new ≡ with_flush writes.old) }
+    ensures writes { IfErr result (WritesTo writes.old writes.new) }
+    ensures unfailed { OnOk result (reads.new.failed ≡ reads.old.failed) }
+    ensures reads { IfErr result (ReadsTo reads.old reads.new) }
 {
-    let mut sheet = Sheet::new(alloc.clone()?, form, judge)?;
-    fill_sheet(alloc, &mut sheet, reader, &mut Reads::new(), writer)?;
-    Ok(sheet.found())
+    let (sheets, texts) = (alloc.clone()?, alloc.clone()?);
+    let before = mem::replace(writes, Writes::new());
+    let mut sheet = Sheet::new(sheets, Output::new(texts), form, judge, before);
+    let outcome = fill_sheet(alloc, &mut sheet, reader, reads, writer);
+    let found = sheet.found();
+    *writes = sheet.into_writes();
+    outcome?;
+    Ok(found)
 }
 
 /// Judges all lines on a sheet that has none yet, and tells how the reads and writes went.

@@ -20,7 +20,7 @@ mod windows;
 
 pub use ahci_script::Fault;
 pub use check_fault::CheckFault;
-pub use checking::{check, check_jobs};
+pub use checking::{check, check_jobs, check_with};
 pub use complaint::Complaint;
 pub use form::Form;
 pub use jobs::job_complaint_of;

@@ -42,18 +42,25 @@ impl<A: Allocator + Clone> Sheet<A> {
     ghost use Rattle.streams.specs.Unread.{shown};
     ghost use Rattle.ahci_check.specs.Sheets.{FailsTelling, Tells, next_judge, said_of, stand, told, with_put};
 
-    /// No line was judged, and nothing written.
-    pub(crate) fn new(alloc: A, form: Form, judge: Judge) -> Result<Self, AllocError>
-        ensures { IfOk result (λ s. (s.form ≡ form) × (s.judge ≡ judge) × (s.found ≡ false) × (s.waiting ≡ [])) }
+    /// No line was judged; how the writes went that were before.
+    pub(crate) fn new(alloc: A, text: Output<A>, form: Form, judge: Judge, writes: Writes) -> Self
+        ensures { result ≡ record { form = form; judge = judge; found = false; waiting = text; writes = writes } }
     {
-        Ok(Sheet {
-            text: Output::new(alloc.clone()?),
+        Sheet {
             alloc,
             form,
             judge,
             found: false,
-            writes: Writes::new(),
-        })
+            text,
+            writes,
+        }
+    }
+
+    /// How the writes went.
+    pub(crate) fn into_writes(self) -> Writes
+        ensures { result ≡ self.writes }
+    {
+        self.writes
     }
 
     /// Whether there was a complaint.

@@ -1,27 +1,18 @@
 -- What the program's parts do, put together.
-use Rattle.std.proofs.Common.{◌≡◌, ℕ, List, take, Bool, false, sym, subst, arith, inl, inr}
-use Rattle.std.specs.Prelude.{Result, Ok, Err, IfErr, MatchResult, OnErr, OnOk}
+use Rattle.std.proofs.Common.{◌≡◌, ℕ, List, take, arith, inl, inr}
+use Rattle.std.specs.Prelude.{Result, Ok, Err, OnErr, OnOk}
 use Rattle.std.specs.Io.KnownBytes.{Appends}
 use Rattle.streams.specs.Ends.{WrittenSoFar, with_failed_write, with_flush}
 use Rattle.streams.specs.declared.output_failed.OutputFailed.{OutputFailed}
 use Rattle.ahci_args.specs.Asking.{AsksFor}
 use Rattle.ahci_args.specs.declared.request.Asked.{Asked}
 use Rattle.ahci_args.specs.declared.request.Asked.TheVariants.{Replay, Run, Identify, Log, Trace, Check, Draw}
-use Rattle.ahci_cli.specs.Faults.{IsFaultOf}
-use Rattle.ahci_cli.specs.Program.{Did, HasRanges, IsWritten, Known, error_stream}
-use Rattle.ahci_cli.specs.declared.fault.CliFault.{CliFault}
-
--- what a call did that judges no line
-pub did : {F : Type 0} (whole : Type 0) (into : F → CliFault) (early : F → Type 0) (outcome : Result (Unit {0}) CliFault) (result : Result Bool CliFault)
-    → OnOk outcome whole → IfErr outcome (IsFaultOf into early) → MatchResult outcome (λ _. result ≡ Ok false) (λ fault. result ≡ Err fault)
-    → Did whole into early result
-did whole into early (Ok done) result ok err is = subst (Did whole into early) (sym is) ok
-did whole into early (Err fault) result ok err is = subst (Did whole into early) (sym is) err
+use Rattle.ahci_cli.specs.Program.{HasRanges, IsWritten, Known, output}
 
 -- a text that a writer took to its end, or in part, and how its writes went
 pub written : (before after : Known) (text : List ℕ) (old new : WrittenSoFar) (outcome : Result (Unit {0}) OutputFailed)
     → OnOk outcome (Appends before after text) → OnErr outcome ((n : ℕ) × Appends before after (take n text))
-    → OnOk outcome (new ≡ with_flush old) → OnErr outcome (new ≡ with_failed_write old) → IsWritten (error_stream before after old new) text
+    → OnOk outcome (new ≡ with_flush old) → OnErr outcome (new ≡ with_failed_write old) → IsWritten (output before after old new) text
 written before after text old new (Ok done) ok err flushed failed = inl (ok, flushed)
 written before after text old new (Err fault) ok err flushed failed = inr (err, failed)
 

@@ -34,21 +34,40 @@ use Rattle.ahci_trace.specs.Closing.{TracedTo}
 use Rattle.ahci_trace.specs.Json.{json_line}
 use Rattle.ahci_trace.specs.Text.{trace_text}
 use Rattle.ata_pages.specs.Output.{identify_output, log_output}
-use Rattle.streams.specs.Ends.{WrittenSoFar, with_failed_write, with_flush}
+use Rattle.streams.specs.Ends.{ReadSoFar, WrittenSoFar, with_failed_write, with_flush}
+use Rattle.streams.specs.Unread.{FailsReading}
 
 -- bytes that a reader has left, or that a writer holds, where they are known
 abbrev pub Known : Type 0
 Known = Option (List ℕ)
 
--- what the reader has left and what the writer holds, before and after
-pub record Streams : Type 0 where
+-- an input: what the reader has left, and how the reads went, before and after
+pub record Input : Type 0 where
   pub had : Known
   pub left : Known
+  pub before : ReadSoFar
+  pub after : ReadSoFar
+
+abbrev pub input : Known → Known → ReadSoFar → ReadSoFar → Input
+input had left before after = record { had = had; left = left; before = before; after = after }
+
+-- nothing was read of it
+abbrev pub IsUnread : Input → Type 0
+IsUnread i = (i.left ≡ i.had) × (i.after ≡ i.before)
+
+-- an output: what the writer holds, and how the writes went, before and after
+pub record Output : Type 0 where
   pub held : Known
   pub holds : Known
+  pub before : WrittenSoFar
+  pub after : WrittenSoFar
 
-abbrev pub streams : Known → Known → Known → Known → Streams
-streams had left held holds = record { had = had; left = left; held = held; holds = holds }
+abbrev pub output : Known → Known → WrittenSoFar → WrittenSoFar → Output
+output held holds before after = record { held = held; holds = holds; before = before; after = after }
+
+-- nothing was written to it
+abbrev pub IsUnwritten : Output → Type 0
+IsUnwritten o = (o.holds ≡ o.held) × (o.after ≡ o.before)
 
 -- the text of a fault, as standard error shows it
 abbrev pub fault_text : CliFault → List ℕ
@@ -71,9 +90,9 @@ Did whole into early (Ok true) = ⊥
 Did whole into early (Err fault) = IsFaultOf into early fault
 
 -- a page was written, and nothing was read
-abbrev pub DidPage : List ℕ → Bool → Streams → Result Bool CliFault → Type 0
-DidPage text raw s outcome =
-    (s.left ≡ s.had) × Did (Appends s.held s.holds text) of_page (EndsPage text raw s.held s.holds) outcome
+abbrev pub DidPage : List ℕ → Bool → Input → Output → Result Bool CliFault → Type 0
+DidPage text raw i o outcome =
+    IsUnread i × Did (Appends o.held o.holds text) of_page (EndsPage text raw o.held o.holds) outcome
 
 -- the form of complaints that was asked for
 abbrev pub form_of_check : Bool → check.Form
@@ -86,9 +105,9 @@ judge_of false = OfScript BeforeDisk
 judge_of true = OfJobs
 
 -- lines were judged
-abbrev pub DidCheck : check.Form → Judge → Streams → Result Bool CliFault → Type 0
-DidCheck shape judge s (Ok faulty) = IsChecked shape judge s.had s.left s.held s.holds faulty
-DidCheck shape judge s (Err fault) = IsFaultOf of_check (EndsCheck shape judge s.had s.left s.held s.holds) fault
+abbrev pub DidCheck : check.Form → Judge → Input → Output → Result Bool CliFault → Type 0
+DidCheck shape judge i o (Ok faulty) = IsChecked shape judge i.had i.left o.held o.holds faulty
+DidCheck shape judge i o (Err fault) = IsFaultOf of_check (EndsCheck shape judge i.had i.left o.held o.holds) fault
 
 -- the form of a run that was asked for
 abbrev pub form_of : RunForm → Form
@@ -97,49 +116,60 @@ form_of asked_form.Json = form.Json
 form_of asked_form.Journal = form.Journal
 form_of asked_form.Image = form.Image
 
-abbrev pub Does : Asked → Streams → Result Bool CliFault → Type 0
-Does Replay s outcome =
-    Did (Replayed answers_alone s.had s.left s.held s.holds) of_script (ReplayedTo answers_alone s.had s.left s.held s.holds) outcome
-Does (Trace false) s outcome =
-    Did (Replayed trace_text s.had s.left s.held s.holds) of_script (ReplayedTo trace_text s.had s.left s.held s.holds) outcome
-Does (Trace true) s outcome =
-    Did (Replayed json_line s.had s.left s.held s.holds) of_script (TracedTo s.had s.left s.held s.holds) outcome
-Does (Check jobs json) s outcome = DidCheck (form_of_check json) (judge_of jobs) s outcome
-Does (Draw from to) s outcome =
-    Did (Drawn from to s.had s.left s.held s.holds) of_script (DrawnTo from to s.had s.left s.held s.holds) outcome
-Does (Run workers depth sectors pick wanted) s outcome =
-    Did (RunsJobs (form_of wanted) (size_of workers depth sectors) s.had s.left s.held s.holds) of_jobs
-    (EndsRun (form_of wanted) (size_of workers depth sectors) s.had s.left s.held s.holds) outcome
-Does (Identify sectors depth raw) s outcome = DidPage (identify_output sectors depth raw) raw s outcome
-Does (Log tag error lba raw) s outcome = DidPage (log_output tag error lba raw) raw s outcome
+abbrev pub Does : Asked → Input → Output → Result Bool CliFault → Type 0
+Does Replay i o outcome =
+    Did (Replayed answers_alone i.had i.left o.held o.holds) of_script (ReplayedTo answers_alone i.had i.left o.held o.holds) outcome
+Does (Trace false) i o outcome =
+    Did (Replayed trace_text i.had i.left o.held o.holds) of_script (ReplayedTo trace_text i.had i.left o.held o.holds) outcome
+Does (Trace true) i o outcome =
+    Did (Replayed json_line i.had i.left o.held o.holds) of_script (TracedTo i.had i.left o.held o.holds) outcome
+Does (Check jobs json) i o outcome = DidCheck (form_of_check json) (judge_of jobs) i o outcome
+Does (Draw from to) i o outcome =
+    Did (Drawn from to i.had i.left o.held o.holds) of_script (DrawnTo from to i.had i.left o.held o.holds) outcome
+Does (Run workers depth sectors pick wanted) i o outcome =
+    Did (RunsJobs (form_of wanted) (size_of workers depth sectors) i.had i.left o.held o.holds) of_jobs
+    (EndsRun (form_of wanted) (size_of workers depth sectors) i.had i.left o.held o.holds) outcome
+Does (Identify sectors depth raw) i o outcome = DidPage (identify_output sectors depth raw) raw i o outcome
+Does (Log tag error lba raw) i o outcome = DidPage (log_output tag error lba raw) raw i o outcome
+
+-- ---- how the reads and the writes went, by the outcome
+
+-- a fault of the input is told only if a read failed, or a byte came after the limit; and a read failed only if that is told, or
+-- output or memory was wanting, which is told before it
+abbrev pub ReadsFor : {T : Type 0} → ReadSoFar → ReadSoFar → Result T CliFault → Type 0
+ReadsFor old new (Ok done) = new.failed ≡ old.failed
+ReadsFor old new (Err fault.Read) = FailsReading new
+ReadsFor old new (Err fault.CheckRead) = FailsReading new
+ReadsFor old new (Err fault.Write) = ⊤
+ReadsFor old new (Err fault.CheckWrite) = ⊤
+ReadsFor old new (Err fault.OutOfMemory) = ⊤
+ReadsFor old new (Err other) = new.failed ≡ old.failed
+
+-- a fault of the output is told exactly if a write or a flush failed; else what was written is flushed, unless memory was wanting
+abbrev pub WritesFor : {T : Type 0} → WrittenSoFar → WrittenSoFar → Result T CliFault → Type 0
+WritesFor old new (Ok done) = new ≡ with_flush old
+WritesFor old new (Err fault.Write) = new.failed ≡ true
+WritesFor old new (Err fault.CheckWrite) = new.failed ≡ true
+WritesFor old new (Err fault.OutOfMemory) = new.failed ≡ old.failed
+WritesFor old new (Err other) = (new ≡ with_flush old) ⊎ (new ≡ old)
+
+pub record Went (i : Input) (o : Output) (outcome : Result Bool CliFault) : Type 0 where
+  pub reads : ReadsFor i.before i.after outcome
+  pub writes : WritesFor o.before o.after outcome
 
 -- ---- what standard error has, and the status
-
--- what standard error has, and how the writes to it went, before and after
-pub record ErrorStream : Type 0 where
-  pub had : Known
-  pub has : Known
-  pub before : WrittenSoFar
-  pub after : WrittenSoFar
-
-abbrev pub error_stream : Known → Known → WrittenSoFar → WrittenSoFar → ErrorStream
-error_stream had has before after = record { had = had; has = has; before = before; after = after }
-
--- nothing was written to it
-abbrev pub IsUnwritten : ErrorStream → Type 0
-IsUnwritten e = (e.has ≡ e.had) × (e.after ≡ e.before)
 
 -- the text was written, or, if a write failed, a first part of it
 abbrev pub IsTold : Known → Known → List ℕ → Type 0
 IsTold before after text = (n : ℕ) × Appends before after (take n text)
 
 -- the whole text was written, once, and flushed; or a write or a flush failed, and a first part of it was written
-abbrev pub IsWritten : ErrorStream → List ℕ → Type 0
+abbrev pub IsWritten : Output → List ℕ → Type 0
 IsWritten e text =
-    (Appends e.had e.has text × (e.after ≡ with_flush e.before)) ⊎ (IsTold e.had e.has text × (e.after ≡ with_failed_write e.before))
+    (Appends e.held e.holds text × (e.after ≡ with_flush e.before)) ⊎ (IsTold e.held e.holds text × (e.after ≡ with_failed_write e.before))
 
 -- of a good outcome nothing is reported, of a fault its text
-abbrev pub Tells : ErrorStream → Result Bool CliFault → Type 0
+abbrev pub Tells : Output → Result Bool CliFault → Type 0
 Tells e (Ok faulty) = IsUnwritten e
 Tells e (Err fault) = IsWritten e (fault_text fault)
 
@@ -150,65 +180,65 @@ status_for (Ok true) = 1
 status_for (Err fault) = status_of fault
 
 -- the outcome is reported, and the status is its own
-pub record Ends (e : ErrorStream) (status : ℕ) (outcome : Result Bool CliFault) : Type 0 where
+pub record Ends (e : Output) (status : ℕ) (outcome : Result Bool CliFault) : Type 0 where
   pub told : Tells e outcome
   pub status_is : status ≡ status_for outcome
 
 -- ---- the whole
 
 -- the words have no fault and ask for something, which is done, reported and ended
-pub record Obeys (words : List (List ℕ)) (s : Streams) (e : ErrorStream) (status : ℕ) : Type 0 where
+pub record Obeys (words : List (List ℕ)) (i : Input) (o e : Output) (status : ℕ) : Type 0 where
   pub asked : Asked
   pub asks : AsksFor words asked
   pub picks : PickWords
   pub sound : usage_faults picks words ≡ []
   pub outcome : Result Bool CliFault
-  pub does : Does asked s outcome
+  pub does : Does asked i o outcome
+  pub went : Went i o outcome
   pub ends : Ends e status outcome
 
 -- a text that was asked for is on the output, to its end or to where the output failed; an allocation for it may fail
-abbrev pub IsShown : List ℕ → Known → Known → Result Bool CliFault → Type 0
-IsShown text held holds (Ok false) = Appends held holds text
-IsShown text held holds (Ok true) = ⊥
-IsShown text held holds (Err fault.Write) = IsTold held holds text
-IsShown text held holds (Err fault.OutOfMemory) = holds ≡ held
-IsShown text held holds (Err other) = ⊥
+abbrev pub IsShown : List ℕ → Output → Result Bool CliFault → Type 0
+IsShown text o (Ok false) = Appends o.held o.holds text × (o.after ≡ with_flush o.before)
+IsShown text o (Ok true) = ⊥
+IsShown text o (Err fault.Write) = IsTold o.held o.holds text × (o.after ≡ with_failed_write o.before)
+IsShown text o (Err fault.OutOfMemory) = IsUnwritten o
+IsShown text o (Err other) = ⊥
 
 -- help, or the version
-pub record Shows (held holds : Known) (e : ErrorStream) (status : ℕ) : Type 0 where
+pub record Shows (o e : Output) (status : ℕ) : Type 0 where
   pub text : List ℕ
   pub outcome : Result Bool CliFault
-  pub shown : IsShown text held holds outcome
+  pub shown : IsShown text o outcome
   pub ends : Ends e status outcome
 
 -- a wrong command line: a text on the errors and 2; an allocation for the text may fail
-abbrev pub Rejects : ErrorStream → ℕ → Type 0
+abbrev pub Rejects : Output → ℕ → Type 0
 Rejects e status = ((text : List ℕ) × IsWritten e text × (status ≡ 2)) ⊎ Ends e status (Err fault.OutOfMemory)
 
 -- what the parser of the command line reports, by the kind of its fault
-abbrev pub Says : ErrorKind → Known → Known → ErrorStream → ℕ → Type 0
-Says wrong.DisplayHelp held holds e status = Shows held holds e status
-Says wrong.DisplayVersion held holds e status = Shows held holds e status
-Says wrong.OutOfMemory held holds e status = (holds ≡ held) × Ends e status (Err fault.OutOfMemory)
-Says other held holds e status = (holds ≡ held) × Rejects e status
+abbrev pub Says : ErrorKind → (o e : Output) → ℕ → Type 0
+Says wrong.DisplayHelp o e status = Shows o e status
+Says wrong.DisplayVersion o e status = Shows o e status
+Says wrong.OutOfMemory o e status = IsUnwritten o × Ends e status (Err fault.OutOfMemory)
+Says other o e status = IsUnwritten o × Rejects e status
 
 -- the words have one of the faults that the parser's rules find in them, or the parser was out of memory; nothing is read
-pub record Explains (words : List (List ℕ)) (s : Streams) (e : ErrorStream) (status : ℕ) : Type 0 where
+pub record Explains (words : List (List ℕ)) (i : Input) (o e : Output) (status : ℕ) : Type 0 where
   pub picks : PickWords
   pub kind : ErrorKind
   pub fails : (kind ≡ wrong.OutOfMemory) ⊎ IsAmong kind (usage_faults picks words)
-  pub unread : s.left ≡ s.had
-  pub says : Says kind s.held s.holds e status
+  pub unread : IsUnread i
+  pub says : Says kind o e status
 
--- a run of the program, by the words of its command line, its reader and writer, standard error, and its status
-abbrev pub Runs : List (List ℕ) → Streams → ErrorStream → ℕ → Type 0
-Runs words s e status = Obeys words s e status ⊎ Explains words s e status
+-- a run of the program, by the words of its command line, standard input, output and error, and its status
+abbrev pub Runs : List (List ℕ) → Input → (o e : Output) → ℕ → Type 0
+Runs words i o e status = Obeys words i o e status ⊎ Explains words i o e status
 
 -- the words could not be read: an argument is no text, or there is no memory
-abbrev pub RunsWithout : WordsFault → Known → Known → ErrorStream → ℕ → Type 0
-RunsWithout NotText held holds e status =
-    Says wrong.InvalidValue held holds e status ⊎ Says wrong.OutOfMemory held holds e status
-RunsWithout OutOfMemory held holds e status = Says wrong.OutOfMemory held holds e status
+abbrev pub RunsWithout : WordsFault → (o e : Output) → ℕ → Type 0
+RunsWithout NotText o e status = Says wrong.InvalidValue o e status ⊎ Says wrong.OutOfMemory o e status
+RunsWithout OutOfMemory o e status = Says wrong.OutOfMemory o e status
 
 -- the numbers of what is asked for are in their ranges
 abbrev pub HasRanges : Asked → Type 0

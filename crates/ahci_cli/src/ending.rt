@@ -1,12 +1,12 @@
 //! How the program ends: what it reports of an outcome, and the status.
 
 ghost use Rattle.clap.specs.Words.{kind_of};
-ghost use Rattle.std.specs.Prelude.{◌≡◌, OnErr, OnOk};
-ghost use Rattle.streams.specs.Ends.{with_failed_write, with_flush};
-ghost use Rattle.ahci_cli.specs.Program.{Ends, IsShown, IsWritten, Rejects, Says, error_stream};
+ghost use Rattle.std.specs.Prelude.{◌≡◌};
+ghost use Rattle.ahci_cli.specs.Program.{Ends, IsShown, IsWritten, Rejects, Says, output};
 
 use crate::fault::CliFault;
 use crate::fault_text::text_of;
+use crate::stream_log::StreamLog;
 use clap::Error;
 use clap::error::ErrorKind;
 use std::alloc::Global;
@@ -22,7 +22,7 @@ pub(crate) fn end<E: Write>(
     errors: &mut E,
     tells: &mut Writes,
 ) -> u8
-    ensures { Ends (error_stream (E.contents errors.old) (E.contents errors.new) tells.old tells.new) result outcome }
+    ensures { Ends (output (E.contents errors.old) (E.contents errors.new) tells.old tells.new) result outcome }
 {
     match outcome {
         Ok(false) => 0,
@@ -38,7 +38,7 @@ pub(crate) fn end<E: Write>(
 /// Writes a text, as far as it can be written.
 #[tactic(auto, using(crate::proofs::ProgramLemmas::written))]
 fn tell<E: Write>(text: &[u8], errors: &mut E, tells: &mut Writes)
-    ensures { IsWritten (error_stream (E.contents errors.old) (E.contents errors.new) tells.old tells.new) text.now }
+    ensures { IsWritten (output (E.contents errors.old) (E.contents errors.new) tells.old tells.new) text.now }
 {
     let _ = tells.write_whole(errors, text);
 }
@@ -49,32 +49,31 @@ pub(crate) fn explain<W: Write, E: Write>(
     error: &Error,
     writer: &mut W,
     errors: &mut E,
-    tells: &mut Writes,
+    log: &mut StreamLog,
 ) -> u8
-    ensures { Says (kind_of error.now) (W.contents writer.old) (W.contents writer.new)
-        (error_stream (E.contents errors.old) (E.contents errors.new) tells.old tells.new) result }
+    ensures says { Says (kind_of error.now)
+        (output (W.contents writer.old) (W.contents writer.new) log.old.output log.new.output)
+        (output (E.contents errors.old) (E.contents errors.new) log.old.errors log.new.errors) result }
+    ensures unread { log.new.input ≡ log.old.input }
 {
     match error.kind() {
-        ErrorKind::OutOfMemory => end(Err(CliFault::OutOfMemory), errors, tells),
+        ErrorKind::OutOfMemory => end(Err(CliFault::OutOfMemory), errors, &mut log.errors),
         ErrorKind::DisplayHelp | ErrorKind::DisplayVersion => {
             match format!(in alloc; "{error}") {
-                Ok(text) => end(
-                    show(text.as_bytes(), writer, &mut Writes::new()),
-                    errors,
-                    tells,
-                ),
-                Err(_) => end(Err(CliFault::OutOfMemory), errors, tells),
+                Ok(text) => {
+                    let outcome = show(text.as_bytes(), writer, &mut log.output);
+                    end(outcome, errors, &mut log.errors)
+                }
+                Err(_) => end(Err(CliFault::OutOfMemory), errors, &mut log.errors),
             }
         }
-        _ => reject(alloc, error, errors, tells),
+        _ => reject(alloc, error, errors, &mut log.errors),
     }
 }
 
 /// Writes help, or the version.
 fn show<W: Write>(text: &[u8], writer: &mut W, writes: &mut Writes) -> Result<bool, CliFault>
-    ensures shown { IsShown text.now (W.contents writer.old) (W.contents writer.new) result }
-    ensures flushed { OnOk result (writes.new ≡ with_flush writes.old) }
-    ensures failed { OnErr result (writes.new ≡ with_failed_write writes.old) }
+    ensures { IsShown text.now (output (W.contents writer.old) (W.contents writer.new) writes.old writes.new) result }
 {
     match writes.write_whole(writer, text) {
         Ok(()) => Ok(false),
@@ -84,7 +83,7 @@ fn show<W: Write>(text: &[u8], writer: &mut W, writes: &mut Writes) -> Result<bo
 
 /// Reports what is wrong with the command line.
 fn reject<E: Write>(alloc: Global, error: &Error, errors: &mut E, tells: &mut Writes) -> u8
-    ensures { Rejects (error_stream (E.contents errors.old) (E.contents errors.new) tells.old tells.new) result }
+    ensures { Rejects (output (E.contents errors.old) (E.contents errors.new) tells.old tells.new) result }
 {
     match format!(in alloc; "{error}") {
         Ok(text) => {

@@ -2,18 +2,19 @@
 
 ghost use Rattle.std.specs.Prelude.{◌≡◌, ◌≤◌, IfErr, OnOk};
 ghost use Rattle.ahci_cli.specs.Faults.{IsFaultOf, of_jobs};
-ghost use Rattle.ahci_cli.specs.Program.{form_of};
+ghost use Rattle.ahci_cli.specs.Program.{ReadsFor, WritesFor, form_of};
 ghost use Rattle.ahci_jobs.specs.RunJobs.{EndsRun, RunsJobs};
 ghost use Rattle.ahci_jobs.specs.Size.{size_of};
 
 use crate::fault::CliFault;
 use crate::picked::Picked;
 use ahci_args::{Pick, RunForm};
-use ahci_jobs::{Form, RunSize};
+use ahci_jobs::{Form, RunSize, run_jobs_with};
 use std::alloc::Allocator;
 use std::io::{Read, Write};
 use std::sync::Wait;
 use std::thread::Threads;
+use streams::{Reads, Writes};
 
 /// Does the jobs that the reader gives, as `ahci_jobs::run_jobs` does, with the chooser that is picked, and writes the text of the
 /// run.
@@ -44,10 +45,22 @@ where
         (W.contents writer.old) (W.contents writer.new))) }
 {
     let size = RunSize::new(workers, depth, sectors);
-    run_in_form(rt, alloc, size, pick, Form::Text, reader, writer)
+    let (reads, writes) = (&mut Reads::new(), &mut Writes::new());
+    run_in_form(
+        rt,
+        alloc,
+        size,
+        pick,
+        Form::Text,
+        reader,
+        reads,
+        writer,
+        writes,
+    )
 }
 
-/// Does the jobs that the reader gives with the chooser that is picked, and writes the run in this form.
+/// Does the jobs that the reader gives with the chooser that is picked, and writes the run in this form; `reads` and `writes` record
+/// how the reads and writes went.
 pub(crate) fn run_in_form<H, R, W, A>(
     rt: &H,
     alloc: A,
@@ -55,7 +68,9 @@ pub(crate) fn run_in_form<H, R, W, A>(
     pick: Pick,
     form: Form,
     reader: &mut R,
+    reads: &mut Reads,
     writer: &mut W,
+    writes: &mut Writes,
 ) -> Result<(), CliFault>
 where
     H: Threads + Wait + Sync,
@@ -66,8 +81,13 @@ where
         (W.contents writer.old) (W.contents writer.new)) }
     ensures err { IfErr result (IsFaultOf of_jobs (EndsRun form size (R.remaining reader.old) (R.remaining reader.new)
         (W.contents writer.old) (W.contents writer.new))) }
+    ensures reads { ReadsFor reads.old reads.new result }
+    ensures writes { WritesFor writes.old writes.new result }
 {
-    Ok(ahci_jobs::run_jobs(rt, alloc, size, Picked { pick }, form, reader, writer)?)
+    let chooser = Picked { pick };
+    Ok(run_jobs_with(
+        rt, alloc, size, chooser, form, reader, reads, writer, writes,
+    )?)
 }
 
 /// The form of `ahci_jobs` that a command line asks for.

@@ -9,6 +9,7 @@ mod laws;
 mod picked;
 mod running;
 mod scripts;
+mod stream_log;
 mod words_fault;
 
 pub use ahci_args::{Asked, Pick, RunForm, asked, not_text};
@@ -17,5 +18,5 @@ pub use jobs::run_jobs;
 pub use laws::a_check_of_jobs_stops_where_a_run_stops;
 pub use running::{program, program_with, program_without_words};
 pub use scripts::replay;
-pub use streams::Writes;
+pub use stream_log::StreamLog;
 pub use words_fault::WordsFault;

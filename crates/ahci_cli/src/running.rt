@@ -2,26 +2,28 @@
 
 ghost use Rattle.std.specs.Prelude.{map, ◌≡◌, IfErr, IfOk, OnErr};
 ghost use Rattle.std.specs.String.{string_bytes};
-ghost use Rattle.ahci_cli.specs.Program.{Does, HasRanges, Runs, RunsWithout, error_stream, form_of_check, streams};
+ghost use Rattle.ahci_cli.specs.Program.{Does, HasRanges, IsUnread, ReadsFor, Runs, RunsWithout, WritesFor, form_of_check, input, judge_of, output};
 
 use crate::ending::{end, explain};
 use crate::fault::CliFault;
 use crate::jobs::{form_of, run_in_form};
-use crate::scripts::replay;
+use crate::scripts::replay_with;
+use crate::stream_log::StreamLog;
 use crate::words_fault::WordsFault;
 use ahci_args::{Asked, asked, not_text};
-use ahci_check::{Form, check, check_jobs};
+use ahci_check::{Form, Judge, Place, check_with};
 use ahci_jobs::RunSize;
 use std::alloc::Global;
 use std::io::{Read, Write};
 use std::sync::Wait;
 use std::thread::Threads;
-use streams::Writes;
+use streams::{Reads, Writes};
 
 /// The whole program: does what the words ask for, of which the first is the program's name, with standard input, output and
 /// error. The exit status: 0; 1 for a fault, or if a line that was checked is faulty; 2 for a wrong command line; 3 if out of
-/// memory; 4 if lines were checked and input or output failed. `tells` records how the writes to standard error went: a fault's text is
-/// written there whole, once, and flushed, unless one of them failed.
+/// memory; 4 if lines were checked and input or output failed. `log` records how the reads and writes of the three streams went.
+/// `Read` and `Write` are returned only if a read or a write failed; an output of which no write failed is whole and flushed; a
+/// fault's text is on standard error whole, once, and flushed, unless a write to it failed.
 pub fn program<H, R, W, E>(
     rt: &H,
     alloc: Global,
@@ -29,7 +31,7 @@ pub fn program<H, R, W, E>(
     reader: &mut R,
     writer: &mut W,
     errors: &mut E,
-    tells: &mut Writes,
+    log: &mut StreamLog,
 ) -> u8
 where
     H: Threads + Wait + Sync,
@@ -37,15 +39,17 @@ where
     W: Write,
     E: Write,
     ensures { Runs (map string_bytes words.now)
-        (streams (R.remaining reader.old) (R.remaining reader.new) (W.contents writer.old) (W.contents writer.new))
-        (error_stream (E.contents errors.old) (E.contents errors.new) tells.old tells.new) result }
+        (input (R.remaining reader.old) (R.remaining reader.new) log.old.input log.new.input)
+        (output (W.contents writer.old) (W.contents writer.new) log.old.output log.new.output)
+        (output (E.contents errors.old) (E.contents errors.new) log.old.errors log.new.errors) result }
 {
     match asked(alloc, words) {
         Ok(asked) => {
-            let outcome = done(rt, alloc, asked, reader, writer);
-            end(outcome, errors, tells)
+            let (reads, writes) = (&mut log.input, &mut log.output);
+            let outcome = done(rt, alloc, asked, reader, reads, writer, writes);
+            end(outcome, errors, &mut log.errors)
         }
-        Err(error) => explain(alloc, &error, writer, errors, tells),
+        Err(error) => explain(alloc, &error, writer, errors, log),
     }
 }
 
@@ -55,16 +59,18 @@ pub fn program_without_words<W: Write, E: Write>(
     fault: WordsFault,
     writer: &mut W,
     errors: &mut E,
-    tells: &mut Writes,
+    log: &mut StreamLog,
 ) -> u8
-    ensures { RunsWithout fault (W.contents writer.old) (W.contents writer.new)
-        (error_stream (E.contents errors.old) (E.contents errors.new) tells.old tells.new) result }
+    ensures without { RunsWithout fault
+        (output (W.contents writer.old) (W.contents writer.new) log.old.output log.new.output)
+        (output (E.contents errors.old) (E.contents errors.new) log.old.errors log.new.errors) result }
+    ensures unread { log.new.input ≡ log.old.input }
 {
     match fault {
         WordsFault::NotText => match not_text(alloc) {
-            Ok(error) | Err(error) => explain(alloc, &error, writer, errors, tells),
+            Ok(error) | Err(error) => explain(alloc, &error, writer, errors, log),
         },
-        WordsFault::OutOfMemory => end(Err(CliFault::OutOfMemory), errors, tells),
+        WordsFault::OutOfMemory => end(Err(CliFault::OutOfMemory), errors, &mut log.errors),
     }
 }
 
@@ -77,7 +83,7 @@ pub fn program_with<H, R, W, E>(
     reader: &mut R,
     writer: &mut W,
     errors: &mut E,
-    tells: &mut Writes,
+    log: &mut StreamLog,
 ) -> u8
 where
     H: Threads + Wait + Sync,
@@ -85,16 +91,17 @@ where
     W: Write,
     E: Write,
     ensures words { IfOk words (λ words. Runs (map string_bytes words.items)
-        (streams (R.remaining reader.old) (R.remaining reader.new) (W.contents writer.old) (W.contents writer.new))
-        (error_stream (E.contents errors.old) (E.contents errors.new) tells.old tells.new) result) }
-    ensures unread { OnErr words (R.remaining reader.new ≡ R.remaining reader.old) }
+        (input (R.remaining reader.old) (R.remaining reader.new) log.old.input log.new.input)
+        (output (W.contents writer.old) (W.contents writer.new) log.old.output log.new.output)
+        (output (E.contents errors.old) (E.contents errors.new) log.old.errors log.new.errors) result) }
+    ensures unread { OnErr words (IsUnread (input (R.remaining reader.old) (R.remaining reader.new) log.old.input log.new.input)) }
     ensures without { IfErr words (λ fault. RunsWithout fault
-        (W.contents writer.old) (W.contents writer.new)
-        (error_stream (E.contents errors.old) (E.contents errors.new) tells.old tells.new) result) }
+        (output (W.contents writer.old) (W.contents writer.new) log.old.output log.new.output)
+        (output (E.contents errors.old) (E.contents errors.new) log.old.errors log.new.errors) result) }
 {
     match words {
-        Ok(words) => program(rt, alloc, words.as_slice(), reader, writer, errors, tells),
-        Err(fault) => program_without_words(alloc, fault, writer, errors, tells),
+        Ok(words) => program(rt, alloc, words.as_slice(), reader, writer, errors, log),
+        Err(fault) => program_without_words(alloc, fault, writer, errors, log),
     }
 }
 
@@ -104,36 +111,39 @@ fn done<H, R, W>(
     alloc: Global,
     asked: Asked,
     reader: &mut R,
+    reads: &mut Reads,
     writer: &mut W,
+    writes: &mut Writes,
 ) -> Result<bool, CliFault>
 where
     H: Threads + Wait + Sync,
     R: Read,
     W: Write,
     requires { HasRanges asked }
-    ensures { Does asked (streams (R.remaining reader.old) (R.remaining reader.new) (W.contents writer.old) (W.contents writer.new)) result }
+    ensures does { Does asked (input (R.remaining reader.old) (R.remaining reader.new) reads.old reads.new)
+        (output (W.contents writer.old) (W.contents writer.new) writes.old writes.new) result }
+    ensures reads { ReadsFor reads.old reads.new result }
+    ensures writes { WritesFor writes.old writes.new result }
 {
     match asked {
         Asked::Replay => {
-            replay(alloc, reader, writer)?;
+            replay_with(alloc, reader, reads, writer, writes)?;
             Ok(false)
         }
         Asked::Trace { json: false } => {
-            ahci_trace::trace(alloc, reader, writer)?;
+            ahci_trace::trace_with(alloc, reader, reads, writer, writes)?;
             Ok(false)
         }
         Asked::Trace { json: true } => {
-            ahci_trace::trace_json(alloc, reader, writer)?;
+            ahci_trace::trace_json_with(alloc, reader, reads, writer, writes)?;
             Ok(false)
         }
-        Asked::Check { jobs: false, json } => {
-            Ok(check(alloc, form_of_check(json), reader, writer)?)
-        }
-        Asked::Check { jobs: true, json } => {
-            Ok(check_jobs(alloc, form_of_check(json), reader, writer)?)
+        Asked::Check { jobs, json } => {
+            let (form, judge) = (form_of_check(json), judge_of(jobs));
+            Ok(check_with(alloc, form, judge, reader, reads, writer, writes)?)
         }
         Asked::Draw { from, to } => {
-            ahci_draw::draw(alloc, from, to, reader, writer)?;
+            ahci_draw::draw_with(alloc, from, to, reader, reads, writer, writes)?;
             Ok(false)
         }
         Asked::Run {
@@ -143,8 +153,8 @@ where
             pick,
             form,
         } => {
-            let size = RunSize::new(workers, depth, sectors);
-            run_in_form(rt, alloc, size, pick, form_of(form), reader, writer)?;
+            let (size, form) = (RunSize::new(workers, depth, sectors), form_of(form));
+            run_in_form(rt, alloc, size, pick, form, reader, reads, writer, writes)?;
             Ok(false)
         }
         Asked::Identify {
@@ -152,7 +162,7 @@ where
             depth,
             raw,
         } => {
-            ata_pages::write_identify(alloc, sectors, depth, raw, writer)?;
+            ata_pages::write_identify_with(alloc, sectors, depth, raw, writer, writes)?;
             Ok(false)
         }
         Asked::Log {
@@ -161,9 +171,20 @@ where
             lba,
             raw,
         } => {
-            ata_pages::write_log(alloc, tag, error, lba, raw, writer)?;
+            ata_pages::write_log_with(alloc, tag, error, lba, raw, writer, writes)?;
             Ok(false)
         }
+    }
+}
+
+/// How the first line is judged.
+fn judge_of(jobs: bool) -> Judge
+    ensures { result ≡ judge_of jobs }
+{
+    if jobs {
+        Judge::OfJobs
+    } else {
+        Judge::OfScript(Place::BeforeDisk)
     }
 }
 

@@ -2,10 +2,10 @@
 use Rattle.std.proofs.Common.{◌≡◌, List, [], ℕ, Option, Some, Result, Ok, Err, OnOk, IfErr, true, inl, inr, subst, sym}
 use Rattle.std.specs.Result.{result_and}
 use Rattle.std.specs.Io.KnownBytes.{Appends}
-use Rattle.ahci_replay.specs.Transcript.{Replayed, ReplayedTo}
+use Rattle.ahci_replay.specs.Transcript.{ReadsBefore, ReadsTo, Replayed, ReplayedTo}
 use Rattle.ahci_replay.specs.declared.script_fault.ScriptFault.{ScriptFault}
 use Rattle.ahci_replay.specs.declared.script_fault.ScriptFault.TheVariants as fault
-use Rattle.streams.specs.Ends.{WrittenSoFar, with_flush}
+use Rattle.streams.specs.Ends.{ReadSoFar, WrittenSoFar, with_flush}
 use Rattle.ahci_draw.specs.Drawn.{DrawWrites, Drawn, DrawnTo, IsSentTo, IsSheet, IsSheetTo, SendWrites, has_sheet, picture_lines}
 use Rattle.ahci_draw.specs.Sheet.{sheet_text}
 
@@ -79,3 +79,25 @@ module _ (old new : WrittenSoFar) where
   draws r s sheet (Ok x) (Err fault.Write) is flushed failed = absurd is
   draws r s sheet (Ok x) (Err fault.OutOfMemory) is flushed failed = absurd is
   draws r s sheet (Err f) replayed is flushed failed = draws_as f failed
+
+-- and its reads
+module _ (old new : ReadSoFar) where
+  pub drawn_unfailed : (sent replayed : Result (Unit {0}) ScriptFault) → OnOk replayed (new.failed ≡ old.failed) → OnOk (result_and sent replayed) (new.failed ≡ old.failed)
+  drawn_unfailed (Ok x) (Ok y) unfailed = unfailed
+  drawn_unfailed (Ok x) (Err f) unfailed = tt
+  drawn_unfailed (Err f) replayed unfailed = tt
+
+  before : (f : ScriptFault) → ReadsTo old new f → ReadsBefore old new f
+  before (fault.Line n) reads = reads
+  before fault.Read reads = reads
+  before fault.Write reads = tt
+  before fault.OutOfMemory reads = tt
+
+  pub reads_drawn : (before_writes after_writes : WrittenSoFar) (sent replayed : Result (Unit {0}) ScriptFault) → IfErr sent (SendWrites before_writes after_writes) → IfErr replayed (ReadsTo old new)
+      → IfErr (result_and sent replayed) (ReadsBefore old new)
+  reads_drawn x y (Ok sent) (Ok whole) failed reads = tt
+  reads_drawn x y (Ok sent) (Err f) failed reads = before f reads
+  reads_drawn x y (Err (fault.Line n)) replayed failed reads = absurd failed
+  reads_drawn x y (Err fault.Read) replayed failed reads = absurd failed
+  reads_drawn x y (Err fault.Write) replayed failed reads = tt
+  reads_drawn x y (Err fault.OutOfMemory) replayed failed reads = tt

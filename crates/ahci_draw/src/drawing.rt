@@ -3,6 +3,7 @@
 ghost use Rattle.std.specs.Prelude.{◌≡◌, IfErr, OnOk};
 ghost use Rattle.streams.specs.Ends.{with_flush};
 ghost use Rattle.std.specs.Io.KnownBytes.{Appends};
+ghost use Rattle.ahci_replay.specs.Transcript.{ReadsBefore};
 ghost use Rattle.ahci_draw.specs.Drawn.{DrawWrites, Drawn, DrawnTo, IsSentTo, SendWrites, has_sheet, picture_lines};
 
 use crate::drawer::Drawer;
@@ -11,7 +12,7 @@ use ahci_replay::{ScriptFault, replay_with};
 use ahci_script::Output;
 use std::alloc::Allocator;
 use std::io::{Read, Write};
-use streams::Writes;
+use streams::{Reads, Writes};
 
 /// Runs the script that the reader gives as `replay` does, and writes a picture of what the port did, as SVG: the entries of its
 /// journal from one number to another, both of them too. All are drawn from 0 to `u64::MAX`, and none where `from` is past `to` or
@@ -29,15 +30,27 @@ pub fn draw<R: Read, W: Write, A: Allocator + Copy>(
     ensures ok { OnOk result (Drawn from to (R.remaining reader.old) (R.remaining reader.new) (W.contents writer.old) (W.contents writer.new)) }
     ensures err { IfErr result (DrawnTo from to (R.remaining reader.old) (R.remaining reader.new) (W.contents writer.old) (W.contents writer.new)) }
 {
-    drawn(alloc, from, to, reader, writer, &mut Writes::new())
+    draw_with(
+        alloc,
+        from,
+        to,
+        reader,
+        &mut Reads::new(),
+        writer,
+        &mut Writes::new(),
+    )
 }
 
-/// The same, and tells how the writes went.
-fn drawn<R: Read, W: Write, A: Allocator + Copy>(
+/// The same, and `reads` and `writes` record how the reads and writes went.
+///
+/// # Errors
+/// Those of `draw`.
+pub fn draw_with<R: Read, W: Write, A: Allocator + Copy>(
     alloc: A,
     from: u64,
     to: u64,
     reader: &mut R,
+    reads: &mut Reads,
     writer: &mut W,
     writes: &mut Writes,
 ) -> Result<(), ScriptFault>
@@ -45,9 +58,12 @@ fn drawn<R: Read, W: Write, A: Allocator + Copy>(
     ensures err { IfErr result (DrawnTo from to (R.remaining reader.old) (R.remaining reader.new) (W.contents writer.old) (W.contents writer.new)) }
     ensures flushed { OnOk result (writes.new ≡ with_flush writes.old) }
     ensures writes { IfErr result (DrawWrites writes.old writes.new) }
+    ensures unfailed { OnOk result (reads.new.failed ≡ reads.old.failed) }
+    ensures reads { IfErr result (ReadsBefore reads.old reads.new) }
 {
     let mut sheet = Vec::new(alloc);
-    let replayed = replay_with(alloc, &Drawer::new(alloc), reader, &mut sheet);
+    let (drawer, mut sent) = (Drawer::new(alloc), Writes::new());
+    let replayed = replay_with(alloc, &drawer, reader, reads, &mut sheet, &mut sent);
     if has_sheet(&replayed) {
         return send(alloc, from, to, &sheet, writer, writes).and(replayed);
     }

@@ -27,4 +27,4 @@ mod tags;
 mod text;
 mod words;
 
-pub use drawing::draw;
+pub use drawing::{draw, draw_with};

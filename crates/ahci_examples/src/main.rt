@@ -5,7 +5,7 @@
 ghost use Rattle.std.specs.Prelude.{◌≤◌};
 
 use ahci_check::{Form, check};
-use ahci_cli::{CliFault, Pick, Writes, program, replay, run_jobs};
+use ahci_cli::{CliFault, Pick, StreamLog, program, replay, run_jobs};
 use ahci_draw::draw;
 use ahci_trace::{trace, trace_json};
 use ata_pages::{write_identify, write_log};
@@ -277,7 +277,7 @@ fn is_line_as_expected<T: Threads + Wait + Sync>(
         &mut reader,
         &mut written,
         &mut told,
-        &mut Writes::new(),
+        &mut StreamLog::new(),
     );
     written.extend_from_slice(told.as_slice())?;
     Ok(ended == status && written.as_slice() == expected.as_slice())

@@ -16,4 +16,4 @@ mod telling;
 pub use form::Form;
 pub use jobs_fault::JobsFault;
 pub use run_size::RunSize;
-pub use running::run_jobs;
+pub use running::{run_jobs, run_jobs_with};

@@ -113,7 +113,7 @@ where
     ensures err { IfErr result (EndsRun form size (R.remaining reader.old) (R.remaining reader.new)
         (W.contents writer.old) (W.contents writer.new)) }
 {
-    run_list(
+    run_jobs_with(
         rt,
         alloc,
         size,
@@ -126,8 +126,11 @@ where
     )
 }
 
-/// The same, and tells how the reads and writes went.
-fn run_list<H, R, W, C, A>(
+/// The same, and `reads` and `writes` record how the reads and writes went.
+///
+/// # Errors
+/// Those of `run_jobs`.
+pub fn run_jobs_with<H, R, W, C, A>(
     rt: &H,
     alloc: A,
     size: RunSize,

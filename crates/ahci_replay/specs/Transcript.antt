@@ -181,3 +181,9 @@ abbrev pub ReadsTo : ReadSoFar → ReadSoFar → ScriptFault → Type 0
 ReadsTo old new fault.Read = FailsReading new
 ReadsTo old new fault.Write = ⊤
 ReadsTo old new other = new.failed ≡ old.failed
+
+-- the same where more is written after the script: output or memory that is wanting then is told before a failed read
+abbrev pub ReadsBefore : ReadSoFar → ReadSoFar → ScriptFault → Type 0
+ReadsBefore old new (fault.Line n) = new.failed ≡ old.failed
+ReadsBefore old new fault.Read = FailsReading new
+ReadsBefore old new other = ⊤

@@ -18,5 +18,5 @@ pub use reading::read_window;
 pub use replaying::{replay, replay_with};
 pub use script_fault::ScriptFault;
 pub use session::Session;
-pub use teller::Teller;
+pub use teller::{AnswersAlone, Teller};
 pub use unanswered::Unanswered;

@@ -9,7 +9,8 @@ use crate::script_fault::ScriptFault;
 use crate::teller::{AnswersAlone, Teller};
 use std::alloc::Allocator;
 use std::io::{Read, Write};
-use streams::{Reads, take_lines};
+use std::mem;
+use streams::{Reads, Writes, take_lines};
 
 /// Runs the script that the reader gives, and writes an answer for each command. The first fault
 /// in the order of the input ends it, after the answers to the lines before.
@@ -24,24 +25,40 @@ pub fn replay<R: Read, W: Write, A: Allocator + Copy>(
         (ReplayedTo answers_alone (R.remaining reader.old) (R.remaining reader.new)
         (W.contents writer.old) (W.contents writer.new)) }
 {
-    replay_with(alloc, &AnswersAlone, reader, writer)
+    replay_with(
+        alloc,
+        &AnswersAlone,
+        reader,
+        &mut Reads::new(),
+        writer,
+        &mut Writes::new(),
+    )
 }
 
-/// The same, and for each answer stands what the teller tells of the command.
+/// The same, with what the teller says of each command in the place of its answer. `reads` and `writes` record how the reads and
+/// writes went: where none failed, what was written is flushed, also at a fault of the script.
 pub fn replay_with<T: Teller<A>, R: Read, W: Write, A: Allocator + Copy>(
     alloc: A,
     teller: &T,
     reader: &mut R,
+    reads: &mut Reads,
     writer: &mut W,
+    writes: &mut Writes,
 ) -> Result<(), ScriptFault>
     ensures ok { OnOk result (Replayed T.telling (R.remaining reader.old) (R.remaining reader.new)
         (W.contents writer.old) (W.contents writer.new)) }
     ensures err { IfErr result
         (ReplayedTo T.telling (R.remaining reader.old) (R.remaining reader.new)
         (W.contents writer.old) (W.contents writer.new)) }
+    ensures flushed { OnOk result (writes.new ≡ with_flush writes.old) }
+    ensures writes { IfErr result (WritesTo writes.old writes.new) }
+    ensures unfailed { OnOk result (reads.new.failed ≡ reads.old.failed) }
+    ensures reads { IfErr result (ReadsTo reads.old reads.new) }
 {
-    let mut script = Script::new(alloc, teller);
-    replay_script(alloc, &mut script, reader, &mut Reads::new(), writer)
+    let mut script = Script::new(alloc, teller, mem::replace(writes, Writes::new()));
+    let outcome = replay_script(alloc, &mut script, reader, reads, writer);
+    *writes = script.writes;
+    outcome
 }
 
 /// Runs a script of which nothing came yet, and tells how its reads and writes went.

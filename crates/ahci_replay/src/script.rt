@@ -23,13 +23,13 @@ impl<'t, T: Teller<A>, A: Allocator + Copy> Script<'t, T, A> {
     ghost use Rattle.ahci_replay.specs.Place.{place};
     ghost use Rattle.ahci_replay.specs.Transcript.{Answers, RefusesLine};
 
-    /// A script of which nothing came yet.
-    pub(crate) fn new(alloc: A, teller: &'t T) -> Self
-        ensures { (result.output ≡ []) × (result.session ≡ None) }
+    /// A script of which nothing came yet, and how the writes went that were before it.
+    pub(crate) fn new(alloc: A, teller: &'t T, writes: Writes) -> Self
+        ensures { (result.output ≡ []) × ((result.session ≡ None) × (result.writes ≡ writes)) }
     {
         Script {
             output: Output::new(alloc),
-            writes: Writes::new(),
+            writes,
             session: Session::new(alloc),
             teller,
         }

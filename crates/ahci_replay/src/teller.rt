@@ -46,7 +46,7 @@ pub trait Teller<A: Allocator> {
 
 /// Each answer is a line.
 #[derive(Drop)]
-pub(crate) struct AnswersAlone;
+pub struct AnswersAlone;
 
 impl<A: Allocator> Teller<A> for AnswersAlone {
     ghost use Rattle.ahci_replay.specs.Transcript.{answers_alone};

@@ -7,3 +7,4 @@ pub mod ObjectLemmas
 mod NewestLemmas
 mod AreaLemmas
 mod WriteLemmas
+mod ClosingLemmas

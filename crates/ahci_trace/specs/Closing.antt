@@ -53,6 +53,12 @@ Closes fault.Write before after g = (g ≡ fault.Write) × (after ≡ before)
 Closes fault.OutOfMemory before after g = (g ≡ fault.OutOfMemory) × (after ≡ before)
 Closes f before after g = TellsFault f before after g
 
+-- and how the writes of the end went: none was tried, where output or memory was wanting before
+abbrev pub CloseWrites : ScriptFault → WrittenSoFar → WrittenSoFar → ScriptFault → Type 0
+CloseWrites fault.Write old new g = new ≡ old
+CloseWrites fault.OutOfMemory old new g = new ≡ old
+CloseWrites f old new g = TellWrites old new g
+
 -- how a fault ends a trace as JSON: as it ends a script, and with its end
 abbrev pub TracedTo : Option (List ℕ) → Option (List ℕ) → Option (List ℕ) → Option (List ℕ) → ScriptFault → Type 0
 TracedTo r s c d g = (f : ScriptFault) × (middle : Option (List ℕ)) × ReplayedTo json_line r s c middle f × Closes f middle d g

@@ -1,7 +1,7 @@
 //! The end of a trace as JSON at a fault.
 
 ghost use Rattle.std.specs.Prelude.{◌≡◌, ◌++◌, IfOk, OnOk};
-ghost use Rattle.ahci_trace.specs.Closing.{Closes, IsTold, TellWrites, TellsFault, fault_line, fault_object, fault_word};
+ghost use Rattle.ahci_trace.specs.Closing.{CloseWrites, Closes, IsTold, TellWrites, TellsFault, fault_line, fault_object, fault_word};
 
 use crate::as_json::tokens::{Member, Tokens, Value};
 use ahci_replay::ScriptFault;
@@ -75,13 +75,13 @@ pub(crate) fn close<W: Write, A: Allocator + Copy>(
     alloc: A,
     fault: ScriptFault,
     writer: &mut W,
+    writes: &mut Writes,
 ) -> ScriptFault
-    ensures { Closes fault (W.contents writer.old) (W.contents writer.new) result }
+    ensures told { Closes fault (W.contents writer.old) (W.contents writer.new) result }
+    ensures writes { CloseWrites fault writes.old writes.new result }
 {
     match fault {
-        ScriptFault::Line(_) | ScriptFault::Read => {
-            tell_fault(alloc, fault, writer, &mut Writes::new())
-        }
+        ScriptFault::Line(_) | ScriptFault::Read => tell_fault(alloc, fault, writer, writes),
         ScriptFault::Write | ScriptFault::OutOfMemory => fault,
     }
 }

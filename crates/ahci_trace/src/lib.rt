@@ -29,4 +29,4 @@ pub use owned::OwnedSlot;
 pub use received::Received;
 pub use register_write::RegisterWrite;
 pub use sent::SentCommand;
-pub use tracing::{Tracer, trace, trace_json};
+pub use tracing::{Tracer, trace, trace_json, trace_json_with, trace_with};

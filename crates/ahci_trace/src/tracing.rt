@@ -1,7 +1,8 @@
 //! A script that is run and told: as lines, or as objects of JSON.
 
 ghost use Rattle.std.specs.Prelude.{IfErr, OnOk, ◌≡◌};
-ghost use Rattle.ahci_replay.specs.Transcript.{Replayed, ReplayedTo};
+ghost use Rattle.ahci_replay.specs.Transcript.{ReadsBefore, ReadsTo, Replayed, ReplayedTo, WritesTo};
+ghost use Rattle.streams.specs.Ends.{with_flush};
 ghost use Rattle.ahci_trace.specs.Closing.{TracedTo};
 ghost use Rattle.ahci_trace.specs.Json.{json_line};
 ghost use Rattle.ahci_trace.specs.Mark.{mark_of};
@@ -17,6 +18,7 @@ use ahci_replay::{ScriptFault, Teller, replay_with};
 use ahci_script::{Output, ScriptAnswer};
 use std::alloc::{AllocError, Allocator};
 use std::io::{Read, Write};
+use streams::{Reads, Writes};
 
 /// Runs the script that the reader gives as `replay` does, and after each answer writes what the command did to the port, in
 /// lines that are indented by two spaces. Faults are those of `replay`.
@@ -31,7 +33,28 @@ pub fn trace<R: Read, W: Write, A: Allocator + Copy>(
         (ReplayedTo trace_text (R.remaining reader.old) (R.remaining reader.new)
         (W.contents writer.old) (W.contents writer.new)) }
 {
-    replay_with(alloc, &Tracer::new(alloc), reader, writer)
+    trace_with(alloc, reader, &mut Reads::new(), writer, &mut Writes::new())
+}
+
+/// The same, and `reads` and `writes` record how the reads and writes went.
+pub fn trace_with<R: Read, W: Write, A: Allocator + Copy>(
+    alloc: A,
+    reader: &mut R,
+    reads: &mut Reads,
+    writer: &mut W,
+    writes: &mut Writes,
+) -> Result<(), ScriptFault>
+    ensures ok { OnOk result (Replayed trace_text (R.remaining reader.old) (R.remaining reader.new)
+        (W.contents writer.old) (W.contents writer.new)) }
+    ensures err { IfErr result
+        (ReplayedTo trace_text (R.remaining reader.old) (R.remaining reader.new)
+        (W.contents writer.old) (W.contents writer.new)) }
+    ensures flushed { OnOk result (writes.new ≡ with_flush writes.old) }
+    ensures writes { IfErr result (WritesTo writes.old writes.new) }
+    ensures unfailed { OnOk result (reads.new.failed ≡ reads.old.failed) }
+    ensures reads { IfErr result (ReadsTo reads.old reads.new) }
+{
+    replay_with(alloc, &Tracer::new(alloc), reader, reads, writer, writes)
 }
 
 /// Runs the script that the reader gives as `replay` does, and for each command writes one JSON object on a line: its answer,
@@ -50,9 +73,33 @@ pub fn trace_json<R: Read, W: Write, A: Allocator + Copy>(
         (TracedTo (R.remaining reader.old) (R.remaining reader.new)
         (W.contents writer.old) (W.contents writer.new)) }
 {
-    match replay_with(alloc, &JsonTracer { alloc }, reader, writer) {
+    trace_json_with(alloc, reader, &mut Reads::new(), writer, &mut Writes::new())
+}
+
+/// The same, and `reads` and `writes` record how the reads and writes went.
+///
+/// # Errors
+/// Those of `replay`.
+pub fn trace_json_with<R: Read, W: Write, A: Allocator + Copy>(
+    alloc: A,
+    reader: &mut R,
+    reads: &mut Reads,
+    writer: &mut W,
+    writes: &mut Writes,
+) -> Result<(), ScriptFault>
+    ensures ok { OnOk result (Replayed json_line (R.remaining reader.old) (R.remaining reader.new)
+        (W.contents writer.old) (W.contents writer.new)) }
+    ensures err { IfErr result
+        (TracedTo (R.remaining reader.old) (R.remaining reader.new)
+        (W.contents writer.old) (W.contents writer.new)) }
+    ensures flushed { OnOk result (writes.new ≡ with_flush writes.old) }
+    ensures writes { IfErr result (WritesTo writes.old writes.new) }
+    ensures unfailed { OnOk result (reads.new.failed ≡ reads.old.failed) }
+    ensures reads { IfErr result (ReadsBefore reads.old reads.new) }
+{
+    match replay_with(alloc, &JsonTracer { alloc }, reader, reads, writer, writes) {
         Ok(()) => Ok(()),
-        Err(fault) => Err(close(alloc, fault, writer)),
+        Err(fault) => Err(close(alloc, fault, writer, writes)),
     }
 }
 

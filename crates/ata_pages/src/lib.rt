@@ -14,4 +14,4 @@ mod writing;
 pub use identify_text::IdentifyText;
 pub use log_text::LogText;
 pub use page_fault::PageFault;
-pub use writing::{write_identify, write_log};
+pub use writing::{write_identify, write_identify_with, write_log, write_log_with};

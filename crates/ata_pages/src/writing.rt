@@ -33,9 +33,33 @@ pub fn write_identify<W: Write, A: Allocator>(
         ((n : ℕ) × Appends (W.contents writer.old) (W.contents writer.new) (take n (identify_output sectors depth raw))) }
     ensures memory { result ≡ Err PageFault.OutOfMemory → (raw ≡ false) × Keeps (W.contents writer.old) (W.contents writer.new) }
 {
+    write_identify_with(alloc, sectors, depth, raw, writer, &mut Writes::new())
+}
+
+/// The same, and `writes` records how the writes went.
+///
+/// # Errors
+/// As of `write_identify`.
+pub fn write_identify_with<W: Write, A: Allocator>(
+    alloc: A,
+    sectors: u32,
+    depth: u32,
+    raw: bool,
+    writer: &mut W,
+    writes: &mut Writes,
+) -> Result<(), PageFault>
+    requires deep { 1 ≤ depth }
+    requires shallow { depth ≤ 32 }
+    ensures ok { OnOk result (Appends (W.contents writer.old) (W.contents writer.new) (identify_output sectors depth raw)) }
+    ensures part { OnErr result
+        ((n : ℕ) × Appends (W.contents writer.old) (W.contents writer.new) (take n (identify_output sectors depth raw))) }
+    ensures memory { result ≡ Err PageFault.OutOfMemory → (raw ≡ false) × Keeps (W.contents writer.old) (W.contents writer.new) }
+    ensures flushed { OnOk result (writes.new ≡ with_flush writes.old) }
+    ensures writes { IfErr result (WritesAs writes.old writes.new) }
+{
     let page = identify_page(sectors, depth);
     let text = &IdentifyText(page);
-    put(alloc, &page, text, raw, writer, &mut Writes::new())
+    put(alloc, &page, text, raw, writer, writes)
 }
 
 /// Writes page 0 of log 10h after an error: the tag of the command that failed, below 32, the error byte, and the LBA of the
@@ -58,9 +82,34 @@ pub fn write_log<W: Write, A: Allocator>(
         ((n : ℕ) × Appends (W.contents writer.old) (W.contents writer.new) (take n (log_output tag error lba raw))) }
     ensures memory { result ≡ Err PageFault.OutOfMemory → (raw ≡ false) × Keeps (W.contents writer.old) (W.contents writer.new) }
 {
+    write_log_with(alloc, tag, error, lba, raw, writer, &mut Writes::new())
+}
+
+/// The same, and `writes` records how the writes went.
+///
+/// # Errors
+/// As of `write_identify`.
+pub fn write_log_with<W: Write, A: Allocator>(
+    alloc: A,
+    tag: u8,
+    error: u8,
+    lba: u64,
+    raw: bool,
+    writer: &mut W,
+    writes: &mut Writes,
+) -> Result<(), PageFault>
+    requires tag { tag < 32 }
+    requires lba { lba < 2 ^ 48 }
+    ensures ok { OnOk result (Appends (W.contents writer.old) (W.contents writer.new) (log_output tag error lba raw)) }
+    ensures part { OnErr result
+        ((n : ℕ) × Appends (W.contents writer.old) (W.contents writer.new) (take n (log_output tag error lba raw))) }
+    ensures memory { result ≡ Err PageFault.OutOfMemory → (raw ≡ false) × Keeps (W.contents writer.old) (W.contents writer.new) }
+    ensures flushed { OnOk result (writes.new ≡ with_flush writes.old) }
+    ensures writes { IfErr result (WritesAs writes.old writes.new) }
+{
     let page = log_page(tag, error, lba);
     let text = &LogText(page);
-    put(alloc, &page, text, raw, writer, &mut Writes::new())
+    put(alloc, &page, text, raw, writer, writes)
 }
 
 /// Writes a page: as this text, or where `raw`, its 512 bytes as they are.

@@ -1,5 +1,5 @@
 use crate::tests::command_line::words;
-use ahci_cli::{Writes, program};
+use ahci_cli::{StreamLog, program};
 use std::alloc::Global;
 use std::io::{Read, Write};
 use std::sync::Wait;
@@ -23,6 +23,6 @@ pub fn status_of<H: Threads + Wait + Sync>(
         reader,
         writer,
         errors,
-        &mut Writes::new(),
+        &mut StreamLog::new(),
     ))
 }

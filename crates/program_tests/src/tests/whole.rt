@@ -1,7 +1,7 @@
 //! The program as one function: for each kind of command line what it writes, what it says on standard error, and its status.
 use crate::tests::status::status_of;
 use crate::tests::wanted::Wanted::{Part, Text};
-use ahci_cli::{WordsFault, Writes, program_without_words};
+use ahci_cli::{StreamLog, WordsFault, program_without_words};
 use ahci_script::{Line, ScriptCommand, read_line};
 use cases::{CASES, Case, HELPS, NOTHING};
 use std::alloc::Global;
@@ -134,7 +134,7 @@ fn words_that_can_t_be_read_are_told(rt: HostRuntime) {
             fault,
             &mut written,
             &mut told,
-            &mut Writes::new(),
+            &mut StreamLog::new(),
         );
         NOTHING.meets(&rt, name, written.as_slice());
         errors.meets(&rt, name, told.as_slice());

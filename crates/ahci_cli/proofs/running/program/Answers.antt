@@ -12,8 +12,8 @@ returns-in-Err g c = inr (record {
   picks = c.in-Err.ensures.faults.0;
   kind = kind_of c.in-Err.error;
   fails = c.in-Err.ensures.faults.1;
-  unread = refl;
-  says = c.explain.ensures;
+  unread = (refl, c.explain.ensures.unread);
+  says = c.explain.ensures.says;
 })
 
 pub returns-in-Ok : goal.returns-in-Ok
@@ -23,6 +23,7 @@ returns-in-Ok g c = inl (record {
   picks = c.in-Ok.ensures.faults.0;
   sound = c.in-Ok.ensures.faults.1;
   outcome = c.done-outcome.result;
-  does = c.done-outcome.ensures;
+  does = c.done-outcome.ensures.does;
+  went = record { reads = c.done-outcome.ensures.reads; writes = c.done-outcome.ensures.writes };
   ends = c.end.ensures;
 })

@@ -9,7 +9,7 @@ use Rattle.ahci_jobs.specs.Forms.{written_of}
 use Rattle.ahci_jobs.specs.RunJobs.{EndsRun, SaysPart, blank_port}
 use Rattle.ahci_jobs.specs.declared.jobs_fault.JobsFault.TheVariants.{Write}
 use Rattle.ahci_jobs.proofs.RunningLemmas.{AllProper, ends_running, listed_proper, reads_running, writes_listing, writes_running}
-use Rattle.ahci_jobs.proofs.running.run_list.Goals as goal
+use Rattle.ahci_jobs.proofs.running.run_jobs_with.Goals as goal
 
 pub done-requires-clause-jobs : goal.done-requires-clause-jobs
 done-requires-clause-jobs g c κs within = subst (λ js. AllProper (map work_of js)) (sym c.deref.ensures.value) (listed_proper _ _ _ c.in_ok-jobs.ensures.ok)

@@ -1,9 +1,0 @@
-use Rattle.std.proofs.Common.{refl}
-use Rattle.streams.proofs.FoundLemmas.{if_err_from}
-use Rattle.ahci_cli.specs.Faults.{IsFaultOf, of_script}
-use Rattle.ahci_cli.proofs.scripts.replay.Goals as goal
-
-pub returns-in_err-replay-clause-err : goal.returns-in_err-replay-clause-err
-returns-in_err-replay-clause-err g c =
-    let f = c.in_err-replay.field-0.0 in
-    if_err_from _ (of_script f) (IsFaultOf of_script _) c.from_residual.ensures.1 (f, refl, c.in_err-replay.ensures.err)
