@@ -1,11 +1,11 @@
 -- A check of a job list and its run agree.
-use Rattle.std.proofs.Common.{◌≡◌, ◌∙◌, ◌↔◌, ℕ, ◌+◌, ◌*◌, ◌/◌, ◌<◌, ◌≤◌, ◌^◌, ◌||◌, ◌⊎◌, Bool, true, false, List, [], ◌∷◌, ◌++◌, length, replicate, Option, Some, None, Result, Ok, Err, nat_eq, nat_lt, nat_le, is_some, if◌then◌else◌, ap, refl, subst, sym, arith, inl, inr, eq-eqb}
+use Rattle.std.proofs.Common.{◌≡◌, ◌∙◌, ◌↔◌, ℕ, ◌+◌, ◌*◌, ◌/◌, ◌<◌, ◌≤◌, ◌^◌, ◌||◌, Bool, true, false, List, [], ◌∷◌, length, replicate, Option, Some, None, Result, Ok, Err, nat_eq, nat_lt, nat_le, is_some, if◌then◌else◌, ap, refl, subst, sym, arith, inl, inr}
 use Rattle.std.specs.Option.{option_map}
 use Rattle.std.specs.Result.{result_ok}
 use Rattle.std.proofs.lemmas.Bool.{eqb-false, ne_eqb, le-ltb, leb-false, lt-leb, ltb-false, or_from, or_parts}
 use Rattle.std.proofs.lemmas.List.{length-replicate}
-use Rattle.streams.specs.Reading.{MayEnd, last_by, last_of}
-use Rattle.streams.specs.Unread.{Begins, found_of, too_long, unfinished, whole}
+use Rattle.streams.specs.Reading.{last_by, last_of}
+use Rattle.streams.specs.Unread.{Begins, found_of, too_long, whole}
 use Rattle.ahci_script.specs.Jobs.{job_line_of, job_reading}
 use Rattle.ahci_script.specs.Words.{after_first}
 use Rattle.ahci_script.specs.declared.breach.Breach.{Breach}
@@ -19,7 +19,6 @@ use Rattle.ahci_check.specs.Judges.{job_complaint, job_excess, judge_after, of_j
 use Rattle.ahci_check.specs.Limits.{count_excess}
 use Rattle.ahci_check.specs.Sheets.{AreLines, no_line, one_more, Sheet, blank, judged_from, said_of, sheet_of, with_found, with_next}
 use Rattle.ahci_check.specs.declared.form.Form.{Form}
-use Rattle.ahci_check.specs.declared.judge.Judge.{Judge}
 use Rattle.ahci_check.specs.declared.judge.Judge.TheVariants.{OfJobs}
 use Rattle.ahci_jobs.specs.JobList.{AreGood, IsGood, command_for}
 use Rattle.ahci_jobs.specs.JobList as list

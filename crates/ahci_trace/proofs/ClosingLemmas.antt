@@ -1,6 +1,6 @@
 -- How the reads and writes of a trace as JSON went, from those of its script and of its end.
-use Rattle.std.proofs.Common.{◌≡◌, ◌∙◌, ℕ, List, Option, ap, subst, sym, true}
-use Rattle.streams.specs.Ends.{ReadSoFar, WrittenSoFar, with_failed_write, with_flush}
+use Rattle.std.proofs.Common.{◌≡◌, ◌∙◌, ℕ, List, Option, ap, subst, sym}
+use Rattle.streams.specs.Ends.{ReadSoFar, WrittenSoFar, with_flush}
 use Rattle.ahci_replay.specs.Transcript.{ReadsBefore, ReadsTo, WritesTo}
 use Rattle.ahci_replay.specs.declared.script_fault.ScriptFault.{ScriptFault}
 use Rattle.ahci_replay.specs.declared.script_fault.ScriptFault.TheVariants as fault
