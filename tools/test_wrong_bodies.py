@@ -4,7 +4,7 @@
     tools/test_wrong_bodies.py
 
 Of that program a body `{ 0 }` is refused by a clause of its own function, `{ 2 }` by a stored proof, `{ 3 }` by a name in a stored proof, and
-`{ 4 }` by a clause of a caller; any other is proved. A function `same` may stand in each of two more files.
+`{ 4 }` by a clause of a caller; `{ 5 }` does not compile; any other is proved. A function `same` may stand in each of two more files.
 """
 from __future__ import annotations
 
@@ -29,6 +29,10 @@ RT = '''\
     name = os.path.basename(os.getcwd())
     functions = [("src/lib.rt", "one", 2), ("src/lib.rt", "two", 4), ("src/part/left.rt", "part::left::same", 2), ("src/part/right.rt", "part::right::same", 2)]
     refused = False
+    for file, function, at in functions:
+        if os.path.exists(file) and open(file, encoding="utf-8").read().split("{")[at].split("}")[0].strip() == "5":
+            print(f"{file}:{7 if function == 'two' else 3}:3: error[unknown-name]: failed to resolve")
+            raise SystemExit(1)
     for file, function, at in functions:
         if not os.path.exists(file):
             continue
@@ -93,6 +97,13 @@ class WrongBodies(unittest.TestCase):
         self.assertRegex(ran.stdout, r"\| low \| 2 \| 1 \| 0 \| [\d.]+ \| 2 \| 0 \| 0 \|")
         with open(os.path.join(self.top, "crates/low/src/lib.rt"), encoding="utf-8") as text:
             self.assertEqual(SOURCE, text.read())
+
+    def test_an_edit_that_does_not_compile_keeps_no_other_from_its_check(self) -> None:
+        self.edit("broken", "{ 1 }", "{ 5 }")
+        self.edit("wrong", "{ 9 }", "{ 0 }")
+        ran = self.run_with("low")
+        self.assertEqual((ran.returncode, self.said_of(ran)[-1]), (1, "1 refused, 1 not refused"))
+        self.assertIn("| low | 2 | 2 | 1 |", ran.stdout)
 
     def test_an_edit_that_passes_is_told(self) -> None:
         self.edit("one_is_0", "{ 1 }", "{ 0 }")
