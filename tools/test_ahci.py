@@ -120,6 +120,17 @@ class Ahci(unittest.TestCase):
         self.assertEqual((4, "", [UNPROVED, "ahci: an unproved run takes at most 64 MiB of input"]), self.run_with("replay", given=bytes(most + 1)))
         self.assertEqual([], self.calls())
 
+    def test_an_input_that_can_t_be_read_is_told_as_by_the_program(self) -> None:
+        env = {"PATH": f"{self.room}/bin", "ROOM": self.room, "TMPDIR": self.room}
+        for words, status in ((["replay"], 1), (["check"], 4)):
+            folder = os.open(self.room, os.O_RDONLY)
+            try:
+                ran = subprocess.run([f"{self.room}/ahci", *words], stdin=folder, env=env, capture_output=True, check=False)
+            finally:
+                os.close(folder)
+            self.assertEqual((status, "", [UNPROVED, "ahci: input failed"]), (ran.returncode, ran.stdout.decode(), ran.stderr.decode().splitlines()))
+        self.assertEqual([], [it for it in os.listdir(self.room) if it.startswith("tmp")])
+
     def test_input_is_read_where_the_words_want_it(self) -> None:
         for words in (["replay"], ["trace", "--json"], ["check"], ["draw"], ["run", "--depth", "1"]):
             self.run_with(*words, given=b"12345")
