@@ -1,7 +1,8 @@
 //! How the program ends: what it reports of an outcome, and the status.
 
 ghost use Rattle.clap.specs.Words.{kind_of};
-ghost use Rattle.std.specs.Prelude.{◌≡◌};
+ghost use Rattle.std.specs.Prelude.{◌≡◌, OnErr};
+ghost use Rattle.streams.specs.Ends.{with_failed_write};
 ghost use Rattle.ahci_cli.specs.Program.{Ends, IsShown, IsWritten, Rejects, Says, output};
 
 use crate::fault::CliFault;
@@ -73,7 +74,8 @@ pub(crate) fn explain<W: Write, E: Write>(
 
 /// Writes help, or the version.
 fn show<W: Write>(text: &[u8], writer: &mut W, writes: &mut Writes) -> Result<bool, CliFault>
-    ensures { IsShown text.now (output (W.contents writer.old) (W.contents writer.new) writes.old writes.new) result }
+    ensures shown { IsShown text.now (output (W.contents writer.old) (W.contents writer.new) writes.old writes.new) result }
+    ensures failed { OnErr result (writes.new ≡ with_failed_write writes.old) }
 {
     match writes.write_whole(writer, text) {
         Ok(()) => Ok(false),
