@@ -132,6 +132,32 @@ class WrongBodies(unittest.TestCase):
         self.assertEqual((0, ["low/one_is_2: refused by a stored proof alone", "low/two_is_3: refused by a name alone", "2 refused, 0 not refused"]),
                          (ran.returncode, self.said_of(ran)))
 
+    def test_what_was_hollow_and_is_so_again_is_not_tried_alone(self) -> None:
+        self.edit("one_is_2", "{ 1 }", "{ 2 }")
+        self.assertIn("| low | 1 | 1 | 1 |", self.run_with("--all").stdout)
+        self.assertIn("| low | 1 | 1 | 0 |", self.run_with("--all").stdout)
+        self.assertEqual({"low": ["1", "0", "one_is_2", "-"]}, self.tried())
+        self.edit("one_is_2", "{ 1 }", "{ 7 }")
+        ran = self.run_with("--all")
+        self.assertIn("| low | 1 | 1 | 1 |", ran.stdout)
+        self.assertEqual({"low": ["1", "0", "-", "one_is_2"]}, self.tried())
+
+    def test_an_edit_counts_as_one_of_the_function_that_it_imports_for(self) -> None:
+        self.write("crates/low/src/lib.rt", "use crate::part::one;\n\n" + SOURCE)
+        self.write("crates/low/wrong-bodies/one_is_0.edit",
+                   "file: src/lib.rt\nold: use crate::part::one;\nnew: use crate::part::two;\nold: { 1 }\nnew: { 0 }\n")
+        self.edit("two_is_0", "{ 9 }", "{ 0 }")
+        self.assertIn("| low | 2 | 1 | 0 |", self.run_with().stdout)
+        self.write("crates/low/wrong-bodies/one_is_0.edit", "file: src/lib.rt\nold: use crate::part::one;\nnew: use crate::part::two;\n")
+        ran = self.run_with()
+        self.assertEqual((1, "low/one_is_0: NOT REFUSED: the crate is still proved"), (ran.returncode, self.said_of(ran)[0]))
+
+    def test_a_function_for_c_is_a_function(self) -> None:
+        self.write("crates/low/src/lib.rt", SOURCE.replace("fn ", 'pub extern "C" fn '))
+        self.edit("one_is_0", "{ 1 }", "{ 0 }")
+        self.edit("two_is_0", "{ 9 }", "{ 0 }")
+        self.assertIn("| low | 2 | 1 | 0 |", self.run_with().stdout)
+
     def test_an_edit_that_does_not_fit_is_told(self) -> None:
         self.edit("one_is_lost", "{ 11 }", "{ 0 }")
         ran = self.run_with()
