@@ -89,10 +89,13 @@ Did whole into early (Ok false) = whole
 Did whole into early (Ok true) = ⊥
 Did whole into early (Err fault) = IsFaultOf into early fault
 
--- a page was written, and nothing was read
+-- a page was written
+abbrev pub IsPage : List ℕ → Bool → Output → Result Bool CliFault → Type 0
+IsPage text raw o outcome = Did (Appends o.held o.holds text) of_page (EndsPage text raw o.held o.holds) outcome
+
+-- the same, and nothing was read
 abbrev pub DidPage : List ℕ → Bool → Input → Output → Result Bool CliFault → Type 0
-DidPage text raw i o outcome =
-    IsUnread i × Did (Appends o.held o.holds text) of_page (EndsPage text raw o.held o.holds) outcome
+DidPage text raw i o outcome = IsUnread i × IsPage text raw o outcome
 
 -- the form of complaints that was asked for
 abbrev pub form_of_check : Bool → check.Form

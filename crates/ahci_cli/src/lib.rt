@@ -6,6 +6,7 @@ mod fault;
 mod fault_text;
 mod jobs;
 mod laws;
+mod pages;
 mod picked;
 mod running;
 mod scripts;

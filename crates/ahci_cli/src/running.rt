@@ -2,16 +2,16 @@
 
 ghost use Rattle.std.specs.Prelude.{map, ◌≡◌, IfErr, IfOk, OnErr};
 ghost use Rattle.std.specs.String.{string_bytes};
-ghost use Rattle.ahci_cli.specs.Program.{Does, HasRanges, IsUnread, ReadsFor, Runs, RunsWithout, WritesFor, form_of_check, input, judge_of, output};
+ghost use Rattle.ahci_cli.specs.Program.{Does, HasRanges, IsUnread, ReadsFor, Runs, RunsWithout, WritesFor, input, output};
 
 use crate::ending::{end, explain};
 use crate::fault::CliFault;
 use crate::jobs::{form_of, run_in_form};
-use crate::scripts::replay_with;
+use crate::pages::{identify, log};
+use crate::scripts::{check, draw, replay_with, trace};
 use crate::stream_log::StreamLog;
 use crate::words_fault::WordsFault;
 use ahci_args::{Asked, asked, not_text};
-use ahci_check::{Form, Judge, Place, check_with};
 use ahci_jobs::RunSize;
 use std::alloc::Global;
 use std::io::{Read, Write};
@@ -130,22 +130,9 @@ where
             replay_with(alloc, reader, reads, writer, writes)?;
             Ok(false)
         }
-        Asked::Trace { json: false } => {
-            ahci_trace::trace_with(alloc, reader, reads, writer, writes)?;
-            Ok(false)
-        }
-        Asked::Trace { json: true } => {
-            ahci_trace::trace_json_with(alloc, reader, reads, writer, writes)?;
-            Ok(false)
-        }
-        Asked::Check { jobs, json } => {
-            let (form, judge) = (form_of_check(json), judge_of(jobs));
-            Ok(check_with(alloc, form, judge, reader, reads, writer, writes)?)
-        }
-        Asked::Draw { from, to } => {
-            ahci_draw::draw_with(alloc, from, to, reader, reads, writer, writes)?;
-            Ok(false)
-        }
+        Asked::Trace { json } => trace(alloc, json, reader, reads, writer, writes),
+        Asked::Check { jobs, json } => check(alloc, jobs, json, reader, reads, writer, writes),
+        Asked::Draw { from, to } => draw(alloc, from, to, reader, reads, writer, writes),
         Asked::Run {
             workers,
             depth,
@@ -161,36 +148,12 @@ where
             sectors,
             depth,
             raw,
-        } => {
-            ata_pages::write_identify_with(alloc, sectors, depth, raw, writer, writes)?;
-            Ok(false)
-        }
+        } => identify(alloc, sectors, depth, raw, writer, writes),
         Asked::Log {
             tag,
             error,
             lba,
             raw,
-        } => {
-            ata_pages::write_log_with(alloc, tag, error, lba, raw, writer, writes)?;
-            Ok(false)
-        }
+        } => log(alloc, tag, error, lba, raw, writer, writes),
     }
-}
-
-/// How the first line is judged.
-fn judge_of(jobs: bool) -> Judge
-    ensures { result ≡ judge_of jobs }
-{
-    if jobs {
-        Judge::OfJobs
-    } else {
-        Judge::OfScript(Place::BeforeDisk)
-    }
-}
-
-/// The form of complaints that is asked for.
-fn form_of_check(json: bool) -> Form
-    ensures { result ≡ form_of_check json }
-{
-    if json { Form::Json } else { Form::Text }
 }
