@@ -107,8 +107,10 @@ class Builds(unittest.TestCase):
             with open(self.calls + end, "a", encoding="utf-8"):
                 pass
         env = {**os.environ, "CALLS": self.calls, "WAIT": str(wait), "PATH": path or f"{self.room}/kit/bin:{os.environ['PATH']}"}
+        # (a shell's job in the background ignores SIGINT, and hands that on)
         return subprocess.Popen([f"{self.room}/tools/build", "--jobs", "2", *words], env=env, text=True,
-                                stdin=subprocess.DEVNULL, stdout=subprocess.PIPE, stderr=subprocess.PIPE)
+                                stdin=subprocess.DEVNULL, stdout=subprocess.PIPE, stderr=subprocess.PIPE,
+                                preexec_fn=lambda: signal.signal(signal.SIGINT, signal.SIG_DFL))
 
     def build(self, *words: str) -> Tuple[int, str, List[str]]:
         """A build's status, what it says on standard error, and the crates that it gave to `rattle`."""

@@ -60,7 +60,8 @@ class WrongBodies(unittest.TestCase):
         self.addCleanup(shutil.rmtree, self.room)
         self.top = os.path.join(self.room, "top")
         os.makedirs(os.path.join(self.top, "tools"))
-        shutil.copy(os.path.join(TOP, "tools/wrong_bodies"), os.path.join(self.top, "tools/wrong_bodies"))
+        for file in ("wrong_bodies", "trials.py"):
+            shutil.copy(os.path.join(TOP, "tools", file), os.path.join(self.top, "tools", file))
         self.write("crates/low/src/lib.rt", SOURCE)
         os.makedirs(os.path.join(self.room, "bin"))
         with open(os.path.join(self.room, "bin/rt"), "w", encoding="utf-8") as rt:

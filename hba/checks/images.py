@@ -158,9 +158,9 @@ def kernel() -> Tuple[str, str]:
 
 
 def libraries(path: str) -> List[str]:
-    """The shared libraries of a program, and its loader."""
-    words = [word for line in ran(["ldd", path]).splitlines() for word in line.split()]
-    return [word for word in words if word.startswith("/")]
+    """The shared libraries of a program, and its loader; none of a static one, at which `ldd` ends with 1."""
+    shown = subprocess.run(["ldd", path], stdin=subprocess.DEVNULL, stdout=subprocess.PIPE, stderr=subprocess.DEVNULL, text=True, check=False).stdout
+    return [word for line in shown.splitlines() for word in line.split() if word.startswith("/")]
 
 
 def entry(name: str, mode: int, content: bytes) -> bytes:
@@ -180,12 +180,12 @@ def archive(files: Dict[str, bytes]) -> bytes:
 
 def initrd(room: str, test: str, data: bytes, modules: Optional[str]) -> str:
     """An initial RAM disk that runs guests/TEST.sh, with `data` as /data; with the modules of a folder if one is named."""
-    requests, mkfs = os.path.join(room, "requests"), program("mkfs.ext4", "e2fsprogs")
+    requests, mkfs, busybox = os.path.join(room, "requests"), program("mkfs.ext4", "e2fsprogs"), program("busybox", "busybox")
     if not os.path.exists(requests):
         ran([program("gcc", "gcc"), "-O2", "-Wall", "-Wextra", "-Werror", "-static", "-o", requests, os.path.join(GUESTS, "requests.c")])
     files = {"init": read(os.path.join(GUESTS, "init")), "test": read(os.path.join(GUESTS, f"{test}.sh")), "data": data,
-             "bin/busybox": read(file_of("/bin/busybox", "busybox-static")), "bin/requests": read(requests), "sbin/mkfs.ext4": read(mkfs)}
-    for path in libraries(mkfs):
+             "bin/busybox": read(busybox), "bin/requests": read(requests), "sbin/mkfs.ext4": read(mkfs)}
+    for path in libraries(mkfs) + libraries(busybox):
         files[path.lstrip("/")] = read(os.path.realpath(path))
     if modules:
         for it in MODULES:

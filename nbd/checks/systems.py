@@ -143,7 +143,13 @@ def initrd(room: str, release: str) -> str:
     root = os.path.join(room, "root")
     os.makedirs(os.path.join(root, "modules"))
     os.makedirs(os.path.join(root, "bin"))
-    shutil.copy(shutil.which("busybox") or "", os.path.join(root, "bin", "busybox"))
+    busybox = shutil.which("busybox") or ""
+    shutil.copy(busybox, os.path.join(root, "bin", "busybox"))
+    # the shared libraries of one that is not static, and its loader
+    shown = subprocess.run(["ldd", busybox], stdout=subprocess.PIPE, stderr=subprocess.DEVNULL, text=True, check=False).stdout
+    for path in (word for word in shown.split() if word.startswith("/")):
+        os.makedirs(root + os.path.dirname(path), exist_ok=True)
+        shutil.copy(path, root + path)
     order: List[str] = []
     for name in ("virtio_pci", "virtio_blk", "crc32c_generic", "ext4"):
         shown = subprocess.run(["modprobe", "--set-version", release, "--show-depends", name], stdout=subprocess.PIPE, text=True, check=False).stdout

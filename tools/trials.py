@@ -1,0 +1,193 @@
+"""Trials of changed sources: what `rt check` says of a crate in which bodies of functions are changed. `wrong_bodies` and `mutants` use it."""
+from __future__ import annotations
+
+import contextlib
+import dataclasses
+import os
+import re
+import shutil
+import subprocess
+import tempfile
+from typing import Dict, Generic, Iterator, List, Optional, Protocol, Sequence, Set, Tuple, TypeVar
+
+TOP = os.path.dirname(os.path.dirname(os.path.realpath(__file__)))
+# what refused a change, or that nothing did
+CLAUSE, STORED, NAME, PROVED = "a clause", "a stored proof", "a name", "the crate is still proved"
+
+# the head of a function, or of what ends the search for one
+HEAD = re.compile(r'^(?: *(?:pub(?:\([a-z]+\))? )?(?:const )?(?:final )?(?:extern "C" )?fn (\w+)|(?:pub )?(?:const|static|struct|enum) )')
+# a goal that no stored proof answers, at its place in the source
+OPEN_GOAL = re.compile(r"(?m)^note: (src/\S+?\.rt):(\d+):\d+: it is not proved")
+# what the check says of a function that has a goal of its own left
+OWN_GOAL = re.compile(r"(not proved|no proof).*(did not prove|antt refuses)")
+# what it says where the function's own proof file fails; a function that only calls another is no case of it
+FAILS = re.compile(r"not proved(?!.*(it calls|it passes|a call of))")
+# what the sources are wrong in before anything is proved
+SOURCE_ERROR = re.compile(r"(?m)^(?:\./)?(src/\S+?\.rt):(\d+):\d+: error")
+# a proof file that names what the change took away shows nothing of a clause
+NAMES = re.compile(r"has no field|is not in scope|has no `|was not admitted|was not checked")
+
+Texts = Dict[str, str]
+Functions = Set[Tuple[str, str]]
+
+
+class Change(Protocol):
+    """A change of a crate's sources."""
+
+    @property
+    def name(self) -> str:
+        """What it is told by."""
+
+    def applied(self, texts: Texts) -> Optional[Texts]:
+        """The texts with the change made, or None where it doesn't fit them."""
+
+    def functions(self, texts: Texts) -> Optional[Functions]:
+        """Where it changes bodies: (file, function's name) each; None where a line stands in no function."""
+
+
+AnyChange = TypeVar("AnyChange", bound=Change)
+
+
+@dataclasses.dataclass
+class Rounds(Generic[AnyChange]):
+    """The changes that rounds of trials refused no function of, those that do not compile, and how many checks there were."""
+
+    unrefused: List[AnyChange]
+    unread: List[AnyChange]
+    checks: int
+
+
+class Crate:
+    """One crate of a copy of the repository."""
+
+    def __init__(self, copy: str, name: str, jobs: int, hollow: Sequence[str] = ()) -> None:
+        self.name, self.folder, self.jobs, self.hollow = name, f"{copy}/crates/{name}", jobs, hollow
+        self.texts: Texts = {}
+        for part in ("src", "specs", "proofs"):
+            for at, _, files in os.walk(f"{self.folder}/{part}"):
+                for file in files:
+                    path = f"{at}/{file}"
+                    with open(path, encoding="utf-8") as text:
+                        self.texts[os.path.relpath(path, self.folder)] = text.read()
+
+    def write(self, texts: Texts) -> None:
+        for file, text in texts.items():
+            path = f"{self.folder}/{file}"
+            with open(path, encoding="utf-8") as old:
+                same = old.read() == text
+            if not same:
+                with open(path, "w", encoding="utf-8") as new:
+                    new.write(text)
+
+    def check(self) -> Tuple[str, int]:
+        """What `rt check` prints, and its status."""
+        ran = subprocess.run(
+            ["rt", "check", "--jobs", str(self.jobs)], cwd=self.folder, stdin=subprocess.DEVNULL,
+            stdout=subprocess.PIPE, stderr=subprocess.STDOUT, text=True, errors="replace", check=False,
+        )
+        return ran.stdout, ran.returncode
+
+    def check_of(self, texts: Texts) -> Tuple[str, int]:
+        """The same of changed texts, which stand there for this check alone."""
+        self.write(texts)
+        try:
+            return self.check()
+        finally:
+            self.write(self.texts)
+
+    def refused_by(self, change: Change, texts: Texts, printed: str) -> Optional[str]:
+        """What refused a change among others: a goal of its own function that no stored proof answers, else that function's stored
+        proof; None where the check says neither."""
+        own = change.functions(self.texts) or set()
+        if any((file, function_at(texts[file], int(line))) in own for file, line in OPEN_GOAL.findall(printed)):
+            return CLAUSE
+        said = dict(re.findall(r"(?m)^fn (\S+): (.*)", printed))
+        failing = {folder for folder, text in re.findall(r"(?m)^\./proofs/(\S+)/\w+\.antt:\d+:\d+: error: (.*)", printed)
+                   if not NAMES.search(text)}
+        for file, name in own:
+            for symbol in self.symbols(file, name, said):
+                folder = "/".join(symbol.split("::")[1:])
+                if OWN_GOAL.match(said[symbol]):
+                    return CLAUSE
+                if FAILS.match(said[symbol]) and folder in failing:
+                    return STORED
+        return None
+
+    def symbols(self, file: str, name: str, said: Dict[str, str]) -> List[str]:
+        """What a check may call a function of a file: a method stands in the module of its type, which may be one above the file's."""
+        parts = [it for it in re.sub(r"^src/|/?(lib|main|mod)?\.rt$", "", file).split("/") if it]
+        while True:
+            start = "::".join([self.name, *parts, ""])
+            found = [it for it in said if re.fullmatch(rf"{start}(?:[A-Z]\w*::)*{name}", it)]
+            if found or not parts:
+                return found
+            parts.pop()
+
+    def rounds(self, changes: Sequence[AnyChange], found: Dict[str, str]) -> Rounds[AnyChange]:
+        """Tries the changes, one a function at a time, and notes what refused each."""
+        left: List[AnyChange] = [it for it in changes if it.functions(self.texts)]
+        unrefused: List[AnyChange] = [it for it in changes if it not in left]
+        unread: List[AnyChange] = []
+        checks = 0
+        while left:
+            texts = self.texts
+            taken: Functions = set()
+            now: List[AnyChange] = []
+            for change in left:
+                own = change.functions(self.texts) or set()
+                made = None if own & taken else change.applied(texts)
+                if made:
+                    texts, now = made, [*now, change]
+                    taken |= own
+            if not now:
+                return Rounds(unrefused + left, unread, checks)
+            printed, _ = self.check_of(texts)
+            checks += 1
+            broken = {(file, function_at(texts[file], int(line))) for file, line in SOURCE_ERROR.findall(printed) if file in texts}
+            kept_out = [it for it in now if (it.functions(self.texts) or set()) & broken]
+            if kept_out:  # such a change keeps the others from the prover
+                unread += kept_out
+                left = [it for it in left if it not in kept_out]
+                continue
+            for change in now:
+                kind = self.refused_by(change, texts, printed)
+                if kind == CLAUSE or kind == STORED and change.name in self.hollow:
+                    found[change.name] = kind
+                else:
+                    unrefused.append(change)
+            left = [it for it in left if it not in now]
+        return Rounds(unrefused, unread, checks)
+
+    def alone(self, change: Change) -> str:
+        """Tries one change, where a goal of a caller counts too. Answers what refused it, or why it counts as not refused."""
+        texts = change.applied(self.texts)
+        if texts is None:
+            return "its old text doesn't stand once in its file"
+        printed, status = self.check_of(texts)
+        if status == 0:
+            return PROVED
+        if OPEN_GOAL.search(printed):
+            return CLAUSE
+        if any(OWN_GOAL.match(words) for words in re.findall(r"(?m)^fn \S+: (.*)", printed)):
+            return CLAUSE
+        errors = re.findall(r"(?m)^(?:\./)?(proofs|src|specs)/\S+:\d+:\d+: error: (.*)", printed)
+        if any(part == "proofs" and not NAMES.search(text) for part, text in errors):
+            return STORED
+        if any(part == "proofs" for part, _ in errors):
+            return NAME
+        return "it did not reach the prover: " + next((it for it in printed.split("\n") if "error" in it), printed[-200:])[:200]
+
+
+def function_at(text: str, line: int) -> Optional[str]:
+    """The name of the function that a line of a file stands in."""
+    above = text.split("\n")[:line]
+    return next((it[1] for it in map(HEAD.match, reversed(above)) if it), None)
+
+
+@contextlib.contextmanager
+def copied(prefix: str) -> Iterator[str]:
+    """A copy of the repository in a scratch folder, with what earlier checks have kept."""
+    with tempfile.TemporaryDirectory(prefix=prefix) as room:
+        copy = f"{room}/copy"
+        shutil.copytree(TOP, copy, symlinks=True, ignore=shutil.ignore_patterns(".git", "build.log"))
+        yield copy
