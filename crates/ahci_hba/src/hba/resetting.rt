@@ -92,7 +92,7 @@ impl<A: Allocator + Copy> Hba<A> {
     /// `NotReady` exactly if `may_sign` is false.
     pub fn sign(&mut self) -> Result<(), HbaFault>
         ensures ok { OnOk result ((may_sign self.old ≡ true) × (self.new ≡ signing self.old)) }
-        ensures err { OnErr result ((may_sign self.old ≡ false) × (self.new ≡ self.old)) }
+        ensures err { IfErr result (λ e. (e ≡ HbaFault.NotReady) × (may_sign self.old ≡ false) × (self.new ≡ self.old)) }
     {
         if !self.may_sign() {
             return Err(HbaFault::NotReady);
