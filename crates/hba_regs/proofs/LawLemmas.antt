@@ -1,7 +1,7 @@
 -- Lemmas on what writes keep.
-use Rattle.std.proofs.Common.{◌≡◌, ◌≢◌, ℕ, zero, suc, ◌+◌, ◌*◌, ◌/◌, ◌%◌, ◌^◌, ◌<◌, Bool, true, false, not, ◌&&◌, ◌||◌, if◌then◌else◌, List, nat_eq, refl, ◌∙◌, ap, arith}
+use Rattle.std.proofs.Common.{◌≡◌, ◌≢◌, ℕ, zero, suc, ◌+◌, ◌-◌, ◌*◌, ◌/◌, ◌%◌, ◌^◌, ◌<◌, Bool, true, false, not, ◌&&◌, ◌||◌, if◌then◌else◌, List, nat_eq, refl, ◌∙◌, ap, arith}
 use Rattle.std.specs.Int.{bit_at}
-use Rattle.std.proofs.lemmas.Nat.Bits.{bit_at_cat_low}
+use Rattle.std.proofs.lemmas.Nat.Bits.{bit_at_cat_high, bit_at_cat_low}
 use Rattle.word_bits.specs.Places.{bits, has_place, intersection}
 use Rattle.word_bits.proofs.PlacesLemmas.{has_place-union}
 use Rattle.word_bits.proofs.BitsLemmas.{has_place-bits, bits-word_of}
@@ -10,7 +10,7 @@ use Rattle.hba_regs.specs.Interrupts.{is_pending, settled}
 use Rattle.hba_regs.specs.Linking.{goes_down, relinked}
 use Rattle.hba_regs.specs.RegisterTable.{takes_ones}
 use Rattle.hba_regs.specs.Reading.{bit_word, command_word, word_at}
-use Rattle.hba_regs.specs.Writing.{aligned, changed, commanded, consequence_of, remaining, with_clb, with_fb, with_ghc, with_lower, both, with_control}
+use Rattle.hba_regs.specs.Writing.{aligned, changed, commanded, consequence_of, remaining, with_clb, with_command, with_fb, with_ghc, with_lower, both, with_control}
 use Rattle.hba_regs.specs.Accessing.{part, with_part, write_of}
 use Rattle.hba_regs.specs.declared.access_size.AccessSize.TheVariants.{Four, Eight}
 use Rattle.hba_regs.specs.declared.consequence.Consequence.TheVariants.{Nothing, Stopped, LinkReset, Reset}
@@ -138,38 +138,87 @@ ghc_word : (ie : Bool) → (has_place (bits (2 ^ 31 + bit_word ie 1)) 0 ≡ fals
 ghc_word true = (has_place-bits _ 0 (omega arith), has_place-bits _ 1 (omega arith))
 ghc_word false = (has_place-bits _ 0 (omega arith), has_place-bits _ 1 (omega arith))
 
--- a word by its lowest byte
-by_low : (w x low i : ℕ) → w ≡ x * 2 ^ 8 + low → i < 8 → has_place (bits w) i ≡ nat_eq (bit_at low i) 1
-by_low w x low i e h = has_place-bits w i (omega arith) ∙ ap (λ y. nat_eq y 1) (ap (λ y. bit_at y i) e ∙ bit_at_cat_low x 8 low i h)
+-- a word by its bits below bit 24, and of these by the lowest byte
+by_low : (w up mid x low i : ℕ) → w ≡ up * 2 ^ 24 + mid → mid ≡ x * 2 ^ 8 + low → i < 8 → has_place (bits w) i ≡ nat_eq (bit_at low i) 1
+by_low w up mid x low i e f h =
+    has_place-bits w i (omega arith)
+    ∙ ap (λ y. nat_eq y 1)
+    (ap (λ y. bit_at y i) e ∙ bit_at_cat_low up 24 mid i (omega arith) ∙ ap (λ y. bit_at y i) f ∙ bit_at_cat_low x 8 low i h)
 
-command_bits : (st fre : Bool) (ccs : ℕ)
-    → let w = 6 + bit_word st 0 + bit_word fre 4 + (if st then ccs * 2 ^ 8 else 0) + bit_word fre 14 + bit_word st 15 in
-    (has_place (bits w) 0 ≡ st) × ((has_place (bits w) 4 ≡ fre) × (has_place (bits w) 3 ≡ false))
-command_bits true true ccs =
-    (by_low _ (ccs + 192) 23 0 (omega arith) (omega arith), (by_low _ (ccs + 192) 23 4 (omega arith) (omega arith), by_low _ (ccs + 192) 23 3 (omega arith) (omega arith)))
-command_bits true false ccs =
-    (by_low _ (ccs + 128) 7 0 (omega arith) (omega arith), (by_low _ (ccs + 128) 7 4 (omega arith) (omega arith), by_low _ (ccs + 128) 7 3 (omega arith) (omega arith)))
-command_bits false true ccs =
-    (by_low _ 64 22 0 (omega arith) (omega arith), (by_low _ 64 22 4 (omega arith) (omega arith), by_low _ 64 22 3 (omega arith) (omega arith)))
-command_bits false false ccs =
-    (by_low _ 0 6 0 (omega arith) (omega arith), (by_low _ 0 6 4 (omega arith) (omega arith), by_low _ 0 6 3 (omega arith) (omega arith)))
+-- and by the bits from bit 24 on
+by_up : (w up mid i : ℕ) → w ≡ up * 2 ^ 24 + mid → mid < 2 ^ 24 → i < 8 → has_place (bits w) (24 + i) ≡ nat_eq (bit_at up i) 1
+by_up w up mid i e f h =
+    has_place-bits w (24 + i) (omega arith)
+    ∙ ap (λ y. nat_eq y 1) (ap (λ y. bit_at y (24 + i)) e ∙ bit_at_cat_high up 24 mid (24 + i) f (omega arith) ∙ ap (bit_at up) (omega arith))
+
+-- PxCMD by its bits, without ATAPI and DLAE
+abbrev low_word : Bool → Bool → ℕ → ℕ
+low_word st fre ccs = 6 + bit_word st 0 + bit_word fre 4 + (if st then ccs * 2 ^ 8 else 0) + bit_word fre 14 + bit_word st 15
+
+-- so much is its lowest byte, and so much the others
+low_byte : (st fre : Bool) (ccs : ℕ) → low_word st fre ccs
+    ≡ ((if st then ccs + 128 else 0) + (if fre then 64 else 0)) * 2 ^ 8 + (6 + bit_word st 0 + bit_word fre 4)
+low_byte true true ccs = omega arith
+low_byte true false ccs = omega arith
+low_byte false true ccs = omega arith
+low_byte false false ccs = omega arith
+
+byte_bits : (st fre : Bool) → let w = 6 + bit_word st 0 + bit_word fre 4 in
+    (nat_eq (bit_at w 0) 1 ≡ st) × ((nat_eq (bit_at w 4) 1 ≡ fre) × (nat_eq (bit_at w 3) 1 ≡ false))
+byte_bits true true = (refl, (refl, refl))
+byte_bits true false = (refl, (refl, refl))
+byte_bits false true = (refl, (refl, refl))
+byte_bits false false = (refl, (refl, refl))
+
+low_below : (st fre : Bool) (ccs : ℕ) → ccs < 32 → low_word st fre ccs < 2 ^ 24
+low_below true true ccs h = omega arith
+low_below true false ccs h = omega arith
+low_below false true ccs h = omega arith
+low_below false false ccs h = omega arith
+
+-- the word's upper byte, and its lowest one
+command_bytes : (st fre atapi dlae : Bool) (ccs : ℕ) → low_word st fre ccs + bit_word atapi 24 + bit_word dlae 25
+    ≡ (bit_word atapi 0 + bit_word dlae 1) * 2 ^ 24 + low_word st fre ccs
+command_bytes st fre true true ccs = omega arith
+command_bytes st fre true false ccs = omega arith
+command_bytes st fre false true ccs = omega arith
+command_bytes st fre false false ccs = omega arith
+
+upper_bits : (atapi dlae : Bool) → let w = bit_word atapi 0 + bit_word dlae 1 in
+    (nat_eq (bit_at w 0) 1 ≡ atapi) × (nat_eq (bit_at w 1) 1 ≡ dlae)
+upper_bits true true = (refl, refl)
+upper_bits true false = (refl, refl)
+upper_bits false true = (refl, refl)
+upper_bits false false = (refl, refl)
 
 -- for a port with these ST and halted
-same_st : (p : HbaPort) (st halted : Bool) → (halted && not st) ≡ false → commanded (record p { st = st; halted = halted }) st p.fre false ≡ record p { st = st; halted = halted }
+same_st : (p : HbaPort) (st halted : Bool) → (halted && not st) ≡ false
+    → commanded (record p { st = st; halted = halted }) st p.fre false p.atapi p.dlae ≡ record p { st = st; halted = halted }
 same_st p true true h = refl
 same_st p true false h = refl
 same_st p false true h = cc
 same_st p false false h = refl
 
-commanded_again : (p : HbaPort) → (p.halted && not p.st) ≡ false → commanded p p.st p.fre false ≡ p
+commanded_again : (p : HbaPort) → (p.halted && not p.st) ≡ false → commanded p p.st p.fre false p.atapi p.dlae ≡ p
 commanded_again p h = same_st p p.st p.halted h
 
-command_back : (p : HbaPort) → (p.halted && not p.st) ≡ false
-    → commanded p (has_place (bits (command_word p)) 0) (has_place (bits (command_word p)) 4) (has_place (bits (command_word p)) 3) ≡ p
-command_back p h =
-    let b = command_bits p.st p.fre p.ccs in
-    ap (λ x. commanded p x (has_place (bits (command_word p)) 4) (has_place (bits (command_word p)) 3)) b.0
-    ∙ ap (λ x. commanded p p.st x (has_place (bits (command_word p)) 3)) b.1.0 ∙ ap (commanded p p.st p.fre) b.1.1 ∙ commanded_again p h
+-- PxCMD with these bits
+five_bits : (p : HbaPort) (st fre clo atapi dlae : Bool) → st ≡ p.st → fre ≡ p.fre → clo ≡ false → atapi ≡ p.atapi → dlae ≡ p.dlae
+    → commanded p st fre clo atapi dlae ≡ commanded p p.st p.fre false p.atapi p.dlae
+five_bits p st fre clo atapi dlae a b c d e =
+    ap (λ x. commanded p x fre clo atapi dlae) a ∙ ap (λ x. commanded p p.st x clo atapi dlae) b ∙ ap (λ x. commanded p p.st p.fre x atapi dlae) c
+    ∙ ap (λ x. commanded p p.st p.fre false x dlae) d ∙ ap (commanded p p.st p.fre false p.atapi) e
+
+command_back : (p : HbaPort) → IsLawful p → (p.halted && not p.st) ≡ false → with_command p (command_word p) ≡ p
+command_back p l h =
+    let e = command_bytes p.st p.fre p.atapi p.dlae p.ccs in
+    let m = low_byte p.st p.fre p.ccs in
+    let b = byte_bits p.st p.fre in
+    let u = upper_bits p.atapi p.dlae in
+    let k = low_below p.st p.fre p.ccs l.ccs in
+    five_bits p _ _ _ _ _ (by_low _ _ _ _ _ 0 e m (omega arith) ∙ b.0) (by_low _ _ _ _ _ 4 e m (omega arith) ∙ b.1.0)
+    (by_low _ _ _ _ _ 3 e m (omega arith) ∙ b.1.1) (by_up _ _ _ 0 e k (omega arith) ∙ u.0) (by_up _ _ _ 1 e k (omega arith) ∙ u.1)
+    ∙ commanded_again p h
 
 same_words : (base : ℕ) → base / 2 ^ 32 * 2 ^ 32 + base % 2 ^ 32 ≡ base
 same_words base = omega arith
@@ -212,7 +261,7 @@ changed_back s PxFb o n h w = ap (λ p. record s { port = p }) (fb_back s.port _
 changed_back s PxFbu o n h w = ap (λ p. record s { port = p }) (fb_back s.port _ (same_words s.port.fb))
 changed_back s PxIe o n h w =
     ap (λ x. record s { port = record s.port { ie = x } }) (ap (λ x. intersection x enables) (bits-word_of s.port.ie w.ie) ∙ h.ie)
-changed_back s PxCmd o n h w = ap (λ p. record s { port = p }) (command_back s.port n)
+changed_back s PxCmd o n h w = ap (λ p. record s { port = p }) (command_back s.port h n)
 changed_back s PxSctl o n h w = ap (λ p. record s { port = p }) (control_back s.port h)
 changed_back s Is o n h w = cc
 changed_back s PxIs o n h w = cc

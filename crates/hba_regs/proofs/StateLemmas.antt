@@ -6,8 +6,10 @@ use Rattle.word_bits.proofs.PlacesLemmas.{same_sets, length-intersection, has_pl
 use Rattle.word_bits.proofs.BitsLemmas.{bits_and}
 use Rattle.hba_regs.specs.HbaState.{IsKept, enables}
 use Rattle.hba_regs.specs.Interrupts.{raised, place_of, tfes}
-use Rattle.hba_regs.specs.Receiving.{ended, is_done}
+use Rattle.hba_regs.specs.Receiving.{ended, ended_by_signature, is_done}
 use Rattle.hba_regs.specs.Writing.{remaining}
+use Rattle.hba_regs.specs.declared.soft_reset.SoftReset.{SoftReset}
+use Rattle.hba_regs.specs.declared.soft_reset.SoftReset.TheVariants.{Off, Held, Ending}
 use Rattle.hba_regs.specs.declared.fatal.Fatal.{Fatal}
 use Rattle.hba_regs.specs.declared.fatal.Fatal.TheVariants.{HostBusFatal, HostBusData, Interface, Overflow}
 
@@ -57,6 +59,12 @@ ended-none status slot =
 pub ended_of_none : (s r : List Bool) (status slot : ℕ) → r ≡ ended status slot s → s ≡ no_places → r ≡ no_places
 ended_of_none s r status slot e h = e ∙ ap (ended status slot) h ∙ ended-none status slot
 
+-- PxCI after the signature of a software reset
+pub signed_of_none : (soft : SoftReset) (s r : List Bool) → r ≡ ended_by_signature soft s → s ≡ no_places → r ≡ no_places
+signed_of_none (Ending slot) s r e h = without_of_none s r slot e h
+signed_of_none Off s r e h = e ∙ h
+signed_of_none Held s r e h = e ∙ h
+
 -- a port that is stopped by a write, or was stopped before it, has no command
 pub remaining_of_stopped : (was st : Bool) (s r : List Bool) → r ≡ remaining (was && not st) s → (was ≡ false → s ≡ no_places) → st ≡ false → r ≡ no_places
 remaining_of_stopped true true s r k h e = cc
@@ -66,7 +74,7 @@ remaining_of_stopped false st s r k h e = k ∙ h refl
 -- ---- PxIE
 
 pub none_enabled : intersection (bits 0) enables ≡ bits 0
-none_enabled = sym (bits_and 0 0xfdc000ff) ∙ ap bits (and_zero_l 0xfdc000ff)
+none_enabled = sym (bits_and 0 0x7dc0007f) ∙ ap bits (and_zero_l 0x7dc0007f)
 
 and_again : (x y : Bool) → ((x && y) && y) ≡ (x && y)
 and_again true true = refl

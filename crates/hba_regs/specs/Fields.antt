@@ -15,17 +15,22 @@ port_of a = record {
   ie = bits a.ie;
   st = a.started;
   fre = a.receiving;
+  atapi = a.atapi;
+  dlae = a.drives_led;
   sts = a.status;
   err = a.error;
   sig = a.signature;
   link = a.link;
+  speed = a.speed;
   sctl = a.control;
   serr = bits a.serr;
   sact = bits a.sact;
   ci = bits a.ci;
   ccs = a.current;
+  first = a.first;
   halted = a.halted;
-  signature_waits = a.signature_waits;
+  signature = a.first_fis;
+  soft = a.soft;
 }
 
 -- they are lawful

@@ -1,18 +1,38 @@
--- What PxSCTL.DET does to the link (AHCI 1.3.1, sections 3.3.10, 3.3.11 and 10.4.2).
+-- What PxSCTL.DET does to the link (AHCI 1.3.1, sections 3.3.10, 3.3.11, 3.3.12 and 10.4.2).
 use Rattle.std.specs.Prelude.{Bool, true, false}
 use Rattle.word_bits.specs.Places.{no_places, union}
-use Rattle.hba_regs.specs.HbaState.{HbaPort, link_changed}
+use Rattle.hba_regs.specs.HbaState.{HbaPort, link_changed, speed_for}
+use Rattle.hba_regs.specs.Interrupts.{raised}
+use Rattle.hba_regs.specs.declared.signature.Signature.TheVariants.{Past, Due}
+use Rattle.hba_regs.specs.declared.soft_reset.SoftReset.TheVariants.{Off}
 use Rattle.hba_regs.specs.declared.link.Link.{Link}
 use Rattle.hba_regs.specs.declared.link.Link.TheVariants.{Up, InReset, Offline}
 
--- the link goes down: no command is left, and the device's status and signature are gone
+abbrev pub is_up : Link → Bool
+is_up Up = true
+is_up link = false
+
+-- the link goes down: no command is left, and the device's status and signature are gone. DIAG.N (bit 16) reports a PhyRdy that is lost
 abbrev pub went_down : HbaPort → Link → HbaPort
 went_down p link =
-    record p { link = link; sact = no_places; ci = no_places; halted = false; sts = 0x7f; err = 0; sig = 0xffffffff; signature_waits = false }
+    record p {
+      link = link;
+      serr = raised (is_up p.link) 16 p.serr;
+      sact = no_places;
+      ci = no_places;
+      halted = false;
+      sts = 0x7f;
+      err = 0;
+      sig = 0xffffffff;
+      signature = Past;
+      soft = Off;
+    }
 
--- the link comes up: the device is busy until its signature is taken
+-- the link comes up, at the generation that PxSCTL.SPD allows: DIAG.N and DIAG.X report it, and the device is busy until its signature
+-- is taken
 abbrev pub came_up : HbaPort → HbaPort
-came_up p = record p { link = Up; serr = union p.serr link_changed; sts = 0x80; signature_waits = true }
+came_up p =
+    record p { link = Up; speed = speed_for p.sctl; serr = union p.serr link_changed; sts = 0x80; signature = Due; soft = Off }
 
 -- the port once its link is to be this one; a link that is so already stays
 abbrev pub relinked : HbaPort → Link → Link → HbaPort
@@ -28,7 +48,3 @@ goes_down InReset InReset = false
 goes_down Offline Offline = false
 goes_down was Up = false
 goes_down was next = true
-
-abbrev pub is_up : Link → Bool
-is_up Up = true
-is_up link = false

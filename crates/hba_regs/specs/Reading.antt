@@ -17,16 +17,18 @@ bit_word b i = if b then 2 ^ i else 0
 abbrev pub capabilities_word : ℕ
 capabilities_word = 2 ^ 31 + 2 ^ 30 + 2 ^ 24 + 2 * 2 ^ 20 + 2 ^ 18 + 31 * 2 ^ 8
 
--- PxCMD: ST (bit 0), SUD (1), POD (2), FRE (4), CCS (12:8) while ST is 1, FR (14), which follows FRE, CR (15), which follows ST
+-- PxCMD: ST (bit 0), SUD (1), POD (2), FRE (4), CCS (12:8) while ST is 1, FR (14), which follows FRE, CR (15), which follows ST, ATAPI
+-- (24), DLAE (25)
 abbrev pub command_word : HbaPort → ℕ
 command_word p =
     6 + bit_word p.st 0 + bit_word p.fre 4 + (if p.st then p.ccs * 2 ^ 8 else 0) + bit_word p.fre 14 + bit_word p.st 15
+    + bit_word p.atapi 24 + bit_word p.dlae 25
 
--- PxSSTS: device present, generation 2, active; nothing; interface disabled
-abbrev pub link_word : Link → ℕ
-link_word Up = 0x123
-link_word InReset = 0
-link_word Offline = 4
+-- PxSSTS: device present (DET 3), its generation (SPD), active (IPM 1); nothing; interface disabled (DET 4)
+abbrev pub link_word : Link → ℕ → ℕ
+link_word Up speed = 0x103 + 2 ^ 4 * speed
+link_word InReset speed = 0
+link_word Offline speed = 4
 
 -- the word of each register
 abbrev pub word_at : HbaState → Register → ℕ
@@ -44,7 +46,7 @@ word_at s PxIe = word_of s.port.ie
 word_at s PxCmd = command_word s.port
 word_at s PxTfd = s.port.err * 2 ^ 8 + s.port.sts
 word_at s PxSig = s.port.sig
-word_at s PxSsts = link_word s.port.link
+word_at s PxSsts = link_word s.port.link s.port.speed
 word_at s PxSctl = s.port.sctl
 word_at s PxSerr = word_of s.port.serr
 word_at s PxSact = word_of s.port.sact

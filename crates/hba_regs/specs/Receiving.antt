@@ -1,7 +1,11 @@
 -- What the device's FISes and errors do to the registers (AHCI 1.3.1, sections 3.3.5, 3.3.8, 3.3.9, 3.3.13, 3.3.14, 5.3, 6.1, 6.2 and 10.4.1).
-use Rattle.std.specs.Prelude.{ℕ, Bool, true, false, not, ◌||◌, List, bit_and, bit_or, if◌then◌else◌}
+use Rattle.std.specs.Prelude.{ℕ, ◌+◌, ◌%◌, Bool, true, false, not, ◌||◌, List, bit_and, bit_or, if◌then◌else◌}
 use Rattle.word_bits.specs.Places.{bits, has_place, with_place, without_place, minus}
 use Rattle.hba_regs.specs.HbaState.{HbaPort, HbaState}
+use Rattle.hba_regs.specs.declared.signature.Signature.{Signature}
+use Rattle.hba_regs.specs.declared.signature.Signature.TheVariants.{Past, Due, Unposted}
+use Rattle.hba_regs.specs.declared.soft_reset.SoftReset.{SoftReset}
+use Rattle.hba_regs.specs.declared.soft_reset.SoftReset.TheVariants.{Off, Held, Ending}
 use Rattle.hba_regs.specs.Interrupts.{dhrs, pss, sdbs, tfes, place_of, raised, settled}
 use Rattle.hba_regs.specs.declared.fatal.Fatal.{Fatal}
 
@@ -17,9 +21,19 @@ is_done status = not (has_place (bits status) 7 || has_place (bits status) 3 || 
 abbrev pub ended : ℕ → ℕ → List Bool → List Bool
 ended status slot s = if is_done status then without_place s slot else s
 
--- the command FIS of a slot is sent: the device is busy with it
-abbrev pub sent : HbaPort → ℕ → HbaPort
-sent p slot = record p { sts = bit_or p.sts 0x80; ccs = slot }
+-- the port takes a command only while BSY (bit 7) and DRQ (bit 3) are 0 (section 5.3.2, P:Idle)
+abbrev pub is_free : ℕ → Bool
+is_free status = not (has_place (bits status) 7 || has_place (bits status) 3)
+
+-- P:SelectCmd: a slot's command is the one to issue. The next one is searched for from the slot behind it on (section 3.3.7, CCS)
+abbrev pub selected : HbaPort → ℕ → HbaPort
+selected p slot = record p { ccs = slot; first = (slot + 1) % 32 }
+
+-- CFIS:Success: the command FIS of a slot is sent, and the device is busy with it. If C is 1 in the slot's header, BSY and the slot's bit of
+-- PxCI are cleared (CFIS:ClearCI; section 4.2.2, C)
+abbrev pub sent : HbaPort → ℕ → Bool → HbaPort
+sent p slot clears =
+    if clears then record p { sts = bit_and p.sts 0x7f; ci = without_place p.ci slot } else record p { sts = bit_or p.sts 0x80 }
 
 -- a status with its error byte: a status with ERR halts the port
 abbrev pub with_status : HbaPort → ℕ → ℕ → HbaPort
@@ -52,16 +66,47 @@ abbrev pub after_pio_end : HbaPort → ℕ → Bool → ℕ → HbaPort
 after_pio_end p e_status i slot =
     record (with_status p e_status p.err) { is = raised (has_error e_status) tfes (raised i pss p.is); ci = ended e_status slot p.ci }
 
--- the signature is taken, in a D2H Register FIS with no I
+-- the FIS that brings the signature can be taken: by a stopped port while DIAG.X (bit 26 of PxSERR) is 0, whether FRE is 1 or not (sections
+-- 3.3.7, FRE, and 5.3.2, P:NotRunning); by a started port while FRE is 1, as any other FIS
+abbrev pub takes_signature : HbaPort → Bool
+takes_signature p = if p.st then p.fre else not (has_place p.serr 26)
+
+-- it is due and can be taken, or it was taken while FRE was 0, and can be posted now (P:RegFisPostToMem)
+abbrev pub signature_moves : HbaPort → Signature → Bool
+signature_moves p Past = false
+signature_moves p Due = takes_signature p
+signature_moves p Unposted = p.fre
+
+-- PxCI after the signature: that of a software reset ends the command of its second control FIS (RegFIS:ClearCI)
+abbrev pub ended_by_signature : SoftReset → List Bool → List Bool
+ended_by_signature (Ending slot) s = without_place s slot
+ended_by_signature other s = s
+
+-- the signature is taken, in a D2H Register FIS with no I, and posted if FRE is 1
 abbrev pub after_signature : HbaPort → HbaPort
-after_signature p = record p { sts = 0x50; err = 0x01; sig = 0x00000101; signature_waits = false }
+after_signature p =
+    record p {
+      sts = 0x50;
+      err = 0x01;
+      sig = 0x00000101;
+      ci = ended_by_signature p.soft p.ci;
+      signature = if p.fre then Past else Unposted;
+      soft = Off;
+    }
 
--- the control FIS of a slot sets SRST, and the one of another clears it: the device is busy, and at the end it sends its signature
-abbrev pub after_srst_set : HbaPort → ℕ → HbaPort
-after_srst_set p slot = record p { sts = 0x80; ci = without_place p.ci slot }
+-- the FIS of the signature, which may have been taken before
+abbrev pub signed : HbaPort → Signature → HbaPort
+signed p Due = after_signature p
+signed p other = record p { signature = Past }
 
-abbrev pub after_srst_cleared : HbaPort → ℕ → HbaPort
-after_srst_cleared p slot = record p { sts = 0x80; ci = without_place p.ci slot; signature_waits = true }
+-- the device's side of a software reset (section 10.4.1; Serial ATA, "Software reset"): a control FIS with SRST 1 holds the device in it, and
+-- the next one with SRST 0 ends it, after which the device sends its signature; with SRST 0 alone nothing happens
+abbrev pub after_srst_set : HbaPort → HbaPort
+after_srst_set p = record p { signature = Past; soft = Held }
+
+abbrev pub after_srst_cleared : HbaPort → ℕ → SoftReset → HbaPort
+after_srst_cleared p slot Held = record p { signature = Due; soft = Ending slot }
+after_srst_cleared p slot other = p
 
 -- a fatal error: its bit of PxIS is set, and the port halts
 abbrev pub after_fatal : HbaPort → Fatal → HbaPort

@@ -1,5 +1,5 @@
 -- What a word that is written to each register does (AHCI 1.3.1, sections 3.1 and 3.3).
-use Rattle.std.specs.Prelude.{ℕ, ◌+◌, ◌*◌, ◌/◌, ◌%◌, ◌^◌, Bool, not, ◌&&◌, List, Option, Some, None, bit_and, if◌then◌else◌}
+use Rattle.std.specs.Prelude.{ℕ, ◌+◌, ◌*◌, ◌/◌, ◌%◌, ◌^◌, Bool, true, not, ◌&&◌, List, Option, Some, None, bit_and, if◌then◌else◌}
 use Rattle.word_bits.specs.Places.{bits, has_place, no_places, union, intersection, minus}
 use Rattle.hba_regs.specs.HbaState.{HbaPort, HbaState, asked_link, enables, reset_with}
 use Rattle.hba_regs.specs.Interrupts.{settled}
@@ -7,6 +7,8 @@ use Rattle.hba_regs.specs.Linking.{goes_down, relinked}
 use Rattle.hba_regs.specs.RegisterTable.{register_at}
 use Rattle.hba_regs.specs.declared.consequence.Consequence.{Consequence}
 use Rattle.hba_regs.specs.declared.consequence.Consequence.TheVariants.{Nothing, Stopped, LinkReset, Reset}
+use Rattle.hba_regs.specs.declared.soft_reset.SoftReset.{SoftReset}
+use Rattle.hba_regs.specs.declared.soft_reset.SoftReset.TheVariants.{Off, Ending}
 use Rattle.hba_regs.specs.declared.register.Register.{Register}
 use Rattle.hba_regs.specs.declared.register.Register.TheVariants.{Ghc, Is, PxClb, PxClbu, PxFb, PxFbu, PxIs, PxIe, PxCmd, PxSctl, PxSerr, PxSact, PxCi}
 
@@ -37,23 +39,34 @@ with_fb p base = if p.fre then p else record p { fb = base }
 abbrev pub remaining : Bool → List Bool → List Bool
 remaining stops s = if stops then no_places else s
 
--- PxCMD with these ST, FRE and CLO: CLO clears BSY and DRQ, and a port stays halted for as long as ST stays 1
-abbrev pub commanded : HbaPort → Bool → Bool → Bool → HbaPort
-commanded p st fre clo =
+-- the device's software reset once ST goes from 1 to 0: the command that its signature would end is gone
+abbrev pub continued : Bool → SoftReset → SoftReset
+continued true (Ending slot) = Off
+continued stops other = other
+
+-- PxCMD with these bits: CLO clears BSY and DRQ, and a port stays halted for as long as ST stays 1
+abbrev pub commanded : HbaPort → Bool → Bool → Bool → Bool → Bool → HbaPort
+commanded p st fre clo atapi dlae =
     let stops = p.st && not st in
     record p {
       st = st;
       fre = fre;
+      atapi = atapi;
+      dlae = dlae;
       sts = if clo then bit_and p.sts 0x77 else p.sts;
       sact = remaining stops p.sact;
       ci = remaining stops p.ci;
       ccs = if stops then 0 else p.ccs;
+      first = if stops then 0 else p.first;
       halted = p.halted && p.st && st;
+      soft = continued stops p.soft;
     }
 
--- ST, FRE and CLO are bits 0, 4 and 3
+-- ST, FRE, CLO, ATAPI and DLAE are bits 0, 4, 3, 24 and 25
 abbrev pub with_command : HbaPort → ℕ → HbaPort
-with_command p value = commanded p (has_place (bits value) 0) (has_place (bits value) 4) (has_place (bits value) 3)
+with_command p value =
+    commanded p (has_place (bits value) 0) (has_place (bits value) 4) (has_place (bits value) 3) (has_place (bits value) 24)
+    (has_place (bits value) 25)
 
 -- PxSCTL: bits 11:0 are kept, and DET (bits 3:0) moves the link
 abbrev pub with_control : HbaPort → ℕ → HbaPort

@@ -127,7 +127,7 @@ impl HbaRegs {
             Register::PxCmd => self.port.command(),
             Register::PxTfd => self.port.task_file(),
             Register::PxSig => self.port.signature(),
-            Register::PxSsts => self.port.link().status(),
+            Register::PxSsts => self.port.link().status(self.port.speed()),
             Register::PxSctl => self.port.control(),
             Register::PxSerr => self.port.serr(),
             Register::PxSact => self.port.sact(),

@@ -1,7 +1,7 @@
 //! What follows from the contracts of `HbaRegs`. The functions change nothing: each stands for its clauses. A write is one of a
 //! word to a register (`written`), which `words_are_written_to_their_registers` finds at the register's offset.
 ghost use Rattle.std.specs.Prelude.{◌≡◌, ◌≢◌, ◌+◌, ◌*◌, ◌/◌, ◌%◌, ◌^◌, ◌<◌, ℕ, Bool, true, false, not, ◌&&◌, ◌||◌};
-ghost use Rattle.word_bits.specs.Places.{bits, has_place, no_places, union};
+ghost use Rattle.word_bits.specs.Places.{bits, has_place, no_places, union, with_place};
 ghost use Rattle.hba_regs.specs.HbaState.{HbaPort, link_changed, power_on};
 ghost use Rattle.hba_regs.specs.Interrupts.{interrupts, is_pending};
 ghost use Rattle.hba_regs.specs.RegisterTable.{offset_of, takes_ones};
@@ -11,6 +11,8 @@ ghost use Rattle.hba_regs.specs.Accessing.{part, read_of, with_part, write_of};
 ghost use Rattle.hba_regs.specs.Receiving.{moved};
 ghost use Rattle.hba_regs.specs.declared.consequence.Consequence.TheVariants.{Nothing};
 ghost use Rattle.hba_regs.specs.declared.link.Link.TheVariants.{Up};
+ghost use Rattle.hba_regs.specs.declared.signature.Signature.TheVariants.{Due};
+ghost use Rattle.hba_regs.specs.declared.soft_reset.SoftReset.TheVariants.{Off};
 
 use crate::access_size::AccessSize;
 use crate::hba_regs::HbaRegs;
@@ -139,7 +141,9 @@ pub fn a_comreset_brings_the_device_back(regs: &HbaRegs)
           sts = 0x80;
           err = 0;
           sig = 0xffffffff;
-          serr = union regs.now.port.serr link_changed;
-          signature_waits = true;
+          serr = union (with_place regs.now.port.serr 16) link_changed;
+          speed = 2;
+          signature = Due;
+          soft = Off;
         } }
 {}

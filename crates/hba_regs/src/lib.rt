@@ -10,6 +10,8 @@ pub mod laws;
 mod link;
 mod port;
 mod register;
+mod signature;
+mod soft_reset;
 mod words;
 
 pub use access_size::AccessSize;
@@ -18,3 +20,5 @@ pub use fatal::Fatal;
 pub use hba_regs::HbaRegs;
 pub use link::Link;
 pub use register::Register;
+pub use signature::Signature;
+pub use soft_reset::SoftReset;

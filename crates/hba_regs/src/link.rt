@@ -5,7 +5,7 @@ ghost use Rattle.hba_regs.specs.Reading.{link_word};
 /// The link to the device, as PxSCTL.DET has left it (AHCI 1.3.1, sections 3.3.10 and 3.3.11).
 #[derive(Clone, Copy, PartialEq, Eq, Debug)]
 pub enum Link {
-    /// The device is there, and the link is active at generation 2.
+    /// The device is there, and the link is active.
     Up,
     /// COMRESET is sent, for as long as DET is 1.
     InReset,
@@ -26,12 +26,12 @@ impl Link {
         }
     }
 
-    /// PxSSTS.
-    pub(crate) fn status(self) -> u32
-        ensures { result ≡ link_word self }
+    /// PxSSTS, of a link that is active at this generation.
+    pub(crate) fn status(self, speed: u8) -> u32
+        ensures { result ≡ link_word self speed }
     {
         match self {
-            Link::Up => 0x0000_0123,
+            Link::Up => 0x0000_0103 + (u32::from(speed) << 4),
             Link::InReset => 0,
             Link::Offline => 0x0000_0004,
         }

@@ -1,12 +1,15 @@
 //! The registers of the port (AHCI 1.3.1, section 3.3).
 
-ghost use Rattle.std.specs.Prelude.{◌≡◌, ◌+◌, ◌*◌, ◌%◌, ◌^◌, ◌<◌, not, nat_eq};
+ghost use Rattle.std.specs.Prelude.{◌≡◌, ◌+◌, ◌*◌, ◌%◌, ◌^◌, ◌<◌, ◌≤◌, not, nat_eq};
 ghost use Rattle.word_bits.specs.Places.{bits, intersection, word_of};
-ghost use Rattle.hba_regs.specs.HbaState.{reset_port, HasWords, IsLawful};
+ghost use Rattle.hba_regs.specs.HbaState.{reset_port, most_speed, HasWords, IsLawful};
 ghost use Rattle.hba_regs.specs.Interrupts.{interrupts, is_pending, raised};
 ghost use Rattle.hba_regs.specs.Reading.{command_word};
+ghost use Rattle.hba_regs.specs.Receiving.{is_free, signature_moves};
 
 use crate::link::Link;
+use crate::signature::Signature;
+use crate::soft_reset::SoftReset;
 use std::marker::Model;
 use word_bits::{is_set, with_bit};
 
@@ -33,6 +36,9 @@ const DIAG_X: u8 = 26;
 
 const LINK_CHANGED: u32 = 0x0401_0000;
 
+/// The fastest generation of the interface (CAP.ISS).
+const MOST_SPEED: u8 = 2;
+
 /// What PxSIG is before the device's first FIS (section 3.3.9).
 const NO_SIGNATURE: u32 = 0xffff_ffff;
 
@@ -45,17 +51,22 @@ pub struct Port {
     ie: u32,
     started: bool,
     receiving: bool,
+    atapi: bool,
+    drives_led: bool,
     status: u8,
     error: u8,
     signature: u32,
     link: Link,
+    speed: u8,
     control: u32,
     serr: u32,
     sact: u32,
     ci: u32,
     current: u8,
+    first: u8,
     halted: bool,
-    signature_waits: bool,
+    first_fis: Signature,
+    soft: SoftReset,
 }
 
 impl Model for Port {
@@ -85,7 +96,7 @@ impl Port {
         *self = Port::with_bases(self.clb, self.fb);
     }
 
-    /// The port after a reset, with these bases: the link is up, and the device has sent its signature.
+    /// The port after a reset, with these bases: the link is up, and the device's signature is due.
     #[tactic(auto, using(word_bits::proofs::BitsLemmas::bits_zero))]
     fn with_bases(clb: u64, fb: u64) -> Self
         requires clb { clb % 2 ^ 10 ≡ 0 }
@@ -99,17 +110,22 @@ impl Port {
             ie: 0,
             started: false,
             receiving: false,
+            atapi: false,
+            drives_led: false,
             status: 0x80,
             error: 0,
             signature: NO_SIGNATURE,
             link: Link::Up,
+            speed: MOST_SPEED,
             control: 0,
             serr: LINK_CHANGED,
             sact: 0,
             ci: 0,
             current: 0,
+            first: 0,
             halted: false,
-            signature_waits: true,
+            first_fis: Signature::Due,
+            soft: SoftReset::Off,
         }
     }
 
@@ -168,6 +184,12 @@ impl Port {
         if self.receiving {
             word += 0x0000_4010;
         }
+        if self.atapi {
+            word += 0x0100_0000;
+        }
+        if self.drives_led {
+            word += 0x0200_0000;
+        }
         word
     }
 
@@ -190,6 +212,14 @@ impl Port {
         ensures { result ≡ self.now.link }
     {
         self.link
+    }
+
+    /// The generation of the active link.
+    pub fn speed(&self) -> u8
+        ensures value { result ≡ self.now.speed }
+        ensures most { result ≤ most_speed }
+    {
+        self.speed
     }
 
     /// PxSCTL.
@@ -241,11 +271,46 @@ impl Port {
         self.halted
     }
 
-    /// Whether the device has sent its signature, which is not taken yet.
-    pub fn signature_waits(&self) -> bool
-        ensures { result ≡ self.now.signature_waits }
+    /// The slot with the highest priority to issue from.
+    pub fn first(&self) -> u8
+        ensures value { result ≡ self.now.first }
+        ensures slot { result < 32 }
     {
-        self.signature_waits
+        self.first
+    }
+
+    /// Whether BSY and DRQ are 0, so that a command may be taken.
+    pub fn is_free(&self) -> bool
+        ensures { result ≡ is_free self.now.sts }
+    {
+        let status = u32::from(self.status);
+        !(is_set(status, 7) || is_set(status, 3))
+    }
+
+    /// The FIS that brings the signature.
+    pub fn first_fis(&self) -> Signature
+        ensures { result ≡ self.now.signature }
+    {
+        self.first_fis
+    }
+
+    /// Whether that FIS can be taken, or posted, now (section 5.3.2).
+    pub fn signature_moves(&self) -> bool
+        ensures { result ≡ signature_moves self.now self.now.signature }
+    {
+        match self.first_fis {
+            Signature::Past => false,
+            Signature::Due if self.started => self.receiving,
+            Signature::Due => !is_set(self.serr, DIAG_X),
+            Signature::Unposted => self.receiving,
+        }
+    }
+
+    /// How far the device is with a software reset.
+    pub fn soft(&self) -> SoftReset
+        ensures { result ≡ self.now.soft }
+    {
+        self.soft
     }
 }
 

@@ -1,18 +1,28 @@
 //! What the device's FISes and errors do to the registers. Each ends as a write does: IS.IPS is set if an interrupt is pending.
 
 ghost use Rattle.std.specs.Prelude.{◌≡◌, ◌<◌, true};
-ghost use Rattle.hba_regs.specs.Receiving.{after_bits, after_fatal, after_pio, after_pio_end, after_register, after_signature, after_srst_cleared, after_srst_set, moved, sent};
+ghost use Rattle.hba_regs.specs.Receiving.{after_bits, after_fatal, after_pio, after_pio_end, after_register, after_srst_cleared, after_srst_set, moved, selected, sent, signature_moves, signed};
 
 use super::HbaRegs;
 use crate::fatal::Fatal;
 
 impl HbaRegs {
-    /// Sends the command FIS of a slot, below 32 (AHCI 1.3.1, section 5.3): BSY is set, and CCS is the slot.
-    pub fn send(&mut self, slot: u8)
+    /// Selects the command of a slot, below 32, as the next one to issue (AHCI 1.3.1, section 5.3.2, P:SelectCmd): CCS is the slot.
+    pub fn select(&mut self, slot: u8)
         requires { slot < 32 }
-        ensures { self.new ≡ moved self.old (sent self.old.port slot) }
+        ensures { self.new ≡ moved self.old (selected self.old.port slot) }
     {
-        self.port.send(slot);
+        self.port.select(slot);
+        self.pending = self.pending || self.port.is_pending();
+    }
+
+    /// Sends the command FIS of a slot, below 32 (section 5.3.5): BSY is set; or, if C is 1 in its header, BSY and its bit of PxCI are
+    /// cleared.
+    pub fn send(&mut self, slot: u8, clears: bool)
+        requires { slot < 32 }
+        ensures { self.new ≡ moved self.old (sent self.old.port slot clears) }
+    {
+        self.port.send(slot, clears);
         self.pending = self.pending || self.port.is_pending();
     }
 
@@ -52,29 +62,29 @@ impl HbaRegs {
         self.pending = self.pending || self.port.is_pending();
     }
 
-    /// Takes the device's signature, which waits while FRE is 0 (`signature_is_due`): a D2H Register FIS without I.
+    /// Takes the FIS of the device's signature, a D2H Register FIS without I, or posts it if it was taken while FRE was 0
+    /// (`signature_moves`): with the signature of a software reset, PxCI loses the slot of its second control FIS.
     pub fn take_signature(&mut self)
-        requires waits { self.old.port.signature_waits ≡ true }
-        requires receives { self.old.port.fre ≡ true }
-        ensures { self.new ≡ moved self.old (after_signature self.old.port) }
+        requires { signature_moves self.old.port self.old.port.signature ≡ true }
+        ensures { self.new ≡ moved self.old (signed self.old.port self.old.port.signature) }
     {
         self.port.take_signature();
         self.pending = self.pending || self.port.is_pending();
     }
 
-    /// Takes that the control FIS of a slot, below 32, sets SRST, the first of the two of a software reset (section 10.4.1).
-    pub fn set_srst(&mut self, slot: u8)
-        requires { slot < 32 }
-        ensures { self.new ≡ moved self.old (after_srst_set self.old.port slot) }
+    /// Takes that a control FIS sets SRST, the first of the two of a software reset (section 10.4.1): the device is held in it.
+    pub fn set_srst(&mut self)
+        ensures { self.new ≡ moved self.old (after_srst_set self.old.port) }
     {
-        self.port.set_srst(slot);
+        self.port.set_srst();
         self.pending = self.pending || self.port.is_pending();
     }
 
-    /// Takes that the control FIS of a slot, below 32, clears SRST, the second of the two: the device then sends its signature.
+    /// Takes that the control FIS of a slot, below 32, clears SRST, the second of the two: a device that is held in its reset then sends
+    /// its signature, and any other one ignores it.
     pub fn clear_srst(&mut self, slot: u8)
         requires { slot < 32 }
-        ensures { self.new ≡ moved self.old (after_srst_cleared self.old.port slot) }
+        ensures { self.new ≡ moved self.old (after_srst_cleared self.old.port slot self.old.port.soft) }
     {
         self.port.clear_srst(slot);
         self.pending = self.pending || self.port.is_pending();

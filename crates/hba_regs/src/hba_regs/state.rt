@@ -1,13 +1,16 @@
 //! What the HBA's registers tell the device's side.
 
-ghost use Rattle.std.specs.Prelude.{◌≡◌, ◌&&◌, true};
+ghost use Rattle.std.specs.Prelude.{◌≡◌, ◌<◌, true};
 ghost use Rattle.word_bits.specs.Places.{bits};
 ghost use Rattle.hba_regs.specs.HbaState.{HasWords, IsLawful};
 ghost use Rattle.hba_regs.specs.Interrupts.{interrupt, is_pending};
 ghost use Rattle.hba_regs.specs.Linking.{is_up};
+ghost use Rattle.hba_regs.specs.Receiving.{is_free, signature_moves};
 
 use super::HbaRegs;
 use crate::link::Link;
+use crate::signature::Signature;
+use crate::soft_reset::SoftReset;
 
 impl HbaRegs {
     /// What every state of the registers keeps: the port's rules, and IS.IPS is 1 while an interrupt is pending.
@@ -82,10 +85,39 @@ impl HbaRegs {
         matches!(self.port.link(), Link::Up)
     }
 
-    /// Whether the device's signature waits and FRE is 1, so that `take_signature` is the next to come.
-    pub fn signature_is_due(&self) -> bool
-        ensures { result ≡ (self.now.port.signature_waits && self.now.port.fre) }
+    /// The FIS that brings the device's signature.
+    pub fn signature(&self) -> Signature
+        ensures { result ≡ self.now.port.signature }
     {
-        self.port.signature_waits() && self.port.is_receiving()
+        self.port.first_fis()
+    }
+
+    /// Whether that FIS can be taken, or posted, now.
+    pub fn signature_moves(&self) -> bool
+        ensures { result ≡ signature_moves self.now.port self.now.port.signature }
+    {
+        self.port.signature_moves()
+    }
+
+    /// How far the device is with a software reset.
+    pub fn soft_reset(&self) -> SoftReset
+        ensures { result ≡ self.now.port.soft }
+    {
+        self.port.soft()
+    }
+
+    /// Whether BSY and DRQ are 0, so that a command may be taken (section 5.3.2).
+    pub fn is_free(&self) -> bool
+        ensures { result ≡ is_free self.now.port.sts }
+    {
+        self.port.is_free()
+    }
+
+    /// The slot with the highest priority to issue from (section 3.3.7, CCS).
+    pub fn first_slot(&self) -> u8
+        ensures value { result ≡ self.now.port.first }
+        ensures slot { result < 32 }
+    {
+        self.port.first()
     }
 }

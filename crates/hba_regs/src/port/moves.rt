@@ -2,21 +2,37 @@
 
 ghost use Rattle.std.specs.Prelude.{◌≡◌, ◌<◌, bit_or};
 ghost use Rattle.word_bits.specs.Places.{bits, minus, with_place};
+ghost use Rattle.hba_regs.specs.HbaState.{IsOfSlot};
 ghost use Rattle.hba_regs.specs.Interrupts.{place_of, raised, tfes};
-ghost use Rattle.hba_regs.specs.Receiving.{after_bits, after_fatal, after_pio, after_pio_end, after_register, after_signature, after_srst_cleared, after_srst_set, ended, has_error, is_done, sent, status_after_bits};
+ghost use Rattle.hba_regs.specs.Receiving.{after_bits, after_fatal, after_pio, after_pio_end, after_register, after_signature, after_srst_cleared, after_srst_set, ended, ended_by_signature, has_error, is_done, selected, sent, signed, status_after_bits};
 
 use super::{DHRS, PSS, Port, SDBS, TFES, raised};
 use crate::fatal::Fatal;
+use crate::signature::Signature;
+use crate::soft_reset::SoftReset;
 use word_bits::{is_set, with_bit, without_bit};
 
 impl Port {
-    /// The command FIS of a slot is sent.
-    pub fn send(&mut self, slot: u8)
+    /// A slot's command is the one to issue.
+    pub fn select(&mut self, slot: u8)
         requires { slot < 32 }
-        ensures { self.new ≡ sent self.old slot }
+        ensures { self.new ≡ selected self.old slot }
     {
-        self.status |= 0x80;
         self.current = slot;
+        self.first = (slot + 1) % 32;
+    }
+
+    /// The command FIS of a slot is sent: with C, BSY and the slot's bit of PxCI are cleared.
+    pub fn send(&mut self, slot: u8, clears: bool)
+        requires { slot < 32 }
+        ensures { self.new ≡ sent self.old slot clears }
+    {
+        if clears {
+            self.status &= 0x7f;
+            self.ci = without_bit(self.ci, slot);
+        } else {
+            self.status |= 0x80;
+        }
     }
 
     /// A D2H Register FIS for a slot.
@@ -63,33 +79,52 @@ impl Port {
         self.halted = self.halted || has_error(e_status);
     }
 
-    /// The device's signature is taken.
+    /// The FIS of the device's signature: it is taken, or posted if it was taken before.
     pub fn take_signature(&mut self)
+        ensures { self.new ≡ signed self.old self.old.signature }
+    {
+        match self.first_fis {
+            Signature::Due => self.become_ready(),
+            Signature::Past | Signature::Unposted => self.first_fis = Signature::Past,
+        }
+    }
+
+    /// The device's signature is taken.
+    fn become_ready(&mut self)
         ensures { self.new ≡ after_signature self.old }
     {
         self.status = 0x50;
         self.error = 0x01;
         self.signature = 0x0000_0101;
-        self.signature_waits = false;
+        self.ci = ended_by_signature(self.soft, self.ci);
+        self.first_fis = if self.receiving {
+            Signature::Past
+        } else {
+            Signature::Unposted
+        };
+        self.soft = SoftReset::Off;
     }
 
-    /// The control FIS of a slot sets SRST.
-    pub fn set_srst(&mut self, slot: u8)
-        requires { slot < 32 }
-        ensures { self.new ≡ after_srst_set self.old slot }
+    /// A control FIS sets SRST.
+    pub fn set_srst(&mut self)
+        ensures { self.new ≡ after_srst_set self.old }
     {
-        self.status = 0x80;
-        self.ci = without_bit(self.ci, slot);
+        self.first_fis = Signature::Past;
+        self.soft = SoftReset::Held;
     }
 
-    /// The control FIS of a slot clears SRST.
+    /// The control FIS of a slot clears SRST, if it is set.
     pub fn clear_srst(&mut self, slot: u8)
         requires { slot < 32 }
-        ensures { self.new ≡ after_srst_cleared self.old slot }
+        ensures { self.new ≡ after_srst_cleared self.old slot self.old.soft }
     {
-        self.status = 0x80;
-        self.ci = without_bit(self.ci, slot);
-        self.signature_waits = true;
+        match self.soft {
+            SoftReset::Held => {
+                self.first_fis = Signature::Due;
+                self.soft = SoftReset::Ending(slot);
+            }
+            SoftReset::Off | SoftReset::Ending(_) => {}
+        }
     }
 
     /// A fatal error.
@@ -140,6 +175,17 @@ fn ended(status: u8, slot: u8, ci: u32) -> u32
         without_bit(ci, slot)
     } else {
         ci
+    }
+}
+
+/// PxCI after the signature: that of a software reset ends the command of its second control FIS.
+fn ended_by_signature(soft: SoftReset, ci: u32) -> u32
+    requires { IsOfSlot soft }
+    ensures { bits result ≡ ended_by_signature soft (bits ci) }
+{
+    match soft {
+        SoftReset::Ending(slot) => without_bit(ci, slot),
+        SoftReset::Off | SoftReset::Held => ci,
     }
 }
 

@@ -2,20 +2,22 @@
 
 ghost use Rattle.std.specs.Prelude.{◌≡◌, ◌%◌, ◌^◌, ◌<◌, true, bit_and, if◌then◌else◌};
 ghost use Rattle.word_bits.specs.Places.{bits, has_place, intersection, minus, union};
-ghost use Rattle.hba_regs.specs.HbaState.{asked_link, enables};
+ghost use Rattle.hba_regs.specs.HbaState.{asked_link, enables, speed_for};
 ghost use Rattle.hba_regs.specs.Linking.{came_up, went_down};
-ghost use Rattle.hba_regs.specs.Writing.{port_changed, port_consequence, remaining, with_clb, with_command, with_control, with_fb};
+ghost use Rattle.hba_regs.specs.Writing.{continued, port_changed, port_consequence, remaining, with_clb, with_command, with_control, with_fb};
 ghost use Rattle.hba_regs.specs.declared.link.Link.TheVariants.{Up};
 
-use super::{LINK_CHANGED, NO_SIGNATURE, Port};
+use super::{DIAG_N, LINK_CHANGED, MOST_SPEED, NO_SIGNATURE, Port, raised};
 use crate::consequence::Consequence;
 use crate::link::Link;
 use crate::register::Register;
+use crate::signature::Signature;
+use crate::soft_reset::SoftReset;
 use crate::words::{with_lower, with_upper};
 use word_bits::is_set;
 
 /// The bits that PxIE has.
-const ENABLES: u32 = 0xfdc0_00ff;
+const ENABLES: u32 = 0x7dc0_007f;
 
 impl Port {
     /// Takes a word that software writes to a register of the port; a read-only register stays as it is, and so does the port at
@@ -77,7 +79,7 @@ impl Port {
         self.ie = enabled(value);
     }
 
-    /// PxCMD: ST, FRE and CLO (section 3.3.7).
+    /// PxCMD: ST, FRE, CLO, ATAPI and DLAE (section 3.3.7).
     fn write_command(&mut self, value: u32) -> Consequence
         ensures state { self.new ≡ with_command self.old value }
         ensures consequence { result ≡ port_consequence self.old value Register.PxCmd }
@@ -88,9 +90,13 @@ impl Port {
         self.sact = remaining(self.sact, stops);
         self.ci = remaining(self.ci, stops);
         self.current = if stops { 0 } else { self.current };
+        self.first = if stops { 0 } else { self.first };
+        self.soft = continued(self.soft, stops);
         self.halted = self.halted && self.started && starts;
         self.started = starts;
         self.receiving = is_set(value, 4);
+        self.atapi = is_set(value, 24);
+        self.drives_led = is_set(value, 25);
         if stops {
             Consequence::Stopped
         } else {
@@ -154,9 +160,11 @@ impl Port {
     {
         self.control = control;
         self.link = Link::Up;
+        self.speed = speed_for(control);
         self.serr = with(self.serr, LINK_CHANGED);
         self.status = 0x80;
-        self.signature_waits = true;
+        self.first_fis = Signature::Due;
+        self.soft = SoftReset::Off;
     }
 
     /// The link is gone, and the commands with it (section 10.4.2).
@@ -167,6 +175,7 @@ impl Port {
         ensures { self.new ≡ went_down (record self.old { sctl = control }) link }
     {
         self.control = control;
+        self.serr = raised(self.serr, DIAG_N, matches!(self.link, Link::Up));
         self.link = link;
         self.sact = 0;
         self.ci = 0;
@@ -174,7 +183,29 @@ impl Port {
         self.status = 0x7f;
         self.error = 0;
         self.signature = NO_SIGNATURE;
-        self.signature_waits = false;
+        self.first_fis = Signature::Past;
+        self.soft = SoftReset::Off;
+    }
+}
+
+/// The generation at which a link comes up, by PxSCTL.SPD.
+fn speed_for(control: u32) -> u8
+    ensures { result ≡ speed_for control }
+{
+    if control / 16 % 16 == 1 {
+        1
+    } else {
+        MOST_SPEED
+    }
+}
+
+/// The device's software reset after a write of ST: the command that its signature would end is gone if the port stops.
+fn continued(soft: SoftReset, stops: bool) -> SoftReset
+    ensures { result ≡ continued stops soft }
+{
+    match soft {
+        SoftReset::Ending(_) if stops => SoftReset::Off,
+        SoftReset::Off | SoftReset::Held | SoftReset::Ending(_) => soft,
     }
 }
 

@@ -15,4 +15,7 @@ invariant_of-self c =
       sctl = h.sctl;
       link = h.link;
       ccs = h.ccs;
+      speed = h.speed;
+      first = h.first;
+      soft = h.soft;
     }

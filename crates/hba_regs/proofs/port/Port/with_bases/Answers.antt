@@ -15,4 +15,7 @@ invariant_of-result c = record {
   sctl = omega arith;
   link = refl;
   ccs = omega arith;
+  speed = omega arith;
+  first = omega arith;
+  soft = tt;
 }

@@ -1,6 +1,6 @@
 -- No command comes.
 use Rattle.hba_regs.proofs.StateLemmas.{without_of_none}
-use Rattle.hba_regs.proofs.port.Port.clear_srst.Goals as goal
+use Rattle.hba_regs.proofs.port.Port.send.Goals as goal
 
 pub invariant_of-self : goal.invariant_of-self
 invariant_of-self c =
@@ -14,4 +14,7 @@ invariant_of-self c =
       sctl = h.sctl;
       link = h.link;
       ccs = h.ccs;
+      speed = h.speed;
+      first = h.first;
+      soft = h.soft;
     }
