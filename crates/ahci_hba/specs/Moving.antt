@@ -1,10 +1,10 @@
 -- What a controller reads and writes in the driver's memory, and what follows (AHCI 1.3.1, section 5.3).
-use Rattle.std.specs.Prelude.{ℕ, ◌&&◌, true, List, [], Some, slice_set, if◌then◌else◌}
+use Rattle.std.specs.Prelude.{ℕ, Bool, true, List, [], Some, slice_set, if◌then◌else◌}
 use Rattle.hba_memory.specs.Posting.{PostingView, advanced, is_none, remaining}
 use Rattle.hba_memory.specs.Reading.{ReadingView, Whole, Malformed, Short, after_bytes, next_run, no_run}
 use Rattle.hba_memory.specs.Runs.{Put, Run, first_put}
 use Rattle.hba_regs.specs.HbaState.{HbaState}
-use Rattle.hba_regs.specs.Receiving.{after_bits, after_fatal, after_pio, after_pio_end, after_register, after_signature, moved, sent}
+use Rattle.hba_regs.specs.Receiving.{after_bits, after_fatal, after_pio, after_pio_end, after_register, moved, sent, signature_moves, signed}
 use Rattle.hba_regs.specs.declared.fatal.Fatal.{Fatal}
 use Rattle.hba_regs.specs.declared.fatal.Fatal.TheVariants as fatal
 use Rattle.ahci_hba.specs.HbaView.{CommandView, Fetched, HbaView, WorkView, Idle, Fetching, Posting}
@@ -42,14 +42,14 @@ place_of other = 0
 abbrev pub failed_fatally : HbaView → Fatal → HbaView
 failed_fatally h f = record h { registers = moved h.registers (after_fatal h.registers.port f); work = Idle }
 
--- a command that was read stands in its slot, and its FIS is sent
-abbrev pub placed_in : HbaView → ℕ → CommandView → HbaView
-placed_in h slot c =
-    record h { registers = moved h.registers (sent h.registers.port slot); slots = slice_set h.slots slot (Some c); work = Idle }
+-- a command that was read is in its slot, and its FIS is sent: with C of its header, BSY and its bit of PxCI are cleared
+abbrev pub placed_in : HbaView → ℕ → Bool → CommandView → HbaView
+placed_in h slot clears c =
+    record h { registers = moved h.registers (sent h.registers.port slot clears); slots = slice_set h.slots slot (Some c); work = Idle }
 
 -- how far a slot's command is read: all of it is there, it can't be sent, its list is too short, or more comes
 abbrev pub read_so_far : HbaView → ℕ → ReadingView → HbaView
-read_so_far h slot (Whole t list bytes) = placed_in h slot (Fetched t list bytes)
+read_so_far h slot (Whole t clears list bytes) = placed_in h slot clears (Fetched t list bytes)
 read_so_far h slot Malformed = failed_fatally h fatal.Interface
 read_so_far h slot Short = failed_fatally h fatal.Overflow
 read_so_far h slot r = record h { work = Fetching slot r }
@@ -67,7 +67,7 @@ abbrev pub ended_by : HbaState → Ending → HbaState
 ended_by s (ending.Register status error i slot) = moved s (after_register s.port status error i slot)
 ended_by s (ending.Bits status error sactive) = moved s (after_bits s.port status error true sactive)
 ended_by s (ending.Pio slot) = after_data_in (moved s (after_pio s.port 0x48 0)) slot
-ended_by s ending.Signature = if s.port.signature_waits && s.port.fre then moved s (after_signature s.port) else s
+ended_by s ending.Signature = if signature_moves s.port s.port.signature then moved s (signed s.port s.port.signature) else s
 
 -- an answer, of which so much is still to be written: with the last byte it takes effect
 abbrev pub answering : HbaView → PostingView → Ending → HbaView

@@ -1,6 +1,6 @@
 -- What the device does with a queued command of a slot (AHCI 1.3.1, section 5.3; ACS-3, "Native Command Queuing").
-use Rattle.std.specs.Prelude.{◌≡◌, ℕ, ◌+◌, ◌*◌, Bool, true, false, not, nat_le, ◌&&◌, List, [], ◌∷◌, take, drop, Option, None, Some, IsSomeAnd, slice_index_or, slice_set, if◌then◌else◌}
-use Rattle.std.specs.List.{list_any}
+use Rattle.std.specs.Prelude.{◌≡◌, ℕ, ◌+◌, ◌-◌, ◌*◌, ◌%◌, Bool, true, false, not, nat_le, nat_lt, ◌&&◌, List, [], ◌∷◌, take, drop, Option, None, Some, IsSomeAnd, slice_index_or, slice_set, if◌then◌else◌}
+use Rattle.std.specs.List.{list_any, range_with_len}
 use Rattle.sata_fis.specs.Fields.{QueuedFields}
 use Rattle.word_bits.specs.Places.{has_place}
 use Rattle.hba_command.specs.declared.entry.PrdEntry.{PrdEntry}
@@ -12,6 +12,9 @@ use Rattle.hba_memory.specs.Runs.{Put}
 use Rattle.hba_memory.specs.Table.{wrapped}
 use Rattle.hba_regs.specs.HbaState.{HbaPort, HbaState}
 use Rattle.hba_regs.specs.Linking.{is_up}
+use Rattle.hba_regs.specs.Receiving.{is_free, moved, selected}
+use Rattle.hba_regs.specs.declared.soft_reset.SoftReset.{SoftReset}
+use Rattle.hba_regs.specs.declared.soft_reset.SoftReset.TheVariants.{Off}
 use Rattle.ncq_journal.specs.Work.{Work, Read, Write}
 use Rattle.ahci_table.specs.Window.{WindowState}
 use Rattle.hba_command.specs.Span.{SpanFields}
@@ -87,23 +90,53 @@ task_in None = Unknown
 abbrev pub is_running : HbaPort → Bool
 is_running p = p.st && not p.halted && is_up p.link
 
--- the device may move: the command list is processed, and nothing is read or written just now
+-- the controller may take a step with the command list: it is processed, and nothing is read or written just now
+abbrev pub is_listening : HbaView → Bool
+is_listening h = is_running h.registers.port && is_idle h.work
+
+-- there is no software reset
+abbrev pub is_off : SoftReset → Bool
+is_off Off = true
+is_off other = false
+
+-- the device may move: its FISes are accepted, since FRE is 1 (section 3.3.7, FRE), and it isn't held in a software reset
 abbrev pub is_ready : HbaView → Bool
-is_ready h = is_running h.registers.port && is_idle h.work
+is_ready h = is_listening h && h.registers.port.fre && is_off h.registers.port.soft
 
 abbrev pub is_empty : Option CommandView → Bool
 is_empty None = true
 is_empty (Some c) = false
 
--- a slot's command may be read: its bit of PxCI is set, it is not read yet, and the device is not busy with a command alone
+-- a slot's command waits to be issued: its bit of PxCI is set, and it is not read yet. A bit that is set again while the slot's command is
+-- outstanding waits for that command's end (the standard forbids it: section 5.5.1)
+abbrev pub waits : HbaView → ℕ → Bool
+waits h slot = has_place h.registers.port.ci slot && is_empty (command_at h slot)
+
+-- how many slots behind the one with the highest priority a slot is
+abbrev pub distance : ℕ → ℕ → ℕ
+distance first slot = (slot + 32 - first) % 32
+
+-- some slot of higher priority waits too (section 3.3.7, CCS: after CCS the slots behind it come, the first one after the last)
+abbrev pub is_before : HbaView → ℕ → ℕ → Bool
+is_before h slot other =
+    waits h other && nat_lt (distance h.registers.port.first other) (distance h.registers.port.first slot)
+
+abbrev pub is_overtaken : HbaView → ℕ → Bool
+is_overtaken h slot = list_any (is_before h slot) (range_with_len 0 32)
+
+-- P:Idle to P:SelectCmd and P:FetchCmd (section 5.3.2): a slot's command is read if BSY and DRQ are 0, it waits, and none of higher
+-- priority does; and not while the device is busy with a command that is not queued
 abbrev pub may_fetch : HbaView → ℕ → Bool
 may_fetch h slot =
-    is_ready h && has_place h.registers.port.ci slot && is_empty (command_at h slot)
-    && not (list_any has_alone h.slots)
+    is_listening h && is_free h.registers.port.sts && waits h slot && not (is_overtaken h slot) && not (list_any has_alone h.slots)
 
--- a slot's command is read: first its header, of 32 bytes in the command list
+-- it becomes CCS, and is read: first its header, of 32 bytes in the command list
 abbrev pub fetching : HbaView → ℕ → HbaView
-fetching h slot = record h { work = Fetching slot (Header (wrapped (h.registers.port.clb + 32 * slot))) }
+fetching h slot =
+    record h {
+      registers = moved h.registers (selected h.registers.port slot);
+      work = Fetching slot (Header (wrapped (h.registers.port.clb + 32 * slot)));
+    }
 
 -- what a command asks of the disk; a write has these bytes
 abbrev pub queued_for : QueuedFields → List ℕ → Work

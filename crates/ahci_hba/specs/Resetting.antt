@@ -1,13 +1,15 @@
 -- What the device does by itself or when it is reset by software (AHCI 1.3.1, sections 10.1 and 10.4.1; Serial ATA, "Signature").
-use Rattle.std.specs.Prelude.{ℕ, Bool, false, ◌&&◌, Option, None, Some, IsSomeAnd, ◌≡◌, if◌then◌else◌}
+use Rattle.std.specs.Prelude.{ℕ, Bool, true, false, ◌&&◌, Option, None, Some, IsSomeAnd, ◌≡◌, slice_set, if◌then◌else◌}
 use Rattle.sata_fis.specs.Encoding.{d2h_bytes}
 use Rattle.sata_fis.specs.Fields.{D2hFields}
 use Rattle.hba_command.specs.declared.task.Task.TheVariants.{Control}
-use Rattle.hba_regs.specs.HbaState.{HbaState}
-use Rattle.hba_regs.specs.Receiving.{after_srst_cleared, after_srst_set, moved}
+use Rattle.hba_regs.specs.Receiving.{after_srst_cleared, after_srst_set, moved, signature_moves}
+use Rattle.hba_regs.specs.declared.soft_reset.SoftReset.{SoftReset}
+use Rattle.hba_regs.specs.declared.soft_reset.SoftReset.TheVariants.{Held}
+use Rattle.ncq_journal.specs.History.{History}
 use Rattle.hba_regs.specs.declared.consequence.Consequence.TheVariants.{LinkReset}
 use Rattle.ahci_hba.specs.Delivering.{received_put}
-use Rattle.ahci_hba.specs.Dropping.{emptied, is_reset, port_after}
+use Rattle.ahci_hba.specs.Dropping.{emptied, handed_out, is_reset, port_after}
 use Rattle.ahci_hba.specs.HbaView.{CommandView, Fetched, HbaView}
 use Rattle.ahci_hba.specs.Moving.{answering}
 use Rattle.ahci_hba.specs.Queueing.{command_at, is_idle, only_after}
@@ -17,11 +19,11 @@ use Rattle.ahci_hba.specs.declared.ending.Ending.TheVariants.{Signature}
 abbrev pub signature : D2hFields
 signature = record { i = false; status = 0x50; error = 0x01; lba = 1; device = 0; count = 1 }
 
--- it waits to be taken, and FRE is 1
+-- its FIS can be taken, or posted
 abbrev pub may_sign : HbaView → Bool
-may_sign h = is_idle h.work && (h.registers.port.signature_waits && h.registers.port.fre)
+may_sign h = is_idle h.work && signature_moves h.registers.port h.registers.port.signature
 
--- the device sends it
+-- it is taken, and posted if FRE is 1
 abbrev pub signing : HbaView → HbaView
 signing h = answering h (only_after (received_put h.registers 0x40 (d2h_bytes signature))) Signature
 
@@ -30,13 +32,30 @@ abbrev pub control_in : Option CommandView → Option Bool
 control_in (Some (Fetched (Control reset) list bytes)) = Some reset
 control_in other = None
 
--- the registers take it: SRST set, or SRST cleared
-abbrev pub controlled : HbaState → ℕ → Bool → HbaState
-controlled s slot reset = if reset then moved s (after_srst_set s.port slot) else moved s (after_srst_cleared s.port slot)
+-- SRST is set: the device is held in its reset, and all commands are dropped, as by a reset of the link
+abbrev pub held : HbaView → HbaView
+held h =
+    emptied (record h {
+      registers = moved h.registers (after_srst_set h.registers.port);
+      port = port_after (is_reset LinkReset h) h.port;
+    })
 
--- all commands are dropped, as by a reset of the link
-abbrev pub reset_softly : HbaView → ℕ → Bool → HbaView
-reset_softly h slot reset = emptied (record h { registers = controlled h.registers slot reset; port = port_after (is_reset LinkReset h) h.port })
+-- SRST is 0: a device that is held in its reset ends it, and what was sent to it meanwhile is dropped; any other one ignores the FIS
+abbrev pub released : SoftReset → HbaView → ℕ → HbaView
+released Held h slot = emptied (record h { registers = moved h.registers (after_srst_cleared h.registers.port slot Held) })
+released soft h slot =
+    record h {
+      registers = moved h.registers (after_srst_cleared h.registers.port slot soft);
+      slots = slice_set h.slots slot None;
+    }
+
+abbrev pub controlled : HbaView → ℕ → Bool → HbaView
+controlled h slot reset = if reset then held h else released h.registers.port.soft h slot
 
 abbrev pub IsControlled : ℕ → HbaView → HbaView → Type 0
-IsControlled slot old new = IsSomeAnd (control_in (command_at old slot)) (λ reset. new ≡ reset_softly old slot reset)
+IsControlled slot old new = IsSomeAnd (control_in (command_at old slot)) (λ reset. new ≡ controlled old slot reset)
+
+-- the journal that the port hands out: SRST that is set resets a port with requests
+abbrev pub control_journal : HbaView → Option Bool → Option History
+control_journal h (Some true) = handed_out (is_reset LinkReset h) h.port
+control_journal h other = None

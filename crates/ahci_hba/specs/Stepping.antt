@@ -11,13 +11,11 @@ use Rattle.ncq_journal.specs.Request.{request}
 use Rattle.ncq_journal.specs.Work.{Work, Read}
 use Rattle.ahci_port.specs.Faults.{is_accepted, is_issued, is_of_request, op_refusal, plain_refusal}
 use Rattle.ahci_hba.specs.Delivering.{answered}
-use Rattle.ahci_hba.specs.Dropping.{handed_out, is_reset}
 use Rattle.ahci_hba.specs.Executing.{IsExecuted, is_aborted, is_alone_fetched}
 use Rattle.ahci_hba.specs.HbaView.{CommandView, Fetched, HbaView, WorkView, Served}
-use Rattle.ahci_hba.specs.Queueing.{IsAccepted, IsServed, Sends, asked_for, command_at, fetching, goes_to_port, has_alone, has_queued, is_on, is_ready, is_sent, list_in, may_fetch, task_in}
+use Rattle.ahci_hba.specs.Queueing.{IsAccepted, IsServed, Sends, asked_for, command_at, fetching, goes_to_port, has_alone, has_queued, is_listening, is_on, is_ready, is_sent, list_in, may_fetch, task_in}
 use Rattle.ahci_hba.specs.Recovering.{ReadsErrorLog, error_log_in}
-use Rattle.ahci_hba.specs.Resetting.{IsControlled, control_in}
-use Rattle.hba_regs.specs.declared.consequence.Consequence.TheVariants.{LinkReset}
+use Rattle.ahci_hba.specs.Resetting.{IsControlled, control_in, control_journal}
 use Rattle.ahci_hba.specs.declared.fault.HbaFault.{HbaFault}
 use Rattle.ahci_hba.specs.declared.fault.HbaFault.TheVariants.{NotReady, OutOfMemory}
 use Rattle.ahci_hba.specs.declared.step.Step.{Step}
@@ -51,7 +49,7 @@ may_send h slot =
     is_ready h && (goes_to_port h (command_at h slot) && not (is_some (op_refusal h.port slot (work_at (command_at h slot)))))
 
 abbrev pub may_control : HbaView → ℕ → Bool
-may_control h slot = is_ready h && is_some (control_in (command_at h slot))
+may_control h slot = is_listening h && is_some (control_in (command_at h slot))
 
 -- the log of a failed queued command is read, while no queued one is outstanding
 abbrev pub may_recover : HbaView → ℕ → Bool
@@ -112,7 +110,7 @@ IsTaken step.Serve slot old new journal =
     IsServed slot (task_in (command_at old slot)) (list_in (command_at old slot)) old new × (journal ≡ None)
 IsTaken step.Deliver slot old new journal = (new ≡ answered old old.work) × (journal ≡ None)
 IsTaken step.Execute slot old new journal = IsExecuted slot old new × (journal ≡ None)
-IsTaken step.Control slot old new journal = IsControlled slot old new × (journal ≡ handed_out (is_reset LinkReset old) old.port)
+IsTaken step.Control slot old new journal = IsControlled slot old new × (journal ≡ control_journal old (control_in (command_at old slot)))
 IsTaken step.Recover slot old new journal = ReadsErrorLog slot old new journal
 
 -- why a step that is possible fails, and one that is not

@@ -28,7 +28,7 @@ use std::alloc::{AllocError, Allocator, Global};
 use std::marker::Model;
 
 /// How many slots the command list has, whatever the disk's queue depth: drivers use any tag.
-const SLOTS: u32 = 32;
+pub(crate) const SLOTS: u32 = 32;
 
 /// An AHCI controller with one port, and the model's port with its disk and journal behind it. Contracts see an `HbaView`.
 #[derive(Drop)]

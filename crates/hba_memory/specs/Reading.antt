@@ -38,13 +38,13 @@ is_write other = false
 abbrev pub read_by : Task → ℕ
 read_by t = if is_write t then moved_by t else 0
 
--- how far a command is read, and what comes next
+-- how far a command is read, and what comes next; the truth value is C of its header
 pub data ReadingView : Type 0 where
   Header : (place : ℕ) → ReadingView
   Command : CommandHeader → ReadingView
-  Entries : Task → TableView → (room : ℕ) → ReadingView
-  Content : Task → Gathering → ReadingView
-  Whole : Task → List PrdEntry → List ℕ → ReadingView
+  Entries : Task → Bool → TableView → (room : ℕ) → ReadingView
+  Content : Task → Bool → Gathering → ReadingView
+  Whole : Task → Bool → List PrdEntry → List ℕ → ReadingView
   Malformed : ReadingView
   Short : ReadingView
 
@@ -52,9 +52,9 @@ pub data ReadingView : Type 0 where
 abbrev pub reading_of : {A : _} → Reading A → ReadingView
 reading_of (code.Header place) = Header place
 reading_of (code.Command h) = Command h
-reading_of (code.Entries t table room) = Entries t table room
-reading_of (code.Content t g) = Content t g
-reading_of (code.Whole t list bytes) = Whole t list.items bytes.items
+reading_of (code.Entries t c table room) = Entries t c table room
+reading_of (code.Content t c g) = Content t c g
+reading_of (code.Whole t c list bytes) = Whole t c list.items bytes.items
 reading_of code.Malformed = Malformed
 reading_of code.Short = Short
 
@@ -65,8 +65,8 @@ no_run = record { address = 0; length = 0 }
 abbrev pub next_run : ReadingView → Run
 next_run (Header place) = record { address = place; length = 32 }
 next_run (Command h) = record { address = h.table; length = 20 }
-next_run (Entries t table room) = record { address = table.address; length = 16 * next_entries table }
-next_run (Content t g) = first_run g.runs
+next_run (Entries t c table room) = record { address = table.address; length = 16 * next_entries table }
+next_run (Content t c g) = first_run g.runs
 next_run other = no_run
 
 -- the header is read
@@ -76,20 +76,20 @@ after_header h = if is_sendable h then Command h else Malformed
 -- the command FIS is read: the PRDT comes next if the command moves data and there is one
 abbrev pub after_task : CommandHeader → Task → ReadingView
 after_task h t =
-    if moved_by t == 0 then Whole t [] []
+    if moved_by t == 0 then Whole t h.clears_busy [] []
     else if h.entries == 0 then Short
-    else Entries t (unread h.table h.entries) (read_by t)
+    else Entries t h.clears_busy (unread h.table h.entries) (read_by t)
 
 abbrev pub after_command : CommandHeader → Option H2dFields → ReadingView
 after_command h (Some f) = after_task h (task_of f)
 after_command h None = Malformed
 
 -- all entries are read: a write's data come next
-abbrev pub after_list : Task → List PrdEntry → ReadingView
-after_list t list =
+abbrev pub after_list : Task → Bool → List PrdEntry → ReadingView
+after_list t c list =
     if nat_lt (total list) (moved_by t) then Short
-    else if is_write t then Content t (record { runs = runs list (moved_by t); bytes = [] })
-    else Whole t list []
+    else if is_write t then Content t c (record { runs = runs list (moved_by t); bytes = [] })
+    else Whole t c list []
 
 -- some entries are read
 abbrev pub with_entries : TableView → List ℕ → TableView
@@ -99,32 +99,32 @@ with_entries table bytes = record {
   list = table.list ++ entries_in (next_entries table) bytes;
 }
 
-abbrev pub after_entries : Task → TableView → ℕ → ReadingView
-after_entries t table room = if table.left == 0 then after_list t table.list else Entries t table room
+abbrev pub after_entries : Task → Bool → TableView → ℕ → ReadingView
+after_entries t c table room = if table.left == 0 then after_list t c table.list else Entries t c table room
 
 -- a run of the data is read
 abbrev pub is_none : List Run → Bool
 is_none runs = length runs == 0
 
-abbrev pub after_content : Task → Gathering → ReadingView
-after_content t g = if is_none g.runs then Whole t [] g.bytes else Content t g
+abbrev pub after_content : Task → Bool → Gathering → ReadingView
+after_content t c g = if is_none g.runs then Whole t c [] g.bytes else Content t c g
 
 -- what is read after these bytes
 abbrev pub after_bytes : ReadingView → List ℕ → ReadingView
 after_bytes (Header place) bytes = after_header (header_at bytes)
 after_bytes (Command h) bytes = after_command h (command_fis bytes)
-after_bytes (Entries t table room) bytes = after_entries t (with_entries table bytes) room
-after_bytes (Content t g) bytes = after_content t (record { runs = later_runs g.runs; bytes = g.bytes ++ bytes })
+after_bytes (Entries t c table room) bytes = after_entries t c (with_entries table bytes) room
+after_bytes (Content t c g) bytes = after_content t c (record { runs = later_runs g.runs; bytes = g.bytes ++ bytes })
 after_bytes other bytes = other
 
 -- what every stage of the reading keeps: there is room for all that a write's data need
 abbrev pub HasRoom : ReadingView → Type 0
-HasRoom (Entries t table room) = room ≡ read_by t
+HasRoom (Entries t c table room) = room ≡ read_by t
 HasRoom other = Unit {0}
 
 -- nothing comes next
 abbrev pub is_over : ReadingView → Bool
-is_over (Whole t list bytes) = true
+is_over (Whole t c list bytes) = true
 is_over Malformed = true
 is_over Short = true
 is_over other = false

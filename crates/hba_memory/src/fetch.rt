@@ -93,14 +93,14 @@ fn after_task<A: Allocator + Copy>(
     ensures room { IfOk result (λ r. HasRoom (reading_of r)) }
 {
     if moved_by(&task) == 0 {
-        return Ok(Reading::Whole(task, Vec::new(alloc), Vec::new(alloc)));
+        return Ok(Reading::Whole(task, header.clears_busy, Vec::new(alloc), Vec::new(alloc)));
     }
     if header.entries == 0 {
         return Ok(Reading::Short);
     }
     let table = TableReader::new(alloc, header.table, header.entries)?;
     let room = Room::new(alloc, read_by(&task) as usize)?;
-    Ok(Reading::Entries(task, table, room))
+    Ok(Reading::Entries(task, header.clears_busy, table, room))
 }
 
 /// What is read after the command FIS.
@@ -119,37 +119,43 @@ fn after_command<A: Allocator + Copy>(
 }
 
 /// What is read after the last entry.
-fn after_list<A: Allocator + Copy>(task: Task, list: Vec<PrdEntry, A>, room: Room<A>) -> Reading<A>
+fn after_list<A: Allocator + Copy>(
+    task: Task,
+    clears: bool,
+    list: Vec<PrdEntry, A>,
+    room: Room<A>,
+) -> Reading<A>
     requires entries { length list.items ≤ 65535 }
     requires room { room ≡ read_by task }
-    ensures { reading_of result ≡ after_list task list.items }
+    ensures { reading_of result ≡ after_list task clears list.items }
 {
     if total(&list) < u64::from(moved_by(&task)) {
         return Reading::Short;
     }
     if is_write(&task) {
-        return Reading::Content(task, Gather::over(list, room));
+        return Reading::Content(task, clears, Gather::over(list, room));
     }
-    Reading::Whole(task, list, room.into_bytes())
+    Reading::Whole(task, clears, list, room.into_bytes())
 }
 
 /// What is read after some entries.
 fn with_entries<A: Allocator + Copy>(
     task: Task,
+    clears: bool,
     table: TableReader<A>,
     room: Room<A>,
     bytes: &[u8],
 ) -> Reading<A>
     requires length { length bytes.now ≡ 16 * next_entries table }
     requires room { room ≡ read_by task }
-    ensures { reading_of result ≡ after_entries task (with_entries table bytes.now) room }
+    ensures { reading_of result ≡ after_entries task clears (with_entries table bytes.now) room }
 {
     let mut table = table;
     table.supply(bytes);
     if table.is_done() {
-        after_list(task, table.into_list(), room)
+        after_list(task, clears, table.into_list(), room)
     } else {
-        Reading::Entries(task, table, room)
+        Reading::Entries(task, clears, table, room)
     }
 }
 
@@ -157,18 +163,19 @@ fn with_entries<A: Allocator + Copy>(
 fn with_content<A: Allocator + Copy>(
     alloc: A,
     task: Task,
+    clears: bool,
     gather: Gather<A>,
     bytes: &[u8],
 ) -> Reading<A>
     requires { length bytes.now ≡ (first_run gather.runs).length }
-    ensures { reading_of result ≡ after_content task (record { runs = later_runs gather.runs; bytes = gather.bytes ++ bytes.now }) }
+    ensures { reading_of result ≡ after_content task clears (record { runs = later_runs gather.runs; bytes = gather.bytes ++ bytes.now }) }
 {
     let mut gather = gather;
     gather.supply(bytes);
     if gather.is_done() {
-        Reading::Whole(task, Vec::new(alloc), gather.into_bytes())
+        Reading::Whole(task, clears, Vec::new(alloc), gather.into_bytes())
     } else {
-        Reading::Content(task, gather)
+        Reading::Content(task, clears, gather)
     }
 }
 
@@ -198,8 +205,12 @@ fn after_bytes<A: Allocator + Copy>(
                 Err(fault) => Err((Reading::Command(header), fault)),
             }
         }
-        Reading::Entries(task, table, room) => Ok(with_entries(task, table, room, bytes)),
-        Reading::Content(task, gather) => Ok(with_content(alloc, task, gather, bytes)),
+        Reading::Entries(task, clears, table, room) => {
+            Ok(with_entries(task, clears, table, room, bytes))
+        }
+        Reading::Content(task, clears, gather) => {
+            Ok(with_content(alloc, task, clears, gather, bytes))
+        }
         over => Ok(over),
     }
 }
@@ -222,7 +233,7 @@ impl<A: Allocator> Fetch<A> {
     {
         matches!(
             &self.reading,
-            Reading::Whole(_, _, _) | Reading::Malformed | Reading::Short
+            Reading::Whole(_, _, _, _) | Reading::Malformed | Reading::Short
         )
     }
 
@@ -233,8 +244,8 @@ impl<A: Allocator> Fetch<A> {
         match &self.reading {
             Reading::Header(place) => *place,
             Reading::Command(header) => header.table,
-            Reading::Entries(_, table, _) => table.address(),
-            Reading::Content(_, gather) => gather.address(),
+            Reading::Entries(_, _, table, _) => table.address(),
+            Reading::Content(_, _, gather) => gather.address(),
             _ => 0,
         }
     }
@@ -246,8 +257,8 @@ impl<A: Allocator> Fetch<A> {
         match &self.reading {
             Reading::Header(_) => 32,
             Reading::Command(_) => 20,
-            Reading::Entries(_, table, _) => table.length(),
-            Reading::Content(_, gather) => gather.length(),
+            Reading::Entries(_, _, table, _) => table.length(),
+            Reading::Content(_, _, gather) => gather.length(),
             _ => 0,
         }
     }

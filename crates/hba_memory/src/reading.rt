@@ -11,12 +11,12 @@ pub enum Reading<A: Allocator = Global> {
     Header(u64),
     /// The command FIS of the command table that the header names.
     Command(CommandHeader),
-    /// Entries of the PRDT. There is room for a write's data.
-    Entries(Task, TableReader<A>, Room<A>),
-    /// Bytes of a write's data.
-    Content(Task, Gather<A>),
-    /// Nothing: all of it is read. A command that reads has its list, one that writes its data.
-    Whole(Task, Vec<PrdEntry, A>, Vec<u8, A>),
+    /// Entries of the PRDT, and C of the header. There is room for a write's data.
+    Entries(Task, bool, TableReader<A>, Room<A>),
+    /// Bytes of a write's data, and C of the header.
+    Content(Task, bool, Gather<A>),
+    /// Nothing: all of it is read. A command that reads has its list, one that writes its data; and C of the header.
+    Whole(Task, bool, Vec<PrdEntry, A>, Vec<u8, A>),
     /// Nothing: it can't be sent, since CFL is not 5, A or B of the header is 1, or CFIS has no Register FIS - Host to Device.
     Malformed,
     /// Nothing: the PRDT names fewer bytes than the command moves.

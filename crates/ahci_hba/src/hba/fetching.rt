@@ -3,14 +3,15 @@
 ghost use Rattle.std.specs.Prelude.{◌≡◌, ◌<◌, false, true, IfErr, OnErr, OnOk};
 ghost use Rattle.std.specs.List.{list_any};
 ghost use Rattle.hba_command.specs.declared.task.Task.{Task};
-ghost use Rattle.ahci_hba.specs.Queueing.{command_at, fetching, has_alone, has_queued, is_alone, is_empty, is_idle, is_ready, is_running, is_sent, may_fetch};
+ghost use Rattle.ahci_hba.specs.Queueing.{command_at, fetching, has_alone, has_queued, distance, is_alone, is_empty, is_idle, is_listening, is_off, is_overtaken, is_ready, is_running, is_sent, may_fetch, waits};
 
 use crate::command::{Command, Slot};
 use crate::fault::HbaFault;
-use crate::hba::Hba;
+use crate::hba::{Hba, SLOTS};
 use crate::work::Work;
 use hba_command::Task;
 use hba_memory::Fetch;
+use hba_regs::SoftReset;
 use std::alloc::Allocator;
 use word_bits::is_set;
 
@@ -57,6 +58,22 @@ fn has_alone<A: Allocator>(slot: &Option<Slot<A>>) -> bool
     }
 }
 
+/// Whether there is no software reset.
+fn is_off(soft: SoftReset) -> bool
+    ensures { result ≡ is_off soft }
+{
+    matches!(soft, SoftReset::Off)
+}
+
+/// How many slots behind the one with the highest priority a slot is.
+fn distance(first: u8, slot: u8) -> u8
+    requires first { first < 32 }
+    requires slot { slot < 32 }
+    ensures { result ≡ distance first slot }
+{
+    (slot + 32 - first) % 32
+}
+
 impl<A: Allocator> Hba<A> {
     /// Whether the port processes its command list: ST is 1, nothing has failed, and the link is up.
     pub(super) fn is_running(&self) -> bool
@@ -72,11 +89,36 @@ impl<A: Allocator> Hba<A> {
         matches!(&self.work, Work::Idle)
     }
 
-    /// Whether the device may move: the command list is processed, and nothing is read or written just now.
+    /// Whether a step may be taken with the command list: it is processed, and nothing is read or written just now.
+    pub(super) fn is_listening(&self) -> bool
+        ensures { result ≡ is_listening self.now }
+    {
+        self.is_running() && self.is_idle()
+    }
+
+    /// Whether the device may move: its FISes are accepted, and it isn't held in a software reset.
     pub(super) fn is_ready(&self) -> bool
         ensures { result ≡ is_ready self.now }
     {
-        self.is_running() && self.is_idle()
+        self.is_listening() && self.registers.is_receiving() && is_off(self.registers.soft_reset())
+    }
+
+    /// Whether the command of a slot, below 32, waits to be issued.
+    fn waits(&self, slot: u8) -> bool
+        requires { slot < 32 }
+        ensures { result ≡ waits self.now slot }
+    {
+        is_set(self.registers.ci(), slot) && self.is_empty(slot)
+    }
+
+    /// Whether another slot that waits has a higher priority than a slot, below 32.
+    fn is_overtaken(&self, slot: u8) -> bool
+        requires { slot < 32 }
+        ensures { result ≡ is_overtaken self.now slot }
+    {
+        let first = self.registers.first_slot();
+        let own = distance(first, slot);
+        (0..SLOTS as u8).any(|other| self.waits(other) && distance(first, other) < own)
     }
 
     /// Whether a slot, below 32, has no command that was read.
@@ -117,19 +159,21 @@ impl<A: Allocator> Hba<A> {
         has_alone(&self.slots[usize::from(slot)])
     }
 
-    /// Whether the command of a slot, below 32, may be read: its bit of PxCI is set, the port processes commands, nothing is read or written
-    /// just now, and the device is not busy with a command that is not queued.
+    /// Whether the command of a slot, below 32, may be read now: the port processes commands, nothing is read or written just now, BSY and
+    /// DRQ are 0, the slot's bit of PxCI is set, no slot of a higher priority waits (AHCI 1.3.1, section 3.3.7, CCS), and the device is
+    /// not busy with a command that is not queued.
     pub fn may_fetch(&self, slot: u8) -> bool
         requires { slot < 32 }
         ensures { result ≡ may_fetch self.now slot }
     {
-        self.is_ready()
-            && is_set(self.registers.ci(), slot)
-            && self.is_empty(slot)
+        self.is_listening()
+            && self.registers.is_free()
+            && self.waits(slot)
+            && !self.is_overtaken(slot)
             && !self.is_busy_alone()
     }
 
-    /// Begins to read the command of a slot, below 32: its header comes first.
+    /// Begins to read the command of a slot, below 32, which CCS names then: its header comes first.
     ///
     /// # Errors
     /// `NotReady` exactly if `may_fetch` is false.
@@ -146,6 +190,7 @@ impl<A: Allocator> Hba<A> {
             .registers
             .list_base()
             .wrapping_add(32 * u64::from(slot));
+        self.registers.select(slot);
         self.turn_to(Work::Fetching(slot, Fetch::new(place)));
         Ok(())
     }

@@ -36,7 +36,7 @@ pub(super) fn end(registers: &mut HbaRegs, ending: Ending)
             registers.end_pio(0x40, true, slot);
         }
         Ending::Signature => {
-            if registers.signature_is_due() {
+            if registers.signature_moves() {
                 registers.take_signature();
             }
         }
@@ -160,21 +160,20 @@ impl<A: Allocator> Hba<A> {
             return;
         }
         match fetch.into_reading() {
-            Reading::Whole(task, list, bytes) => self.place(
-                slot,
-                Command::Fetched(task, list, bytes),
-            ),
+            Reading::Whole(task, clears, list, bytes) => {
+                self.place(slot, clears, Command::Fetched(task, list, bytes));
+            }
             Reading::Malformed => self.fail_fatally(Fatal::Interface),
             _ => self.fail_fatally(Fatal::Overflow), // it is short
         }
     }
 
-    /// Puts a command that was read into its slot, and sends its FIS.
-    fn place(&mut self, slot: u8, command: Command<A>)
+    /// Puts a command that was read into its slot, and sends its FIS, with C of its header.
+    fn place(&mut self, slot: u8, clears: bool, command: Command<A>)
         requires { slot < 32 }
-        ensures { self.new ≡ placed_in self.old slot (command_of command) }
+        ensures { self.new ≡ placed_in self.old slot clears (command_of command) }
     {
-        self.registers.send(slot);
+        self.registers.send(slot, clears);
         self.slots[usize::from(slot)] = Some(Slot { command });
         self.work = Work::Idle;
     }

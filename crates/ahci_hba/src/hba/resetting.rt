@@ -5,7 +5,7 @@ ghost use Rattle.ahci_hba.specs.Dropping.{handed_out, is_reset};
 ghost use Rattle.ahci_hba.specs.Executing.{concluded, refused};
 ghost use Rattle.ahci_hba.specs.Queueing.{command_at};
 ghost use Rattle.ahci_hba.specs.Stepping.{may_control, may_refuse};
-ghost use Rattle.ahci_hba.specs.Resetting.{IsControlled, control_in, controlled, may_sign, signature, signing};
+ghost use Rattle.ahci_hba.specs.Resetting.{IsControlled, control_in, control_journal, held, may_sign, released, signature, signing};
 ghost use Rattle.hba_regs.specs.declared.consequence.Consequence.TheVariants.{LinkReset};
 
 use crate::command::Command;
@@ -16,7 +16,7 @@ use crate::hba::answering::REGISTER;
 use crate::hba::executing::d2h_fis;
 use ahci_port::Journal;
 use hba_command::Task;
-use hba_regs::Consequence;
+use hba_regs::{Consequence, SoftReset};
 use sata_fis::{D2h, Fis};
 use std::alloc::Allocator;
 
@@ -35,11 +35,11 @@ fn signature() -> D2h
 }
 
 impl<A: Allocator> Hba<A> {
-    /// Whether the device's signature waits to be taken, and nothing is read or written just now.
+    /// Whether the FIS of the device's signature can be taken, or posted, and nothing is read or written just now.
     pub fn may_sign(&self) -> bool
         ensures { result ≡ may_sign self.now }
     {
-        self.is_idle() && self.registers.signature_is_due()
+        self.is_idle() && self.registers.signature_moves()
     }
 
     /// What the device control register of a slot's control FIS says of SRST, below 32; nothing if the slot has none that was read.
@@ -61,7 +61,7 @@ impl<A: Allocator> Hba<A> {
         requires { slot < 32 }
         ensures { result ≡ may_control self.now slot }
     {
-        self.is_ready() && self.control_in(slot).is_some()
+        self.is_listening() && self.control_in(slot).is_some()
     }
 
     /// Whether the device can fail the command of a slot, below 32, that is read and not queued.
@@ -72,21 +72,27 @@ impl<A: Allocator> Hba<A> {
         self.is_ready() && self.is_alone_fetched(slot)
     }
 
-    /// The registers take a control FIS of a slot, below 32.
-    fn take_control(&mut self, slot: u8, reset: bool)
+    /// The device takes SRST 0, in the control FIS of a slot, below 32.
+    fn release(&mut self, slot: u8)
         requires { slot < 32 }
-        ensures { self.new ≡ record self.old { registers = controlled self.old.registers slot reset } }
+        ensures { self.new ≡ released self.old.registers.port.soft self.old slot }
     {
-        if reset {
-            self.registers.set_srst(slot);
-        } else {
-            self.registers.clear_srst(slot);
+        match self.registers.soft_reset() {
+            SoftReset::Held => {
+                self.registers.clear_srst(slot);
+                self.empty();
+            }
+            SoftReset::Off | SoftReset::Ending(_) => {
+                self.registers.clear_srst(slot);
+                self.slots[usize::from(slot)] = None;
+            }
         }
     }
 }
 
 impl<A: Allocator + Copy> Hba<A> {
-    /// The device sends its signature: a D2H Register FIS is written, and then PxSIG and PxTFD have it.
+    /// The FIS of the device's signature is taken: PxSIG and PxTFD have it once it is written. While FRE is 0 it isn't written, and a later
+    /// call writes it, once FRE is 1 (AHCI 1.3.1, sections 3.3.7, FRE, and 5.3.2).
     ///
     /// # Errors
     /// `NotReady` exactly if `may_sign` is false.
@@ -103,8 +109,9 @@ impl<A: Allocator + Copy> Hba<A> {
         Ok(())
     }
 
-    /// The device takes the control FIS of a slot, below 32 (AHCI 1.3.1, section 10.4.1). Each drops all commands; if the port has requests,
-    /// it is reset, and the journal that it hands out is the answer. After the one that clears SRST the device sends its signature.
+    /// The device takes the control FIS of a slot, below 32 (AHCI 1.3.1, section 10.4.1). One with SRST holds it in a reset and drops all
+    /// commands; if the port has requests, it is reset, and the journal that it hands out is the answer. The next one, without SRST, ends
+    /// the reset, and the device sends its signature. One without SRST alone changes nothing.
     ///
     /// # Errors
     /// `NotReady` exactly if `may_control` is false.
@@ -112,19 +119,31 @@ impl<A: Allocator + Copy> Hba<A> {
         requires { slot < 32 }
         ensures ready { OnOk result (may_control self.old slot ≡ true) }
         ensures ok { OnOk result (IsControlled slot self.old self.new) }
-        ensures journal { IfOk result (λ j. j ≡ handed_out (is_reset LinkReset self.old) self.old.port) }
+        ensures journal { IfOk result (λ j. j ≡ control_journal self.old (control_in (command_at self.old slot))) }
         ensures err { IfErr result (λ e. (e ≡ HbaFault.NotReady) × (may_control self.old slot ≡ false) × (self.new ≡ self.old)) }
     {
-        if !self.is_ready() {
+        if !self.is_listening() {
             return Err(HbaFault::NotReady);
         }
-        let Some(reset) = self.control_in(slot) else {
-            return Err(HbaFault::NotReady);
-        };
+        match self.control_in(slot) {
+            Some(true) => Ok(self.hold()),
+            Some(false) => {
+                self.release(slot);
+                Ok(None)
+            }
+            None => Err(HbaFault::NotReady),
+        }
+    }
+
+    /// The device takes SRST 1.
+    fn hold(&mut self) -> Option<Journal<A>>
+        ensures state { self.new ≡ held self.old }
+        ensures journal { result ≡ handed_out (is_reset LinkReset self.old) self.old.port }
+    {
         let journal = self.reset_port(Consequence::LinkReset);
-        self.take_control(slot, reset);
+        self.registers.set_srst();
         self.empty();
-        Ok(journal)
+        journal
     }
 
     /// The device fails the command of a slot, below 32, that is read and not queued, with an error byte at an LBA below 2^48: a D2H Register
