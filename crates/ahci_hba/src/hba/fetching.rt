@@ -66,12 +66,10 @@ fn is_off(soft: SoftReset) -> bool
 }
 
 /// How many slots behind the one with the highest priority a slot is.
-fn distance(first: u8, slot: u8) -> u8
-    requires first { first < 32 }
-    requires slot { slot < 32 }
+fn distance(first: u8, slot: u8) -> u32
     ensures { result ≡ distance first slot }
 {
-    (slot + 32 - first) % 32
+    (u32::from(slot) + 32).saturating_sub(u32::from(first)) % 32
 }
 
 impl<A: Allocator> Hba<A> {
