@@ -66,10 +66,11 @@ abbrev pub after_pio_end : HbaPort → ℕ → Bool → ℕ → HbaPort
 after_pio_end p e_status i slot =
     record (with_status p e_status p.err) { is = raised (has_error e_status) tfes (raised i pss p.is); ci = ended e_status slot p.ci }
 
--- the FIS that brings the signature can be taken: by a stopped port while DIAG.X (bit 26 of PxSERR) is 0, whether FRE is 1 or not (sections
--- 3.3.7, FRE, and 5.3.2, P:NotRunning); by a started port while FRE is 1, as any other FIS
+-- the FIS that brings the signature can be taken: by a stopped port whether FRE is 1 or not (sections 3.3.7, FRE, and 5.3.2,
+-- P:NotRunning); by a started port while FRE is 1, as any other FIS. DIAG.X does not hold it back (a departure: P:NotRunning wants DIAG.X 0,
+-- but drivers that run on all controllers read PxTFD before they clear it)
 abbrev pub takes_signature : HbaPort → Bool
-takes_signature p = if p.st then p.fre else not (has_place p.serr 26)
+takes_signature p = not p.st || p.fre
 
 -- it is due and can be taken, or it was taken while FRE was 0, and can be posted now (P:RegFisPostToMem)
 abbrev pub signature_moves : HbaPort → Signature → Bool

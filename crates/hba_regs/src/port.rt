@@ -300,8 +300,7 @@ impl Port {
     {
         match self.first_fis {
             Signature::Past => false,
-            Signature::Due if self.started => self.receiving,
-            Signature::Due => !is_set(self.serr, DIAG_X),
+            Signature::Due => !self.started || self.receiving,
             Signature::Unposted => self.receiving,
         }
     }

@@ -86,12 +86,20 @@ enum Row {
     Stands(bool, bool, bool),
     /// The bases of the command list and of the received FIS area.
     Bases(u64, u64),
-    /// Whether the device's signature is to be taken now.
+    /// Whether the FIS of the device's signature can be taken, or posted, now.
     Due(bool),
-    /// The device's signature is taken.
+    /// It is taken, or posted.
     Signature,
-    /// The command FIS of a slot is sent.
+    /// Whether BSY and DRQ are 0.
+    Free(bool),
+    /// The slot with the highest priority to issue from.
+    First(u8),
+    /// A slot's command is selected, and its command FIS sent.
     Send(u8),
+    /// A slot's command is selected.
+    Select(u8),
+    /// The command FIS of a slot is sent, with C in its header.
+    Clears(u8),
     /// A D2H Register FIS: status, error, I and its slot.
     Register(u8, u8, bool, u8),
     /// A Set Device Bits FIS: status, error, I and SActive.
@@ -100,7 +108,7 @@ enum Row {
     Pio(u8, u8),
     /// The end of its data: E_Status, I and its slot.
     EndPio(u8, bool, u8),
-    /// The control FIS of a slot sets SRST, or clears it.
+    /// The device takes the control FIS of a slot, which sets SRST or clears it.
     Reset(bool, u8),
     Fails(Fatal),
 }
@@ -126,7 +134,9 @@ fn stands(rt: &impl Abort, regs: &HbaRegs, number: usize, row: Row) {
             let found = (regs.list_base(), regs.received_base());
             equal(rt, number, &found, &(list, received));
         }
-        Row::Due(due) => equal(rt, number, &regs.signature_is_due(), &due),
+        Row::Due(due) => equal(rt, number, &regs.signature_moves(), &due),
+        Row::Free(free) => equal(rt, number, &regs.is_free(), &free),
+        Row::First(slot) => equal(rt, number, &regs.first_slot(), &slot),
         _ => {}
     }
 }
@@ -149,7 +159,7 @@ fn goes(rt: &impl Abort, regs: &mut HbaRegs, number: usize, row: Row) {
         Row::Pio(status, error) => regs.receive_pio(status, error),
         Row::Fails(fatal) => regs.fail_fatally(fatal),
         Row::Signature => {
-            assert!(rt; regs.signature_is_due());
+            assert!(rt; regs.signature_moves());
             regs.take_signature();
         }
         _ => of_a_slot(rt, regs, number, row),
@@ -161,7 +171,16 @@ fn of_a_slot(rt: &impl Abort, regs: &mut HbaRegs, number: usize, row: Row) {
     match row {
         Row::Send(slot) => {
             assert!(rt; slot < 32);
-            regs.send(slot);
+            regs.select(slot);
+            regs.send(slot, false);
+        }
+        Row::Select(slot) => {
+            assert!(rt; slot < 32);
+            regs.select(slot);
+        }
+        Row::Clears(slot) => {
+            assert!(rt; slot < 32);
+            regs.send(slot, true);
         }
         Row::Register(status, error, i, slot) => {
             assert!(rt; slot < 32);
@@ -174,7 +193,7 @@ fn of_a_slot(rt: &impl Abort, regs: &mut HbaRegs, number: usize, row: Row) {
         Row::Reset(set, slot) => {
             assert!(rt; slot < 32);
             if set {
-                regs.set_srst(slot);
+                regs.set_srst();
             } else {
                 regs.clear_srst(slot);
             }
@@ -192,7 +211,7 @@ fn plays(rt: &impl Abort, rows: &[Row]) {
 }
 
 /// The initialisation that AHCI 1.3.1, section 10.1.2, asks of software, step by step, and the first command.
-static INITIALISED: [Row; 36] = [
+static INITIALISED: [Row; 37] = [
     Write(0x004, 0x8000_0000),
     Read(0x004, 0x8000_0000),
     Read(0x00c, 0x0000_0001),
@@ -203,7 +222,6 @@ static INITIALISED: [Row; 36] = [
     Write(0x108, 0x1234_5100),
     Write(0x10c, 0x0000_0001),
     Row::Bases(0x1_1234_5400, 0x1_1234_5100),
-    Row::Due(false),
     Write(0x118, 0x0000_0016),
     Read(0x118, 0x0000_4016),
     Row::Due(true),
@@ -216,8 +234,9 @@ static INITIALISED: [Row; 36] = [
     Write(0x008, 0x0000_0001),
     Read(0x008, 0),
     Write(0x114, 0xffff_ffff),
-    Read(0x114, 0xfdc0_00ff),
+    Read(0x114, 0x7dc0_007f),
     Write(0x004, 0x8000_0002),
+    Row::Free(true),
     Read(0x120, 0x0000_0150),
     Read(0x128, 0x0000_0123),
     Write(0x118, 0x0000_0017),

@@ -136,8 +136,8 @@ const BASES: &[Row] = &[
     Reads(PX_CLBU, 1),
     Reads(PX_FBU, 1),
     Writes(PX_CMD, 0x16),
-    Signs,
     Writes(PX_SERR, 0x0401_0000),
+    Signs,
     Writes(PX_CMD, 0x17),
     Has(0x1_02B6_0440, &[0x34, 0, 0x50, 1]),
 ];

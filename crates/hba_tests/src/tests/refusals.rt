@@ -218,7 +218,7 @@ const LINK_RESET: &[Step] = &[
 
 const SOFTWARE_RESET: &[Step] = &[
     (
-        Driver(Lays(0, NONE, TABLE, [0x2700_0000, 0, 0, 4], NO_PIECES)),
+        Driver(Lays(0, NONE | 0x500, TABLE, [0x2700_0000, 0, 0, 4], NO_PIECES)),
         0,
     ),
     (Write(PX_CI, 1), 0),
@@ -226,6 +226,16 @@ const SOFTWARE_RESET: &[Step] = &[
     (Supply, 0),
     (Supply, 0),
     (Control(0), 0),
+    (
+        Driver(Lays(0, NONE, TABLE, [0x2700_0000, 0, 0, 0], NO_PIECES)),
+        0,
+    ),
+    (Write(PX_CI, 1), 0),
+    (Fetch(0), 0),
+    (Supply, 0),
+    (Supply, 0),
+    (Control(0), 0),
+    (Sign, 0),
     (Settle, 0),
 ];
 

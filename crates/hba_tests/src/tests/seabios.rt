@@ -45,11 +45,11 @@ const ROWS: &[Row] = &[
     Writes(PX_IS, 0x0040_0040),
     Reads(PX_CMD, 0x6),
     Writes(PX_CMD, 0x16),
-    Signs,
     Writes(PX_CMD, 0x16),
     Reads(PX_SSTS, 0x123),
     Reads(PX_SERR, 0x0401_0000),
     Writes(PX_SERR, 0x0401_0000),
+    Signs,
     Reads(PX_TFD, 0x150),
     Writes(PX_CMD, 0x17),
     // IDENTIFY PACKET DEVICE is aborted: the received FIS has the signature of a disk

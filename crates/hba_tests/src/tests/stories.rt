@@ -23,6 +23,7 @@ const FIRST_STEPS: &[Row] = &[
     Writes(PX_CLB, 0x1000),
     Writes(PX_FB, 0x400),
     Writes(PX_CMD, 0x10),
+    Writes(PX_SERR, 0x0400_0000),
     Signs,
     Reads(PX_SIG, 0x101),
     Reads(PX_TFD, 0x150),

@@ -17,10 +17,10 @@ static FIRMWARE: [Row; 40] = [
     Read(0x110, 0x0040_0040),
     Write(0x110, 0x0040_0040),
     Write(0x118, 0x0000_0016),
-    Signature,
     Read(0x128, 0x0000_0123),
     Read(0x130, 0x0401_0000),
     Write(0x130, 0x0401_0000),
+    Signature,
     Read(0x120, 0x0000_0150),
     Write(0x118, 0x0000_0017),
     Read(0x110, 0),
@@ -83,7 +83,7 @@ fn grub_takes_the_disk_over(rt: HostRuntime) {
 }
 
 /// Linux: resets the HBA and then the link, enables interrupts, and queues commands.
-static SYSTEM: [Row; 50] = [
+static SYSTEM: [Row; 49] = [
     Write(0x118, 0x0000_0017),
     Signature,
     Write(0x100, 0x0010_0000),
@@ -102,7 +102,6 @@ static SYSTEM: [Row; 50] = [
     Write(0x110, 0x0040_0040),
     Write(0x008, 0x0000_0001),
     Write(0x118, 0x0000_0016),
-    Signature,
     Read(0x12c, 0),
     Does(0x12c, 0x0000_0301, Consequence::LinkReset),
     Read(0x12c, 0x0000_0301),
@@ -114,9 +113,9 @@ static SYSTEM: [Row; 50] = [
     Read(0x128, 0x0000_0123),
     Read(0x110, 0x0040_0040),
     Read(0x120, 0x0000_0080),
-    Signature,
     Read(0x130, 0x0401_0000),
     Write(0x130, 0x0401_0000),
+    Signature,
     Read(0x120, 0x0000_0150),
     Read(0x124, 0x0000_0101),
     Write(0x114, 0x7840_007f),

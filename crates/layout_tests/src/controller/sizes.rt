@@ -7,8 +7,8 @@ use hba_regs::Consequence::Nothing;
 
 static BYTES: [Row; 22] = [
     Bytes(0x118, One, 0x10, Nothing),
-    Signature,
     Bytes(0x118, One, 0x17, Nothing),
+    Signature,
     Bytes(0x119, One, 0xff, Nothing),
     Found(0x118, One, 0x17),
     Found(0x119, One, 0xc0),
@@ -24,9 +24,9 @@ static BYTES: [Row; 22] = [
     Bytes(0x110, One, 0x08, Nothing),
     Read(0x110, 0x0040_0000),
     Bytes(0x116, Two, 0xffff, Nothing),
-    Read(0x114, 0xfdc0_0000),
+    Read(0x114, 0x7dc0_0000),
     Bytes(0x114, One, 0x101, Nothing),
-    Read(0x114, 0xfdc0_0001),
+    Read(0x114, 0x7dc0_0001),
     Bytes(0x118, One, 0x06, Consequence::Stopped),
 ];
 
