@@ -373,7 +373,7 @@ typedef enum ahci_hba_step_kind {
     AHCI_STEP_SERVE = 4,   /* the disk moves its data and completes it; or ahci_hba_fail fails it */
     AHCI_STEP_DELIVER = 5, /* its answer is assembled, and written next */
     AHCI_STEP_EXECUTE = 6, /* a command that does not move sectors is carried out, or aborted */
-    AHCI_STEP_CONTROL = 7, /* a control FIS sets or clears SRST (section 10.4.1): all commands are dropped */
+    AHCI_STEP_CONTROL = 7, /* the disk takes a control FIS: one with SRST drops all commands (section 10.4.1) */
     AHCI_STEP_RECOVER = 8  /* the log of a failed queued command is read (section 6.2.2): what it held up is dropped */
 } ahci_hba_step_kind;
 
@@ -595,8 +595,9 @@ uint32_t ahci_hba_fail(ahci_hba *hba, uint32_t slot, uint8_t error, uint64_t lba
    AHCI_BAD_LBA, AHCI_NOT_READY. */
 uint32_t ahci_hba_refuse(ahci_hba *hba, uint32_t slot, uint8_t error, uint64_t lba);
 
-/* The disk sends its signature, once FRE is 1. AHCI_NOT_READY if `sign` is 0. If its address is no memory (ahci_hba_unmapped), PxIS has
-   HBDS and `sign` is 1 again: send it after the driver's next register write, not in a loop. */
+/* The FIS of the disk's signature is taken, and written if FRE is 1; if not, `sign` is 1 again once FRE is 1. AHCI_NOT_READY if `sign` is 0. If
+   its address is no memory (ahci_hba_unmapped), PxIS has HBDS and `sign` is 1 again: send it after the driver's next register write, not in a
+   loop. */
 uint32_t ahci_hba_sign(ahci_hba *hba);
 
 /* Discards the journal of the disk's queue and its memory if the queue has no request: *entries is how many entries it had. Numbers

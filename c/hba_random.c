@@ -71,6 +71,24 @@ static void fails(uint32_t slot, uint8_t error, uint64_t lba, enum ends how)
     answers(slot, NO_FIS, 0, false, how == TAKEN ? 0x40 : 0x58, FAILS);
 }
 
+/* The device takes a control FIS (section 10.4.1): SRST holds it in its reset, and the next FIS without SRST ends that. */
+static void controls(uint32_t slot)
+{
+    if (slots[slot].resets) {
+        drop();
+        failed = false;
+        signature = PAST;
+        soft = HELD;
+    } else if (soft == HELD) {
+        drop();
+        signature = DUE;
+        soft = ENDING;
+        soft_slot = slot;
+    } else {
+        slots[slot].there = false;
+    }
+}
+
 /* The next step of a slot. */
 static void steps(uint32_t slot)
 {
@@ -82,8 +100,9 @@ static void steps(uint32_t slot)
     switch (next) {
     case AHCI_STEP_FETCH:
         fetch.on = true;
-        fetch.slot = slot;
+        fetch.slot = reg.ccs = slot;
         fetch.phase = 0;
+        reg.first = (slot + 1) % 32;
         break;
     case AHCI_STEP_SEND: it->sent = true; break;
     case AHCI_STEP_ACCEPT:
@@ -100,11 +119,7 @@ static void steps(uint32_t slot)
         break;
     case AHCI_STEP_DELIVER: delivers(slot); break;
     case AHCI_STEP_EXECUTE: executes(slot); break;
-    case AHCI_STEP_CONTROL:
-        drop();
-        failed = false;
-        reg.ci &= ~(1u << slot);
-        break;
+    case AHCI_STEP_CONTROL: controls(slot); break;
     case AHCI_STEP_RECOVER:
         failed = it->there = false;
         memcpy(it->bytes, page, sizeof page);
@@ -143,7 +158,7 @@ static void refuse(void)
 
 static void sign(void)
 {
-    CHECK(!look.sign || (reg.receiving && reg.link == UP && look.want == AHCI_WANT_NOTHING));
+    CHECK(!look.sign || (reg.link == UP && look.want == AHCI_WANT_NOTHING));
     CHECK(ahci_hba_sign(&hba) == (look.sign ? AHCI_OK : AHCI_NOT_READY));
     if (look.sign)
         answers(0, NO_FIS, 0, false, 0x40, SIGNED);
@@ -240,7 +255,7 @@ static void command(void)
         0x40, 0x42, 0x27, 0x90, 0xE5, 0xE0, 0x00, 0xB0 };
     const uint32_t slot = byte() % 8 == 7 ? 31 : byte() % 6, code = codes[byte() % sizeof codes], bit = 1u << slot;
     const uint8_t far = byte(), lba = far % 32 ? far % 12 : far / 32 + 10, many = byte(), count = many % 128 ? 1 + many % 4 : 0, odd = byte();
-    const bool queued = code == 0x60 || code == 0x61, log = code == 0x2F || code == 0x47;
+    const bool queued = code == 0x60 || code == 0x61, log = code == 0x2F || code == 0x47, is_control = odd % 32 == 30 || (soft == HELD && odd % 4 == 2);
     const uint64_t at = (odd & 1 ? HIGH + 0x800 : LOW + 0x1000) + 0x800 * (slot % 3);
     uint8_t *header = memory(list_base() + 32 * slot, 32), *table = memory(at, 0x800);
     uint8_t fis[20] = { 0x27, 0x80, (uint8_t)code, queued ? count : 3, lba, 0, 0, 0x40, 0, 0, 0, 0, queued ? (uint8_t)(slot << 3) : count };
@@ -248,14 +263,14 @@ static void command(void)
         fis[4] = many % 8 ? 0x10 : 0;
         fis[12] = many % 16 ? 1 : 2;
     }
-    if (odd % 32 == 30) /* a control FIS, with SRST or without */
+    if (is_control) /* with SRST or without */
         fis[1] = 0, fis[15] = odd >> 5 & 4;
     if (odd % 64 == 28)
         fis[byte() % 20] = byte();
     if (header) {
         memcpy(table, fis, sizeof fis);
         const uint32_t entries = lay_list(table + 0x80, code == 0xEC || log ? 512 : count ? count * 512u : 0x2000);
-        put(header, 5 | (odd & 0x40) | entries << 16, 4);
+        put(header, 5 | (odd & 0x40) | (is_control && many % 4 ? 0x500 : many % 64 == 33 ? 0x400 : 0) | entries << 16, 4);
         put(header + 4, 0, 4);
         put(header + 8, odd % 64 == 12 ? at + 0x20000 : at + (odd & 0x7F), 8);
         if (odd % 64 == 14)
@@ -283,17 +298,27 @@ static void start(void)
     write(AHCI_REG_PXCMD, pick % 32 == 13 ? 1 : 0x11);
 }
 
-/* ST off and on, as after an error. */
+/* ST off and on, as after an error; with CLO, so that a command that is never answered leaves no BSY. */
 static void restart(void)
 {
     write(AHCI_REG_PXCMD, 0x10);
+    write(AHCI_REG_PXCMD, byte() % 4 ? 0x18 : 0x10);
     write(AHCI_REG_PXIS, 0xFFFFFFFF);
     write(AHCI_REG_PXCMD, 0x11);
 }
 
+/* Nothing happens any more by itself. */
+static bool is_stuck(void)
+{
+    bool stuck = look.want == AHCI_WANT_NOTHING && !look.sign && reg.on && is_busy_with_one();
+    for (uint32_t slot = 0; slot < 32; slot++)
+        stuck = stuck && look.next[slot] == AHCI_STEP_NONE;
+    return stuck;
+}
+
 static void restart_if_halted(void)
 {
-    if (reg.halted)
+    if (reg.halted || is_stuck())
         restart();
 }
 

@@ -18,15 +18,20 @@ static ahci_hba_state look;
 static uint8_t low[0x8000], high[0x4000], image[SECTORS * AHCI_SECTOR_BYTES];
 static uint64_t first, seen; /* numbers of the journal */
 
-/* The registers, as far as they are shadowed. */
-static struct { uint32_t clb, clbu, fb, fbu, ie, sctl, sact, ci; bool on, receiving, halted, enabled; enum link { UP, RESET = 1, OFFLINE = 4 } link; } reg;
+/* The registers, as far as they are shadowed: CCS, the slot with the highest priority, ATAPI and DLAE, and the link's speed among them. */
+static struct { uint32_t clb, clbu, fb, fbu, ie, sctl, sact, ci, ccs, first, lights, speed; bool on, receiving, halted, enabled; enum link { UP, RESET = 1, OFFLINE = 4 } link; } reg;
+/* The FIS of the signature: none is due, or it can be taken, or it was taken and not posted. And how far a software reset is: the second control
+   FIS, that of soft_slot, ends it. */
+static enum signature { PAST, DUE, UNPOSTED } signature;
+static enum soft { OFF, HELD, ENDING } soft;
+static uint32_t soft_slot;
 static bool failed; /* a queued command has failed, and its log is not read */
 static uint8_t page[AHCI_PAGE_BYTES]; /* the log of that */
 
 /* The commands that were read, by slot. */
 enum kind { OTHER, QUEUE, READ, WRITE, PAGE, CONTROL };
 static struct command {
-    bool there, sent, writes, pio, error_log;
+    bool there, sent, writes, pio, error_log, resets;
     enum kind kind;
     uint64_t lba, moved;
     uint32_t sectors, pieces;
@@ -35,7 +40,7 @@ static struct command {
 } slots[32];
 
 /* What is read: the command of a slot, up to a place. And what is written: an answer, as long as any of it is left. */
-static struct { bool on; uint32_t slot, phase, entries, piece; uint64_t table, left; } fetch;
+static struct { bool on, clears; uint32_t slot, phase, entries, piece; uint64_t table, left; } fetch;
 static struct { bool on, counts; int before, after; uint32_t slot, piece; uint64_t left, moved; enum ends { TAKEN, DONE, ALONE, FAILS, SIGNED } ends; } answer;
 static bool served; /* a command is done, and its answer is not put together */
 
@@ -68,10 +73,23 @@ static uint32_t driven(uint32_t offset)
     return (uint32_t)value;
 }
 
+/* BSY or DRQ. */
+static bool is_busy_with_one(void) { return driven(AHCI_REG_PXTFD) & 0x88; }
+
+/* The link comes up, at the speed that PxSCTL allows, and the device sends its signature. */
+static void come_up(void)
+{
+    reg.link = UP;
+    reg.speed = (reg.sctl >> 4 & 15) == 1 ? 1 : 2;
+    signature = DUE;
+    soft = OFF;
+}
+
 /* A new controller, over sectors of which no two are alike. */
 static void begin(void)
 {
     memset(&reg, 0, sizeof reg);
+    come_up();
     memset(low, 0, sizeof low);
     memset(high, 0, sizeof high);
     for (uint32_t i = 0; i < sizeof image; i++)
@@ -126,6 +144,21 @@ static void halts(void)
     fetch.on = answer.on = false;
 }
 
+/* Whether the FIS of the signature can be taken, or posted. */
+static bool signature_moves(void) { return signature == DUE ? !reg.on || reg.receiving : signature == UNPOSTED && reg.receiving; }
+
+/* It is: a signature that is taken ends the command of a software reset's second FIS. */
+static void is_signed(void)
+{
+    if (signature_moves() && signature == DUE) {
+        reg.ci &= ~(soft == ENDING ? 1u << soft_slot : 0);
+        soft = OFF;
+        signature = reg.receiving ? PAST : UNPOSTED;
+    } else if (signature_moves()) {
+        signature = PAST;
+    }
+}
+
 /* What the last byte of an answer does. */
 static void ends(void)
 {
@@ -137,7 +170,9 @@ static void ends(void)
         reg.sact &= ~bit;
     else if (well || answer.ends == TAKEN)
         reg.ci &= ~bit;
-    else if (answer.ends != SIGNED)
+    else if (answer.ends == SIGNED)
+        is_signed();
+    else
         halts();
 }
 
@@ -164,8 +199,12 @@ static void link_to(enum link link)
     if (link != UP && link != reg.link) {
         reg.sact = reg.ci = 0;
         reg.halted = failed = false;
+        signature = PAST;
+        soft = OFF;
         drop();
     }
+    if (link == UP && reg.link != UP)
+        come_up();
     reg.link = link;
 }
 
@@ -176,7 +215,7 @@ static void takes(uint32_t offset, uint32_t value)
     case AHCI_REG_GHC:
         reg.enabled = value >> 1 & 1;
         if (value & 1) {
-            reg.ie = reg.sctl = 0;
+            reg.ie = reg.sctl = reg.lights = reg.ccs = reg.first = 0;
             reg.on = reg.receiving = reg.enabled = false;
             reg.link = UP;
             link_to(RESET);
@@ -187,12 +226,14 @@ static void takes(uint32_t offset, uint32_t value)
     case AHCI_REG_PXCLBU: reg.clbu = reg.on ? reg.clbu : value; break;
     case AHCI_REG_PXFB: reg.fb = reg.receiving ? reg.fb : value & ~0xFFu; break;
     case AHCI_REG_PXFBU: reg.fbu = reg.receiving ? reg.fbu : value; break;
-    case AHCI_REG_PXIE: reg.ie = value & 0xFDC000FFu; break;
+    case AHCI_REG_PXIE: reg.ie = value & 0x7DC0007Fu; break;
     case AHCI_REG_PXCMD:
         reg.receiving = value >> 4 & 1;
+        reg.lights = value & 0x03000000;
         reg.halted = reg.halted && reg.on && value & 1;
         if (reg.on && !(value & 1)) {
-            reg.sact = reg.ci = 0;
+            reg.sact = reg.ci = reg.ccs = reg.first = 0;
+            soft = soft == ENDING ? OFF : soft;
             drop();
         }
         reg.on = value & 1;
@@ -234,23 +275,45 @@ static void writes(uint32_t offset, uint32_t size, uint64_t value)
 
 static void write(uint32_t offset, uint32_t value) { writes(offset, 4, value); }
 
-static bool is_ready(void) { return reg.on && !reg.halted && reg.link == UP && !fetch.on && !answer.on && !served; }
+/* The controller may take a step with its list; the device may move. */
+static bool is_listening(void) { return reg.on && !reg.halted && reg.link == UP && !fetch.on && !answer.on && !served; }
+static bool is_ready(void) { return is_listening() && reg.receiving && soft == OFF; }
+
+static bool waits(uint32_t slot) { return reg.ci >> slot & 1 && !slots[slot].there; }
+
+/* The slot to issue from next (AHCI 1.3.1, section 3.3.7, CCS): from the one behind CCS on, the first whose command waits. 32: none, or not now. */
+static uint32_t next_slot(void)
+{
+    if (!is_listening() || is_busy_with_one())
+        return 32;
+    for (uint32_t slot = 0; slot < 32; slot++)
+        if (slots[slot].there && slots[slot].kind != QUEUE)
+            return 32;
+    for (uint32_t i = 0; i < 32; i++)
+        if (waits((reg.first + i) % 32))
+            return (reg.first + i) % 32;
+    return 32;
+}
 
 /* All that the shadow knows, beside what is there. */
 static void compare(void)
 {
     CHECK(driven(AHCI_REG_PXCLB) == reg.clb && driven(AHCI_REG_PXCLBU) == reg.clbu && driven(AHCI_REG_PXFB) == reg.fb && driven(AHCI_REG_PXFBU) == reg.fbu);
     CHECK(driven(AHCI_REG_PXIE) == reg.ie && driven(AHCI_REG_PXSCTL) == reg.sctl && driven(AHCI_REG_GHC) == (0x80000000u | reg.enabled << 1));
-    CHECK((driven(AHCI_REG_PXCMD) & 0xFFFFE0FF) == (6u | (reg.on ? 0x8001u : 0) | (reg.receiving ? 0x4010u : 0)));
+    CHECK(driven(AHCI_REG_PXCMD) == (6u | (reg.on ? 0x8001u | reg.ccs << 8 : 0) | (reg.receiving ? 0x4010u : 0) | reg.lights));
+    CHECK(driven(AHCI_REG_PXSSTS) == (reg.link == UP ? 0x103u + (reg.speed << 4) : reg.link == OFFLINE ? 4u : 0));
     CHECK(driven(AHCI_REG_PXSACT) == reg.sact && driven(AHCI_REG_PXCI) == reg.ci);
     CHECK(ahci_hba_look(&hba, &look) == AHCI_OK && look.depth == 32);
     CHECK(look.interrupt == (reg.enabled && driven(AHCI_REG_IS)));
     CHECK(look.want == (uint32_t)(fetch.on ? AHCI_WANT_READ : answer.on ? AHCI_WANT_WRITE : AHCI_WANT_NOTHING));
+    CHECK(look.sign == (signature_moves() && !fetch.on && !answer.on && !served));
+    const uint32_t taken = next_slot();
     for (uint32_t slot = 0; slot < 32; slot++) {
         const uint8_t next = look.next[slot];
         const struct command *it = &slots[slot];
-        CHECK(next == AHCI_STEP_NONE || is_ready() || (served && next == AHCI_STEP_DELIVER && slot == answer.slot));
-        CHECK(next != AHCI_STEP_FETCH || (!it->there && reg.ci >> slot & 1));
+        const bool controls = it->there && it->kind == CONTROL && is_listening();
+        CHECK((next == AHCI_STEP_FETCH) == (slot == taken) && (next == AHCI_STEP_CONTROL) == controls);
+        CHECK(next == AHCI_STEP_NONE || next == AHCI_STEP_FETCH || controls || is_ready() || (served && next == AHCI_STEP_DELIVER && slot == answer.slot));
         CHECK((next != AHCI_STEP_ACCEPT && next != AHCI_STEP_SERVE) || (it->there && it->sent));
         CHECK(next < AHCI_STEP_EXECUTE || (it->there && !it->sent && (it->kind != QUEUE || failed)));
     }
@@ -266,6 +329,7 @@ static void asks(struct command *it, const uint8_t *fis)
     it->pieces = it->sectors = 0;
     it->moved = 0;
     it->kind = OTHER;
+    it->resets = fis[15] & 4;
     if (!(fis[1] & 0x80)) {
         it->kind = CONTROL;
     } else if ((code == 0x60 || code == 0x61) && fis[7] & 0x40) {
@@ -310,10 +374,13 @@ static uint64_t next_read(uint64_t *at)
         : it->list[fetch.piece].bytes < fetch.left ? it->list[fetch.piece].bytes : fetch.left;
 }
 
+/* The command is read and sent: with C, its bit of PxCI goes. */
 static void placed(void)
 {
     fetch.on = false;
     slots[fetch.slot].there = true;
+    reg.ci &= ~(fetch.clears ? 1u << fetch.slot : 0);
+    CHECK(!fetch.clears || !(driven(AHCI_REG_PXTFD) & 0x80));
 }
 
 /* Takes the bytes that came next. */
@@ -325,6 +392,7 @@ static void reads(const uint8_t *bytes, uint64_t count)
     case 0:
         fetch.entries = (uint32_t)little(bytes + 2, 2);
         fetch.table = little(bytes + 8, 8) & ~(uint64_t)127;
+        fetch.clears = bytes[1] & 4;
         if ((bytes[0] & 0x3F) != 5 || bytes[1] & 2)
             halts();
         break;
