@@ -55,6 +55,9 @@ with Hba(bytes(SECTORS * 512), depth=32) as hba:
     assert (hba.read(0x00), hba.read(0x10), hba.read(0x13C), hba.read(0x104, 8)) == (0xC1241F00, 0x00010301, 0, 0)
     refused(ahci.Status.WRONG_LENGTH, lambda: hba.read(0, 3))
     refused(ahci.Status.WRONG_LENGTH, lambda: hba.write(0, 0, 5))
+    assert hba.look().sign  # FRE is 0, so the FIS is taken and not written; it is written once FRE is 1
+    hba.sign()
+    assert (hba.look().want, hba.read(PXSIG)) == (Want.NOTHING, 0x101)
     refused(ahci.Status.NOT_READY, hba.sign)
     assert hba.write(0x04, 0x80000002) == 0
     hba.write(PXCLB, LIST)
