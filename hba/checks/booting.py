@@ -10,8 +10,10 @@ import time
 from typing import List, Sequence
 
 import images
-from harness import SECTOR, Guest, blank, contents, counted, digest, expect, file_of_ext4, linux, qemu
-from images import Missing, file_in, file_of, pattern
+from harness import SECTOR, Guest, blank, contents, counted, digest, file_of_ext4, linux, qemu
+from images import file_in, file_of, pattern
+import pace
+from suite import Check, Skipped, expect
 
 
 def sector(room: str) -> str:
@@ -285,7 +287,8 @@ def run_uml(room: str, kernel: str, image: str) -> Guest:
     """One run of guests/queue.sh, with 100,000 requests of one page."""
     words = ["mem=256M", f"initrd={images.initrd(room, 'queue', b'', None)}", "con=null", "con0=null,fd:1", "loglevel=7", "panic=1", "small=100000"]
     guest = Guest(room, ["--image", image, "--pick", "high"], [kernel, *words], mode="uml", log=False, first=True)
-    guest.process.wait(150)
+    if not pace.ended(guest.process, 150):
+        guest.kill()
     with open(os.path.join(room, "serial"), "w", encoding="utf-8") as file:
         file.write(guest.said())
     return guest
@@ -296,7 +299,7 @@ def user_mode_linux(room: str) -> str:
     and a run on a machine that is too busy for that is made again."""
     kernel = os.path.join(images.OUT, "uml/linux")
     if not os.path.exists(kernel):
-        raise Missing(f"there is no {os.path.relpath(kernel)} (./uml_kernel out/uml makes it)")
+        raise Skipped(f"there is no {os.path.relpath(kernel)} (./uml_kernel out/uml makes it)")
     for _ in range(4):
         image = blank(room, 131072)
         guest = run_uml(room, kernel, image)
@@ -306,4 +309,13 @@ def user_mode_linux(room: str) -> str:
             guest.linux_is_usual([r"ata1\.00: (Entering standby power mode|STANDBY IMMEDIATE failed \(err_mask=0x40\)|disable device)",
                                   r"ata1: failed to stop engine \(-19\)", r"ahci 0000:00:00\.0: AHCI controller unavailable!"])
             return queue_right(guest, image)
-    raise Missing("the machine was too busy in four runs: a read took more than 40 ms")
+    raise Skipped("the machine was too busy in four runs: a read took more than 40 ms")
+
+
+CHECKS = [Check(sector, title="SeaBIOS and a boot sector"), Check(sector_error, title="SeaBIOS and an error"), Check(grub_bios, title="GRUB on BIOS"), Check(grub_uefi, title="GRUB on UEFI"),
+          Check(boot_bios, title="GRUB boots Linux on BIOS"), Check(boot_uefi, title="GRUB boots Linux on UEFI"), Check(linux_files, title="Linux, files"),
+          Check(linux_high, title="Linux, memory above 4 GiB"), Check(linux_queue, title="Linux, queue", is_long=True), Check(linux_error, title="Linux, an error in the queue"),
+          Check(linux_lasting, title="Linux, a lasting error"), Check(linux_refused_log, title="Linux, a log that is refused"),
+          Check(linux_stalled, title="Linux, a command without an answer"), Check(linux_two, title="Linux, two processors", is_long=True),
+          Check(linux_reset, title="Linux, a reset of the machine"), Check(linux_flush, title="Linux, flushes and a kill"),
+          Check(user_mode_linux, title="User Mode Linux", is_long=True, is_alone=True)]  # its reads wait 40 ms at most
