@@ -13,6 +13,7 @@ import images
 from harness import SECTOR, Guest, blank, contents, counted, digest, file_of_ext4, linux, qemu
 from images import file_in, file_of, pattern
 import pace
+import playing
 from suite import Check, Skipped, expect
 
 
@@ -136,7 +137,7 @@ def linux_high(room: str) -> str:
 def linux_queue(room: str, more: Sequence[str] = ()) -> str:
     """Random requests of Linux at depth 32, in a random order of the device."""
     image = blank(room, 131072)
-    guest = Guest(room, ["--image", image, "--pick", "random", "--seed", "7", "--delay", "1000"], linux(room, "queue") + list(more))
+    guest = Guest(room, ["--image", image, "--pick", "random", "--seed", "7", "--delay", str(int(1000 * pace.times()))], linux(room, "queue") + list(more))
     guest.end(300)
     guest.log_is_usual()
     guest.linux_is_usual()
@@ -266,18 +267,26 @@ def linux_reset(room: str) -> str:
     return "the second boot finds what the first one wrote"
 
 
+def is_running(process: int) -> bool:
+    state = subprocess.run(["ps", "-o", "stat=", "-p", str(process)], capture_output=True, text=True, check=False).stdout
+    return state.strip()[:1] not in ("", "Z")
+
+
 def linux_flush(room: str) -> str:
     """The program is killed while a file system is busy: what was flushed before is in the image."""
-    data, image = pattern(2 << 20, "flush"), blank(room, 32768)
-    guest = Guest(room, ["--image", image], linux(room, "flush", data))
+    data, image, disk = pattern(2 << 20, "flush"), blank(room, 32768), os.path.join(room, "recorded.img")
+    guest = Guest(room, ["--image", image, "--record", os.path.join(room, "record")], linux(room, "flush", data))
     guest.wait_for("^CHECK flushed", 120)
     time.sleep(2)
-    child = guest.child()
+    child, limit = guest.child(), pace.Limit(10)
     guest.kill()
-    time.sleep(1)
-    state = subprocess.run(["ps", "-o", "stat=", "-p", str(child)], capture_output=True, text=True, check=False).stdout
-    expect(state.strip()[:1] in ("", "Z"), "QEMU goes on without the program")
+    while is_running(child):
+        expect(not limit.has_passed(), "QEMU goes on without the program")
+        time.sleep(0.1)
     expect(file_of_ext4(room, image, "first") == data, "what was flushed is not in the image")
+    with open(disk, "wb") as file:
+        file.write(playing.sectors_of(os.path.join(room, "record")))
+    expect(file_of_ext4(room, disk, "first") == data, "what was flushed is not in the record")
     flushes = guest.codes().get(0xE7, 0) + guest.codes().get(0xEA, 0)
     expect(flushes > 0, "no flush came")
     return f"{flushes} flushes, the file is in the image"

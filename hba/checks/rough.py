@@ -278,5 +278,6 @@ def answered_and_killed(room: str) -> str:
 
 CHECKS = [Check(command_lines, title="Command lines"), Check(arguments, title="Arguments of QEMU"), Check(record, title="Record of Linux"), Check(garbage, title="Garbage"),
           Check(refused_memory, title="Refused memory"), Check(killed_guest, title="A killed guest"), Check(unkept, title="A flush that can't be kept"),
-          Check(written_at_the_end, title="An image that is written at the end"), Check(full, title="Files that can't be written"), Check(rules, title="Rules"), Check(a_limit, title="A limit of the record"),
+          Check(written_at_the_end, title="An image that is written at the end"), Check(full, title="Files that can't be written"), Check(rules, title="Rules"), Check(much_written, title="Much that is written"),
+          Check(very_much_written, title="10 GiB that are written", is_long=True), Check(a_limit, title="A limit of the record"),
           Check(answered_and_killed, title="A kill after an answer")]

@@ -44,7 +44,7 @@ def missing_of(check: Check) -> str:
 
 
 def perform(check: Check, keeps: bool) -> str:
-    """Runs a check, and prints how it ended: `ok`, `skipped` or `FAILED`."""
+    """Runs a check, and prints how it ended: `ok`, `skipped:` or `FAILED`."""
     missing, begun, kept = missing_of(check), time.monotonic(), ""
     room = tempfile.mkdtemp(prefix="ahci-check-")
     try:
@@ -52,7 +52,7 @@ def perform(check: Check, keeps: bool) -> str:
             raise Skipped(f"{missing} is not here")
         said, ending = check.run(room), "ok"
     except Skipped as why:
-        said, ending = str(why), "skipped"
+        said, ending = str(why), "skipped:"
     except (Failed, subprocess.SubprocessError, OSError, ValueError, LookupError, AssertionError, RuntimeError) as why:
         said, ending = f"{'' if isinstance(why, Failed) else type(why).__name__ + ': '}{why}", "FAILED"
         kept = f"; its files are in {room}" if keeps else ""
@@ -91,6 +91,6 @@ def main(about: str, checks: Sequence[Check], jobs: int = 1) -> int:
     left = [it.name for it in named if it not in chosen]
     if left:
         print(f"not run without --long: {', '.join(left)}")
-    failed = endings.count("FAILED")
-    print(f"{endings.count('ok')} ok, {endings.count('skipped')} skipped, {failed} failed")
+    passed, failed, skipped = (endings.count(it) for it in ("ok", "FAILED", "skipped:"))
+    print(f"{passed} passed, {failed} failed, {skipped} skipped")
     return 1 if failed or not endings else 0
