@@ -139,6 +139,15 @@ class Mutants(unittest.TestCase):
         with open(os.path.join(self.top, "crates/low/src/lib.rt"), encoding="utf-8") as text:
             self.assertEqual(SOURCE, text.read())
 
+    def test_a_crates_wrong_bodies_are_tried_too(self) -> None:
+        self.write("top/crates/low/wrong-bodies/two_is_five.edit", "file: src/lib.rt\nold:     2\nnew:     5\n")
+        self.write("top/crates/low/wrong-bodies/less_is_more.edit", "file: src/lib.rt\nold:     a < b\nnew:     a > b\n")
+        self.write("top/crates/low/wrong-bodies/two_is_lost.edit", "file: src/lib.rt\nold:     22\nnew:     5\n")
+        ran = self.run_with("--each", "0", "low")
+        self.assertEqual((0, ["let through: low/two_is_five.edit"]), (ran.returncode, ran.stdout.splitlines()[3:]))
+        self.assertRegex(ran.stdout, r"\| low \| 2 \| 3 \| 1 \| 2 \| [\d.]+ \| 1 \| 0 \| 1 \| 1 \|")
+        self.assertIn("low/less_is_more.edit", self.run_with("--list", "low").stdout)
+
     def test_a_crate_that_is_not_proved_or_is_missing_is_told(self) -> None:
         self.write("top/crates/low/src/lib.rt", SOURCE.replace("a < b", "a > b"))
         self.assertIn("mutants: low itself is not proved", self.run_with("low").stderr)

@@ -19,7 +19,10 @@ TESTS_HEAD = "1 test of [low](../low). First check: 9 s."
 SIZES = "| Crate | src | specs | proofs | must-fail | wrong-bodies |\n|---|---|---|---|---|---|\n"
 FILES: Dict[str, str] = {
     "README.md": "# The whole\n\nSee [the proofs](docs/PROOFS.md#wrong-bodies) and `crates/low/src/lib.rt`.\n\n```text\n[not a link](nowhere.md) `no/file.rt`\n```\n",
-    "docs/PROOFS.md": "# Proofs\n\n## Wrong bodies\n\n| Promise | Shown by |\n|---|---|\n| sums | `a_sum_is_0` |\n",
+    "docs/PROOFS.md": "# Proofs\n\n## Wrong bodies\n\n"
+    "| In the gate | Crate | Belief |\n|---|---|---|\n| `a_sum_is_0` | `low` | a sum |\n\n"
+    "| Outside the gate | Crate | Belief |\n|---|---|---|\n| `a_sum_is_1` | `low` | a sum |\n\n"
+    "| What | How |\n|---|---|\n| a sum | `a_sum_is_a_sum` |\n",
     "bench/PROVING.md": f"# Sizes\n\n{SIZES}"
     "| low | 4 | 1 | 1 | 1 | 1 |\n| low_tests | 2 | 0 | 0 | 0 | 0 |\n| together | 6 | 1 | 1 | 1 | 1 |\n\nThe end.\n",
     "crates.txt": "# The crates.\nlow:\nlow_tests may_wait=2: low # on low alone\n",
@@ -29,9 +32,7 @@ FILES: Dict[str, str] = {
     "crates/low/src/lib.rt": "fn sum(a: u8) -> u8\n    ensures value { result }\n{ a }\nfn other() {}\n",
     "crates/low/specs/Sum.antt": "-- a sum\n",
     "crates/low/proofs/Sum.antt": "-- a proof\n",
-    "crates/low/must-fail/README.md": "| Edit | What |\n|---|---|\n| `a_sum_is_0` | a sum |\n",
     "crates/low/must-fail/a_sum_is_0.edit": "file: src/lib.rt\nold: { a }\nnew: { 0 }\n",
-    "crates/low/wrong-bodies/README.md": "| Edit | What |\n|---|---|\n| `a_sum_is_1` | a sum |\n",
     "crates/low/wrong-bodies/a_sum_is_1.edit": "file: src/lib.rt\nold: { a }\nnew: { 1 }\nold: fn other() {}\nnew:\n",
 }
 
@@ -88,15 +89,15 @@ class Pages(unittest.TestCase):
         self.after("README.md", "`crates/low/src/lib.rt`", "`crates/low/src/main.rt`", "README.md:3: there is no file crates/low/src/main.rt")
 
     def test_an_edit_has_a_row(self) -> None:
-        self.after("crates/low/must-fail/README.md", "| `a_sum_is_0` | a sum |\n", "", "crates/low/must-fail/README.md:1: the edit a_sum_is_0 has no row")
+        self.after("docs/PROOFS.md", "| `a_sum_is_0` | `low` | a sum |\n", "", "crates/low/must-fail/a_sum_is_0.edit:1: docs/PROOFS.md has no row for it")
 
     def test_a_row_has_an_edit(self) -> None:
-        self.after("crates/low/wrong-bodies/README.md", "| a sum |\n", "| a sum |\n| `a_sum_is_2` | a sum |\n",
-                   "crates/low/wrong-bodies/README.md:4: there is no edit a_sum_is_2 here")
+        self.after("docs/PROOFS.md", "| `a_sum_is_1` | `low` | a sum |\n", "| `a_sum_is_1` | `low` | a sum |\n| `a_sum_is_2` | `low` | a sum |\n",
+                   "docs/PROOFS.md:12: there is no edit crates/low/wrong-bodies/a_sum_is_2.edit")
 
-    def test_edits_have_a_page(self) -> None:
-        os.remove(os.path.join(self.room, "crates/low/must-fail/README.md"))
-        self.finds(["crates/low/must-fail/README.md:1: the edits here have no README.md"])
+    def test_a_row_is_in_the_table_of_its_folder(self) -> None:
+        self.after("docs/PROOFS.md", "| In the gate |", "| Outside the gate |", "docs/PROOFS.md:7: there is no edit crates/low/wrong-bodies/a_sum_is_0.edit",
+                   "crates/low/must-fail/a_sum_is_0.edit:1: docs/PROOFS.md has no row for it")
 
     def test_an_edit_fits_its_source(self) -> None:
         self.after("crates/low/must-fail/a_sum_is_0.edit", "old: { a }", "old: { b }",
@@ -109,8 +110,8 @@ class Pages(unittest.TestCase):
     def test_an_edit_names_a_file(self) -> None:
         self.after("crates/low/must-fail/a_sum_is_0.edit", "src/lib.rt", "src/main.rt", "crates/low/must-fail/a_sum_is_0.edit:1: there is no file src/main.rt")
 
-    def test_an_edit_that_a_promise_names_is_there(self) -> None:
-        self.after("docs/PROOFS.md", "`a_sum_is_0`", "`a_sum_is_9`", "docs/PROOFS.md:7: there is no edit a_sum_is_9")
+    def test_a_test_that_is_named_is_there(self) -> None:
+        self.after("docs/PROOFS.md", "`a_sum_is_a_sum`", "`a_sum_is_none`", "docs/PROOFS.md:15: the sources have no a_sum_is_none")
 
     def test_a_clause_that_is_named_is_there(self) -> None:
         self.after("crates/low/README.md", "`value`: the sum", "`worth`: the sum", "crates/low/README.md:7: crates/low has no clause worth")
@@ -182,7 +183,7 @@ class Pages(unittest.TestCase):
     def test_heads_are_written_after_a_crate_has_another_name(self) -> None:
         os.rename(os.path.join(self.room, "crates/low"), os.path.join(self.room, "crates/deep"))
         for path, old, new in (("crates.txt", "low:", "deep:"), ("crates.txt", ": low", ": deep"), ("bench/PROVING.md", "| low |", "| deep |"),
-                               ("README.md", "crates/low/", "crates/deep/")):
+                               ("README.md", "crates/low/", "crates/deep/"), ("docs/PROOFS.md", "`low`", "`deep`")):
             self.write(path, self.read(path).replace(old, new))
         gone = ["crates/low_tests/README.md:3: there is no crate low to test", "crates/low_tests/README.md:3: the link ../low leads to no file"]
         self.assertEqual(gone, self.run_with("--heads").stdout.splitlines()[:-1])

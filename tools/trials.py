@@ -1,4 +1,4 @@
-"""Trials of changed sources: what `rt check` says of a crate in which bodies of functions are changed. `wrong_bodies` and `mutants` use it."""
+"""Trials of changed sources: what `rt check` says of a crate in which bodies of functions are changed. `mutants` uses it."""
 from __future__ import annotations
 
 import contextlib
@@ -8,7 +8,7 @@ import re
 import shutil
 import subprocess
 import tempfile
-from typing import Dict, Generic, Iterator, List, Optional, Protocol, Sequence, Set, Tuple, TypeVar
+from typing import Dict, Generic, Iterator, List, NamedTuple, Optional, Protocol, Sequence, Set, Tuple, TypeVar
 
 TOP = os.path.dirname(os.path.dirname(os.path.realpath(__file__)))
 # what refused a change, or that nothing did
@@ -26,6 +26,8 @@ FAILS = re.compile(r"not proved(?!.*(it calls|it passes|a call of))")
 SOURCE_ERROR = re.compile(r"(?m)^(?:\./)?(src/\S+?\.rt):(\d+):\d+: error")
 # a proof file that names what the change took away shows nothing of a clause
 NAMES = re.compile(r"has no field|is not in scope|has no `|was not admitted|was not checked")
+# a line that imports names, and does nothing else
+IMPORT = re.compile(r"(ghost )?use [^;]*;$")
 
 Texts = Dict[str, str]
 Functions = Set[Tuple[str, str]]
@@ -43,6 +45,56 @@ class Change(Protocol):
 
     def functions(self, texts: Texts) -> Optional[Functions]:
         """Where it changes bodies: (file, function's name) each; None where a line stands in no function."""
+
+
+class Replaced(NamedTuple):
+    """A text of a file, and what takes its place."""
+
+    file: str
+    old: str
+    new: str
+
+
+class Edit:
+    """A wrong body that is kept in a file: the texts that it changes, each of which is in its file once."""
+
+    def __init__(self, path: str) -> None:
+        self.name = os.path.basename(path)
+        self.changes: List[Replaced] = []
+        file = old = ""
+        with open(path, encoding="utf-8") as lines:
+            for line in lines.read().split("\n"):
+                if line.startswith("file: "):
+                    file = line[len("file: ") :].strip()
+                elif line.startswith("old: "):
+                    old = line[len("old: ") :]
+                elif line.startswith("new:"):
+                    new = line[len("new:") :]
+                    self.changes.append(Replaced(file, old, new[1:] if new.startswith(" ") else new))
+
+    def applied(self, texts: Texts) -> Optional[Texts]:
+        made = dict(texts)
+        for file, old, new in self.changes:
+            if made.get(file, "").count(old) != 1:
+                return None
+            made[file] = made[file].replace(old, new)
+        return made
+
+    def functions(self, texts: Texts) -> Optional[Functions]:
+        """A line that imports for a body is in no function, and counts with it."""
+        found: Functions = set()
+        made = dict(texts)
+        for file, old, new in self.changes:
+            if made.get(file, "").count(old) != 1 or not file.endswith(".rt"):
+                return None
+            name = function_at(made[file], made[file][: made[file].index(old)].count("\n") + 1)
+            made[file] = made[file].replace(old, new)
+            if IMPORT.match(old) and IMPORT.match(new):
+                continue
+            if name is None:
+                return None
+            found.add((file, name))
+        return found or None
 
 
 AnyChange = TypeVar("AnyChange", bound=Change)
