@@ -60,7 +60,7 @@ static struct choice choice_of(const struct device *device) {
     for (uint32_t slot = 0; slot < AHCI_MOST_TAGS; slot++) {
         uint8_t kind = device->state.next[slot];
         uint32_t bit = UINT32_C(1) << slot & ~(device->stuck | device->stalled);
-        uint64_t ready = device->tasks[slot].ready;
+        uint64_t ready = kind == AHCI_STEP_FETCH ? 0 : device->tasks[slot].ready; /* before a fetch it is that of the slot's last command */
         if (kind == AHCI_STEP_NONE || !bit)
             continue;
         if (ready > then)
@@ -122,6 +122,8 @@ static void take_step(struct device *device, uint32_t slot) {
     uint64_t entries = 0;
     if (is_answer(kind))
         judge_answer(&device->judge, device->memory, slot);
+    if (kind == AHCI_STEP_DELIVER)
+        history_sync(&device->history); /* an answer may take effect without a write to the guest's memory */
     uint32_t status = ahci_hba_step(&device->hba, slot, &entries);
     if (status == AHCI_OUT_OF_MEMORY) {
         device_starve(device);

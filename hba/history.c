@@ -94,6 +94,7 @@ void history_follow(struct device *device, uint64_t entries, bool has_recovered)
     log_line("the queue's journal of %" PRIu64 " entries was handed out", entries);
     history->bytes = 0;
     put_end(device, has_recovered);
+    record_sync(&history->record);
 }
 
 void history_sync(struct history *history) {

@@ -155,7 +155,9 @@ static int settle(struct settings *settings) {
         uint64_t usual = JOURNAL_DISKS * (uint64_t)settings->sectors * AHCI_SECTOR_BYTES;
         settings->most_journal = usual < LEAST_JOURNAL ? LEAST_JOURNAL : usual;
     }
-    return rules_complete(&settings->failures, settings->sectors) || rules_complete(&settings->slow, settings->sectors) || rules_complete(&settings->stalls, settings->sectors) ? -1 : 0;
+    bool fits = !rules_complete(&settings->failures, settings->sectors) && !rules_complete(&settings->slow, settings->sectors) &&
+                !rules_complete(&settings->stalls, settings->sectors);
+    return fits ? 0 : -1;
 }
 
 /* Whether a word is an option without a value, which is taken. */

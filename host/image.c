@@ -74,8 +74,8 @@ static int look_for_new(const struct image *image) {
     }
     if (lstat(path, &found))
         return 0;
-    say_of("image", image->path, "%s is left by a server that did not end well; it has the sectors that were to be written back, or some of them: keep it elsewhere or remove it",
-           path);
+    say_of("image", image->path, "%s is left by a server that did not end well; it has the sectors that were to be written back, or some of them: "
+           "keep it elsewhere or remove it", path);
     return -1;
 }
 
@@ -173,7 +173,8 @@ static int write_new(struct image *image, const struct disk *disk, const char *p
 /* Prints why the write-back failed, and what FILE.new has. It returns the reason. */
 static int say_failed(const struct image *image, const struct disk *disk, const char *path, uint32_t lba, int why) {
     if (image->has_new)
-        say_of("image", image->path, "it can't be written back: %s; it is as it was, and %s has the sectors below %" PRIu32 " of %" PRIu32, strerror(why), path, lba, disk->sectors);
+        say_of("image", image->path, "it can't be written back: %s; it is as it was, and %s has the sectors below %" PRIu32 " of %" PRIu32, strerror(why), path, lba,
+               disk->sectors);
     else
         say_of("image", image->path, "it can't be written back: %s: %s; it is as it was", path, strerror(why));
     return why;

@@ -14,7 +14,7 @@ from harness import SECTOR, Guest, blank, contents, counted, digest, file_of_ext
 from images import file_in, file_of, pattern
 import pace
 import playing
-from suite import Check, Skipped, expect
+from suite import Check, Failed, Skipped, expect
 
 
 def sector(room: str) -> str:

@@ -69,7 +69,7 @@ def makes(record: str, image: str, room: str) -> str:
         played = playing.replayed(playing.scripted(record, os.path.join(room, "played.ahci"), *more), PLAYER)
         named = {lba for it in entries if it.kind == WRITE and (not part or it.number > last - LAST) for lba in range(it.lba, min(it.lba + it.count, len(wanted) // SECTOR))}
         wrong = [lba for lba in named if played[SECTOR * lba:SECTOR * (lba + 1)] != wanted[SECTOR * lba:SECTOR * (lba + 1)]]
-        expect(not wrong and (part or played == wanted), f"{record} plays to other sectors: {wrong[:5]}")
+        expect(not wrong and (bool(part) or played == wanted), f"{record} plays to other sectors: {wrong[:5]}")
     return f"{last + 1} entries"
 
 

@@ -13,7 +13,7 @@ from typing import Any, Dict, List, Optional, Sequence, Tuple
 
 HERE = os.path.dirname(os.path.dirname(os.path.realpath(__file__)))
 sys.dont_write_bytecode = True
-sys.path[:0] = [os.path.join(os.path.dirname(HERE), "host"), os.path.join(os.path.dirname(HERE), "host", "checks")]
+sys.path += [os.path.join(os.path.dirname(HERE), "host"), os.path.join(os.path.dirname(HERE), "host", "checks")]
 
 import pace  # noqa: E402
 from suite import Skipped  # noqa: E402
@@ -49,7 +49,7 @@ def ran(words: Sequence[str], **more: Any) -> str:
     done = pace.ran(list(words), 120, stdout=subprocess.PIPE, stderr=subprocess.STDOUT, text=True, errors="replace", **more)
     if done.returncode:
         raise RuntimeError(f"{' '.join(words)}: status {done.returncode}\n{done.stdout[-2000:]}")
-    return done.stdout
+    return str(done.stdout)
 
 
 def read(path: str) -> bytes:

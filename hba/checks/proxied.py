@@ -44,7 +44,7 @@ class Proxied:
             if not part:
                 sys.exit("the program is gone")
             answer += part
-        return struct.unpack("<iIQQ", answer)[3]
+        return int(struct.unpack("<iIQQ", answer)[3])
 
     def give_memory(self) -> None:
         """Tells the program where the guest's memory is."""

@@ -7,7 +7,7 @@ import re
 import signal
 import struct
 import subprocess
-from typing import List
+from typing import List, Tuple
 
 import images
 from harness import HERE, PROGRAM, SANITIZED, SECTOR, STARVED, Guest, blank, contents, digest, linux, makes, qemu
@@ -73,7 +73,7 @@ def command_lines(room: str) -> str:
     number, size = "expected a decimal number from", "expected a number of bytes from 1 on, such as 4096, 512K, 64M or 1G"
     rest = "[:COUNT][,reads|writes][,commands=A-B][,seconds=A-B][,rate=N/M][,seed=S], where WHERE is LBA, LBA-LBA or any, COUNT a number from 1 on or ever"
     small = ["run", "--sectors", "8"]
-    cases = [
+    cases: List[Tuple[List[str], str]] = [
         ([], 'expected run or uml, got ""; see ahci-hba --help'),
         (["walk"], 'expected run or uml, got "walk"; see ahci-hba --help'),
         (["run"], "expected a command after `--`"),

@@ -66,8 +66,8 @@ def ended(process: "subprocess.Popen[Any]", seconds: float) -> bool:
 def ran(words: List[str], seconds: float, input: Any = None, **more: Any) -> "subprocess.CompletedProcess[Any]":
     """As subprocess.run, with a limit of an idle machine. Without `input` and `stdin` the program reads nothing."""
     limit = Limit(seconds)
-    source = {"stdin": subprocess.PIPE} if input is not None else {} if "stdin" in more else {"stdin": subprocess.DEVNULL}
-    with subprocess.Popen(words, **source, **more) as process:
+    more.setdefault("stdin", subprocess.DEVNULL if input is None else subprocess.PIPE)
+    with subprocess.Popen(words, **more) as process:
         given: Optional[Any] = input
         while limit.left() > 0:
             try:

@@ -31,7 +31,7 @@ class Probe:
     """The program while it runs."""
 
     def __init__(self, words: List[str], **more: Any) -> None:
-        self.process = subprocess.Popen([PROBE, *words], stdin=subprocess.PIPE, stdout=subprocess.PIPE, text=True, **more)
+        self.process: "subprocess.Popen[str]" = subprocess.Popen([PROBE, *words], stdin=subprocess.PIPE, stdout=subprocess.PIPE, text=True, **more)
 
     def tell(self, line: str) -> None:
         assert self.process.stdin
@@ -40,7 +40,7 @@ class Probe:
 
     def answer(self) -> str:
         assert self.process.stdout
-        return self.process.stdout.readline().rstrip("\n")
+        return str(self.process.stdout.readline()).rstrip("\n")
 
     def ask(self, line: str) -> str:
         self.tell(line)

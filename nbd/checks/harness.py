@@ -21,12 +21,12 @@ SECONDS = int(os.environ.get("AHCI_NBD_SECONDS", "240"))  # the most that one to
 SECTOR = 512
 
 sys.dont_write_bytecode = True
-sys.path[:0] = [os.path.join(TOP, "host"), os.path.join(TOP, "host", "checks")]
+sys.path += [os.path.join(TOP, "host"), os.path.join(TOP, "host", "checks")]
 
 import pace  # noqa: E402
 import playing  # noqa: E402
-from playing import STRETCH, scripted, sectors_of  # noqa: E402,F401
-from suite import Check, Failed, Skipped  # noqa: E402,F401
+from playing import STRETCH as STRETCH, scripted as scripted, sectors_of as sectors_of  # noqa: E402
+from suite import Check as Check, Failed as Failed, Skipped as Skipped  # noqa: E402
 
 
 def tool(words: List[str], **more: Any) -> "subprocess.CompletedProcess[str]":

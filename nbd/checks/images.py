@@ -129,4 +129,5 @@ def sync_of_many(room: str) -> str:
     return told(server)
 
 
-CHECKS = [Check(an_image, ["qemu-io", "nbdcopy"]), Check(image_with_a_failing_sector, ["qemu-io", "nbdcopy"]), Check(no_space_at_a_flush, ["qemu-io", "mount"]), Check(flushed_and_killed, ["qemu-io"]), Check(sync_of_many, ["fio", "qemu-io", "nbdcopy"])]
+CHECKS = [Check(an_image, ["qemu-io", "nbdcopy"]), Check(image_with_a_failing_sector, ["qemu-io", "nbdcopy"]), Check(no_space_at_a_flush, ["qemu-io", "mount"]),
+          Check(flushed_and_killed, ["qemu-io"]), Check(sync_of_many, ["fio", "qemu-io", "nbdcopy"])]

@@ -10,7 +10,7 @@ from typing import List, Set, Tuple
 
 from harness import MIB, PLUGIN, SECTOR, Check, Failed, Server, fio, must_be_clean, out, ran, replayed, scripted, sectors_of, serving, told
 import pace
-from records import COLLECT, READ, TRIM, WRITE, Record, bounds
+from records import COLLECT, READ, WRITE, Record, bounds
 
 
 def touched(record: Record, first: int, last: int) -> Set[int]:
@@ -189,4 +189,5 @@ def same_commands(room: str) -> str:
     return f"{told_of[0][0]} commands each"
 
 
-CHECKS = [Check(a_long_record, ["fio", "nbdcopy"]), Check(outstanding_commands, ["fio", "nbdcopy"]), Check(an_image_recorded, ["qemu-io", "nbdcopy"]), Check(a_limit, ["fio", "nbdcopy"]), Check(killed, ["fio"]), Check(answered_and_killed, ["qemu-io"]), Check(same_commands, ["fio"])]
+CHECKS = [Check(a_long_record, ["fio", "nbdcopy"]), Check(outstanding_commands, ["fio", "nbdcopy"]), Check(an_image_recorded, ["qemu-io", "nbdcopy"]),
+          Check(a_limit, ["fio", "nbdcopy"]), Check(killed, ["fio"]), Check(answered_and_killed, ["qemu-io"]), Check(same_commands, ["fio"])]

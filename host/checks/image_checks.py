@@ -115,7 +115,7 @@ def left_file(room: str) -> str:
     return "three files stay"
 
 
-def short_of_room(image: str, data: bytes, why: str, probe: Probe, give_room: Callable[[], None]) -> int:
+def short_of_room(image: str, data: bytes, why: str, probe: Probe, give_room: Callable[[], object]) -> int:
     """A write-back that ends on the way and is told, with FILE as it was, and one that succeeds once there is room. How many sectors the first one wrote."""
     expect(probe.answer() == "disk 4096", "it did not start")
     probe.tell("write 0 3")
@@ -156,7 +156,7 @@ def a_full_file_system(room: str) -> str:
         return f"sectors below {short_of_room(image, data, 'No space left on device', Probe(['image', image, '0']), lambda: os.remove(filler))}"
 
 
-def killed(room: str) -> str:
+def killed_image(room: str) -> str:
     """kill -9 while the image is written back: it has all of the old sectors or all of the new ones."""
     image, news, draw = os.path.join(room, "disk"), 0, random.Random(9)
     made(image, 32 * MIB)
@@ -179,4 +179,4 @@ def killed(room: str) -> str:
     return f"{news} of 12 images were new"
 
 
-CHECKS = [Check(it) for it in (sizes, unwritten, modes_and_links, left_file, a_limit_of_files, a_full_file_system, killed)]
+CHECKS = [Check(it) for it in (sizes, unwritten, modes_and_links, left_file, a_limit_of_files, a_full_file_system, killed_image)]

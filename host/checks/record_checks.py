@@ -6,9 +6,9 @@ import random
 import signal
 import subprocess
 import time
-from typing import Dict, List, Set
+from typing import Any, Dict, List, Set, Tuple
 
-from images import limited, small_room
+from image_checks import limited, small_room
 from playing import STRETCH, replayed, scripted, sectors_of, stretch
 from probe import PLAYER, SECTOR, Probe
 from records import ACCEPT, COLLECT, FLUSH, IDENTIFY, READ, READ_LOG, RECOVER, REISSUE, RESET, TRIM, WRITE, Record, bounds
@@ -25,6 +25,7 @@ class Life:
         self.probe, self.draw, self.most, self.resets = probe, random.Random(seed), most, resets
         self.issued: List[int] = []
         self.accepted: List[int] = []
+        self.sectors: Dict[int, Tuple[int, int]] = {}  # by tag: where its command begins, and how many it has
         self.count = 0  # of entries
 
     def tell(self, line: str) -> None:
@@ -46,11 +47,9 @@ class Life:
             self.tell(f"write {tag} {lba} {count} {draw.randrange(256)} {int(draw.random() < 0.7)} {int(draw.random() < 0.1)}")
         self.issued.append(tag)
 
-    sectors: Dict[int, object] = {}
-
     def fail(self, tag: int) -> None:
         """A command fails; then the port recovers and the rest is issued again, or a reset drops it."""
-        lba, count = self.sectors[tag]  # type: ignore[misc]
+        lba, count = self.sectors[tag]
         self.tell(f"fail {tag} 40 {lba + self.draw.randrange(count)}")
         if self.draw.random() < 0.2:
             self.reset()
@@ -195,7 +194,7 @@ def size_of(folder: str) -> int:
     return sum(os.stat(os.path.join(folder, name)).st_size for name in os.listdir(folder))
 
 
-def without_room(room: str, place: str, **more: object) -> str:
+def without_room(room: str, place: str, **more: Any) -> str:
     """A record for which there is no room ends at a whole entry, says so once, and what it has plays."""
     folder = os.path.join(place, "record")
     probe = Probe(["record", folder, "0", str(SECTORS)], **more)
@@ -224,7 +223,7 @@ def a_full_disk(room: str) -> str:
     return space
 
 
-def killed(room: str) -> str:
+def killed_record(room: str) -> str:
     """kill -9: all that was written before is in the record, and a last entry that is cut is reported."""
     for at in range(6):
         folder = os.path.join(room, f"record{at}")
@@ -265,7 +264,7 @@ def stretch_words(room: str) -> str:
         done = stretch(list(words), stdout=subprocess.PIPE)
         if done.returncode != status:
             raise Failed(f"{words}: status {done.returncode}, {done.stderr.decode()}")
-        return done.stdout.decode() + done.stderr.decode()
+        return str(done.stdout.decode() + done.stderr.decode())
 
     listed = printed("list", folder)
     expect("a disk of 64 sectors, 32 slots; entries 0 to 11" in listed and "part.000001: entries 0 to 11" in listed, listed)
@@ -305,7 +304,7 @@ def a_long_script(room: str) -> str:
         done = stretch(["script", folder], stdout=file)
     expect(done.returncode == 1 and b"the script ends after entry" in done.stderr and os.path.getsize(script) <= 64 * MIB, f"{os.path.getsize(script)} bytes: {done.stderr!r}")
     replayed(script, PLAYER)
-    return done.stderr.decode().strip()
+    return str(done.stderr.decode().strip())
 
 
-CHECKS = [Check(it) for it in (stretches, parts, a_full_disk, killed, stretch_words, folders)] + [Check(a_long_script, is_long=True)]
+CHECKS = [Check(it) for it in (stretches, parts, a_full_disk, killed_record, stretch_words, folders)] + [Check(a_long_script, is_long=True)]
