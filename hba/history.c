@@ -9,9 +9,6 @@
 
 #define ENTRY_BYTES 256 /* about what the journal's entries of one command take, without a write's bytes */
 
-/* ahci_hba_trim is newer than the rest of the library: without it the journal is not trimmed. */
-uint32_t ahci_hba_trim(ahci_hba *hba, uint64_t *entries) __attribute__((weak));
-
 /* ---- entries ---- */
 
 /* Records a write: its bytes are in memory of the history until they are written. */
@@ -115,7 +112,7 @@ void history_count(struct device *device, uint32_t slot, uint8_t step) {
 }
 
 static bool is_large(const struct device *device) {
-    return ahci_hba_trim && device->history.bytes >= device->settings->most_journal;
+    return device->history.bytes >= device->settings->most_journal;
 }
 
 /* Whether the record's part has no room for a command of some slots. */
