@@ -5,7 +5,9 @@ longer than on an idle machine, so many times longer the limit is. It is measure
 """
 from __future__ import annotations
 
+import contextlib
 import os
+import signal
 import subprocess
 import sys
 import threading
@@ -64,19 +66,27 @@ def ended(process: "subprocess.Popen[Any]", seconds: float) -> bool:
 
 
 def ran(words: List[str], seconds: float, input: Any = None, **more: Any) -> "subprocess.CompletedProcess[Any]":
-    """As subprocess.run, with a limit of an idle machine. Without `input` and `stdin` the program reads nothing."""
+    """As subprocess.run, with a limit of an idle machine. Without `input` and `stdin` the program reads nothing. Past the limit it is killed with all
+    that it has started."""
     limit = Limit(seconds)
     more.setdefault("stdin", subprocess.DEVNULL if input is None else subprocess.PIPE)
-    with subprocess.Popen(words, **more) as process:
-        given: Optional[Any] = input
-        while limit.left() > 0:
-            try:
-                out, err = process.communicate(given, timeout=max(0.01, limit.left()))
-                return subprocess.CompletedProcess(words, process.returncode, out, err)
-            except subprocess.TimeoutExpired:
-                given = None
-        process.kill()
-        process.communicate()
+    with subprocess.Popen(words, start_new_session=True, **more) as process:
+        try:
+            return finished(process, words, limit, input)
+        except BaseException:
+            with contextlib.suppress(ProcessLookupError):
+                os.killpg(process.pid, signal.SIGKILL)
+            raise
+
+
+def finished(process: "subprocess.Popen[Any]", words: List[str], limit: Limit, given: Optional[Any]) -> "subprocess.CompletedProcess[Any]":
+    """Waits for the end of a process, and collects what it prints."""
+    while limit.left() > 0:
+        try:
+            out, err = process.communicate(given, timeout=max(0.01, limit.left()))
+            return subprocess.CompletedProcess(words, process.returncode, out, err)
+        except subprocess.TimeoutExpired:
+            given = None
     raise subprocess.TimeoutExpired(words, limit.most)
 
 
