@@ -13,6 +13,7 @@
 #include <limits.h>
 #include <malloc.h>
 #include <pthread.h>
+#include <signal.h>
 #include <stdio.h>
 #include <stdlib.h>
 #include <string.h>
@@ -37,6 +38,7 @@ static void ahci_load(void) {
     mallopt(M_MMAP_THRESHOLD, 32 << 20);
     mallopt(M_TRIM_THRESHOLD, INT_MAX);
     mallopt(M_ARENA_MAX, 1);
+    signal(SIGXFSZ, SIG_IGN); /* a write past a limit of the system fails instead */
     say_begin(&voice);
     settings_begin(&settings);
 }
