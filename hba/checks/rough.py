@@ -14,7 +14,7 @@ from harness import HERE, PROGRAM, SANITIZED, SECTOR, STARVED, Guest, blank, con
 from images import pattern
 import pace
 import playing
-from records import ACCEPT, FAIL, RESET, SERVE, Record, bounds
+from records import ACCEPT, FAIL, RESET, SERVE, WRITE, Record, bounds
 from suite import Check, expect
 
 GARBAGE = os.path.join(HERE, "checks", "garbage")
@@ -219,13 +219,24 @@ def rules(room: str) -> str:
         found = [it.lba for it in Record(folder).entries() if it.kind == FAIL]
         expect(found == failures, f"{options}: failures at {found}")
         taken += len(found)
-    folder, since, took = os.path.join(room, "slow"), 0, []
+    folder = os.path.join(room, "slow")
     written(room, ["--sectors", "256", "--record", folder, "--slow", "64-127:100000+50000:3"], ["1", "64", "256", "1", "-"])
+    slow = times_of(folder, range(64, 128))[:3]
+    expect(min(slow) >= 100_000, f"the first three commands that touch the sectors took {slow} microseconds")
+    return f"{taken} failures, slow commands of {slow} microseconds"
+
+
+def times_of(folder: str, sectors: range) -> List[int]:
+    """How many microseconds each command took from its acceptance on that touches some sectors; there is one at a time."""
+    times, since, touches = [], 0, False
     for it in Record(folder).entries():
-        since = it.time if it.kind == ACCEPT else since
-        took += [it.time - since] if it.kind == SERVE and it.time - since >= 100_000 else []
-    expect(len(took) == 3, f"{len(took)} commands took a tenth of a second, and 3 were to")
-    return f"{taken} failures, slow commands of {took} microseconds"
+        if it.kind == WRITE:
+            touches = it.lba < sectors.stop and it.lba + it.count > sectors.start
+        elif it.kind == ACCEPT:
+            since = it.time
+        elif it.kind == SERVE and touches:
+            times.append(it.time - since)
+    return times
 
 
 def much_written(room: str, mib: int = 2048) -> str:
