@@ -549,7 +549,8 @@ uint32_t ahci_port_state(ahci_port *port, ahci_state *state);
    AHCI_STEP_NONE and take its step. Each byte of the memory is read at most once for a command, and may be anything.
 
    A reset, cleared ST, COMRESET or a recovery drops all commands. If the disk's queue had requests then, its journal is
-   discarded: *entries is how many entries it had, else 0. The new journal continues with the next number over the disk as it is. */
+   discarded: *entries is how many entries it had, else 0. The new journal continues with the next number over the disk as it is. At any
+   other time the journal only grows, until ahci_hba_trim. */
 
 /* Makes a controller after power-on, in front of a disk with a copy of this image, in an empty place. Its command list has 32 slots;
    `depth` is the queue depth of IDENTIFY DEVICE. AHCI_PORT_THERE, AHCI_BAD_SIZE, AHCI_BAD_DEPTH, AHCI_OUT_OF_MEMORY. */
@@ -597,6 +598,11 @@ uint32_t ahci_hba_refuse(ahci_hba *hba, uint32_t slot, uint8_t error, uint64_t l
 /* The disk sends its signature, once FRE is 1. AHCI_NOT_READY if `sign` is 0. If its address is no memory (ahci_hba_unmapped), PxIS has
    HBDS and `sign` is 1 again: send it after the driver's next register write, not in a loop. */
 uint32_t ahci_hba_sign(ahci_hba *hba);
+
+/* Discards the journal of the disk's queue and its memory if the queue has no request: *entries is how many entries it had. Numbers
+   keep counting, and nothing changes that a driver reads. If the driver keeps the queue full, take no AHCI_STEP_SEND until this succeeds:
+   the requests end by the other steps, and no command takes their place. Doesn't allocate. AHCI_BUSY, AHCI_SPENT. */
+uint32_t ahci_hba_trim(ahci_hba *hba, uint64_t *entries);
 
 /* Copies a sector of the disk as it is now. AHCI_WRONG_LENGTH if out_bytes is not 512, AHCI_NO_SUCH_SECTOR. */
 uint32_t ahci_hba_copy(ahci_hba *hba, uint64_t lba, uint8_t *out, size_t out_bytes);

@@ -150,6 +150,50 @@ static void sign(void)
     follow(0);
 }
 
+/* Whether the queue has a request: a command that was sent, or one that has failed. */
+static bool is_busy(void)
+{
+    bool busy = failed;
+    for (uint32_t slot = 0; slot < 32; slot++)
+        busy = busy || (slots[slot].there && slots[slot].sent);
+    return busy;
+}
+
+/* The disk's image is the shadow's. */
+static void compare_image(void)
+{
+    uint8_t sector[AHCI_SECTOR_BYTES];
+    for (uint64_t lba = 0; lba < SECTORS; lba++)
+        CHECK(ahci_hba_copy(&hba, lba, sector, sizeof sector) == AHCI_OK && memcmp(sector, image + lba * sizeof sector, sizeof sector) == 0);
+}
+
+/* The journal is discarded, and nothing else changes: no register, no step, no byte that is moved next, and nothing of the queue. */
+static void trim(void)
+{
+    static uint32_t words[0x50];
+    ahci_hba_state was = look;
+    ahci_state before, after;
+    ahci_entry entry;
+    uint64_t entries = 77;
+    const bool busy = is_busy();
+    for (uint32_t at = 0; at < 0x50; at++)
+        words[at] = driven(4 * at);
+    CHECK(ahci_hba_port(&hba, &before) == AHCI_OK);
+    CHECK(ahci_hba_trim(&hba, &entries) == (busy ? AHCI_BUSY : AHCI_OK));
+    CHECK(entries == (busy ? 77 : before.next - before.first));
+    CHECK(ahci_hba_port(&hba, &after) == AHCI_OK && ahci_hba_look(&hba, &look) == AHCI_OK);
+    if (!busy) {
+        CHECK(before.first == before.next || ahci_hba_entry(&hba, before.first, &entry) == AHCI_NO_SUCH_ENTRY);
+        before.first = before.next;
+        counted.trims++;
+    }
+    CHECK(memcmp(&before, &after, sizeof before) == 0 && memcmp(&was, &look, sizeof was) == 0);
+    for (uint32_t at = 0; at < 0x50; at++)
+        CHECK(words[at] == driven(4 * at));
+    compare_image();
+    follow(busy ? 0 : entries);
+}
+
 /* ---- the driver ---- */
 
 static void put(uint8_t *at, uint64_t value, uint32_t count)
@@ -328,7 +372,7 @@ int LLVMFuzzerTestOneInput(const uint8_t *bytes, size_t count);
 int LLVMFuzzerTestOneInput(const uint8_t *bytes, size_t count)
 {
     static void (*const calls[])(void) = { command, command, command, command, step_any, step_any, step_any, step_any, step_any, step_any, step_any, step_any, move_all, move_all,
-        move_all, move_all, move_all, move_one, move_one, step_this, fail, refuse, sign, sign, restart_if_halted, restart_if_halted, restart, reset, write_any, read_any, read_any, scribble };
+        move_all, move_all, move_all, move_one, move_one, step_this, fail, refuse, sign, sign, restart_if_halted, restart_if_halted, restart, reset, write_any, read_any, trim, scribble };
     uint8_t sector[AHCI_SECTOR_BYTES];
     input = bytes;
     left = count;
@@ -340,8 +384,7 @@ int LLVMFuzzerTestOneInput(const uint8_t *bytes, size_t count)
         calls[byte() % (sizeof calls / sizeof *calls)]();
     }
     compare();
-    for (uint64_t lba = 0; lba < SECTORS; lba++)
-        CHECK(ahci_hba_copy(&hba, lba, sector, sizeof sector) == AHCI_OK && memcmp(sector, image + lba * sizeof sector, sizeof sector) == 0);
+    compare_image();
     CHECK(ahci_hba_copy(&hba, SECTORS, sector, sizeof sector) == AHCI_NO_SUCH_SECTOR && ahci_hba_copy(&hba, 0, sector, 511) == AHCI_WRONG_LENGTH);
     CHECK(ahci_hba_free(&hba) == AHCI_OK && ahci_hba_free(&hba) == AHCI_NO_PORT);
     return 0;
@@ -365,7 +408,8 @@ int main(int count, char **arguments)
             fprintf(stderr, "run %lu\n", run);
         LLVMFuzzerTestOneInput(bytes, sizeof bytes);
     }
-    printf("%lu runs of a controller, with %lu commands done, %lu dropped, and the port halted %lu times: the shadow has seen no difference\n", runs, counted.done, counted.dropped, counted.halts);
+    printf("%lu runs of a controller, with %lu commands done, %lu dropped, %lu trims, and the port halted %lu times: the shadow has seen no difference\n", runs, counted.done, counted.dropped,
+        counted.trims, counted.halts);
     return 0;
 }
 #endif

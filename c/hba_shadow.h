@@ -39,7 +39,7 @@ static struct { bool on; uint32_t slot, phase, entries, piece; uint64_t table, l
 static struct { bool on, counts; int before, after; uint32_t slot, piece; uint64_t left, moved; enum ends { TAKEN, DONE, ALONE, FAILS, SIGNED } ends; } answer;
 static bool served; /* a command is done, and its answer is not put together */
 
-static struct { unsigned long done, halts, dropped; } counted;
+static struct { unsigned long done, halts, dropped, trims; } counted;
 
 static uint8_t *memory(uint64_t at, uint64_t count)
 {

@@ -223,6 +223,19 @@ static int made(void)
     return lacking;
 }
 
+/* A controller whose journal is trimmed. */
+static int controlled(void)
+{
+    ahci_hba hba = AHCI_HBA_EMPTY;
+    ahci_port none = AHCI_PORT_EMPTY;
+    uint64_t entries;
+    int lacking = 0;
+    TRY(&none, image, ahci_hba_new(&hba, image, sizeof image, 32));
+    NONE(ahci_hba_trim(&hba, &entries));
+    NONE(ahci_hba_free(&hba));
+    return lacking;
+}
+
 /* A flush and a recovery after some short journals: memory for entries is asked for ahead, and not by each call. */
 static int after_some_entries(void)
 {
@@ -243,7 +256,7 @@ static int story(void)
 {
     ahci_port port = AHCI_PORT_EMPTY;
     uint64_t number = 99, entries;
-    int lacking = made() + alone() + after_some_entries();
+    int lacking = made() + alone() + controlled() + after_some_entries();
     TRY(&port, image, ahci_port_new(&port, image, sizeof image, 32));
     TRY(&port, number, ahci_port_submit(&port, 0, AHCI_WRITE, 3, 1, data, sizeof data, &number));
     looks(&port);

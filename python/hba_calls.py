@@ -90,10 +90,18 @@ with Hba(bytes(SECTORS * 512), depth=32) as hba:
     refused(ahci.Status.NO_SUCH_SECTOR, lambda: hba.copy(SECTORS))
     refused(ahci.Status.NO_SUCH_ENTRY, lambda: hba.entry(1 << 40))
 
+    # the journal is discarded, and numbers go on
+    next_number = hba.port().next
+    assert hba.trim() == next_number and hba.port().first == next_number == hba.port().next
+    refused(ahci.Status.NO_SUCH_ENTRY, lambda: hba.entry(number))
+    assert hba.copy(5) == b"\xAA" * 512 and hba.trim() == 0
+
     # a queued read fails; the port halts, and its log is read once it was started again
     lay(memory, 1, queued(0x60, 1, 5), 512, False)
     issue(hba, 1, True)
     until(hba, memory, 1, Step.SERVE)
+    assert hba.port().numbers[1] == next_number
+    refused(ahci.Status.BUSY, hba.trim)
     refused(ahci.Status.NOT_READY, lambda: hba.fail(1, 0x40, 6))
     refused(ahci.Status.BAD_TAG, lambda: hba.fail(32, 0x40, 5))
     hba.fail(1, 0x40, 5)

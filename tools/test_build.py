@@ -51,15 +51,16 @@ if grep -q unlinked "$3"; then
     exit 1
 fi
 """
+MOST = 300  # seconds after which a test gives up
 CRATES = "# lowest first\nlow:\nside: clap\nmiddle: low\ntests: middle\nahci: middle side\nshelf staticlib: std_heap middle low\n"
 
 
 def until(is_so: Callable[[], bool]) -> None:
-    """Waits until something is so, a few seconds at most."""
-    end = time.monotonic() + 20
+    """Waits until something is so: a busy machine may take long, and a wrong one for ever."""
+    end = time.monotonic() + MOST
     while not is_so():
         if time.monotonic() > end:
-            raise AssertionError("it has not come about within 20 seconds")
+            raise AssertionError(f"it has not come about within {MOST} seconds")
         time.sleep(0.02)
 
 
@@ -119,7 +120,7 @@ class Builds(unittest.TestCase):
             with open(self.calls + end, "w", encoding="utf-8"):
                 pass
         ran = self.start(*words)
-        self.output, said = ran.communicate(timeout=60)
+        self.output, said = ran.communicate(timeout=MOST)
         return ran.returncode, said, self.read(self.calls).split()
 
     def words_of(self, name: str) -> List[str]:
@@ -182,7 +183,7 @@ class Builds(unittest.TestCase):
         ran = self.start(wait=1)
         until(lambda: "low" in self.read(self.calls).split())
         self.write("crates/low/src/lib.rt", "low, edited")
-        said = ran.communicate(timeout=60)[1]
+        said = ran.communicate(timeout=MOST)[1]
         self.assertEqual(ran.returncode, 1)
         self.assertIn("a source of low was edited meanwhile: run this again", said)
         self.assertFalse(os.path.exists(f"{self.made}/low/stamp"))
@@ -236,6 +237,33 @@ class Builds(unittest.TestCase):
         self.assertEqual((status, calls), (1, []))
         self.assertIn("crates.txt has no crate nothing", said)
 
+    def leave(self, name: str, text: str, stamped: bool = False) -> None:
+        """Leaves a crate's library, or the program, as `rt ci` does; with a stamp it would be one that `rt check` has made."""
+        self.write(f"crates/{name}/out/{'ahci' if name == 'ahci' else f'rlib/{name}.rlib/format'}", text)
+        if stamped:
+            self.write(f"crates/{name}/out/rlib/stamp", "a stamp")
+
+    def test_what_the_gate_has_proved_is_taken_and_not_proved_again(self) -> None:
+        self.assertEqual(self.build("--kept")[::2], (1, []))
+        for name in ("low", "side", "middle", "ahci"):
+            self.leave(name, f"{name}, by the gate")
+        self.assertEqual(self.build("--adopt")[::2], (0, []))
+        self.assertEqual(self.output, "build: 4 of 4 crates are taken from the gate\n")
+        self.assertEqual(self.read(self.program), "ahci, by the gate")
+        self.assertEqual(self.build("--kept")[::2], (0, []))
+        self.assertEqual(self.build()[::2], (0, []))
+        self.assertEqual(self.build("--library", "shelf")[::2], (0, ["shelf"]))  # a static library is made of what was taken
+        self.write("crates/middle/src/lib.rt", "middle, edited")
+        self.assertEqual(self.build("--kept")[::2], (1, []))
+        self.assertEqual(self.build()[2], ["middle", "ahci"])
+
+    def test_what_the_gate_has_not_proved_alone_is_not_taken(self) -> None:
+        for name in ("low", "side", "middle", "ahci"):
+            self.leave(name, f"{name}, by the gate", stamped=name == "middle")
+        self.assertEqual(self.build("--adopt")[::2], (0, []))
+        self.assertEqual(self.output, "build: 2 of 4 crates are taken from the gate\n")
+        self.assertEqual(self.build()[::2], (0, ["middle", "ahci"]))
+
     def test_times_are_told_where_they_are_asked_for(self) -> None:
         self.build()
         self.assertEqual(self.output, "")
@@ -277,7 +305,7 @@ class Builds(unittest.TestCase):
         ran = self.start(wait=0.5)
         until(lambda: os.path.exists(f"{self.made}/low/stamp"))
         ran.send_signal(signal.SIGTERM)
-        _, said = ran.communicate(timeout=10)
+        _, said = ran.communicate(timeout=MOST)
         self.assertEqual(ran.returncode, 130)
         self.assertIn("stopped; ./ahci --build goes on from here", said)
         status, _, calls = self.build()
@@ -291,7 +319,7 @@ class Builds(unittest.TestCase):
             processes = [int(it) for it in self.read(f"{self.calls}.processes").split()]
             self.assertEqual(len([it for it in processes if lives(it)]), 4)
             ran.send_signal(number)
-            ran.communicate(timeout=10)
+            ran.communicate(timeout=MOST)
             self.assertEqual(ran.returncode, 130)
             until(lambda: not [it for it in processes if lives(it)])
             os.remove(self.calls)
@@ -301,13 +329,13 @@ class Builds(unittest.TestCase):
         ran = self.start(wait=60)
         until(lambda: {"low", "side"} <= set(self.read(self.calls).split()))
         processes = [int(it) for it in self.read(f"{self.calls}.processes").split()]
-        ran.communicate(timeout=10)
+        ran.communicate(timeout=MOST)
         self.assertEqual(ran.returncode, 1)
         until(lambda: not [it for it in processes if lives(it)])
 
     def test_two_builds_at_once_prove_each_crate_once(self) -> None:
         first, second = self.start(wait=0.8), self.start(wait=0.8)
-        said = first.communicate(timeout=60)[1] + second.communicate(timeout=60)[1]
+        said = first.communicate(timeout=MOST)[1] + second.communicate(timeout=MOST)[1]
         self.assertEqual((first.returncode, second.returncode), (0, 0), said)
         self.assertIn("waiting for another build", said)
         self.assertEqual(sorted(self.read(self.calls).split()), ["ahci", "low", "middle", "side"])
@@ -315,7 +343,7 @@ class Builds(unittest.TestCase):
     def test_without_rt_it_says_so(self) -> None:
         os.remove(f"{self.room}/kit/bin/rt")
         ran = self.start(path=f"{self.room}/kit/bin:/usr/bin:/bin")
-        said = ran.communicate(timeout=10)[1]
+        said = ran.communicate(timeout=MOST)[1]
         self.assertEqual(ran.returncode, 1)
         self.assertIn("rt, of the Rattle kit, is not on the PATH", said)
 

@@ -49,6 +49,12 @@ class CheckVersion(unittest.TestCase):
             self.assertEqual((1, f"check_version: {path} states {other}, VERSION {self.version}\n"), self.check(), path)
             self.edit(path, new, old)
 
+    def test_what_is_not_released_yet_has_no_version(self) -> None:
+        self.edit("CHANGELOG.md", f"## {self.version}", f"## Unreleased\n\n- One thing.\n\n## {self.version}")
+        self.assertEqual((0, ""), self.check())
+        self.edit("CHANGELOG.md", f"## {self.version}", "## 2.1.3")
+        self.assertEqual((1, f"check_version: CHANGELOG.md states 2.1.3, VERSION {self.version}\n"), self.check())
+
     def test_a_place_without_a_version_is_named(self) -> None:
         for path in FILES[1:-1]:
             os.rename(f"{self.room}/{path}", f"{self.room}/away")

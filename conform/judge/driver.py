@@ -13,6 +13,7 @@ ERR, BUSY = 0x01, 0x88  # of a status: ERR; BSY and DRQ
 ALL = 0xFFFFFFFF
 S64A = 0x80000000  # of CAP
 OWN_IMAGE = "the tool's own image of the disk"  # a difference here is a fault of the tool
+TURNS_A_SECOND = 200  # looks that a second of patience has at least
 LOOKED_AT = 1 << 16  # bytes of a write whose memory is looked at again when it is done
 
 
@@ -71,11 +72,14 @@ class Driver:
         self.adapter.write_memory(layout.RECEIVED_AREA, bytes(layout.RECEIVED_SIZE))
 
     def wait(self, is_there: Callable[[], bool], seconds: Optional[float] = None) -> bool:
-        until = time.monotonic() + (self.adapter.patience if seconds is None else seconds)
+        """Waits so long, and so many turns: on a busy machine an emulator does little in the time."""
+        longest = self.adapter.patience if seconds is None else seconds
+        until, turns = time.monotonic() + longest, longest * TURNS_A_SECOND
         while not is_there():
-            if time.monotonic() >= until:
+            if time.monotonic() >= until and turns <= 0:
                 return False
             self.adapter.settle()
+            turns -= 1
         return True
 
     def wait_for(self, *members: str) -> None:

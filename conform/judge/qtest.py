@@ -14,7 +14,7 @@ from typing import List, Optional, Sequence
 from .adapter import EmulatorFault
 from .nbd import NbdDisk
 
-SECONDS = 10.0
+SECONDS = 60.0
 AT_ONCE = 100  # commands: a socket holds some 270 answers that nobody has read yet, and QEMU waits then
 
 

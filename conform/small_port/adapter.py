@@ -8,7 +8,7 @@ from typing import Optional, Sequence
 from judge.adapter import Adapter, EmulatorFault
 
 HERE = os.path.dirname(os.path.abspath(__file__))
-SECONDS = 10.0
+SECONDS = 60.0
 
 
 class SmallPort(Adapter):

@@ -13,7 +13,7 @@ from tests.common import CONFORM, MODEL, needs_model
 
 
 def run(*words: str, script: str = "") -> Tuple[int, str, str]:
-    ran = subprocess.run([sys.executable, os.path.join(CONFORM, "ahci_conform"), *words], input=script, capture_output=True, text=True, check=False, timeout=60)
+    ran = subprocess.run([sys.executable, os.path.join(CONFORM, "ahci_conform"), *words], input=script, capture_output=True, text=True, check=False, timeout=600)
     return ran.returncode, ran.stdout, ran.stderr
 
 

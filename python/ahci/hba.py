@@ -91,6 +91,10 @@ class Hba(Owner):
         """The disk sends its signature."""
         self._call("sign")
 
+    def trim(self) -> int:
+        """Discards the journal if the disk's queue has no request. Returns how many entries it had."""
+        return self._number("trim", u64)
+
     def copy(self, lba: int) -> builtins.bytes:
         """The 512 bytes of a sector as it is now."""
         return self._copied("copy", 512, fits(lba, 64, "lba"))

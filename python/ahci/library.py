@@ -143,6 +143,7 @@ _HBA: Dict[str, List[Any]] = {
     "fail": [u32, u8, u64],
     "refuse": [u32, u8, u64],
     "sign": [],
+    "trim": [to(u64)],
     "copy": [u64, _text, size],
     "entry": [u64, to(EntryStruct)],
     "entry_bytes": [u64, _text, size],

@@ -5,7 +5,7 @@ ghost use Rattle.std.specs.Prelude.{◌≡◌, length, ⊤};
 ghost use Rattle.ncq_journal.specs.{Numbering.{entry_numbered}, Sector.{sector}};
 ghost use Rattle.ahci_ffi.specs.{Refusals.{copy_refusal}, Seen.{AnswersBytes, AnswersEntry, IsState, written_by}, Told.{Told}};
 ghost use Rattle.hba_ffi.specs.{
-  Calls.{AnswersFail, AnswersRefuse, AnswersSign, AnswersStep},
+  Calls.{AnswersFail, AnswersRefuse, AnswersSign, AnswersStep, AnswersTrim},
   Over.{Changes, Reads},
   PlaceView.{view_of},
 };
@@ -66,6 +66,15 @@ pub extern "C" fn ahci_hba_sign(hba: &mut HbaPlace, heap: Global) -> u32
     ensures { Changes result (view_of hba.old) (view_of hba.new) ⊤ (λ answer old new. AnswersSign answer old new) }
 {
     over!(hba, heap, |held| hba_ffi::sign(&mut held))
+}
+
+/// Throws the journal away if the queue has no request.
+#[unsafe(no_mangle)]
+pub extern "C" fn ahci_hba_trim(hba: &mut HbaPlace, heap: Global, entries: &mut u64) -> u32
+    ensures { Changes result (view_of hba.old) (view_of hba.new) (entries.new ≡ entries.old)
+        (λ answer old new. AnswersTrim answer old new entries.old entries.new) }
+{
+    over!(hba, heap, |held| hba_ffi::trim(&mut held, entries))
 }
 
 /// Copies a sector as it is now.

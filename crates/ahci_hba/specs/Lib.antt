@@ -7,4 +7,5 @@ pub mod Delivering
 pub mod Executing
 pub mod Resetting
 pub mod Recovering
+pub mod Trimming
 pub mod Stepping

@@ -10,6 +10,7 @@ mod recovering;
 mod resetting;
 mod sending;
 mod stepping;
+mod trimming;
 mod writing;
 
 ghost use Rattle.std.specs.Prelude.{◌≡◌, ◌≤◌, None, IfOk, OnOk, replicate};

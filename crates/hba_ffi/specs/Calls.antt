@@ -5,7 +5,7 @@ use Rattle.ncq_journal.specs.History.{History}
 use Rattle.hba_regs.specs.Accessing.{read_of, size_of, write_of}
 use Rattle.hba_regs.specs.declared.access_size.AccessSize.{AccessSize}
 use Rattle.port_refusal.specs.declared.refusal.Refusal.TheVariants as refusal
-use Rattle.ahci_ffi.specs.Refusals.{with_length, with_tag}
+use Rattle.ahci_ffi.specs.Refusals.{trim_refused, with_length, with_tag}
 use Rattle.ahci_ffi.specs.Told.{Told, ToldOr}
 use Rattle.ahci_ffi.specs.declared.status.Status.{Status}
 use Rattle.ahci_ffi.specs.declared.status.Status.TheVariants as status
@@ -16,6 +16,7 @@ use Rattle.ahci_hba.specs.Moving.{put_next, run_read, supplied}
 use Rattle.ahci_hba.specs.Queueing.{IsFailed}
 use Rattle.ahci_hba.specs.Resetting.{may_sign, signing}
 use Rattle.ahci_hba.specs.Stepping.{IsTaken, may_fail, may_refuse, next_step}
+use Rattle.ahci_hba.specs.Trimming.{trimmed_hba}
 use Rattle.ahci_hba.specs.declared.step.Step.{Step}
 
 -- an access of 1, 2, 4 or 8 bytes, or of another size
@@ -80,3 +81,7 @@ AnswersRefuse slot error lba answer old new =
 
 abbrev pub AnswersSign : Status → (old new : HbaView) → Type 0
 AnswersSign answer old new = Told answer (if may_sign old then None else Some status.NotReady) (new ≡ signing old) (new ≡ old)
+
+abbrev pub AnswersTrim : Status → (old new : HbaView) → (before after : ℕ) → Type 0
+AnswersTrim answer old new before after =
+    Told answer (trim_refused old.port) ((new ≡ trimmed_hba old) × (after ≡ length old.port.past)) ((new ≡ old) × (after ≡ before))

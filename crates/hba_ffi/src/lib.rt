@@ -10,6 +10,7 @@ mod moving;
 mod place;
 mod registers;
 mod stepping;
+mod trimming;
 
 pub use flat::FlatHba;
 pub use held::HeldHba;
@@ -20,3 +21,4 @@ pub use moving::{bytes, supply, unmapped, written};
 pub use place::HbaPlace;
 pub use registers::{read, write};
 pub use stepping::{fail, refuse, sign, step};
+pub use trimming::trim;

@@ -14,3 +14,4 @@ mod seabios;
 mod setting;
 mod shown;
 mod stories;
+mod trims;

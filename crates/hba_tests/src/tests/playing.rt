@@ -3,7 +3,7 @@
 use crate::tests::guest::{Guest, Stretch, end, settle, take};
 use crate::tests::registers::{PX_CLB, PX_CLBU, PX_FB, PX_FBU};
 use ahci_hba::{AccessSize, Hba};
-use ahci_port::EventKind;
+use ahci_port::{EventKind, TrimFault};
 use std::alloc::{Allocator, Global};
 use std::fmt::Debug;
 use std::process::Abort;
@@ -260,6 +260,20 @@ impl Player {
             acts(&mut self.hba, &mut self.guest, *row);
             sees(rt, &self.hba, &self.guest, (name, part, number), *row);
         }
+    }
+
+    /// Trims the journal: how many entries it had.
+    pub fn trim(&mut self) -> Result<u64, TrimFault> {
+        match self.hba.trim() {
+            Ok(journal) => Ok(journal.len()),
+            Err(fault) => Err(fault),
+        }
+    }
+
+    /// The numbers of the journal's first entry and of the next one.
+    pub fn numbers(&self) -> (u64, u64) {
+        let journal = self.hba.port().journal();
+        (journal.first(), journal.end())
     }
 }
 

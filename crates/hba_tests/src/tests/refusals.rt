@@ -39,11 +39,12 @@ enum Call {
     Fail(u8),
     Recover(u8),
     Control(u8),
+    Trim,
 }
 
 use Call::{
     Accept, Control, Deliver, Execute, Fetch, Guest as Driver, Recover, Send, Serve, Settle, Sign,
-    Supply, Write,
+    Supply, Trim, Write,
 };
 
 /// A call, and how many allocations it meets.
@@ -146,7 +147,10 @@ const READ_BY_DMA: &[Step] = &[
     (Driver(HasAll(DATA, 512, 0xAA)), 0),
 ];
 
-/// A queued read that fails, and its log: a list and a page.
+/// The journal's memory goes out with it.
+const TRIMMED: &[Step] = &[(Trim, 0)];
+
+/// A queued read that fails, and its log: a list each, a window, a page, and the journal twice.
 const FAILED: &[Step] = &[
     (Driver(Lays(1, ONE, OTHER, READ, SECTOR)), 0),
     (Write(PX_SACT, 2), 0),
@@ -155,7 +159,7 @@ const FAILED: &[Step] = &[
     (Supply, 0),
     (Supply, 1),
     (Supply, 0),
-    (Send(1), 1),
+    (Send(1), 2),
     (Accept(1), 0),
     (Settle, 0),
     (Call::Fail(1), 0),
@@ -172,7 +176,7 @@ const RECOVERED: &[Step] = &[
     (Supply, 0),
     (Supply, 1),
     (Supply, 0),
-    (Recover(0), 1),
+    (Recover(0), 2),
     (Settle, 0),
     (Driver(Has(DATA, &[1, 0, 0x41, 0x40, 3])), 0),
 ];
@@ -227,13 +231,14 @@ const SOFTWARE_RESET: &[Step] = &[
 
 const HBA_RESET: &[Step] = &[(Write(GHC, 0x8000_0001), 0)];
 
-static LIFE: [&[Step]; 17] = [
+static LIFE: [&[Step]; 18] = [
     STARTED,
     IDENTIFIED,
     WRITTEN,
     READ_AGAIN,
     FLUSHED,
     READ_BY_DMA,
+    TRIMMED,
     FAILED,
     RECOVERED,
     LOGGED,
@@ -275,6 +280,11 @@ fn makes(hba: &mut Hba<&Heap>, guest: &mut Guest, call: Call) -> Result<(), HbaF
         }
         Control(slot) => {
             let _journal = hba.control(slot % 32)?;
+        }
+        Trim => {
+            if hba.trim().is_err() {
+                return Err(HbaFault::NotReady);
+            }
         }
     }
     Ok(())
