@@ -13,21 +13,28 @@ enum place {
     PLACE_SHORT  /* 8 bits of Count; an LBA of 28 bits */
 };
 
-static enum place place_of(uint8_t code) {
+static enum place place_of(uint8_t code, bool *writes) {
+    *writes = false;
     switch (code) {
-    case AHCI_READ_FPDMA_QUEUED:
     case AHCI_WRITE_FPDMA_QUEUED:
+        *writes = true;
         return PLACE_QUEUE;
-    case 0x24: /* READ SECTOR(S) EXT */
-    case 0x25: /* READ DMA EXT */
+    case AHCI_READ_FPDMA_QUEUED:
+        return PLACE_QUEUE;
     case 0x34: /* WRITE SECTOR(S) EXT */
     case 0x35: /* WRITE DMA EXT */
+        *writes = true;
+        return PLACE_LONG;
+    case 0x24: /* READ SECTOR(S) EXT */
+    case 0x25: /* READ DMA EXT */
     case 0x42: /* READ VERIFY SECTOR(S) EXT */
         return PLACE_LONG;
-    case 0x20: /* READ SECTOR(S) */
-    case 0xC8: /* READ DMA */
     case 0x30: /* WRITE SECTOR(S) */
     case 0xCA: /* WRITE DMA */
+        *writes = true;
+        return PLACE_SHORT;
+    case 0x20: /* READ SECTOR(S) */
+    case 0xC8: /* READ DMA */
     case 0x40: /* READ VERIFY SECTOR(S) */
         return PLACE_SHORT;
     default:
@@ -47,7 +54,7 @@ struct command command_of(const uint8_t fis[COMMAND_FIS_BYTES]) {
         return command;
     command.flushes = it.command == AHCI_FLUSH_CACHE_EXT || it.command == 0xE7;
     command.lba = it.lba;
-    switch (place_of(it.command)) {
+    switch (place_of(it.command, &command.writes)) {
     case PLACE_QUEUE:
         command.queued = true;
         command.sectors = count_of(it.features, 65536);
@@ -63,8 +70,4 @@ struct command command_of(const uint8_t fis[COMMAND_FIS_BYTES]) {
         break;
     }
     return command;
-}
-
-bool command_touches(const struct command *command, uint64_t lba) {
-    return lba >= command->lba && lba - command->lba < command->sectors;
 }

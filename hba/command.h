@@ -1,4 +1,4 @@
-/* What a command FIS asks, as far as --fail, --stall and --image have to know it (ACS-3, the commands by their titles). */
+/* What a command FIS asks, as far as the options have to know it (ACS-3, the commands by their titles). */
 #ifndef AHCI_HBA_COMMAND_H
 #define AHCI_HBA_COMMAND_H
 
@@ -10,14 +10,12 @@
 struct command {
     bool flushes;     /* FLUSH CACHE, with EXT or without */
     bool queued;      /* READ or WRITE FPDMA QUEUED */
+    bool writes;      /* it writes the sectors that it names */
     uint64_t lba;     /* the sectors that it names; none for other commands */
     uint32_t sectors;
 };
 
 /* Reads the first 20 bytes of CFIS. Bytes that are no command ask nothing. */
 struct command command_of(const uint8_t fis[COMMAND_FIS_BYTES]);
-
-/* Whether a command names a sector. */
-bool command_touches(const struct command *command, uint64_t lba);
 
 #endif

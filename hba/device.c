@@ -1,213 +1,120 @@
 #include "device.h"
 
+#include "fate.h"
+#include "generator.h"
 #include "image.h"
 #include "log.h"
+#include "moving.h"
+#include "say.h"
 
 #include <inttypes.h>
-#include <stdio.h>
 #include <stdlib.h>
-#include <string.h>
 #include <time.h>
 
-#define FIS_RUN 1      /* of the runs of a command, counted from 0: its header comes before */
-#define RETRY 10000000 /* nanoseconds until a step that got no memory is tried again */
+#define SECOND UINT64_C(1000000000)
+#define RETRY UINT64_C(10000000) /* nanoseconds until a step that got no memory is tried again */
 
-static uint64_t now(void) {
+uint64_t device_now(void) {
     struct timespec it;
     clock_gettime(CLOCK_MONOTONIC, &it);
-    return (uint64_t)it.tv_sec * 1000000000u + (uint64_t)it.tv_nsec;
+    return (uint64_t)it.tv_sec * SECOND + (uint64_t)it.tv_nsec;
 }
 
-/* A status that no call answers here. */
-static void disagree(const char *call, uint32_t status) {
-    complain("%s was refused: status %" PRIu32 " of ahci.h", call, status);
+void device_must(const char *call, uint32_t status) {
+    if (status == AHCI_OK)
+        return;
+    say("%s was refused: status %" PRIu32 " of ahci.h", call, status);
     abort();
 }
 
-static void look(struct device *device) {
-    uint32_t status = ahci_hba_look(&device->hba, &device->state);
-    if (status != AHCI_OK)
-        disagree("ahci_hba_look", status);
+void device_look(struct device *device) {
+    device_must("ahci_hba_look", ahci_hba_look(&device->hba, &device->state));
 }
 
-/* The library got no memory: what was asked can be asked again later. */
-static void wait_for_memory(struct device *device) {
+void device_starve(struct device *device) {
     if (!device->starved)
-        complain("there is no memory; the device waits for it");
+        say("there is no memory; the device waits for it");
     device->starved = true;
     device->wait = WAIT_MEMORY;
-    device->due = now() + RETRY;
+    device->due = device_now() + RETRY;
 }
 
-/* Records what the queue has done; its journal was handed out if it had some entries. */
-static void follow(struct device *device, uint64_t entries, bool recovered) {
-    record_follow(&device->record, &device->hba);
-    if (!entries)
-        return;
-    log_line("the queue's journal of %" PRIu64 " entries was handed out", entries);
-    record_reset(&device->record, &device->hba, recovered);
-}
+/* ---- which step ---- */
 
-/* ---- the guest's memory ---- */
-
-/* Room for a run; NULL if there is no memory. */
-static uint8_t *room_for(struct device *device, uint64_t bytes) {
-    if (bytes > device->room) {
-        uint8_t *room = realloc(device->buffer, (size_t)bytes);
-        if (!room)
-            return NULL;
-        device->buffer = room;
-        device->room = (size_t)bytes;
-    }
-    return device->buffer;
-}
-
-static void report_unmapped(struct device *device) {
-    log_line("no memory at %" PRIx64 ", %" PRIu64 " bytes", device->state.address, device->state.length);
-    uint32_t status = ahci_hba_unmapped(&device->hba);
-    if (status != AHCI_OK)
-        disagree("ahci_hba_unmapped", status);
-    device->mute = true;
-}
-
-/* Keeps what the command asks, and logs its FIS. */
-static void note_command(struct device *device, const uint8_t *fis) {
-    char text[2 * COMMAND_FIS_BYTES + 1];
-    device->commands[device->reading] = command_of(fis);
-    if (!log_is_open())
-        return;
-    for (unsigned i = 0; i < COMMAND_FIS_BYTES; i++)
-        snprintf(text + 2 * i, 3, "%02x", fis[i]);
-    log_line("command %" PRIu32 " %s", device->reading, text);
-}
-
-/* Reads the run that the controller asks for. It answers false if there is no memory for now. */
-static bool move_in(struct device *device) {
-    size_t count = (size_t)device->state.length;
-    uint8_t *bytes = room_for(device, count);
-    if (!bytes)
-        return false;
-    if (!memory_read(device->memory, device->state.address, bytes, count)) {
-        report_unmapped(device);
-        return true;
-    }
-    uint32_t status = ahci_hba_supply(&device->hba, bytes, count);
-    if (status == AHCI_OUT_OF_MEMORY)
-        return false;
-    if (status != AHCI_OK)
-        disagree("ahci_hba_supply", status);
-    judge_run(&device->judge, &device->hba, device->reading, device->state.address, bytes, count);
-    if (device->runs++ == FIS_RUN && count == COMMAND_FIS_BYTES)
-        note_command(device, bytes);
-    return true;
-}
-
-/* Writes the run that the controller has. */
-static bool move_out(struct device *device) {
-    size_t count = (size_t)device->state.length;
-    uint8_t *bytes = room_for(device, count);
-    if (!bytes)
-        return false;
-    uint32_t status = ahci_hba_bytes(&device->hba, bytes, count);
-    if (status != AHCI_OK)
-        disagree("ahci_hba_bytes", status);
-    if (!memory_write(device->memory, device->state.address, bytes, count)) {
-        report_unmapped(device);
-        return true;
-    }
-    status = ahci_hba_written(&device->hba);
-    if (status != AHCI_OK)
-        disagree("ahci_hba_written", status);
-    return true;
-}
-
-/* Moves bytes until the controller reads and writes nothing. It answers false if there is no memory for now. */
-static bool move(struct device *device) {
-    bool moved = true;
-    while (moved && device->state.want != AHCI_WANT_NOTHING) {
-        moved = device->state.want == AHCI_WANT_READ ? move_in(device) : move_out(device);
-        look(device);
-    }
-    if (!moved)
-        wait_for_memory(device);
-    return moved;
-}
-
-/* ---- steps ---- */
-
-/* The failure that the command of a slot is to meet, or NULL. */
-static struct failure *failure_of(struct device *device, uint32_t slot) {
-    for (unsigned i = 0; i < device->settings->failure_count; i++) {
-        struct failure *failure = &device->settings->failures[i];
-        if (failure->left && command_touches(&device->commands[slot], failure->lba))
-            return failure;
-    }
-    return NULL;
-}
-
-/* The command of a slot is not answered any more. */
-static void stall(struct device *device, struct failure *failure, uint32_t slot) {
-    failure->left--;
-    device->stalled |= UINT32_C(1) << slot;
-    log_line("stall %" PRIu32 " at sector %" PRIu64, slot, failure->lba);
-}
-
-/* Aborts the command of a slot if it reads the log of a failed queued command, and --refuse-log says so. */
-static bool refuse_log_if_wanted(struct device *device, uint32_t slot) {
-    if (!device->settings->refuse_log || device->state.next[slot] != AHCI_STEP_RECOVER)
-        return false;
-    uint32_t status = ahci_hba_refuse(&device->hba, slot, AHCI_ERROR_ABRT, 0);
-    if (status != AHCI_OK)
-        disagree("ahci_hba_refuse", status);
-    log_line("the log is refused to %" PRIu32, slot);
-    return true;
-}
-
-/* Whether the device may fail or stall the command of a slot now: a queued one once it has taken it, any other before. */
-static bool is_moment(const struct device *device, uint32_t slot) {
-    uint8_t kind = device->state.next[slot];
-    return device->commands[slot].queued ? kind == AHCI_STEP_SERVE : kind == AHCI_STEP_SEND || kind == AHCI_STEP_EXECUTE;
-}
-
-/* Fails or stalls the command of a slot if --fail or --stall says so. */
-static bool fail_if_wanted(struct device *device, uint32_t slot) {
-    struct failure *failure = is_moment(device, slot) ? failure_of(device, slot) : NULL;
-    uint32_t status;
-    if (!failure)
-        return false;
-    if (failure->stalls) {
-        stall(device, failure, slot);
-        return true;
-    }
-    if (device->commands[slot].queued)
-        status = ahci_hba_fail(&device->hba, slot, failure->error, failure->lba);
-    else
-        status = ahci_hba_refuse(&device->hba, slot, failure->error, failure->lba);
-    if (status != AHCI_OK)
-        return false;
-    failure->left--;
-    log_line("fail %" PRIu32 " with %02x at sector %" PRIu64, slot, failure->error, failure->lba);
-    return true;
-}
-
-/* Writes the image back before a flush is answered; if that fails, so does the flush. */
-static bool fail_if_unsaved(struct device *device, uint32_t slot) {
-    if (device->state.next[slot] != AHCI_STEP_EXECUTE || !device->commands[slot].flushes || !device->settings->image || !device->unsaved)
-        return false;
-    log_flush();
-    device->unsaved = image_write(device->settings->image, &device->hba, device->settings->sectors) != 0;
-    if (!device->unsaved)
-        return false;
-    device->save_failed = true;
-    uint32_t status = ahci_hba_refuse(&device->hba, slot, AHCI_ERROR_ABRT, 0);
-    if (status != AHCI_OK)
-        disagree("ahci_hba_refuse", status);
-    return true;
-}
+/* The slots that can go on. */
+struct choice {
+    uint32_t early;   /* with a step that answers nothing yet: it is taken at once, so that the queue is as deep as the driver makes it */
+    uint32_t answers; /* with a step that answers the command */
+    uint64_t soonest; /* when the first slow command can go on, or UINT64_MAX */
+};
 
 /* Whether a step answers a command. */
 static bool is_answer(uint8_t kind) {
     return kind == AHCI_STEP_SERVE || kind == AHCI_STEP_EXECUTE;
+}
+
+static struct choice choice_of(const struct device *device) {
+    struct choice choice = {.soonest = UINT64_MAX};
+    uint64_t then = device->settings->slow.count ? device_now() : UINT64_MAX;
+    uint32_t sends = 0;
+    for (uint32_t slot = 0; slot < AHCI_MOST_TAGS; slot++) {
+        uint8_t kind = device->state.next[slot];
+        uint32_t bit = UINT32_C(1) << slot & ~(device->stuck | device->stalled);
+        uint64_t ready = kind == AHCI_STEP_FETCH ? 0 : device->tasks[slot].ready; /* before a fetch it is that of the slot's last command */
+        if (kind == AHCI_STEP_NONE || !bit)
+            continue;
+        if (ready > then)
+            choice.soonest = ready < choice.soonest ? ready : choice.soonest;
+        else if (kind == AHCI_STEP_SEND)
+            sends |= bit;
+        else if (is_answer(kind))
+            choice.answers |= bit;
+        else
+            choice.early |= bit;
+    }
+    bool goes_on = choice.early || choice.answers || choice.soonest != UINT64_MAX || device->stalled;
+    if (!goes_on || !history_drains(device, sends))
+        choice.early |= sends;
+    return choice;
+}
+
+/* Whether the device has waited for as long as --delay says. */
+static bool has_waited(struct device *device) {
+    const struct delay *delay = &device->settings->delay;
+    if (!delay->least && !delay->jitter)
+        return true;
+    if (device->wait != WAIT_DELAY) {
+        device->wait = WAIT_DELAY;
+        device->due = device_now() + 1000 * delay_drawn(delay, &device->random);
+    }
+    return device_now() >= device->due;
+}
+
+/* Chooses the slot that goes on. */
+static bool choose(struct device *device, uint32_t *slot) {
+    struct choice choice = choice_of(device);
+    if (!choice.early && (!choice.answers || !has_waited(device)))
+        return false;
+    device_must("ahci_choose_tag", ahci_choose_tag(device->settings->pick, choice.early ? choice.early : choice.answers, next_random(&device->random), slot));
+    if (!choice.early)
+        device->wait = WAIT_NOTHING;
+    return true;
+}
+
+/* ---- steps ---- */
+
+/* What the library's step of a slot means here. */
+static void note_step(struct device *device, uint32_t slot, uint8_t kind) {
+    struct task *task = &device->tasks[slot];
+    history_count(device, slot, kind);
+    if (kind == AHCI_STEP_FETCH) {
+        device->reading = slot;
+        device->runs = 0;
+        *task = (struct task){.number = 0};
+        judge_fetch(&device->judge, slot);
+    }
+    if (kind == AHCI_STEP_SERVE && task->command.writes)
+        device->settings->image.is_changed = true;
 }
 
 static void take_step(struct device *device, uint32_t slot) {
@@ -215,9 +122,11 @@ static void take_step(struct device *device, uint32_t slot) {
     uint64_t entries = 0;
     if (is_answer(kind))
         judge_answer(&device->judge, device->memory, slot);
+    if (kind == AHCI_STEP_DELIVER)
+        history_sync(&device->history); /* an answer may take effect without a write to the guest's memory */
     uint32_t status = ahci_hba_step(&device->hba, slot, &entries);
     if (status == AHCI_OUT_OF_MEMORY) {
-        wait_for_memory(device);
+        device_starve(device);
         return;
     }
     if (status != AHCI_OK) {
@@ -225,64 +134,14 @@ static void take_step(struct device *device, uint32_t slot) {
         device->stuck |= UINT32_C(1) << slot;
         return;
     }
-    if (kind == AHCI_STEP_FETCH) {
-        device->reading = slot;
-        device->runs = 0;
-        device->commands[slot] = (struct command){.flushes = false};
-        judge_fetch(&device->judge, slot);
-    }
-    device->unsaved |= kind == AHCI_STEP_SERVE;
-    follow(device, entries, kind == AHCI_STEP_RECOVER);
-}
-
-/* The next number of a generator of its own, so that a seed gives the same choices everywhere (xorshift64*). */
-static uint64_t next_random(struct device *device) {
-    uint64_t x = device->random;
-    x ^= x >> 12;
-    x ^= x << 25;
-    x ^= x >> 27;
-    device->random = x;
-    return x * UINT64_C(2685821657736338717);
-}
-
-/* The slots with a step that answers a command, or those with any other step. */
-static uint32_t slots_with(const struct device *device, bool answers) {
-    uint32_t set = 0;
-    for (uint32_t slot = 0; slot < AHCI_MOST_TAGS; slot++)
-        if (device->state.next[slot] != AHCI_STEP_NONE && is_answer(device->state.next[slot]) == answers)
-            set |= UINT32_C(1) << slot;
-    return set & ~(device->stuck | device->stalled);
-}
-
-/* Whether the device has waited for as long as --delay says. */
-static bool has_waited(struct device *device) {
-    if (!device->settings->delay)
-        return true;
-    if (device->wait != WAIT_DELAY) {
-        device->wait = WAIT_DELAY;
-        device->due = now() + device->settings->delay * UINT64_C(1000);
-    }
-    return now() >= device->due;
-}
-
-/* Chooses a slot: a command is taken as soon as it is there, so that the queue is as deep as the driver makes it, and then the device
-   answers the one that --pick names. */
-static bool choose(struct device *device, uint32_t *slot) {
-    uint32_t early = slots_with(device, false), answers = slots_with(device, true);
-    if (!early && (!answers || !has_waited(device)))
-        return false;
-    uint32_t status = ahci_choose_tag(device->settings->pick, early ? early : answers, next_random(device), slot);
-    if (status != AHCI_OK)
-        disagree("ahci_choose_tag", status);
-    if (!early)
-        device->wait = WAIT_NOTHING;
-    return true;
+    note_step(device, slot, kind);
+    history_follow(device, entries, kind == AHCI_STEP_RECOVER);
 }
 
 /* Takes the next step with a slot's command, or fails it. */
 static void go_on(struct device *device, uint32_t slot) {
-    if (fail_if_wanted(device, slot) || fail_if_unsaved(device, slot) || refuse_log_if_wanted(device, slot))
-        follow(device, 0, false);
+    if (fate_fails(device, slot))
+        history_follow(device, 0, false);
     else
         take_step(device, slot);
 }
@@ -292,9 +151,7 @@ static bool can_sign(const struct device *device) {
 }
 
 static void sign(struct device *device) {
-    uint32_t status = ahci_hba_sign(&device->hba);
-    if (status != AHCI_OK)
-        disagree("ahci_hba_sign", status);
+    device_must("ahci_hba_sign", ahci_hba_sign(&device->hba));
     log_line("signature");
 }
 
@@ -306,26 +163,33 @@ void device_turn(struct device *device) {
         device->wait = WAIT_NOTHING;
     if (!move(device))
         return;
+    fate_decide(device);
+    history_settle(device);
     if (can_sign(device))
         sign(device);
     else if (choose(device, &slot))
         go_on(device, slot);
-    look(device);
+    device_look(device);
     move(device);
 }
 
-/* Whether some step can be taken before an answer. */
-static bool is_urgent(const struct device *device) {
-    return device->state.want != AHCI_WANT_NOTHING || can_sign(device) || slots_with(device, false);
+/* When the next step is due, in nanoseconds of CLOCK_MONOTONIC; UINT64_MAX if there is none. */
+static uint64_t next_due(const struct device *device) {
+    struct choice choice = choice_of(device);
+    bool is_urgent = device->state.want != AHCI_WANT_NOTHING || can_sign(device) || choice.early;
+    if (is_urgent)
+        return device->wait == WAIT_MEMORY ? device->due : 0;
+    if (choice.answers)
+        return device->wait == WAIT_NOTHING ? 0 : device->due;
+    return choice.soonest;
 }
 
 int64_t device_waits(const struct device *device) {
-    if (!is_urgent(device) && !slots_with(device, true))
+    uint64_t due = next_due(device);
+    if (due == UINT64_MAX)
         return -1;
-    if (device->wait == WAIT_NOTHING || (device->wait == WAIT_DELAY && is_urgent(device)))
-        return 0;
-    uint64_t then = now();
-    return then >= device->due ? 0 : (int64_t)(device->due - then);
+    uint64_t then = due ? device_now() : 0;
+    return then >= due ? 0 : (int64_t)(due - then);
 }
 
 /* ---- registers ---- */
@@ -347,8 +211,8 @@ void device_write(struct device *device, uint32_t offset, uint32_t bytes, uint64
     device->stuck = 0;
     device->stalled &= (uint32_t)(device_read(device, AHCI_REG_PXCI, 4) | device_read(device, AHCI_REG_PXSACT, 4));
     device->mute = false;
-    follow(device, entries, false);
-    look(device);
+    history_follow(device, entries, false);
+    device_look(device);
 }
 
 void device_reset(struct device *device) {
@@ -360,38 +224,40 @@ void device_reset(struct device *device) {
 
 /* ---- the beginning and the end ---- */
 
+static void copy_sector(void *hba, uint32_t lba, uint8_t *sector) {
+    device_must("ahci_hba_copy", ahci_hba_copy(hba, lba, sector, AHCI_SECTOR_BYTES));
+}
+
 static int make(struct device *device) {
     const struct settings *settings = device->settings;
-    uint8_t *bytes = image_read(settings->image, settings->sectors);
+    uint8_t *bytes = image_read(&settings->image, settings->sectors);
     if (!bytes)
         return -1;
     uint32_t status = ahci_hba_new(&device->hba, bytes, (size_t)settings->sectors * AHCI_SECTOR_BYTES, settings->depth);
     free(bytes);
     if (status == AHCI_OK)
         return 0;
-    complain("the controller can't be made: status %" PRIu32 " of ahci.h", status);
+    say("the controller can't be made: status %" PRIu32 " of ahci.h", status);
     return -1;
 }
 
 int device_begin(struct device *device, struct settings *settings, struct memory *memory) {
-    *device = (struct device){.settings = settings, .memory = memory, .hba = AHCI_HBA_EMPTY, .random = settings->seed * 2 + 1};
+    *device = (struct device){.settings = settings, .memory = memory, .hba = AHCI_HBA_EMPTY, .random = generator_of(settings->seed), .started = device_now()};
+    device->disk = (struct disk){.it = &device->hba, .sectors = settings->sectors, .copy = copy_sector};
     if (make(device))
         return -1;
-    if (record_begin(&device->record, settings->record, &device->hba, settings->sectors)) {
+    if (history_begin(device)) {
         ahci_hba_free(&device->hba);
         return -1;
     }
     judge_begin(&device->judge, settings->judge, settings->json);
-    look(device);
+    device_look(device);
     return 0;
 }
 
 int device_end(struct device *device, int *broken) {
-    const struct settings *settings = device->settings;
-    int failed = device->save_failed ? -1 : 0;
-    if (settings->image && device->unsaved && image_write(settings->image, &device->hba, settings->sectors))
-        failed = -1;
-    if (record_end(&device->record))
+    int failed = image_write(&device->settings->image, &device->disk) ? -1 : 0;
+    if (history_end(&device->history))
         failed = -1;
     *broken = judge_end(&device->judge);
     if (*broken < 0)

@@ -1,12 +1,13 @@
 /* The controller with its disk, and the device's turn: it moves the bytes that the controller reads and writes, and chooses which command
-   goes on. All registers, commands, FISes and interrupts are the library's. */
+   goes on. All registers, FISes and interrupts are the library's, and so is what a command does. */
 #ifndef AHCI_HBA_DEVICE_H
 #define AHCI_HBA_DEVICE_H
 
 #include "command.h"
+#include "disk.h"
+#include "history.h"
 #include "judge.h"
 #include "memory.h"
-#include "record.h"
 #include "settings.h"
 
 #include <ahci.h>
@@ -14,33 +15,43 @@
 /* Why the device takes no step although there is one. */
 enum wait { WAIT_NOTHING, WAIT_DELAY, WAIT_MEMORY };
 
+/* The command of a slot, as it was read there last. */
+struct task {
+    struct command command;
+    uint64_t number;            /* of those that name sectors, the first being 1 */
+    bool is_decided;            /* the rules were applied */
+    const struct rule *failure; /* the rule by which the device fails it, or NULL */
+    uint64_t ready;             /* a slow one goes on then, in nanoseconds of CLOCK_MONOTONIC; 0: at once */
+};
+
 struct device {
     struct settings *settings;
     struct memory *memory; /* the guest's */
     ahci_hba hba;
     ahci_hba_state state;  /* what the controller does next */
-    struct record record;
+    struct disk disk;      /* its sectors, for the image and the record */
+    struct history history;
     struct judge judge;
-    struct command commands[AHCI_MOST_TAGS]; /* by slot: what was read there last */
+    struct task tasks[AHCI_MOST_TAGS]; /* by slot */
+    uint64_t commands; /* how many that name sectors were read */
     uint32_t reading; /* the slot whose command is read */
     uint32_t runs;    /* how many runs of it were read */
     uint32_t stuck;   /* slots whose step was refused, until the driver writes a register */
     uint32_t stalled; /* slots whose command is never answered, until the driver drops it */
     bool mute;        /* no signature is sent until then either, since there was no memory for the last FIS */
-    uint64_t random;  /* the state of --pick random */
+    uint64_t random;  /* the state of --pick random, and of --delay's jitter */
+    uint64_t started; /* nanoseconds of CLOCK_MONOTONIC */
     enum wait wait;
-    uint64_t due;     /* until when, in nanoseconds of the monotonic clock */
+    uint64_t due;     /* until when, in nanoseconds of CLOCK_MONOTONIC */
     bool starved;     /* memory was refused once, and this was said */
-    bool unsaved;     /* some sector may have changed since the image was written */
-    bool save_failed; /* the image could not be written at some flush */
     uint8_t *buffer;  /* for a run of the guest's memory */
     size_t room;
 };
 
-/* Makes the controller over the image's sectors. It answers 0, or -1 once the reason was written to standard error. */
+/* Makes the controller over the image's sectors. It returns 0, or -1 once it has printed why. */
 int device_begin(struct device *device, struct settings *settings, struct memory *memory);
 
-/* Writes the image back, and the judge's table, and frees all. It answers 0, or -1 if something could not be written. *broken is how many rules
+/* Writes the image back, and the judge's table, and frees all. It returns 0, or -1 if something could not be written. *broken is how many rules
    the driver broke, if it was judged. */
 int device_end(struct device *device, int *broken);
 
@@ -56,5 +67,19 @@ void device_turn(struct device *device);
 
 /* How many nanoseconds until the next step: 0 if it is due, -1 if there is none. */
 int64_t device_waits(const struct device *device);
+
+/* ---- for the parts of the device ---- */
+
+/* Nanoseconds of CLOCK_MONOTONIC. */
+uint64_t device_now(void);
+
+/* Ends the program after a status that can't come: it and the library disagree. */
+void device_must(const char *call, uint32_t status);
+
+/* Looks at what the controller does next. */
+void device_look(struct device *device);
+
+/* The library got no memory: what was asked can be asked again later. */
+void device_starve(struct device *device);
 
 #endif

@@ -1,6 +1,6 @@
 #include "judge.h"
 
-#include "log.h"
+#include "say.h"
 
 #include <inttypes.h>
 #include <stdarg.h>
@@ -29,8 +29,8 @@ __attribute__((format(printf, 3, 4))) static void find(struct judge *judge, unsi
     if (judge->counts[rule]++ == 0)
         snprintf(judge->firsts[rule], sizeof judge->firsts[rule], "%s", where);
     if (judge->counts[rule] <= MOST_SHOWN)
-        complain("judge: %s (AHCI 1.3.1, section %s; %s): %s: %s", rules[rule].name, rules[rule].section, verdict_text(rules[rule].verdict),
-                 rules[rule].text, where);
+        say("judge: %s (AHCI 1.3.1, section %s; %s): %s: %s", driver_rules[rule].name, driver_rules[rule].section, verdict_text(driver_rules[rule].verdict),
+                 driver_rules[rule].text, where);
 }
 
 /* ---- registers ---- */
@@ -228,7 +228,7 @@ static void write_table(const struct judge *judge) {
     fprintf(stderr, "%-30s %-8s %-28s %10s  %s\n", "rule", "section", "verdict", "times", "first");
     for (unsigned rule = 0; rule < JUDGE_RULES; rule++)
         if (judge->counts[rule])
-            fprintf(stderr, "%-30s %-8s %-28s %10" PRIu64 "  %s\n", rules[rule].name, rules[rule].section, verdict_text(rules[rule].verdict),
+            fprintf(stderr, "%-30s %-8s %-28s %10" PRIu64 "  %s\n", driver_rules[rule].name, driver_rules[rule].section, verdict_text(driver_rules[rule].verdict),
                     judge->counts[rule], judge->firsts[rule]);
     fprintf(stderr, "%" PRIu64 " writes and %" PRIu64 " commands were judged by %d rules\n", judge->writes, judge->commands, JUDGE_RULES);
 }
@@ -243,7 +243,7 @@ static int write_json(const struct judge *judge) {
     for (unsigned rule = 0; rule < JUDGE_RULES; rule++)
         if (judge->counts[rule]) {
             fprintf(file, "%s\n  {\"rule\": \"%s\", \"section\": \"%s\", \"verdict\": \"%s\", \"times\": %" PRIu64 ", \"text\": \"%s\", \"first\": \"%s\"}", comma,
-                    rules[rule].name, rules[rule].section, verdict_text(rules[rule].verdict), judge->counts[rule], rules[rule].text, judge->firsts[rule]);
+                    driver_rules[rule].name, driver_rules[rule].section, verdict_text(driver_rules[rule].verdict), judge->counts[rule], driver_rules[rule].text, judge->firsts[rule]);
             comma = ",";
         }
     fprintf(file, "\n]}\n");
@@ -258,10 +258,10 @@ int judge_end(struct judge *judge) {
     if (!judge->on)
         return 0;
     for (unsigned rule = 0; rule < JUDGE_RULES; rule++)
-        broken += judge->counts[rule] && rules[rule].verdict == VERDICT_BROKEN;
+        broken += judge->counts[rule] && driver_rules[rule].verdict == VERDICT_BROKEN;
     write_table(judge);
     if (judge->json && write_json(judge)) {
-        complain("--json %s: it could not be written", judge->json);
+        say_of("json", judge->json, "it could not be written");
         return -1;
     }
     return broken;

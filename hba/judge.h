@@ -4,7 +4,7 @@
 #define AHCI_HBA_JUDGE_H
 
 #include "memory.h"
-#include "rules.h"
+#include "driver_rules.h"
 
 #include <stdbool.h>
 #include <stddef.h>
@@ -51,7 +51,7 @@ void judge_run(struct judge *judge, ahci_hba *hba, uint32_t slot, uint64_t addre
 /* The command of a slot ends: what was read of it is compared with the guest's memory. */
 void judge_answer(struct judge *judge, const struct memory *memory, uint32_t slot);
 
-/* Writes the table. It answers how many rules were broken that the standard has, or -1 if the table could not be written. */
+/* Writes the table. It returns how many rules were broken that the standard has, or -1 if the table could not be written. */
 int judge_end(struct judge *judge);
 
 #endif

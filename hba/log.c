@@ -1,5 +1,7 @@
 #include "log.h"
 
+#include "say.h"
+
 #include <stdarg.h>
 #include <stdio.h>
 #include <string.h>
@@ -21,7 +23,7 @@ int log_begin(const char *path) {
         return 0;
     file = fopen(path, "we");
     if (!file) {
-        complain("--log %s: %m", path);
+        say_of("log", path, "%m");
         return -1;
     }
     setvbuf(file, NULL, _IOFBF, BUFFER);
@@ -69,15 +71,9 @@ void log_line(const char *format, ...) {
     put(line);
 }
 
-void complain(const char *format, ...) {
-    char line[MOST_LINE];
-    va_list rest;
-    va_start(rest, format);
-    vsnprintf(line, sizeof line, format, rest);
-    va_end(rest);
+void log_complaint(const char *line) {
     fprintf(stderr, "ahci-hba: %s\n", line);
-    if (file)
-        put(line);
+    log_line("%s", line);
 }
 
 void log_flush(void) {

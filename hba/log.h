@@ -4,7 +4,7 @@
 
 #include <stdbool.h>
 
-/* Opens the log; without a path nothing is logged. It answers 0, or -1 once the reason was written to standard error. */
+/* Opens the log; without a path nothing is logged. It returns 0, or -1 once it has printed why. */
 int log_begin(const char *path);
 
 /* Whether there is a log, so that no line is put together for nothing. */
@@ -14,12 +14,12 @@ bool log_is_open(void);
 __attribute__((format(printf, 1, 2))) void log_line(const char *format, ...);
 
 /* Writes a line to standard error, after the program's name, and to the log. */
-__attribute__((format(printf, 1, 2))) void complain(const char *format, ...);
+void log_complaint(const char *line);
 
 /* Hands the lines so far to the system. */
 void log_flush(void);
 
-/* Closes the log. It answers 0, or -1 if some line could not be written. */
+/* Closes the log. It returns 0, or -1 if some line could not be written. */
 int log_end(void);
 
 #endif

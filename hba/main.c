@@ -5,6 +5,7 @@
 #include "pci.h"
 #include "proxy.h"
 #include "run.h"
+#include "say.h"
 #include "settings.h"
 #include "transport.h"
 #include "vhost.h"
@@ -40,6 +41,7 @@ static void begin_signals(sigset_t *waiting) {
         sigaddset(&held, numbers[i]);
     }
     signal(SIGPIPE, SIG_IGN);
+    signal(SIGXFSZ, SIG_IGN); /* a write past a limit of the system fails instead */
     sigprocmask(SIG_BLOCK, &held, waiting);
 }
 
@@ -62,7 +64,7 @@ static void serve(struct pci *pci, struct transport transport, const sigset_t *w
         unsigned count = transport.watch(transport.it, files);
         int ready = wait_for(pci, files, count, waiting);
         if (ready < 0 && errno != EINTR) {
-            complain("the guest can't be waited for: %m");
+            say("the guest can't be waited for: %m");
             return;
         }
         if (ready > 0 && !transport.serve(transport.it, files))
@@ -82,22 +84,22 @@ static bool wait_for_child(pid_t child, int *status) {
     return false;
 }
 
-/* Ends the guest's program if it has not ended. It answers 0 if it ended with status 0 or since this program was told to stop. */
+/* Ends the guest's program if it has not ended. It returns 0 if it ended with status 0 or since this program was told to stop. */
 static int end_child(pid_t child) {
     int status = 0;
     if (stopped)
         kill(child, SIGTERM);
     if (!wait_for_child(child, &status)) {
-        complain("the guest's program doesn't end, and is killed");
+        say("the guest's program doesn't end, and is killed");
         kill(child, SIGKILL);
         waitpid(child, &status, 0);
     }
     if (stopped || (WIFEXITED(status) && WEXITSTATUS(status) == 0))
         return 0;
     if (WIFSIGNALED(status))
-        complain("the guest's program was ended by signal %d", WTERMSIG(status));
+        say("the guest's program was ended by signal %d", WTERMSIG(status));
     else
-        complain("the guest's program ended with status %d", WEXITSTATUS(status));
+        say("the guest's program ended with status %d", WEXITSTATUS(status));
     return -1;
 }
 
@@ -134,7 +136,7 @@ static int run_with_uml(const struct settings *settings, struct device *device, 
 static int run(struct settings *settings) {
     struct memory memory = {.count = 0};
     int broken = 0;
-    struct device device;
+    static struct device device;
     sigset_t waiting;
     if (device_begin(&device, settings, &memory))
         return 1;
@@ -147,16 +149,20 @@ static int run(struct settings *settings) {
     return broken ? 3 : 0;
 }
 
+static const struct voice voice = {.put = log_complaint, .before = "--", .between = " "};
+
 int main(int count, char **words) {
-    struct settings settings;
+    static struct settings settings; /* too large for the stack of a small thread */
+    say_begin(&voice);
     enum asked asked = settings_read(&settings, count, words);
     if (asked != ASKED_RUN)
         return asked == ASKED_NOTHING ? (fflush(stdout) ? 1 : 0) : 2;
     if (log_begin(settings.log))
         return 1;
     int status = run(&settings);
+    settings_end(&settings);
     if (log_end()) {
-        complain("--log %s: it could not be written", settings.log);
+        say_of("log", settings.log, "it could not be written");
         status = 1;
     }
     return status;

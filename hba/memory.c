@@ -1,6 +1,7 @@
 #include "memory.h"
 
 #include "log.h"
+#include "say.h"
 
 #include <inttypes.h>
 #include <string.h>
@@ -17,13 +18,13 @@ int memory_add(struct memory *memory, uint64_t base, uint64_t bytes, int file, u
     uint64_t page = (uint64_t)sysconf(_SC_PAGESIZE);
     uint64_t before = offset % page;
     if (memory->count == MOST_REGIONS || bytes == 0 || bytes > SIZE_MAX - before || base + (bytes - 1) < base) {
-        complain("the guest's memory at %" PRIx64 " of %" PRIu64 " bytes can't be used", base, bytes);
+        say("the guest's memory at %" PRIx64 " of %" PRIu64 " bytes can't be used", base, bytes);
         return -1;
     }
     struct region region = {.base = base, .bytes = bytes, .mapped = (size_t)(bytes + before)};
     region.map = mmap(NULL, region.mapped, PROT_READ | PROT_WRITE, MAP_SHARED, file, (off_t)(offset - before));
     if (region.map == MAP_FAILED) {
-        complain("the guest's memory at %" PRIx64 " can't be mapped: %m", base);
+        say("the guest's memory at %" PRIx64 " can't be mapped: %m", base);
         return -1;
     }
     region.at = (uint8_t *)region.map + before;

@@ -24,7 +24,7 @@ struct memory {
 /* Unmaps all regions. */
 void memory_clear(struct memory *memory);
 
-/* Maps `bytes` bytes of a file, from `offset` on, at an address of the guest. The file stays open. It answers 0, or -1 once the reason was
+/* Maps `bytes` bytes of a file, from `offset` on, at an address of the guest. The file stays open. It returns 0, or -1 once the reason was
    written to standard error. */
 int memory_add(struct memory *memory, uint64_t base, uint64_t bytes, int file, uint64_t offset);
 

@@ -1,6 +1,7 @@
 #include "proxy.h"
 
 #include "log.h"
+#include "say.h"
 #include "socket.h"
 
 #include <errno.h>
@@ -109,7 +110,7 @@ static void send_message(void *it, uint64_t address, uint32_t data) {
     char line[64];
     int count = snprintf(line, sizeof line, "writel 0x%" PRIx64 " 0x%" PRIx32 "\n", address, data);
     if (proxy->qtest < 0 || send(proxy->qtest, line, (size_t)count, MSG_DONTWAIT | MSG_NOSIGNAL) != count)
-        complain("an interrupt was lost, since QEMU's qtest socket doesn't take it");
+        say("an interrupt was lost, since QEMU's qtest socket doesn't take it");
 }
 
 /* Throws away what the qtest server answers. */
@@ -164,12 +165,12 @@ static bool take_message(struct proxy *proxy, const struct header *header, const
         pci_reset(proxy->pci);
         return answer(proxy, 0);
     default:
-        complain("QEMU sent a message of kind %d, which is not known here", header->kind);
+        say("QEMU sent a message of kind %d, which is not known here", header->kind);
         return false;
     }
 }
 
-/* Receives one message. It answers false once QEMU is gone. */
+/* Receives one message. It returns false once QEMU is gone. */
 static bool receive(struct proxy *proxy) {
     struct header header;
     union data data;
@@ -177,7 +178,7 @@ static bool receive(struct proxy *proxy) {
     memset(&data, 0, sizeof data);
     bool taken = socket_receive(proxy->socket, &header, sizeof header, &files);
     if (taken && header.bytes > sizeof data) {
-        complain("QEMU sent a message of %" PRIu64 " bytes, of which %zu are known here", header.bytes, sizeof data);
+        say("QEMU sent a message of %" PRIu64 " bytes, of which %zu are known here", header.bytes, sizeof data);
         taken = false;
     }
     taken = taken && socket_receive(proxy->socket, &data, (size_t)header.bytes, &files) && take_message(proxy, &header, &data, &files);

@@ -26,7 +26,7 @@ struct chain {
     uint32_t answer_bytes;
 };
 
-/* Takes the next buffer. It answers false if there is none, or if the ring is broken, which is said in the log. */
+/* Takes the next buffer. It returns false if there is none, or if the ring is broken, which is said in the log. */
 bool ring_take(struct ring *ring, const struct memory *memory, struct chain *chain);
 
 /* Gives a buffer back, with so many bytes written. */

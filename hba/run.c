@@ -1,8 +1,9 @@
 #include "run.h"
 
 #include "log.h"
+#include "numbers.h"
+#include "say.h"
 
-#include <ctype.h>
 #include <errno.h>
 #include <fcntl.h>
 #include <inttypes.h>
@@ -30,7 +31,7 @@ static int begin_line(struct line *line, char *const *command) {
         line->count++;
     line->words = calloc(line->count + MOST_ADDED + 1, sizeof *line->words);
     if (!line->words) {
-        complain("there is no memory for a command line");
+        say("there is no memory for a command line");
         return -1;
     }
     memcpy(line->words, command, line->count * sizeof *line->words);
@@ -55,23 +56,20 @@ static bool has_option(char *const *command, const char *option) {
 
 /* The size of -m in bytes (QEMU's default is 128 MiB, and its unit MiB); 0 once it was said that it can't be read. */
 static uint64_t memory_size(char *const *command) {
-    static const char units[] = "KMGT";
     const char *text = "128";
+    uint64_t size = 0;
     for (; *command; command++)
         if (!strcmp(*command, "-m") && command[1])
             text = command[1];
     if (!strncmp(text, "size=", 5))
         text += 5;
-    char *end;
-    errno = 0;
-    uint64_t size = strtoull(text, &end, 10);
-    const char *unit = *end ? strchr(units, toupper((unsigned char)*end)) : &units[1];
-    unsigned shift = unit ? 10 * (unsigned)(unit - units + 1) : 0;
-    if (errno || !isdigit((unsigned char)*text) || size > UINT64_MAX >> shift || (*end && *end != ',' && (!unit || (end[1] && end[1] != ',')))) {
-        complain("-m %s: the size of the guest's memory can't be read", text);
+    const char *digits = take_digits(text, &size), *end = take_bytes(text, &size);
+    bool has_unit = end != digits;
+    if (!end || (*end && *end != ',') || (!has_unit && size > UINT64_MAX >> 20)) {
+        say("-m %s: the size of the guest's memory can't be read", text);
         return 0;
     }
-    return size << (unit ? shift : 20);
+    return has_unit ? size : size << 20;
 }
 
 /* A memory backend, if the command names none for its machine. `backend` has room for it. */
@@ -120,6 +118,8 @@ static void hand_over(int proxy, int qtest) {
 /* What the child does before its program begins: it ends with its parent, and takes signals again. */
 static void begin_child(void) {
     sigset_t none;
+    signal(SIGPIPE, SIG_DFL);
+    signal(SIGXFSZ, SIG_DFL);
     sigemptyset(&none);
     sigprocmask(SIG_SETMASK, &none, NULL);
     prctl(PR_SET_PDEATHSIG, SIGKILL);
@@ -134,7 +134,7 @@ static void become(char **words) {
 static pid_t start_qemu(struct line *line, int proxy, int qtest) {
     pid_t child = fork();
     if (child < 0)
-        complain("no process can be made: %m");
+        say("no process can be made: %m");
     if (child == 0) {
         begin_child();
         hand_over(proxy, qtest);
@@ -150,7 +150,7 @@ static int make_sockets(int proxy[2], int qtest[2]) {
         close(proxy[0]);
         close(proxy[1]);
     }
-    complain("no socket can be made: %m");
+    say("no socket can be made: %m");
     return -1;
 }
 
@@ -194,7 +194,7 @@ pid_t run_uml(char *const *command, const char *socket_path) {
     log_command(line.words);
     pid_t child = fork();
     if (child < 0)
-        complain("no process can be made: %m");
+        say("no process can be made: %m");
     if (child == 0) {
         begin_child();
         become(line.words);

@@ -9,7 +9,7 @@
 #define RUN_QTEST_FILE 41
 
 /* Starts QEMU with the command and what is missing of: a memory backend that can be shared, the device, a qtest socket for messages of
-   interrupts, and one thread for TCG. *proxy and *qtest are this side's ends. It answers the process, or -1 once the reason was written to
+   interrupts, and one thread for TCG. *proxy and *qtest are this side's ends. It returns the process, or -1 once the reason was written to
    standard error. */
 pid_t run_qemu(char *const *command, int *proxy, int *qtest);
 

@@ -1,15 +1,12 @@
 #include "settings.h"
 
-#include "log.h"
+#include "options.h"
+#include "record.h"
+#include "say.h"
 
-#include <ahci.h>
-#include <ctype.h>
-#include <errno.h>
 #include <inttypes.h>
 #include <stdio.h>
-#include <stdlib.h>
 #include <string.h>
-#include <sys/stat.h>
 
 static const char help[] =
     "An AHCI controller with one disk, for a guest of QEMU or for User Mode Linux\n"
@@ -24,17 +21,30 @@ static const char help[] =
     "\n"
     "Options:\n"
     "      --sectors N              The disk's sectors of 512 bytes, 1 to 131072 (default: those of the image, or 131072)\n"
-    "      --image FILE             The sectors at the start. They are written back at the end and at each flush of the guest\n"
-    "      --depth N                The queue depth that the disk tells, 1 to 32 (default 32)\n"
+    "      --image FILE             The sectors at the start. They are written back to FILE\n"
+    "      --sync WHEN              When the image is written back: at each flush of the guest, before that is answered, and at the\n"
+    "                               end (flush), or only then (end) (default flush)\n"
+    "      --depth N                The queue depth that IDENTIFY DEVICE reports, 1 to 32 (default 32)\n"
     "      --pick WHICH             The command that the device goes on with: low, high or random slot (default low)\n"
     "      --seed N                 The seed of --pick random (default 1)\n"
-    "      --fail LBA:EE[:COUNT]    The device fails so many commands (default 1) that touch the sector, with the error byte EE,\n"
-    "                               two hexadecimal digits\n"
-    "      --stall LBA[:COUNT]      The device never answers so many commands (default 1) that touch the sector; the driver has to\n"
-    "                               drop them. --fail and --stall may be given up to 64 times together\n"
+    "      --fail WHERE:EE[:COUNT][,CONDITION]..\n"
+    "                               The device fails commands with the error byte EE, two hexadecimal digits. WHERE is LBA, LBA-LBA\n"
+    "                               or any, the sectors that they touch; COUNT is how many, or ever (default 1; ever with one of\n"
+    "                               the last three conditions); CONDITION is reads, writes, seed=S, commands=A-B, seconds=A-B or\n"
+    "                               rate=N/M\n"
+    "      --slow WHERE:MICROSECONDS[+JITTER][:COUNT][,CONDITION]..\n"
+    "                               Commands that take so long (default COUNT: ever)\n"
+    "      --stall WHERE[:COUNT][,CONDITION]..\n"
+    "                               The device never answers these commands; the driver has to drop them. --fail, --slow and\n"
+    "                               --stall may be given up to 64 times each\n"
     "      --refuse-log             The device aborts each command that reads the log of a failed queued command\n"
-    "      --delay MICROSECONDS     The device waits so long before it answers a command (default 0)\n"
-    "      --record FILE            A script of `ahci replay` of what the disk's queue does, line by line as it happens\n"
+    "      --delay MICROSECONDS[+JITTER]\n"
+    "                               The device waits so long before it answers a command, and up to JITTER more (default 0)\n"
+    "      --record FOLDER          A record of all that the disk's queue does; ahci-stretch turns any part of it into a script of\n"
+    "                               `ahci replay`\n"
+    "      --record-limit BYTES     The oldest half of the record is dropped so that it has no more bytes\n"
+    "      --most-journal BYTES     The size of the queue's journal at which it is trimmed (default: 4 times the disk's size, and\n"
+    "                               at least 4M). BYTES may have a unit: 512K, 64M, 1G\n"
     "      --log FILE               A line for each access of the guest\n"
     "      --judge                  Writes which rules of AHCI 1.3.1 the guest's driver breaks to standard error, as it breaks them,\n"
     "                               and a table at the end\n"
@@ -45,149 +55,109 @@ static const char help[] =
     "Status: 0 if the guest's program ended with 0 and all was written; 1 if it did not, or if the image, the record or the log\n"
     "could not be written; 2 if the command line is wrong; 3 if all went well but the driver broke a rule that the standard has.\n";
 
-#define MOST_DELAY 10000000
-
-/* A number of decimal digits; the answer is the text after it, or NULL. */
-static const char *take_digits(const char *text, uint64_t *number) {
-    char *end = NULL;
-    if (!isdigit((unsigned char)*text))
-        return NULL;
-    errno = 0;
-    *number = strtoull(text, &end, 10);
-    return errno ? NULL : end;
-}
-
-/* A decimal number of a range. */
-static int take_number(const char *name, const char *text, uint64_t least, uint64_t most, uint64_t *number) {
-    const char *end = take_digits(text, number);
-    if (end && !*end && *number >= least && *number <= most)
-        return 0;
-    complain("%s %s: a decimal number from %" PRIu64 " to %" PRIu64 " is wanted", name, text, least, most);
-    return -1;
-}
-
-static int take_small(const char *name, const char *text, uint32_t least, uint32_t most, uint32_t *number) {
-    uint64_t found = 0;
-    if (take_number(name, text, least, most, &found))
-        return -1;
-    *number = (uint32_t)found;
-    return 0;
-}
+#define LEAST_JOURNAL (UINT64_C(4) << 20) /* the default of a small disk */
+#define JOURNAL_DISKS 4                   /* that of others, in disks: a trim takes as long as copying the disk */
 
 static int take_pick(const char *text, ahci_order *pick) {
-    static const char *const names[] = {[AHCI_ORDER_LOWEST] = "low", [AHCI_ORDER_HIGHEST] = "high", [AHCI_ORDER_DRAWN] = "random"};
-    for (unsigned i = 0; i < sizeof names / sizeof *names; i++)
-        if (!strcmp(text, names[i])) {
-            *pick = (ahci_order)i;
-            return 0;
-        }
-    complain("--pick %s: low, high or random is wanted", text);
-    return -1;
+    static const char *const words[] = {[AHCI_ORDER_LOWEST] = "low", [AHCI_ORDER_HIGHEST] = "high", [AHCI_ORDER_DRAWN] = "random", NULL};
+    unsigned place = 0;
+    int wrong = option_word("pick", text, words, "low, high or random", &place);
+    *pick = (ahci_order)place;
+    return wrong;
 }
 
-/* A colon and two hexadecimal digits; the answer is the text after them, or NULL. */
-static const char *take_error(const char *text, uint8_t *error) {
-    if (*text != ':' || !isxdigit((unsigned char)text[1]) || !isxdigit((unsigned char)text[2]))
-        return NULL;
-    const char digits[] = {text[1], text[2], 0};
-    *error = (uint8_t)strtoul(digits, NULL, 16);
-    return text + 3;
+static int take_sync(const char *text, enum sync *sync) {
+    static const char *const words[] = {[SYNC_END] = "end", [SYNC_FLUSH] = "flush", NULL};
+    unsigned place = 0;
+    int wrong = option_word("sync", text, words, "end or flush", &place);
+    *sync = (enum sync)place;
+    return wrong;
 }
 
-/* LBA:EE or LBA:EE:COUNT of --fail; LBA or LBA:COUNT of --stall. */
-static int take_failure(struct settings *settings, const char *name, const char *text) {
-    struct failure failure = {.left = 1, .stalls = !strcmp(name, "--stall")};
-    if (settings->failure_count == MOST_FAILURES) {
-        complain("%s %s: one too many, since %d may be given", name, text, MOST_FAILURES);
-        return -1;
-    }
-    const char *at = take_digits(text, &failure.lba);
-    if (at && !failure.stalls)
-        at = take_error(at, &failure.error);
-    if (at && *at == ':')
-        at = take_digits(at + 1, &failure.left);
-    if (!at || *at || failure.left == 0) {
-        complain("%s %s: %s", name, text,
-                 failure.stalls ? "LBA or LBA:COUNT is wanted, with a count from 1 on"
-                                : "LBA:EE or LBA:EE:COUNT is wanted, with two hexadecimal digits and a count from 1 on");
-        return -1;
-    }
-    settings->failures[settings->failure_count++] = failure;
-    return 0;
-}
-
-static int take_file(const char *name, const char *text, const char **path) {
+static int take_path(const char *name, const char *text, const char **path) {
     if (!*text) {
-        complain("%s: a file is wanted", name);
+        say_expected(name, text, "%s", strcmp(name, "record") ? "a file" : "a folder");
         return -1;
     }
     *path = text;
     return 0;
 }
 
-/* Takes one option with its value. */
-static int take_option(struct settings *settings, const char *name, const char *value) {
-    if (!strcmp(name, "--sectors"))
-        return take_small(name, value, 1, AHCI_MOST_SECTORS, &settings->sectors);
-    if (!strcmp(name, "--depth"))
-        return take_small(name, value, 1, AHCI_MOST_TAGS, &settings->depth);
-    if (!strcmp(name, "--pick"))
+static int take_one(struct settings *settings, const char *name, const char *value) {
+    if (!strcmp(name, "sectors"))
+        return option_small(name, value, 1, AHCI_MOST_SECTORS, &settings->sectors);
+    if (!strcmp(name, "depth"))
+        return option_small(name, value, 1, AHCI_MOST_TAGS, &settings->depth);
+    if (!strcmp(name, "pick"))
         return take_pick(value, &settings->pick);
-    if (!strcmp(name, "--seed"))
-        return take_number(name, value, 0, UINT64_MAX, &settings->seed);
-    if (!strcmp(name, "--fail") || !strcmp(name, "--stall"))
-        return take_failure(settings, name, value);
-    if (!strcmp(name, "--delay"))
-        return take_small(name, value, 0, MOST_DELAY, &settings->delay);
-    if (!strcmp(name, "--image"))
-        return take_file(name, value, &settings->image);
-    if (!strcmp(name, "--record"))
-        return take_file(name, value, &settings->record);
-    if (!strcmp(name, "--log"))
-        return take_file(name, value, &settings->log);
-    if (!strcmp(name, "--json")) {
-        settings->judge = true;
-        return take_file(name, value, &settings->json);
+    if (!strcmp(name, "seed"))
+        return option_number(name, value, 0, UINT64_MAX, &settings->seed);
+    if (!strcmp(name, "delay"))
+        return option_delay(name, value, &settings->delay);
+    if (!strcmp(name, "image"))
+        return image_find(&settings->image, value);
+    if (!strcmp(name, "sync"))
+        return take_sync(value, &settings->sync);
+    if (!strcmp(name, "most-journal"))
+        return option_bytes(name, value, &settings->most_journal);
+    if (!strcmp(name, "record"))
+        return take_path(name, value, &settings->record);
+    if (!strcmp(name, "record-limit"))
+        return option_bytes(name, value, &settings->record_limit);
+    if (!strcmp(name, "log"))
+        return take_path(name, value, &settings->log);
+    settings->judge = true;
+    return take_path(name, value, &settings->json);
+}
+
+/* Takes one option with its value. */
+static int take_option(struct settings *settings, const char *word, const char *value) {
+    static const char *const names[] = {"sectors", "depth", "pick", "seed", "delay", "image", "sync", "most-journal", "record", "record-limit", "log", "json"};
+    struct rules *rules[] = {&settings->failures, &settings->slow, &settings->stalls};
+    const char *name = word + 2;
+    for (unsigned at = 0; at < sizeof rules / sizeof *rules; at++)
+        if (!strcmp(name, rules_name(rules[at]->kind)))
+            return rules_take(rules[at], value);
+    for (unsigned at = 0; at < sizeof names / sizeof *names; at++) {
+        if (strcmp(name, names[at]))
+            continue;
+        if (settings->given >> at & 1) {
+            say_of(name, value, "%s is given twice", word);
+            return -1;
+        }
+        settings->given |= UINT32_C(1) << at;
+        return take_one(settings, name, value);
     }
-    complain("%s: there is no such option", name);
+    say("%s: there is no such option", word);
     return -1;
 }
 
-/* Finds the number of sectors; the last one of the image may be cut short. */
-static int settle_sectors(struct settings *settings) {
-    struct stat found;
-    uint64_t there = AHCI_MOST_SECTORS;
-    if (settings->image) {
-        if (stat(settings->image, &found)) {
-            complain("--image %s: %m", settings->image);
-            return -1;
-        }
-        there = ((uint64_t)found.st_size + AHCI_SECTOR_BYTES - 1) / AHCI_SECTOR_BYTES;
-    }
-    uint64_t wanted = settings->sectors ? settings->sectors : there;
-    if (wanted == 0 || wanted > AHCI_MOST_SECTORS || (settings->image && there > wanted)) {
-        complain("--image %s: it has %" PRIu64 " sectors, and the disk 1 to %d", settings->image, there,
-                 settings->sectors ? (int)settings->sectors : AHCI_MOST_SECTORS);
-        return -1;
-    }
-    settings->sectors = (uint32_t)wanted;
-    return 0;
+/* Options that mean nothing without another one, or that are too small beside it. */
+static int look_at_pairs(const struct settings *settings) {
+    uint64_t least = record_least_limit(settings->sectors, AHCI_MOST_COUNT);
+    if (settings->record_limit && !settings->record)
+        say("--record-limit: there is no --record");
+    else if (settings->record_limit && settings->record_limit < least)
+        say("--record-limit: a disk of %" PRIu32 " sectors needs %" PRIu64 " bytes at least", settings->sectors, least);
+    else
+        return 0;
+    return -1;
 }
 
 static int settle(struct settings *settings) {
     if (!settings->command || !settings->command[0]) {
-        complain("a command is wanted after `--`");
+        say("expected a command after `--`");
         return -1;
     }
-    if (settle_sectors(settings))
+    if (image_settle(&settings->image, &settings->sectors) || look_at_pairs(settings))
         return -1;
-    for (unsigned i = 0; i < settings->failure_count; i++)
-        if (settings->failures[i].lba >= settings->sectors) {
-            complain("--%s %" PRIu64 ":..: the disk has %" PRIu32 " sectors", settings->failures[i].stalls ? "stall" : "fail",
-                     settings->failures[i].lba, settings->sectors);
-            return -1;
-        }
-    return 0;
+    if (settings->most_journal == 0) {
+        uint64_t usual = JOURNAL_DISKS * (uint64_t)settings->sectors * AHCI_SECTOR_BYTES;
+        settings->most_journal = usual < LEAST_JOURNAL ? LEAST_JOURNAL : usual;
+    }
+    bool fits = !rules_complete(&settings->failures, settings->sectors) && !rules_complete(&settings->slow, settings->sectors) &&
+                !rules_complete(&settings->stalls, settings->sectors);
+    return fits ? 0 : -1;
 }
 
 /* Whether a word is an option without a value, which is taken. */
@@ -203,7 +173,7 @@ static int take_words(struct settings *settings, char **words) {
     for (; *words && strcmp(*words, "--"); words++) {
         char *equals = strchr(*words, '=');
         if (strncmp(*words, "--", 2)) {
-            complain("%s: an option is wanted here, or `--` and a command", *words);
+            say("expected an option, or `--` and a command, got \"%s\"", *words);
             return -1;
         }
         if (equals)
@@ -212,7 +182,7 @@ static int take_words(struct settings *settings, char **words) {
             continue;
         const char *name = *words, *value = equals ? equals + 1 : *++words;
         if (!value || (!equals && !strcmp(value, "--"))) {
-            complain("%s: a value is wanted", name);
+            say("%s: expected a value", name);
             return -1;
         }
         if (take_option(settings, name, value))
@@ -232,7 +202,7 @@ static enum asked write_version(void) {
 }
 
 enum asked settings_read(struct settings *settings, int count, char **words) {
-    *settings = (struct settings){.depth = AHCI_MOST_TAGS, .seed = 1};
+    *settings = (struct settings){.depth = AHCI_MOST_TAGS, .seed = 1, .sync = SYNC_FLUSH, .failures.kind = RULE_FAIL, .slow.kind = RULE_SLOW, .stalls.kind = RULE_STALL};
     const char *first = count > 1 ? words[1] : "";
     if (is_help(first) || (count > 2 && is_help(words[2]))) {
         fputs(help, stdout);
@@ -241,9 +211,13 @@ enum asked settings_read(struct settings *settings, int count, char **words) {
     if (!strcmp(first, "--version"))
         return write_version();
     if (strcmp(first, "run") && strcmp(first, "uml")) {
-        complain("%s: `run` or `uml` is wanted; `ahci-hba --help` tells more", *first ? first : "no command");
+        say("expected run or uml, got \"%s\"; see ahci-hba --help", first);
         return ASKED_WRONGLY;
     }
     settings->guest = strcmp(first, "uml") ? GUEST_QEMU : GUEST_UML;
     return take_words(settings, words + 2) ? ASKED_WRONGLY : ASKED_RUN;
+}
+
+void settings_end(struct settings *settings) {
+    image_end(&settings->image);
 }

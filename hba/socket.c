@@ -1,6 +1,7 @@
 #include "socket.h"
 
 #include "log.h"
+#include "say.h"
 
 #include <errno.h>
 #include <stdint.h>
@@ -38,7 +39,7 @@ bool socket_receive(int socket, void *bytes, size_t count, struct files *files) 
         if (got < 0 && errno == EINTR)
             continue;
         if (got < 0 && errno != ECONNRESET)
-            complain("the guest's socket can't be read: %m");
+            say("the guest's socket can't be read: %m");
         if (got <= 0)
             return false;
         take_files(&message, files);

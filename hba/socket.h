@@ -12,11 +12,11 @@ struct files {
     unsigned count;
 };
 
-/* Receives exactly so many bytes, and appends the files that come with them. It answers false at the end of the stream, or once the reason was
+/* Receives exactly so many bytes, and appends the files that come with them. It returns false at the end of the stream, or once the reason was
    written to standard error. */
 bool socket_receive(int socket, void *bytes, size_t count, struct files *files);
 
-/* Sends all of the bytes. It answers false once the reason was written to standard error. */
+/* Sends all of the bytes. It returns false once it has printed why. */
 bool socket_send(int socket, const void *bytes, size_t count);
 
 /* Closes the files that are left. */

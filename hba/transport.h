@@ -11,7 +11,7 @@
 
 struct transport {
     void *it;
-    unsigned (*watch)(void *it, struct pollfd *files);   /* fills in up to MOST_WATCHED files, and answers how many */
+    unsigned (*watch)(void *it, struct pollfd *files);   /* fills in up to MOST_WATCHED files, and returns how many */
     bool (*serve)(void *it, const struct pollfd *files); /* takes what is there; false once the guest is gone */
 };
 

@@ -1,6 +1,7 @@
 #include "vhost.h"
 
 #include "log.h"
+#include "say.h"
 #include "socket.h"
 
 #include <fcntl.h>
@@ -108,7 +109,7 @@ static void replace(int *file, int with) {
 static bool take_ring_request(struct vhost *vhost, uint32_t request, const union data *data, struct files *files) {
     uint32_t index = data->state.index & 0xFF;
     if (index >= VHOST_RINGS) {
-        complain("the kernel names queue %" PRIu32 ", and there are %d", index, VHOST_RINGS);
+        say("the kernel names queue %" PRIu32 ", and there are %d", index, VHOST_RINGS);
         return false;
     }
     struct ring *ring = &vhost->rings[index];
@@ -167,12 +168,12 @@ static bool take_request(struct vhost *vhost, uint32_t request, const union data
     case SET_VRING_ENABLE:
         return true;
     default:
-        complain("the kernel sent the vhost-user request %" PRIu32 ", which is not known here", request);
+        say("the kernel sent the vhost-user request %" PRIu32 ", which is not known here", request);
         return false;
     }
 }
 
-/* Receives one request. It answers false once the kernel is gone. */
+/* Receives one request. It returns false once the kernel is gone. */
 static bool receive(struct vhost *vhost) {
     struct header header;
     union data data;
@@ -249,7 +250,7 @@ static void send_message(void *it, uint64_t address, uint32_t data) {
     struct chain chain;
     (void)address; /* the kernel looks at the data alone */
     if (!ring_take(ring, vhost->memory, &chain) || chain.answer_bytes < OPERATION_BYTES + 4) {
-        complain("an interrupt was lost, since the kernel has no buffer for it");
+        say("an interrupt was lost, since the kernel has no buffer for it");
         return;
     }
     memset(chain.answer, 0, OPERATION_BYTES);
@@ -316,7 +317,7 @@ static int listen_at(const char *path) {
     int file = socket(AF_UNIX, SOCK_STREAM | SOCK_CLOEXEC, 0);
     if (file >= 0 && bind(file, (const struct sockaddr *)&address, sizeof address) == 0 && listen(file, 1) == 0)
         return file;
-    complain("no socket can be made at %s: %m", path);
+    say("no socket can be made at %s: %m", path);
     if (file >= 0)
         close(file);
     return -1;
@@ -329,7 +330,7 @@ int vhost_begin(struct vhost *vhost, struct pci *pci, struct memory *memory) {
     const char *where = getenv("TMPDIR");
     int length = snprintf(vhost->folder, sizeof vhost->folder, "%s/ahci-hba-XXXXXX", where ? where : "/tmp");
     if (length >= (int)sizeof vhost->folder || !mkdtemp(vhost->folder)) {
-        complain("no folder can be made for a socket in %s: %m", where ? where : "/tmp");
+        say("no folder can be made for a socket in %s: %m", where ? where : "/tmp");
         return -1;
     }
     snprintf(vhost->path, sizeof vhost->path, "%s/socket", vhost->folder);

@@ -21,7 +21,7 @@ struct vhost {
     struct memory *memory;
 };
 
-/* Makes a socket for the kernel. It answers 0, or -1 once the reason was written to standard error. */
+/* Makes a socket for the kernel. It returns 0, or -1 once it has printed why. */
 int vhost_begin(struct vhost *vhost, struct pci *pci, struct memory *memory);
 
 /* The socket's path, for the kernel's command line. */

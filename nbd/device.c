@@ -1,11 +1,11 @@
 #include "device.h"
 
+#include "generator.h"
+#include "say.h"
+
 #include <errno.h>
 #include <string.h>
 #include <time.h>
-
-#define NBDKIT_API_VERSION 2
-#include <nbdkit-plugin.h>
 
 #define SECOND UINT64_C(1000000000)
 
@@ -50,7 +50,7 @@ static void decide(struct driver *driver, struct command *it) {
     struct rule *slow = rules_apply(&settings->slow, &occasion);
     it->is_decided = true;
     it->failure = rules_apply(&settings->failures, &occasion);
-    it->ready = slow ? time + 1000 * rule_delay(slow) : 0;
+    it->ready = slow ? time + 1000 * delay_drawn(&slow->delay, &slow->random) : 0;
 }
 
 /* Those accepted commands that are not slow, or whose time has come. */
@@ -149,8 +149,7 @@ void device_step(struct driver *driver) {
 
 /* Waits as long as delay= says. */
 static void wait_a_step(struct driver *driver) {
-    const struct settings *settings = driver->settings;
-    uint64_t delay = settings->delay + (settings->jitter ? next_random(&driver->random) % ((uint64_t)settings->jitter + 1) : 0);
+    uint64_t delay = delay_drawn(&driver->settings->delay, &driver->random);
     struct timespec wait = {.tv_sec = (time_t)(delay / 1000000), .tv_nsec = (long)(1000 * (delay % 1000000))};
     if (delay)
         while (nanosleep(&wait, &wait) && errno == EINTR)
@@ -200,7 +199,7 @@ int device_begin(struct driver *driver, pthread_t *thread) {
     gate_keep(&driver->gate);
     int why = pthread_create(thread, NULL, run, driver);
     if (why)
-        nbdkit_error("the device's thread can't be started: %s", strerror(why));
+        say("the device's thread can't be started: %s", strerror(why));
     return why ? -1 : 0;
 }
 

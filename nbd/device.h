@@ -10,7 +10,7 @@
 /* Accepts every command that is issued, and takes one step with those that can be served now. */
 void device_step(struct driver *driver);
 
-/* Starts the device's own thread, if it has one. It returns 0, or -1 after nbdkit_error. */
+/* Starts the device's own thread, if it has one. It returns 0, or -1 once it has printed why. */
 int device_begin(struct driver *driver, pthread_t *thread);
 
 /* Ends it. Every request has its answer by now. */

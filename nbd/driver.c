@@ -1,6 +1,8 @@
 #include "driver.h"
 
 #include "device.h"
+#include "generator.h"
+#include "say.h"
 #include "window.h"
 
 #include <errno.h>
@@ -9,18 +11,14 @@
 #include <string.h>
 #include <time.h>
 
-#define NBDKIT_API_VERSION 2
-#include <nbdkit-plugin.h>
-
-#define ENTRY_BYTES 256               /* about what the journal's entries of one command take, without a write's bytes */
-
+#define ENTRY_BYTES 256 /* about what the journal's entries of one command take, without a write's bytes */
 
 static uint8_t nothing[1]; /* where no bytes are handed over */
 
 void driver_must(const char *call, uint32_t status) {
     if (status == AHCI_OK)
         return;
-    nbdkit_error("%s was refused: status %" PRIu32 " of ahci.h", call, status);
+    say("%s was refused: status %" PRIu32 " of ahci.h", call, status);
     abort();
 }
 
@@ -157,7 +155,7 @@ static uint64_t bytes_of(const struct request *it) {
 
 /* With sync=flush what a flush or a write with FUA covers is in the image before it is answered. */
 static int made_safe(struct driver *driver) {
-    return driver->settings->sync == SYNC_FLUSH ? image_write(&driver->image, &driver->port) : 0;
+    return driver->settings->sync == SYNC_FLUSH ? image_write(&driver->settings->image, &driver->disk) : 0;
 }
 
 static void flush(struct driver *driver, struct request *it) {
@@ -177,7 +175,7 @@ static void settle(struct driver *driver) {
     if (driver->journal >= driver->settings->most_journal)
         trim(driver);
     if (!record_has_room(&driver->record, bytes_of(driver->first)))
-        record_next_part(&driver->record, &driver->port);
+        record_next_part(&driver->record);
 }
 
 /* Whether the next command waits until every slot is free. */
@@ -211,7 +209,7 @@ void driver_collect(struct driver *driver, uint32_t tag) {
     driver->owned &= ~bit_of(tag);
     driver->accepted &= ~bit_of(tag);
     if (reply.outcome == AHCI_DID_WRITE)
-        image_changed(&driver->image);
+        driver->settings->image.is_changed = true;
     answer(driver, it, reply.outcome == AHCI_DID_FAIL ? EIO : it->fua ? made_safe(driver) : 0);
 }
 
@@ -222,7 +220,7 @@ static uint32_t recover(struct driver *driver) {
     bool is_said = false;
     while ((status = ahci_port_recover(&driver->port, &tag)) == AHCI_OUT_OF_MEMORY) {
         if (!is_said)
-            nbdkit_error("no memory for the recovery from a failure; it is tried again");
+            say("no memory for the recovery from a failure; it is tried again");
         is_said = true;
         nanosleep(&wait, NULL);
     }
@@ -248,17 +246,39 @@ void driver_recover(struct driver *driver) {
 
 /* ---- beginning and end ---- */
 
-int driver_begin(struct driver *driver, struct settings *settings) {
-    *driver = (struct driver){.settings = settings, .has_thread = settings_have_waits(settings), .random = settings->seed * 2 + 1};
-    driver->last = &driver->first;
-    gate_begin(&driver->gate);
-    if (image_begin(&driver->image, settings, &driver->port))
+static void copy_sector(void *port, uint32_t lba, uint8_t *sector) {
+    driver_must("ahci_port_copy", ahci_port_copy(port, lba, sector, AHCI_SECTOR_BYTES));
+}
+
+/* Makes the port over the image, or over zeros if there is none. */
+static int make_port(ahci_port *port, const struct settings *settings) {
+    uint8_t *bytes = NULL;
+    uint32_t status;
+    if (settings->image.path && !(bytes = image_read(&settings->image, settings->sectors)))
         return -1;
-    return record_begin(&driver->record, settings->record, settings->record_limit, &driver->port);
+    if (bytes)
+        status = ahci_port_new(port, bytes, (size_t)settings->sectors * AHCI_SECTOR_BYTES, settings->depth);
+    else
+        status = ahci_port_new_zeros(port, settings->sectors, settings->depth);
+    free(bytes);
+    if (status == AHCI_OK)
+        return 0;
+    say("the port can't be made: status %" PRIu32 " of ahci.h", status);
+    return -1;
+}
+
+int driver_begin(struct driver *driver, struct settings *settings) {
+    *driver = (struct driver){.settings = settings, .has_thread = settings_have_waits(settings), .random = generator_of(settings->seed)};
+    driver->last = &driver->first;
+    driver->disk = (struct disk){.it = &driver->port, .sectors = settings->sectors, .copy = copy_sector};
+    gate_begin(&driver->gate);
+    if (make_port(&driver->port, settings))
+        return -1;
+    return record_begin(&driver->record, settings->record, settings->record_limit, &driver->disk, settings->depth);
 }
 
 int driver_end(struct driver *driver) {
-    int why = image_write(&driver->image, &driver->port);
+    int why = image_write(&driver->settings->image, &driver->disk);
     record_end(&driver->record);
     ahci_port_free(&driver->port);
     gate_end(&driver->gate);

@@ -4,7 +4,6 @@
 #define AHCI_NBD_DRIVER_H
 
 #include "gate.h"
-#include "image.h"
 #include "record.h"
 #include "settings.h"
 
@@ -38,8 +37,8 @@ struct driver {
     bool has_thread; /* the device has a thread of its own, which is the player for good */
     /* the player's */
     ahci_port port;
+    struct disk disk; /* the port's sectors, for the image and the record */
     struct record record;
-    struct image image;
     struct settings *settings;
     struct request *first, **last; /* those that wait for a slot, the oldest first */
     struct request *answered;      /* those that have an outcome, and are not told yet */
@@ -53,7 +52,7 @@ struct driver {
     uint64_t started; /* nanoseconds of CLOCK_MONOTONIC */
 };
 
-/* Makes the port and begins the record. They return 0, or -1 after nbdkit_error. */
+/* Makes the port and begins the record. They return 0, or -1 once they have printed why. */
 int driver_begin(struct driver *driver, struct settings *settings);
 
 /* Writes the image back, and frees all. */

@@ -4,6 +4,7 @@
 
 #include "device.h"
 #include "driver.h"
+#include "say.h"
 #include "settings.h"
 #include "window.h"
 
@@ -12,6 +13,7 @@
 #include <limits.h>
 #include <malloc.h>
 #include <pthread.h>
+#include <signal.h>
 #include <stdio.h>
 #include <stdlib.h>
 #include <string.h>
@@ -23,12 +25,21 @@ static struct driver driver;
 static pthread_t thread; /* the device's, if it has one */
 static bool has_port, has_device;
 
+/* A line of the server's own. */
+static void put(const char *line) {
+    nbdkit_error("%s", line);
+}
+
+static const struct voice voice = {.put = put, .before = "", .between = "="};
+
 /* The port's journal takes and frees the bytes of every write. This keeps freed memory in the process: without it most of the time goes to
    pages that come and go. */
 static void ahci_load(void) {
     mallopt(M_MMAP_THRESHOLD, 32 << 20);
     mallopt(M_TRIM_THRESHOLD, INT_MAX);
     mallopt(M_ARENA_MAX, 1);
+    signal(SIGXFSZ, SIG_IGN); /* a write past a limit of the system fails instead */
+    say_begin(&voice);
     settings_begin(&settings);
 }
 
@@ -103,7 +114,7 @@ static int ahci_block_size(void *handle, uint32_t *minimum, uint32_t *preferred,
 static bool is_whole(uint32_t count, uint64_t offset) {
     if (count % AHCI_SECTOR_BYTES == 0 && offset % AHCI_SECTOR_BYTES == 0)
         return true;
-    nbdkit_error("%" PRIu32 " bytes at %" PRIu64 ": whole sectors of 512 bytes are wanted", count, offset);
+    say("%" PRIu32 " bytes at %" PRIu64 ": whole sectors of 512 bytes are wanted", count, offset);
     nbdkit_set_error(EINVAL);
     return false;
 }

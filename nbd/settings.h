@@ -2,6 +2,7 @@
 #ifndef AHCI_NBD_SETTINGS_H
 #define AHCI_NBD_SETTINGS_H
 
+#include "image.h"
 #include "rules.h"
 
 #include <stdbool.h>
@@ -19,11 +20,9 @@ struct settings {
     enum pick pick;
     uint64_t seed;     /* of PICK_RANDOM */
     uint32_t together; /* 1 to 32: tags that one Set Device Bits FIS completes at most */
-    uint32_t delay;    /* microseconds before each step of the device */
-    uint32_t jitter;   /* and how many more at most, at random */
+    struct delay delay; /* before each step of the device */
     uint64_t most_journal; /* bytes of the journal after which it is trimmed */
-    char *image;           /* the file with the disk's sectors, its links followed; or NULL */
-    uint64_t image_bytes;
+    struct image image;    /* the file with the disk's sectors */
     enum sync sync;
     char *record;          /* a folder for the record, or NULL */
     uint64_t record_limit; /* its bytes at most; 0: no limit */
@@ -36,10 +35,10 @@ extern const char settings_help[];
 
 void settings_begin(struct settings *settings);
 
-/* Takes one KEY=VALUE. It returns 0, or -1 after nbdkit_error. */
+/* Takes one KEY=VALUE. It returns 0, or -1 once it has printed why. */
 int settings_take(struct settings *settings, const char *key, const char *value);
 
-/* Looks at all of them together, and finds the number of sectors. It returns as settings_take. */
+/* Looks at all of them together, and settles the number of sectors. It returns as settings_take. */
 int settings_complete(struct settings *settings);
 
 /* Whether the device waits at times, and so needs a thread of its own. */

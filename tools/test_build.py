@@ -82,7 +82,8 @@ class Builds(unittest.TestCase):
             self.write(self.source(name), name)
         self.write("crates.txt", CRATES)
         os.makedirs(f"{self.room}/tools")
-        shutil.copy(f"{HERE}/build", f"{self.room}/tools/build")
+        for file in ("build", "libraries.py"):
+            shutil.copy(f"{HERE}/{file}", f"{self.room}/tools/{file}")
         self.write("kit/KIT-ID", "a kit")
         for name, text in (("rattle", RATTLE), ("rattle-link", LINK), ("rt", f"#!/bin/sh\necho {self.room}/kit/START-HERE.md\n")):
             self.write(f"kit/bin/{name}", text)
@@ -225,6 +226,16 @@ class Builds(unittest.TestCase):
             status, said, calls = self.build("--library", name)
             self.assertEqual((status, calls), (1, []))
             self.assertIn(f"crates.txt has no static library {name}", said)
+
+    def test_what_is_below_a_crate_is_made_alone(self) -> None:
+        status, said, calls = self.build("--below", "ahci")
+        self.assertEqual((status, sorted(calls)), (0, ["low", "middle", "side"]), said)
+        self.assertFalse(os.path.exists(self.program))
+        self.assertEqual(self.build("--below", "tests")[::2], (0, []))
+        self.assertEqual(self.build("--below", "low")[::2], (0, []))
+        status, said, calls = self.build("--below", "nothing")
+        self.assertEqual((status, calls), (1, []))
+        self.assertIn("crates.txt has no crate nothing", said)
 
     def leave(self, name: str, text: str, stamped: bool = False) -> None:
         """Leaves a crate's library, or the program, as `rt ci` does; with a stamp it would be one that `rt check` has made."""

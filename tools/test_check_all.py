@@ -70,7 +70,8 @@ class Checks(unittest.TestCase):
     def test_a_part_alone_builds_what_it_needs(self) -> None:
         status, lines = self.check("--only", "c")
         self.assertEqual((status, lines[-1]), (0, "1 passed, 0 failed, 0 skipped"))
-        self.assertIn("built ", lines)
+        self.assertIn("built --library ahci_c", lines)
+        self.assertNotIn("built ", lines)
 
     def test_a_part_that_fails_does_not_hide_the_others(self) -> None:
         for name in FOLDERS:

@@ -1,4 +1,8 @@
-"""Trials of changed sources: what `rt check` says of a crate in which bodies of functions are changed. `mutants` uses it."""
+"""Trials of changed sources: what the prover says of a crate in which bodies of functions are changed. `mutants` uses it.
+
+A crate is proved in a copy of its folder, over the libraries of statements that `build` keeps, so that nothing below it is proved again. What a
+check of the unchanged crate has proved is kept beside its library, and the next run begins with it.
+"""
 from __future__ import annotations
 
 import contextlib
@@ -8,9 +12,11 @@ import re
 import shutil
 import subprocess
 import tempfile
-from typing import Dict, Generic, Iterator, List, NamedTuple, Optional, Protocol, Sequence, Set, Tuple, TypeVar
+import time
+from typing import Callable, Dict, Generic, Iterator, List, NamedTuple, Optional, Protocol, Sequence, Set, Tuple, TypeVar
 
-TOP = os.path.dirname(os.path.dirname(os.path.realpath(__file__)))
+from libraries import OUT, TOP, Fault, crates_of, kit, words_for
+
 # what refused a change, or that nothing did
 CLAUSE, STORED, NAME, PROVED = "a clause", "a stored proof", "a name", "the crate is still proved"
 
@@ -40,6 +46,10 @@ class Change(Protocol):
     def name(self) -> str:
         """What it is told by."""
 
+    @property
+    def is_whole(self) -> bool:
+        """Whether it replaces the whole body of its function."""
+
     def applied(self, texts: Texts) -> Optional[Texts]:
         """The texts with the change made, or None where it doesn't fit them."""
 
@@ -59,7 +69,7 @@ class Edit:
     """A wrong body that is kept in a file: the texts that it changes, each of which is in its file once."""
 
     def __init__(self, path: str) -> None:
-        self.name = os.path.basename(path)
+        self.name, self.is_whole = os.path.basename(path), False
         self.changes: List[Replaced] = []
         file = old = ""
         with open(path, encoding="utf-8") as lines:
@@ -100,20 +110,33 @@ class Edit:
 AnyChange = TypeVar("AnyChange", bound=Change)
 
 
+class Limit:
+    """The time that trials may take."""
+
+    def __init__(self, minutes: Optional[float] = None, clock: Callable[[], float] = time.monotonic) -> None:
+        self.clock, self.end = clock, None if minutes is None else clock() + 60 * minutes
+
+    def is_over(self) -> bool:
+        return self.end is not None and self.clock() >= self.end
+
+
 @dataclasses.dataclass
 class Rounds(Generic[AnyChange]):
-    """The changes that rounds of trials refused no function of, those that do not compile, and how many checks there were."""
+    """The changes that rounds of trials refused no function of, those that do not compile, those that the limit left, and how many checks
+    there were."""
 
     unrefused: List[AnyChange]
     unread: List[AnyChange]
+    untried: List[AnyChange]
     checks: int
 
 
 class Crate:
-    """One crate of a copy of the repository."""
+    """A copy of one crate."""
 
-    def __init__(self, copy: str, name: str, jobs: int, hollow: Sequence[str] = ()) -> None:
-        self.name, self.folder, self.jobs, self.hollow = name, f"{copy}/crates/{name}", jobs, hollow
+    def __init__(self, folder: str, name: str, words: Sequence[str] = (), hollow: Sequence[str] = ()) -> None:
+        self.name, self.folder, self.words, self.hollow = name, folder, list(words), hollow
+        self.said: Dict[str, str] = {}  # what a check of the unchanged crate says of each function
         self.texts: Texts = {}
         for part in ("src", "specs", "proofs"):
             for at, _, files in os.walk(f"{self.folder}/{part}"):
@@ -122,30 +145,40 @@ class Crate:
                     with open(path, encoding="utf-8") as text:
                         self.texts[os.path.relpath(path, self.folder)] = text.read()
 
-    def write(self, texts: Texts) -> None:
+    def write(self, texts: Texts, before: Texts) -> None:
+        """Writes the files that are other ones than before; a file that is in the texts no more goes."""
+        for file in before.keys() - texts.keys():
+            os.remove(f"{self.folder}/{file}")
         for file, text in texts.items():
-            path = f"{self.folder}/{file}"
-            with open(path, encoding="utf-8") as old:
-                same = old.read() == text
-            if not same:
-                with open(path, "w", encoding="utf-8") as new:
+            if before.get(file) != text:
+                with open(f"{self.folder}/{file}", "w", encoding="utf-8") as new:
                     new.write(text)
 
     def check(self) -> Tuple[str, int]:
-        """What `rt check` prints, and its status."""
+        """What the prover prints, and its status."""
         ran = subprocess.run(
-            ["rt", "check", "--jobs", str(self.jobs)], cwd=self.folder, stdin=subprocess.DEVNULL,
-            stdout=subprocess.PIPE, stderr=subprocess.STDOUT, text=True, errors="replace", check=False,
+            self.words, cwd=self.folder, stdin=subprocess.DEVNULL, stdout=subprocess.PIPE, stderr=subprocess.STDOUT, text=True, errors="replace", check=False,
         )
         return ran.stdout, ran.returncode
 
+    def check_unchanged(self) -> Tuple[str, int]:
+        """The same, which says how each function is called."""
+        printed, status = self.check()
+        self.said = dict(re.findall(r"(?m)^fn (\S+): (.*)", printed))
+        return printed, status
+
     def check_of(self, texts: Texts) -> Tuple[str, int]:
         """The same of changed texts, which stand there for this check alone."""
-        self.write(texts)
+        self.write(texts, self.texts)
         try:
             return self.check()
         finally:
-            self.write(self.texts)
+            self.write(self.texts, texts)
+
+    def without_proofs(self, texts: Texts, file: str, name: str) -> Texts:
+        """The texts without what is stored of a function's own proof."""
+        folders = tuple("/".join(["proofs", *it.split("::")[1:], ""]) for it in self.symbols(file, name, self.said))
+        return {it: text for it, text in texts.items() if not it.startswith(folders)} if folders else texts
 
     def refused_by(self, change: Change, texts: Texts, printed: str) -> Optional[str]:
         """What refused a change among others: a goal of its own function that no stored proof answers, else that function's stored
@@ -175,24 +208,26 @@ class Crate:
                 return found
             parts.pop()
 
-    def rounds(self, changes: Sequence[AnyChange], found: Dict[str, str]) -> Rounds[AnyChange]:
+    def rounds(self, changes: Sequence[AnyChange], found: Dict[str, str], limit: Limit) -> Rounds[AnyChange]:
         """Tries the changes, one a function at a time, and notes what refused each."""
         left: List[AnyChange] = [it for it in changes if it.functions(self.texts)]
         unrefused: List[AnyChange] = [it for it in changes if it not in left]
         unread: List[AnyChange] = []
         checks = 0
         while left:
+            if limit.is_over():
+                return Rounds(unrefused, unread, left, checks)
             texts = self.texts
             taken: Functions = set()
             now: List[AnyChange] = []
             for change in left:
                 own = change.functions(self.texts) or set()
-                made = None if own & taken else change.applied(texts)
+                made = None if own & taken else self.applied(change, texts)
                 if made:
                     texts, now = made, [*now, change]
                     taken |= own
             if not now:
-                return Rounds(unrefused + left, unread, checks)
+                return Rounds(unrefused + left, unread, [], checks)
             printed, _ = self.check_of(texts)
             checks += 1
             broken = {(file, function_at(texts[file], int(line))) for file, line in SOURCE_ERROR.findall(printed) if file in texts}
@@ -208,11 +243,18 @@ class Crate:
                 else:
                     unrefused.append(change)
             left = [it for it in left if it not in now]
-        return Rounds(unrefused, unread, checks)
+        return Rounds(unrefused, unread, [], checks)
+
+    def applied(self, change: Change, texts: Texts) -> Optional[Texts]:
+        """The texts with the change made. A whole body has no use for what is stored of the function's proof."""
+        made = change.applied(texts)
+        for file, name in change.functions(self.texts) or () if change.is_whole else ():
+            made = self.without_proofs(made, file, name) if made else None
+        return made
 
     def alone(self, change: Change) -> str:
         """Tries one change, where a goal of a caller counts too. Answers what refused it, or why it counts as not refused."""
-        texts = change.applied(self.texts)
+        texts = self.applied(change, self.texts)
         if texts is None:
             return "its old text doesn't stand once in its file"
         printed, status = self.check_of(texts)
@@ -236,10 +278,32 @@ def function_at(text: str, line: int) -> Optional[str]:
     return next((it[1] for it in map(HEAD.match, reversed(above)) if it), None)
 
 
+def kept_at(name: str) -> str:
+    """Where what is proved of an unchanged crate is kept."""
+    return os.path.join(OUT, name, "proved")
+
+
 @contextlib.contextmanager
-def copied(prefix: str) -> Iterator[str]:
-    """A copy of the repository in a scratch folder, with what earlier checks have kept."""
-    with tempfile.TemporaryDirectory(prefix=prefix) as room:
-        copy = f"{room}/copy"
-        shutil.copytree(TOP, copy, symlinks=True, ignore=shutil.ignore_patterns(".git", "build.log"))
-        yield copy
+def copied(name: str, jobs: int) -> Iterator[Crate]:
+    """A copy of a crate in a scratch folder, over the libraries of statements below it, which are built where they are not there."""
+    crates = crates_of(os.path.join(TOP, "crates.txt"), name)
+    if crates[name].below:
+        built = subprocess.run([os.path.join(TOP, "tools", "build"), "--below", name, "--jobs", str(jobs)], stderr=subprocess.PIPE, text=True, check=False)
+        if built.returncode:
+            raise Fault(f"what is below {name} is not built\n{built.stderr[-2000:]}")
+    with tempfile.TemporaryDirectory(prefix="mutants-") as room:
+        folder, proved = os.path.join(room, name), os.path.join(room, "proved")
+        shutil.copytree(crates[name].folder, folder, symlinks=True, ignore=shutil.ignore_patterns("out"))
+        if os.path.isdir(kept_at(name)):
+            shutil.copytree(kept_at(name), proved)
+        os.makedirs(proved, exist_ok=True)
+        yield Crate(folder, name, ["rattle", "check", *words_for(crates, crates[name], kit(), jobs), "--incremental", proved])
+
+
+def keep(crate: Crate) -> None:
+    """Keeps what is proved of the unchanged crate for the next run."""
+    new = kept_at(crate.name) + ".new"
+    shutil.rmtree(new, ignore_errors=True)
+    shutil.copytree(os.path.join(os.path.dirname(crate.folder), "proved"), new)
+    shutil.rmtree(kept_at(crate.name), ignore_errors=True)
+    os.rename(new, kept_at(crate.name))

@@ -10,8 +10,11 @@ import time
 from typing import List, Sequence
 
 import images
-from harness import SECTOR, Guest, blank, contents, counted, digest, expect, file_of_ext4, linux, qemu
-from images import Missing, file_in, file_of, pattern
+from harness import SECTOR, Guest, blank, contents, counted, digest, file_of_ext4, linux, qemu
+from images import file_in, file_of, pattern
+import pace
+import playing
+from suite import Check, Failed, Skipped, expect
 
 
 def sector(room: str) -> str:
@@ -134,7 +137,7 @@ def linux_high(room: str) -> str:
 def linux_queue(room: str, more: Sequence[str] = ()) -> str:
     """Random requests of Linux at depth 32, in a random order of the device."""
     image = blank(room, 131072)
-    guest = Guest(room, ["--image", image, "--pick", "random", "--seed", "7", "--delay", "1000"], linux(room, "queue") + list(more))
+    guest = Guest(room, ["--image", image, "--pick", "random", "--seed", "7", "--delay", str(int(1000 * pace.times()))], linux(room, "queue") + list(more))
     guest.end(300)
     guest.log_is_usual()
     guest.linux_is_usual()
@@ -264,18 +267,26 @@ def linux_reset(room: str) -> str:
     return "the second boot finds what the first one wrote"
 
 
+def is_running(process: int) -> bool:
+    state = subprocess.run(["ps", "-o", "stat=", "-p", str(process)], capture_output=True, text=True, check=False).stdout
+    return state.strip()[:1] not in ("", "Z")
+
+
 def linux_flush(room: str) -> str:
     """The program is killed while a file system is busy: what was flushed before is in the image."""
-    data, image = pattern(2 << 20, "flush"), blank(room, 32768)
-    guest = Guest(room, ["--image", image], linux(room, "flush", data))
+    data, image, disk = pattern(2 << 20, "flush"), blank(room, 32768), os.path.join(room, "recorded.img")
+    guest = Guest(room, ["--image", image, "--record", os.path.join(room, "record")], linux(room, "flush", data))
     guest.wait_for("^CHECK flushed", 120)
     time.sleep(2)
-    child = guest.child()
+    child, limit = guest.child(), pace.Limit(10)
     guest.kill()
-    time.sleep(1)
-    state = subprocess.run(["ps", "-o", "stat=", "-p", str(child)], capture_output=True, text=True, check=False).stdout
-    expect(state.strip()[:1] in ("", "Z"), "QEMU goes on without the program")
+    while is_running(child):
+        expect(not limit.has_passed(), "QEMU goes on without the program")
+        time.sleep(0.1)
     expect(file_of_ext4(room, image, "first") == data, "what was flushed is not in the image")
+    with open(disk, "wb") as file:
+        file.write(playing.sectors_of(os.path.join(room, "record")))
+    expect(file_of_ext4(room, disk, "first") == data, "what was flushed is not in the record")
     flushes = guest.codes().get(0xE7, 0) + guest.codes().get(0xEA, 0)
     expect(flushes > 0, "no flush came")
     return f"{flushes} flushes, the file is in the image"
@@ -285,7 +296,8 @@ def run_uml(room: str, kernel: str, image: str) -> Guest:
     """One run of guests/queue.sh, with 100,000 requests of one page."""
     words = ["mem=256M", f"initrd={images.initrd(room, 'queue', b'', None)}", "con=null", "con0=null,fd:1", "loglevel=7", "panic=1", "small=100000"]
     guest = Guest(room, ["--image", image, "--pick", "high"], [kernel, *words], mode="uml", log=False, first=True)
-    guest.process.wait(150)
+    if not pace.ended(guest.process, 150):
+        guest.kill()
     with open(os.path.join(room, "serial"), "w", encoding="utf-8") as file:
         file.write(guest.said())
     return guest
@@ -296,7 +308,7 @@ def user_mode_linux(room: str) -> str:
     and a run on a machine that is too busy for that is made again."""
     kernel = os.path.join(images.OUT, "uml/linux")
     if not os.path.exists(kernel):
-        raise Missing(f"there is no {os.path.relpath(kernel)} (./uml_kernel out/uml makes it)")
+        raise Skipped(f"there is no {os.path.relpath(kernel)} (./uml_kernel out/uml makes it)")
     for _ in range(4):
         image = blank(room, 131072)
         guest = run_uml(room, kernel, image)
@@ -306,4 +318,13 @@ def user_mode_linux(room: str) -> str:
             guest.linux_is_usual([r"ata1\.00: (Entering standby power mode|STANDBY IMMEDIATE failed \(err_mask=0x40\)|disable device)",
                                   r"ata1: failed to stop engine \(-19\)", r"ahci 0000:00:00\.0: AHCI controller unavailable!"])
             return queue_right(guest, image)
-    raise Missing("the machine was too busy in four runs: a read took more than 40 ms")
+    raise Skipped("the machine was too busy in four runs: a read took more than 40 ms")
+
+
+CHECKS = [Check(sector, title="SeaBIOS and a boot sector"), Check(sector_error, title="SeaBIOS and an error"), Check(grub_bios, title="GRUB on BIOS"), Check(grub_uefi, title="GRUB on UEFI"),
+          Check(boot_bios, title="GRUB boots Linux on BIOS"), Check(boot_uefi, title="GRUB boots Linux on UEFI"), Check(linux_files, title="Linux, files"),
+          Check(linux_high, title="Linux, memory above 4 GiB"), Check(linux_queue, title="Linux, queue", is_long=True), Check(linux_error, title="Linux, an error in the queue"),
+          Check(linux_lasting, title="Linux, a lasting error"), Check(linux_refused_log, title="Linux, a log that is refused"),
+          Check(linux_stalled, title="Linux, a command without an answer"), Check(linux_two, title="Linux, two processors", is_long=True),
+          Check(linux_reset, title="Linux, a reset of the machine"), Check(linux_flush, title="Linux, flushes and a kill"),
+          Check(user_mode_linux, title="User Mode Linux", is_long=True, is_alone=True)]  # its reads wait 40 ms at most

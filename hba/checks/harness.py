@@ -13,7 +13,11 @@ import time
 from typing import Dict, List, Optional, Sequence
 
 import images
-from images import Missing, program
+from images import program  # it knows where the shared checks are
+import pace
+import playing
+from records import WRITE, Record, bounds
+from suite import Failed, expect
 
 HERE = os.path.dirname(os.path.dirname(os.path.realpath(__file__)))
 PROGRAM = os.path.join(HERE, "out", "ahci-hba")
@@ -36,17 +40,8 @@ USUAL_OF_LINUX = [r"ahci 0000:00:..\.0: (version 3\.0|AHCI 0001\.0301 32 slots 1
                   r"EXT4-fs \(sda\): (mounted filesystem with ordered data mode\. .*|unmounting filesystem.*)"]
 
 
-class Failed(Exception):
-    """What a check found wrong."""
-
-
 JUDGED: List[str] = []  # the options by which each guest's driver is judged; then status 3 is as good as 0
 BROKE_A_RULE = 3
-
-
-def expect(right: bool, what: str) -> None:
-    if not right:
-        raise Failed(what)
 
 
 def go_first() -> None:
@@ -55,33 +50,27 @@ def go_first() -> None:
         os.nice(-10)
 
 
-def replayed(record: str, room: str) -> bytes:
-    """The disk after the commands of a record, by a player over the library."""
-    if not os.path.exists(PLAYER):
-        raise Missing(f"there is no {PLAYER}")
-    image = os.path.join(room, "replayed.img")
-    with open(record, "rb") as script:
-        done = subprocess.run([PLAYER, "--image", image], stdin=script, stdout=subprocess.PIPE, stderr=subprocess.PIPE, timeout=240, check=False)
-    expect(done.returncode == 0, f"{record} is not played to its end: {done.stderr.decode()}")
-    wrong = [line for line in done.stdout.decode().split("\n") if line.startswith("refused")]
-    expect(not wrong, f"{record}: the player answers {wrong[:3]}")
-    return contents(image)
+WHOLE = 8 << 20  # bytes of writes up to which a whole record is played
+LAST = 3000  # else so many of its last entries
 
 
-def files_of(record: str) -> List[str]:
-    """The files of a record, in their order."""
-    files, number = [record], 2
-    while os.path.exists(f"{record}.{number}"):
-        files.append(f"{record}.{number}")
-        number += 1
-    return files
-
-
-def makes(record: str, image: str, room: str) -> int:
-    """Plays each file of a record, of which the last one has to make an image. How many there are."""
-    disks = [replayed(path, room) for path in files_of(record)]
-    expect(disks[-1] == contents(image), f"{record} makes another disk than the one that was saved")
-    return len(disks)
+def makes(record: str, image: str, room: str) -> str:
+    """The record ends with the sectors of an image, by its bytes alone and by a script of it. What the record has."""
+    wanted = contents(image)
+    expect(playing.sectors_of(record) == wanted, f"{record} ends with another disk than the one that was saved")
+    found = Record(record)
+    first, last, cut = bounds(found)
+    expect(not cut, f"the record has entries {first} to {last}, and {cut} bytes more")
+    entries = list(found.entries())
+    written = sum(it.count * SECTOR for it in entries if it.kind == WRITE)
+    if last >= 0:
+        part = [] if written <= WHOLE and first == 0 else ["--from", str(max(first, last - LAST + 1))]
+        more = part or ["--all-sectors"]
+        played = playing.replayed(playing.scripted(record, os.path.join(room, "played.ahci"), *more), PLAYER)
+        named = {lba for it in entries if it.kind == WRITE and (not part or it.number > last - LAST) for lba in range(it.lba, min(it.lba + it.count, len(wanted) // SECTOR))}
+        wrong = [lba for lba in named if played[SECTOR * lba:SECTOR * (lba + 1)] != wanted[SECTOR * lba:SECTOR * (lba + 1)]]
+        expect(not wrong and (bool(part) or played == wanted), f"{record} plays to other sectors: {wrong[:5]}")
+    return f"{last + 1} entries"
 
 
 def serial_of(path: str) -> str:
@@ -113,7 +102,7 @@ class Guest:
             with contextlib.suppress(OSError):
                 os.remove(path)
         self.recorded, self.room = "" if JUDGED else recorded, room
-        self.record_path = os.path.join(room, "life.ahci")
+        self.record_path = os.path.join(room, "record")
         kept = [*(["--log", self.log_path] if log else []), *(["--record", self.record_path] if self.recorded else [])]
         words = [binary, mode, *kept, *JUDGED, *options, "--", *command]
         with open(self.said_path, "wb") as said:
@@ -135,9 +124,9 @@ class Guest:
 
     def wait_for(self, text: str, seconds: int) -> None:
         """Waits until the guest has written a text."""
-        begun = time.monotonic()
+        limit = pace.Limit(seconds)
         while not re.search(text, self.serial(), re.MULTILINE):
-            late = time.monotonic() - begun > seconds
+            late = limit.has_passed()
             if late or self.process.poll() is not None:
                 why = "didn't come in time" if late else f"didn't come before the end, status {self.process.returncode}"
                 self.kill()
@@ -152,17 +141,15 @@ class Guest:
         """Waits for the end, and looks at the status and at what was said."""
         if how:
             self.process.send_signal(how)
-        try:
-            self.process.wait(seconds)
-        except subprocess.TimeoutExpired:
+        if not pace.ended(self.process, seconds):
             self.kill()
-            raise Failed(f"it did not end in {seconds} s; the last lines:\n{self.serial()[-1500:]}") from None
+            raise Failed(f"it did not end in {seconds} s of an idle machine; the last lines:\n{self.serial()[-1500:]}")
         if JUDGED and self.process.returncode == BROKE_A_RULE:
             return
         expect(self.process.returncode == status, f"status {self.process.returncode}, not {status}: {self.said()[-1500:]}{self.serial()[-1000:]}")
         expect(bool(JUDGED) or bool(re.fullmatch(said, self.said(), re.DOTALL)), f"it said: {self.said()}")
         if self.recorded:
-            makes(self.record_path, self.recorded, self.room)
+            self.has_recorded = makes(self.record_path, self.recorded, self.room)
 
     def log_is_usual(self, more: Sequence[str] = ()) -> None:
         """Each line of the log is one that such a run has."""

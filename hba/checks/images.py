@@ -8,9 +8,16 @@ import os
 import shutil
 import struct
 import subprocess
-from typing import Dict, List, Optional, Sequence, Tuple
+import sys
+from typing import Any, Dict, List, Optional, Sequence, Tuple
 
 HERE = os.path.dirname(os.path.dirname(os.path.realpath(__file__)))
+sys.dont_write_bytecode = True
+sys.path += [os.path.join(os.path.dirname(HERE), "host"), os.path.join(os.path.dirname(HERE), "host", "checks")]
+
+import pace  # noqa: E402
+from suite import Skipped  # noqa: E402
+
 OUT = os.path.join(HERE, "out")
 GUESTS = os.path.join(HERE, "guests")
 SECTOR = 512
@@ -22,32 +29,27 @@ drivers/scsi/scsi_common drivers/scsi/scsi_mod lib/crc-t10dif block/t10-pi drive
 drivers/ata/libahci drivers/ata/ahci fs/jbd2/jbd2 fs/mbcache lib/crc16 fs/ext4/ext4""".split()
 
 
-class Missing(Exception):
-    """A program or a package that is not there."""
-
-
 def program(name: str, package: str) -> str:
     """Where a program is."""
     found = shutil.which(name, path=os.environ.get("PATH", "") + ":/usr/sbin:/sbin")
     if not found:
-        raise Missing(f"there is no {name} (package {package})")
+        raise Skipped(f"there is no {name} (package {package})")
     return found
 
 
 def file_of(path: str, package: str) -> str:
     """A file of a package."""
     if not os.path.exists(path):
-        raise Missing(f"there is no {path} (package {package})")
+        raise Skipped(f"there is no {path} (package {package})")
     return path
 
 
-def ran(words: Sequence[str], **more: object) -> str:
+def ran(words: Sequence[str], **more: Any) -> str:
     """What a program of this machine printed, if it ended with status 0."""
-    done = subprocess.run(list(words), stdin=subprocess.DEVNULL, stdout=subprocess.PIPE, stderr=subprocess.STDOUT, text=True, errors="replace",
-                          check=False, timeout=120, **more)  # type: ignore[call-overload]
+    done = pace.ran(list(words), 120, stdout=subprocess.PIPE, stderr=subprocess.STDOUT, text=True, errors="replace", **more)
     if done.returncode:
         raise RuntimeError(f"{' '.join(words)}: status {done.returncode}\n{done.stdout[-2000:]}")
-    return done.stdout
+    return str(done.stdout)
 
 
 def read(path: str) -> bytes:
@@ -152,7 +154,7 @@ def kernel() -> Tuple[str, str]:
     """Debian's kernel and the folder of its modules: those of ./fetch."""
     images = glob.glob(os.path.join(OUT, "kernel/boot/vmlinuz-*"))
     if not images:
-        raise Missing("there is no kernel (./fetch has not got linux-image-amd64)")
+        raise Skipped("there is no kernel (./fetch has not got linux-image-amd64)")
     version = os.path.basename(images[0])[len("vmlinuz-"):]
     return images[0], os.path.join(OUT, "kernel/lib/modules", version, "kernel")
 

@@ -7,11 +7,11 @@ import subprocess
 from concurrent.futures import ThreadPoolExecutor
 from typing import Dict, List
 
-from harness import BROKE_A_RULE, HERE, SANITIZED, expect
+from harness import BROKE_A_RULE, HERE, SANITIZED
+import pace
+from suite import Check, expect
 
 DRIVER = os.path.join(HERE, "checks", "driver")
-SLOW = ["--delay", "50000"]  # so that the command is outstanding when its memory changes
-WHILE_OUTSTANDING = ["table_changed", "data_changed", "mixed", "list_moved", "area_moved", "clo_while_started", "comreset_while_started"]
 
 
 def faults() -> Dict[str, str]:
@@ -23,8 +23,8 @@ def faults() -> Dict[str, str]:
 def judged(room: str, fault: str) -> List[Dict[str, str]]:
     """The rules that the judge names, of a run with a fault."""
     found = os.path.join(room, f"{fault}.json")
-    options = SLOW if fault in WHILE_OUTSTANDING else ["--fail", "3:40"] if fault == "log_not_read" else []
-    ran = subprocess.run([SANITIZED, "run", "--sectors", "64", "--json", found, *options, "--", DRIVER, fault], capture_output=True, text=True, check=False)
+    options = ["--fail", "3:40"] if fault == "log_not_read" else []
+    ran = pace.ran([SANITIZED, "run", "--sectors", "64", "--json", found, *options, "--", DRIVER, fault], 60, stdout=subprocess.PIPE, stderr=subprocess.PIPE, text=True)
     with open(found, encoding="utf-8") as file:
         rules: List[Dict[str, str]] = json.load(file)["rules"]
     broken = any(it["verdict"] == "broken" for it in rules)
@@ -42,3 +42,6 @@ def planted(room: str) -> str:
     right = judged(room, "none")
     expect(not right, f"a driver that keeps the rules is said to break {right}")
     return f"{len(wanted)} faults named, and none of a driver without one"
+
+
+CHECKS = [Check(planted, title="The judge, faults of a driver")]

@@ -6,10 +6,11 @@ import os
 import socket
 import struct
 import sys
-from typing import List
+from typing import List, Tuple
 
 SYNC_SYSMEM, RETURN, CONFIG_WRITE, CONFIG_READ, BAR_WRITE, BAR_READ, _, DEVICE_RESET = range(8)
 BYTES = 1 << 20
+COMMAND, MEMORY, MASTER = 0x04, 0x02, 0x06  # of configuration space, and its bits: memory space, bus master too
 BASES = [0, 1 << 32]  # the guest's addresses of its two regions
 
 
@@ -26,19 +27,24 @@ class Proxied:
             os.ftruncate(file, BYTES)
             self.memory.append(mmap.mmap(file, BYTES))
 
-    def send(self, kind: int, data: bytes) -> None:
-        self.socket.sendall(struct.pack("<iIQ", kind, 0, len(data)) + data)
+    def send(self, *messages: Tuple[int, bytes]) -> None:
+        """Sends messages by one call, so that the program has all of them when it takes the first."""
+        self.socket.sendall(b"".join(struct.pack("<iIQ", kind, 0, len(data)) + data for kind, data in messages))
 
     def ask(self, kind: int, data: bytes) -> int:
         """Sends a message, and takes its answer."""
-        self.send(kind, data)
+        self.send((kind, data))
+        return self.answer()
+
+    def answer(self) -> int:
+        """Takes the answer to the oldest message that has none."""
         answer = b""
         while len(answer) < 24:
             part = self.socket.recv(24 - len(answer))
             if not part:
                 sys.exit("the program is gone")
             answer += part
-        return struct.unpack("<iIQQ", answer)[3]
+        return int(struct.unpack("<iIQQ", answer)[3])
 
     def give_memory(self) -> None:
         """Tells the program where the guest's memory is."""
@@ -53,6 +59,16 @@ class Proxied:
 
     def config(self, at: int, value: int, size: int) -> None:
         self.ask(CONFIG_WRITE, struct.pack("<III", at, value & (1 << 8 * size) - 1, size))
+
+    def master(self, is_on: bool) -> None:
+        """Makes the function a bus master, or none: then the device takes no step."""
+        self.config(COMMAND, MASTER if is_on else MEMORY, 2)
+
+    def turn(self) -> None:
+        """Lets a device that is no bus master take one turn: it takes one after each message, and the second message ends that."""
+        self.send(*((CONFIG_WRITE, struct.pack("<III", COMMAND, value, 2)) for value in (MASTER, MEMORY)))
+        for _ in range(2):
+            self.answer()
 
     def put(self, at: int, content: bytes) -> None:
         """Writes to the guest's memory, if it is all there."""

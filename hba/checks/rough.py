@@ -1,22 +1,34 @@
 """Checks that treat the program badly: wrong command lines, garbage from the guest, ends in the middle, and files that can't be written."""
 from __future__ import annotations
 
+import contextlib
 import os
 import re
 import signal
+import struct
 import subprocess
-from typing import List
+from typing import List, Tuple
 
 import images
-from harness import HERE, PROGRAM, SANITIZED, SECTOR, STARVED, Guest, blank, contents, digest, expect, linux, makes, qemu
+from harness import HERE, PROGRAM, SANITIZED, SECTOR, STARVED, Guest, blank, contents, digest, linux, makes, qemu
 from images import pattern
+import pace
+import playing
+from records import ACCEPT, FAIL, RESET, SERVE, WRITE, Record, bounds
+from suite import Check, expect
 
 GARBAGE = os.path.join(HERE, "checks", "garbage")
+WRITER = os.path.join(HERE, "checks", "writer")
+
+
+def program(*words: str) -> "subprocess.CompletedProcess[str]":
+    """Runs the program without a guest."""
+    return pace.ran([PROGRAM, *words], 20, stdout=subprocess.PIPE, stderr=subprocess.PIPE, text=True)
 
 
 def refused(words: List[str], says: str) -> None:
     """A command line that is refused with status 2 and one line."""
-    done = subprocess.run([PROGRAM, *words], stdin=subprocess.DEVNULL, capture_output=True, text=True, check=False, timeout=20)
+    done = program(*words)
     expect(done.returncode == 2 and done.stdout == "" and done.stderr == f"ahci-hba: {says}\n", f"{words}: status {done.returncode}, {done.stdout}{done.stderr}")
 
 
@@ -29,7 +41,7 @@ def memory_of(size: int) -> str:
 
 def started(words: str, added: str) -> None:
     """A command line of QEMU gets these arguments, and no others."""
-    done = subprocess.run([PROGRAM, "run", "--sectors", "8", "--", "sh", "-c", 'echo "$*"', "sh", *words.split()], stdin=subprocess.DEVNULL, capture_output=True, text=True, check=False, timeout=20)
+    done = program("run", "--sectors", "8", "--", "sh", "-c", 'echo "$*"', "sh", *words.split())
     expect(done.stdout == f"{words} {added}\n" and done.returncode == 0, f"{words}: {done.stdout}{done.stderr}")
 
 
@@ -47,7 +59,7 @@ def arguments(_: str) -> str:
     ]
     for words, added in cases:
         started(words, added)
-    done = subprocess.run([PROGRAM, "run", "--sectors", "8", "--", "qemu-system-x86_64", "-m", "0.5G"], stdin=subprocess.DEVNULL, capture_output=True, text=True, check=False, timeout=20)
+    done = program("run", "--sectors", "8", "--", "qemu-system-x86_64", "-m", "0.5G")
     expect(done.returncode == 1 and done.stderr == "ahci-hba: -m 0.5G: the size of the guest's memory can't be read\n", f"-m 0.5G: {done.stderr}")
     return f"{len(cases)} command lines"
 
@@ -58,29 +70,38 @@ def command_lines(room: str) -> str:
     with open(image, "wb") as file:
         file.write(bytes(3 * SECTOR + 1))
     run = ["--", "true"]
-    cases = [
-        ([], "no command: `run` or `uml` is wanted; `ahci-hba --help` tells more"),
-        (["walk"], "walk: `run` or `uml` is wanted; `ahci-hba --help` tells more"),
-        (["run"], "a command is wanted after `--`"),
-        (["run", "--"], "a command is wanted after `--`"),
-        (["run", "--sectors", "0", *run], "--sectors 0: a decimal number from 1 to 131072 is wanted"),
-        (["run", "--sectors", "131073", *run], "--sectors 131073: a decimal number from 1 to 131072 is wanted"),
-        (["run", "--sectors=8x", *run], "--sectors 8x: a decimal number from 1 to 131072 is wanted"),
-        (["run", "--depth", "33", *run], "--depth 33: a decimal number from 1 to 32 is wanted"),
-        (["run", "--pick", "all", *run], "--pick all: low, high or random is wanted"),
-        (["run", "--seed", "18446744073709551616", *run], "--seed 18446744073709551616: a decimal number from 0 to 18446744073709551615 is wanted"),
-        (["run", "--delay", "10000001", *run], "--delay 10000001: a decimal number from 0 to 10000000 is wanted"),
-        (["run", "--fail", "1:4", *run], "--fail 1:4: LBA:EE or LBA:EE:COUNT is wanted, with two hexadecimal digits and a count from 1 on"),
-        (["run", "--fail", "1:40:0", *run], "--fail 1:40:0: LBA:EE or LBA:EE:COUNT is wanted, with two hexadecimal digits and a count from 1 on"),
-        (["run", "--sectors", "8", "--fail", "8:40", *run], "--fail 8:..: the disk has 8 sectors"),
-        (["run", "--stall", "1:40:2", *run], "--stall 1:40:2: LBA or LBA:COUNT is wanted, with a count from 1 on"),
-        (["run", "--sectors", "8", "--stall", "8", *run], "--stall 8:..: the disk has 8 sectors"),
-        (["run", "--image", image, "--sectors", "3", *run], f"--image {image}: it has 4 sectors, and the disk 1 to 3"),
+    number, size = "expected a decimal number from", "expected a number of bytes from 1 on, such as 4096, 512K, 64M or 1G"
+    rest = "[:COUNT][,reads|writes][,commands=A-B][,seconds=A-B][,rate=N/M][,seed=S], where WHERE is LBA, LBA-LBA or any, COUNT a number from 1 on or ever"
+    small = ["run", "--sectors", "8"]
+    cases: List[Tuple[List[str], str]] = [
+        ([], 'expected run or uml, got ""; see ahci-hba --help'),
+        (["walk"], 'expected run or uml, got "walk"; see ahci-hba --help'),
+        (["run"], "expected a command after `--`"),
+        (["run", "--"], "expected a command after `--`"),
+        (["run", "--sectors", "0", *run], f'--sectors: {number} 1 to 131072, got "0"'),
+        (["run", "--sectors=8x", *run], f'--sectors: {number} 1 to 131072, got "8x"'),
+        (["run", "--depth", "33", *run], f'--depth: {number} 1 to 32, got "33"'),
+        (["run", "--pick", "all", *run], '--pick: expected low, high or random, got "all"'),
+        (["run", "--sync", "never", *run], '--sync: expected end or flush, got "never"'),
+        (["run", "--seed", "18446744073709551616", *run], f'--seed: {number} 0 to 18446744073709551615, got "18446744073709551616"'),
+        (["run", "--delay", "1+", *run], '--delay: expected MICROSECONDS or MICROSECONDS+JITTER, each a decimal number up to 10000000, got "1+"'),
+        (["run", "--fail", "1:4", *run], f'--fail: expected WHERE:EE{rest}, and EE two hexadecimal digits, got "1:4"'),
+        (["run", "--slow", "1", *run], f'--slow: expected WHERE:MICROSECONDS[+JITTER]{rest}, and both times 10000000 at most, got "1"'),
+        (["run", "--stall", "1:40:2", *run], f'--stall: expected WHERE{rest}, got "1:40:2"'),
+        ([*small, "--fail", "8:40", *run], "--fail 8..: the disk has 8 sectors"),
+        ([*small, "--slow", "2-8:1", *run], "--slow 8..: the disk has 8 sectors"),
+        ([*small, "--stall", "8", *run], "--stall 8..: the disk has 8 sectors"),
+        ([*small, "--sectors", "8", *run], "--sectors 8: --sectors is given twice"),
+        (["run", "--most-journal", "64MB", *run], f'--most-journal: {size}, got "64MB"'),
+        (["run", "--record-limit", "64M", *run], "--record-limit: there is no --record"),
+        ([*small, "--record", f"{room}/record", "--record-limit", "1M", *run], "--record-limit: a disk of 8 sectors needs 71311360 bytes at least"),
+        (["run", "--image", image, "--sectors", "3", *run], f"--image {image}: the image has 4 sectors, and the disk 1 to 3"),
         (["run", "--image", f"{room}/none", *run], f"--image {room}/none: No such file or directory"),
-        (["run", "--record", "", *run], "--record: a file is wanted"),
+        (["run", "--image", room, *run], f"--image {room}: this is no regular file"),
+        (["run", "--record", "", *run], '--record: expected a folder, got ""'),
         (["run", "--speed", "3", *run], "--speed: there is no such option"),
-        (["run", "--depth"], "--depth: a value is wanted"),
-        (["run", "qemu-system-x86_64"], "qemu-system-x86_64: an option is wanted here, or `--` and a command"),
+        (["run", "--depth"], "--depth: expected a value"),
+        (["run", "qemu-system-x86_64"], 'expected an option, or `--` and a command, got "qemu-system-x86_64"'),
     ]
     for words, says in cases:
         refused(words, says)
@@ -89,31 +110,35 @@ def command_lines(room: str) -> str:
 
 def record(room: str) -> str:
     """What Linux did, with an error in the queue, is played again from the record: the disk is the same."""
-    image, script = os.path.join(room, "disk.img"), os.path.join(room, "life.ahci")
+    image = os.path.join(room, "disk.img")
     with open(image, "wb") as file:
         file.write(images.numbered_blocks(512, 4096))
-    guest = Guest(room, ["--image", image, "--record", script, "--depth", "8", "--fail", "1000:40", "--pick", "random", "--delay", "500"], linux(room, "record", pattern(65536, "record")))
+    guest = Guest(room, ["--image", image, "--depth", "8", "--fail", "1000:40", "--pick", "random", "--delay", "500"], linux(room, "record", pattern(65536, "record")), recorded=image)
     guest.end(240)
     expect("LBA48 NCQ (depth 8)" in guest.serial(), "Linux was not told a depth of 8")
     told = guest.told()
     expect(told["reads"] == "requests 2000 compared 1999 errors 1 wrong 0", f"reads: {told['reads']}")
     expect(contents(image)[-65536:] == pattern(65536, "record"), "the image has not what Linux wrote")
-    files = makes(script, image, room)
-    lines = contents(script).decode().split("\n")
-    expect(any(line.startswith("fail ") and line.endswith(" 40 1000") for line in lines), "the record has no failure")
-    return f"{len(lines)} lines in the first of {files} files"
+    failures = [(it.flag, it.lba) for it in Record(guest.record_path).entries() if it.kind == FAIL]
+    expect(failures == [(0x40, 1000)], f"the record has the failures {failures}")
+    return guest.has_recorded
 
 
 def garbage(room: str) -> str:
-    """Random accesses over random tables, under the sanitizers; the record makes the image that was saved."""
-    steps, files = 0, 0
+    """Random accesses over random tables, under the sanitizers; the record makes the image that was saved, over all resets."""
+    steps, resets, entries = 0, 0, 0
     for seed in range(5):
-        image, script = blank(room, 256), os.path.join(room, f"garbage{seed}.ahci")
-        guest = Guest(room, ["--image", image, "--record", script, "--pick", "random", "--fail", "5:40:3", "--fail", "100:04:2", "--stall", "17:3"], [GARBAGE, str(seed), "20000"], binary=SANITIZED)
+        image, folder = blank(room, 256), os.path.join(room, f"record{seed}")
+        rules = ["--fail", "5:40:3", "--fail", "any:04,rate=1/50,seed=3", "--slow", "30-40:200+200:20,writes", "--stall", "17:3"]
+        guest = Guest(room, ["--image", image, "--record", folder, "--pick", "random", "--most-journal", "256K", *rules], [GARBAGE, str(seed), "20000"], binary=SANITIZED)
         guest.end(200)
         steps += 20000
-        files += makes(script, image, room)
-    return f"{steps} accesses, {files} files of records"
+        makes(folder, image, room)
+        kinds = [it.kind for it in Record(folder).entries()]
+        resets += kinds.count(RESET)
+        entries += len(kinds)
+    expect(resets > 20, f"the records have {resets} resets")
+    return f"{steps} accesses, {entries} entries, {resets} resets"
 
 
 def refused_memory(room: str) -> str:
@@ -140,31 +165,130 @@ def killed_guest(room: str) -> str:
 
 
 def unkept(room: str) -> str:
-    """If the image can't be written at a flush, the flush fails, and Linux says so to who asked for it."""
+    """If the image can't be written at a flush, the flush fails, and Linux says so to who asked for it. FILE.new of somebody else is not touched, and
+    no later server starts beside it."""
     image = blank(room, 2048)
-    before = contents(image)
-    os.mkdir(f"{image}.new")
+    before, new = contents(image), f"{image}.new"
     guest = Guest(room, ["--image", image], linux(room, "keep"))
-    guest.end(240, status=1, said=f"(ahci-hba: --image {re.escape(image)}: it can't be written back: Is a directory\n)+")
+    guest.wait_for(".", 60)
+    with open(new, "w", encoding="ascii") as file:
+        file.write("kept")
+    guest.end(240, status=1, said=f"(ahci-hba: --image {re.escape(image)}: it can't be written back: {re.escape(new)}: File exists; it is as it was\n)+")
     expect(guest.told()["flush"] == "wrong", "Linux takes the write for kept")
-    expect(contents(image) == before, "the image has changed though it could not be written")
+    expect(contents(image) == before and contents(new) == b"kept", "the image has changed though it could not be written, or what was beside it")
+    done = program("run", "--image", image, "--", "true")
+    expect(done.returncode == 1 and f"{new} is left by a server" in done.stderr, f"it starts beside {new}: {done.stderr}")
     return "Linux sees the error"
 
 
+def written_at_the_end(room: str) -> str:
+    """With --sync end a flush writes no image, and the end does."""
+    image = blank(room, 2048)
+    before = contents(image)
+    guest = Guest(room, ["--image", image, "--sync", "end"], linux(room, "keep"))
+    guest.wait_for("^CHECK flush", 240)
+    expect(contents(image) == before or guest.process.poll() is not None, "the image was written at a flush")
+    guest.end(60)
+    expect(guest.told()["flush"] == "right", "the flush failed")
+    return "the flush is answered, the image is written at the end"
+
+
 def full(room: str) -> str:
-    """A record, a log or an image that can't be written is named, and the guest goes on."""
+    """A record or a log that can't be written is named, and the guest goes on."""
     image, _ = images.sector_image(room)
     guest = Guest(room, ["--image", image, "--record", "/dev/full"], qemu(room))
-    guest.wait_for("^end$", 60)
-    guest.end(30, signal.SIGTERM, status=1, said="ahci-hba: --record /dev/full: it can't be written, and ends: No space left on device\n")
-    expect(contents(image)[200 * SECTOR:202 * SECTOR] == b"\x5a" * (2 * SECTOR), "the image has not what was written")
-    image, _ = images.sector_image(room)
-    before = contents(image)
-    os.mkdir(f"{image}.new")
-    guest = Guest(room, ["--image", image], qemu(room))
-    guest.wait_for("^end$", 60)
-    guest.end(30, signal.SIGTERM, status=1, said=f"ahci-hba: --image {re.escape(image)}: it can't be written back: Is a directory\n")
-    expect(contents(image) == before, "the image has changed though it could not be written")
-    done = subprocess.run([PROGRAM, "run", "--sectors", "8", "--log", "/dev/full", "--", "true"], capture_output=True, text=True, check=False, timeout=30)
+    guest.end(30, status=1, said="ahci-hba: --record /dev/full: Not a directory\n")
+    done = program("run", "--sectors", "8", "--log", "/dev/full", "--", "true")
     expect(done.returncode == 1 and done.stderr == "ahci-hba: --log /dev/full: it could not be written\n", f"status {done.returncode}: {done.stderr}")
-    return "record, image and log"
+    return "record and log"
+
+
+def written(room: str, options: List[str], words: List[str], status: int = 0, said: str = "") -> str:
+    """Runs checks/writer, and returns what it printed."""
+    done = pace.ran([PROGRAM, "run", *options, "--", WRITER, *words], 240, stdout=subprocess.PIPE, stderr=subprocess.PIPE, text=True)
+    expect(done.returncode == status and done.stderr == said, f"{options} {words}: status {done.returncode}: {done.stderr}")
+    return str(done.stdout)
+
+
+def rules(room: str) -> str:
+    """--fail and --slow are about the commands that their conditions name: by number, direction and sector."""
+    ended, taken = "a write failed\nahci-hba: the guest's program ended with status 1\n", 0
+    for number, (options, failures) in enumerate([(["--fail", "any:40,commands=3"], [128]), (["--fail", "70-127:04,writes"], [70]), (["--fail", "70:04:ever,reads"], []), (["--fail", "any:40,rate=1/1,seconds=90-99"], [])]):
+        folder = os.path.join(room, f"record{number}")
+        written(room, ["--sectors", "256", "--record", folder, *options], ["1", "64", "256", "1", "-"], 1 if failures else 0, ended if failures else "")
+        found = [it.lba for it in Record(folder).entries() if it.kind == FAIL]
+        expect(found == failures, f"{options}: failures at {found}")
+        taken += len(found)
+    folder = os.path.join(room, "slow")
+    written(room, ["--sectors", "256", "--record", folder, "--slow", "64-127:100000+50000:3"], ["1", "64", "256", "1", "-"])
+    slow = times_of(folder, range(64, 128))[:3]
+    expect(min(slow) >= 100_000, f"the first three commands that touch the sectors took {slow} microseconds")
+    return f"{taken} failures, slow commands of {slow} microseconds"
+
+
+def times_of(folder: str, sectors: range) -> List[int]:
+    """How many microseconds each command took from its acceptance on that touches some sectors; there is one at a time."""
+    times, since, touches = [], 0, False
+    for it in Record(folder).entries():
+        if it.kind == WRITE:
+            touches = it.lba < sectors.stop and it.lba + it.count > sectors.start
+        elif it.kind == ACCEPT:
+            since = it.time
+        elif it.kind == SERVE and touches:
+            times.append(it.time - since)
+    return times
+
+
+def much_written(room: str, mib: int = 2048) -> str:
+    """Writes without end: the journal is trimmed, and memory stays."""
+    said = written(room, ["--most-journal", "128M"], [str(mib), "16384", "131072", "16", "-"])
+    before, after = map(int, said.split()[1:])
+    expect(after < before + 64, f"{before} MiB after a tenth of the writes, {after} after {mib} MiB")
+    return f"{before} MiB, then {after} MiB"
+
+
+def very_much_written(room: str) -> str:
+    """The same with 10 GiB."""
+    return much_written(room, 10240)
+
+
+def a_limit(room: str) -> str:
+    """--record-limit: the record never has more bytes, while the queue is full all the time, and what is left plays."""
+    folder, limit = os.path.join(room, "record"), 80 << 20
+    words = [PROGRAM, "run", "--sectors", "8192", "--image", blank(room, 8192), "--record", folder, "--record-limit", "80M", "--pick", "random", "--", WRITER, "256", "64", "8192", "32", "-"]
+    largest, process = 0, subprocess.Popen(words, stdin=subprocess.DEVNULL, stdout=subprocess.DEVNULL, stderr=subprocess.PIPE, text=True)
+    while process.poll() is None:
+        largest = max(largest, size_of(folder))
+    _, said = process.communicate()
+    expect(process.returncode == 0 and not said, f"status {process.returncode}: {said}")
+    first, last, cut = bounds(Record(folder))
+    expect(limit // 2 < largest <= limit and 0 < first and not cut, f"{largest} bytes at most, entries {first} to {last}")
+    makes(folder, os.path.join(room, "disk.img"), room)
+    return f"{largest} bytes at most, entries {first} to {last} are left"
+
+
+def size_of(folder: str) -> int:
+    total = 0
+    with contextlib.suppress(FileNotFoundError):  # the folder, or a part, is not there yet or not any more
+        for name in os.listdir(folder):
+            total += os.stat(os.path.join(folder, name)).st_size
+    return total
+
+
+def answered_and_killed(room: str) -> str:
+    """kill -9: what the driver has its answer for is in the record."""
+    for at in range(1, 4):
+        folder = os.path.join(room, f"record{at}")
+        written(room, ["--sectors", "1024", "--record", folder], [str(at), "16", "1024", "8", "kill"], status=-9)
+        disk = playing.sectors_of(folder)
+        rounds = [struct.unpack_from("<I", disk, SECTOR * lba)[0] for lba in range(1024)]
+        last = (at << 20) // (16 * SECTOR * 8) - 1
+        expect(rounds.count(last) == 16 * 8, f"{rounds.count(last)} of 128 sectors of the last round are in the record")
+    return "three records have all that was answered"
+
+
+CHECKS = [Check(command_lines, title="Command lines"), Check(arguments, title="Arguments of QEMU"), Check(record, title="Record of Linux"), Check(garbage, title="Garbage"),
+          Check(refused_memory, title="Refused memory"), Check(killed_guest, title="A killed guest"), Check(unkept, title="A flush that can't be kept"),
+          Check(written_at_the_end, title="An image that is written at the end"), Check(full, title="Files that can't be written"), Check(rules, title="Rules"), Check(much_written, title="Much that is written"),
+          Check(very_much_written, title="10 GiB that are written", is_long=True), Check(a_limit, title="A limit of the record"),
+          Check(answered_and_killed, title="A kill after an answer")]

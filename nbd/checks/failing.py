@@ -2,11 +2,11 @@
 from __future__ import annotations
 
 import os
-import subprocess
 import time
 from typing import List
 
-from harness import SECONDS, SECTOR, Failed, counted, fio, must_be_clean, ran, replayed, scripted, sectors_of, serving, told
+from harness import SECTOR, Check, Failed, counted, fio, must_be_clean, ran, replayed, scripted, sectors_of, serving, told, tool
+import pace
 from records import ACCEPT, FAIL, READ, RECOVER, REISSUE, SERVE, WRITE, Entry, Record
 
 
@@ -41,8 +41,7 @@ def one_request_fails(room: str) -> str:
 def qemu_io(uri: str, *commands: str) -> str:
     """What qemu-io printed, whatever it met."""
     words = [word for it in commands for word in ("-c", it)]
-    return subprocess.run(["qemu-io", "-f", "raw", *words, uri], stdin=subprocess.DEVNULL, stdout=subprocess.PIPE, stderr=subprocess.STDOUT, text=True,
-                          timeout=SECONDS, check=False).stdout
+    return tool(["qemu-io", "-f", "raw", *words, uri]).stdout
 
 
 def outcomes(uri: str, commands: List[str]) -> List[bool]:
@@ -114,22 +113,15 @@ def rates(room: str) -> str:
 
 def slow_commands(room: str) -> str:
     """slow=: a slow command waits, its neighbours don't, and the device serves them while it waits."""
-    record = os.path.join(room, "record")
-    with serving(room, "sectors=4096", "slow=100:300000:1", f"record={record}") as server:
-        found = fio(server, "slow", "--rw=read", "--bs=512", "--iodepth=32", "--size=1m")
-        must_be_clean(found)
-        jobs = found["jobs"]
-        assert isinstance(jobs, list)
-        longest = jobs[0]["read"]["lat_ns"]["max"] / 1000
-        late = jobs[0]["read"]["clat_ns"]["percentile"]["95.000000"] / 1000
-    if longest < 300_000 or late > 100_000:
-        raise Failed(f"the longest request took {longest:.0f} microseconds and the 95th percentile {late:.0f}")
+    record, wait = os.path.join(room, "record"), int(300_000 * pace.times())
+    with serving(room, "sectors=4096", f"slow=100:{wait}:1", f"record={record}") as server:
+        must_be_clean(fio(server, "slow", "--rw=read", "--bs=512", "--iodepth=32", "--size=1m"))
     entries = list(Record(record).entries())
     slow = next(it for it in entries if it.kind == READ and it.lba == 100)
     accepted = next(it for it in entries if it.kind == ACCEPT and it.tag == slow.tag and it.number > slow.number)
     served = next(it for it in entries if it.kind == SERVE and slow.tag in it.data[:it.count] and it.number > slow.number)
     between = sum(it.kind == SERVE for it in entries[accepted.number:served.number])
-    if served.time - accepted.time < 299_000 or between < 100:
+    if served.time - accepted.time < wait - 1000 or between < 100:
         raise Failed(f"it took {served.time - accepted.time} microseconds, and {between} were served while it waited")
     replayed(scripted(record, f"{record}.ahci"))
     return f"{between} commands were served while one waited"
@@ -175,5 +167,5 @@ def held_commands(room: str) -> str:
     return f"{reissued} commands were issued again; {told(server)}"
 
 
-CHECKS = [(a_failing_sector, ["fio", "qemu-io"]), (one_request_fails, ["qemu-io"]), (rules, ["qemu-io"]), (rule_by_time, ["qemu-io"]), (rates, ["fio"]),
-          (slow_commands, ["fio"]), (jitter, ["fio"]), (held_commands, ["fio"])]
+CHECKS = [Check(a_failing_sector, ["fio", "qemu-io"]), Check(one_request_fails, ["qemu-io"]), Check(rules, ["qemu-io"]), Check(rule_by_time, ["qemu-io"]), Check(rates, ["fio"]),
+          Check(slow_commands, ["fio"]), Check(jitter, ["fio"]), Check(held_commands, ["fio"])]

@@ -9,35 +9,34 @@ import signal
 import subprocess
 import sys
 import time
-from typing import Dict, Iterator, List, Optional
+from typing import Any, Dict, Iterator, List, Optional
 
 HERE = os.path.dirname(os.path.dirname(os.path.realpath(__file__)))
 TOP = os.path.dirname(HERE)
 PLUGIN = os.environ.get("AHCI_NBD_PLUGIN", os.path.join(HERE, "nbdkit-ahci-plugin.so"))
 RACES_PLUGIN = os.environ.get("AHCI_NBD_TSAN_PLUGIN", os.path.join(HERE, "tsan-nbdkit-ahci-plugin.so"))
-PLAYER = os.path.join(TOP, "c", "out", "play")
-PROGRAM = os.path.join(TOP, "crates", "ahci", "out", "rlib", "ahci", "ahci")
-STRETCH = os.path.join(HERE, "stretch")
+PLAYER = os.path.join(HERE, "out", "play")
 MIB = 1 << 20
-SECONDS = int(os.environ.get("AHCI_NBD_SECONDS", "240"))  # the most that one tool may take
+SECONDS = int(os.environ.get("AHCI_NBD_SECONDS", "240"))  # the most that one tool may take on an idle machine
 SECTOR = 512
 
 sys.dont_write_bytecode = True
-sys.path.insert(0, HERE)
+sys.path += [os.path.join(TOP, "host"), os.path.join(TOP, "host", "checks")]
+
+import pace  # noqa: E402
+import playing  # noqa: E402
+from playing import STRETCH as STRETCH, scripted as scripted, sectors_of as sectors_of  # noqa: E402
+from suite import Check as Check, Failed as Failed, Skipped as Skipped  # noqa: E402
 
 
-class Failed(Exception):
-    """What a check found wrong."""
+def tool(words: List[str], **more: Any) -> "subprocess.CompletedProcess[str]":
+    """Runs a tool, and keeps what it printed, whatever it met."""
+    return pace.ran(words, SECONDS, **{"stdout": subprocess.PIPE, "stderr": subprocess.STDOUT, "text": True, "errors": "replace", **more})
 
 
-class Skipped(Exception):
-    """Why a check can't be run here."""
-
-
-def ran(words: List[str], status: int = 0, **more: object) -> str:
+def ran(words: List[str], status: int = 0, **more: Any) -> str:
     """What a tool printed, if it ended as it should."""
-    done = subprocess.run(words, stdin=subprocess.DEVNULL, stdout=subprocess.PIPE, stderr=subprocess.STDOUT, text=True,
-                          errors="replace", timeout=SECONDS, check=False, **more)  # type: ignore[call-overload]
+    done = tool(words, **more)
     if done.returncode != status:
         raise Failed(f"{' '.join(words)}: status {done.returncode}, not {status}\n{done.stdout[-2000:]}")
     return str(done.stdout)
@@ -55,9 +54,9 @@ class Server:
         with open(self.log, "w", encoding="utf-8") as log:
             self.process = subprocess.Popen(["nbdkit", "-f", "-t", "32", "-U", self.socket, plugin, *words], stdin=subprocess.DEVNULL,
                                             stdout=log, stderr=log, env={**os.environ, **(environment or {})})
-        begun = time.monotonic()
+        limit = pace.Limit(60)
         while not os.path.exists(self.socket):
-            if self.process.poll() is not None or time.monotonic() - begun > 60:
+            if self.process.poll() is not None or limit.has_passed():
                 raise Failed(f"nbdkit did not start: {self.said()}")
             time.sleep(0.02)
 
@@ -74,11 +73,9 @@ class Server:
         """Ends it, and returns all that it printed."""
         if self.process.poll() is None:
             self.process.send_signal(how)
-        try:
-            self.process.wait(SECONDS)
-        except subprocess.TimeoutExpired:
+        if not pace.ended(self.process, SECONDS):
             self.process.kill()
-            raise Failed("nbdkit did not end") from None
+            raise Failed("nbdkit did not end")
         with contextlib.suppress(OSError):
             os.remove(self.socket)
         return self.said()
@@ -107,9 +104,7 @@ def serving(room: str, *words: str, plugin: str = "", environment: Optional[Dict
 
 def fio(server: Server, name: str, *words: str) -> Dict[str, object]:
     """Runs one fio job, whose errors it counts."""
-    done = subprocess.run(["fio", f"--name={name}", "--ioengine=nbd", f"--uri={server.uri}", "--output-format=json", *words],
-                          stdin=subprocess.DEVNULL, stdout=subprocess.PIPE, stderr=subprocess.PIPE, text=True, timeout=SECONDS, check=False,
-                          cwd=os.path.dirname(server.socket))
+    done = tool(["fio", f"--name={name}", "--ioengine=nbd", f"--uri={server.uri}", "--output-format=json", *words], stderr=subprocess.PIPE, cwd=os.path.dirname(server.socket))
     text = done.stdout
     if "{" not in text:
         raise Failed(f"fio printed no figures\n{text[-1000:]}{done.stderr[-1000:]}")
@@ -143,50 +138,6 @@ def counted(server: Server, what: str) -> int:
     return next((int(part.strip().partition(" ")[0]) for part in told(server).split(",") if part.endswith(what)), 0)
 
 
-# ---- scripts
-
-
-def scripted(record: str, path: str, *words: str) -> str:
-    """Makes a script of a stretch of a record, and returns its path."""
-    with open(path, "wb") as file:
-        done = subprocess.run([STRETCH, "script", record, *words], stdin=subprocess.DEVNULL, stdout=file, stderr=subprocess.PIPE, timeout=SECONDS, check=False)
-    if done.returncode or done.stderr:
-        raise Failed(f"stretch script {' '.join(words)}: status {done.returncode}, {done.stderr.decode()}")
-    return path
-
-
-def sectors_of(record: str, *words: str) -> bytes:
-    """The disk after an entry of a record, by its bytes alone."""
-    done = subprocess.run([STRETCH, "sectors", record, *words], stdin=subprocess.DEVNULL, stdout=subprocess.PIPE, stderr=subprocess.PIPE, timeout=SECONDS, check=False)
-    if done.returncode or done.stderr:
-        raise Failed(f"stretch sectors {' '.join(words)}: status {done.returncode}, {done.stderr.decode()}")
-    return done.stdout
-
-
 def replayed(script: str) -> bytes:
-    """The disk after a script, by a player over the library, and by `ahci replay` if it is built. No line may be refused."""
-    image = f"{script}.image"
-    with open(script, "rb") as text:
-        done = subprocess.run([PLAYER, "--image", image], stdin=text, stdout=subprocess.PIPE, stderr=subprocess.PIPE, timeout=SECONDS, check=False)
-    refused = [line for line in done.stdout.split(b"\n") if line.startswith(b"refused")]
-    if done.returncode or refused:
-        raise Failed(f"the script is not played to its end: {done.stderr.decode()}, {len(refused)} lines are refused")
-    with open(image, "rb") as file:
-        sectors = file.read()
-    by_program(script, sectors)
-    return sectors
-
-
-def by_program(script: str, image: bytes) -> None:
-    """Replays a script by the program, which shows each sector by its first byte."""
-    if not os.access(PROGRAM, os.X_OK):
-        return
-    with open(script, "rb") as file:
-        text = file.read() + b"".join(b"show %d\n" % lba for lba in range(len(image) // SECTOR))
-    if len(text) > 64 * MIB:
-        return
-    done = subprocess.run([PROGRAM, "replay"], input=text, stdout=subprocess.PIPE, stderr=subprocess.PIPE, timeout=SECONDS, check=False)
-    shown = [line for line in done.stdout.decode().split("\n") if line.startswith("sector ")]
-    wanted = [f"sector {lba} {image[SECTOR * lba]:02x}" for lba in range(len(image) // SECTOR)]
-    if done.returncode or shown != wanted:
-        raise Failed(f"ahci replay: status {done.returncode}, {done.stderr.decode()}; its sectors are {'the same' if shown == wanted else 'others'}")
+    """The disk after a script."""
+    return playing.replayed(script, PLAYER)

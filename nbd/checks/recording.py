@@ -8,9 +8,9 @@ import subprocess
 import time
 from typing import List, Set, Tuple
 
-from harness import MIB, PLAYER, PLUGIN, SECONDS, SECTOR, STRETCH, Failed, Server, fio, must_be_clean, out, ran, replayed, scripted, sectors_of, serving, told
-from images import small_room
-from records import COLLECT, READ, TRIM, WRITE, Record, bounds
+from harness import MIB, PLUGIN, SECTOR, Check, Failed, Server, fio, must_be_clean, out, ran, replayed, scripted, sectors_of, serving, told
+import pace
+from records import COLLECT, READ, WRITE, Record, bounds
 
 
 def touched(record: Record, first: int, last: int) -> Set[int]:
@@ -128,9 +128,6 @@ def a_limit(room: str) -> str:
     if sectors_of(folder) != found:
         raise Failed("the record ends with other sectors than the client read")
     must_play(folder, room, first + 1000, first + 2000)
-    done = subprocess.run([STRETCH, "script", folder, "--from", "0"], stdout=subprocess.DEVNULL, stderr=subprocess.PIPE, text=True, check=False)
-    if done.returncode != 1 or "the record has entries" not in done.stderr:
-        raise Failed(f"a dropped entry was not refused: {done.stderr}")
     return f"{largest} bytes at most, entries {first} to {last} are left"
 
 
@@ -144,20 +141,6 @@ def size_of(folder: str) -> int:
     return total
 
 
-def a_full_disk(room: str) -> str:
-    """Without room for the record the server goes on; the record ends at a whole entry, and the reason is printed once."""
-    with small_room(room, "8m") as place:
-        folder = os.path.join(place, "record")
-        with serving(room, "sectors=8192", f"record={folder}", says=r"record=.*: it can't be written: No space left on device; the record ends after \d+ entries") as server:
-            must_be_clean(fio(server, "full", "--rw=randwrite", "--bs=4k", "--iodepth=32", "--size=4m", "--loops=4", "--verify=crc32c", "--do_verify=1"))
-        said = [line for line in server.said().splitlines() if "record=" in line]
-        _, last, cut = bounds(Record(folder))
-        if len(said) != 1 or cut or f"after {last + 1} entries" not in said[0] or last < 5000:
-            raise Failed(f"the record ends with entry {last} and {cut} more bytes: {said}")
-        must_play(folder, room, last - 1000, last)
-    return f"{last + 1} entries"
-
-
 def killed(room: str) -> str:
     """kill -9 in the middle of writes: every write that was answered is in the record, and it plays."""
     folder = os.path.join(room, "record")
@@ -165,8 +148,8 @@ def killed(room: str) -> str:
     log = os.path.join(room, "answered")
     job = subprocess.Popen(["fio", "--name=cut", "--ioengine=nbd", f"--uri={server.uri}", "--rw=randwrite", "--bs=4k", "--iodepth=32", "--size=4m", "--time_based", "--runtime=60",
                             f"--write_iolog={log}"], stdin=subprocess.DEVNULL, stdout=subprocess.DEVNULL, stderr=subprocess.DEVNULL, cwd=room)
-    begun = time.monotonic()
-    while time.monotonic() - begun < 20 and (not os.path.exists(folder) or size_of(folder) < 8 * MIB):
+    limit = pace.Limit(20)
+    while not limit.has_passed() and (not os.path.exists(folder) or size_of(folder) < 8 * MIB):
         time.sleep(0.02)
     server.stop(signal.SIGKILL)
     job.kill()
@@ -206,47 +189,5 @@ def same_commands(room: str) -> str:
     return f"{told_of[0][0]} commands each"
 
 
-def stretch_words(room: str) -> str:
-    """stretch: lists parts, names entries by number, by the last and by time, and refuses what there is not."""
-    folder = os.path.join(room, "record")
-    with serving(room, "sectors=64", f"record={folder}", "most-journal=2000") as server:
-        ran(["qemu-io", "-t", "writeback", "-f", "raw", "-c", "write -P 1 0 512", "-c", "sleep 1200", "-c", "write -P 2 512 512", "-c", "write -P 3 0 512", server.uri])
-    listed = ran([STRETCH, "list", folder])
-    _, last, _ = bounds(Record(folder))
-    if f"a disk of 64 sectors, 32 slots; entries 0 to {last}" not in listed or "part.000001: entries 0 to" not in listed:
-        raise Failed(listed)
-    by_time = ran([STRETCH, "script", folder, "--from-second", "1"])
-    until = ran([STRETCH, "script", folder, "--to-second", "1"])
-    if "write 0 1 1 02" not in by_time or "write 0 0 1 01" in by_time or "write 0 1 1 02" in until or "write 0 0 1 01" not in until:
-        raise Failed(f"{by_time}\n{until}")
-    if ran([STRETCH, "script", folder, "--last", "4"]) != ran([STRETCH, "script", folder, "--from", str(last - 3)]):
-        raise Failed("--last names other entries")
-    for words, why in ((["--from", str(last + 1)], "the record has entries"), (["--from", "3", "--to", "2"], "the record has entries"), (["--from-second", "99"], "no entry is after")):
-        said = ran([STRETCH, "script", folder, *words], status=1)
-        if why not in said:
-            raise Failed(said)
-    if "there is no record" not in ran([STRETCH, "list", room], status=1):
-        raise Failed("a folder without a record is not refused")
-    if not any(it.kind == TRIM for it in Record(folder).entries()) and "trim" in by_time:
-        raise Failed("a script trims what the record does not")
-    return f"{last + 1} entries"
-
-
-def a_script_too_long(room: str) -> str:
-    """A stretch whose script would have over 64 MiB ends at a whole entry and says so; what it has plays."""
-    folder, script = os.path.join(room, "record"), os.path.join(room, "script")
-    with serving(room, f"record={folder}") as server:
-        must_be_clean(fio(server, "long", "--rw=write", "--bs=64k", "--iodepth=8", "--size=64m"))
-    with open(script, "wb") as file:
-        done = subprocess.run([STRETCH, "script", folder], stdout=file, stderr=subprocess.PIPE, text=True, timeout=SECONDS, check=False)
-    if done.returncode != 1 or "the script ends after entry" not in done.stderr or os.path.getsize(script) > 64 * MIB:
-        raise Failed(f"status {done.returncode}, {os.path.getsize(script)} bytes: {done.stderr}")
-    with open(script, "rb") as text:
-        played = subprocess.run([PLAYER], stdin=text, stdout=subprocess.PIPE, stderr=subprocess.PIPE, timeout=SECONDS, check=False)
-    if played.returncode or b"refused" in played.stdout:
-        raise Failed(f"the script is not played: {played.stderr.decode()}")
-    return done.stderr.strip()
-
-
-CHECKS = [(a_long_record, ["fio", "nbdcopy"]), (outstanding_commands, ["fio", "nbdcopy"]), (an_image_recorded, ["qemu-io", "nbdcopy"]), (a_limit, ["fio", "nbdcopy"]),
-          (a_full_disk, ["fio", "mount"]), (killed, ["fio"]), (answered_and_killed, ["qemu-io"]), (same_commands, ["fio"]), (stretch_words, ["qemu-io"]), (a_script_too_long, ["fio"])]
+CHECKS = [Check(a_long_record, ["fio", "nbdcopy"]), Check(outstanding_commands, ["fio", "nbdcopy"]), Check(an_image_recorded, ["qemu-io", "nbdcopy"]),
+          Check(a_limit, ["fio", "nbdcopy"]), Check(killed, ["fio"]), Check(answered_and_killed, ["qemu-io"]), Check(same_commands, ["fio"])]

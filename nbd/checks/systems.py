@@ -13,7 +13,8 @@ import tempfile
 import time
 from typing import Iterator, List
 
-from harness import HERE, MIB, SECONDS, TOP, Failed, Server, Skipped, ran, serving, told
+from harness import HERE, MIB, TOP, Check, Failed, Server, Skipped, ran, serving, told, tool
+import pace
 
 
 @contextlib.contextmanager
@@ -25,9 +26,9 @@ def looped(room: str, server: Server) -> Iterator[str]:
     os.mkdir(place)
     process = subprocess.Popen(["nbdfuse", place + "/disk", server.uri], stdin=subprocess.DEVNULL, stdout=subprocess.DEVNULL, stderr=subprocess.DEVNULL)
     try:
-        until = time.monotonic() + 10
+        limit = pace.Limit(10)
         while not os.path.exists(place + "/disk"):
-            if process.poll() is not None or time.monotonic() > until:
+            if process.poll() is not None or limit.has_passed():
                 raise Failed("nbdfuse did not start")
             time.sleep(0.05)
         device = ran(["losetup", "--find", "--show", place + "/disk"]).strip()
@@ -197,8 +198,7 @@ def page_commands(room: str) -> str:
         raise Failed(f"README.md has {len(blocks)} blocks to paste")
     before = ran(["git", "-C", TOP, "status", "--short", "--ignored"]) if os.path.exists(os.path.join(TOP, ".git")) else ""
     for at, block in enumerate(blocks):
-        done = subprocess.run(["bash"], input=block, stdout=subprocess.PIPE, stderr=subprocess.STDOUT, text=True, timeout=SECONDS, check=False, cwd=TOP,
-                              env={**os.environ, "TMPDIR": tempfile.mkdtemp(dir=room)})
+        done = tool(["bash"], input=block, cwd=TOP, env={**os.environ, "TMPDIR": tempfile.mkdtemp(dir=room)})
         wanted = [line[2:].strip() for line in block.splitlines() if line.startswith("#=")]
         lost = [it for it in wanted if not re.search(it, done.stdout)]
         if done.returncode or lost:
@@ -209,5 +209,5 @@ def page_commands(room: str) -> str:
     return f"{len(blocks)} blocks"
 
 
-CHECKS = [(mounted_ext4, ["nbdfuse", "losetup", "mkfs.ext4"]), (mounted_btrfs, ["nbdfuse", "losetup", "mkfs.btrfs", "btrfs"]), (a_database, ["nbdfuse", "losetup", "mkfs.ext4", "sqlite3"]),
-          (a_guest, ["qemu-system-x86_64", "busybox", "modprobe", "cpio", "mkfs.ext4", "nbdcopy"]), (page_commands, ["bash", "fio", "nbdcopy", "mkfs.ext4"])]
+CHECKS = [Check(mounted_ext4, ["nbdfuse", "losetup", "mkfs.ext4"]), Check(mounted_btrfs, ["nbdfuse", "losetup", "mkfs.btrfs", "btrfs"]), Check(a_database, ["nbdfuse", "losetup", "mkfs.ext4", "sqlite3"]),
+          Check(a_guest, ["qemu-system-x86_64", "busybox", "modprobe", "cpio", "mkfs.ext4", "nbdcopy"]), Check(page_commands, ["bash", "fio", "nbdcopy", "mkfs.ext4"])]

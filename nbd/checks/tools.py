@@ -6,41 +6,31 @@ import random
 import subprocess
 from typing import Dict, List
 
-from harness import MIB, PLUGIN, RACES_PLUGIN, SECONDS, Failed, counted, fio, must_be_clean, out, ran, replayed, scripted, serving, told
+from harness import MIB, PLUGIN, RACES_PLUGIN, Check, Failed, counted, fio, must_be_clean, out, ran, replayed, scripted, serving, told, tool
 from records import ACCEPT, COLLECT, FLUSH, SERVE, WRITE, Record
 
 
 def wrong_words(room: str) -> str:
     """Each wrong parameter is refused by name, and nothing is served."""
-    image, full = os.path.join(room, "image"), os.path.join(room, "full")
+    image = os.path.join(room, "image")
     with open(image, "wb") as file:
         file.truncate(1025)
-    os.mkdir(full)
-    with open(os.path.join(full, "part.000001"), "wb"):
-        pass
-    number, failure, slow = "expected a decimal number from", "expected WHERE:EE", "expected WHERE:MICROSECONDS"
-    failures = ("", "1", "1:", "1:4", "1:4g", "1:400", "1:+4", "1: 40", "1:40:", "1:40:0", "1:40:x", "1:40:-1", "1:40: 1", "1:40:1:1", "x:40", "-1:40",
-                "18446744073709551616:40", "2-1:40", "1-:40", "1:40:evers", "1:40,", "1:40,read", "1:40,reads,writes", "1:40,commands=0", "1:40,commands=2-1", "1:40,seconds=1",
-                "1:40,seconds=2-1", "1:40,rate=1", "1:40,rate=0/2", "1:40,rate=3/2", "1:40,seed=x", "1:40 ,reads", "any", "anyone:40")
-    slowness = ("", "1", "1:", "1:x", "1:1+", "1:1+x", "1:10000001", "1:1+10000001", "1:1:0", "1:1,rate=1/0")
+    number, size = "expected a decimal number from", "expected a number of bytes from 1 on"
     wrong = [
-        *((f"{key}={value}", number) for key, values in (
-            ("sectors", ("0", "131073", "-1", "+1", " 1", "0x10", "x", "1x", "")), ("depth", ("0", "33", "x")), ("together", ("0", "33")),
-            ("most-journal", ("0", "x")), ("seed", ("x", "18446744073709551616")), ("record-limit", ("0", "x"))) for value in values),
-        *((f"delay={it}", "expected MICROSECONDS") for it in ("-1", "10000001", "", "x", "1+", "1+x", "1+10000001")),
-        *((f"pick={it}", "expected low, high, all or random") for it in ("", "some", "lowest")),
-        *((f"sync={it}", "expected end or flush") for it in ("", "never")),
-        *((f"fail={it}", failure) for it in failures), *((f"slow={it}", slow) for it in slowness),
-        ("fail=131072:40", "the disk has 131072 sectors"), ("fail=0-131072:40", "the disk has 131072 sectors"), ("slow=131072:1", "the disk has 131072 sectors"),
-        ("what=1", "what: there is no such parameter"), ("image=/nowhere/image", "No such file"), ("image=/", "no regular file"), ("record=/nowhere/record", "No such file"),
-        (f"record={image}", "Not a directory"), (f"record={full}", "has a record already"), ("sync=flush", "there is no image="), ("record-limit=1", "there is no record="),
+        *((f"{key}={value}", f'{key}: {number}') for key, value in (("sectors", "0"), ("sectors", "131073"), ("depth", "33"), ("together", "0"), ("seed", "x"))),
+        *((f"{key}={value}", f'{key}: {size}, such as 4096, 512K, 64M or 1G, got "{value}"') for key, value in (("most-journal", "0"), ("record-limit", "64MB"))),
+        ("delay=1+", 'delay: expected MICROSECONDS or MICROSECONDS+JITTER, each a decimal number up to 10000000, got "1+"'),
+        ("pick=some", 'pick: expected low, high, all or random, got "some"'), ("sync=never", 'sync: expected end or flush, got "never"'),
+        ("fail=1:4", "fail: expected WHERE:EE"), ("slow=1", "slow: expected WHERE:MICROSECONDS"), ("stall=1", "stall: there is no such parameter"),
+        ("fail=131072:40", "fail=131072..: the disk has 131072 sectors"), ("slow=131072:1", "slow=131072..: the disk has 131072 sectors"),
+        ("what=1", "what: there is no such parameter"), ("image=/nowhere/image", "image=/nowhere/image: No such file"), ("image=/", "no regular file"),
+        ("record=/nowhere/record", "No such file"), (f"record={image}", "Not a directory"), ("sync=flush", "there is no image="), ("record-limit=1", "there is no record="),
     ]
     several = [([f"image={image}", "sectors=2"], "the image has 3 sectors"), (["fail=1:40"] * 65, "64 times at most"), (["sectors=8", "fail=8:40"], "the disk has 8 sectors"),
                (["sectors=8", "sectors=8"], "sectors= is given twice"), (["pick=low", "pick=high"], "pick= is given twice"),
-               ([f"record={room}/record", "record-limit=1"], "at least")]
+               ([f"record={room}/record", "record-limit=1K"], "at least")]
     for words, told_of in [*(([word], text) for word, text in wrong), *several]:
-        done = subprocess.run(["nbdkit", "-f", "-U", os.path.join(room, "socket"), PLUGIN, *words, "--run", "true"], stdin=subprocess.DEVNULL,
-                              stdout=subprocess.PIPE, stderr=subprocess.STDOUT, text=True, timeout=SECONDS, check=False)
+        done = tool(["nbdkit", "-f", "-U", os.path.join(room, "socket"), PLUGIN, *words, "--run", "true"])
         if done.returncode != 1 or told_of not in done.stdout:
             raise Failed(f"{' '.join(words[:2])}: status {done.returncode}, {done.stdout}")
     return f"{len(wrong) + len(several)} are refused"
@@ -55,15 +45,16 @@ def verified_writes(room: str) -> str:
 
 
 def mixed_jobs(room: str) -> str:
-    """fio: two jobs that read and write, several tags completed at once, out of order."""
-    with serving(room, "pick=random", "seed=3", "together=4", "delay=20") as server:
-        must_be_clean(fio(server, "mixed", "--rw=randrw", "--bs=4k", "--iodepth=32", "--size=64m", "--io_size=16m", "--numjobs=2",
-                          "--group_reporting"))
-    if "32 tags at most" not in told(server):
-        raise Failed(f"the queue was never full: {told(server)}")
-    if not counted(server, "lists of several tags") or not counted(server, "of them out of order"):
-        raise Failed(f"no tags were completed together, or out of order: {told(server)}")
-    return told(server)
+    """fio: two jobs that read and write, several tags completed at once, out of order. The queue is full once: the device waits longer and longer
+    until it is."""
+    for delay in (20, 200, 2000, 20000):
+        with serving(room, "pick=random", "seed=3", "together=4", f"delay={delay}") as server:
+            must_be_clean(fio(server, "mixed", "--rw=randrw", "--bs=4k", "--iodepth=32", "--size=64m", f"--io_size={max(1, 320 // delay)}m", "--numjobs=2", "--group_reporting"))
+        if not counted(server, "lists of several tags") or not counted(server, "of them out of order"):
+            raise Failed(f"no tags were completed together, or out of order: {told(server)}")
+        if "32 tags at most" in told(server):
+            return told(server)
+    raise Failed(f"the queue was never full: {told(server)}")
 
 
 def long_requests(room: str) -> str:
@@ -232,6 +223,6 @@ def no_races(room: str) -> str:
     return last
 
 
-CHECKS = [(wrong_words, []), (verified_writes, ["fio"]), (mixed_jobs, ["fio"]), (long_requests, ["qemu-io", "nbdcopy"]), (chosen_tags, ["fio"]),
-          (bits_and_flushes, ["qemu-io", "nbdcopy"]), (waiting_flushes, ["fio"]), (a_file_system, ["nbdcopy", "mkfs.ext4", "debugfs"]), (by_qemu, ["qemu-img", "qemu-io"]),
-          (bounded_memory, ["fio"]), (parts_among_others, ["fio"]), (no_races, ["fio", "gcc"])]
+CHECKS = [Check(wrong_words, []), Check(verified_writes, ["fio"]), Check(mixed_jobs, ["fio"]), Check(long_requests, ["qemu-io", "nbdcopy"]), Check(chosen_tags, ["fio"]),
+          Check(bits_and_flushes, ["qemu-io", "nbdcopy"]), Check(waiting_flushes, ["fio"]), Check(a_file_system, ["nbdcopy", "mkfs.ext4", "debugfs"]), Check(by_qemu, ["qemu-img", "qemu-io"]),
+          Check(bounded_memory, ["fio"]), Check(parts_among_others, ["fio"]), Check(no_races, ["fio", "gcc"])]

@@ -1,6 +1,6 @@
 /* The rules that the judge knows: those of the library (ahci_rule), and those that only a program with the guest's memory sees. */
-#ifndef AHCI_HBA_RULES_H
-#define AHCI_HBA_RULES_H
+#ifndef AHCI_HBA_DRIVER_RULES_H
+#define AHCI_HBA_DRIVER_RULES_H
 
 #include <ahci.h>
 
@@ -17,14 +17,14 @@ enum own_rule {
 enum verdict { VERDICT_BROKEN, VERDICT_OPEN, VERDICT_ODD };
 
 /* A rule of AHCI 1.3.1, named for what breaks it. */
-struct rule {
+struct driver_rule {
     const char *name;
     const char *section;
     enum verdict verdict;
     const char *text;
 };
 
-extern const struct rule rules[JUDGE_RULES];
+extern const struct driver_rule driver_rules[JUDGE_RULES];
 
 /* A verdict in words. */
 const char *verdict_text(enum verdict verdict);

@@ -1,24 +1,21 @@
 #include "record.h"
 
+#include "say.h"
+
 #include <dirent.h>
 #include <errno.h>
 #include <fcntl.h>
 #include <inttypes.h>
 #include <limits.h>
 #include <stdio.h>
-#include <stdlib.h>
 #include <string.h>
 #include <sys/stat.h>
 #include <time.h>
 #include <unistd.h>
 
-#define NBDKIT_API_VERSION 2
-#include <nbdkit-plugin.h>
-
 #define HEADER 64                  /* bytes of a part's header */
 #define PART (UINT64_C(512) << 20) /* bytes of a part, if there is no limit */
 #define SPARE (UINT64_C(1) << 20)  /* for the entries of the commands that are outstanding, and of a snapshot */
-#define MOST_WRITE (UINT64_C(8192) * AHCI_SECTOR_BYTES)
 #define RUN 64                     /* sectors of a snapshot's entry at most */
 
 static const char magic[8] = "ahcirec1";
@@ -45,20 +42,31 @@ static uint64_t part_bytes(const struct record *record) {
     return record->limit ? record->limit / 2 : PART;
 }
 
-uint64_t record_least_limit(uint32_t sectors) {
-    return 2 * ((uint64_t)sectors * AHCI_SECTOR_BYTES + MOST_WRITE + 2 * SPARE);
+uint64_t record_least_limit(uint32_t sectors, uint32_t most_count) {
+    return 2 * (((uint64_t)sectors + most_count) * SECTOR_BYTES + 2 * SPARE);
 }
 
 static bool part_path(const struct record *record, uint64_t number, char *path) {
     return snprintf(path, PATH_MAX, "%s/part.%06" PRIu64, record->folder, number) < PATH_MAX;
 }
 
-/* Ends the record before its time. */
-static void give_up(struct record *record, const char *what) {
-    nbdkit_error("record=%s: %s: %s; the record ends after %" PRIu64 " entries", record->folder, what, strerror(errno), record->entries);
+static void close_part(struct record *record) {
     if (record->file >= 0)
         close(record->file);
     record->file = -1;
+}
+
+void record_give_up(struct record *record, const char *why) {
+    say_of("record", record->folder, "%s; the record ends after %" PRIu64 " entries", why, record->entries);
+    record->has_failed = true;
+    close_part(record);
+}
+
+/* Ends it for the reason of errno. */
+static void give_up(struct record *record, const char *what) {
+    char why[200];
+    snprintf(why, sizeof why, "%s: %s", what, strerror(errno));
+    record_give_up(record, why);
 }
 
 /* Writes all of the pieces, which it uses up. */
@@ -94,7 +102,7 @@ void record_sync(struct record *record) {
         if (write_pieces(record->file, record->piece, record->pieces)) {
             int why = errno;
             if (ftruncate(record->file, (off_t)record->bytes))
-                nbdkit_error("record=%s: its last entry is cut: %m", record->folder);
+                say_of("record", record->folder, "its last entry is cut: %m");
             errno = why;
             give_up(record, "it can't be written");
         } else {
@@ -131,7 +139,7 @@ void record_command(struct record *record, bool writes, uint32_t tag, uint64_t l
     entry->count = sectors;
     entry->lba = lba;
     if (writes)
-        add_piece(record, bytes, (size_t)sectors * AHCI_SECTOR_BYTES);
+        add_piece(record, bytes, (size_t)sectors * SECTOR_BYTES);
 }
 
 void record_tag(struct record *record, enum record_kind kind, uint32_t tag) {
@@ -145,7 +153,7 @@ void record_served(struct record *record, const uint8_t *tags, uint32_t count) {
     struct record_entry *entry = add(record, RECORD_SERVE);
     uint8_t *copy = record->tags[entry - record->at];
     entry->count = count;
-    memset(copy, 0, AHCI_MOST_TAGS);
+    memset(copy, 0, MOST_SLOTS);
     memcpy(copy, tags, count);
     add_piece(record, copy, (count + 7) / 8 * 8);
 }
@@ -166,21 +174,22 @@ bool record_has_room(const struct record *record, uint64_t bytes) {
 /* Writes a run of sectors of the snapshot. */
 static int put_run(struct record *record, uint64_t lba, uint32_t count, const uint8_t *bytes) {
     struct record_entry entry = {.kind = RECORD_SECTORS, .count = count, .lba = lba, .time = now()};
-    struct iovec pieces[] = {{.iov_base = &entry, .iov_len = sizeof entry}, {.iov_base = (void *)(uintptr_t)bytes, .iov_len = (size_t)count * AHCI_SECTOR_BYTES}};
+    struct iovec pieces[] = {{.iov_base = &entry, .iov_len = sizeof entry}, {.iov_base = (void *)(uintptr_t)bytes, .iov_len = (size_t)count * SECTOR_BYTES}};
     if (!count)
         return 0;
-    record->bytes += sizeof entry + (uint64_t)count * AHCI_SECTOR_BYTES;
+    record->bytes += sizeof entry + (uint64_t)count * SECTOR_BYTES;
     return write_pieces(record->file, pieces, 2);
 }
 
 /* Writes the sectors as they are, those of zeros left out. */
-static int put_snapshot(struct record *record, ahci_port *port) {
-    static const uint8_t zeros[AHCI_SECTOR_BYTES];
-    uint8_t bytes[RUN * AHCI_SECTOR_BYTES];
+static int put_snapshot(struct record *record) {
+    const struct disk *disk = &record->disk;
+    static const uint8_t zeros[SECTOR_BYTES];
+    uint8_t bytes[RUN * SECTOR_BYTES];
     uint32_t count = 0;
-    for (uint32_t lba = 0; lba < record->sectors; lba++) {
-        uint8_t *to = bytes + (size_t)count * AHCI_SECTOR_BYTES;
-        ahci_port_copy(port, lba, to, AHCI_SECTOR_BYTES);
+    for (uint32_t lba = 0; lba < disk->sectors; lba++) {
+        uint8_t *to = bytes + (size_t)count * SECTOR_BYTES;
+        disk->copy(disk->it, lba, to);
         bool is_blank = !memcmp(to, zeros, sizeof zeros);
         count += !is_blank;
         if (count < RUN && !is_blank)
@@ -189,13 +198,13 @@ static int put_snapshot(struct record *record, ahci_port *port) {
             return -1;
         count = 0;
     }
-    return put_run(record, record->sectors - count, count, bytes);
+    return put_run(record, disk->sectors - count, count, bytes);
 }
 
 /* Begins a part with its header and its snapshot. */
-static int begin_part(struct record *record, ahci_port *port) {
+static int begin_part(struct record *record) {
     char path[PATH_MAX];
-    struct part_header header = {.sectors = record->sectors, .depth = record->depth, .first = record->entries, .time = now()};
+    struct part_header header = {.sectors = record->disk.sectors, .depth = record->depth, .first = record->entries, .time = now()};
     struct iovec piece = {.iov_base = &header, .iov_len = sizeof header};
     memcpy(header.magic, magic, sizeof magic);
     errno = ENAMETOOLONG;
@@ -205,7 +214,7 @@ static int begin_part(struct record *record, ahci_port *port) {
     record->file = open(path, O_WRONLY | O_CREAT | O_EXCL | O_CLOEXEC, 0666);
     if (record->file < 0)
         return -1;
-    if (!write_pieces(record->file, &piece, 1) && !put_snapshot(record, port))
+    if (!write_pieces(record->file, &piece, 1) && !put_snapshot(record))
         return 0;
     int why = errno;
     unlink(path);
@@ -213,16 +222,15 @@ static int begin_part(struct record *record, ahci_port *port) {
     return -1;
 }
 
-void record_next_part(struct record *record, ahci_port *port) {
+void record_next_part(struct record *record) {
     char path[PATH_MAX];
     record_sync(record);
     if (record->file < 0)
         return;
-    close(record->file);
-    record->file = -1;
+    close_part(record);
     if (record->limit && record->parts > 1 && part_path(record, record->parts - 1, path))
         unlink(path);
-    if (begin_part(record, port))
+    if (begin_part(record))
         give_up(record, "its next part can't be written");
 }
 
@@ -238,28 +246,24 @@ static int has_parts(const char *folder) {
     return has;
 }
 
-int record_begin(struct record *record, const char *folder, uint64_t limit, ahci_port *port) {
-    record->folder = folder;
-    record->limit = limit;
-    record->file = -1;
-    clear_group(record);
+int record_begin(struct record *record, const char *folder, uint64_t limit, const struct disk *disk, uint32_t depth) {
+    *record = (struct record){.folder = folder, .limit = limit, .file = -1, .disk = *disk, .depth = depth};
     if (!folder)
         return 0;
     int has = mkdir(folder, 0777) && errno != EEXIST ? -1 : has_parts(folder);
-    if (has > 0)
-        nbdkit_error("record=%s: the folder has a record already; remove it, or name another folder", folder);
-    if (has)
-        return has < 0 ? (nbdkit_error("record=%s: %m", folder), -1) : -1;
-    if (ahci_port_sectors(port, &record->sectors) != AHCI_OK || ahci_port_depth(port, &record->depth) != AHCI_OK || begin_part(record, port)) {
-        nbdkit_error("record=%s: %m", folder);
+    if (has > 0) {
+        say_of("record", folder, "the folder has a record already; remove it, or name another folder");
         return -1;
     }
-    return 0;
+    if (!has && !begin_part(record))
+        return 0;
+    say_of("record", folder, "%m");
+    close_part(record);
+    return -1;
 }
 
-void record_end(struct record *record) {
+int record_end(struct record *record) {
     record_sync(record);
-    if (record->file >= 0)
-        close(record->file);
-    record->file = -1;
+    close_part(record);
+    return record->has_failed ? -1 : 0;
 }

@@ -1,4 +1,4 @@
-"""Reads the records that the plugin makes (record.h has their format)."""
+"""Reads the records that the block device and `ahci-hba` make (record.h has their format)."""
 from __future__ import annotations
 
 import mmap
@@ -10,8 +10,8 @@ SECTOR = 512
 HEADER = struct.Struct("<8sIIQQ32x")
 ENTRY = struct.Struct("<BBBBIQQ")
 MAGIC = b"ahcirec1"
-SECTORS, READ, WRITE, ACCEPT, SERVE, FAIL, RECOVER, REISSUE, COLLECT, FLUSH, TRIM = range(11)
-NAMES = ("sectors", "read", "write", "accept", "serve", "fail", "recover", "reissue", "collect", "flush", "trim")
+SECTORS, READ, WRITE, ACCEPT, SERVE, FAIL, RECOVER, REISSUE, COLLECT, FLUSH, TRIM, RESET, IDENTIFY, READ_LOG = range(14)
+NAMES = ("sectors", "read", "write", "accept", "serve", "fail", "recover", "reissue", "collect", "flush", "trim", "reset", "identify", "read log")
 
 
 class Wrong(Exception):
@@ -108,6 +108,7 @@ class State:
         self.accepted: List[int] = []
         self.held: Set[int] = set()  # a failure has ended their commands
         self.done: Set[int] = set()  # they wait to be collected, or to be recovered
+        self.is_halted = False  # a command has failed, and the port has not recovered
 
     def take(self, it: Entry) -> None:
         """What an entry does."""
@@ -123,13 +124,24 @@ class State:
                 self.serve(tag)
         elif it.kind == FAIL:
             self.done.add(it.tag)
+            self.is_halted = True
             self.accepted = []
             self.held = set(self.commands) - self.done
+        elif it.kind == RECOVER:
+            self.is_halted = False
         elif it.kind == REISSUE:
             self.held.discard(it.tag)
         elif it.kind == COLLECT:
             self.done.discard(it.tag)
             self.commands.pop(it.tag, None)
+        elif it.kind == RESET:
+            self.drop()
+
+    def drop(self) -> None:
+        """A reset: nothing is outstanding any more."""
+        self.commands, self.accepted, self.is_halted = {}, [], False
+        self.held.clear()
+        self.done.clear()
 
     def serve(self, tag: int) -> None:
         """A command is carried out."""

@@ -1,8 +1,8 @@
-#include "rules.h"
+#include "driver_rules.h"
 
 #include <stddef.h>
 
-const struct rule rules[JUDGE_RULES] = {
+const struct driver_rule driver_rules[JUDGE_RULES] = {
     [AHCI_RULE_START_WITHOUT_RECEIVING] = {"StartWithoutReceiving", "10.3.1", VERDICT_BROKEN, "ST is set while FRE is 0 and stays 0"},
     [AHCI_RULE_START_WITH_RECEIVING] = {"StartWithReceiving", "10.3.1", VERDICT_OPEN, "ST and FRE are set by one write"},
     [AHCI_RULE_START_WHILE_BUSY] = {"StartWhileBusy", "10.3.1", VERDICT_BROKEN, "ST is set while BSY or DRQ is 1, without CLO"},

@@ -1,0 +1,90 @@
+#include "fate.h"
+
+#include "device.h"
+#include "log.h"
+
+#include <inttypes.h>
+
+/* Whether the moment has come at which the rules are applied to the command of a slot. Rules are about commands that name sectors. */
+static bool is_moment(const struct device *device, uint32_t slot) {
+    const struct task *task = &device->tasks[slot];
+    uint8_t kind = device->state.next[slot];
+    if (task->is_decided || !task->command.sectors)
+        return false;
+    return task->command.queued ? kind == AHCI_STEP_SERVE : kind == AHCI_STEP_SEND || kind == AHCI_STEP_EXECUTE;
+}
+
+/* The first sector of a command that a rule is about. */
+static uint64_t sector_of(const struct rule *rule, const struct command *command) {
+    return rule->first_lba > command->lba ? rule->first_lba : command->lba;
+}
+
+/* The command of a slot is not answered any more. */
+static void stall(struct device *device, uint32_t slot, const struct rule *rule) {
+    device->stalled |= UINT32_C(1) << slot;
+    log_line("stall %" PRIu32 " at sector %" PRIu64, slot, sector_of(rule, &device->tasks[slot].command));
+}
+
+static void decide(struct device *device, uint32_t slot) {
+    struct settings *settings = device->settings;
+    struct task *task = &device->tasks[slot];
+    uint64_t time = device_now();
+    const struct occasion occasion = {.lba = task->command.lba, .sectors = task->command.sectors, .writes = task->command.writes, .number = task->number,
+                                      .since = (time - device->started) / 1000};
+    task->is_decided = true;
+    const struct rule *stalls = rules_apply(&settings->stalls, &occasion);
+    if (stalls) {
+        stall(device, slot, stalls);
+        return;
+    }
+    struct rule *slow = rules_apply(&settings->slow, &occasion);
+    task->failure = rules_apply(&settings->failures, &occasion);
+    task->ready = slow ? time + 1000 * delay_drawn(&slow->delay, &slow->random) : 0;
+}
+
+void fate_decide(struct device *device) {
+    const struct settings *settings = device->settings;
+    if (settings->failures.count + settings->slow.count + settings->stalls.count == 0)
+        return;
+    for (uint32_t slot = 0; slot < AHCI_MOST_TAGS; slot++)
+        if (is_moment(device, slot))
+            decide(device, slot);
+}
+
+/* Fails a command by a rule of --fail. It returns false if the library doesn't let it. */
+static bool fail(struct device *device, uint32_t slot) {
+    struct task *task = &device->tasks[slot];
+    const struct rule *rule = task->failure;
+    uint64_t lba = sector_of(rule, &task->command);
+    uint32_t status = task->command.queued ? ahci_hba_fail(&device->hba, slot, rule->error, lba) : ahci_hba_refuse(&device->hba, slot, rule->error, lba);
+    task->failure = NULL;
+    if (status != AHCI_OK)
+        return false;
+    log_line("fail %" PRIu32 " with %02x at sector %" PRIu64, slot, rule->error, lba);
+    return true;
+}
+
+/* Writes the image back before a flush is answered; if that fails, so does the flush. */
+static bool fails_flush(struct device *device, uint32_t slot) {
+    struct settings *settings = device->settings;
+    if (settings->sync != SYNC_FLUSH || device->state.next[slot] != AHCI_STEP_EXECUTE || !device->tasks[slot].command.flushes || !settings->image.is_changed)
+        return false;
+    log_flush();
+    if (!image_write(&settings->image, &device->disk))
+        return false;
+    device_must("ahci_hba_refuse", ahci_hba_refuse(&device->hba, slot, AHCI_ERROR_ABRT, 0));
+    return true;
+}
+
+/* Aborts a command that reads the log of a failed queued one, if --refuse-log says so. */
+static bool refuses_log(struct device *device, uint32_t slot) {
+    if (!device->settings->refuse_log || device->state.next[slot] != AHCI_STEP_RECOVER)
+        return false;
+    device_must("ahci_hba_refuse", ahci_hba_refuse(&device->hba, slot, AHCI_ERROR_ABRT, 0));
+    log_line("the log is refused to %" PRIu32, slot);
+    return true;
+}
+
+bool fate_fails(struct device *device, uint32_t slot) {
+    return (device->tasks[slot].failure && fail(device, slot)) || fails_flush(device, slot) || refuses_log(device, slot);
+}

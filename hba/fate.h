@@ -1,0 +1,16 @@
+/* What becomes of commands by the options --fail, --slow, --stall, --refuse-log and --sync, instead of the step that comes next. */
+#ifndef AHCI_HBA_FATE_H
+#define AHCI_HBA_FATE_H
+
+#include <stdbool.h>
+#include <stdint.h>
+
+struct device;
+
+/* Applies the rules to each command whose moment has come, once: a queued one when the device has taken it, any other before it goes on. */
+void fate_decide(struct device *device);
+
+/* Fails the command of a slot if some option says so, instead of its next step. */
+bool fate_fails(struct device *device, uint32_t slot);
+
+#endif

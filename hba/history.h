@@ -1,0 +1,47 @@
+/* The journal of the queue behind the controller: it is handed to the record entry by entry, and trimmed at a size. Both a trim and a new part of
+   the record need a queue without requests, so at times the device sends no more commands to the queue until those that are there have ended. */
+#ifndef AHCI_HBA_HISTORY_H
+#define AHCI_HBA_HISTORY_H
+
+#include "record.h"
+
+#include <ahci.h>
+#include <stdbool.h>
+#include <stddef.h>
+#include <stdint.h>
+
+struct device;
+
+struct history {
+    struct record record;
+    uint64_t seen;       /* the number of the journal's next entry that the record doesn't have */
+    uint32_t owned;      /* tags that have a request by the entries so far, as bits */
+    uint32_t failed_tag; /* whose command failed last */
+    uint64_t bytes;      /* about how many the journal has */
+    uint8_t *room;       /* for the bytes of a write */
+    size_t room_bytes;
+};
+
+/* Begins the record. It returns 0, or -1 once it has printed why. */
+int history_begin(struct device *device);
+
+/* Counts what the step of a slot's command has added to the journal. */
+void history_count(struct device *device, uint32_t slot, uint8_t step);
+
+/* Hands what the queue has done since the last call to the record. If the journal was handed out (`entries` is not 0), by a reset that dropped
+   commands or by a recovery, the record has that too. */
+void history_follow(struct device *device, uint64_t entries, bool has_recovered);
+
+/* Whether commands have to wait that are to be sent to the queue: `sends` are their slots. */
+bool history_drains(const struct device *device, uint32_t sends);
+
+/* Trims the journal, or begins the record's next part, if that is due and the queue has no request. */
+void history_settle(struct device *device);
+
+/* Writes what the record has not written yet. */
+void history_sync(struct history *history);
+
+/* Ends the record. It returns 0, or -1 if it ended before its time. */
+int history_end(struct history *history);
+
+#endif

@@ -1,0 +1,86 @@
+#include "moving.h"
+
+#include "device.h"
+#include "log.h"
+
+#include <inttypes.h>
+#include <stdio.h>
+#include <stdlib.h>
+
+#define FIS_RUN 1 /* of the runs of a command, counted from 0: its header comes before */
+
+/* Room for a run; NULL if there is no memory. */
+static uint8_t *room_for(struct device *device, uint64_t bytes) {
+    if (bytes > device->room) {
+        uint8_t *room = realloc(device->buffer, (size_t)bytes);
+        if (!room)
+            return NULL;
+        device->buffer = room;
+        device->room = (size_t)bytes;
+    }
+    return device->buffer;
+}
+
+static void report_unmapped(struct device *device) {
+    log_line("no memory at %" PRIx64 ", %" PRIu64 " bytes", device->state.address, device->state.length);
+    device_must("ahci_hba_unmapped", ahci_hba_unmapped(&device->hba));
+    device->mute = true;
+}
+
+/* Keeps what the command asks, and logs its FIS. */
+static void note_command(struct device *device, const uint8_t *fis) {
+    char text[2 * COMMAND_FIS_BYTES + 1];
+    struct command command = command_of(fis);
+    device->tasks[device->reading] = (struct task){.command = command, .number = command.sectors ? ++device->commands : 0};
+    if (!log_is_open())
+        return;
+    for (unsigned i = 0; i < COMMAND_FIS_BYTES; i++)
+        snprintf(text + 2 * i, 3, "%02x", fis[i]);
+    log_line("command %" PRIu32 " %s", device->reading, text);
+}
+
+/* Reads the run that the controller asks for. It returns false if there is no memory for now. */
+static bool move_in(struct device *device) {
+    size_t count = (size_t)device->state.length;
+    uint8_t *bytes = room_for(device, count);
+    if (!bytes)
+        return false;
+    if (!memory_read(device->memory, device->state.address, bytes, count)) {
+        report_unmapped(device);
+        return true;
+    }
+    uint32_t status = ahci_hba_supply(&device->hba, bytes, count);
+    if (status == AHCI_OUT_OF_MEMORY)
+        return false;
+    device_must("ahci_hba_supply", status);
+    judge_run(&device->judge, &device->hba, device->reading, device->state.address, bytes, count);
+    if (device->runs++ == FIS_RUN && count == COMMAND_FIS_BYTES)
+        note_command(device, bytes);
+    return true;
+}
+
+/* Writes the run that the controller has. What it answers is in the record before. */
+static bool move_out(struct device *device) {
+    size_t count = (size_t)device->state.length;
+    uint8_t *bytes = room_for(device, count);
+    if (!bytes)
+        return false;
+    history_sync(&device->history);
+    device_must("ahci_hba_bytes", ahci_hba_bytes(&device->hba, bytes, count));
+    if (memory_write(device->memory, device->state.address, bytes, count))
+        device_must("ahci_hba_written", ahci_hba_written(&device->hba));
+    else
+        report_unmapped(device);
+    return true;
+}
+
+bool move(struct device *device) {
+    bool moved = true;
+    while (moved && device->state.want != AHCI_WANT_NOTHING) {
+        moved = device->state.want == AHCI_WANT_READ ? move_in(device) : move_out(device);
+        device_look(device);
+    }
+    if (!moved)
+        device_starve(device);
+    return moved;
+}

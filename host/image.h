@@ -1,0 +1,33 @@
+/* The disk's sectors in a file: read at the start, and written back to a new file that then takes the old one's place. */
+#ifndef AHCI_HOST_IMAGE_H
+#define AHCI_HOST_IMAGE_H
+
+#include "disk.h"
+
+#include <stdbool.h>
+#include <stdint.h>
+
+struct image {
+    char *path;      /* of the file that symbolic links lead to; NULL if there is no image */
+    uint64_t bytes;  /* how many it had at the start */
+    bool is_changed; /* a command has written since it was read or written */
+    bool has_new;    /* a write-back that failed has left FILE.new */
+};
+
+/* Finds the image, which has to be a regular file. All calls return 0, or -1 once they have printed why, if nothing else is said. */
+int image_find(struct image *image, const char *file);
+
+/* Settles how many sectors the disk has: as many as were asked for, or as the image has, or the most that there can be, if *sectors is 0. */
+int image_settle(const struct image *image, uint32_t *sectors);
+
+/* All sectors of the disk: those of the image, and zeros after them. The caller frees them. NULL if the image can't be read, or if FILE.new is
+   there: it may have sectors that are nowhere else. */
+uint8_t *image_read(const struct image *image, uint32_t sectors);
+
+/* Writes the disk's sectors to FILE.new, which gets the owner and the mode of FILE and then takes its place; nothing is done if no command has
+   written. It returns 0, or an errno: FILE is as it was then, and FILE.new stays. */
+int image_write(struct image *image, const struct disk *disk);
+
+void image_end(struct image *image);
+
+#endif
