@@ -579,7 +579,7 @@ uint32_t ahci_hba_bytes(ahci_hba *hba, uint8_t *out, size_t out_bytes);
 /* The bytes that the controller writes are written. With the last ones of an answer the registers change, and the interrupt may be asserted. */
 uint32_t ahci_hba_written(ahci_hba *hba);
 
-/* The address that the controller reads or writes is no memory: HBFS or HBDS, and the port halts (section 6.1). */
+/* The address that the controller reads or writes is no memory: HBFS, and the port halts (sections 3.3.5 and 6.1). */
 uint32_t ahci_hba_unmapped(ahci_hba *hba);
 
 /* Takes the next step with the command of a slot: the one that `next` names. AHCI_BAD_TAG, AHCI_NOT_READY if there is none,
@@ -596,7 +596,7 @@ uint32_t ahci_hba_fail(ahci_hba *hba, uint32_t slot, uint8_t error, uint64_t lba
 uint32_t ahci_hba_refuse(ahci_hba *hba, uint32_t slot, uint8_t error, uint64_t lba);
 
 /* The FIS of the disk's signature is taken, and written if FRE is 1; if not, `sign` is 1 again once FRE is 1. AHCI_NOT_READY if `sign` is 0. If
-   its address is no memory (ahci_hba_unmapped), PxIS has HBDS and `sign` is 1 again: send it after the driver's next register write, not in a
+   its address is no memory (ahci_hba_unmapped), PxIS has HBFS and `sign` is 1 again: send it after the driver's next register write, not in a
    loop. */
 uint32_t ahci_hba_sign(ahci_hba *hba);
 

@@ -78,8 +78,9 @@ abbrev pub put_done : HbaView → WorkView → HbaView
 put_done h (Posting p e) = answering h (advanced p) e
 put_done h other = h
 
--- the address is no memory: a read of a command fails the host bus, a move of data its data
+-- the address is no memory: a pointer of the driver's that is bad, HBFS (sections 3.3.5, HBFS, and 6.1); HBDS is for data that memory
+-- itself can't give or take, which this model has not
 abbrev pub unmapped : HbaView → WorkView → HbaView
 unmapped h (Fetching slot r) = failed_fatally h fatal.HostBusFatal
-unmapped h (Posting p e) = failed_fatally h fatal.HostBusData
+unmapped h (Posting p e) = failed_fatally h fatal.HostBusFatal
 unmapped h other = h

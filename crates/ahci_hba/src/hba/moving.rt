@@ -100,14 +100,13 @@ impl<A: Allocator> Hba<A> {
         }
     }
 
-    /// The address that it reads or writes is no memory: a fatal error of the host bus (AHCI 1.3.1, section 6.1). The port halts.
+    /// The address that it reads or writes is no memory, a bad pointer of the driver: HBFS (AHCI 1.3.1, sections 3.3.5 and 6.1). The port halts.
     pub fn fail_memory(&mut self)
         ensures { self.new ≡ unmapped self.old self.old.work }
     {
         match &self.work {
-            Work::Fetching(_, _) => self.fail_fatally(Fatal::HostBusFatal),
-            Work::Posting(_, _) => self.fail_fatally(Fatal::HostBusData),
-            _ => {}
+            Work::Fetching(_, _) | Work::Posting(_, _) => self.fail_fatally(Fatal::HostBusFatal),
+            Work::Idle | Work::Served(_, _, _, _) => {}
         }
     }
 }

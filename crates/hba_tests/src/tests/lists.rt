@@ -271,7 +271,7 @@ const NO_PLACE: &[Row] = &[
     Writes(PX_CI, 2),
     Does(1),
     Reads(PX_SACT, 2),
-    Reads(PX_IS, 0x1000_0000),
+    Reads(PX_IS, 0x2000_0000),
     HasAll(DATA + 256, 256, 0xAA),
 ];
 
