@@ -1,6 +1,6 @@
 -- What the registers of an HBA with one port keep (AHCI 1.3.1, sections 3.1 and 3.3). A register of 32 bits with a bit for each
 -- slot, interrupt or error is the set of its bits that are 1.
-use Rattle.std.specs.Prelude.{◌≡◌, ℕ, ◌/◌, ◌%◌, ◌^◌, ◌<◌, ◌≤◌, Bool, true, false, List, length, nat_eq, if◌then◌else◌}
+use Rattle.std.specs.Prelude.{◌≡◌, ℕ, ◌/◌, ◌%◌, ◌^◌, ◌<◌, ◌≤◌, Bool, false, List, length, nat_eq, if◌then◌else◌}
 use Rattle.word_bits.specs.Places.{bits, no_places, has_place, intersection}
 use Rattle.hba_regs.specs.declared.link.Link.{Link}
 use Rattle.hba_regs.specs.declared.link.Link.TheVariants.{Up, InReset, Offline}
