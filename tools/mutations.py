@@ -7,9 +7,10 @@ from __future__ import annotations
 import collections
 import dataclasses
 import glob
+import os
 import random
 import re
-from typing import Callable, Dict, Iterator, List, NamedTuple, Optional, Set, Tuple, Union
+from typing import Callable, Dict, Iterator, List, NamedTuple, Optional, Sequence, Set, Tuple, Union
 
 from libraries import TOP
 from trials import Functions, Texts
@@ -76,11 +77,12 @@ class Function:
 class Types:
     """What the sources of all crates declare."""
 
-    units: Dict[str, List[str]] = dataclasses.field(default_factory=lambda: collections.defaultdict(list))  # an enum's variants without fields
+    units: Dict[str, List[str]] = dataclasses.field(default_factory=dict)  # an enum's variants without fields
     empty: Set[str] = dataclasses.field(default_factory=set)  # structs without fields
     fields: Dict[str, List[Tuple[str, str]]] = dataclasses.field(default_factory=dict)
     of_memory: Set[str] = dataclasses.field(default_factory=lambda: {"AllocError"})  # errors that an allocator's refusal becomes
-    grow: Set[str] = dataclasses.field(default_factory=lambda: {"Vec"})  # types that have `reserve`
+    grow: Set[str] = dataclasses.field(default_factory=set)  # types that have `reserve`
+    shown: Dict[str, List[str]] = dataclasses.field(default_factory=dict)  # a struct's vectors of which its view says how much they hold
 
 
 class Mutant(NamedTuple):
@@ -247,22 +249,43 @@ def changed_lines(line: str, variants: Dict[str, List[str]], pick: random.Random
         yield code[: len(code) - len(code.lstrip())] + "{}"
 
 
-def types_of(top: str = TOP) -> Types:
-    """The types of all crates."""
+def types_in(text: str) -> Types:
+    """The types of a file."""
     types = Types()
+    for name, body in re.findall(r"(?ms)^pub(?:\([a-z]+\))? enum (\w+)(?:<[^>]*>)? \{\n(.*?)^\}", text):
+        types.units[name] = re.findall(r"(?m)^    (\w+),$", body)
+        types.of_memory |= {name} if "OutOfMemory" in types.units[name] else set()
+    types.empty |= set(re.findall(r"(?m)^pub(?:\([a-z]+\))? struct (\w+);$", text))
+    for name, body in re.findall(r"(?ms)^pub(?:\([a-z]+\))? struct (\w+)(?:<[^{]*>)? \{\n(.*?)^\}", text):
+        types.fields[name] = re.findall(r"(?m)^    (?:pub(?:\([a-z]+\))? )?(\w+): (.*),$", body)
+    if re.search(r"pub fn reserve\(&mut self, \w+: \w+\)", text):
+        types.grow |= {named(it.owner)[0] for it in functions_of("", text) if it.name == "reserve"}
+    for name, body in re.findall(r"(?ms)^impl(?:<.*?>)? Model for (\w+).*?\{\n(.*?)^\}", text):
+        types.shown[name] = [it for view in re.findall(r"ghost view = .*", body) for it in re.findall(r"vec_capacity \w+\.(\w+)", view)]
+    types.of_memory |= set(re.findall(r"(?m)^impl From<(?:AllocError|OutOfMemory)> for (\w+)", text)) | types.empty & set(MEMORY)
+    return types
+
+
+def types_of(top: str = TOP) -> Dict[str, Types]:
+    """The types that each crate's functions may name: those of all crates, its own before others of the same name."""
+    found: Dict[str, List[Types]] = collections.defaultdict(list)
     for path in sorted(glob.glob(f"{top}/crates/*/src/**/*.rt", recursive=True)):
         with open(path, encoding="utf-8") as file:
-            text = file.read()
-        for name, body in re.findall(r"(?ms)^pub(?:\([a-z]+\))? enum (\w+)(?:<[^>]*>)? \{\n(.*?)^\}", text):
-            types.units[name] = re.findall(r"(?m)^    (\w+),$", body)
-            types.of_memory |= {name} if "OutOfMemory" in types.units[name] else set()
-        types.empty |= set(re.findall(r"(?m)^pub(?:\([a-z]+\))? struct (\w+);$", text))
-        for name, body in re.findall(r"(?ms)^pub(?:\([a-z]+\))? struct (\w+)(?:<[^{]*>)? \{\n(.*?)^\}", text):
-            types.fields[name] = re.findall(r"(?m)^    (?:pub(?:\([a-z]+\))? )?(\w+): (.*),$", body)
-        if re.search(r"pub fn reserve\(&mut self, \w+: \w+\)", text):
-            types.grow |= {named(it.owner)[0] for it in functions_of(path, text) if it.name == "reserve"}
-        types.of_memory |= set(re.findall(r"(?m)^impl From<(?:AllocError|OutOfMemory)> for (\w+)", text))
-    types.of_memory |= types.empty & set(MEMORY)
+            found[os.path.relpath(path, top).split(os.sep)[1]].append(types_in(file.read()))
+    every = joined([it for mine in found.values() for it in mine])
+    return {crate: joined([every, *mine]) for crate, mine in found.items()}
+
+
+def joined(parts: Sequence[Types]) -> Types:
+    """All types of the parts; of one name that of the last."""
+    types = Types()
+    for it in parts:
+        types.units.update(it.units)
+        types.fields.update(it.fields)
+        types.shown.update(it.shown)
+        types.empty |= it.empty
+        types.of_memory |= it.of_memory
+        types.grow |= it.grow
     return types
 
 
@@ -313,11 +336,17 @@ def old_values(function: Function) -> List[str]:
 
 
 def growths(function: Function, types: Types) -> List[str]:
-    """Statements that ask for memory first, where a function can: a growth of what it changes, or an allocation; else a refusal for one value."""
+    """Statements that ask for memory first, where a function can: a growth of what it changes, if a contract can see it; or an allocation;
+    else a refusal for one value."""
     name, inside = named(function.result)
-    fields = types.fields.get(named(function.owner)[0], []) if function.takes else []
-    found = [f"let _grown = self.{it}.reserve(4096);" for it, of in fields if function.changes_self and named(of)[0] in types.grow]
-    found += [f"let _grown = {it}.reserve(4096);" for it, of in function.params if named(re.sub(r"&('\w+ )?mut ", "", of))[0] in types.grow and "mut" in of]
+    owner = named(function.owner)[0]
+    fields = types.fields.get(owner, []) if function.takes else []
+    seen = [it for it, of in fields if function.changes_self and (named(of)[0] in types.grow or it in types.shown.get(owner, []))]
+    found = [f"let _grown = self.{it}.reserve(4096);" for it in seen]
+    for it, of in function.params:
+        lent = re.fullmatch(r"&(?:'\w+ )?mut (.*)", of)
+        if lent and (named(lent[1])[0] in types.grow or re.search(rf"\bvec_capacity {it}\b", function.clauses)):
+            found.append(f"let _grown = {it}.reserve(4096);")
     error = inside[1] if name == "Result" and len(inside) == 2 else ""
     if named(error)[0] not in types.of_memory:
         return found

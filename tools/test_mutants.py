@@ -117,7 +117,12 @@ pub enum Fault {
 
 pub struct Shelf<A: Allocator> {
     books: Vec<u8, A>,
+    others: Vec<u8, A>,
     pub count: u64,
+}
+
+impl<A: Allocator> Model for Shelf<A> {
+    ghost view = { λ s. record { books = s.books.items; held = vec_capacity s.books } };
 }
 
 '''
@@ -134,7 +139,9 @@ WHOLE: List[Tuple[str, List[str]]] = [
     ("fn f(&self) -> Result<(), OutOfMemory>", ["{..}  ->  {Ok(())}", "{..}  ->  {Err(OutOfMemory)}", "{  ->  { if self.books.len() == 7 { return Err(OutOfMemory); }"]),
     ("fn f(alloc: &A) -> Result<Vec<u8, A>, AllocError>", ["{..}  ->  {Err(AllocError)}", "{  ->  { let _room = vec![in alloc.clone()?; 0u8; 1]?;"]),
     ("fn f(of: Vec<u8, A>) -> Option<Vec<u8, A>>", ["{..}  ->  {Some(of)}", "{..}  ->  {None}"]),
-    ("fn f(list: &mut Vec<u8, A>) -> [u8; 4]", ["{..}  ->  {[0; 4]}", "{  ->  { let _grown = list.reserve(4096);"]),
+    ("fn f(list: &mut Vec<u8, A>) -> [u8; 4]", ["{..}  ->  {[0; 4]}"]),
+    ("fn f(list: &mut Vec<u8, A>) -> u64\n        ensures held { vec_capacity list.new ≡ vec_capacity list.old }\n    ",
+     ["{..}  ->  {0}", "{  ->  { let _grown = list.reserve(4096);"]),
     ("fn f(&self) -> (u8, Option<Fault>)", ["{..}  ->  {(0, None)}"]),
     ("fn fmt(&self, f: &mut Formatter<A>) -> Result<(), fmt::Error>", []),
 ]
