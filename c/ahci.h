@@ -587,12 +587,13 @@ uint32_t ahci_hba_unmapped(ahci_hba *hba);
 uint32_t ahci_hba_step(ahci_hba *hba, uint32_t slot, uint64_t *entries);
 
 /* The disk fails a command that it has accepted with an error byte at one of its sectors, if the command is queued: a Set Device Bits FIS
-   with ERR. AHCI_BAD_TAG, AHCI_NOT_READY if `next` is not AHCI_STEP_SERVE, if the command is not queued, or if the sector is not one of
-   its own. */
+   with ERR. Log 10h names that sector, and a driver takes the command's sectors before it as moved: Linux completes their requests. A
+   failed command has moved none, so its first sector is the one to name. AHCI_BAD_TAG, AHCI_NOT_READY if `next` is not AHCI_STEP_SERVE, if the
+   command is not queued, or if the sector is not one of its own. */
 uint32_t ahci_hba_fail(ahci_hba *hba, uint32_t slot, uint8_t error, uint64_t lba);
 
-/* The disk fails a command that is not queued and was just read, with an error byte and an LBA: a D2H Register FIS with ERR. AHCI_BAD_TAG,
-   AHCI_BAD_LBA, AHCI_NOT_READY. */
+/* The disk fails a command that is not queued and was just read, with an error byte and an LBA: a D2H Register FIS with ERR. From the
+   LBA of a failed read or write a driver concludes what it does after ahci_hba_fail. AHCI_BAD_TAG, AHCI_BAD_LBA, AHCI_NOT_READY. */
 uint32_t ahci_hba_refuse(ahci_hba *hba, uint32_t slot, uint8_t error, uint64_t lba);
 
 /* The FIS of the disk's signature is taken, and written if FRE is 1; if not, `sign` is 1 again once FRE is 1. AHCI_NOT_READY if `sign` is 0. If

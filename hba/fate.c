@@ -51,16 +51,17 @@ void fate_decide(struct device *device) {
             decide(device, slot);
 }
 
-/* Fails a command by a rule of --fail. It returns false if the library doesn't let it. */
+/* Fails a command by a rule of --fail. The error names the command's first sector: a driver takes the sectors before the named one as moved, and
+   a failed command has moved none. It returns false if the library doesn't let it. */
 static bool fail(struct device *device, uint32_t slot) {
     struct task *task = &device->tasks[slot];
     const struct rule *rule = task->failure;
-    uint64_t lba = sector_of(rule, &task->command);
+    uint64_t lba = task->command.lba;
     uint32_t status = task->command.queued ? ahci_hba_fail(&device->hba, slot, rule->error, lba) : ahci_hba_refuse(&device->hba, slot, rule->error, lba);
     task->failure = NULL;
     if (status != AHCI_OK)
         return false;
-    log_line("fail %" PRIu32 " with %02x at sector %" PRIu64, slot, rule->error, lba);
+    log_line("fail %" PRIu32 " with %02x at sector %" PRIu64 ", by the rule for %" PRIu64, slot, rule->error, lba, sector_of(rule, &task->command));
     return true;
 }
 

@@ -7,7 +7,7 @@ import shutil
 import signal
 import subprocess
 import time
-from typing import List, Sequence
+from typing import List, Sequence, Tuple
 
 import images
 from harness import SECTOR, Guest, blank, contents, counted, digest, file_of_ext4, linux, qemu
@@ -38,7 +38,7 @@ def sector_error(room: str) -> str:
     guest = Guest(room, ["--image", image, "--fail", "70:40"], qemu(room), recorded=image)
     guest.wait_for("^INT 13h failed: AX (?!00)[0-9A-F]{4}$", 60)
     guest.end(20, signal.SIGTERM)
-    guest.log_is_usual([r"fail 0 with 40 at sector 70"])
+    guest.log_is_usual([r"fail 0 with 40 at sector 64, by the rule for 70"])
     expect(contents(image) == before, "the image has changed, and nobody wrote")
     return guest.serial().strip().split("\n")[-1]
 
@@ -173,6 +173,9 @@ def deepest(guest: Guest) -> int:
     return most
 
 
+# the log's line of a command that fails, if its first sector is 1000: each request is a command (guests/error.sh), or one sector is read
+FAILS_1000 = r"fail \d+ with 40 at sector 1000, by the rule for 1000"
+
 # what Linux says of commands that did not come right, and of those that failed by UNC at sector 1000
 ENDED = [r"ata1(\.00)?: (exception Emask .*|irq_stat 0x40000008|failed command: READ FPDMA QUEUED|cmd 60/.*|status: \{ DRDY (ERR )?\}|EH complete|device reported .*)"]
 MEDIUM = [r"ata1\.00: (error: \{ UNC \}|.*NCQ.*)", r"(blk_update_request: )?(I/O|critical medium) error, dev sda, sector 1000 .*",
@@ -194,7 +197,7 @@ def linux_error(room: str) -> str:
     before = contents(image)
     guest = Guest(room, ["--image", image, "--fail", "1000:40", "--delay", "2000"], linux(room, "error"), recorded=image)
     guest.end(240)
-    guest.log_is_usual([r"fail \d+ with 40 at sector 1000", r"the queue's journal of \d+ entries was handed out"])
+    guest.log_is_usual([FAILS_1000, r"the queue's journal of \d+ entries was handed out"])
     guest.linux_is_usual([*ENDED, *MEDIUM])
     told = guest.told()
     expect(told["reads"] == "requests 5000 compared 4999 errors 1 wrong 0", f"reads: {told['reads']}")
@@ -219,7 +222,7 @@ def troubled(room: str, test: str, options: Sequence[str], logged: Sequence[str]
 
 def linux_lasting(room: str) -> str:
     """A sector fails always: so do its requests, and all others come right."""
-    guest = troubled(room, "lasting", ["--fail", "1000:40:1000000"], [r"fail \d+ with 40 at sector 1000"], [*ENDED, *MEDIUM])
+    guest = troubled(room, "lasting", ["--fail", "1000:40:1000000"], [FAILS_1000], [*ENDED, *MEDIUM])
     told = guest.told()
     reads = re.fullmatch(r"requests 5000 compared (\d+) errors ([1-9]\d*) wrong 0", told["reads"])
     if not reads:
@@ -229,10 +232,60 @@ def linux_lasting(room: str) -> str:
     return f"{reads[2]} of 5,000 reads failed, {reads[1]} right"
 
 
+# the lines of guests/merged.sh: the code of the command that Linux makes of four requests, its first block, and whether it fails
+MERGED = {"read": (0x60, 200, False), "write": (0x61, 300, False), "failed_read": (0x60, 100, True), "failed_write": (0x61, 500, True),
+          "failed_dma_read": (0xC8, 152, True), "failed_dma_write": (0xCA, 400, True)}
+FAILING = 26  # the rules are about this sector of a command's 32: it belongs to the last request
+# what Linux says of the commands that fail: each error is at the command's first sector
+MERGED_ENDED = [r"ata1\.00: (irq_stat 0x40000001|failed command: (WRITE FPDMA QUEUED|READ DMA|WRITE DMA)|cmd (61|c8|ca)/.*)",
+                r"(blk_update_request: )?(I/O|critical medium) error, dev sda, sector (800|4000|1216|3200) .*", r"sd 0:0:0:0: \[sda\] tag#\d+ CDB: Write\(10\) .*"]
+
+
+def linux_merged(room: str) -> str:
+    """Four requests are one command, which fails for a sector of the last one: no request is answered whose block was not read, or is not stored."""
+    image = numbered(room)
+    wanted = bytearray(contents(image))
+    failing = [8 * block for _, block, fails in MERGED.values() if fails]
+    rules = [word for first in failing for word in ("--fail", f"{first + FAILING}:40:1")]
+    guest = Guest(room, ["--image", image, *rules], linux(room, "merged"), recorded=image)
+    guest.end(120)
+    told = guest.told()
+    are_merged(guest)
+    answers = ", ".join(f"{name} {told[name]}" for name in MERGED)
+    for name, (_, block, fails) in MERGED.items():
+        expect(bool(re.fullmatch("(?=.*e)[re]{4}" if fails else "r{4}", told[name])), f"right (r), wrong (w) or failed (e): {answers}")
+        for it in range(4):
+            if "write" in name and told[name][it] == "r":
+                wanted[4096 * (block + it):4096 * (block + it + 1)] = images.block_text(block + it, 2, 4096)
+    expect(contents(image) == wanted, f"the image is not what was answered: {answers}")
+    guest.log_is_usual([r"the queue's journal of \d+ entries was handed out", *(rf"fail \d+ with 40 at sector {first}, by the rule for {first + FAILING}" for first in failing)])
+    guest.linux_is_usual([*ENDED, *MEDIUM, *MERGED_ENDED])
+    return answers
+
+
+def are_merged(guest: Guest) -> None:
+    """Linux has made one command of each four requests."""
+    issued = commands(guest)
+    for name, (code, block, _) in MERGED.items():
+        found = [(lba, sectors) for it, lba, sectors in issued if it == code and lba // 32 == block // 4]
+        expect(found[:1] == [(8 * block, 32)], f"{name}: Linux has not merged the requests from sector {8 * block} on, but issued (LBA, sectors) {found}")
+
+
+def commands(guest: Guest) -> List[Tuple[int, int, int]]:
+    """The code, the LBA and the number of sectors of each command that was read. A disk of 64 MiB needs no bit of an LBA that `device` has."""
+    found = []
+    for line in guest.log():
+        if line.startswith("command "):
+            fis = bytes.fromhex(line.split()[2])
+            low, high = (3, 11) if fis[2] in (0x60, 0x61) else (12, 13)
+            found.append((fis[2], int.from_bytes(fis[4:7] + fis[8:11], "little"), fis[low] | fis[high] << 8))
+    return found
+
+
 def linux_refused_log(room: str) -> str:
     """A command of the queue fails, and the log that would tell which can't be read: Linux asks all again, and loses none."""
     says = [r"ata1: failed to read log page 10h \(errno=-5\)", r"ata1\.00: (Read log 0x10 page 0x00 failed, Emask 0x1|revalidation failed \(errno=-2\))", r"ata1: hard resetting link"]
-    guest = troubled(room, "error", ["--fail", "1000:40", "--refuse-log"], [r"fail \d+ with 40 at sector 1000", r"the log is refused to \d+"], [*ENDED, *says])
+    guest = troubled(room, "error", ["--fail", "1000:40", "--refuse-log"], [FAILS_1000, r"the log is refused to \d+"], [*ENDED, *says])
     told = guest.told()
     expect(told["reads"] == "requests 5000 compared 5000 errors 0 wrong 0", f"reads: {told['reads']}")
     expect(any(line.startswith("the log is refused") for line in guest.log()), "the log was not asked for")
@@ -324,7 +377,7 @@ def user_mode_linux(room: str) -> str:
 CHECKS = [Check(sector, title="SeaBIOS and a boot sector"), Check(sector_error, title="SeaBIOS and an error"), Check(grub_bios, title="GRUB on BIOS"), Check(grub_uefi, title="GRUB on UEFI"),
           Check(boot_bios, title="GRUB boots Linux on BIOS"), Check(boot_uefi, title="GRUB boots Linux on UEFI"), Check(linux_files, title="Linux, files"),
           Check(linux_high, title="Linux, memory above 4 GiB"), Check(linux_queue, title="Linux, queue", is_long=True), Check(linux_error, title="Linux, an error in the queue"),
-          Check(linux_lasting, title="Linux, a lasting error"), Check(linux_refused_log, title="Linux, a log that is refused"),
+          Check(linux_lasting, title="Linux, a lasting error"), Check(linux_merged, title="Linux, merged requests over a failing sector"), Check(linux_refused_log, title="Linux, a log that is refused"),
           Check(linux_stalled, title="Linux, a command without an answer"), Check(linux_two, title="Linux, two processors", is_long=True),
           Check(linux_reset, title="Linux, a reset of the machine"), Check(linux_flush, title="Linux, flushes and a kill"),
           Check(user_mode_linux, title="User Mode Linux", is_long=True, is_alone=True)]  # its reads wait 40 ms at most

@@ -180,13 +180,19 @@ def archive(files: Dict[str, bytes]) -> bytes:
     return out + entry("TRAILER!!!", 0, b"")
 
 
+def compiled(room: str, name: str) -> bytes:
+    """The static program of guests/NAME.c."""
+    path = os.path.join(room, name)
+    if not os.path.exists(path):
+        ran([program("gcc", "gcc"), "-O2", "-Wall", "-Wextra", "-Werror", "-static", "-o", path, os.path.join(GUESTS, f"{name}.c")])
+    return read(path)
+
+
 def initrd(room: str, test: str, data: bytes, modules: Optional[str]) -> str:
     """An initial RAM disk that runs guests/TEST.sh, with `data` as /data; with the modules of a folder if one is named."""
-    requests, mkfs, busybox = os.path.join(room, "requests"), program("mkfs.ext4", "e2fsprogs"), program("busybox", "busybox")
-    if not os.path.exists(requests):
-        ran([program("gcc", "gcc"), "-O2", "-Wall", "-Wextra", "-Werror", "-static", "-o", requests, os.path.join(GUESTS, "requests.c")])
+    mkfs, busybox = program("mkfs.ext4", "e2fsprogs"), program("busybox", "busybox")
     files = {"init": read(os.path.join(GUESTS, "init")), "test": read(os.path.join(GUESTS, f"{test}.sh")), "data": data,
-             "bin/busybox": read(busybox), "bin/requests": read(requests), "sbin/mkfs.ext4": read(mkfs)}
+             "bin/busybox": read(busybox), "bin/requests": compiled(room, "requests"), "bin/merged": compiled(room, "merged"), "sbin/mkfs.ext4": read(mkfs)}
     for path in libraries(mkfs) + libraries(busybox):
         files[path.lstrip("/")] = read(os.path.realpath(path))
     if modules:
@@ -199,9 +205,11 @@ def initrd(room: str, test: str, data: bytes, modules: Optional[str]) -> str:
     return path
 
 
+def block_text(block: int, version: int, size: int) -> bytes:
+    """A text of a block, as guests/text.h has it."""
+    return struct.pack(f"<{size // 8}Q", *(block << 40 | version << 24 | place for place in range(size // 8)))
+
+
 def numbered_blocks(blocks: int, size: int) -> bytes:
-    """The first text of each block, as guests/requests.c has it."""
-    out = bytearray()
-    for block in range(blocks):
-        out += struct.pack(f"<{size // 8}Q", *(block << 40 | 1 << 24 | place for place in range(size // 8)))
-    return bytes(out)
+    """The first text of each block."""
+    return b"".join(block_text(block, 1, size) for block in range(blocks))

@@ -211,9 +211,9 @@ def written(room: str, options: List[str], words: List[str], status: int = 0, sa
 
 
 def rules(room: str) -> str:
-    """--fail and --slow are about the commands that their conditions name: by number, direction and sector."""
+    """--fail and --slow are about the commands that their conditions name: by number, direction and sector. Commands have 64 sectors, and fail at the first."""
     ended, taken = "a write failed\nahci-hba: the guest's program ended with status 1\n", 0
-    for number, (options, failures) in enumerate([(["--fail", "any:40,commands=3"], [128]), (["--fail", "70-127:04,writes"], [70]), (["--fail", "70:04:ever,reads"], []), (["--fail", "any:40,rate=1/1,seconds=90-99"], [])]):
+    for number, (options, failures) in enumerate([(["--fail", "any:40,commands=3"], [128]), (["--fail", "70-127:04,writes"], [64]), (["--fail", "70:04:ever,reads"], []), (["--fail", "any:40,rate=1/1,seconds=90-99"], [])]):
         folder = os.path.join(room, f"record{number}")
         written(room, ["--sectors", "256", "--record", folder, *options], ["1", "64", "256", "1", "-"], 1 if failures else 0, ended if failures else "")
         found = [it.lba for it in Record(folder).entries() if it.kind == FAIL]

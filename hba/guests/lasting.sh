@@ -1,4 +1,5 @@
 # A sector can never be read: alone, among many reads that are on their way at once, and alone again; a sector of the next page can.
+echo 2 > /sys/block/sda/queue/nomerges # each request is a command of its own
 one() {
     dd if=/dev/sda bs=512 skip="$1" count=1 iflag=direct 2> /dev/null | wc -c
 }

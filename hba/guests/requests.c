@@ -3,6 +3,8 @@
    written to it last; blocks that were not written yet are written first, unless FILLED says that each has its first text. It prints one line with what
    came of it. */
 #define _GNU_SOURCE
+#include "text.h"
+
 #include <fcntl.h>
 #include <linux/aio_abi.h>
 #include <stdbool.h>
@@ -44,23 +46,6 @@ static void end(const char *why) {
     exit(1);
 }
 
-/* The text of a block: words that name the block, the version and their own place. */
-static uint64_t word_of(uint64_t block, uint32_t version, uint64_t place) {
-    return block << 40 | (uint64_t)(version & 0xFFFF) << 24 | (place & 0xFFFFFF);
-}
-
-static void fill(uint64_t *words, uint64_t block, uint32_t version) {
-    for (uint64_t i = 0; i < all.bytes / 8; i++)
-        words[i] = word_of(block, version, i);
-}
-
-static bool is_right(const uint64_t *words, uint64_t block) {
-    for (uint64_t i = 0; i < all.bytes / 8; i++)
-        if (words[i] != word_of(block, all.versions[block], i))
-            return false;
-    return true;
-}
-
 /* A block with no request on its way. */
 static uint64_t choose(void) {
     uint64_t block;
@@ -79,7 +64,7 @@ static void submit(aio_context_t context, struct request *request) {
     control->aio_lio_opcode = writes ? IOCB_CMD_PWRITE : IOCB_CMD_PREAD;
     control->aio_offset = (int64_t)(block * all.bytes);
     if (writes)
-        fill(words, block, ++all.versions[block]);
+        text_fill(words, all.bytes, block, ++all.versions[block]);
     else
         memset(words, 0xEE, all.bytes);
     if (syscall(SYS_io_submit, context, 1, &control) != 1)
@@ -99,7 +84,7 @@ static void finish(const struct io_event *event) {
         return;
     }
     all.compared += reads;
-    all.wrong += reads && !is_right(words, request->block);
+    all.wrong += reads && !text_is(words, all.bytes, request->block, all.versions[request->block]);
 }
 
 static void run(aio_context_t context) {

@@ -80,7 +80,7 @@ class Hba(Owner):
         return self._number("step", u64, fits(slot, 32, "slot"))
 
     def fail(self, slot: int, error: int, lba: int) -> None:
-        """The disk fails a queued command that it has accepted, at one of its sectors."""
+        """The disk fails a queued command that it has accepted, at one of its sectors. A driver takes those before that as moved."""
         self._call("fail", fits(slot, 32, "slot"), fits(error, 8, "error"), fits(lba, 64, "lba"))
 
     def refuse(self, slot: int, error: int, lba: int) -> None:
