@@ -72,6 +72,14 @@ static ANSWERS: [(&str, Answered); 24] = [
         ([0x2780_EF03, 0xA0, 0, 0x4500_0008], 0x40, 0, 0, 0),
     ),
     (
+        "SET FEATURES 03h, multiword DMA mode 2",
+        ([0x2780_EF03, 0xA0, 0, 0x2200_0000], 0x40, 0, 0, 0),
+    ),
+    (
+        "SET FEATURES 03h, Ultra DMA mode 6",
+        ([0x2780_EF03, 0xA0, 0, 0x4600_0000], 0x41, 4, 0, 0),
+    ),
+    (
         "SET FEATURES 02h",
         ([0x2780_EF02, 0xA0, 0, 8], 0x41, 4, 0, 0),
     ),
