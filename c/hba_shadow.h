@@ -350,7 +350,8 @@ static void asks(struct command *it, const uint8_t *fis)
         it->moved = AHCI_PAGE_BYTES;
         memset(it->bytes, 0, AHCI_PAGE_BYTES);
         if (code == 0xEC) {
-            static const uint8_t words[][3] = { { 53, 6, 0 }, { 63, 7, 0 }, { 64, 3, 0 }, { 65, 120, 0 }, { 66, 120, 0 }, { 67, 120, 0 }, { 68, 120, 0 }, { 88, 0x3F, 0x20 } };
+            static const uint8_t words[][3] = { { 53, 6, 0 }, { 63, 7, 0 }, { 64, 3, 0 }, { 65, 120, 0 }, { 66, 120, 0 }, { 67, 120, 0 }, { 68, 120, 0 },
+                { 82, 8, 0 }, { 83, 0, 0x74 }, { 85, 8, 0 }, { 86, 0, 0x34 }, { 88, 0x3F, 0x20 } };
             CHECK(ahci_identify_page(SECTORS, 32, it->bytes, AHCI_PAGE_BYTES) == AHCI_OK);
             for (size_t i = 0; i < sizeof words / sizeof *words; i++)
                 memcpy(it->bytes + 2 * words[i][0], words[i] + 1, 2);

@@ -38,6 +38,11 @@ log_task f p =
     else (if log_of f == 0x10 then ReadLog QueuedError p
     else Unknown))
 
+-- a transfer mode that the disk has, by the count of SET FEATURES (ACS-3, "Set transfer mode"): the default PIO mode, PIO modes 0 to 4,
+-- multiword DMA modes 0 to 2, Ultra DMA modes 0 to 5
+abbrev pub is_mode : ℕ → Bool
+is_mode m = m == 0x00 || m == 0x01 || (nat_le 0x08 m && nat_le m 0x0C) || (nat_le 0x20 m && nat_le m 0x22) || (nat_le 0x40 m && nat_le m 0x45)
+
 -- by the code of a command that is not queued
 abbrev pub task_by : ℕ → H2dFields → Task
 task_by code f =
@@ -60,7 +65,7 @@ task_by code f =
     else (if code == 0xE5 then PowerMode  -- CHECK POWER MODE
     else (if code == 0xE7 || code == 0xEA then Flush  -- FLUSH CACHE, FLUSH CACHE EXT
     else (if code == 0xEC then Identify  -- IDENTIFY DEVICE
-    else (if code == 0xEF && f.features % 256 == 0x03 then Nothing  -- SET FEATURES, set transfer mode
+    else (if code == 0xEF && f.features % 256 == 0x03 && is_mode (f.count % 256) then Nothing  -- SET FEATURES, set transfer mode
     else Unknown)))))))))))))))))))
 
 -- a queued command, else one that is not

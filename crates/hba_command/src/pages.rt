@@ -1,7 +1,7 @@
 //! The pages that the controller's disk answers with (ACS-3).
 
 ghost use Rattle.std.specs.Prelude.{◌≡◌, ◌<◌, ◌≤◌};
-ghost use Rattle.hba_command.specs.Pages.{controller_page, directory_page, not_queued_page, with_cycle_times, with_word};
+ghost use Rattle.hba_command.specs.Pages.{controller_page, directory_page, not_queued_page, with_cycle_times, with_features, with_word};
 
 use ncq_core::identify_page;
 
@@ -23,6 +23,16 @@ fn put_cycle_times(page: &mut [u8; 512])
     put_word(page, 68, 120);
 }
 
+/// Puts the feature sets and commands that are supported, and those that are enabled, into a page.
+fn put_features(page: &mut [u8; 512])
+    ensures { page.new ≡ with_features page.old }
+{
+    put_word(page, 82, 0x0008); // supported: the Power Management feature set
+    put_word(page, 83, 0x7400); // FLUSH CACHE EXT, FLUSH CACHE and 48-bit addresses
+    put_word(page, 85, 0x0008); // enabled: the same
+    put_word(page, 86, 0x3400);
+}
+
 /// What IDENTIFY DEVICE reads through the controller: the page of the port's disk, of so many sectors and 1 to 32 tags, with the
 /// words by which drivers choose a transfer mode (ACS-3, "IDENTIFY DEVICE").
 pub fn controller_page(sectors: u32, depth: u32) -> [u8; 512]
@@ -35,6 +45,7 @@ pub fn controller_page(sectors: u32, depth: u32) -> [u8; 512]
     put_word(&mut page, 63, 0x0007); // multiword DMA modes 0 to 2
     put_word(&mut page, 64, 0x0003); // PIO modes 3 and 4
     put_cycle_times(&mut page);
+    put_features(&mut page);
     put_word(&mut page, 88, 0x203F); // Ultra DMA modes 0 to 5, and mode 5 is selected
     page
 }

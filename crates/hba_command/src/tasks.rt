@@ -1,7 +1,7 @@
 //! The commands by their codes (ACS-3).
 
-ghost use Rattle.std.specs.Prelude.{◌≡◌, ◌<◌, ◌^◌};
-ghost use Rattle.hba_command.specs.Task.{log_task, short_span, long_span, task_by, task_of};
+ghost use Rattle.std.specs.Prelude.{◌≡◌, ◌%◌, ◌<◌, ◌^◌};
+ghost use Rattle.hba_command.specs.Task.{is_mode, log_task, short_span, long_span, task_by, task_of};
 
 use crate::log::Log;
 use crate::protocol::Protocol;
@@ -47,6 +47,14 @@ fn log_task(h2d: &H2d, protocol: Protocol) -> Task
     }
 }
 
+/// Whether the disk has a transfer mode, by the count of SET FEATURES (ACS-3, "Set transfer mode"): the default PIO mode, PIO modes 0 to
+/// 4, multiword DMA modes 0 to 2, Ultra DMA modes 0 to 5.
+fn is_mode(count: u16) -> bool
+    ensures { result ≡ is_mode (count % 256) }
+{
+    matches!(count % 256, 0x00 | 0x01 | 0x08..=0x0C | 0x20..=0x22 | 0x40..=0x45)
+}
+
 /// What a command of this code asks, where it is not queued.
 fn task_by(code: u8, h2d: &H2d) -> Task
     ensures { result ≡ task_by code h2d.now }
@@ -71,7 +79,7 @@ fn task_by(code: u8, h2d: &H2d) -> Task
         0xE5 => Task::PowerMode, // CHECK POWER MODE
         0xE7 | 0xEA => Task::Flush, // FLUSH CACHE, FLUSH CACHE EXT
         0xEC => Task::Identify, // IDENTIFY DEVICE
-        0xEF if h2d.features % 256 == 0x03 => Task::Nothing, // SET FEATURES, set transfer mode
+        0xEF if h2d.features % 256 == 0x03 && is_mode(h2d.count) => Task::Nothing, // SET FEATURES, set transfer mode
         _ => Task::Unknown,
     }
 }

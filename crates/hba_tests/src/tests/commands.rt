@@ -18,7 +18,7 @@ use std::test::Fail;
 type Answered = ([u32; 4], u8, u8, u8, u8);
 
 /// Commands to a disk of 8 sectors, by their titles. None of them moves data.
-static ANSWERS: [(&str, Answered); 24] = [
+static ANSWERS: [(&str, Answered); 26] = [
     ("FLUSH CACHE", ([0x2780_E700, 0, 0, 0], 0x40, 0, 0, 0)),
     (
         "FLUSH CACHE EXT",
@@ -70,6 +70,14 @@ static ANSWERS: [(&str, Answered); 24] = [
     (
         "SET FEATURES 03h",
         ([0x2780_EF03, 0xA0, 0, 0x4500_0008], 0x40, 0, 0, 0),
+    ),
+    (
+        "SET FEATURES 03h, multiword DMA mode 2",
+        ([0x2780_EF03, 0xA0, 0, 0x2200_0000], 0x40, 0, 0, 0),
+    ),
+    (
+        "SET FEATURES 03h, Ultra DMA mode 6",
+        ([0x2780_EF03, 0xA0, 0, 0x4600_0000], 0x41, 4, 0, 0),
     ),
     (
         "SET FEATURES 02h",

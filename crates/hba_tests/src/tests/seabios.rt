@@ -83,7 +83,7 @@ const ROWS: &[Row] = &[
     Has(0x1EFE_8804, &[0, 2, 0, 0]),
     Has(0x1EFE_6DD8 + 2 * 49, &[0x00, 0x03]),
     Has(0x1EFE_6DD8 + 2 * 60, &[0x00, 0x01, 0x00, 0x00]),
-    Has(0x1EFE_6DD8 + 2 * 83, &[0x00, 0x64]),
+    Has(0x1EFE_6DD8 + 2 * 83, &[0x00, 0x74]),
     // SET FEATURES, with W and an entry of 4 MiB that isn't used
     Reads(PX_IS, 0),
     Lays(
