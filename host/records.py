@@ -24,7 +24,7 @@ class Entry(NamedTuple):
     kind: int
     tag: int
     flag: int
-    count: int
+    count: int  # type: ignore[assignment]  # also a method of tuples
     lba: int
     time: int
     data: memoryview
