@@ -211,7 +211,7 @@ fn plays(rt: &impl Abort, rows: &[Row]) {
 }
 
 /// The initialisation that AHCI 1.3.1, section 10.1.2, asks of software, step by step, and the first command.
-static INITIALISED: [Row; 37] = [
+static INITIALISED: [Row; 36] = [
     Write(0x004, 0x8000_0000),
     Read(0x004, 0x8000_0000),
     Read(0x00c, 0x0000_0001),
