@@ -11,7 +11,7 @@ import shutil
 import subprocess
 import tempfile
 import time
-from typing import Iterator, List
+from typing import Iterator, List, Tuple
 
 from harness import HERE, MIB, TOP, Check, Failed, Server, Skipped, ran, serving, told, tool
 import pace
@@ -113,12 +113,17 @@ def a_database(room: str) -> str:
     return told(server)
 
 
-def kernel() -> str:
-    """A Linux of this machine that QEMU can boot, with its modules in /lib/modules."""
-    found = [it for it in sorted(glob.glob("/boot/vmlinuz-*")) if os.path.isdir("/lib/modules/" + it.partition("vmlinuz-")[2])]
-    if not found:
-        raise Skipped("there is no /boot/vmlinuz-* with its modules (Debian's package linux-image-amd64)")
-    return found[-1]
+UNPACKED = os.path.join(TOP, "hba", "out", "kernel")  # where hba/fetch unpacks Debian's kernel
+
+
+def kernel() -> Tuple[str, str, str]:
+    """A Linux that QEMU can boot: its file, its release, and the folder below which lib/modules has its modules."""
+    for root in ("/", UNPACKED):
+        for image in sorted(glob.glob(os.path.join(root, "boot", "vmlinuz-*")), reverse=True):
+            release = os.path.basename(image).partition("vmlinuz-")[2]
+            if os.path.isdir(os.path.join(root, "lib", "modules", release)):
+                return image, release, root
+    raise Skipped("there is no kernel with its modules, in /boot or from hba/fetch (Debian's package linux-image-amd64)")
 
 
 GUEST = """#!/bin/busybox sh
@@ -139,7 +144,7 @@ for it in $(/bin/busybox cat /modules/order); do /bin/busybox insmod /modules/$i
 """
 
 
-def initrd(room: str, release: str) -> str:
+def initrd(room: str, release: str, modules: str) -> str:
     """busybox, and the modules of a virtio disk with ext4 in the order in which they are needed."""
     root = os.path.join(room, "root")
     os.makedirs(os.path.join(root, "modules"))
@@ -152,8 +157,10 @@ def initrd(room: str, release: str) -> str:
         os.makedirs(root + os.path.dirname(path), exist_ok=True)
         shutil.copy(path, root + path)
     order: List[str] = []
+    if not os.path.exists(os.path.join(modules, "lib", "modules", release, "modules.dep")):
+        ran(["depmod", "-b", modules, release])
     for name in ("virtio_pci", "virtio_blk", "crc32c_generic", "ext4"):
-        shown = subprocess.run(["modprobe", "--set-version", release, "--show-depends", name], stdout=subprocess.PIPE, text=True, check=False).stdout
+        shown = subprocess.run(["modprobe", "--dirname", modules, "--set-version", release, "--show-depends", name], stdout=subprocess.PIPE, text=True, check=False).stdout
         for path in re.findall(r"^insmod (\S+)", shown, re.MULTILINE):
             if os.path.basename(path) not in order:
                 order.append(os.path.basename(path))
@@ -170,13 +177,13 @@ def initrd(room: str, release: str) -> str:
 
 def a_guest(room: str) -> str:
     """A guest's kernel mounts the disk by QEMU's virtio, writes 8 MiB, and reads them again; e2fsck afterwards."""
-    image = kernel()
+    image, release, modules = kernel()
     disk, back = os.path.join(room, "disk"), os.path.join(room, "back")
     with open(disk, "wb") as file:
         file.truncate(64 * MIB)
     ran(["mkfs.ext4", "-q", "-F", disk])
     with serving(room, f"image={disk}", "pick=random", "delay=10", f"record={room}/record") as server:
-        console = ran(["qemu-system-x86_64", "-accel", "tcg", "-m", "512", "-display", "none", "-serial", "stdio", "-no-reboot", "-kernel", image, "-initrd", initrd(room, image.partition("vmlinuz-")[2]),
+        console = ran(["qemu-system-x86_64", "-accel", "tcg", "-m", "512", "-display", "none", "-serial", "stdio", "-no-reboot", "-kernel", image, "-initrd", initrd(room, release, modules),
                        "-append", "console=ttyS0 quiet panic=-1", "-drive", f"file={server.uri},format=raw,if=virtio"])
         if "GUEST WELL" not in console:
             raise Failed(console[-1500:])
