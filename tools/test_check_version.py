@@ -44,9 +44,10 @@ class CheckVersion(unittest.TestCase):
     def test_each_other_version_is_named(self) -> None:
         packed = "".join(f"{int(it):02x}" for it in self.version.split("."))
         for path in FILES[1:-1]:
-            old, new, other = (packed, "020103", "2.1.3") if path.startswith(("c/", "crates/ahci_c/")) else (self.version, "2.1.3", "2.1.3")
+            mark = "## " if path == "CHANGELOG.md" else ""  # its text may name versions too
+            old, new = (packed, "020103") if path.startswith(("c/", "crates/ahci_c/")) else (mark + self.version, f"{mark}2.1.3")
             self.edit(path, old, new)
-            self.assertEqual((1, f"check_version: {path} states {other}, VERSION {self.version}\n"), self.check(), path)
+            self.assertEqual((1, f"check_version: {path} states 2.1.3, VERSION {self.version}\n"), self.check(), path)
             self.edit(path, new, old)
 
     def test_what_is_not_released_yet_has_no_version(self) -> None:
