@@ -252,6 +252,8 @@ class Builds(unittest.TestCase):
         self.assertEqual(self.read(self.program), "ahci, by the gate")
         self.assertEqual(self.build("--kept")[::2], (0, []))
         self.assertEqual(self.build()[::2], (0, []))
+        self.assertEqual(self.build("--library", "shelf", "--adopt")[::2], (0, []))
+        self.assertEqual(self.output, "build: 2 of 3 crates are taken from the gate\n")  # those that the program's call has taken count
         self.assertEqual(self.build("--library", "shelf")[::2], (0, ["shelf"]))  # a static library is made of what was taken
         self.write("crates/middle/src/lib.rt", "middle, edited")
         self.assertEqual(self.build("--kept")[::2], (1, []))
