@@ -4,6 +4,7 @@ use Rattle.word_bits.specs.Places.{bits, no_places, intersection, word_of, has_p
 use Rattle.std.proofs.lemmas.Bool.{ne_eqb}
 use Rattle.word_bits.proofs.PlacesLemmas.{has_place-no_places, has_place-with_same, has_place-with_other, length-with_place, and_false}
 use Rattle.word_bits.proofs.BitsLemmas.{has_place-bits}
+use Rattle.hba_regs.specs.CapFields.{CapFields}
 use Rattle.hba_regs.specs.HbaState.{HbaPort, HbaState, IsKept, reset_port}
 use Rattle.hba_regs.specs.Interrupts.{interrupts, is_pending, raised, settled}
 
@@ -33,8 +34,8 @@ pending_of_some s t i h k =
     let b : 0 < word_of (intersection s t) = some_met s t i h k in
     ap not (ne_eqb (word_of (intersection s t)) 0 (omega (arith, b)))
 
-pub pending-reset : (clb fb : ℕ) → is_pending (reset_port clb fb) ≡ false
-pending-reset clb fb = pending_of_none (interrupts (reset_port clb fb)) no_places (λ i. ap (λ b. has_place (interrupts (reset_port clb fb)) i && b) (has_place-no_places i) ∙ and_false _)
+pub pending-reset : (c : CapFields) (clb fb : ℕ) → is_pending (reset_port c clb fb) ≡ false
+pending-reset c clb fb = pending_of_none (interrupts (reset_port c clb fb)) no_places (λ i. ap (λ b. has_place (interrupts (reset_port c clb fb)) i && b) (has_place-no_places i) ∙ and_false _)
 
 -- ---- PCS and PRCS
 

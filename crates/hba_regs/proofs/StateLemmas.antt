@@ -1,15 +1,20 @@
 -- Lemmas on what the registers of a port keep: the bits of PxIS that are kept, and no command while the port is stopped.
-use Rattle.std.proofs.Common.{◌≡◌, ◌≢◌, ℕ, Bool, true, false, not, ◌&&◌, if◌then◌else◌, List, sym, ◌∙◌, refl, ap, subst, arith}
-use Rattle.word_bits.specs.Places.{bits, has_place, no_places, with_place, without_place, intersection, minus}
+use Rattle.std.proofs.Common.{◌≡◌, ◌≢◌, ℕ, Bool, true, false, not, nat_eq, ◌&&◌, ◌||◌, if◌then◌else◌, List, sym, ◌∙◌, refl, ap, subst, arith, ⊎_elim}
+use Rattle.std.proofs.lemmas.Bool.{cases_eq}
+use Rattle.word_bits.specs.Places.{bits, has_place, no_places, with_place, without_place, intersection, minus, only_below, union}
 use Rattle.std.specs.Int.Bits.{and_zero_l}
-use Rattle.word_bits.proofs.PlacesLemmas.{same_sets, length-intersection, has_place-intersection, has_place-no_places, has_place-with_other, has_place-minus, minus-none, without_place-none}
-use Rattle.word_bits.proofs.BitsLemmas.{bits_and}
-use Rattle.hba_regs.specs.HbaState.{IsKept, enables}
+use Rattle.word_bits.proofs.PlacesLemmas.{same_sets, length-intersection, has_place-intersection, has_place-no_places, has_place-with_other, has_place-minus, has_place-only_below_past, has_place-union, has_place-without_other, has_place-without_same, minus-none, without_place-none}
+use Rattle.word_bits.proofs.BitsLemmas.{bits_and, bits_zero}
+use Rattle.hba_regs.specs.HbaState.{IsBelow, IsKept, IsPowered, asked_link, enables, spun_link}
+use Rattle.hba_regs.specs.CapFields.{CapFields}
 use Rattle.hba_regs.specs.Interrupts.{raised, place_of, tfes}
-use Rattle.hba_regs.specs.Receiving.{ended, ended_by_signature, is_done}
+use Rattle.hba_regs.specs.PortStates.{ended_by_signature}
+use Rattle.hba_regs.specs.Linking.{is_free_link}
 use Rattle.hba_regs.specs.Writing.{remaining}
 use Rattle.hba_regs.specs.declared.soft_reset.SoftReset.{SoftReset}
 use Rattle.hba_regs.specs.declared.soft_reset.SoftReset.TheVariants.{Off, Held, Ending}
+use Rattle.hba_regs.specs.declared.link.Link.{Link}
+use Rattle.hba_regs.specs.declared.link.Link.TheVariants.{Up, Listening, InReset, Offline}
 use Rattle.hba_regs.specs.declared.fatal.Fatal.{Fatal}
 use Rattle.hba_regs.specs.declared.fatal.Fatal.TheVariants.{HostBusFatal, HostBusData, Interface, Overflow}
 
@@ -33,11 +38,6 @@ pub kept-raised : (b : Bool) (s : List Bool) (place : ℕ) → 6 ≢ place → 2
 kept-raised true s place p q h = kept-with s place p q h
 kept-raised false s place p q h = h
 
--- after a FIS whose own interrupt is that place
-pub kept_after_fis : (e i : Bool) (s r : List Bool) (place : ℕ) → 6 ≢ place → 22 ≢ place → r ≡ raised e tfes (raised i place s) → IsKept s → IsKept r
-kept_after_fis e i s r place p q same h =
-    subst IsKept (sym same) (kept-raised e (raised i place s) tfes (omega arith) (omega arith) (kept-raised i s place p q h))
-
 pub kept-fatal : (s : List Bool) (fatal : Fatal) → IsKept s → IsKept (with_place s (place_of fatal))
 kept-fatal s HostBusFatal h = kept-with s 29 (omega arith) (omega arith) h
 kept-fatal s HostBusData h = kept-with s 28 (omega arith) (omega arith) h
@@ -52,18 +52,131 @@ minus_of_none s t r e h = e ∙ ap (λ x. minus x t) h ∙ minus-none t
 pub without_of_none : (s r : List Bool) (slot : ℕ) → r ≡ without_place s slot → s ≡ no_places → r ≡ no_places
 without_of_none s r slot e h = e ∙ ap (λ x. without_place x slot) h ∙ without_place-none slot
 
-ended-none : (status slot : ℕ) → ended status slot no_places ≡ no_places
-ended-none status slot =
-    elim (is_done status) as (λ b. (if b then without_place no_places slot else no_places) ≡ no_places) [ true ↦ without_place-none slot | false ↦ refl ]
-
-pub ended_of_none : (s r : List Bool) (status slot : ℕ) → r ≡ ended status slot s → s ≡ no_places → r ≡ no_places
-ended_of_none s r status slot e h = e ∙ ap (ended status slot) h ∙ ended-none status slot
-
 -- PxCI after the signature of a software reset
 pub signed_of_none : (soft : SoftReset) (s r : List Bool) → r ≡ ended_by_signature soft s → s ≡ no_places → r ≡ no_places
 signed_of_none (Ending slot) s r e h = without_of_none s r slot e h
 signed_of_none Off s r e h = e ∙ h
 signed_of_none Held s r e h = e ∙ h
+
+-- ---- the slots that the command list has
+
+pub none_below : (n : ℕ) → IsBelow n no_places
+none_below n = record { none = λ i h. has_place-no_places i }
+
+pub zero_below : (n : ℕ) → IsBelow n (bits 0)
+zero_below n = subst (IsBelow n) (sym bits_zero) (none_below n)
+
+without_stays : (s : List Bool) (slot i : ℕ) → has_place s i ≡ false → has_place (without_place s slot) i ≡ false
+without_stays s slot i e =
+    ⊎_elim (λ k. subst (λ j. has_place (without_place s slot) j ≡ false) (sym k) (has_place-without_same s slot))
+    (λ k. has_place-without_other s slot i k ∙ e) (cases_eq i slot)
+
+pub minus_below : (n : ℕ) (s t r : List Bool) → r ≡ minus s t → IsBelow n s → IsBelow n r
+minus_below n s t r e h = subst (IsBelow n) (sym e) (record { none = λ i k. gone s t i (h.none i k) })
+
+pub without_below : (n : ℕ) (s r : List Bool) (slot : ℕ) → r ≡ without_place s slot → IsBelow n s → IsBelow n r
+without_below n s r slot e h = subst (IsBelow n) (sym e) (record { none = λ i k. without_stays s slot i (h.none i k) })
+
+pub signed_below : (n : ℕ) (soft : SoftReset) (s r : List Bool) → r ≡ ended_by_signature soft s → IsBelow n s → IsBelow n r
+signed_below n (Ending slot) s r e h = without_below n s r slot e h
+signed_below n Off s r e h = subst (IsBelow n) (sym e) h
+signed_below n Held s r e h = subst (IsBelow n) (sym e) h
+
+pub remaining_below : (n : ℕ) (stops : Bool) (s r : List Bool) → r ≡ remaining stops s → IsBelow n s → IsBelow n r
+remaining_below n true s r e h = subst (IsBelow n) (sym e) (none_below n)
+remaining_below n false s r e h = subst (IsBelow n) (sym e) h
+
+-- with the slots of a word that are below n
+both_clear : (a b : Bool) → a ≡ false → b ≡ false → (a || b) ≡ false
+both_clear false false e f = refl
+both_clear true b e f = cc
+both_clear false true e f = cc
+
+pub gained_below : (n : ℕ) (s t r : List Bool) → r ≡ union s (only_below n t) → IsBelow n s → IsBelow n r
+gained_below n s t r e h = subst (IsBelow n) (sym e)
+    (record { none = λ i k. has_place-union s (only_below n t) i ∙ both_clear _ _ (h.none i k) (has_place-only_below_past n t i k) })
+
+-- ---- SUD, ALPE and ASP
+
+and_none : (b : Bool) → (b && false) ≡ false
+and_none true = refl
+and_none false = refl
+
+pub or_true : (b : Bool) → (b || true) ≡ true
+or_true true = refl
+or_true false = refl
+
+pub first_power : (c : CapFields) → IsPowered c true false false
+first_power c = record { spun = or_true (not c.sss); saves = and_none c.salp; slumbers = and_none c.salp }
+
+or_again : (a b : Bool) → (a || (a || b)) ≡ (a || b)
+or_again true b = refl
+or_again false b = refl
+
+pub or_kept : (a b r : Bool) → r ≡ (a || b) → (a || r) ≡ r
+or_kept a b r e = ap (λ x. a || x) e ∙ or_again a b ∙ sym e
+
+and_twice : (a b : Bool) → (a && (a && b)) ≡ (a && b)
+and_twice true b = refl
+and_twice false b = refl
+
+pub and_kept : (a b r : Bool) → r ≡ (a && b) → (a && r) ≡ r
+and_kept a b r e = ap (λ x. a && x) e ∙ and_twice a b ∙ sym e
+
+-- ---- the link
+
+spun : (later : Bool) → spun_link later Up ≡ Up
+spun true = refl
+spun false = refl
+
+-- a link that is up or listens may come up, whatever DET is
+come_up_by : (a b c sud later : Bool) (link : Link) → (if a then spun_link sud link else if b then InReset else if c then Offline else link) ≡ link
+    → is_free_link link ≡ true → (if a then spun_link later Up else if b then InReset else if c then Offline else Up) ≡ Up
+come_up_by true b c sud later link e f = spun later
+come_up_by false true c sud later Up e f = cc
+come_up_by false true c sud later Listening e f = cc
+come_up_by false true c sud later InReset e f = cc
+come_up_by false true c sud later Offline e f = cc
+come_up_by false false true sud later Up e f = cc
+come_up_by false false true sud later Listening e f = cc
+come_up_by false false true sud later InReset e f = cc
+come_up_by false false true sud later Offline e f = cc
+come_up_by false false false sud later link e f = refl
+
+pub may_come_up : (det : ℕ) (sud later : Bool) (link : Link) → asked_link det sud link ≡ link → is_free_link link ≡ true → asked_link det later Up ≡ Up
+may_come_up det sud later link e f = come_up_by (nat_eq det 0) (nat_eq det 1) (nat_eq det 4) sud later link e f
+
+-- one that is not stays
+held_by : (a b c sud later : Bool) (link : Link) → (if a then spun_link sud link else if b then InReset else if c then Offline else link) ≡ link
+    → is_free_link link ≡ false → (if a then spun_link later link else if b then InReset else if c then Offline else link) ≡ link
+held_by true b c sud later Up e f = cc
+held_by true b c sud later Listening e f = cc
+held_by true b c true later InReset e f = cc
+held_by true b c false later InReset e f = cc
+held_by true b c true later Offline e f = cc
+held_by true b c false later Offline e f = cc
+held_by false b c sud later link e f = e
+
+pub stays_held : (det : ℕ) (sud later : Bool) (link : Link) → asked_link det sud link ≡ link → is_free_link link ≡ false → asked_link det later link ≡ link
+stays_held det sud later link e f = held_by (nat_eq det 0) (nat_eq det 1) (nat_eq det 4) sud later link e f
+
+-- and so does any one if SUD doesn't go from 0 to 1
+linked_by : (a b c sud later : Bool) (link : Link) → (not sud && later) ≡ false
+    → (if a then spun_link sud link else if b then InReset else if c then Offline else link) ≡ link
+    → (if a then spun_link later link else if b then InReset else if c then Offline else link) ≡ link
+linked_by false b c sud later link n e = e
+linked_by true b c true true link n e = e
+linked_by true b c true false Up n e = refl
+linked_by true b c true false Listening n e = cc
+linked_by true b c true false InReset n e = cc
+linked_by true b c true false Offline n e = cc
+linked_by true b c false true link n e = cc
+linked_by true b c false false link n e = e
+
+pub stays_linked : (det : ℕ) (sud later : Bool) (link : Link) → (not sud && later) ≡ false → asked_link det sud link ≡ link → asked_link det later link ≡ link
+stays_linked det sud later link n e = linked_by (nat_eq det 0) (nat_eq det 1) (nat_eq det 4) sud later link n e
+
+-- ---- a stopped port
 
 -- a port that is stopped by a write, or was stopped before it, has no command
 pub remaining_of_stopped : (was st : Bool) (s r : List Bool) → r ≡ remaining (was && not st) s → (was ≡ false → s ≡ no_places) → st ≡ false → r ≡ no_places

@@ -9,6 +9,7 @@ use Rattle.hba_regs.specs.declared.hba_regs.HbaRegs.TheInside as of_hba
 -- the registers of a port that the words stand for
 abbrev pub port_of : of_port.Inside → HbaPort
 port_of a = record {
+  capabilities = a.capabilities;
   clb = a.clb;
   fb = a.fb;
   is = bits a.is;
@@ -17,6 +18,9 @@ port_of a = record {
   fre = a.receiving;
   atapi = a.atapi;
   dlae = a.drives_led;
+  sud = a.spun_up;
+  alpe = a.saves_power;
+  asp = a.slumbers;
   sts = a.status;
   err = a.error;
   sig = a.signature;

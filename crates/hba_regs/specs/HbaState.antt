@@ -1,16 +1,19 @@
 -- What the registers of an HBA with one port keep (AHCI 1.3.1, sections 3.1 and 3.3). A register of 32 bits with a bit for each
 -- slot, interrupt or error is the set of its bits that are 1.
-use Rattle.std.specs.Prelude.{◌≡◌, ℕ, ◌/◌, ◌%◌, ◌^◌, ◌<◌, ◌≤◌, Bool, false, List, length, nat_eq, if◌then◌else◌}
+use Rattle.std.specs.Prelude.{◌≡◌, ℕ, ◌/◌, ◌%◌, ◌^◌, ◌<◌, ◌≤◌, Bool, true, false, not, ◌&&◌, ◌||◌, List, length, nat_eq, nat_le, if◌then◌else◌}
 use Rattle.word_bits.specs.Places.{bits, no_places, has_place, intersection}
+use Rattle.hba_regs.specs.CapFields.{CapFields, IsCapable}
 use Rattle.hba_regs.specs.declared.link.Link.{Link}
-use Rattle.hba_regs.specs.declared.link.Link.TheVariants.{Up, InReset, Offline}
+use Rattle.hba_regs.specs.declared.link.Link.TheVariants.{Up, Listening, InReset, Offline}
 use Rattle.hba_regs.specs.declared.signature.Signature.{Signature}
-use Rattle.hba_regs.specs.declared.signature.Signature.TheVariants.{Due}
+use Rattle.hba_regs.specs.declared.signature.Signature.TheVariants.{Past, Due}
 use Rattle.hba_regs.specs.declared.soft_reset.SoftReset.{SoftReset}
 use Rattle.hba_regs.specs.declared.soft_reset.SoftReset.TheVariants.{Off, Ending}
 
 -- the registers of the port (section 3.3)
 pub record HbaPort : Type 0 where
+  -- what the HBA can do, which CAP shows
+  pub capabilities : CapFields
   -- PxCLB and PxFB with their upper halves: addresses of 64 bits
   pub clb : ℕ
   pub fb : ℕ
@@ -22,6 +25,10 @@ pub record HbaPort : Type 0 where
   pub fre : Bool
   pub atapi : Bool
   pub dlae : Bool
+  -- PxCMD.SUD, PxCMD.ALPE and PxCMD.ASP
+  pub sud : Bool
+  pub alpe : Bool
+  pub asp : Bool
   -- the two bytes of PxTFD: STS and ERR
   pub sts : ℕ
   pub err : ℕ
@@ -38,7 +45,8 @@ pub record HbaPort : Type 0 where
   pub ci : List Bool
   -- PxCMD.CCS: the slot of the command that is being issued, or was issued last
   pub ccs : ℕ
-  -- the slot with the highest priority to issue from: CCS + 1, or 0 if none was issued since ST was set (section 3.3.7, CCS)
+  -- the slot with the highest priority to issue from: CCS + 1, or 0 after the last slot, or if none was issued since ST was set (section
+  -- 3.3.7, CCS)
   pub first : ℕ
   -- after a failed command or a fatal error: no command is processed until ST is cleared (section 6.2.2)
   pub halted : Bool
@@ -64,18 +72,17 @@ link_changed = bits 0x04010000
 abbrev pub enables : List Bool
 enables = bits 0x7dc0007f
 
--- the fastest generation of the interface (section 3.1.1, CAP.ISS: generation 2)
-abbrev pub most_speed : ℕ
-most_speed = 2
+-- the generation at which a link comes up: that to which PxSCTL.SPD (bits 7:4) limits it, or the fastest one of the interface, CAP.ISS, if
+-- that is lower. 0 and reserved values limit nothing
+abbrev pub speed_for : (iss sctl : ℕ) → ℕ
+speed_for iss sctl =
+    let limit = sctl / 2 ^ 4 % 2 ^ 4 in
+    if nat_le 1 limit && nat_le limit iss then limit else iss
 
--- the generation at which a link comes up, by PxSCTL.SPD (bits 7:4): 1 limits it to generation 1; all other values leave the fastest
--- one of the interface
-abbrev pub speed_for : ℕ → ℕ
-speed_for sctl = if nat_eq (sctl / 2 ^ 4 % 2 ^ 4) 1 then 1 else most_speed
-
--- the port after a reset of the HBA, with these bases: the link is up, and the signature is due
-abbrev pub reset_port : ℕ → ℕ → HbaPort
-reset_port clb fb = record {
+-- a port with these bases that is as after a reset, while its link is up and the signature is due
+abbrev pub up_port : CapFields → ℕ → ℕ → HbaPort
+up_port c clb fb = record {
+  capabilities = c;
   clb = clb;
   fb = fb;
   is = no_places;
@@ -84,11 +91,14 @@ reset_port clb fb = record {
   fre = false;
   atapi = false;
   dlae = false;
+  sud = true;
+  alpe = false;
+  asp = false;
   sts = 0x80;
   err = 0;
   sig = 0xffffffff;
   link = Up;
-  speed = most_speed;
+  speed = c.iss;
   sctl = 0;
   serr = link_changed;
   sact = no_places;
@@ -100,17 +110,36 @@ reset_port clb fb = record {
   soft = Off;
 }
 
--- the HBA after a reset that keeps these bases
-abbrev pub reset_with : ℕ → ℕ → HbaState
-reset_with clb fb = record { ghc_ie = false; ips = false; port = reset_port clb fb }
+-- the port after a reset of the HBA, with these bases. With staggered spin-up (CAP.SSS) the device waits for PxCMD.SUD: there is no link, and
+-- nothing to report
+abbrev pub reset_port : CapFields → ℕ → ℕ → HbaPort
+reset_port c clb fb =
+    record (up_port c clb fb) {
+      sud = not c.sss;
+      sts = if c.sss then 0x7f else 0x80;
+      link = if c.sss then Listening else Up;
+      serr = if c.sss then no_places else link_changed;
+      signature = if c.sss then Past else Due;
+    }
+
+-- the HBA after a reset that keeps these bases; what it can do stays
+abbrev pub reset_with : CapFields → ℕ → ℕ → HbaState
+reset_with c clb fb = record { ghc_ie = false; ips = false; port = reset_port c clb fb }
 
 -- the HBA after power-on
-abbrev pub power_on : HbaState
-power_on = reset_with 0 0
+abbrev pub power_on : CapFields → HbaState
+power_on c = reset_with c 0 0
+
+-- the link while DET is 0: with SUD 1 it comes up; with SUD 0 the port listens, and a link that is up stays (section 10.10.1)
+abbrev pub spun_link : Bool → Link → Link
+spun_link true link = Up
+spun_link false Up = Up
+spun_link false link = Listening
 
 -- the link that a value of DET asks for: 0 a link, 1 COMRESET, 4 none; any other value leaves it
-abbrev pub asked_link : ℕ → Link → Link
-asked_link det link = if nat_eq det 0 then Up else if nat_eq det 1 then InReset else if nat_eq det 4 then Offline else link
+abbrev pub asked_link : (det : ℕ) → (sud : Bool) → Link → Link
+asked_link det sud link =
+    if nat_eq det 0 then spun_link sud link else if nat_eq det 1 then InReset else if nat_eq det 4 then Offline else link
 
 -- the bits of PxIS that are kept: PCS (bit 6) and PRCS (bit 22) are not, since PxSERR has them
 pub record IsKept (s : List Bool) : Type 0 where
@@ -122,21 +151,41 @@ abbrev pub IsOfSlot : SoftReset → Type 0
 IsOfSlot (Ending slot) = slot < 32
 IsOfSlot other = Unit {0}
 
+-- without 64-bit addressing (CAP.S64A) the upper halves of the bases are 0
+abbrev pub IsInReach : Bool → (clb fb : ℕ) → Type 0
+IsInReach s64a clb fb = s64a ≡ false → (clb < 2 ^ 32) × (fb < 2 ^ 32)
+
+-- no slot from n on is in the set
+pub record IsBelow (n : ℕ) (s : List Bool) : Type 0 where
+  pub none : (i : ℕ) → n ≤ i → has_place s i ≡ false
+
+-- SUD is 1 without staggered spin-up, ALPE and ASP are 0 without aggressive link power management (CAP.SALP)
+pub record IsPowered (c : CapFields) (sud alpe asp : Bool) : Type 0 where
+  pub spun : (not c.sss || sud) ≡ sud
+  pub saves : (c.salp && alpe) ≡ alpe
+  pub slumbers : (c.salp && asp) ≡ asp
+
 -- what the registers of a port keep
 pub record IsLawful (p : HbaPort) : Type 0 where
+  pub capable : IsCapable p.capabilities
   -- the command list is aligned to 1 KiB, the received FIS area to 256 bytes
   pub clb : p.clb % 2 ^ 10 ≡ 0
   pub fb : p.fb % 2 ^ 8 ≡ 0
+  pub reach : IsInReach p.capabilities.s64a p.clb p.fb
   pub is : IsKept p.is
   pub ie : intersection p.ie enables ≡ p.ie
   -- a stopped port has no command
   pub stopped : p.st ≡ false → (p.sact ≡ no_places) × (p.ci ≡ no_places)
+  -- no command is in a slot that the command list has not
+  pub sact : IsBelow p.capabilities.ncs p.sact
+  pub ci : IsBelow p.capabilities.ncs p.ci
+  pub power : IsPowered p.capabilities p.sud p.alpe p.asp
   pub sctl : p.sctl < 2 ^ 12
   -- the link is the one that DET asks for
-  pub link : asked_link (p.sctl % 2 ^ 4) p.link ≡ p.link
-  pub speed : p.speed ≤ most_speed
+  pub link : asked_link (p.sctl % 2 ^ 4) p.sud p.link ≡ p.link
+  pub speed : p.speed ≤ p.capabilities.iss
   pub ccs : p.ccs < 32
-  pub first : p.first < 32
+  pub first : p.first < p.capabilities.ncs
   pub soft : IsOfSlot p.soft
 
 -- the sets of a port are those of words of 32 bits

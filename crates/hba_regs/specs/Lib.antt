@@ -1,8 +1,10 @@
 pub mod Accessing
+pub mod CapFields
 pub mod Fields
 pub mod HbaState
 pub mod Interrupts
 pub mod Linking
+pub mod PortStates
 pub mod Reading
 pub mod Receiving
 pub mod RegisterTable

@@ -1,6 +1,7 @@
 //! The registers of an HBA with one port, and what reads, writes, received FISes and errors do to them.
 
 ghost use Rattle.std.specs.Prelude.{◌≡◌, ◌*◌, ◌/◌};
+ghost use Rattle.hba_regs.specs.CapFields.{usual};
 ghost use Rattle.hba_regs.specs.HbaState.{power_on};
 ghost use Rattle.hba_regs.specs.RegisterTable.{register_at};
 ghost use Rattle.hba_regs.specs.Reading.{word_at, word_of_offset};
@@ -8,6 +9,7 @@ ghost use Rattle.hba_regs.specs.Writing.{word_written, written};
 ghost use Rattle.hba_regs.specs.Accessing.{read_of, word_beside, write_of};
 
 use crate::access_size::AccessSize;
+use crate::capabilities::Capabilities;
 use crate::consequence::Consequence;
 use crate::port::Port;
 use crate::register::Register;
@@ -39,14 +41,21 @@ impl Model for HbaRegs {
 }
 
 impl HbaRegs {
-    /// The registers after power-on: the link is up, and the device has sent its signature.
+    /// The registers after power-on, of an HBA with the usual capabilities: the link is up, and the device has sent its signature.
     pub fn new() -> Self
-        ensures { result ≡ power_on }
+        ensures { result ≡ power_on usual }
+    {
+        HbaRegs::with_capabilities(Capabilities::new())
+    }
+
+    /// The registers after power-on, of an HBA that can do this. With CAP.SSS the device waits for PxCMD.SUD.
+    pub fn with_capabilities(capabilities: Capabilities) -> Self
+        ensures { result ≡ power_on capabilities }
     {
         HbaRegs {
             enabled: false,
             pending: false,
-            port: Port::new(),
+            port: Port::new(capabilities),
         }
     }
 
@@ -113,7 +122,7 @@ impl HbaRegs {
         ensures { result ≡ word_at self.now register }
     {
         match register {
-            Register::Cap => 0xc124_1f00, // S64A, SNCQ, SCLO, generation 2, SAM, 32 slots, one port
+            Register::Cap => self.port.capabilities().word(),
             Register::Ghc => 0x8000_0000 + (u32::from(self.enabled) << 1), // AE: no legacy mode
             Register::Is => u32::from(self.pending),
             Register::Pi => 0x0000_0001, // port 0

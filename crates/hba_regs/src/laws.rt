@@ -1,6 +1,6 @@
 //! What follows from the contracts of `HbaRegs`. The functions change nothing: each stands for its clauses. A write is one of a
 //! word to a register (`written`), which `words_are_written_to_their_registers` finds at the register's offset.
-ghost use Rattle.std.specs.Prelude.{◌≡◌, ◌≢◌, ◌+◌, ◌*◌, ◌/◌, ◌%◌, ◌^◌, ◌<◌, ℕ, Bool, true, false, not, ◌&&◌, ◌||◌};
+ghost use Rattle.std.specs.Prelude.{◌≡◌, ◌≢◌, ◌+◌, ◌*◌, ◌/◌, ◌%◌, ◌^◌, ◌<◌, ◌≤◌, ℕ, Bool, true, false, not, ◌&&◌, ◌||◌};
 ghost use Rattle.word_bits.specs.Places.{bits, has_place, no_places, union, with_place};
 ghost use Rattle.hba_regs.specs.HbaState.{HbaPort, link_changed, power_on};
 ghost use Rattle.hba_regs.specs.Interrupts.{interrupts, is_pending};
@@ -10,7 +10,7 @@ ghost use Rattle.hba_regs.specs.Writing.{written, both};
 ghost use Rattle.hba_regs.specs.Accessing.{part, read_of, with_part, write_of};
 ghost use Rattle.hba_regs.specs.Receiving.{moved};
 ghost use Rattle.hba_regs.specs.declared.consequence.Consequence.TheVariants.{Nothing};
-ghost use Rattle.hba_regs.specs.declared.link.Link.TheVariants.{Up};
+ghost use Rattle.hba_regs.specs.declared.link.Link.TheVariants.{Up, Listening};
 ghost use Rattle.hba_regs.specs.declared.signature.Signature.TheVariants.{Due};
 ghost use Rattle.hba_regs.specs.declared.soft_reset.SoftReset.TheVariants.{Off};
 
@@ -53,11 +53,12 @@ pub fn a_byte_is_written_alone(word: u32, place: u32, value: u64)
         → part (with_part word (8 * place) 1 value) (8 * other) 1 ≡ part word (8 * other) 1 }
 {}
 
-/// After GHC.HR the registers are as after power-on, but for the bases, whatever was before.
+/// After GHC.HR the registers are as after power-on of the same HBA, but for the bases, whatever was before.
 pub fn a_reset_leaves_the_bases(regs: &HbaRegs, value: u32)
     requires { has_place (bits value) 0 ≡ true }
     ensures { (written regs.now value Register.Ghc).state
-        ≡ record power_on { port = record power_on.port { clb = regs.now.port.clb; fb = regs.now.port.fb } } }
+        ≡ (let first = power_on regs.now.port.capabilities in
+        record first { port = record first.port { clb = regs.now.port.clb; fb = regs.now.port.fb } }) }
 {}
 
 /// A write of PxCMD without ST leaves no command, and a port that was stopped or is stopped by it isn't halted.
@@ -129,9 +130,10 @@ pub fn pcs_and_prcs_are_those_of_pxserr(regs: &HbaRegs, value: u32)
     regs.keeps_its_rules();
 }
 
-/// COMRESET, by DET 1 and then 0, drops the commands and makes the device send its signature; the driver's settings stay.
+/// COMRESET, by DET 1 and then 0 with SUD 1, drops the commands and makes the device send its signature; the driver's settings stay.
 pub fn a_comreset_brings_the_device_back(regs: &HbaRegs)
-    requires { regs.now.port.link ≡ Up }
+    requires link { regs.now.port.link ≡ Up }
+    requires spun { regs.now.port.sud ≡ true }
     ensures { (written (written regs.now 0x301 Register.PxSctl).state 0x300 Register.PxSctl).state.port
         ≡ record regs.now.port {
           sctl = 0x300;
@@ -142,8 +144,42 @@ pub fn a_comreset_brings_the_device_back(regs: &HbaRegs)
           err = 0;
           sig = 0xffffffff;
           serr = union (with_place regs.now.port.serr 16) link_changed;
-          speed = 2;
+          speed = regs.now.port.capabilities.iss;
           signature = Due;
           soft = Off;
         } }
+{}
+
+/// No write changes what the HBA can do.
+pub fn capabilities_stay(regs: &HbaRegs, register: Register, value: u32)
+    ensures { (written regs.now value register).state.port.capabilities ≡ regs.now.port.capabilities }
+{}
+
+/// No slot that the command list has not is ever in PxSACT or PxCI.
+pub fn commands_are_in_slots_of_the_list(regs: &HbaRegs, slot: u32)
+    requires { regs.now.port.capabilities.ncs ≤ slot }
+    ensures sact { has_place regs.now.port.sact slot ≡ false }
+    ensures ci { has_place regs.now.port.ci slot ≡ false }
+{
+    regs.keeps_its_rules();
+}
+
+/// Without CAP.S64A the bases are below 4 GiB.
+pub fn bases_are_in_reach(regs: &HbaRegs)
+    requires { regs.now.port.capabilities.s64a ≡ false }
+    ensures clb { regs.now.port.clb < 2 ^ 32 }
+    ensures fb { regs.now.port.fb < 2 ^ 32 }
+{
+    regs.keeps_its_rules();
+}
+
+/// With staggered spin-up a device that waits goes on waiting while software writes 0 to SUD. With 1 the link comes up, and the signature
+/// is due.
+pub fn a_device_waits_for_sud(regs: &HbaRegs, value: u32)
+    requires sss { regs.now.port.capabilities.sss ≡ true }
+    requires sud { regs.now.port.sud ≡ false }
+    requires link { regs.now.port.link ≡ Listening }
+    ensures waits { has_place (bits value) 1 ≡ false → (written regs.now value Register.PxCmd).state.port.link ≡ Listening }
+    ensures up { has_place (bits value) 1 ≡ true → (written regs.now value Register.PxCmd).state.port.link ≡ Up }
+    ensures due { has_place (bits value) 1 ≡ true → (written regs.now value Register.PxCmd).state.port.signature ≡ Due }
 {}

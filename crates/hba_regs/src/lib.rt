@@ -3,6 +3,7 @@
 #![tactic(auto)]
 
 mod access_size;
+mod capabilities;
 mod consequence;
 mod fatal;
 mod hba_regs;
@@ -15,6 +16,7 @@ mod soft_reset;
 mod words;
 
 pub use access_size::AccessSize;
+pub use capabilities::Capabilities;
 pub use consequence::Consequence;
 pub use fatal::Fatal;
 pub use hba_regs::HbaRegs;

@@ -1,12 +1,14 @@
 ghost use Rattle.std.specs.Prelude.{◌≡◌};
-ghost use Rattle.hba_regs.specs.HbaState.{asked_link};
+ghost use Rattle.hba_regs.specs.HbaState.{asked_link, spun_link};
 ghost use Rattle.hba_regs.specs.Reading.{link_word};
 
-/// The link to the device, as PxSCTL.DET has left it (AHCI 1.3.1, sections 3.3.10 and 3.3.11).
+/// The link to the device, as PxSCTL.DET and PxCMD.SUD have left it (AHCI 1.3.1, sections 3.3.10, 3.3.11 and 10.10).
 #[derive(Clone, Copy, PartialEq, Eq, Debug)]
 pub enum Link {
     /// The device is there, and the link is active.
     Up,
+    /// The device waits for SUD, and the port listens (section 10.10.1).
+    Listening,
     /// COMRESET is sent, for as long as DET is 1.
     InReset,
     /// The interface is disabled.
@@ -14,15 +16,26 @@ pub enum Link {
 }
 
 impl Link {
-    /// The link after a value of PxSCTL.DET is written.
-    pub(crate) fn asked(self, det: u32) -> Link
-        ensures { result ≡ asked_link det self }
+    /// The link after a value of PxSCTL.DET is written, with this SUD.
+    pub(crate) fn asked(self, det: u32, spun_up: bool) -> Link
+        ensures { result ≡ asked_link det spun_up self }
     {
         match det {
-            0 => Link::Up,
+            0 => self.spun(spun_up),
             1 => Link::InReset,
             4 => Link::Offline,
             _ => self,
+        }
+    }
+
+    /// The link while DET is 0, with this SUD.
+    fn spun(self, spun_up: bool) -> Link
+        ensures { result ≡ spun_link spun_up self }
+    {
+        match self {
+            Link::Up => Link::Up,
+            Link::Listening | Link::InReset | Link::Offline if spun_up => Link::Up,
+            Link::Listening | Link::InReset | Link::Offline => Link::Listening,
         }
     }
 
@@ -32,7 +45,7 @@ impl Link {
     {
         match self {
             Link::Up => 0x0000_0103 + (u32::from(speed) << 4),
-            Link::InReset => 0,
+            Link::Listening | Link::InReset => 0,
             Link::Offline => 0x0000_0004,
         }
     }

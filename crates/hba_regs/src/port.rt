@@ -1,20 +1,27 @@
 //! The registers of the port (AHCI 1.3.1, section 3.3).
 
-ghost use Rattle.std.specs.Prelude.{◌≡◌, ◌+◌, ◌*◌, ◌%◌, ◌^◌, ◌<◌, ◌≤◌, not, nat_eq};
-ghost use Rattle.word_bits.specs.Places.{bits, intersection, word_of};
-ghost use Rattle.hba_regs.specs.HbaState.{reset_port, most_speed, HasWords, IsLawful};
+ghost use Rattle.std.specs.Prelude.{◌≡◌, ◌+◌, ◌*◌, ◌%◌, ◌^◌, ◌<◌, ◌≤◌, false, true, not, nat_eq};
+ghost use Rattle.word_bits.specs.Places.{bits, intersection, no_places, word_of};
+ghost use Rattle.hba_regs.specs.HbaState.{reset_port, up_port, HasWords, IsInReach, IsLawful};
 ghost use Rattle.hba_regs.specs.Interrupts.{interrupts, is_pending, raised};
 ghost use Rattle.hba_regs.specs.Reading.{command_word};
-ghost use Rattle.hba_regs.specs.Receiving.{is_free, signature_moves};
+ghost use Rattle.hba_regs.specs.PortStates.{p_idle_selects};
+ghost use Rattle.hba_regs.specs.Receiving.{signature_moves};
+ghost use Rattle.hba_regs.specs.declared.link.Link.TheVariants.{Listening};
+ghost use Rattle.hba_regs.specs.declared.signature.Signature.TheVariants.{Past};
 
+use crate::capabilities::Capabilities;
 use crate::link::Link;
 use crate::signature::Signature;
 use crate::soft_reset::SoftReset;
+use crate::words::{bit, two_bytes};
 use std::marker::Model;
 use word_bits::{is_set, with_bit};
 
 mod moves;
 mod writes;
+
+use moves::is_busy;
 
 /// Bits of PxIS (section 3.3.5).
 const DHRS: u8 = 0;
@@ -36,15 +43,13 @@ const DIAG_X: u8 = 26;
 
 const LINK_CHANGED: u32 = 0x0401_0000;
 
-/// The fastest generation of the interface (CAP.ISS).
-const MOST_SPEED: u8 = 2;
-
 /// What PxSIG is before the device's first FIS (section 3.3.9).
 const NO_SIGNATURE: u32 = 0xffff_ffff;
 
 /// The registers of the port.
 #[derive(Debug, Drop)]
 pub struct Port {
+    capabilities: Capabilities,
     clb: u64,
     fb: u64,
     is: u32,
@@ -53,6 +58,9 @@ pub struct Port {
     receiving: bool,
     atapi: bool,
     drives_led: bool,
+    spun_up: bool,
+    saves_power: bool,
+    slumbers: bool,
     status: u8,
     error: u8,
     signature: u32,
@@ -82,28 +90,45 @@ impl Model for Port {
 }
 
 impl Port {
-    /// The port after power-on.
-    pub fn new() -> Self
-        ensures { result ≡ reset_port 0 0 }
+    /// The port after power-on, of an HBA that can do this.
+    pub fn new(capabilities: Capabilities) -> Self
+        ensures { result ≡ reset_port capabilities 0 0 }
     {
-        Port::with_bases(0, 0)
+        Port::with_bases(capabilities, 0, 0)
     }
 
-    /// The port after a reset of the HBA, which leaves the bases (section 10.4.3).
+    /// The port after a reset of the HBA, which leaves the bases (section 10.4.3) and what the HBA can do.
     pub fn reset(&mut self)
-        ensures { self.new ≡ reset_port self.old.clb self.old.fb }
+        ensures { self.new ≡ reset_port self.old.capabilities self.old.clb self.old.fb }
     {
-        *self = Port::with_bases(self.clb, self.fb);
+        *self = Port::with_bases(self.capabilities, self.clb, self.fb);
     }
 
-    /// The port after a reset, with these bases: the link is up, and the device's signature is due.
-    #[tactic(auto, using(word_bits::proofs::BitsLemmas::bits_zero))]
-    fn with_bases(clb: u64, fb: u64) -> Self
+    /// The port after a reset, with these bases.
+    fn with_bases(capabilities: Capabilities, clb: u64, fb: u64) -> Self
         requires clb { clb % 2 ^ 10 ≡ 0 }
         requires fb { fb % 2 ^ 8 ≡ 0 }
-        ensures { result ≡ reset_port clb fb }
+        requires reach { IsInReach capabilities.s64a clb fb }
+        ensures { result ≡ reset_port capabilities clb fb }
     {
+        let mut port = Port::up(capabilities, clb, fb);
+        if capabilities.sss {
+            port.listen();
+        }
+        port
+    }
+
+    /// The same, while the link is up and the device's signature is due.
+    #[tactic(auto, using(word_bits::proofs::BitsLemmas::bits_zero))]
+    fn up(capabilities: Capabilities, clb: u64, fb: u64) -> Self
+        requires clb { clb % 2 ^ 10 ≡ 0 }
+        requires fb { fb % 2 ^ 8 ≡ 0 }
+        requires reach { IsInReach capabilities.s64a clb fb }
+        ensures { result ≡ up_port capabilities clb fb }
+    {
+        capabilities.keeps_its_rules();
         Port {
+            capabilities,
             clb,
             fb,
             is: 0,
@@ -112,11 +137,14 @@ impl Port {
             receiving: false,
             atapi: false,
             drives_led: false,
+            spun_up: true,
+            saves_power: false,
+            slumbers: false,
             status: 0x80,
             error: 0,
             signature: NO_SIGNATURE,
             link: Link::Up,
-            speed: MOST_SPEED,
+            speed: capabilities.iss(),
             control: 0,
             serr: LINK_CHANGED,
             sact: 0,
@@ -129,12 +157,33 @@ impl Port {
         }
     }
 
+    /// With CAP.SSS the device waits for PxCMD.SUD (section 10.1.1): there is no link, and nothing to report.
+    #[tactic(auto, using(word_bits::proofs::BitsLemmas::bits_zero))]
+    fn listen(&mut self)
+        requires sss { self.old.capabilities.sss ≡ true }
+        requires det { self.old.sctl ≡ 0 }
+        ensures { self.new ≡ record self.old { sud = false; sts = 0x7f; link = Listening; serr = no_places; signature = Past } }
+    {
+        self.spun_up = false;
+        self.status = 0x7f;
+        self.link = Link::Listening;
+        self.serr = 0;
+        self.first_fis = Signature::Past;
+    }
+
     /// What every state of a port's registers keeps.
     pub fn keeps_its_rules(&self)
         ensures lawful { IsLawful self.now }
         ensures words { HasWords self.now }
     {
         let _ = &self.clb;
+    }
+
+    /// What the HBA can do.
+    pub fn capabilities(&self) -> Capabilities
+        ensures { result ≡ self.now.capabilities }
+    {
+        self.capabilities
     }
 
     /// PxCLB and PxCLBU.
@@ -177,27 +226,24 @@ impl Port {
     pub fn command(&self) -> u32
         ensures { result ≡ command_word self.now }
     {
-        let mut word = 0x0000_0006; // SUD and POD: the device has spun up and is powered
-        if self.started {
-            word += 0x0000_8001 + (u32::from(self.current) << 8);
-        }
-        if self.receiving {
-            word += 0x0000_4010;
-        }
-        if self.atapi {
-            word += 0x0100_0000;
-        }
-        if self.drives_led {
-            word += 0x0200_0000;
-        }
-        word
+        let pod = 0x0000_0004; // the device is powered
+        let ccs = if self.started {
+            u32::from(self.current) << 8
+        } else {
+            0
+        };
+        let running = bit(self.started, 0) + bit(self.started, 15) + ccs;
+        let receiving = bit(self.receiving, 4) + bit(self.receiving, 14);
+        let device = bit(self.spun_up, 1) + bit(self.atapi, 24) + bit(self.drives_led, 25);
+        let power = bit(self.saves_power, 26) + bit(self.slumbers, 27);
+        running + receiving + device + power + pod
     }
 
     /// PxTFD.
     pub fn task_file(&self) -> u32
         ensures { result ≡ self.now.err * 2 ^ 8 + self.now.sts }
     {
-        (u32::from(self.error) << 8) + u32::from(self.status)
+        two_bytes(self.error, self.status)
     }
 
     /// PxSIG.
@@ -217,7 +263,7 @@ impl Port {
     /// The generation of the active link.
     pub fn speed(&self) -> u8
         ensures value { result ≡ self.now.speed }
-        ensures most { result ≤ most_speed }
+        ensures most { result ≤ 3 }
     {
         self.speed
     }
@@ -274,17 +320,17 @@ impl Port {
     /// The slot with the highest priority to issue from.
     pub fn first(&self) -> u8
         ensures value { result ≡ self.now.first }
-        ensures slot { result < 32 }
+        ensures slot { result < self.now.capabilities.ncs }
+        ensures most { result < 32 }
     {
         self.first
     }
 
     /// Whether BSY and DRQ are 0, so that a command may be taken.
     pub fn is_free(&self) -> bool
-        ensures { result ≡ is_free self.now.sts }
+        ensures { result ≡ p_idle_selects self.now }
     {
-        let status = u32::from(self.status);
-        !(is_set(status, 7) || is_set(status, 3))
+        !is_busy(self.status)
     }
 
     /// The FIS that brings the signature.
@@ -300,7 +346,7 @@ impl Port {
     {
         match self.first_fis {
             Signature::Past => false,
-            Signature::Due => !self.started || self.receiving,
+            Signature::Due => !self.started || (self.receiving && !self.halted),
             Signature::Unposted => self.receiving,
         }
     }

@@ -1,8 +1,18 @@
 //! Parts of words, and of addresses of two words.
 
-ghost use Rattle.std.specs.Prelude.{◌≡◌, ◌*◌, ◌/◌, ◌%◌, ◌^◌, ◌<◌};
+ghost use Rattle.std.specs.Prelude.{◌≡◌, ◌+◌, ◌*◌, ◌/◌, ◌%◌, ◌^◌, ◌<◌, ◌≤◌};
 ghost use Rattle.hba_regs.specs.Accessing.{part, with_part};
+ghost use Rattle.hba_regs.specs.Reading.{bit_word};
 ghost use Rattle.hba_regs.specs.Writing.{with_lower, with_upper};
+
+/// The word of one bit at a place below 32, or 0.
+pub fn bit(is_one: bool, place: u8) -> u32
+    requires { place < 32 }
+    ensures value { result ≡ bit_word is_one place }
+    ensures most { result ≤ 2 ^ place }
+{
+    if is_one { 1 << place } else { 0 }
+}
 
 /// The lower word of two.
 pub fn lower(value: u64) -> u32
@@ -30,6 +40,13 @@ pub fn with_upper(base: u64, word: u32) -> u64
     ensures { result ≡ with_upper base word }
 {
     (u64::from(word) << 32) + u64::from(lower(base))
+}
+
+/// The word of two bytes.
+pub fn two_bytes(upper: u8, lower: u8) -> u32
+    ensures { result ≡ upper * 2 ^ 8 + lower }
+{
+    (u32::from(upper) << 8) + u32::from(lower)
 }
 
 /// The byte of a word at a place from 0 to 3.

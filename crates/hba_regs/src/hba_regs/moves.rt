@@ -1,7 +1,8 @@
 //! What the device's FISes and errors do to the registers. Each ends as a write does: IS.IPS is set if an interrupt is pending.
 
 ghost use Rattle.std.specs.Prelude.{◌≡◌, ◌<◌, true};
-ghost use Rattle.hba_regs.specs.Receiving.{after_bits, after_fatal, after_pio, after_pio_end, after_register, after_srst_cleared, after_srst_set, moved, selected, sent, signature_moves, signed};
+ghost use Rattle.hba_regs.specs.PortStates.{cfis_success, err_fatal, p_select_cmd, pio_entry, pio_update, reg_fis_entry, sdb_entry, stuck};
+ghost use Rattle.hba_regs.specs.Receiving.{after_srst_cleared, after_srst_set, moved, signature_moves, signed};
 
 use super::HbaRegs;
 use crate::fatal::Fatal;
@@ -10,7 +11,7 @@ impl HbaRegs {
     /// Selects the command of a slot, below 32, as the next one to issue (AHCI 1.3.1, section 5.3.2, P:SelectCmd): CCS is the slot.
     pub fn select(&mut self, slot: u8)
         requires { slot < 32 }
-        ensures { self.new ≡ moved self.old (selected self.old.port slot) }
+        ensures { self.new ≡ moved self.old (p_select_cmd slot self.old.port) }
     {
         self.port.select(slot);
         self.pending = self.pending || self.port.is_pending();
@@ -20,9 +21,19 @@ impl HbaRegs {
     /// cleared.
     pub fn send(&mut self, slot: u8, clears: bool)
         requires { slot < 32 }
-        ensures { self.new ≡ moved self.old (sent self.old.port slot clears) }
+        ensures { self.new ≡ moved self.old (cfis_success slot clears self.old.port) }
     {
         self.port.send(slot, clears);
+        self.pending = self.pending || self.port.is_pending();
+    }
+
+    /// Sends the command FIS of a slot's write, below 32, whose list names fewer bytes than it moves: the port is stuck until ST is cleared or
+    /// the link is reset (profile).
+    pub fn stick(&mut self, slot: u8, clears: bool)
+        requires { slot < 32 }
+        ensures { self.new ≡ moved self.old (stuck slot clears self.old.port) }
+    {
+        self.port.stick(slot, clears);
         self.pending = self.pending || self.port.is_pending();
     }
 
@@ -30,7 +41,7 @@ impl HbaRegs {
     /// I bit. PxCI loses the slot if BSY, DRQ and ERR of the status are 0; a status with ERR halts the port.
     pub fn receive_register(&mut self, status: u8, error: u8, i: bool, slot: u8)
         requires { slot < 32 }
-        ensures { self.new ≡ moved self.old (after_register self.old.port status error i slot) }
+        ensures { self.new ≡ moved self.old (reg_fis_entry status error i slot self.old.port) }
     {
         self.port.receive_register(status, error, i, slot);
         self.pending = self.pending || self.port.is_pending();
@@ -39,7 +50,7 @@ impl HbaRegs {
     /// Takes a Set Device Bits FIS (section 3.3.13): PxSACT loses the slots in `sactive`. BSY and DRQ stay as they are; a
     /// status with ERR halts the port.
     pub fn receive_bits(&mut self, status: u8, error: u8, i: bool, sactive: u32)
-        ensures { self.new ≡ moved self.old (after_bits self.old.port status error i sactive) }
+        ensures { self.new ≡ moved self.old (sdb_entry status error i sactive self.old.port) }
     {
         self.port.receive_bits(status, error, i, sactive);
         self.pending = self.pending || self.port.is_pending();
@@ -47,7 +58,7 @@ impl HbaRegs {
 
     /// Takes a PIO Setup FIS, before its data: its status and error.
     pub fn receive_pio(&mut self, status: u8, error: u8)
-        ensures { self.new ≡ moved self.old (after_pio self.old.port status error) }
+        ensures { self.new ≡ moved self.old (pio_entry status error self.old.port) }
     {
         self.port.receive_pio(status, error);
         self.pending = self.pending || self.port.is_pending();
@@ -56,7 +67,7 @@ impl HbaRegs {
     /// Ends a PIO Setup FIS's data, for the command of a slot, below 32: the FIS's E_Status and its I bit.
     pub fn end_pio(&mut self, e_status: u8, i: bool, slot: u8)
         requires { slot < 32 }
-        ensures { self.new ≡ moved self.old (after_pio_end self.old.port e_status i slot) }
+        ensures { self.new ≡ moved self.old (pio_update e_status i slot self.old.port) }
     {
         self.port.end_pio(e_status, i, slot);
         self.pending = self.pending || self.port.is_pending();
@@ -92,7 +103,7 @@ impl HbaRegs {
 
     /// Takes a fatal error (sections 6.1 and 6.2.1): its bit of PxIS is set, and the port halts.
     pub fn fail_fatally(&mut self, fatal: Fatal)
-        ensures { self.new ≡ moved self.old (after_fatal self.old.port fatal) }
+        ensures { self.new ≡ moved self.old (err_fatal fatal self.old.port) }
     {
         self.port.fail_fatally(fatal);
         self.pending = self.pending || self.port.is_pending();

@@ -5,9 +5,11 @@ ghost use Rattle.word_bits.specs.Places.{bits};
 ghost use Rattle.hba_regs.specs.HbaState.{HasWords, IsLawful};
 ghost use Rattle.hba_regs.specs.Interrupts.{interrupt, is_pending};
 ghost use Rattle.hba_regs.specs.Linking.{is_up};
-ghost use Rattle.hba_regs.specs.Receiving.{is_free, signature_moves};
+ghost use Rattle.hba_regs.specs.PortStates.{p_idle_selects};
+ghost use Rattle.hba_regs.specs.Receiving.{signature_moves};
 
 use super::HbaRegs;
+use crate::capabilities::Capabilities;
 use crate::link::Link;
 use crate::signature::Signature;
 use crate::soft_reset::SoftReset;
@@ -20,6 +22,13 @@ impl HbaRegs {
         ensures reports { is_pending self.now.port ≡ true → self.now.ips ≡ true }
     {
         self.port.keeps_its_rules();
+    }
+
+    /// What the HBA can do, which CAP shows.
+    pub fn capabilities(&self) -> Capabilities
+        ensures { result ≡ self.now.port.capabilities }
+    {
+        self.port.capabilities()
     }
 
     /// The level of the interrupt line: IS.IPS and GHC.IE.
@@ -108,7 +117,7 @@ impl HbaRegs {
 
     /// Whether BSY and DRQ are 0, so that a command may be taken (section 5.3.2).
     pub fn is_free(&self) -> bool
-        ensures { result ≡ is_free self.now.port.sts }
+        ensures { result ≡ p_idle_selects self.now.port }
     {
         self.port.is_free()
     }
@@ -116,7 +125,8 @@ impl HbaRegs {
     /// The slot with the highest priority to issue from (section 3.3.7, CCS).
     pub fn first_slot(&self) -> u8
         ensures value { result ≡ self.now.port.first }
-        ensures slot { result < 32 }
+        ensures slot { result < self.now.port.capabilities.ncs }
+        ensures most { result < 32 }
     {
         self.port.first()
     }

@@ -1,10 +1,11 @@
 //! What the device's FISes and errors do to the registers of the port.
 
-ghost use Rattle.std.specs.Prelude.{◌≡◌, ◌<◌, bit_or};
-ghost use Rattle.word_bits.specs.Places.{bits, minus, with_place};
+ghost use Rattle.std.specs.Prelude.{◌≡◌, ◌≢◌, ◌<◌};
+ghost use Rattle.word_bits.specs.Places.{bits, minus, with_place, without_place};
 ghost use Rattle.hba_regs.specs.HbaState.{IsOfSlot};
-ghost use Rattle.hba_regs.specs.Interrupts.{place_of, raised, tfes};
-ghost use Rattle.hba_regs.specs.Receiving.{after_bits, after_fatal, after_pio, after_pio_end, after_register, after_signature, after_srst_cleared, after_srst_set, ended, ended_by_signature, has_error, is_done, selected, sent, signed, status_after_bits};
+ghost use Rattle.hba_regs.specs.Interrupts.{place_of, raised};
+ghost use Rattle.hba_regs.specs.PortStates.{bsy_or_drq_of, cfis_success, ended_by_signature, err_fatal, err_fatal_taskfile, err_of, p_reg_fis_update, p_select_cmd, pio_entry, pio_update, reg_fis_entry, sdb_entry, stuck};
+ghost use Rattle.hba_regs.specs.Receiving.{after_srst_cleared, after_srst_set, signed};
 
 use super::{DHRS, PSS, Port, SDBS, TFES, raised};
 use crate::fatal::Fatal;
@@ -16,16 +17,16 @@ impl Port {
     /// A slot's command is the one to issue.
     pub fn select(&mut self, slot: u8)
         requires { slot < 32 }
-        ensures { self.new ≡ selected self.old slot }
+        ensures { self.new ≡ p_select_cmd slot self.old }
     {
         self.current = slot;
-        self.first = (slot + 1) % 32;
+        self.first = (slot + 1) % self.capabilities.ncs();
     }
 
     /// The command FIS of a slot is sent: with C, BSY and the slot's bit of PxCI are cleared.
     pub fn send(&mut self, slot: u8, clears: bool)
         requires { slot < 32 }
-        ensures { self.new ≡ sent self.old slot clears }
+        ensures { self.new ≡ cfis_success slot clears self.old }
     {
         if clears {
             self.status &= 0x7f;
@@ -35,48 +36,101 @@ impl Port {
         }
     }
 
-    /// A D2H Register FIS for a slot.
+    /// The command FIS of a slot's write is sent, and its list is too short to go on.
+    pub fn stick(&mut self, slot: u8, clears: bool)
+        requires { slot < 32 }
+        ensures { self.new ≡ stuck slot clears self.old }
+    {
+        self.send(slot, clears);
+        self.halted = true;
+    }
+
+    /// RegFIS:Entry, of a D2H Register FIS for a slot.
     pub fn receive_register(&mut self, status: u8, error: u8, i: bool, slot: u8)
         requires { slot < 32 }
-        ensures { self.new ≡ after_register self.old status error i slot }
+        ensures { self.new ≡ reg_fis_entry status error i slot self.old }
     {
-        self.is = after_fis(self.is, DHRS, i, status);
-        self.ci = ended(status, slot, self.ci);
         self.status = status;
         self.error = error;
-        self.halted = self.halted || has_error(status);
+        self.raise(DHRS, i);
+        if has_error(status) {
+            self.fail_taskfile();
+        } else if !is_busy(status) {
+            self.clear_issued(slot);
+        }
     }
 
-    /// A Set Device Bits FIS.
+    /// SDB:Entry, of a Set Device Bits FIS.
     pub fn receive_bits(&mut self, status: u8, error: u8, i: bool, sactive: u32)
-        ensures { self.new ≡ after_bits self.old status error i sactive }
+        ensures { self.new ≡ sdb_entry status error i sactive self.old }
     {
-        self.is = after_fis(self.is, SDBS, i, status);
-        self.sact = lost(self.sact, sactive);
-        self.status = status_after_bits(self.status, status);
+        self.status = (self.status & 0x88) | (status & 0x77);
         self.error = error;
-        self.halted = self.halted || has_error(status);
+        self.complete(sactive);
+        self.raise(SDBS, i);
+        if has_error(status) {
+            self.fail_taskfile();
+        }
     }
 
-    /// A PIO Setup FIS, before its data.
+    /// PIO:Entry, of a PIO Setup FIS.
     pub fn receive_pio(&mut self, status: u8, error: u8)
-        ensures { self.new ≡ after_pio self.old status error }
+        ensures { self.new ≡ pio_entry status error self.old }
     {
-        self.is = raised(self.is, TFES, has_error(status));
         self.status = status;
         self.error = error;
-        self.halted = self.halted || has_error(status);
+        if has_error(status) {
+            self.fail_taskfile();
+        }
     }
 
-    /// The end of a PIO Setup FIS's data.
+    /// PIO:Update, once its data have moved.
     pub fn end_pio(&mut self, e_status: u8, i: bool, slot: u8)
         requires { slot < 32 }
-        ensures { self.new ≡ after_pio_end self.old e_status i slot }
+        ensures { self.new ≡ pio_update e_status i slot self.old }
     {
-        self.is = after_fis(self.is, PSS, i, e_status);
-        self.ci = ended(e_status, slot, self.ci);
         self.status = e_status;
-        self.halted = self.halted || has_error(e_status);
+        if has_error(e_status) {
+            self.fail_taskfile();
+            return;
+        }
+        self.raise(PSS, i);
+        if !is_busy(e_status) {
+            self.clear_issued(slot);
+        }
+    }
+
+    /// The commands of a Set Device Bits FIS are done: PxSACT loses their slots.
+    fn complete(&mut self, sactive: u32)
+        ensures { self.new ≡ record self.old { sact = minus self.old.sact (bits sactive) } }
+    {
+        self.sact = lost(self.sact, sactive);
+    }
+
+    /// ERR:FatalTaskfile: TFES, and the port halts.
+    fn fail_taskfile(&mut self)
+        ensures { self.new ≡ err_fatal_taskfile self.old }
+    {
+        self.raise(TFES, true);
+        self.halted = true;
+    }
+
+    /// Sets a bit of PxIS other than PCS and PRCS, if it is raised.
+    fn raise(&mut self, place: u8, is_raised: bool)
+        requires place { place < 32 }
+        requires pcs { place ≢ 6 }
+        requires prcs { place ≢ 22 }
+        ensures { self.new ≡ record self.old { is = raised is_raised place self.old.is } }
+    {
+        self.is = raised(self.is, place, is_raised);
+    }
+
+    /// RegFIS:ClearCI and PIO:ClearCI: PxCI loses a slot.
+    fn clear_issued(&mut self, slot: u8)
+        requires { slot < 32 }
+        ensures { self.new ≡ record self.old { ci = without_place self.old.ci slot } }
+    {
+        self.ci = without_bit(self.ci, slot);
     }
 
     /// The FIS of the device's signature: it is taken, or posted if it was taken before.
@@ -91,7 +145,7 @@ impl Port {
 
     /// The device's signature is taken.
     fn become_ready(&mut self)
-        ensures { self.new ≡ after_signature self.old }
+        ensures { self.new ≡ p_reg_fis_update self.old }
     {
         self.status = 0x50;
         self.error = 0x01;
@@ -127,9 +181,9 @@ impl Port {
         }
     }
 
-    /// A fatal error.
+    /// ERR:Fatal: a fatal error.
     pub fn fail_fatally(&mut self, fatal: Fatal)
-        ensures { self.new ≡ after_fatal self.old fatal }
+        ensures { self.new ≡ err_fatal fatal self.old }
     {
         self.is = failed(self.is, fatal);
         self.halted = true;
@@ -138,25 +192,17 @@ impl Port {
 
 /// Whether a status reports an error: ERR.
 fn has_error(status: u8) -> bool
-    ensures { result ≡ has_error status }
+    ensures { result ≡ err_of status }
 {
     is_set(u32::from(status), 0)
 }
 
-/// Whether BSY, DRQ and ERR are 0: the device has ended the command, or has queued it.
-fn is_done(status: u8) -> bool
-    ensures { result ≡ is_done status }
+/// Whether BSY or DRQ of a status is 1.
+pub(super) fn is_busy(status: u8) -> bool
+    ensures { result ≡ bsy_or_drq_of status }
 {
     let word = u32::from(status);
-    !(is_set(word, 7) || is_set(word, 3) || is_set(word, 0))
-}
-
-/// PxIS after a FIS: with its own interrupt if its I bit is 1, and with TFES if its status reports an error.
-fn after_fis(is: u32, own: u8, i: bool, status: u8) -> u32
-    requires { own < 32 }
-    ensures { bits result ≡ raised (has_error status) tfes (raised i own (bits is)) }
-{
-    raised(raised(is, own, i), TFES, has_error(status))
+    is_set(word, 7) || is_set(word, 3)
 }
 
 /// PxIS after a fatal error.
@@ -164,18 +210,6 @@ fn failed(is: u32, fatal: Fatal) -> u32
     ensures { bits result ≡ with_place (bits is) (place_of fatal) }
 {
     with_bit(is, fatal.place())
-}
-
-/// PxCI after a status for a slot's command.
-fn ended(status: u8, slot: u8, ci: u32) -> u32
-    requires { slot < 32 }
-    ensures { bits result ≡ ended status slot (bits ci) }
-{
-    if is_done(status) {
-        without_bit(ci, slot)
-    } else {
-        ci
-    }
 }
 
 /// PxCI after the signature: that of a software reset ends the command of its second control FIS.
@@ -187,13 +221,6 @@ fn ended_by_signature(soft: SoftReset, ci: u32) -> u32
         SoftReset::Ending(slot) => without_bit(ci, slot),
         SoftReset::Off | SoftReset::Held => ci,
     }
-}
-
-/// The status after a Set Device Bits FIS: BSY and DRQ stay.
-fn status_after_bits(old: u8, status: u8) -> u8
-    ensures { result ≡ status_after_bits old status }
-{
-    (old & 0x88) | (status & 0x77)
 }
 
 /// The slots of a word without those of another.

@@ -1,0 +1,159 @@
+-- The port's state machine (AHCI 1.3.1, section 5.3 "HBA Port State Machine"): a definition for each state that moves the registers, by
+-- the state's own name, and in it the rows of its table in their order, each of which goes on with the next state. A path ends in a state of
+-- rest (`rest_of`). What a driver can't see is left out: docs/LAYOUTS.md has the table of all states.
+use Rattle.std.specs.Prelude.{ℕ, ◌+◌, ◌%◌, Bool, true, false, not, ◌&&◌, ◌||◌, List, bit_and, bit_or, if◌then◌else◌}
+use Rattle.word_bits.specs.Places.{bits, has_place, with_place, without_place, minus}
+use Rattle.hba_regs.specs.HbaState.{HbaPort}
+use Rattle.hba_regs.specs.Interrupts.{dhrs, pss, sdbs, tfes, place_of, raised}
+use Rattle.hba_regs.specs.declared.fatal.Fatal.{Fatal}
+use Rattle.hba_regs.specs.declared.signature.Signature.TheVariants.{Past, Unposted}
+use Rattle.hba_regs.specs.declared.soft_reset.SoftReset.{SoftReset}
+use Rattle.hba_regs.specs.declared.soft_reset.SoftReset.TheVariants.{Off, Ending}
+use Rattle.hba_regs.specs.declared.link.Link.{Link}
+use Rattle.hba_regs.specs.declared.link.Link.TheVariants.{Up, Listening, InReset, Offline}
+
+-- ---- states of rest
+
+pub data Rest : Type 0 where
+  -- P:PhyListening: DET is 0, and the device waits for SUD
+  PhyListening : Rest
+  -- P:StartComm: DET is 1, COMRESET is sent
+  StartComm : Rest
+  -- P:Offline: DET is 4
+  OfflineState : Rest
+  -- P:NotRunning: ST is 0
+  NotRunning : Rest
+  -- P:Idle: ST is 1; commands are selected, FISes received
+  Idle : Rest
+  -- ERR:WaitForClear: until ST is 0, no command is processed and no FIS received
+  WaitForClear : Rest
+
+abbrev pub over_link : Link → Rest → Rest
+over_link Up rest = rest
+over_link Listening rest = PhyListening
+over_link InReset rest = StartComm
+over_link Offline rest = OfflineState
+
+abbrev pub rest_of : HbaPort → Rest
+rest_of p = over_link p.link (if p.halted then WaitForClear else if p.st then Idle else NotRunning)
+
+-- ---- bits of a status
+
+abbrev pub err_of : ℕ → Bool
+err_of status = has_place (bits status) 0
+
+abbrev pub bsy_or_drq_of : ℕ → Bool
+bsy_or_drq_of status = has_place (bits status) 7 || has_place (bits status) 3
+
+-- ---- ERR, "Error Recovery"
+
+-- ERR:FatalTaskfile: TFES is set; then ERR:WaitForClear
+abbrev pub err_fatal_taskfile : HbaPort → HbaPort
+err_fatal_taskfile p = record p { is = with_place p.is tfes; halted = true }
+
+-- ERR:Fatal: the error's bit of PxIS is set; then ERR:WaitForClear
+abbrev pub err_fatal : Fatal → HbaPort → HbaPort
+err_fatal fatal p = record p { is = with_place p.is (place_of fatal); halted = true }
+
+-- ---- P, "Port Idle"
+
+-- P:Idle: a command is selected while BSY and DRQ are 0
+abbrev pub p_idle_selects : HbaPort → Bool
+p_idle_selects p = not (bsy_or_drq_of p.sts)
+
+-- P:SelectCmd: pIssueSlot and CCS are the slot; pSlotLoc is, so that the search for the next one begins behind it (section 3.3.7, CCS),
+-- from 0 after the last one. Then P:FetchCmd
+abbrev pub p_select_cmd : ℕ → HbaPort → HbaPort
+p_select_cmd slot p = record p { ccs = slot; first = (slot + 1) % p.capabilities.ncs }
+
+-- P:RegFisUpdate, and RegFIS:UpdateSig while ST is 1: PxTFD and PxSIG are those of the first D2H Register FIS after a reset, which has I 0;
+-- pUpdateSig is 0. While FRE is 1 it is posted (P:RegFisPostToMem), or else later. After a software reset, the command of its second control
+-- FIS ends (RegFIS:ClearCI)
+abbrev pub ended_by_signature : SoftReset → List Bool → List Bool
+ended_by_signature (Ending slot) s = without_place s slot
+ended_by_signature other s = s
+
+abbrev pub p_reg_fis_update : HbaPort → HbaPort
+p_reg_fis_update p =
+    record p {
+      sts = 0x50;
+      err = 0x01;
+      sig = 0x00000101;
+      ci = ended_by_signature p.soft p.ci;
+      signature = if p.fre then Past else Unposted;
+      soft = Off;
+    }
+
+-- P:RegFisPostToMem
+abbrev pub p_reg_fis_post_to_mem : HbaPort → HbaPort
+p_reg_fis_post_to_mem p = record p { signature = Past }
+
+-- ---- CFIS, "Command Transfer"
+
+-- CFIS:ClearCI: BSY and the slot's bit of PxCI are cleared; pIssueSlot is none
+abbrev pub cfis_clear_ci : ℕ → HbaPort → HbaPort
+cfis_clear_ci slot p = record p { sts = bit_and p.sts 0x7f; ci = without_place p.ci slot }
+
+-- CFIS:Success, after CFIS:Xmit: C is 1 in the header; or the device is busy with the command
+abbrev pub cfis_success : ℕ → (c : Bool) → HbaPort → HbaPort
+cfis_success slot c p = if c then cfis_clear_ci slot p else record p { sts = bit_or p.sts 0x80 }
+
+-- the same of a write whose list names fewer bytes than it moves: the port has no data to go on with in DX:Transmit, and the standard has no
+-- text for it (section 6.1.5 is of data that a device sends). It is stuck until ST is cleared or the link is reset (profile)
+abbrev pub stuck : ℕ → (c : Bool) → HbaPort → HbaPort
+stuck slot c p = record (cfis_success slot c p) { halted = true }
+
+-- ---- RegFIS, "D2H Register FIS Receive"
+
+-- RegFIS:SetIntr: I is 1, or not; RegFIS:SetIS sets DHRS
+abbrev pub reg_fis_set_intr : (i : Bool) → HbaPort → HbaPort
+reg_fis_set_intr i p = record p { is = raised i dhrs p.is }
+
+-- RegFIS:ClearCI: the bit of pIssueSlot is cleared
+abbrev pub reg_fis_clear_ci : (i : Bool) → (slot : ℕ) → HbaPort → HbaPort
+reg_fis_clear_ci i slot p = reg_fis_set_intr i (record p { ci = without_place p.ci slot })
+
+-- RegFIS:Entry: ERR is 1; BSY and DRQ are 0; or neither. With ERR, the table goes to ERR:FatalTaskfile at once: that RegFIS:SetIntr is on
+-- the way is a departure (docs/DECISIONS.md)
+abbrev pub reg_fis_entry : (status error : ℕ) → (i : Bool) → (slot : ℕ) → HbaPort → HbaPort
+reg_fis_entry status error i slot p =
+    let q = record p { sts = status; err = error } in
+    if err_of status then err_fatal_taskfile (reg_fis_set_intr i q)
+    else if bsy_or_drq_of status then reg_fis_set_intr i q
+    else reg_fis_clear_ci i slot q
+
+-- ---- SDB, "Set Device Bits FIS Receive"
+
+-- SDB:SetIntr: I is 1, or not; SDB:SetIS sets SDBS
+abbrev pub sdb_set_intr : (i : Bool) → HbaPort → HbaPort
+sdb_set_intr i p = record p { is = raised i sdbs p.is }
+
+-- SDB:Entry: the status but for BSY and DRQ, the error, and SActive are taken; ERR is 1, or not. With ERR a departure, as at RegFIS:Entry
+abbrev pub sdb_entry : (status error : ℕ) → (i : Bool) → (sactive : ℕ) → HbaPort → HbaPort
+sdb_entry status error i sactive p =
+    let q = record p { sts = bit_or (bit_and p.sts 0x88) (bit_and status 0x77); err = error; sact = minus p.sact (bits sactive) } in
+    if err_of status then err_fatal_taskfile (sdb_set_intr i q) else sdb_set_intr i q
+
+-- ---- PIO, "PIO Setup Receive"
+
+-- PIO:Entry: the status and the error are taken; ERR is 1, or the data move (DR:Receive, DX:Transmit)
+abbrev pub pio_entry : (status error : ℕ) → HbaPort → HbaPort
+pio_entry status error p =
+    let q = record p { sts = status; err = error } in
+    if err_of status then err_fatal_taskfile q else q
+
+-- PIO:SetIntr: pPioIbit is 1, or not; PIO:SetIS sets PSS
+abbrev pub pio_set_intr : (i : Bool) → HbaPort → HbaPort
+pio_set_intr i p = record p { is = raised i pss p.is }
+
+-- PIO:ClearCI: the bit of pIssueSlot is cleared
+abbrev pub pio_clear_ci : (i : Bool) → (slot : ℕ) → HbaPort → HbaPort
+pio_clear_ci i slot p = pio_set_intr i (record p { ci = without_place p.ci slot })
+
+-- PIO:Update, once the data have moved: the status is pPioESts; ERR is 1, BSY and DRQ are 0, or neither
+abbrev pub pio_update : (e_status : ℕ) → (i : Bool) → (slot : ℕ) → HbaPort → HbaPort
+pio_update e_status i slot p =
+    let q = record p { sts = e_status } in
+    if err_of e_status then err_fatal_taskfile q
+    else if bsy_or_drq_of e_status then pio_set_intr i q
+    else pio_clear_ci i slot q
