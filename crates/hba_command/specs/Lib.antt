@@ -3,4 +3,5 @@ pub mod PrdEntry
 pub mod Span
 pub mod CommandFis
 pub mod Task
+pub mod Action
 pub mod Pages

@@ -4,22 +4,28 @@
 //! No call allocates, and each returns on all bytes.
 #![tactic(auto)]
 
+mod action;
 mod entry;
 mod fis;
 mod header;
 mod log;
+mod page;
 mod pages;
 mod protocol;
+mod reply;
 mod span;
 mod task;
 mod tasks;
 
+pub use action::{Action, action_of, is_write, moved_by};
 pub use entry::PrdEntry;
 pub use fis::command_fis;
 pub use header::CommandHeader;
 pub use log::Log;
+pub use page::Page;
 pub use pages::{controller_page, directory_page, not_queued_page};
 pub use protocol::Protocol;
+pub use reply::Reply;
 pub use span::Span;
 pub use task::Task;
 pub use tasks::task_of;

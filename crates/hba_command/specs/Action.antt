@@ -1,0 +1,45 @@
+-- What the disk does with each command (ACS-3, by the commands' titles): the one table by which the controller acts.
+use Rattle.std.specs.Prelude.{ℕ, ◌*◌, Bool, true, false}
+use Rattle.hba_command.specs.declared.action.Action.{Action}
+use Rattle.hba_command.specs.declared.action.Action.TheVariants.{Queue, Sectors, Page, Flush, Reply, Control, Abort}
+use Rattle.hba_command.specs.declared.page.Page.TheVariants as page
+use Rattle.hba_command.specs.declared.protocol.Protocol.TheVariants.{Pio}
+use Rattle.hba_command.specs.declared.reply.Reply.TheVariants as reply
+use Rattle.hba_command.specs.declared.task.Task.{Task}
+use Rattle.hba_command.specs.declared.task.Task.TheVariants as task
+
+abbrev pub action_of : Task → Action
+action_of (task.Queue q) = Queue q  -- READ FPDMA QUEUED, WRITE FPDMA QUEUED
+action_of (task.Read span p) = Sectors false span p  -- READ SECTOR(S), READ DMA, with EXT or without
+action_of (task.Write span p) = Sectors true span p  -- WRITE SECTOR(S), WRITE DMA, with EXT or without
+action_of (task.Verify span) = Reply (reply.Verified span)  -- READ VERIFY SECTOR(S), with EXT or without
+action_of task.Flush = Flush  -- FLUSH CACHE, with EXT or without
+action_of task.Identify = Page page.Identify Pio  -- IDENTIFY DEVICE
+action_of (task.ReadLog log p) = Page (page.Log log) p  -- READ LOG EXT, READ LOG DMA EXT
+action_of task.NativeMax = Reply reply.NativeMax  -- READ NATIVE MAX ADDRESS, with EXT or without
+action_of task.PowerMode = Reply reply.PowerMode  -- CHECK POWER MODE
+action_of task.Diagnose = Reply reply.Diagnosed  -- EXECUTE DEVICE DIAGNOSTIC
+action_of task.Nothing = Reply reply.Done  -- SET FEATURES 03h, IDLE and STANDBY, with IMMEDIATE or without
+action_of (task.Control reset) = Control reset  -- the device control register
+action_of task.Packet = Reply reply.Packet  -- IDENTIFY PACKET DEVICE
+action_of task.Unknown = Abort  -- every other command
+
+-- how many bytes of data move
+abbrev pub moved_by : Action → ℕ
+moved_by (Queue q) = 512 * q.sectors
+moved_by (Sectors write span p) = 512 * span.sectors
+moved_by (Page page p) = 512
+moved_by Flush = 0
+moved_by (Reply r) = 0
+moved_by (Control reset) = 0
+moved_by Abort = 0
+
+-- whether they go to the device
+abbrev pub is_write : Action → Bool
+is_write (Queue q) = q.write
+is_write (Sectors write span p) = write
+is_write (Page page p) = false
+is_write Flush = false
+is_write (Reply r) = false
+is_write (Control reset) = false
+is_write Abort = false

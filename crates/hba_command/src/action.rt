@@ -1,0 +1,92 @@
+ghost use Rattle.std.specs.Prelude.{◌≡◌};
+ghost use Rattle.hba_command.specs.Action.{action_of, is_write, moved_by};
+ghost use Rattle.hba_command.specs.declared.action.Action.TheVariants.{Sectors};
+
+use crate::page::Page;
+use crate::protocol::Protocol;
+use crate::reply::Reply;
+use crate::span::Span;
+use crate::task::Task;
+use sata_fis::Queued;
+
+/// What the disk does with a command: the one table by which all callers act.
+#[derive(Clone, Copy, Debug, PartialEq, Eq)]
+pub enum Action {
+    /// It queues the command, and moves sectors later.
+    Queue(Queued),
+    /// It moves sectors at once, to the device if `write`.
+    Sectors {
+        write: bool,
+        span: Span,
+        protocol: Protocol,
+    },
+    /// It sends a page.
+    Page(Page, Protocol),
+    /// It writes its cache.
+    Flush,
+    /// It answers, and moves nothing.
+    Reply(Reply),
+    /// It takes the device control register, with SRST.
+    Control {
+        reset: bool,
+    },
+    /// It aborts the command.
+    Abort,
+}
+
+/// It moves the sectors of a span.
+fn sectors(write: bool, span: &Span, protocol: Protocol) -> Action
+    ensures { result ≡ Sectors write span.now protocol }
+{
+    Action::Sectors {
+        write,
+        span: *span,
+        protocol,
+    }
+}
+
+/// What the disk does with a command.
+pub fn action_of(task: &Task) -> Action
+    ensures { result ≡ action_of task.now }
+{
+    match task {
+        Task::Queue(queued) => Action::Queue(*queued),
+        Task::Read(span, protocol) => sectors(false, span, *protocol),
+        Task::Write(span, protocol) => sectors(true, span, *protocol),
+        Task::Verify(span) => Action::Reply(Reply::Verified(*span)),
+        Task::Flush => Action::Flush,
+        Task::Identify => Action::Page(Page::Identify, Protocol::Pio),
+        Task::ReadLog(log, protocol) => Action::Page(Page::Log(*log), *protocol),
+        Task::NativeMax => Action::Reply(Reply::NativeMax),
+        Task::PowerMode => Action::Reply(Reply::PowerMode),
+        Task::Diagnose => Action::Reply(Reply::Diagnosed),
+        Task::Nothing => Action::Reply(Reply::Done),
+        Task::Control { reset } => Action::Control { reset: *reset },
+        Task::Packet => Action::Reply(Reply::Packet),
+        Task::Unknown => Action::Abort,
+    }
+}
+
+/// How many bytes of data move.
+pub fn moved_by(action: &Action) -> u32
+    ensures { result ≡ moved_by action.now }
+{
+    match action {
+        Action::Queue(queued) => 512 * queued.sectors,
+        Action::Sectors { span, .. } => 512 * span.sectors,
+        Action::Page(_, _) => 512,
+        Action::Flush | Action::Reply(_) | Action::Control { .. } | Action::Abort => 0,
+    }
+}
+
+/// Whether they go to the device.
+pub fn is_write(action: &Action) -> bool
+    ensures { result ≡ is_write action.now }
+{
+    match action {
+        Action::Queue(queued) => queued.write,
+        Action::Sectors { write, .. } => *write,
+        Action::Page(_, _) | Action::Flush | Action::Reply(_) | Action::Control { .. } => false,
+        Action::Abort => false,
+    }
+}

@@ -1,0 +1,18 @@
+use crate::span::Span;
+
+/// What a D2H Register FIS alone answers, of a command that moves nothing (ACS-3, by the commands' titles).
+#[derive(Clone, Copy, Debug, PartialEq, Eq)]
+pub enum Reply {
+    /// The command is done.
+    Done,
+    /// The sectors are on the disk, or not.
+    Verified(Span),
+    /// The LBA of the last sector.
+    NativeMax,
+    /// The count FFh, "active or idle".
+    PowerMode,
+    /// The signature of a disk: the device has passed its diagnostic.
+    Diagnosed,
+    /// The command is aborted with the signature of a disk.
+    Packet,
+}
