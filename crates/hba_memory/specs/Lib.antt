@@ -1,6 +1,7 @@
 pub mod Runs
 pub mod Gathering
 pub mod Table
+pub mod Blocks
 pub mod Posting
 pub mod Reading
 pub mod Laws

@@ -1,14 +1,15 @@
 -- How a command is read from the driver's memory, each byte once (AHCI 1.3.1, sections 4.2 and 5.3): its header, the command FIS, the
--- PRDT if it moves data, and a write's data.
-use Rattle.std.specs.Prelude.{◌≡◌, ℕ, ◌+◌, ◌-◌, ◌*◌, Bool, true, false, not, ◌&&◌, ◌==◌, nat_lt, List, [], ◌++◌, length, Option, None, Some, if◌then◌else◌}
+-- PRDT as far as the data need it if it moves data, and a write's data.
+use Rattle.std.specs.Prelude.{◌≡◌, ℕ, ◌+◌, ◌-◌, ◌*◌, Bool, true, false, not, ◌&&◌, ◌||◌, ◌==◌, nat_lt, List, [], ◌++◌, length, Option, None, Some, if◌then◌else◌}
 use Rattle.sata_fis.specs.Fields.{H2dFields}
+use Rattle.hba_command.specs.Action as action
+use Rattle.hba_command.specs.Action.{action_of}
 use Rattle.hba_command.specs.CommandFis.{command_fis}
 use Rattle.hba_command.specs.CommandHeader.{header_at}
 use Rattle.hba_command.specs.Task.{task_of}
 use Rattle.hba_command.specs.declared.entry.PrdEntry.{PrdEntry}
 use Rattle.hba_command.specs.declared.header.CommandHeader.{CommandHeader}
 use Rattle.hba_command.specs.declared.task.Task.{Task}
-use Rattle.hba_command.specs.declared.task.Task.TheVariants as task
 use Rattle.hba_memory.specs.Gathering.{Gathering}
 use Rattle.hba_memory.specs.Runs.{Run, first_run, later_runs, runs, total}
 use Rattle.hba_memory.specs.Table.{TableView, entries_in, next_entries, unread, wrapped}
@@ -21,18 +22,11 @@ is_sendable h = h.fis_dwords == 5 && not h.atapi && not h.bist
 
 -- how many bytes a command moves
 abbrev pub moved_by : Task → ℕ
-moved_by (task.Queue q) = 512 * q.sectors
-moved_by (task.Read span p) = 512 * span.sectors
-moved_by (task.Write span p) = 512 * span.sectors
-moved_by task.Identify = 512
-moved_by (task.ReadLog log p) = 512
-moved_by other = 0
+moved_by t = action.moved_by (action_of t)
 
 -- whether they go to the device
 abbrev pub is_write : Task → Bool
-is_write (task.Queue q) = q.write
-is_write (task.Write span p) = true
-is_write other = false
+is_write t = action.is_write (action_of t)
 
 -- how many of them are read from the driver's memory
 abbrev pub read_by : Task → ℕ
@@ -46,7 +40,7 @@ pub data ReadingView : Type 0 where
   Content : Task → Bool → Gathering → ReadingView
   Whole : Task → Bool → List PrdEntry → List ℕ → ReadingView
   Malformed : ReadingView
-  Short : ReadingView
+  Short : Bool → ReadingView
 
 -- what callers see of the code's value
 abbrev pub reading_of : {A : _} → Reading A → ReadingView
@@ -56,7 +50,7 @@ reading_of (code.Entries t c table room) = Entries t c table room
 reading_of (code.Content t c g) = Content t c g
 reading_of (code.Whole t c list bytes) = Whole t c list.items bytes.items
 reading_of code.Malformed = Malformed
-reading_of code.Short = Short
+reading_of (code.Short c) = Short c
 
 -- the run that is read next, of no bytes at the end
 abbrev pub no_run : Run
@@ -73,23 +67,28 @@ next_run other = no_run
 abbrev pub after_header : CommandHeader → ReadingView
 after_header h = if is_sendable h then Command h else Malformed
 
+-- the entries name fewer bytes than the command moves
+abbrev pub is_short : Task → List PrdEntry → Bool
+is_short t list = nat_lt (total list) (moved_by t)
+
+-- no entry more is read: a write's data come next, and one whose list is too short has none to go on with. A read goes to the device, which
+-- sends more than a short list has room for (section 6.1.5)
+abbrev pub after_list : Task → Bool → List PrdEntry → ReadingView
+after_list t c list =
+    if not (is_write t) then Whole t c list []
+    else if is_short t list then Short c
+    else Content t c (record { runs = runs list (moved_by t); bytes = [] })
+
 -- the command FIS is read: the PRDT comes next if the command moves data and there is one
 abbrev pub after_task : CommandHeader → Task → ReadingView
 after_task h t =
     if moved_by t == 0 then Whole t h.clears_busy [] []
-    else if h.entries == 0 then Short
+    else if h.entries == 0 then after_list t h.clears_busy []
     else Entries t h.clears_busy (unread h.table h.entries) (read_by t)
 
 abbrev pub after_command : CommandHeader → Option H2dFields → ReadingView
 after_command h (Some f) = after_task h (task_of f)
 after_command h None = Malformed
-
--- all entries are read: a write's data come next
-abbrev pub after_list : Task → Bool → List PrdEntry → ReadingView
-after_list t c list =
-    if nat_lt (total list) (moved_by t) then Short
-    else if is_write t then Content t c (record { runs = runs list (moved_by t); bytes = [] })
-    else Whole t c list []
 
 -- some entries are read
 abbrev pub with_entries : TableView → List ℕ → TableView
@@ -99,8 +98,10 @@ with_entries table bytes = record {
   list = table.list ++ entries_in (next_entries table) bytes;
 }
 
+-- entries behind the data are not read: none is left, or those that were read name as many bytes as the command moves
 abbrev pub after_entries : Task → Bool → TableView → ℕ → ReadingView
-after_entries t c table room = if table.left == 0 then after_list t c table.list else Entries t c table room
+after_entries t c table room =
+    if table.left == 0 || not (is_short t table.list) then after_list t c table.list else Entries t c table room
 
 -- a run of the data is read
 abbrev pub is_none : List Run → Bool
@@ -126,5 +127,5 @@ HasRoom other = Unit {0}
 abbrev pub is_over : ReadingView → Bool
 is_over (Whole t c list bytes) = true
 is_over Malformed = true
-is_over Short = true
+is_over (Short c) = true
 is_over other = false

@@ -3,7 +3,7 @@
 ghost use Rattle.std.specs.Prelude.{◌≡◌, ◌≤◌, ◌*◌, ◌++◌, [], IfErr, IfOk, OnErr, length};
 ghost use Rattle.hba_command.specs.CommandFis.{command_fis};
 ghost use Rattle.hba_command.specs.CommandHeader.{header_at};
-ghost use Rattle.hba_memory.specs.Reading.{HasRoom, after_bytes, after_command, after_content, after_entries, after_header, after_list, after_task, is_over, is_sendable, is_write, moved_by, next_run, read_by, reading_of, with_entries};
+ghost use Rattle.hba_memory.specs.Reading.{HasRoom, after_bytes, after_command, after_content, after_entries, after_header, after_list, after_task, is_over, is_sendable, is_short, is_write, moved_by, next_run, read_by, reading_of, with_entries};
 ghost use Rattle.hba_memory.specs.Runs.{first_run, later_runs};
 ghost use Rattle.hba_memory.specs.Table.{next_entries};
 
@@ -12,7 +12,7 @@ use crate::lengths::total;
 use crate::reading::Reading;
 use crate::room::Room;
 use crate::table::TableReader;
-use hba_command::{CommandHeader, PrdEntry, Task, command_fis, task_of};
+use hba_command::{CommandHeader, PrdEntry, Task, action_of, command_fis, task_of};
 use std::alloc::{AllocError, Allocator, Global};
 use std::marker::Model;
 use std::mem;
@@ -45,23 +45,21 @@ fn is_sendable(header: &CommandHeader) -> bool
 pub fn moved_by(task: &Task) -> u32
     ensures { result ≡ moved_by task.now }
 {
-    match task {
-        Task::Queue(queued) => 512 * queued.sectors,
-        Task::Read(span, _) | Task::Write(span, _) => 512 * span.sectors,
-        Task::Identify | Task::ReadLog(_, _) => 512,
-        _ => 0,
-    }
+    hba_command::moved_by(&action_of(task))
 }
 
 /// Whether its data go to the device.
 pub fn is_write(task: &Task) -> bool
     ensures { result ≡ is_write task.now }
 {
-    match task {
-        Task::Queue(queued) => queued.write,
-        Task::Write(_, _) => true,
-        _ => false,
-    }
+    hba_command::is_write(&action_of(task))
+}
+
+/// Whether the entries name fewer bytes than the command moves.
+pub fn is_short(task: &Task, list: &[PrdEntry]) -> bool
+    ensures { result ≡ is_short task.now list.now }
+{
+    total(list) < u128::from(moved_by(task))
 }
 
 /// How many bytes are read from the driver's memory.
@@ -83,6 +81,26 @@ fn after_header<A: Allocator>(bytes: &[u8; 32]) -> Reading<A>
     }
 }
 
+/// What is read after the last entry.
+fn after_list<A: Allocator + Copy>(
+    task: Task,
+    clears: bool,
+    list: Vec<PrdEntry, A>,
+    room: Room<A>,
+) -> Reading<A>
+    requires { room ≡ read_by task }
+    ensures next { reading_of result ≡ after_list task clears list.items }
+    ensures room { HasRoom (reading_of result) }
+{
+    if !is_write(&task) {
+        return Reading::Whole(task, clears, list, room.into_bytes());
+    }
+    if is_short(&task, &list) {
+        return Reading::Short(clears);
+    }
+    Reading::Content(task, clears, Gather::over(list, room))
+}
+
 /// What is read after a task is known. Memory for the list and for a write's data is allocated here.
 fn after_task<A: Allocator + Copy>(
     alloc: A,
@@ -95,11 +113,11 @@ fn after_task<A: Allocator + Copy>(
     if moved_by(&task) == 0 {
         return Ok(Reading::Whole(task, header.clears_busy, Vec::new(alloc), Vec::new(alloc)));
     }
+    let room = Room::new(alloc, read_by(&task) as usize)?;
     if header.entries == 0 {
-        return Ok(Reading::Short);
+        return Ok(after_list(task, header.clears_busy, Vec::new(alloc), room));
     }
     let table = TableReader::new(alloc, header.table, header.entries)?;
-    let room = Room::new(alloc, read_by(&task) as usize)?;
     Ok(Reading::Entries(task, header.clears_busy, table, room))
 }
 
@@ -118,26 +136,6 @@ fn after_command<A: Allocator + Copy>(
     }
 }
 
-/// What is read after the last entry.
-fn after_list<A: Allocator + Copy>(
-    task: Task,
-    clears: bool,
-    list: Vec<PrdEntry, A>,
-    room: Room<A>,
-) -> Reading<A>
-    requires entries { length list.items ≤ 65535 }
-    requires room { room ≡ read_by task }
-    ensures { reading_of result ≡ after_list task clears list.items }
-{
-    if total(&list) < u64::from(moved_by(&task)) {
-        return Reading::Short;
-    }
-    if is_write(&task) {
-        return Reading::Content(task, clears, Gather::over(list, room));
-    }
-    Reading::Whole(task, clears, list, room.into_bytes())
-}
-
 /// What is read after some entries.
 fn with_entries<A: Allocator + Copy>(
     task: Task,
@@ -152,7 +150,7 @@ fn with_entries<A: Allocator + Copy>(
 {
     let mut table = table;
     table.supply(bytes);
-    if table.is_done() {
+    if table.is_done() || !is_short(&task, table.list()) {
         after_list(task, clears, table.into_list(), room)
     } else {
         Reading::Entries(task, clears, table, room)
@@ -233,7 +231,7 @@ impl<A: Allocator> Fetch<A> {
     {
         matches!(
             &self.reading,
-            Reading::Whole(_, _, _, _) | Reading::Malformed | Reading::Short
+            Reading::Whole(_, _, _, _) | Reading::Malformed | Reading::Short(_)
         )
     }
 

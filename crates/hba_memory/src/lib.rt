@@ -5,6 +5,7 @@
 //! they were written; so whoever has the memory copies.
 #![tactic(auto)]
 
+mod blocks;
 mod fetch;
 mod gather;
 pub mod laws;
@@ -16,7 +17,8 @@ mod room;
 mod scatter;
 mod table;
 
-pub use fetch::{Fetch, is_write, moved_by};
+pub use blocks::{BLOCK, Blocks};
+pub use fetch::{Fetch, is_short, is_write, moved_by};
 pub use gather::Gather;
 pub use lengths::total;
 pub use posting::Posting;

@@ -15,10 +15,11 @@ pub enum Reading<A: Allocator = Global> {
     Entries(Task, bool, TableReader<A>, Room<A>),
     /// Bytes of a write's data, and C of the header.
     Content(Task, bool, Gather<A>),
-    /// Nothing: all of it is read. A command that reads has its list, one that writes its data; and C of the header.
+    /// Nothing: all of it is read. A command that reads has its list, which may be too short, one that writes
+    /// its data; and C of the header.
     Whole(Task, bool, Vec<PrdEntry, A>, Vec<u8, A>),
     /// Nothing: it can't be sent, since CFL is not 5, A or B of the header is 1, or CFIS has no Register FIS - Host to Device.
     Malformed,
-    /// Nothing: the PRDT names fewer bytes than the command moves.
-    Short,
+    /// Nothing: the PRDT of a write names fewer bytes than the command moves; and C of the header.
+    Short(bool),
 }

@@ -28,7 +28,7 @@ impl<A: Allocator> Model for TableReader<A> {
 
     ghost view = { λ t. record { address = t.address; left = t.left; list = t.list.items } };
 
-    ghost invariant = { λ t. (vec_len t.list + t.left ≤ vec_capacity t.list) × (vec_len t.list + t.left ≤ 65535) };
+    ghost invariant = { λ t. vec_len t.list + t.left ≤ vec_capacity t.list };
 }
 
 /// The entries that some bytes spell.
@@ -107,9 +107,15 @@ impl<A: Allocator> TableReader<A> {
     }
 
     /// The entries that were read.
+    pub fn list(&self) -> &[PrdEntry]
+        ensures { result.now ≡ self.now.list }
+    {
+        &self.list
+    }
+
+    /// The entries that were read, handed over.
     pub fn into_list(self) -> Vec<PrdEntry, A>
-        ensures list { result.items ≡ self.list }
-        ensures few { length result.items ≤ 65535 }
+        ensures { result.items ≡ self.list }
     {
         self.list
     }
