@@ -1,42 +1,70 @@
 -- What is answered is the command that the port has done.
-use Rattle.std.proofs.Common.{◌≡◌, ℕ, true, List, None, slice_set, ap, sym, ◌∙◌}
+use Rattle.std.proofs.Common.{◌≡◌, ℕ, ◌*◌, Bool, true, false, List, refl, ap, sym, ◌∙◌}
 use Rattle.hba_command.specs.declared.entry.PrdEntry.{PrdEntry}
 use Rattle.hba_command.specs.declared.task.Task.{Task}
 use Rattle.hba_memory.specs.Posting.{PostingView}
-use Rattle.hba_memory.specs.Runs.{Put, placed}
+use Rattle.hba_memory.specs.Runs.{Put}
 use Rattle.ahci_table.specs.Window.{WindowState}
 use Rattle.sata_fis.specs.Encoding.{d2h_bytes}
 use Rattle.sata_fis.specs.Fields.{D2hFields}
-use Rattle.ahci_hba.specs.Delivering.{answered, bytes_for, delivered, ending_of, posting_of, received_put}
+use Rattle.ahci_hba.specs.Delivering.{answer_with, bytes_for, delivered, dma_answer, fis_ending, going_on, received_put, served_answer, stepped_on}
 use Rattle.hba_command.specs.Pages.{controller_page}
 use Rattle.hba_command.specs.declared.protocol.Protocol.TheVariants.{Pio}
+use Rattle.hba_command.specs.declared.protocol.Protocol.TheVariants.{Pio as ByPio, Dma as ByDma}
+use Rattle.hba_command.specs.Action.{action_of}
+use Rattle.hba_command.specs.declared.action.Action.{Action}
+use Rattle.hba_command.specs.declared.action.Action.TheVariants as action
 use Rattle.ahci_port.specs.PortView.{PortView, sectors_in}
 use Rattle.ahci_port.specs.Steps.{IsIdentified}
-use Rattle.ahci_hba.specs.Executing.{Identifies, concluded, paged}
+use Rattle.ahci_hba.specs.Executing.{Identifies, paged}
+use Rattle.ahci_hba.specs.Failing.{concluded, vacated}
 use Rattle.ahci_hba.specs.Queueing.{command_at, list_in, only_after}
-use Rattle.ahci_hba.specs.HbaView.{HbaView, WorkView, Idle, Served}
+use Rattle.ahci_hba.specs.HbaView.{HbaView, WorkView, Idle, Pio as InPio, Served}
+use Rattle.ahci_hba.specs.Transfer.{TransferView}
 use Rattle.ahci_hba.specs.Moving.{answering}
 use Rattle.ahci_hba.specs.declared.ending.Ending.{Ending}
-use Rattle.ahci_hba.specs.declared.ending.Ending.TheVariants.{Register}
 
-pub delivers : (h new : HbaView) (slot : ℕ) (t : Task) (w : WindowState) (list : List PrdEntry) (bytes : List ℕ) (content : List Put) (p : PostingView) (e : Ending) (was : WorkView)
-    → was ≡ Served slot t w list → bytes ≡ delivered was → content ≡ placed list bytes → p ≡ posting_of h.registers h.port slot t content → e ≡ ending_of slot t
-    → new ≡ answering (record h { work = Idle }) p e → new ≡ answered h was
-delivers h new slot t w list bytes content p e was served given places posts ends made =
+pub delivers : (h new : HbaView) (slot : ℕ) (t : Task) (w : WindowState) (list : List PrdEntry) (bytes : List ℕ) (a : Action) (was : WorkView)
+    → was ≡ Served slot t w list → bytes ≡ delivered was → a ≡ action_of t → new ≡ answer_with (record h { work = Idle }) slot list bytes a → new ≡ served_answer h was
+delivers h new slot t w list bytes a was served given acts made =
     made
-    ∙ ap (λ x. answering h x e) (posts ∙ ap (λ l. posting_of h.registers h.port slot t l) (places ∙ ap (λ b. placed list b) (given ∙ ap (λ x. delivered x) served)))
-    ∙ ap (λ x. answering h (posting_of h.registers h.port slot t (placed list (bytes_for t w))) x) ends
-    ∙ sym (ap (λ x. answered h x) served)
+    ∙ ap (λ b. answer_with (record h { work = Idle }) slot list b a) (given ∙ ap (λ x. delivered x) served)
+    ∙ ap (λ x. answer_with (record h { work = Idle }) slot list (bytes_for t w) x) acts
+    ∙ idle_or_not h slot list (bytes_for t w) (action_of t)
+    ∙ sym (ap (λ x. served_answer h x) served)
+  where
+    either : (h : HbaView) (write : Bool) (slot : ℕ) (list : List PrdEntry) (bytes : List ℕ) (n : ℕ)
+        → dma_answer (record h { work = Idle }) slot write list bytes n ≡ dma_answer h slot write list bytes n
+    either h true slot list bytes n = refl
+    either h false slot list bytes n = refl
+
+    idle_or_not : (h : HbaView) (slot : ℕ) (list : List PrdEntry) (bytes : List ℕ) (a : Action)
+        → answer_with (record h { work = Idle }) slot list bytes a ≡ answer_with h slot list bytes a
+    idle_or_not h slot list bytes (action.Queue q) = refl
+    idle_or_not h slot list bytes (action.Sectors write span ByDma) = either h write slot list bytes (512 * span.sectors)
+    idle_or_not h slot list bytes (action.Sectors write span ByPio) = refl
+    idle_or_not h slot list bytes (action.Page page p) = refl
+    idle_or_not h slot list bytes action.Flush = refl
+    idle_or_not h slot list bytes (action.Reply r) = refl
+    idle_or_not h slot list bytes (action.Control reset) = refl
+    idle_or_not h slot list bytes action.Abort = refl
+
+-- the next block of a transfer
+pub steps_on : (h new : HbaView) (t : TransferView) (was : WorkView) → was ≡ InPio t → new ≡ going_on (record h { work = Idle }) t → new ≡ stepped_on h was
+steps_on h new t was is made = made ∙ idle h t ∙ sym (ap (λ x. stepped_on h x) is)
+  where
+    idle : (h : HbaView) (t : TransferView) → going_on (record h { work = Idle }) t ≡ going_on h t
+    idle h t = refl
 
 -- a command ends with a D2H Register FIS
-pub concludes : (h taken new : HbaView) (slot : ℕ) (fis : D2hFields) (l : List Put) (p : PostingView) (bytes : List ℕ) (e : Ending) → taken ≡ record h { slots = slice_set h.slots slot None }
-    → new ≡ answering taken p e → p ≡ only_after l → l ≡ received_put taken.registers 0x40 bytes → bytes ≡ d2h_bytes fis → e ≡ Register fis.status fis.error true slot
+pub concludes : (h taken new : HbaView) (slot : ℕ) (fis : D2hFields) (l : List Put) (p : PostingView) (bytes : List ℕ) (e : Ending) → taken ≡ vacated h slot
+    → new ≡ answering taken p e → p ≡ only_after l → l ≡ received_put taken.registers 0x40 bytes → bytes ≡ d2h_bytes fis → e ≡ fis_ending slot fis
     → new ≡ concluded h slot fis
 concludes h taken new slot fis l p bytes e was made posted put spelt ended =
     made
     ∙ ap (λ x. answering taken x e) (posted ∙ ap (λ x. only_after x) (put ∙ ap (λ b. received_put taken.registers 0x40 b) spelt))
     ∙ ap {A = HbaView} {B = HbaView} (λ v. answering v (only_after (received_put v.registers 0x40 (d2h_bytes fis))) e) was
-    ∙ ap (λ x. answering (record h { slots = slice_set h.slots slot None }) (only_after (received_put h.registers 0x40 (d2h_bytes fis))) x) ended
+    ∙ ap (λ x. answering (vacated h slot) (only_after (received_put h.registers 0x40 (d2h_bytes fis))) x) ended
 
 -- IDENTIFY DEVICE: the port's part and the page
 pub identifies : (slot : ℕ) (h new : HbaView) (port : PortView) (page : List ℕ) → IsIdentified h.port port → page ≡ controller_page (sectors_in h.port) h.depth

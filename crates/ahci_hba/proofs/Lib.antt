@@ -1,6 +1,9 @@
 pub mod AnswerLemmas
 pub mod DeliveringLemmas
 pub mod DroppingLemmas
+pub mod ExecutingLemmas
+pub mod FailingLemmas
+pub mod LawLemmas
 pub mod NewLemmas
 pub mod RecoveringLemmas
 pub mod SendingLemmas

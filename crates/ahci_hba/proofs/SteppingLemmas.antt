@@ -15,7 +15,7 @@ use Rattle.hba_command.specs.declared.entry.PrdEntry.{PrdEntry}
 use Rattle.hba_command.specs.declared.task.Task.{Task}
 use Rattle.ahci_hba.specs.HbaView.{Fetched, HbaView}
 use Rattle.ahci_hba.specs.Queueing.{asked_for, command_at, may_fetch}
-use Rattle.ahci_hba.specs.Stepping.{fault_if, is_served_for, may_accept, may_control, may_execute, may_recover, may_send, may_serve, next_step, queue_step, work_at}
+use Rattle.ahci_hba.specs.Stepping.{fault_if, may_accept, may_control, may_deliver, may_execute, may_recover, may_send, may_serve, next_step, queue_step, work_at}
 use Rattle.ahci_hba.specs.declared.fault.HbaFault.{HbaFault}
 use Rattle.ahci_hba.specs.declared.fault.HbaFault.TheVariants.{NotReady}
 use Rattle.ahci_hba.specs.declared.step.Step.{Step}
@@ -83,6 +83,21 @@ fails_at_its_own {T = T} r x port slot error lba a e = by (halted port.past) (is
     by false true false r s e = cc
     by false false false r s e = cc
 
+-- and it does not fail only if the sector is another one's
+pub fails_elsewhere : {T : Type 0} (r : Result T StepFault) (f : StepFault) (port : PortView) (slot error lba : ℕ) (ready sent : Bool) → Answers r (step_refusal port (Fail slot error lba))
+    → r ≡ Err f → (ready && (sent && (not (halted port.past) && is_accepted (phase port.past slot)))) ≡ true → false ≡ is_of_request (request port.past slot) lba
+fails_elsewhere {T = T} r f port slot error lba ready sent a e may =
+    by (halted port.past) (is_accepted (phase port.past slot)) (is_of_request (request port.past slot) lba) r a e
+    (and_parts sent (not (halted port.past) && is_accepted (phase port.past slot)) (and_parts ready (sent && (not (halted port.past) && is_accepted (phase port.past slot))) may).1).1
+  where
+    by : (h a i : Bool) (r : Result T StepFault) → Answers r (cond h (Some fault.Halted) (cond a (cond i None (Some fault.OutsideCommand)) (Some fault.NotAccepted)))
+        → r ≡ Err f → (not h && a) ≡ true → false ≡ i
+    by h a false r s e t = refl
+    by true a true r s e t = cc
+    by false false true r s e t = cc
+    by false true true (Ok x) s e t = cc
+    by false true true (Err g) s e t = absurd (false≢true s)
+
 -- what is sent, the port takes
 pub sent_is_taken : (ready goes : Bool) (h taken : HbaView) (slot : ℕ) (t : Task) (list : List PrdEntry) (bytes : List ℕ)
     → (ready && (goes && not (is_some (op_refusal h.port slot (work_at (command_at h slot)))))) ≡ true → command_at h slot ≡ Some (Fetched t list bytes)
@@ -122,7 +137,7 @@ is_possible step.Fetch h slot = may_fetch h slot
 is_possible step.Send h slot = may_send h slot
 is_possible step.Accept h slot = may_accept h slot
 is_possible step.Serve h slot = may_serve h slot
-is_possible step.Deliver h slot = is_served_for h.work slot
+is_possible step.Deliver h slot = may_deliver h slot
 is_possible step.Execute h slot = may_execute h slot
 is_possible step.Control h slot = may_control h slot
 is_possible step.Recover h slot = may_recover h slot
@@ -140,7 +155,7 @@ queue_step_is_possible : (x : Step) (h : HbaView) (slot : ℕ) → queue_step h 
 queue_step_is_possible x h slot e =
     first (may_send h slot) step.Send x _ h slot refl
     (first (may_accept h slot) step.Accept x _ h slot refl
-    (first (may_serve h slot) step.Serve x _ h slot refl (first (is_served_for h.work slot) step.Deliver x None h slot refl (none_later x h slot)))) e
+    (first (may_serve h slot) step.Serve x _ h slot refl (first (may_deliver h slot) step.Deliver x None h slot refl (none_later x h slot)))) e
 
 pub next_is_possible : (x : Step) (h : HbaView) (slot : ℕ) → next_step h slot ≡ Some x → is_possible x h slot ≡ true
 next_is_possible x h slot e =

@@ -1,22 +1,27 @@
--- How the answer to a command that the port has done is put together (AHCI 1.3.1, sections 4.2.1, 4.2.2 and 5.3; Serial ATA, "FIS types").
-use Rattle.std.specs.Prelude.{ℕ, ◌+◌, ◌*◌, ◌^◌, true, List, [], ◌∷◌, if◌then◌else◌}
+-- How the answer to a command is put together (AHCI 1.3.1, sections 4.2.1, 4.2.2, 5.3 and 6.1.5; Serial ATA, "FIS types").
+use Rattle.std.specs.Prelude.{ℕ, ◌+◌, ◌*◌, ◌^◌, Bool, true, false, nat_eq, List, [], ◌∷◌, Option, None, Some, if◌then◌else◌, not}
 use Rattle.std.specs.Int.{byte_at}
-use Rattle.ncq_core.specs.DiskFis.{pio_bytes, register_fis}
-use Rattle.sata_fis.specs.Encoding.{d2h_bytes}
-use Rattle.hba_command.specs.declared.protocol.Protocol.TheVariants.{Pio}
+use Rattle.sata_fis.specs.Encoding.{d2h_bytes, pio_setup_bytes}
+use Rattle.sata_fis.specs.Fields.{D2hFields, PioSetupFields}
+use Rattle.hba_command.specs.Action.{action_of}
+use Rattle.hba_command.specs.declared.action.Action.{Action}
+use Rattle.hba_command.specs.declared.action.Action.TheVariants as action
+use Rattle.hba_command.specs.declared.entry.PrdEntry.{PrdEntry}
+use Rattle.hba_command.specs.declared.protocol.Protocol.TheVariants.{Pio as ByPio, Dma as ByDma}
 use Rattle.hba_command.specs.declared.task.Task.{Task}
-use Rattle.hba_command.specs.declared.task.Task.TheVariants as task
+use Rattle.hba_memory.specs.Blocks.{BlocksView, block_list, block_puts}
 use Rattle.hba_memory.specs.Posting.{PostingView}
-use Rattle.hba_memory.specs.Reading.{is_write, moved_by}
+use Rattle.hba_memory.specs.Reading.{is_write}
 use Rattle.hba_memory.specs.Runs.{Put, placed}
 use Rattle.hba_memory.specs.Table.{wrapped}
 use Rattle.hba_regs.specs.HbaState.{HbaState}
 use Rattle.ahci_port.specs.PortView.{PortView}
 use Rattle.ahci_table.specs.Text.{text}
 use Rattle.ahci_table.specs.Window.{WindowState}
-use Rattle.ahci_hba.specs.HbaView.{HbaView, WorkView, Served}
-use Rattle.ahci_hba.specs.Moving.{answering}
+use Rattle.ahci_hba.specs.HbaView.{HbaView, WorkView, Idle, Served, Pio}
+use Rattle.ahci_hba.specs.Moving.{answering, blocking}
 use Rattle.ahci_hba.specs.Queueing.{fis_put}
+use Rattle.ahci_hba.specs.Transfer.{TransferView, e_status_of, fits, has_interrupt, is_last, moved_so_far, moved_to, next_block}
 use Rattle.ahci_hba.specs.declared.ending.Ending.{Ending}
 use Rattle.ahci_hba.specs.declared.ending.Ending.TheVariants as ending
 
@@ -31,6 +36,71 @@ word_bytes n = byte_at 0 n ∷ byte_at 1 n ∷ byte_at 2 n ∷ byte_at 3 n ∷ [
 abbrev pub count_put : HbaState → ℕ → ℕ → List Put
 count_put s slot n = (record { address = wrapped (s.port.clb + 32 * slot + 4); bytes = word_bytes n }) ∷ []
 
+-- D2H Register FISes with I: a status, an error, an LBA and a count
+abbrev pub d2h_fis : ℕ → ℕ → ℕ → ℕ → D2hFields
+d2h_fis status error lba count = record { i = true; status = status; error = error; lba = lba; device = 0; count = count }
+
+-- a command is done
+abbrev pub done : D2hFields
+done = d2h_fis 0x40 0 0 0
+
+-- a D2H Register FIS that ends a slot's command
+abbrev pub fis_ending : ℕ → D2hFields → Ending
+fis_ending slot fis = ending.Register fis.status fis.error true slot
+
+-- PIO Setup FISes: status 48h is DRDY with DRQ; a block of 512 bytes comes, or is asked for
+abbrev pub setup_fis : (d i : Bool) → ℕ → PioSetupFields
+setup_fis d i e_status = record { i = i; d = d; status = 0x48; error = 0; lba = 0; device = 0; count = 0; e_status = e_status; bytes = 512 }
+
+abbrev pub setup_put : HbaState → (d i : Bool) → ℕ → List Put
+setup_put s d i e_status = received_put s 0x20 (pio_setup_bytes (setup_fis d i e_status))
+
+-- the last FIS of an answer, in place of which OFS comes if the list has no room for the data (section 6.1.5)
+abbrev pub last_put : Bool → List Put → List Put
+last_put whole fis = if whole then fis else []
+
+abbrev pub last_ending : Bool → Ending → Ending
+last_ending whole e = if whole then e else ending.Overflow
+
+-- a queued read: a DMA Setup FIS, the data, and a Set Device Bits FIS
+abbrev pub queued_posting : HbaState → PortView → List Put → Bool → PostingView
+queued_posting s port content whole =
+    record { before = fis_put s port 0x00 28; content = content; count = []; after = last_put whole (fis_put s port 0x58 8) }
+
+abbrev pub queued_answer : HbaView → ℕ → List PrdEntry → List ℕ → ℕ → HbaView
+queued_answer h slot list bytes n =
+    answering h (queued_posting h.registers h.port (placed list bytes) (fits n list)) (last_ending (fits n list) (ending.Bits 0x40 0 (2 ^ slot)))
+
+-- a read by DMA: the data, PRDBC, and a D2H Register FIS
+abbrev pub read_posting : HbaState → ℕ → List Put → ℕ → Bool → D2hFields → PostingView
+read_posting s slot content moved whole fis =
+    record { before = []; content = content; count = count_put s slot moved; after = last_put whole (received_put s 0x40 (d2h_bytes fis)) }
+
+abbrev pub read_answer : HbaView → ℕ → List PrdEntry → List ℕ → ℕ → D2hFields → HbaView
+read_answer h slot list bytes n fis =
+    answering h (read_posting h.registers slot (placed list bytes) (moved_to n list) (fits n list) fis)
+    (last_ending (fits n list) (fis_ending slot fis))
+
+-- the end of a command whose data have moved: PRDBC, and a D2H Register FIS
+abbrev pub closing : HbaView → ℕ → ℕ → D2hFields → HbaView
+closing h slot n fis = answering h (read_posting h.registers slot [] n true fis) (fis_ending slot fis)
+
+abbrev pub page_ending : Bool → ℕ → Ending
+page_ending whole slot = if whole then ending.Pio slot else ending.PioOverflow
+
+-- a page by PIO: a PIO Setup FIS, the page, and PRDBC
+abbrev pub page_posting : HbaState → ℕ → List Put → ℕ → PostingView
+page_posting s slot content moved = record { before = setup_put s true true 0x40; content = content; count = count_put s slot moved; after = [] }
+
+abbrev pub page_answer : HbaView → ℕ → List PrdEntry → List ℕ → HbaView
+page_answer h slot list page =
+    answering h (page_posting h.registers slot (placed list page) (moved_to 512 list)) (page_ending (fits 512 list) slot)
+
+-- a transfer by PIO begins, of so many blocks
+abbrev pub beginning : HbaView → ℕ → Bool → ℕ → BlocksView → Option D2hFields → HbaView
+beginning h slot write n rest finish =
+    record h { work = Pio (record { slot = slot; write = write; done = 0; left = n; rest = rest; finish = finish }) }
+
 -- the bytes that go to the driver: those of a read, none of a write
 abbrev pub bytes_for : Task → WindowState → List ℕ
 bytes_for t w = if is_write t then [] else text w
@@ -39,26 +109,79 @@ abbrev pub delivered : WorkView → List ℕ
 delivered (Served slot t w list) = bytes_for t w
 delivered other = []
 
--- a command is done: D2H Register FIS with status 40h and I
-abbrev pub done_put : HbaState → List Put
-done_put s = received_put s 0x40 (d2h_bytes (register_fis true 0x40 0 0))
+-- the answer to a queued command; a write has no list
+abbrev pub queue_answer : HbaView → ℕ → Bool → List PrdEntry → List ℕ → ℕ → HbaView
+queue_answer h slot write list bytes n = queued_answer h slot list bytes (if write then 0 else n)
 
--- what the answer to a command writes: of a queued one a DMA Setup FIS, the data, and a Set Device Bits FIS; of another one the data,
--- PRDBC, and a PIO Setup FIS before or a D2H Register FIS after them
-abbrev pub posting_of : HbaState → PortView → ℕ → Task → List Put → PostingView
-posting_of s port slot (task.Queue q) content = record { before = fis_put s port 0x00 28; content = content; count = []; after = fis_put s port 0x58 8 }
-posting_of s port slot (task.Read span Pio) content =
-    record { before = received_put s 0x20 pio_bytes; content = content; count = count_put s slot (512 * span.sectors); after = [] }
-posting_of s port slot other content = record { before = []; content = content; count = count_put s slot (moved_by other); after = done_put s }
+-- to one that moves sectors
+abbrev pub dma_answer : HbaView → ℕ → Bool → List PrdEntry → List ℕ → ℕ → HbaView
+dma_answer h slot write list bytes n = if write then closing h slot n done else read_answer h slot list bytes n done
 
--- and what it says to the registers
-abbrev pub ending_of : ℕ → Task → Ending
-ending_of slot (task.Queue q) = ending.Bits 0x40 0 (2 ^ slot)
-ending_of slot (task.Read span Pio) = ending.Pio slot
-ending_of slot other = ending.Register 0x40 0 true slot
+abbrev pub finish_of : Bool → Option D2hFields
+finish_of write = if write then Some done else None
 
--- the answer to the command that the port has done
+-- the answer to a command that the port has done, with a read's bytes: it does queued ones and those that move sectors
+abbrev pub answer_with : HbaView → ℕ → List PrdEntry → List ℕ → Action → HbaView
+answer_with h slot list bytes (action.Queue q) = queue_answer h slot q.write list bytes (512 * q.sectors)
+answer_with h slot list bytes (action.Sectors write span ByDma) = dma_answer h slot write list bytes (512 * span.sectors)
+answer_with h slot list bytes (action.Sectors write span ByPio) =
+    beginning h slot write span.sectors (record { list = list; bytes = bytes }) (finish_of write)
+answer_with h slot list bytes (action.Page page p) = closing h slot 0 done
+answer_with h slot list bytes action.Flush = closing h slot 0 done
+answer_with h slot list bytes (action.Reply r) = closing h slot 0 done
+answer_with h slot list bytes (action.Control reset) = closing h slot 0 done
+answer_with h slot list bytes action.Abort = closing h slot 0 done
+
+-- a block of a write, which the transfer has behind it then
+abbrev pub only_before : List Put → PostingView
+only_before puts = record { before = puts; content = []; count = []; after = [] }
+
+abbrev pub block_out : HbaView → TransferView → HbaView
+block_out h t = blocking h (only_before (setup_put h.registers false (has_interrupt t) 0xC0)) t
+
+-- a block to the driver: a PIO Setup FIS, the block, and PRDBC with the bytes so far
+abbrev pub block_posting : HbaState → TransferView → ℕ → PostingView
+block_posting s t e_status =
+    record { before = setup_put s true true e_status; content = block_puts t.rest; count = count_put s t.slot (moved_so_far t); after = [] }
+
+abbrev pub block_in : HbaView → TransferView → HbaView
+block_in h t =
+    if not (fits 512 (block_list t.rest)) then answering h (block_posting h.registers t (e_status_of t)) ending.PioOverflow
+    else if is_last t then answering h (block_posting h.registers t 0x40) (ending.Pio t.slot)
+    else blocking h (block_posting h.registers t 0xC0) (next_block t)
+
+-- all blocks have moved
+abbrev pub finishing : HbaView → TransferView → Option D2hFields → HbaView
+finishing h t None = record h { work = Idle }
+finishing h t (Some fis) = closing h t.slot (512 * t.done) fis
+
+-- the next step of a transfer
+abbrev pub going_on : HbaView → TransferView → HbaView
+going_on h t =
+    if nat_eq t.left 0 then finishing h t t.finish
+    else if t.write then block_out h (next_block t)
+    else block_in h t
+
+-- the block that it moves next
+abbrev pub content_of : WorkView → List Put
+content_of (Pio t) = block_puts t.rest
+content_of other = []
+
+-- the answer to the command that the port has done; of a transfer by PIO the next block, while FRE is 1
+abbrev pub served_answer : HbaView → WorkView → HbaView
+served_answer h (Served slot t w list) = answer_with h slot list (bytes_for t w) (action_of t)
+served_answer h other = h
+
+abbrev pub stepped_on : HbaView → WorkView → HbaView
+stepped_on h (Pio t) = going_on h t
+stepped_on h other = h
+
+abbrev pub gone_on : HbaView → WorkView → HbaView
+gone_on h w = if h.registers.port.fre then stepped_on h w else h
+
+abbrev pub is_pio : WorkView → Bool
+is_pio (Pio t) = true
+is_pio other = false
+
 abbrev pub answered : HbaView → WorkView → HbaView
-answered h (Served slot t w list) =
-    answering h (posting_of h.registers h.port slot t (placed list (delivered (Served slot t w list)))) (ending_of slot t)
-answered h other = h
+answered h w = if is_pio w then gone_on h w else served_answer h w

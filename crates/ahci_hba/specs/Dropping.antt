@@ -10,9 +10,9 @@ use Rattle.ncq_journal.specs.Halted.{halted}
 use Rattle.ncq_journal.specs.History.{History}
 use Rattle.ahci_port.specs.Faults.{most_first}
 use Rattle.ahci_port.specs.PortView.{PortView, journal_in, next_number, port_from}
-use Rattle.ahci_hba.specs.HbaView.{HbaView, WorkView, Idle, Posting}
+use Rattle.ahci_hba.specs.HbaView.{HbaView, WorkView, Idle, Block, Posting}
 use Rattle.ahci_hba.specs.Queueing.{is_sent}
-use Rattle.ahci_hba.specs.Moving.{answering}
+use Rattle.ahci_hba.specs.Moving.{answering, blocking}
 
 -- whether the port is reset: it has requests, and after a failure only a reset of the device ends them, since the log is to be read
 abbrev pub drops_requests : Consequence → HbaView → Bool
@@ -42,6 +42,7 @@ emptied h = record h { slots = replicate 32 None; work = Idle }
 
 -- while FRE is 0, no FIS is written
 abbrev pub without_receiving : HbaView → WorkView → HbaView
+without_receiving h (Block p t) = blocking h (without_fises p) t
 without_receiving h (Posting p e) = answering h (without_fises p) e
 without_receiving h other = h
 

@@ -10,6 +10,7 @@ use Rattle.ahci_port.specs.PortView.{PortView}
 use Rattle.ahci_hba.specs.declared.command.Command.{Command}
 use Rattle.ahci_hba.specs.declared.command.Command.TheVariants as command
 use Rattle.ahci_hba.specs.declared.ending.Ending.{Ending}
+use Rattle.ahci_hba.specs.Transfer.{TransferView}
 use Rattle.ahci_hba.specs.declared.work.Work.{Work}
 use Rattle.ahci_hba.specs.declared.work.Work.TheVariants as work
 
@@ -27,12 +28,16 @@ pub data WorkView : Type 0 where
   Idle : WorkView
   Fetching : (slot : ℕ) → ReadingView → WorkView
   Served : (slot : ℕ) → Task → WindowState → List PrdEntry → WorkView
+  Pio : TransferView → WorkView
+  Block : PostingView → TransferView → WorkView
   Posting : PostingView → Ending → WorkView
 
 abbrev pub work_of : {A : _} → Work A → WorkView
 work_of work.Idle = Idle
 work_of (work.Fetching slot fetch) = Fetching slot fetch
 work_of (work.Served slot t window list) = Served slot t window list.items
+work_of (work.Pio transfer) = Pio transfer
+work_of (work.Block posting transfer) = Block posting transfer
 work_of (work.Posting posting ending) = Posting posting ending
 
 pub record HbaView : Type 0 where

@@ -1,9 +1,11 @@
+pub mod Transfer
 pub mod HbaView
 pub mod States
 pub mod Moving
 pub mod Queueing
 pub mod Dropping
 pub mod Delivering
+pub mod Failing
 pub mod Executing
 pub mod Resetting
 pub mod Recovering

@@ -1,13 +1,15 @@
 -- What a controller reads and writes in the driver's memory, and what follows (AHCI 1.3.1, section 5.3).
-use Rattle.std.specs.Prelude.{ℕ, Bool, true, List, [], Some, slice_set, if◌then◌else◌}
+use Rattle.std.specs.Prelude.{ℕ, ◌%◌, ◌^◌, Bool, true, List, [], Some, slice_set, if◌then◌else◌}
 use Rattle.hba_memory.specs.Posting.{PostingView, advanced, is_none, remaining}
 use Rattle.hba_memory.specs.Reading.{ReadingView, Whole, Malformed, Short, after_bytes, next_run, no_run}
 use Rattle.hba_memory.specs.Runs.{Put, Run, first_put}
 use Rattle.hba_regs.specs.HbaState.{HbaState}
-use Rattle.hba_regs.specs.Receiving.{after_bits, after_fatal, after_pio, after_pio_end, after_register, moved, sent, signature_moves, signed}
+use Rattle.hba_regs.specs.PortStates.{cfis_success, err_fatal, pio_entry, pio_update, reg_fis_entry, sdb_entry, stuck}
+use Rattle.hba_regs.specs.Receiving.{moved, signature_moves, signed}
 use Rattle.hba_regs.specs.declared.fatal.Fatal.{Fatal}
 use Rattle.hba_regs.specs.declared.fatal.Fatal.TheVariants as fatal
-use Rattle.ahci_hba.specs.HbaView.{CommandView, Fetched, HbaView, WorkView, Idle, Fetching, Posting}
+use Rattle.ahci_hba.specs.HbaView.{CommandView, Fetched, HbaView, WorkView, Idle, Fetching, Pio, Block, Posting}
+use Rattle.ahci_hba.specs.Transfer.{TransferView, has_interrupt}
 use Rattle.ahci_hba.specs.declared.ending.Ending.{Ending}
 use Rattle.ahci_hba.specs.declared.ending.Ending.TheVariants as ending
 use Rattle.ahci_hba.specs.declared.want.Want.{Want}
@@ -16,6 +18,7 @@ use Rattle.ahci_hba.specs.declared.want.Want.TheVariants as want
 -- what the controller does next with the driver's memory
 abbrev pub want_of : WorkView → Want
 want_of (Fetching slot r) = want.Read
+want_of (Block p t) = want.Write
 want_of (Posting p e) = want.Write
 want_of other = want.Nothing
 
@@ -29,29 +32,44 @@ abbrev pub nothing_put : Put
 nothing_put = record { address = 0; bytes = [] }
 
 abbrev pub put_next : WorkView → Put
+put_next (Block p t) = first_put (remaining p)
 put_next (Posting p e) = first_put (remaining p)
 put_next other = nothing_put
 
 -- where it reads or writes
 abbrev pub place_of : WorkView → ℕ
 place_of (Fetching slot r) = (next_run r).address
+place_of (Block p t) = (first_put (remaining p)).address
 place_of (Posting p e) = (first_put (remaining p)).address
 place_of other = 0
 
+-- an address of the driver's structures, of which the HBA has 64 bits, or 32 without CAP.S64A: CTBAU and DBAU are taken as 0 then (sections
+-- 3.1.1, S64A, 4.2.2 and 4.2.3.3)
+abbrev pub in_reach : Bool → ℕ → ℕ
+in_reach s64a address = if s64a then address else address % 2 ^ 32
+
+-- the address where it reads or writes
+abbrev pub address_of : HbaView → ℕ
+address_of h = in_reach h.registers.port.capabilities.s64a (place_of h.work)
+
 -- a fatal error halts the port, and nothing is read or written any more
 abbrev pub failed_fatally : HbaView → Fatal → HbaView
-failed_fatally h f = record h { registers = moved h.registers (after_fatal h.registers.port f); work = Idle }
+failed_fatally h f = record h { registers = moved h.registers (err_fatal f h.registers.port); work = Idle }
 
 -- a command that was read is in its slot, and its FIS is sent: with C of its header, BSY and its bit of PxCI are cleared
 abbrev pub placed_in : HbaView → ℕ → Bool → CommandView → HbaView
 placed_in h slot clears c =
-    record h { registers = moved h.registers (sent h.registers.port slot clears); slots = slice_set h.slots slot (Some c); work = Idle }
+    record h { registers = moved h.registers (cfis_success slot clears h.registers.port); slots = slice_set h.slots slot (Some c); work = Idle }
 
--- how far a slot's command is read: all of it is there, it can't be sent, its list is too short, or more comes
+-- the command FIS of a write is sent whose list is too short, and the port is stuck: nothing more moves
+abbrev pub stuck_with : HbaView → ℕ → Bool → HbaView
+stuck_with h slot clears = record h { registers = moved h.registers (stuck slot clears h.registers.port); work = Idle }
+
+-- how far a slot's command is read: all of it is there, it can't be sent, it is a write whose list is too short, or more comes
 abbrev pub read_so_far : HbaView → ℕ → ReadingView → HbaView
 read_so_far h slot (Whole t clears list bytes) = placed_in h slot clears (Fetched t list bytes)
 read_so_far h slot Malformed = failed_fatally h fatal.Interface
-read_so_far h slot Short = failed_fatally h fatal.Overflow
+read_so_far h slot (Short clears) = stuck_with h slot clears
 read_so_far h slot r = record h { work = Fetching slot r }
 
 -- the bytes that it reads are there
@@ -59,22 +77,40 @@ abbrev pub supplied : HbaView → WorkView → List ℕ → HbaView
 supplied h (Fetching slot r) bytes = read_so_far h slot (after_bytes r bytes)
 supplied h other bytes = h
 
--- what the last FIS of an answer does to the registers
+-- what the last FIS of an answer does to the registers; where a read's list is too short, OFS takes its place, and the port halts (sections
+-- 3.3.5, OFS, and 6.1.5)
 abbrev pub after_data_in : HbaState → ℕ → HbaState
-after_data_in s slot = moved s (after_pio_end s.port 0x40 true slot)
+after_data_in s slot = moved s (pio_update 0x40 true slot s.port)
 
-abbrev pub ended_by : HbaState → Ending → HbaState
-ended_by s (ending.Register status error i slot) = moved s (after_register s.port status error i slot)
-ended_by s (ending.Bits status error sactive) = moved s (after_bits s.port status error true sactive)
-ended_by s (ending.Pio slot) = after_data_in (moved s (after_pio s.port 0x48 0)) slot
+abbrev pub overflowed : HbaState → HbaState
+overflowed s = moved s (err_fatal fatal.Overflow s.port)
+
+unfoldable pub ended_by : HbaState → Ending → HbaState
+ended_by s (ending.Register status error i slot) = moved s (reg_fis_entry status error i slot s.port)
+ended_by s (ending.Bits status error sactive) = moved s (sdb_entry status error true sactive s.port)
+ended_by s (ending.Pio slot) = after_data_in (moved s (pio_entry 0x48 0 s.port)) slot
+ended_by s ending.Overflow = overflowed s
+ended_by s ending.PioOverflow = overflowed (moved s (pio_entry 0x48 0 s.port))
 ended_by s ending.Signature = if signature_moves s.port s.port.signature then moved s (signed s.port s.port.signature) else s
 
 -- an answer, of which so much is still to be written: with the last byte it takes effect
 abbrev pub answering : HbaView → PostingView → Ending → HbaView
 answering h p e = if is_none (remaining p) then record h { registers = ended_by h.registers e; work = Idle } else record h { work = Posting p e }
 
+-- a block has moved, and the device is busy with the next one: BSY and DRDY are set, and DRQ is 0
+abbrev pub after_block_of : HbaState → TransferView → HbaState
+after_block_of s t = moved s (pio_update 0xC0 (has_interrupt t) t.slot s.port)
+
+unfoldable pub block_ended : HbaState → TransferView → HbaState
+block_ended s t = after_block_of (moved s (pio_entry 0x48 0 s.port)) t
+
+-- a block of a transfer, of which so much is still to be written: with the last byte it has moved
+abbrev pub blocking : HbaView → PostingView → TransferView → HbaView
+blocking h p t = if is_none (remaining p) then record h { registers = block_ended h.registers t; work = Pio t } else record h { work = Block p t }
+
 -- the bytes that it writes are written
 abbrev pub put_done : HbaView → WorkView → HbaView
+put_done h (Block p t) = blocking h (advanced p) t
 put_done h (Posting p e) = answering h (advanced p) e
 put_done h other = h
 
@@ -82,5 +118,6 @@ put_done h other = h
 -- itself can't give or take, which this model has not
 abbrev pub unmapped : HbaView → WorkView → HbaView
 unmapped h (Fetching slot r) = failed_fatally h fatal.HostBusFatal
+unmapped h (Block p t) = failed_fatally h fatal.HostBusFatal
 unmapped h (Posting p e) = failed_fatally h fatal.HostBusFatal
 unmapped h other = h

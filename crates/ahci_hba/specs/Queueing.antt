@@ -3,16 +3,20 @@ use Rattle.std.specs.Prelude.{◌≡◌, ℕ, ◌+◌, ◌-◌, ◌*◌, ◌%◌
 use Rattle.std.specs.List.{list_any, range_with_len}
 use Rattle.sata_fis.specs.Fields.{QueuedFields}
 use Rattle.word_bits.specs.Places.{has_place}
+use Rattle.hba_command.specs.Action.{action_of}
+use Rattle.hba_command.specs.declared.action.Action.{Action}
+use Rattle.hba_command.specs.declared.action.Action.TheVariants.{Queue, Sectors, Page, Flush, Reply, Control, Abort}
 use Rattle.hba_command.specs.declared.entry.PrdEntry.{PrdEntry}
 use Rattle.hba_command.specs.declared.task.Task.{Task}
-use Rattle.hba_command.specs.declared.task.Task.TheVariants.{Queue, Read as ReadTask, Write as WriteTask, Unknown}
+use Rattle.hba_command.specs.declared.task.Task.TheVariants.{Unknown}
 use Rattle.hba_memory.specs.Posting.{PostingView}
 use Rattle.hba_memory.specs.Reading.{Header}
 use Rattle.hba_memory.specs.Runs.{Put}
 use Rattle.hba_memory.specs.Table.{wrapped}
 use Rattle.hba_regs.specs.HbaState.{HbaPort, HbaState}
 use Rattle.hba_regs.specs.Linking.{is_up}
-use Rattle.hba_regs.specs.Receiving.{is_free, moved, selected}
+use Rattle.hba_regs.specs.PortStates.{p_idle_selects, p_select_cmd}
+use Rattle.hba_regs.specs.Receiving.{moved}
 use Rattle.hba_regs.specs.declared.soft_reset.SoftReset.{SoftReset}
 use Rattle.hba_regs.specs.declared.soft_reset.SoftReset.TheVariants.{Off}
 use Rattle.ncq_journal.specs.Work.{Work, Read, Write}
@@ -38,9 +42,17 @@ is_idle Idle = true
 is_idle other = false
 
 -- a command that is not queued, so that the device is busy with it alone
+abbrev pub acts_alone : Action → Bool
+acts_alone (Queue q) = false
+acts_alone (Sectors write span p) = true
+acts_alone (Page page p) = true
+acts_alone Flush = true
+acts_alone (Reply r) = true
+acts_alone (Control reset) = true
+acts_alone Abort = true
+
 abbrev pub is_alone : Task → Bool
-is_alone (Queue q) = false
-is_alone other = true
+is_alone t = acts_alone (action_of t)
 
 abbrev pub has_alone : Option CommandView → Bool
 has_alone None = false
@@ -62,12 +74,24 @@ has_queued (Some (Sent t list)) = not (is_alone t)
 abbrev pub is_on : PortView → SpanFields → Bool
 is_on port span = nat_le (span.lba + span.sectors) (sectors_in port)
 
--- a command goes to the port: a queued one, or one that moves sectors of the disk while no queued one is outstanding
+-- the device has a tag: those below the depth that it tells (ACS-3, IDENTIFY DEVICE, word 75)
+abbrev pub has_tag : HbaView → QueuedFields → Bool
+has_tag h q = nat_lt q.tag h.depth
+
+-- a command goes to the port: a queued one whose tag the device has, or one that moves sectors of the disk while no queued one is outstanding
+abbrev pub moves_sectors : HbaView → Action → Bool
+moves_sectors h (Queue q) = has_tag h q
+moves_sectors h (Sectors write span p) = is_on h.port span && not (list_any has_queued h.slots)
+moves_sectors h (Page page p) = false
+moves_sectors h Flush = false
+moves_sectors h (Reply r) = false
+moves_sectors h (Control reset) = false
+moves_sectors h Abort = false
+
 abbrev pub goes_to_port : HbaView → Option CommandView → Bool
-goes_to_port h (Some (Fetched (Queue q) list bytes)) = true
-goes_to_port h (Some (Fetched (ReadTask span p) list bytes)) = is_on h.port span && not (list_any has_queued h.slots)
-goes_to_port h (Some (Fetched (WriteTask span p) list bytes)) = is_on h.port span && not (list_any has_queued h.slots)
-goes_to_port h other = false
+goes_to_port h (Some (Fetched t list bytes)) = moves_sectors h (action_of t)
+goes_to_port h (Some (Sent t list)) = false
+goes_to_port h None = false
 
 -- a command that is read and not yet sent
 abbrev pub is_fetched : Option CommandView → Bool
@@ -112,14 +136,17 @@ is_empty (Some c) = false
 abbrev pub waits : HbaView → ℕ → Bool
 waits h slot = has_place h.registers.port.ci slot && is_empty (command_at h slot)
 
--- how many slots behind the one with the highest priority a slot is
-abbrev pub distance : ℕ → ℕ → ℕ
-distance first slot = (slot + 32 - first) % 32
+-- how many slots behind the one with the highest priority a slot is, in a command list of so many
+unfoldable pub distance : (ncs first slot : ℕ) → ℕ
+distance ncs first slot = (slot + ncs - first) % ncs
+
+abbrev pub distance_of : HbaPort → ℕ → ℕ
+distance_of p slot = distance p.capabilities.ncs p.first slot
 
 -- some slot of higher priority waits too (section 3.3.7, CCS: after CCS the slots behind it come, the first one after the last)
 abbrev pub is_before : HbaView → ℕ → ℕ → Bool
 is_before h slot other =
-    waits h other && nat_lt (distance h.registers.port.first other) (distance h.registers.port.first slot)
+    waits h other && nat_lt (distance_of h.registers.port other) (distance_of h.registers.port slot)
 
 abbrev pub is_overtaken : HbaView → ℕ → Bool
 is_overtaken h slot = list_any (is_before h slot) (range_with_len 0 32)
@@ -128,25 +155,31 @@ is_overtaken h slot = list_any (is_before h slot) (range_with_len 0 32)
 -- priority does; and not while the device is busy with a command that is not queued
 abbrev pub may_fetch : HbaView → ℕ → Bool
 may_fetch h slot =
-    is_listening h && is_free h.registers.port.sts && waits h slot && not (is_overtaken h slot) && not (list_any has_alone h.slots)
+    is_listening h && p_idle_selects h.registers.port && waits h slot && not (is_overtaken h slot) && not (list_any has_alone h.slots)
 
 -- it becomes CCS, and is read: first its header, of 32 bytes in the command list
 abbrev pub fetching : HbaView → ℕ → HbaView
 fetching h slot =
     record h {
-      registers = moved h.registers (selected h.registers.port slot);
+      registers = moved h.registers (p_select_cmd slot h.registers.port);
       work = Fetching slot (Header (wrapped (h.registers.port.clb + 32 * slot)));
     }
 
 -- what a command asks of the disk; a write has these bytes
-abbrev pub queued_for : QueuedFields → List ℕ → Work
-queued_for q bytes = if q.write then Write q.lba bytes else Read q.lba q.sectors
+abbrev pub work_for : Bool → ℕ → ℕ → List ℕ → Work
+work_for write lba sectors bytes = if write then Write lba bytes else Read lba sectors
+
+abbrev pub work_of_action : Action → List ℕ → Work
+work_of_action (Queue q) bytes = work_for q.write q.lba q.sectors bytes
+work_of_action (Sectors write span p) bytes = work_for write span.lba span.sectors bytes
+work_of_action (Page page p) bytes = Read 0 0
+work_of_action Flush bytes = Read 0 0
+work_of_action (Reply r) bytes = Read 0 0
+work_of_action (Control reset) bytes = Read 0 0
+work_of_action Abort bytes = Read 0 0
 
 abbrev pub asked_for : Task → List ℕ → Work
-asked_for (Queue q) bytes = queued_for q bytes
-asked_for (ReadTask span p) bytes = Read span.lba span.sectors
-asked_for (WriteTask span p) bytes = Write span.lba bytes
-asked_for other bytes = Read 0 0
+asked_for t bytes = work_of_action (action_of t) bytes
 
 -- the bytes that a command had before it was asked: those of a write, else those that are left
 abbrev pub put_back : Work → List ℕ → List ℕ
@@ -201,13 +234,6 @@ pub record IsAccepted (slot : ℕ) (alone : Bool) (old new : HbaView) : Type 0 w
   pub answer : Stepped
   pub stepped : IsStepped (step.Accept slot) old.port port answer
   pub answered : new ≡ after_acceptance slot alone old port answer
-
--- the device fails a slot's command: a Set Device Bits FIS with ERR
-pub record IsFailed (slot error lba : ℕ) (old new : HbaView) : Type 0 where
-  pub port : PortView
-  pub answer : Stepped
-  pub stepped : IsStepped (step.Fail slot error lba) old.port port answer
-  pub answered : new ≡ answering (record old { port = port }) (only_after (fis_put old.registers port 0x58 8)) (ending.Bits 0x41 error 0)
 
 -- the device moves the data of a slot's command and completes it, and its answer is taken from the port: the window has the bytes of
 -- the answer by the journal

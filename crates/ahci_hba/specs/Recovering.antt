@@ -5,7 +5,10 @@ use Rattle.hba_command.specs.Pages.{not_queued_page}
 use Rattle.hba_command.specs.declared.entry.PrdEntry.{PrdEntry}
 use Rattle.hba_command.specs.declared.log.Log.TheVariants.{QueuedError}
 use Rattle.hba_command.specs.declared.protocol.Protocol.{Protocol}
-use Rattle.hba_command.specs.declared.task.Task.TheVariants.{ReadLog}
+use Rattle.hba_command.specs.Action.{action_of}
+use Rattle.hba_command.specs.declared.action.Action.{Action}
+use Rattle.hba_command.specs.declared.action.Action.TheVariants.{Page}
+use Rattle.hba_command.specs.declared.page.Page.TheVariants.{Log}
 use Rattle.ncq_journal.specs.History.{History}
 use Rattle.ncq_journal.specs.declared.outcome.Outcome.{Outcome}
 use Rattle.ncq_journal.specs.declared.outcome.Outcome.TheVariants.{Failed}
@@ -18,8 +21,12 @@ use Rattle.ahci_hba.specs.HbaView.{CommandView, Fetched, HbaView}
 use Rattle.ahci_hba.specs.Queueing.{command_at, list_in}
 
 -- the command of a slot reads that log
+abbrev pub error_log_of : Action → Option Protocol
+error_log_of (Page (Log QueuedError) p) = Some p
+error_log_of other = None
+
 abbrev pub error_log_in : Option CommandView → Option Protocol
-error_log_in (Some (Fetched (ReadLog QueuedError p) list bytes)) = Some p
+error_log_in (Some (Fetched t list bytes)) = error_log_of (action_of t)
 error_log_in other = None
 
 -- the page of the failed command: tag, error and LBA

@@ -2,7 +2,9 @@
 use Rattle.std.specs.Prelude.{ℕ, Bool, true, false, ◌&&◌, Option, None, Some, IsSomeAnd, ◌≡◌, slice_set, if◌then◌else◌}
 use Rattle.sata_fis.specs.Encoding.{d2h_bytes}
 use Rattle.sata_fis.specs.Fields.{D2hFields}
-use Rattle.hba_command.specs.declared.task.Task.TheVariants.{Control}
+use Rattle.hba_command.specs.Action.{action_of}
+use Rattle.hba_command.specs.declared.action.Action.{Action}
+use Rattle.hba_command.specs.declared.action.Action.TheVariants.{Control}
 use Rattle.hba_regs.specs.Receiving.{after_srst_cleared, after_srst_set, moved, signature_moves}
 use Rattle.hba_regs.specs.declared.soft_reset.SoftReset.{SoftReset}
 use Rattle.hba_regs.specs.declared.soft_reset.SoftReset.TheVariants.{Held}
@@ -28,8 +30,12 @@ abbrev pub signing : HbaView → HbaView
 signing h = answering h (only_after (received_put h.registers 0x40 (d2h_bytes signature))) Signature
 
 -- what a slot's control FIS says of SRST
+abbrev pub control_of : Action → Option Bool
+control_of (Control reset) = Some reset
+control_of other = None
+
 abbrev pub control_in : Option CommandView → Option Bool
-control_in (Some (Fetched (Control reset) list bytes)) = Some reset
+control_in (Some (Fetched t list bytes)) = control_of (action_of t)
 control_in other = None
 
 -- SRST is set: the device is held in its reset, and all commands are dropped, as by a reset of the link

@@ -1,9 +1,11 @@
 -- Which step the device can take next with the command of a slot, and what it does (AHCI 1.3.1, sections 5.3, 6.2.2 and 10.4.1).
 use Rattle.std.specs.Prelude.{◌≡◌, ℕ, Bool, true, false, not, ◌&&◌, ◌||◌, nat_eq, Option, None, Some, is_some, if◌then◌else◌}
 use Rattle.std.specs.List.{list_any}
-use Rattle.hba_command.specs.declared.log.Log.TheVariants.{QueuedError}
-use Rattle.hba_command.specs.declared.task.Task.{Task}
-use Rattle.hba_command.specs.declared.task.Task.TheVariants as task
+use Rattle.hba_command.specs.Action.{action_of}
+use Rattle.hba_command.specs.declared.action.Action.{Action}
+use Rattle.hba_command.specs.declared.action.Action.TheVariants as action
+use Rattle.hba_command.specs.declared.log.Log.TheVariants.{Directory, QueuedError}
+use Rattle.hba_command.specs.declared.page.Page.TheVariants.{Identify, Log}
 use Rattle.ncq_journal.specs.Halted.{halted}
 use Rattle.ncq_journal.specs.History.{History}
 use Rattle.ncq_journal.specs.Phase.{phase}
@@ -12,8 +14,10 @@ use Rattle.ncq_journal.specs.Work.{Work, Read}
 use Rattle.ahci_port.specs.Faults.{is_accepted, is_issued, is_of_request, op_refusal, plain_refusal}
 use Rattle.ahci_hba.specs.Delivering.{answered}
 use Rattle.ahci_hba.specs.Executing.{IsExecuted, is_aborted, is_alone_fetched}
-use Rattle.ahci_hba.specs.HbaView.{CommandView, Fetched, HbaView, WorkView, Served}
-use Rattle.ahci_hba.specs.Queueing.{IsAccepted, IsServed, Sends, asked_for, command_at, fetching, goes_to_port, has_alone, has_queued, is_listening, is_on, is_ready, is_sent, list_in, may_fetch, task_in}
+use Rattle.sata_fis.specs.Fields.{QueuedFields}
+use Rattle.ahci_hba.specs.Failing.{fails_at, own_in}
+use Rattle.ahci_hba.specs.HbaView.{CommandView, Fetched, HbaView, WorkView, Served, Pio}
+use Rattle.ahci_hba.specs.Queueing.{IsAccepted, IsServed, Sends, asked_for, command_at, fetching, goes_to_port, has_alone, has_queued, has_tag, is_listening, is_on, is_ready, is_running, is_sent, list_in, may_fetch, task_in}
 use Rattle.ahci_hba.specs.Recovering.{ReadsErrorLog, error_log_in}
 use Rattle.ahci_hba.specs.Resetting.{IsControlled, control_in, control_journal}
 use Rattle.ahci_hba.specs.declared.fault.HbaFault.{HbaFault}
@@ -35,8 +39,12 @@ abbrev pub may_serve : HbaView → ℕ → Bool
 may_serve h slot = is_ready h && is_taken_up h slot
 
 -- the device fails a queued command, at one of its sectors
+abbrev pub may_fail_at : HbaView → ℕ → ℕ → Option QueuedFields → Bool
+may_fail_at h slot lba (Some q) = is_of_request (request h.port.past slot) (fails_at q lba)
+may_fail_at h slot lba None = false
+
 abbrev pub may_fail : HbaView → ℕ → ℕ → Bool
-may_fail h slot lba = may_serve h slot && (has_queued (command_at h slot) && is_of_request (request h.port.past slot) lba)
+may_fail h slot lba = may_serve h slot && may_fail_at h slot lba (own_in h slot lba)
 
 -- what a command that was read asks of the disk
 abbrev pub work_at : Option CommandView → Work
@@ -56,20 +64,21 @@ abbrev pub may_recover : HbaView → ℕ → Bool
 may_recover h slot =
     is_ready h && (is_some (error_log_in (command_at h slot)) && (halted h.port.past && not (list_any has_queued h.slots)))
 
--- the device answers a command itself: it aborts it, or it moves no sectors
-abbrev pub is_answered : HbaView → Task → Bool
-is_answered h (task.Queue q) = halted h.port.past
-is_answered h (task.Control reset) = false
-is_answered h (task.Read span p) = is_aborted h (task.Read span p) || not (is_on h.port span)
-is_answered h (task.Write span p) = is_aborted h (task.Write span p) || not (is_on h.port span)
-is_answered h task.Identify = is_aborted h task.Identify || not (is_some (plain_refusal h.port))
-is_answered h task.Flush = is_aborted h task.Flush || not (is_some (plain_refusal h.port))
-is_answered h (task.ReadLog QueuedError p) = list_any has_queued h.slots || not (halted h.port.past)
-is_answered h other = true
+-- the device answers a command itself: it aborts it, or the port moves no sectors for it
+abbrev pub is_answered : HbaView → Action → Bool
+is_answered h (action.Queue q) = halted h.port.past || not (has_tag h q)
+is_answered h (action.Sectors write span p) = is_aborted h (action.Sectors write span p) || not (is_on h.port span)
+is_answered h (action.Page Identify p) = is_aborted h (action.Page Identify p) || not (is_some (plain_refusal h.port))
+is_answered h (action.Page (Log Directory) p) = true
+is_answered h (action.Page (Log QueuedError) p) = list_any has_queued h.slots || not (halted h.port.past)
+is_answered h action.Flush = is_aborted h action.Flush || not (is_some (plain_refusal h.port))
+is_answered h (action.Reply r) = true
+is_answered h (action.Control reset) = false
+is_answered h action.Abort = true
 
 -- of a command that is read
 abbrev pub is_answered_at : HbaView → Option CommandView → Bool
-is_answered_at h (Some (Fetched t list bytes)) = is_answered h t
+is_answered_at h (Some (Fetched t list bytes)) = is_answered h (action_of t)
 is_answered_at h other = false
 
 abbrev pub may_execute : HbaView → ℕ → Bool
@@ -79,10 +88,15 @@ may_execute h slot = is_ready h && is_answered_at h (command_at h slot)
 abbrev pub may_refuse : HbaView → ℕ → Bool
 may_refuse h slot = is_ready h && is_alone_fetched (command_at h slot)
 
--- the port has done the command of this slot, and its answer is to be put together
-abbrev pub is_served_for : WorkView → ℕ → Bool
-is_served_for (Served s t window list) slot = nat_eq s slot
-is_served_for other slot = false
+-- the port has done the command of this slot, and its answer is to be put together; of a transfer by PIO the next block. Its FISes are accepted
+-- in P:Idle while FRE is 1
+abbrev pub delivers_for : WorkView → ℕ → Bool
+delivers_for (Served s t window list) slot = nat_eq s slot
+delivers_for (Pio t) slot = nat_eq t.slot slot
+delivers_for other slot = false
+
+abbrev pub may_deliver : HbaView → ℕ → Bool
+may_deliver h slot = is_running h.registers.port && (h.registers.port.fre && delivers_for h.work slot)
 
 -- the next step with the command of a slot: there is one at most but for the order of these lines, which decides
 abbrev pub queue_step : HbaView → ℕ → Option Step
@@ -90,7 +104,7 @@ queue_step h slot =
     if may_send h slot then Some step.Send
     else if may_accept h slot then Some step.Accept
     else if may_serve h slot then Some step.Serve
-    else if is_served_for h.work slot then Some step.Deliver
+    else if may_deliver h slot then Some step.Deliver
     else None
 
 abbrev pub next_step : HbaView → ℕ → Option Step
@@ -112,6 +126,11 @@ IsTaken step.Deliver slot old new journal = (new ≡ answered old old.work) × (
 IsTaken step.Execute slot old new journal = IsExecuted slot old new × (journal ≡ None)
 IsTaken step.Control slot old new journal = IsControlled slot old new × (journal ≡ control_journal old (control_in (command_at old slot)))
 IsTaken step.Recover slot old new journal = ReadsErrorLog slot old new journal
+
+-- why the device does not fail a command: it can't, or an allocation failed
+abbrev pub RefusesFor : HbaFault → Bool → Type 0
+RefusesFor NotReady possible = possible ≡ false
+RefusesFor OutOfMemory possible = Unit {0}
 
 -- why a step that is possible fails, and one that is not
 abbrev pub fault_if : Bool → HbaFault

@@ -18,6 +18,10 @@ pub enum Ending {
     Pio {
         slot: u8,
     },
+    /// The device sends more data than the command's list has room for: OFS, and the port halts.
+    Overflow,
+    /// The same of the data of a PIO Setup FIS, whose status and error the registers have by then.
+    PioOverflow,
     /// The device's signature, in a D2H Register FIS.
     Signature,
 }

@@ -3,6 +3,7 @@
 mod answering;
 mod delivering;
 mod executing;
+mod failing;
 mod fetching;
 mod moving;
 mod queueing;
@@ -10,6 +11,7 @@ mod recovering;
 mod resetting;
 mod sending;
 mod stepping;
+mod transferring;
 mod trimming;
 mod writing;
 
@@ -18,16 +20,16 @@ ghost use Rattle.hba_regs.specs.Accessing.{read_of};
 ghost use Rattle.hba_regs.specs.Interrupts.{interrupt};
 ghost use Rattle.ncq_core.specs.DiskState.{new_fault};
 ghost use Rattle.ahci_port.specs.{Faults.{AnswersOr}, Headline.{Headline}, PortView.{new_port}};
-ghost use Rattle.ahci_hba.specs.States.{new_hba};
+ghost use Rattle.ahci_hba.specs.States.{hba_with, new_hba};
 
 use crate::command::Slot;
 use crate::work::Work;
 use ahci_port::{DiskFault, Port};
-use hba_regs::{AccessSize, HbaRegs};
+use hba_regs::{AccessSize, Capabilities, HbaRegs};
 use std::alloc::{AllocError, Allocator, Global};
 use std::marker::Model;
 
-/// How many slots the command list has, whatever the disk's queue depth: drivers use any tag.
+/// How many slots a command list may have. The port has as many, whatever the disk's queue depth: drivers use any tag.
 pub(crate) const SLOTS: u32 = 32;
 
 /// An AHCI controller with one port, and the model's port with its disk and journal behind it. Contracts see an `HbaView`.
@@ -82,21 +84,37 @@ fn empty_slots<A: Allocator>(alloc: A) -> Result<Vec<Option<Slot<A>>, A>, AllocE
 }
 
 impl<A: Allocator + Copy> Hba<A> {
-    /// A controller after power-on, in front of a disk with this image. IDENTIFY DEVICE tells a queue of this depth, while the command list
-    /// always has 32 slots.
+    /// A controller after power-on with the usual capabilities, in front of a disk with this image. IDENTIFY DEVICE tells a queue of this depth,
+    /// while the command list has 32 slots.
+    ///
+    /// # Errors
+    /// Those of `with_capabilities`.
+    pub fn new(alloc: A, image: Vec<u8, A>, depth: u32) -> Result<Self, DiskFault>
+        ensures ok { IfOk result (λ h. h ≡ new_hba image.items depth) }
+        ensures fault { AnswersOr result (new_fault image.items depth) DiskFault.OutOfMemory }
+    {
+        Hba::with_capabilities(alloc, image, depth, Capabilities::new())
+    }
+
+    /// A controller after power-on that can do this, which its CAP shows.
     ///
     /// # Errors
     /// `BadSize` if the image is not 1 to 131,072 whole sectors of 512 bytes, `BadDepth` if the depth is not 1 to 32; else `OutOfMemory` if
     /// an allocation failed.
-    pub fn new(alloc: A, image: Vec<u8, A>, depth: u32) -> Result<Self, DiskFault>
-        ensures ok { IfOk result (λ h. h ≡ new_hba image.items depth) }
+    pub fn with_capabilities(
+        alloc: A,
+        image: Vec<u8, A>,
+        depth: u32,
+        capabilities: Capabilities,
+    ) -> Result<Self, DiskFault>
+        ensures ok { IfOk result (λ h. h ≡ hba_with image.items depth capabilities) }
         ensures fault { AnswersOr result (new_fault image.items depth) DiskFault.OutOfMemory }
     {
         let port = port_for(alloc, image, depth)?;
         let slots = empty_slots(alloc)?;
         Ok(Hba {
             alloc,
-            registers: HbaRegs::new(),
+            registers: HbaRegs::with_capabilities(capabilities),
             port,
             depth,
             slots,

@@ -9,7 +9,9 @@ mod command;
 mod ending;
 mod fault;
 mod hba;
+pub mod laws;
 mod step;
+mod transfer;
 mod want;
 mod work;
 
@@ -17,6 +19,6 @@ pub use command::Command;
 pub use ending::Ending;
 pub use fault::HbaFault;
 pub use hba::Hba;
-pub use hba_regs::AccessSize;
+pub use hba_regs::{AccessSize, Capabilities};
 pub use step::Step;
 pub use want::Want;

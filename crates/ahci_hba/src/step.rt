@@ -9,9 +9,9 @@ pub enum Step {
     Accept,
     /// The device moves its data and completes it.
     Serve,
-    /// Its answer is put together, and is written next.
+    /// Its answer is put together, and is written next; of a transfer by PIO, one block after the other.
     Deliver,
-    /// The device answers a command that moves no sectors, or aborts one.
+    /// The device answers a command that the port moves no sectors for, or aborts one.
     Execute,
     /// A control FIS sets or clears SRST: all commands are dropped.
     Control,

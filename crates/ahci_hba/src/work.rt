@@ -1,4 +1,5 @@
 use crate::ending::Ending;
+use crate::transfer::Transfer;
 use ahci_port::Window;
 use hba_command::{PrdEntry, Task};
 use hba_memory::{Fetch, Posting};
@@ -13,6 +14,10 @@ pub(crate) enum Work<A: Allocator = Global> {
     Fetching(u8, Fetch<A>),
     /// A slot's command is done by the port. Its window has the data of a read, which go to the runs of the list.
     Served(u8, Task, Window<A>, Vec<PrdEntry, A>),
+    /// It waits for the next block of a transfer by PIO.
+    Pio(Transfer<A>),
+    /// It writes a block of a transfer, which goes on so.
+    Block(Posting<A>, Transfer<A>),
     /// It writes an answer.
     Posting(Posting<A>, Ending),
 }

@@ -2,13 +2,14 @@
 
 ghost use Rattle.std.specs.Prelude.{◌≡◌, ◌≤◌, ◌+◌};
 ghost use Rattle.hba_memory.specs.Posting.{listed};
-ghost use Rattle.ahci_hba.specs.Moving.{answering};
+ghost use Rattle.ahci_hba.specs.Moving.{answering, blocking};
 ghost use Rattle.ahci_hba.specs.Queueing.{fis_put, only_after};
 ghost use Rattle.ahci_hba.specs.States.{IsForSlot};
 
 use crate::ending::Ending;
 use crate::hba::Hba;
-use crate::hba::moving::end;
+use crate::hba::moving::{end, end_block};
+use crate::transfer::Transfer;
 use crate::work::Work;
 use arrayvec::ArrayVec;
 use hba_memory::{Posting, Scatter, SmallPut};
@@ -55,6 +56,20 @@ impl<A: Allocator> Hba<A> {
             self.turn_to(Work::Idle);
         } else {
             self.turn_to(Work::Posting(posting, ending));
+        }
+    }
+}
+
+impl<A: Allocator> Hba<A> {
+    /// Begins to write a block of a transfer, which goes on so; one with nothing to write has moved at once.
+    pub(super) fn block(&mut self, posting: Posting<A>, transfer: Transfer<A>)
+        ensures { self.new ≡ blocking self.old posting transfer }
+    {
+        if posting.is_done() {
+            end_block(&mut self.registers, &transfer);
+            self.turn_to(Work::Pio(transfer));
+        } else {
+            self.turn_to(Work::Block(posting, transfer));
         }
     }
 }

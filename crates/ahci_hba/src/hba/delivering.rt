@@ -1,64 +1,128 @@
-//! How the answer to a command that the port has done is put together.
+//! How the answer to a command is put together.
 
-ghost use Rattle.std.specs.Prelude.{◌≡◌, ◌≤◌, ◌<◌, IfOk, OnErr, OnOk, length};
-ghost use Rattle.ncq_core.specs.DiskFis.{pio_bytes};
+ghost use Rattle.std.specs.Prelude.{◌≡◌, ◌≤◌, ◌<◌, ◌^◌, true, IfErr, IfOk, OnErr, OnOk};
 ghost use Rattle.hba_memory.specs.Posting.{listed};
 ghost use Rattle.ahci_table.specs.Fit.{IsFit};
 ghost use Rattle.ahci_hba.specs.States.{IsForSlot};
-ghost use Rattle.ahci_hba.specs.Delivering.{answered, bytes_for, count_put, delivered, done_put, ending_of, posting_of, received_put};
-ghost use Rattle.ahci_hba.specs.Moving.{answering};
+ghost use Rattle.ahci_hba.specs.Delivering.{answer_with, answered, beginning, bytes_for, closing, count_put, d2h_fis, delivered, dma_answer, done, finish_of, fis_ending, is_pio, last_ending, last_put, page_answer, page_ending, page_posting, queue_answer, queued_answer, queued_posting, read_answer, read_posting, received_put, served_answer, setup_fis, setup_put};
+ghost use Rattle.ahci_hba.specs.Stepping.{fault_if, may_deliver};
+ghost use Rattle.ahci_hba.specs.Transfer.{fits, moved_to};
 
 use crate::ending::Ending;
 use crate::fault::HbaFault;
 use crate::hba::Hba;
 use crate::hba::answering::{DMA_SETUP, PIO_SETUP, REGISTER, SET_BITS};
+use crate::transfer::Transfer;
 use crate::work::Work;
 use ahci_port::Window;
 use arrayvec::ArrayVec;
-use hba_command::{Protocol, Task};
-use hba_memory::{Posting, Scatter, SmallPut, is_write, moved_by};
+use hba_command::{Action, PrdEntry, Protocol, Task, action_of};
+use hba_memory::{Blocks, Posting, Scatter, SmallPut, is_write, total};
 use sata_fis::{D2h, Fis, PioSetup};
 use std::alloc::{AllocError, Allocator};
 use std::mem;
 
-/// What the answer to a slot's command says to the registers.
-pub(super) fn ending_of(slot: u8, task: &Task) -> Ending
-    requires { slot < 32 }
-    ensures ending { result ≡ ending_of slot task.now }
-    ensures slot { IsForSlot result }
+/// A D2H Register FIS with I.
+pub(super) fn d2h_fis(status: u8, error: u8, lba: u64, count: u16) -> D2h
+    requires { lba < 2 ^ 48 }
+    ensures { result ≡ d2h_fis status error lba count }
 {
-    match task {
-        Task::Queue(_) => Ending::Bits {
-            status: 0x40,
-            error: 0,
-            sactive: 1 << slot,
-        },
-        Task::Read(_, Protocol::Pio) => Ending::Pio { slot },
-        _ => Ending::Register {
-            status: 0x40,
-            error: 0,
-            interrupt: true,
-            slot,
-        },
+    D2h {
+        i: true,
+        status,
+        error,
+        lba,
+        device: 0,
+        count,
     }
 }
 
-/// The PIO Setup FIS before data to the host.
-fn pio_setup() -> ArrayVec<u8, 28>
-    ensures { result.items ≡ pio_bytes }
+/// The FIS of a command that is done.
+pub(super) fn done() -> D2h
+    ensures { result ≡ done }
 {
-    Fis::PioSetup(PioSetup {
-        i: true,
-        d: true,
-        status: 0x48,
+    d2h_fis(0x40, 0, 0, 0)
+}
+
+/// What a D2H Register FIS that ends a slot's command says to the registers.
+pub(super) fn fis_ending(slot: u8, fis: &D2h) -> Ending
+    requires { slot < 32 }
+    ensures ending { result ≡ fis_ending slot fis.now }
+    ensures slot { IsForSlot result }
+{
+    Ending::Register {
+        status: fis.status,
+        error: fis.error,
+        interrupt: true,
+        slot,
+    }
+}
+
+/// Whether a list has room for so many bytes.
+pub(super) fn fits(bytes: u32, list: &[PrdEntry]) -> bool
+    ensures { result ≡ fits bytes list.now }
+{
+    u128::from(bytes) <= total(list)
+}
+
+/// How many of so many bytes a list has room for.
+pub(super) fn moved_to(bytes: u32, list: &[PrdEntry]) -> u32
+    ensures { result ≡ moved_to bytes list.now }
+{
+    u128::from(bytes).min(total(list)) as u32
+}
+
+/// The last FIS of an answer, if the list has room for the data.
+pub(super) fn last_put(whole: bool, fis: Option<SmallPut>) -> Option<SmallPut>
+    ensures { listed result ≡ last_put whole (listed fis) }
+{
+    if whole { fis } else { None }
+}
+
+/// What the end of an answer says to the registers: OFS if the list has no room for the data.
+pub(super) fn last_ending(whole: bool, ending: Ending) -> Ending
+    requires { IsForSlot ending }
+    ensures ending { result ≡ last_ending whole ending }
+    ensures slot { IsForSlot result }
+{
+    if whole { ending } else { Ending::Overflow }
+}
+
+/// What a page by PIO says to the registers of a slot, below 32; OFS if the list has no room for it.
+fn page_ending(whole: bool, slot: u8) -> Ending
+    requires { slot < 32 }
+    ensures ending { result ≡ page_ending whole slot }
+    ensures slot { IsForSlot result }
+{
+    if whole {
+        Ending::Pio { slot }
+    } else {
+        Ending::PioOverflow
+    }
+}
+
+/// The FIS that ends a transfer by PIO that has not failed: a write's; the last block ends a read.
+fn finish_of(write: bool) -> Option<D2h>
+    ensures { result ≡ finish_of write }
+{
+    if write { Some(done()) } else { None }
+}
+
+/// A PIO Setup FIS for a block, to the host or to the device.
+fn setup_fis(d: bool, i: bool, e_status: u8) -> PioSetup
+    ensures { result ≡ setup_fis d i e_status }
+{
+    PioSetup {
+        i,
+        d,
+        status: 0x48, // DRDY and DRQ
         error: 0,
         lba: 0,
         device: 0,
         count: 0,
-        e_status: 0x40,
+        e_status,
         bytes: 512,
-    })
-    .encode()
+    }
 }
 
 /// The bytes of a window that go to the driver: those of a read, none of a write.
@@ -103,50 +167,200 @@ impl<A: Allocator> Hba<A> {
         Some(SmallPut::new(address, bytes))
     }
 
-    /// The D2H Register FIS of a command that is done.
-    pub(super) fn done_put(&self) -> Option<SmallPut>
-        ensures { listed result ≡ done_put self.now.registers }
+    /// A PIO Setup FIS for a block, to the host or to the device.
+    pub(super) fn setup_put(&self, d: bool, i: bool, e_status: u8) -> Option<SmallPut>
+        ensures { listed result ≡ setup_put self.now.registers d i e_status }
     {
-        let fis = Fis::D2h(D2h {
-            i: true,
-            status: 0x40,
-            error: 0,
-            lba: 0,
-            device: 0,
-            count: 0,
-        });
-        self.received_put(REGISTER, fis.encode())
+        self.received_put(PIO_SETUP, Fis::PioSetup(setup_fis(d, i, e_status)).encode())
     }
 
-    /// What the answer to a slot's command writes.
-    pub(super) fn posting_of(&self, slot: u8, task: &Task, content: Scatter<A>) -> Posting<A>
-        requires { slot < 32 }
-        ensures { result ≡ posting_of self.now.registers self.now.port slot task.now content }
+    /// What the answer to a queued command writes: a DMA Setup FIS, a read's data, and a Set Device Bits FIS.
+    fn queued_posting(&self, content: Scatter<A>, whole: bool) -> Posting<A>
+        ensures { result ≡ queued_posting self.now.registers self.now.port content whole }
     {
-        match task {
-            Task::Queue(_) => Posting::new(
-                self.fis_put(DMA_SETUP, 28),
-                content,
-                None,
-                self.fis_put(SET_BITS, 8),
-            ),
-            Task::Read(span, Protocol::Pio) => Posting::new(
-                self.received_put(PIO_SETUP, pio_setup()),
-                content,
-                self.count_put(slot, 512 * span.sectors),
-                None,
-            ),
-            _ => Posting::new(
-                None,
-                content,
-                self.count_put(slot, moved_by(task)),
-                self.done_put(),
-            ),
-        }
+        Posting::new(
+            self.fis_put(DMA_SETUP, 28),
+            content,
+            None,
+            last_put(whole, self.fis_put(SET_BITS, 8)),
+        )
+    }
+
+    /// What a read by DMA writes: the data, PRDBC, and a D2H Register FIS.
+    fn read_posting(
+        &self,
+        slot: u8,
+        content: Scatter<A>,
+        moved: u32,
+        whole: bool,
+        fis: D2h,
+    ) -> Posting<A>
+        requires { slot < 32 }
+        ensures { result ≡ read_posting self.now.registers slot content moved whole fis }
+    {
+        Posting::new(
+            None,
+            content,
+            self.count_put(slot, moved),
+            last_put(whole, self.received_put(REGISTER, Fis::D2h(fis).encode())),
+        )
+    }
+
+    /// What the answer with a page by PIO writes: a PIO Setup FIS, the page, and PRDBC.
+    fn page_posting(&self, slot: u8, content: Scatter<A>, moved: u32) -> Posting<A>
+        requires { slot < 32 }
+        ensures { result ≡ page_posting self.now.registers slot content moved }
+    {
+        Posting::new(
+            self.setup_put(true, true, 0x40),
+            content,
+            self.count_put(slot, moved),
+            None,
+        )
+    }
+
+    /// The answer to a queued command that the port has done.
+    fn queued_answer(&mut self, slot: u8, list: Vec<PrdEntry, A>, bytes: Vec<u8, A>, count: u32)
+        requires { slot < 32 }
+        ensures { self.new ≡ queued_answer self.old slot list.items bytes.items count }
+    {
+        let whole = fits(count, &list);
+        let ending = Ending::Bits {
+            status: 0x40,
+            error: 0,
+            sactive: 1 << slot,
+        };
+        let posting = self.queued_posting(Scatter::new(list, bytes), whole);
+        self.answer(posting, last_ending(whole, ending));
+    }
+
+    /// The answer to a read by DMA, of so many bytes, with the FIS that ends it.
+    pub(super) fn read_answer(
+        &mut self,
+        slot: u8,
+        list: Vec<PrdEntry, A>,
+        bytes: Vec<u8, A>,
+        count: u32,
+        fis: D2h,
+    )
+        requires { slot < 32 }
+        ensures { self.new ≡ read_answer self.old slot list.items bytes.items count fis }
+    {
+        let whole = fits(count, &list);
+        let moved = moved_to(count, &list);
+        let ending = fis_ending(slot, &fis);
+        let posting = self.read_posting(slot, Scatter::new(list, bytes), moved, whole, fis);
+        self.answer(posting, last_ending(whole, ending));
+    }
+
+    /// The answer with a page by PIO.
+    pub(super) fn page_answer(&mut self, slot: u8, list: Vec<PrdEntry, A>, page: Vec<u8, A>)
+        requires { slot < 32 }
+        ensures { self.new ≡ page_answer self.old slot list.items page.items }
+    {
+        let whole = fits(512, &list);
+        let moved = moved_to(512, &list);
+        let posting = self.page_posting(slot, Scatter::new(list, page), moved);
+        self.answer(posting, page_ending(whole, slot));
+    }
+
+    /// A transfer by PIO begins, of so many blocks.
+    pub(super) fn begin(
+        &mut self,
+        slot: u8,
+        write: bool,
+        blocks: u32,
+        rest: Blocks<A>,
+        finish: Option<D2h>,
+    )
+        requires slot { slot < 32 }
+        requires blocks { blocks ≤ 65536 }
+        ensures { self.new ≡ beginning self.old slot write blocks rest finish }
+    {
+        self.turn_to(Work::Pio(Transfer::new(slot, write, blocks, rest, finish)));
     }
 }
 
 impl<A: Allocator + Copy> Hba<A> {
+    /// The end of a command whose data have moved: PRDBC, and a D2H Register FIS.
+    pub(super) fn close(&mut self, slot: u8, moved: u32, fis: D2h)
+        requires { slot < 32 }
+        ensures { self.new ≡ closing self.old slot moved fis }
+    {
+        let ending = fis_ending(slot, &fis);
+        let content = Scatter::new(Vec::new(self.alloc), Vec::new(self.alloc));
+        let posting = self.read_posting(slot, content, moved, true, fis);
+        self.answer(posting, ending);
+    }
+
+    /// The answer to a queued command; a write has no list.
+    fn queue_answer(
+        &mut self,
+        slot: u8,
+        write: bool,
+        list: Vec<PrdEntry, A>,
+        bytes: Vec<u8, A>,
+        count: u32,
+    )
+        requires { slot < 32 }
+        ensures { self.new ≡ queue_answer self.old slot write list.items bytes.items count }
+    {
+        self.queued_answer(slot, list, bytes, if write { 0 } else { count });
+    }
+
+    /// The answer to a command by DMA.
+    fn dma_answer(
+        &mut self,
+        slot: u8,
+        write: bool,
+        list: Vec<PrdEntry, A>,
+        bytes: Vec<u8, A>,
+        count: u32,
+    )
+        requires { slot < 32 }
+        ensures { self.new ≡ dma_answer self.old slot write list.items bytes.items count }
+    {
+        if write {
+            self.close(slot, count, done());
+        } else {
+            self.read_answer(slot, list, bytes, count, done());
+        }
+    }
+
+    /// The answer to a command that the port has done, with a read's bytes: it does queued ones and those that move sectors.
+    fn answer_with(&mut self, slot: u8, list: Vec<PrdEntry, A>, bytes: Vec<u8, A>, action: &Action)
+        requires { slot < 32 }
+        ensures { self.new ≡ answer_with self.old slot list.items bytes.items action.now }
+    {
+        match action {
+            Action::Queue(queued) => {
+                self.queue_answer(slot, queued.write, list, bytes, 512 * queued.sectors)
+            }
+            Action::Sectors {
+                write,
+                span,
+                protocol: Protocol::Dma,
+            } => self.dma_answer(slot, *write, list, bytes, 512 * span.sectors),
+            Action::Sectors {
+                write,
+                span,
+                protocol: Protocol::Pio,
+            } => {
+                self.begin(
+                    slot,
+                    *write,
+                    span.sectors,
+                    Blocks::new(list, bytes),
+                    finish_of(*write),
+                )
+            }
+            Action::Page(_, _) | Action::Flush | Action::Reply(_) | Action::Control { .. } => {
+                self.close(slot, 0, done())
+            }
+            Action::Abort => self.close(slot, 0, done()),
+        }
+    }
+
     /// The bytes that go to the driver.
     fn delivered(&self) -> Result<Vec<u8, A>, AllocError>
         ensures { IfOk result (λ v. v.items ≡ delivered self.now.work) }
@@ -157,23 +371,55 @@ impl<A: Allocator + Copy> Hba<A> {
         }
     }
 
-    /// Puts together the answer to the command that the port has done: its FISes, a read's data in the order of its list, and PRDBC if it
-    /// is not queued. With nothing done, nothing changes.
-    ///
-    /// # Errors
-    /// An allocation failed; nothing has changed, and it may be tried again.
-    pub fn deliver(&mut self) -> Result<(), AllocError>
-        ensures ok { OnOk result (self.new ≡ answered self.old self.old.work) }
+    /// Puts together the answer to the command that the port has done.
+    fn deliver_served(&mut self) -> Result<(), AllocError>
+        ensures ok { OnOk result (self.new ≡ served_answer self.old self.old.work) }
         ensures err { OnErr result (self.new ≡ self.old) }
     {
         let bytes = self.delivered()?;
         match mem::replace(&mut self.work, Work::Idle) {
             Work::Served(slot, task, _, list) => {
-                let posting = self.posting_of(slot, &task, Scatter::new(list, bytes));
-                self.answer(posting, ending_of(slot, &task));
+                self.answer_with(slot, list, bytes, &action_of(&task));
             }
             other => self.work = other,
         }
         Ok(())
+    }
+
+    /// Whether it waits for the next block of a transfer by PIO.
+    fn is_pio(&self) -> bool
+        ensures { result ≡ is_pio self.now.work }
+    {
+        matches!(&self.work, Work::Pio(_))
+    }
+
+    /// Puts an answer together, or the next block of a transfer by PIO; with nothing done, nothing changes.
+    fn put_together(&mut self) -> Result<(), AllocError>
+        ensures ok { OnOk result (self.new ≡ answered self.old self.old.work) }
+        ensures err { OnErr result (self.new ≡ self.old) }
+    {
+        if self.is_pio() {
+            return self.go_on();
+        }
+        self.deliver_served()
+    }
+
+    /// Puts together the answer to the command of a slot that the port has done: its FISes, a read's data in the order of its list, and PRDBC
+    /// if it is not queued. A command by PIO moves block by block, and each call puts the next one together.
+    ///
+    /// # Errors
+    /// `NotReady` exactly if `may_deliver` is false; else `OutOfMemory` if an allocation failed, and it can be tried again. Nothing has changed.
+    pub fn deliver(&mut self, slot: u8) -> Result<(), HbaFault>
+        ensures ready { OnOk result (may_deliver self.old slot ≡ true) }
+        ensures ok { OnOk result (self.new ≡ answered self.old self.old.work) }
+        ensures err { IfErr result (λ e. (e ≡ fault_if (may_deliver self.old slot)) × (self.new ≡ self.old)) }
+    {
+        if !self.may_deliver(slot) {
+            return Err(HbaFault::NotReady);
+        }
+        match self.put_together() {
+            Ok(()) => Ok(()),
+            Err(refused) => Err(refused.into()),
+        }
     }
 }

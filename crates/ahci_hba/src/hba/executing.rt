@@ -1,38 +1,23 @@
 //! What the device does with a command that is not queued (ACS-3, by the commands' titles).
 
-ghost use Rattle.std.specs.Prelude.{◌≡◌, ◌-◌, ◌<◌, ◌^◌, true, None, IfErr, OnErr, OnOk, slice_set};
+ghost use Rattle.std.specs.Prelude.{◌≡◌, ◌-◌, ◌<◌, ◌^◌, true, false, None, IfErr, OnErr, OnOk, slice_set};
 ghost use Rattle.ahci_hba.specs.Queueing.{command_at, list_in, task_in};
 ghost use Rattle.ahci_hba.specs.Stepping.{fault_if, is_answered, is_answered_at, may_execute};
 ghost use Rattle.ahci_port.specs.{Faults.{plain_refusal}, PortView.{sectors_in}};
-ghost use Rattle.ahci_hba.specs.Executing.{Flushes, Identifies, IsExecuted, aborted, answer_to_task, concluded, d2h_fis, is_aborted, is_alone_fetched, is_simple, log_page, paged, reads_error_log, signed, simple_answer, verified};
+ghost use Rattle.ahci_hba.specs.Executing.{Flushes, Identifies, IsExecuted, Performs, aborted, first_missing, is_aborted, is_alone_fetched, log_page, paged, reads_error_log, reply_fis, signed, verified};
 
 use crate::command::Command;
-use crate::ending::Ending;
 use crate::fault::HbaFault;
 use crate::hba::Hba;
-use crate::hba::answering::REGISTER;
-use crate::hba::delivering::ending_of;
+use crate::hba::delivering::{d2h_fis, done};
 use crate::hba::fetching::is_alone;
 use ahci_port::PlainFault;
-use hba_command::{Log, Protocol, Span, Task, controller_page, directory_page, not_queued_page};
-use hba_memory::Scatter;
-use sata_fis::{D2h, Fis};
+use hba_command::{
+    Action, Log, Page, Protocol, Reply, Span, Task, action_of, controller_page, directory_page,
+    not_queued_page,
+};
+use sata_fis::D2h;
 use std::alloc::Allocator;
-
-/// A D2H Register FIS with I.
-pub(super) fn d2h_fis(status: u8, error: u8, lba: u64, count: u16) -> D2h
-    requires { lba < 2 ^ 48 }
-    ensures { result ≡ d2h_fis status error lba count }
-{
-    D2h {
-        i: true,
-        status,
-        error,
-        lba,
-        device: 0,
-        count,
-    }
-}
 
 /// A command is aborted.
 fn aborted() -> D2h
@@ -49,14 +34,22 @@ fn signed(status: u8, error: u8) -> D2h
 }
 
 impl<A: Allocator> Hba<A> {
+    /// The first sector that is not on the disk, of some that aren't all.
+    fn first_missing(&self, span: &Span) -> u64
+        ensures value { result ≡ first_missing self.now.port span.now }
+        ensures fits { result < 2 ^ 48 }
+    {
+        span.lba.max(u64::from(self.port.sectors()))
+    }
+
     /// The answer to a command that names sectors and moves nothing: IDNF names the first one that is not on the disk.
     fn verified(&self, span: &Span) -> D2h
         ensures { result ≡ verified self.now.port span.now }
     {
         if self.is_on(span) {
-            return d2h_fis(0x40, 0, 0, 0);
+            return done();
         }
-        d2h_fis(0x41, 0x10, span.lba.max(u64::from(self.port.sectors())), 0)
+        d2h_fis(0x41, 0x10, self.first_missing(span), 0)
     }
 
     /// The LBA of the last sector.
@@ -68,85 +61,35 @@ impl<A: Allocator> Hba<A> {
         u64::from(self.port.sectors()) - 1
     }
 
-    /// The answer to a command that moves no data.
-    fn answer_to_task(&self, task: &Task) -> D2h
-        ensures { result ≡ answer_to_task self.now.port task.now }
+    /// The answer to a command that moves nothing.
+    fn reply_fis(&self, reply: &Reply) -> D2h
+        ensures { result ≡ reply_fis self.now.port reply.now }
     {
-        match task {
-            Task::Read(span, _) | Task::Write(span, _) | Task::Verify(span) => self.verified(span),
-            Task::NativeMax => d2h_fis(0x40, 0, self.last_sector(), 0),
-            Task::PowerMode => d2h_fis(0x40, 0, 0, 0xFF), // active or idle
-            Task::Diagnose => signed(0x40, 0x01), // the device has passed
-            Task::Nothing | Task::Flush => d2h_fis(0x40, 0, 0, 0),
-            Task::Packet => signed(0x41, 0x04),
-            _ => aborted(),
+        match reply {
+            Reply::Done => done(),
+            Reply::Verified(span) => self.verified(span),
+            Reply::NativeMax => d2h_fis(0x40, 0, self.last_sector(), 0),
+            Reply::PowerMode => d2h_fis(0x40, 0, 0, 0xFF), // active or idle
+            Reply::Diagnosed => signed(0x40, 0x01), // the device has passed
+            Reply::Packet => signed(0x41, 0x04),
         }
     }
 }
 
-impl<A: Allocator + Copy> Hba<A> {
-    /// Empties a slot, below 32.
-    fn vacate(&mut self, slot: u8)
-        requires { slot < 32 }
-        ensures { self.new ≡ record self.old { slots = slice_set self.old.slots slot None } }
-    {
-        self.slots[usize::from(slot)] = None;
-    }
-
-    /// Ends the command of a slot, below 32, with a D2H Register FIS; the slot is empty.
-    pub(super) fn conclude(&mut self, slot: u8, fis: D2h)
-        requires { slot < 32 }
-        ensures { self.new ≡ concluded self.old slot fis }
-    {
-        let ending = Ending::Register {
-            status: fis.status,
-            error: fis.error,
-            interrupt: true,
-            slot,
-        };
-        self.vacate(slot);
-        let put = self.received_put(REGISTER, Fis::D2h(fis).encode());
-        let posting = self.only_after(put);
-        self.answer(posting, ending);
-    }
-}
-
 /// Whether a command reads the log of failed queued commands.
-fn reads_error_log(task: &Task) -> bool
-    ensures { result ≡ reads_error_log task.now }
+fn reads_error_log(action: &Action) -> bool
+    ensures { result ≡ reads_error_log action.now }
 {
-    matches!(task, Task::ReadLog(Log::QueuedError, _))
+    matches!(action, Action::Page(Page::Log(Log::QueuedError), _))
 }
 
 impl<A: Allocator> Hba<A> {
     /// Why the device aborts a command that is not queued: queued ones are outstanding, or one has failed and its log is not read yet, but for a command
     /// that reads it.
-    fn is_aborted(&self, task: &Task) -> bool
-        ensures { result ≡ is_aborted self.now task.now }
+    fn is_aborted(&self, action: &Action) -> bool
+        ensures { result ≡ is_aborted self.now action.now }
     {
-        self.is_queueing() || (self.port.halted() && !reads_error_log(task))
-    }
-
-    /// Whether the device answers a command by a D2H Register FIS alone, with no move of the port.
-    fn is_simple(&self, task: &Task) -> bool
-        ensures { result ≡ is_simple self.now task.now }
-    {
-        match task {
-            Task::Read(span, _) | Task::Write(span, _) => !self.is_on(span),
-            Task::Identify | Task::Flush | Task::ReadLog(_, _) | Task::Control { .. } => false,
-            _ => true,
-        }
-    }
-
-    /// The answer to a command that needs no move of the port.
-    fn simple_answer(&self, task: &Task) -> D2h
-        ensures { result ≡ simple_answer self.now task.now }
-    {
-        if self.is_aborted(task) {
-            aborted()
-        } else {
-            self.answer_to_task(task)
-        }
+        self.is_queueing() || (self.port.halted() && !reads_error_log(action))
     }
 
     /// Whether a slot, below 32, has a command that is read and not queued.
@@ -163,20 +106,23 @@ impl<A: Allocator> Hba<A> {
         }
     }
 
-    /// Whether the device answers a command itself: it aborts it, or it moves no sectors.
-    fn is_answered(&self, task: &Task) -> bool
-        ensures { result ≡ is_answered self.now task.now }
+    /// Whether the device answers a command itself: it aborts it, or the port moves no sectors for it.
+    fn is_answered(&self, action: &Action) -> bool
+        ensures { result ≡ is_answered self.now action.now }
     {
-        match task {
-            Task::Queue(_) => self.port.halted(),
-            Task::Control { .. } => false,
-            Task::Read(span, _) | Task::Write(span, _) => {
-                self.is_aborted(task) || !self.is_on(span)
+        match action {
+            Action::Queue(queued) => self.port.halted() || !self.has_tag(queued),
+            Action::Sectors { span, .. } => self.is_aborted(action) || !self.is_on(span),
+            Action::Page(Page::Identify, _) | Action::Flush => {
+                self.is_aborted(action) || self.port.plain_fault().is_none()
             }
-            Task::Identify | Task::Flush => self.is_aborted(task)
-                || self.port.plain_fault().is_none(),
-            Task::ReadLog(Log::QueuedError, _) => self.is_queueing() || !self.port.halted(),
-            _ => true,
+            Action::Page(Page::Log(Log::Directory), _) => true,
+            Action::Page(Page::Log(Log::QueuedError), _) => {
+                self.is_queueing() || !self.port.halted()
+            }
+            Action::Reply(_) => true,
+            Action::Control { .. } => false,
+            Action::Abort => true,
         }
     }
 
@@ -195,7 +141,7 @@ impl<A: Allocator> Hba<A> {
     {
         match &self.slots[usize::from(slot)] {
             Some(slot) => match &slot.command {
-                Command::Fetched(task, _, _) => self.is_answered(task),
+                Command::Fetched(task, _, _) => self.is_answered(&action_of(task)),
                 Command::Sent(_, _) => false,
             },
             None => false,
@@ -203,7 +149,7 @@ impl<A: Allocator> Hba<A> {
     }
 
     /// What the command of a slot, below 32, asks.
-    fn task_in(&self, slot: u8) -> Task
+    pub(super) fn task_in(&self, slot: u8) -> Task
         requires { slot < 32 }
         ensures { result ≡ task_in (command_at self.now slot) }
     {
@@ -234,10 +180,10 @@ impl<A: Allocator + Copy> Hba<A> {
         ensures { self.new ≡ paged self.old slot protocol (list_in (command_at self.old slot)) page.items }
     {
         let (_, list) = self.take_command(slot);
-        let span = Span { lba: 0, sectors: 1 };
-        let task = Task::Read(span, protocol);
-        let posting = self.posting_of(slot, &task, Scatter::new(list, page));
-        self.answer(posting, ending_of(slot, &task));
+        match protocol {
+            Protocol::Pio => self.page_answer(slot, list, page),
+            Protocol::Dma => self.read_answer(slot, list, page, 512, done()),
+        }
     }
 
     /// IDENTIFY DEVICE, which the port takes.
@@ -268,7 +214,7 @@ impl<A: Allocator + Copy> Hba<A> {
     {
         match self.port.flush() {
             Ok(()) => {
-                self.conclude(slot, d2h_fis(0x40, 0, 0, 0));
+                self.conclude(slot, done());
                 Ok(())
             }
             Err(PlainFault::OutOfMemory) => Err(HbaFault::OutOfMemory),
@@ -287,7 +233,41 @@ impl<A: Allocator + Copy> Hba<A> {
         Ok(())
     }
 
-    /// The device answers the command of a slot, below 32: it executes one that is not queued and moves no sectors, or it aborts the command.
+    /// What the device does with a command that it doesn't abort, for a slot below 32.
+    fn perform(&mut self, slot: u8, action: &Action) -> Result<(), HbaFault>
+        requires slot { slot < 32 }
+        requires answered { is_answered self.old action.now ≡ true }
+        requires kept { is_aborted self.old action.now ≡ false }
+        ensures ok { OnOk result (Performs slot action.now (list_in (command_at self.old slot)) self.old self.new) }
+        ensures err { IfErr result (λ e. (e ≡ HbaFault.OutOfMemory) × (self.new ≡ self.old)) }
+    {
+        match action {
+            Action::Sectors {
+                write,
+                span,
+                protocol,
+            } => {
+                let missing = self.first_missing(span);
+                self.fail_sectors(slot, *write, span, *protocol, 0x10, missing) // IDNF
+            }
+            Action::Page(Page::Identify, _) => self.identify(slot),
+            Action::Page(Page::Log(log), protocol) => self.read_log(slot, *log, *protocol),
+            Action::Flush => self.flush(slot),
+            Action::Reply(reply) => {
+                let fis = self.reply_fis(reply);
+                self.conclude(slot, fis);
+                Ok(())
+            }
+            Action::Queue(_) | Action::Abort => {
+                self.conclude(slot, aborted());
+                Ok(())
+            }
+            Action::Control { .. } => unreachable!(), // it is no command
+        }
+    }
+
+    /// The device answers the command of a slot, below 32: it executes one that is not queued and that the port moves no sectors for, or it aborts the
+    /// command. A read past the last sector moves the sectors that there are.
     ///
     /// # Errors
     /// `NotReady` exactly if `may_execute` is false; else `OutOfMemory` if an allocation failed, and it can be tried again. Nothing has changed.
@@ -300,17 +280,11 @@ impl<A: Allocator + Copy> Hba<A> {
         if !self.may_execute(slot) {
             return Err(HbaFault::NotReady);
         }
-        let task = self.task_in(slot);
-        if self.is_aborted(&task) || self.is_simple(&task) {
-            let fis = self.simple_answer(&task);
-            self.conclude(slot, fis);
+        let action = action_of(&self.task_in(slot));
+        if self.is_aborted(&action) {
+            self.conclude(slot, aborted());
             return Ok(());
         }
-        match task {
-            Task::Identify => self.identify(slot),
-            Task::Flush => self.flush(slot),
-            Task::ReadLog(log, protocol) => self.read_log(slot, log, protocol),
-            _ => unreachable!(), // it is sent, or it is a control FIS
-        }
+        self.perform(slot, &action)
     }
 }

@@ -1,15 +1,15 @@
 //! How a command is taken from the command list (AHCI 1.3.1, section 5.3).
 
-ghost use Rattle.std.specs.Prelude.{◌≡◌, ◌<◌, false, true, IfErr, OnErr, OnOk};
+ghost use Rattle.std.specs.Prelude.{◌≡◌, ◌<◌, ◌≤◌, false, true, IfErr, OnErr, OnOk};
 ghost use Rattle.std.specs.List.{list_any};
 ghost use Rattle.hba_command.specs.declared.task.Task.{Task};
-ghost use Rattle.ahci_hba.specs.Queueing.{command_at, fetching, has_alone, has_queued, distance, is_alone, is_empty, is_idle, is_listening, is_off, is_overtaken, is_ready, is_running, is_sent, may_fetch, waits};
+ghost use Rattle.ahci_hba.specs.Queueing.{command_at, fetching, has_alone, has_queued, distance, distance_of, is_alone, is_empty, is_idle, is_listening, is_off, is_overtaken, is_ready, is_running, is_sent, may_fetch, waits};
 
 use crate::command::{Command, Slot};
 use crate::fault::HbaFault;
 use crate::hba::{Hba, SLOTS};
 use crate::work::Work;
-use hba_command::Task;
+use hba_command::{Action, Task, action_of};
 use hba_memory::Fetch;
 use hba_regs::SoftReset;
 use std::alloc::Allocator;
@@ -19,7 +19,11 @@ use word_bits::is_set;
 pub(super) fn is_alone(task: &Task) -> bool
     ensures { result ≡ is_alone task.now }
 {
-    !matches!(task, Task::Queue(_))
+    match &action_of(task) {
+        Action::Queue(_) => false,
+        Action::Sectors { .. } | Action::Page(_, _) | Action::Flush | Action::Reply(_) => true,
+        Action::Control { .. } | Action::Abort => true,
+    }
 }
 
 /// Whether a slot has a command that is with the port.
@@ -65,11 +69,14 @@ fn is_off(soft: SoftReset) -> bool
     matches!(soft, SoftReset::Off)
 }
 
-/// How many slots behind the one with the highest priority a slot is.
-fn distance(first: u8, slot: u8) -> u32
-    ensures { result ≡ distance first slot }
+/// How many slots behind the one with the highest priority a slot is, in a command list of so many.
+#[tactic(auto, unfolding(crate::specs::Queueing::distance))]
+fn distance(ncs: u8, first: u8, slot: u8) -> u32
+    requires { 1 ≤ ncs }
+    ensures { result ≡ distance ncs first slot }
 {
-    (u32::from(slot) + 32).saturating_sub(u32::from(first)) % 32
+    let ncs = u32::from(ncs);
+    (u32::from(slot) + ncs).saturating_sub(u32::from(first)) % ncs
 }
 
 impl<A: Allocator> Hba<A> {
@@ -109,14 +116,21 @@ impl<A: Allocator> Hba<A> {
         is_set(self.registers.ci(), slot) && self.is_empty(slot)
     }
 
+    /// How many slots behind the one with the highest priority a slot is.
+    fn distance(&self, slot: u8) -> u32
+        ensures { result ≡ distance_of self.now.registers.port slot }
+    {
+        let capabilities = self.registers.capabilities();
+        distance(capabilities.ncs(), self.registers.first_slot(), slot)
+    }
+
     /// Whether another slot that waits has a higher priority than a slot, below 32.
     fn is_overtaken(&self, slot: u8) -> bool
         requires { slot < 32 }
         ensures { result ≡ is_overtaken self.now slot }
     {
-        let first = self.registers.first_slot();
-        let own = distance(first, slot);
-        (0..SLOTS as u8).any(|other| self.waits(other) && distance(first, other) < own)
+        let own = self.distance(slot);
+        (0..SLOTS as u8).any(|other| self.waits(other) && self.distance(other) < own)
     }
 
     /// Whether a slot, below 32, has no command that was read.

@@ -1,12 +1,13 @@
 //! How the controller reads and writes the driver's memory: it says what comes next, and is told once it is done.
 
 ghost use Rattle.std.specs.Prelude.{◌≡◌, ◌<◌, length, OnErr, OnOk};
-ghost use Rattle.ahci_hba.specs.{HbaView.{command_of, work_of}, Moving.{ended_by, failed_fatally, place_of, placed_in, put_done, put_next, read_so_far, run_read, supplied, unmapped, want_of}};
+ghost use Rattle.ahci_hba.specs.{HbaView.{command_of, work_of}, Moving.{address_of, block_ended, ended_by, failed_fatally, place_of, placed_in, put_done, put_next, read_so_far, run_read, stuck_with, supplied, unmapped, want_of}};
 ghost use Rattle.ahci_hba.specs.States.{IsForSlot, IsSoundWork};
 
 use crate::command::{Command, Slot};
 use crate::ending::Ending;
 use crate::hba::Hba;
+use crate::transfer::Transfer;
 use crate::want::Want;
 use crate::work::Work;
 use hba_memory::{Fetch, Reading};
@@ -15,6 +16,7 @@ use std::alloc::{AllocError, Allocator};
 use std::mem;
 
 /// What the last FIS of an answer does to the registers.
+#[tactic(auto, unfolding(crate::specs::Moving::ended_by))]
 pub(super) fn end(registers: &mut HbaRegs, ending: Ending)
     requires { IsForSlot ending }
     ensures { registers.new ≡ ended_by registers.old ending }
@@ -35,12 +37,27 @@ pub(super) fn end(registers: &mut HbaRegs, ending: Ending)
             registers.receive_pio(0x48, 0); // DRDY and DRQ
             registers.end_pio(0x40, true, slot);
         }
+        Ending::Overflow => registers.fail_fatally(Fatal::Overflow),
+        Ending::PioOverflow => {
+            registers.receive_pio(0x48, 0); // DRDY and DRQ
+            registers.fail_fatally(Fatal::Overflow);
+        }
         Ending::Signature => {
             if registers.signature_moves() {
                 registers.take_signature();
             }
         }
     }
+}
+
+/// What a block of a transfer does to the registers: its PIO Setup FIS, and the end of its data, after which the device is busy with the next
+/// one.
+#[tactic(auto, unfolding(crate::specs::Moving::block_ended))]
+pub(super) fn end_block<A: Allocator>(registers: &mut HbaRegs, transfer: &Transfer<A>)
+    ensures { registers.new ≡ block_ended registers.old transfer.now }
+{
+    registers.receive_pio(0x48, 0); // DRDY and DRQ
+    registers.end_pio(0xC0, transfer.has_interrupt(), transfer.slot()); // BSY and DRDY
 }
 
 impl<A: Allocator> Hba<A> {
@@ -50,19 +67,32 @@ impl<A: Allocator> Hba<A> {
     {
         match &self.work {
             Work::Fetching(_, _) => Want::Read,
-            Work::Posting(_, _) => Want::Write,
-            _ => Want::Nothing,
+            Work::Block(_, _) | Work::Posting(_, _) => Want::Write,
+            Work::Idle | Work::Served(_, _, _, _) | Work::Pio(_) => Want::Nothing,
         }
     }
 
-    /// Where it reads or writes next; 0 if it does neither.
+    /// Where it reads or writes next; 0 if it does neither. Without CAP.S64A it is below 4 GiB.
     pub fn address(&self) -> u64
+        ensures { result ≡ address_of self.now }
+    {
+        let pointer = self.pointer();
+        if self.registers.capabilities().s64a {
+            pointer
+        } else {
+            pointer & 0xffff_ffff
+        }
+    }
+
+    /// The same with all 64 bits of the driver's pointers.
+    fn pointer(&self) -> u64
         ensures { result ≡ place_of self.now.work }
     {
         match &self.work {
             Work::Fetching(_, fetch) => fetch.address(),
+            Work::Block(posting, _) => posting.address(),
             Work::Posting(posting, _) => posting.address(),
-            _ => 0,
+            Work::Idle | Work::Served(_, _, _, _) | Work::Pio(_) => 0,
         }
     }
 
@@ -81,22 +111,26 @@ impl<A: Allocator> Hba<A> {
         ensures { result.now ≡ (put_next self.now.work).bytes }
     {
         match &self.work {
+            Work::Block(posting, _) => posting.bytes(),
             Work::Posting(posting, _) => posting.bytes(),
             _ => &[],
         }
     }
 
-    /// The bytes that it writes are written. With the last ones of an answer, the answer takes effect.
+    /// The bytes that it writes are written. With the last ones of an answer or a block, that takes effect.
     pub fn written(&mut self)
         ensures { self.new ≡ put_done self.old self.old.work }
     {
-        let Work::Posting(posting, ending) = &mut self.work else {
-            return;
-        };
-        posting.advance();
-        if posting.is_done() {
-            end(&mut self.registers, *ending);
-            self.work = Work::Idle;
+        match mem::replace(&mut self.work, Work::Idle) {
+            Work::Block(mut posting, transfer) => {
+                posting.advance();
+                self.block(posting, transfer);
+            }
+            Work::Posting(mut posting, ending) => {
+                posting.advance();
+                self.answer(posting, ending);
+            }
+            other => self.work = other,
         }
     }
 
@@ -105,8 +139,10 @@ impl<A: Allocator> Hba<A> {
         ensures { self.new ≡ unmapped self.old self.old.work }
     {
         match &self.work {
-            Work::Fetching(_, _) | Work::Posting(_, _) => self.fail_fatally(Fatal::HostBusFatal),
-            Work::Idle | Work::Served(_, _, _, _) => {}
+            Work::Fetching(_, _) | Work::Block(_, _) | Work::Posting(_, _) => {
+                self.fail_fatally(Fatal::HostBusFatal)
+            }
+            Work::Idle | Work::Served(_, _, _, _) | Work::Pio(_) => {}
         }
     }
 }
@@ -162,8 +198,8 @@ impl<A: Allocator> Hba<A> {
             Reading::Whole(task, clears, list, bytes) => {
                 self.place(slot, clears, Command::Fetched(task, list, bytes));
             }
-            Reading::Malformed => self.fail_fatally(Fatal::Interface),
-            _ => self.fail_fatally(Fatal::Overflow), // it is short
+            Reading::Short(clears) => self.stick(slot, clears),
+            _ => self.fail_fatally(Fatal::Interface), // it is malformed
         }
     }
 
@@ -174,6 +210,15 @@ impl<A: Allocator> Hba<A> {
     {
         self.registers.send(slot, clears);
         self.slots[usize::from(slot)] = Some(Slot { command });
+        self.work = Work::Idle;
+    }
+
+    /// The command FIS of a write is sent whose list is too short: the port is stuck.
+    fn stick(&mut self, slot: u8, clears: bool)
+        requires { slot < 32 }
+        ensures { self.new ≡ stuck_with self.old slot clears }
+    {
+        self.registers.stick(slot, clears);
         self.work = Work::Idle;
     }
 

@@ -3,18 +3,19 @@
 ghost use Rattle.std.specs.Prelude.{◌≡◌, ◌<◌, false, true, None, IfErr, OnOk, slice_set};
 ghost use Rattle.ncq_journal.specs.{Phase.{phase}, Request.{request}};
 ghost use Rattle.ahci_port.specs.Faults.{is_of_request};
-ghost use Rattle.ahci_hba.specs.Queueing.{IsAccepted, IsFailed, IsServed, accepting, after_acceptance, command_at, has_alone, has_queued, is_taken, list_in, task_in};
-ghost use Rattle.ahci_hba.specs.Stepping.{is_taken_up, is_waiting, may_accept, may_fail, may_serve};
+ghost use Rattle.ahci_hba.specs.Queueing.{IsAccepted, IsServed, accepting, after_acceptance, command_at, has_alone, has_queued, is_taken, list_in, task_in};
+ghost use Rattle.ahci_hba.specs.Failing.{Fails, FailsRequest, own_in};
+ghost use Rattle.ahci_hba.specs.Stepping.{RefusesFor, is_taken_up, is_waiting, may_accept, may_fail, may_serve};
 
 use crate::command::Command;
 use crate::ending::Ending;
 use crate::fault::HbaFault;
 use crate::hba::Hba;
-use crate::hba::answering::{REGISTER, SET_BITS};
-use crate::hba::fetching::has_queued;
+use crate::hba::answering::REGISTER;
+use crate::hba::failing::{fails_at, own_queued};
 use crate::work::Work;
 use ahci_port::{DeviceStep, Phase, Stepped};
-use hba_command::{PrdEntry, Task};
+use hba_command::{PrdEntry, Task, action_of};
 use std::alloc::Allocator;
 
 /// What the answer to an acceptance says to the registers.
@@ -61,14 +62,6 @@ impl<A: Allocator> Hba<A> {
         self.is_sent(slot)
             && !self.port.halted()
             && matches!(self.port.phase(slot), Phase::Accepted)
-    }
-
-    /// Whether the command of a slot, below 32, is queued.
-    fn has_queued(&self, slot: u8) -> bool
-        requires { slot < 32 }
-        ensures { result ≡ has_queued (command_at self.now slot) }
-    {
-        has_queued(&self.slots[usize::from(slot)])
     }
 
     /// Whether the device can take the command of a slot, below 32: it is with the port and waits for the device, and the device may move.
@@ -170,35 +163,48 @@ impl<A: Allocator + Copy> Hba<A> {
     }
 
     /// The device fails the queued command of a slot, below 32, that it has taken, with an error byte at one of its sectors: a Set Device Bits
-    /// FIS is written, and then the port halts.
+    /// FIS is written, and then the port halts. A read has moved its sectors before that one; a write has changed none, and names its first one.
     ///
     /// # Errors
-    /// `NotReady` exactly if `may_fail` is false.
+    /// `NotReady` only if `may_fail` is false; `OutOfMemory` if an allocation failed, and it can be tried again. Nothing has changed.
     pub fn fail(&mut self, slot: u8, error: u8, lba: u64) -> Result<(), HbaFault>
         requires { slot < 32 }
         ensures ready { OnOk result (may_fail self.old slot lba ≡ true) }
-        ensures ok { OnOk result (IsFailed slot error lba self.old self.new) }
-        ensures err { IfErr result (λ e. (e ≡ HbaFault.NotReady) × (may_fail self.old slot lba ≡ false) × (self.new ≡ self.old)) }
+        ensures ok { OnOk result (Fails slot error lba (own_in self.old slot lba) self.old self.new) }
+        ensures err { IfErr result (λ e. RefusesFor e (may_fail self.old slot lba) × (self.new ≡ self.old)) }
     {
-        if !self.may_serve(slot) || !self.has_queued(slot) {
+        if !self.may_serve(slot) {
             return Err(HbaFault::NotReady);
         }
+        let Some(queued) = own_queued(&action_of(&self.task_in(slot)), lba) else {
+            return Err(HbaFault::NotReady); // it is not queued, or the LBA is another one's
+        };
+        let (bytes, sectors) = self.moved_sectors(&queued, lba)?;
+        let list = self.copy_list(slot)?;
+        if !self.fail_request(slot, error, fails_at(&queued, lba)) {
+            return Err(HbaFault::NotReady);
+        }
+        self.answer_failure(slot, &queued, list, bytes, sectors, error);
+        Ok(())
+    }
+
+    /// Lets the port fail the request of a slot, below 32, that the device has taken, at a sector. It is false if the request has no such sector, and
+    /// nothing has changed.
+    fn fail_request(&mut self, slot: u8, error: u8, at: u64) -> bool
+        requires slot { slot < 32 }
+        requires taken { may_serve self.old slot ≡ true }
+        ensures answer { result ≡ is_of_request (request self.old.port.past slot) at }
+        ensures failed { result ≡ true → FailsRequest slot error at self.old self.new }
+        ensures same { result ≡ false → self.new ≡ self.old }
+    {
         let step = DeviceStep::Fail {
             tag: slot,
             error,
-            at: lba,
+            at,
         };
         let Ok(_) = self.port.step(step) else {
-            return Err(HbaFault::NotReady); // it is no sector of the command
+            return false; // it is no sector of the request
         };
-        let fis = self.fis_put(SET_BITS, 8);
-        let posting = self.only_after(fis);
-        let ending = Ending::Bits {
-            status: 0x41,
-            error,
-            sactive: 0,
-        };
-        self.answer(posting, ending);
-        Ok(())
+        true
     }
 }

@@ -4,14 +4,14 @@ ghost use Rattle.std.specs.Prelude.{◌≡◌, ◌<◌, ◌≤◌, true, [], IfE
 ghost use Rattle.ncq_journal.specs.Halted.{halted};
 ghost use Rattle.ahci_hba.specs.Queueing.{command_at};
 ghost use Rattle.ahci_hba.specs.Stepping.{fault_if, may_recover};
-ghost use Rattle.ahci_hba.specs.Recovering.{CollectsFailed, ReadsErrorLog, error_log_in, error_page};
+ghost use Rattle.ahci_hba.specs.Recovering.{CollectsFailed, ReadsErrorLog, error_log_in, error_log_of, error_page};
 
 use crate::command::Command;
 use crate::fault::HbaFault;
 use crate::hba::Hba;
 use crate::hba::writing::reset;
 use ahci_port::{Journal, Outcome, Port, RecoverFault, Reply};
-use hba_command::{Log, Protocol, Task, not_queued_page};
+use hba_command::{Action, Log, Page, Protocol, action_of, not_queued_page};
 use ncq_core::{LBA_LIMIT, log_page};
 use std::alloc::Allocator;
 
@@ -31,6 +31,16 @@ fn error_page(tag: u8, outcome: Outcome) -> [u8; 512]
     }
 }
 
+/// How a command reads the log of failed queued commands; nothing if it doesn't.
+fn error_log_of(action: &Action) -> Option<Protocol>
+    ensures { result ≡ error_log_of action.now }
+{
+    match action {
+        Action::Page(Page::Log(Log::QueuedError), protocol) => Some(*protocol),
+        _ => None, // it has no log
+    }
+}
+
 impl<A: Allocator> Hba<A> {
     /// How the command of a slot, below 32, reads the log of failed queued commands; nothing if it doesn't.
     pub fn error_log_in(&self, slot: u8) -> Option<Protocol>
@@ -39,10 +49,8 @@ impl<A: Allocator> Hba<A> {
     {
         match &self.slots[usize::from(slot)] {
             Some(slot) => match &slot.command {
-                Command::Fetched(Task::ReadLog(Log::QueuedError, protocol), _, _) => Some(
-                    *protocol,
-                ),
-                _ => None,
+                Command::Fetched(task, _, _) => error_log_of(&action_of(task)),
+                Command::Sent(_, _) => None,
             },
             None => None,
         }

@@ -2,10 +2,10 @@
 
 ghost use Rattle.std.specs.Prelude.{◌≡◌, ◌<◌, ◌^◌, true, false, IfErr, OnErr, OnOk, IfOk};
 ghost use Rattle.ahci_hba.specs.Dropping.{handed_out, is_reset};
-ghost use Rattle.ahci_hba.specs.Executing.{concluded, refused};
+ghost use Rattle.ahci_hba.specs.Failing.{refused_at};
 ghost use Rattle.ahci_hba.specs.Queueing.{command_at};
-ghost use Rattle.ahci_hba.specs.Stepping.{may_control, may_refuse};
-ghost use Rattle.ahci_hba.specs.Resetting.{IsControlled, control_in, control_journal, held, may_sign, released, signature, signing};
+ghost use Rattle.ahci_hba.specs.Stepping.{fault_if, may_control, may_refuse};
+ghost use Rattle.ahci_hba.specs.Resetting.{IsControlled, control_in, control_journal, control_of, held, may_sign, released, signature, signing};
 ghost use Rattle.hba_regs.specs.declared.consequence.Consequence.TheVariants.{LinkReset};
 
 use crate::command::Command;
@@ -13,9 +13,8 @@ use crate::ending::Ending;
 use crate::fault::HbaFault;
 use crate::hba::Hba;
 use crate::hba::answering::REGISTER;
-use crate::hba::executing::d2h_fis;
 use ahci_port::Journal;
-use hba_command::Task;
+use hba_command::{Action, action_of};
 use hba_regs::{Consequence, SoftReset};
 use sata_fis::{D2h, Fis};
 use std::alloc::Allocator;
@@ -34,6 +33,16 @@ fn signature() -> D2h
     }
 }
 
+/// What the device control register says of SRST; nothing of a command.
+fn control_of(action: &Action) -> Option<bool>
+    ensures { result ≡ control_of action.now }
+{
+    match action {
+        Action::Control { reset } => Some(*reset),
+        _ => None, // it is a command
+    }
+}
+
 impl<A: Allocator> Hba<A> {
     /// Whether the FIS of the device's signature can be taken, or posted, and nothing is read or written just now.
     pub fn may_sign(&self) -> bool
@@ -49,8 +58,8 @@ impl<A: Allocator> Hba<A> {
     {
         match &self.slots[usize::from(slot)] {
             Some(slot) => match &slot.command {
-                Command::Fetched(Task::Control { reset }, _, _) => Some(*reset),
-                _ => None,
+                Command::Fetched(task, _, _) => control_of(&action_of(task)),
+                Command::Sent(_, _) => None,
             },
             None => None,
         }
@@ -147,21 +156,20 @@ impl<A: Allocator + Copy> Hba<A> {
     }
 
     /// The device fails the command of a slot, below 32, that is read and not queued, with an error byte at an LBA below 2^48: a D2H Register
-    /// FIS is written, and then the port halts. No sector has changed.
+    /// FIS is written, and then the port halts. No sector has changed. A read has moved its sectors before the LBA; a write names its first one.
     ///
     /// # Errors
-    /// `NotReady` exactly if `may_refuse` is false.
+    /// `NotReady` exactly if `may_refuse` is false; else `OutOfMemory` if an allocation failed, and it can be tried again. Nothing has changed.
     pub fn refuse(&mut self, slot: u8, error: u8, lba: u64) -> Result<(), HbaFault>
         requires slot { slot < 32 }
         requires lba { lba < 2 ^ 48 }
         ensures ready { OnOk result (may_refuse self.old slot ≡ true) }
-        ensures ok { OnOk result (self.new ≡ concluded self.old slot (refused error lba)) }
-        ensures err { IfErr result (λ e. (e ≡ HbaFault.NotReady) × (may_refuse self.old slot ≡ false) × (self.new ≡ self.old)) }
+        ensures ok { OnOk result (self.new ≡ refused_at self.old slot error lba) }
+        ensures err { IfErr result (λ e. (e ≡ fault_if (may_refuse self.old slot)) × (self.new ≡ self.old)) }
     {
         if !self.may_refuse(slot) {
             return Err(HbaFault::NotReady);
         }
-        self.conclude(slot, d2h_fis(0x41, error, lba, 0));
-        Ok(())
+        self.refuse_with(slot, &action_of(&self.task_in(slot)), error, lba)
     }
 }

@@ -4,15 +4,16 @@ ghost use Rattle.std.specs.Prelude.{◌≡◌, ◌<◌, true, None, Some, IfErr,
 ghost use Rattle.ncq_journal.specs.Work.{Read, Write, work_of};
 ghost use Rattle.ahci_port.specs.Faults.{op_refusal};
 ghost use Rattle.ahci_hba.specs.HbaView.{Fetched, command_of};
-ghost use Rattle.ahci_hba.specs.Queueing.{IsSent, Sends, asked_for, command_at, goes_to_port, is_fetched, is_on, put_back};
+ghost use Rattle.ahci_hba.specs.Queueing.{IsSent, Sends, asked_for, command_at, goes_to_port, has_tag, is_fetched, is_on, moves_sectors, put_back, work_for, work_of_action};
 ghost use Rattle.ahci_hba.specs.Stepping.{fault_if, may_send, work_at};
 
 use crate::command::{Command, Slot};
 use crate::fault::HbaFault;
 use crate::hba::Hba;
 use ahci_port::{Bytes, Op, Port, SubmitFault};
-use hba_command::{PrdEntry, Span, Task};
+use hba_command::{Action, PrdEntry, Span, Task, action_of};
 use ncq_core::SECTOR;
+use sata_fis::Queued;
 use std::alloc::Allocator;
 
 /// What a command asks of the disk, with the bytes of a write, and the bytes that are left.
@@ -39,11 +40,15 @@ fn asked<A: Allocator + Copy>(alloc: A, task: &Task, bytes: Vec<u8, A>) -> (Op<A
     ensures back { put_back (work_of result.0) result.1.items ≡ bytes.items }
 {
     let none = Vec::new(alloc);
-    match task {
-        Task::Queue(queued) => { asked_at(queued.write, queued.lba, queued.sectors, bytes, none) }
-        Task::Read(span, _) => asked_at(false, span.lba, span.sectors, bytes, none),
-        Task::Write(span, _) => asked_at(true, span.lba, span.sectors, bytes, none),
-        _ => asked_at(false, 0, 0, bytes, none),
+    match &action_of(task) {
+        Action::Queue(queued) => asked_at(queued.write, queued.lba, queued.sectors, bytes, none),
+        Action::Sectors { write, span, .. } => {
+            asked_at(*write, span.lba, span.sectors, bytes, none)
+        }
+        Action::Page(_, _) | Action::Flush | Action::Reply(_) | Action::Control { .. } => {
+            asked_at(false, 0, 0, bytes, none)
+        }
+        Action::Abort => asked_at(false, 0, 0, bytes, none),
     }
 }
 
@@ -72,6 +77,23 @@ fn write_fault<A: Allocator>(
     port.submit_fault(slot, lba, (bytes.len() / SECTOR) as u64)
 }
 
+/// The same of a read, or of a write of these bytes.
+fn work_fault<A: Allocator>(
+    port: &Port<A>,
+    slot: u8,
+    write: bool,
+    lba: u64,
+    sectors: u32,
+    bytes: &[u8],
+) -> Option<SubmitFault>
+    ensures { result ≡ op_refusal port.now slot (work_for write lba sectors bytes.now) }
+{
+    if write {
+        return write_fault(port, slot, lba, bytes);
+    }
+    port.submit_fault(slot, lba, u64::from(sectors))
+}
+
 impl<A: Allocator> Hba<A> {
     /// Whether sectors are on the disk.
     pub(super) fn is_on(&self, span: &Span) -> bool
@@ -80,22 +102,62 @@ impl<A: Allocator> Hba<A> {
         span.lba + u64::from(span.sectors) <= u64::from(self.port.sectors())
     }
 
-    /// Whether the command of a slot, below 32, goes to the port: it is read, and is queued, or moves sectors of the disk while no queued
-    /// one is outstanding.
+    /// Whether the device has the tag of a queued command.
+    pub(super) fn has_tag(&self, queued: &Queued) -> bool
+        ensures { result ≡ has_tag self.now queued.now }
+    {
+        u32::from(queued.tag) < self.depth
+    }
+
+    /// Whether the port moves sectors for a command: a queued one whose tag the device has, or one of sectors of the disk while no queued one is
+    /// outstanding.
+    fn moves_sectors(&self, action: &Action) -> bool
+        ensures { result ≡ moves_sectors self.now action.now }
+    {
+        match action {
+            Action::Queue(queued) => self.has_tag(queued),
+            Action::Sectors { span, .. } => self.is_on(span) && !self.is_queueing(),
+            Action::Page(_, _) | Action::Flush | Action::Reply(_) | Action::Control { .. } => false,
+            Action::Abort => false,
+        }
+    }
+
+    /// Whether the command of a slot, below 32, goes to the port: it is read, and is queued with a tag that the device has, or moves sectors of the
+    /// disk while no queued one is outstanding.
     pub fn goes_to_port(&self, slot: u8) -> bool
         requires { slot < 32 }
         ensures { result ≡ goes_to_port self.now (command_at self.now slot) }
     {
-        let Some(slot) = &self.slots[usize::from(slot)] else {
-            return false;
-        };
-        match &slot.command {
-            Command::Fetched(Task::Queue(_), _, _) => true,
-            Command::Fetched(Task::Read(span, _) | Task::Write(span, _), _, _) => {
-                self.is_on(span) && !self.is_queueing()
-            }
-            _ => false,
+        match &self.slots[usize::from(slot)] {
+            Some(slot) => match &slot.command {
+                Command::Fetched(task, _, _) => self.moves_sectors(&action_of(task)),
+                Command::Sent(_, _) => false,
+            },
+            None => false,
         }
+    }
+}
+
+/// Why a port would not take what a command asks for a slot, memory aside.
+fn action_fault<A: Allocator>(
+    port: &Port<A>,
+    slot: u8,
+    action: &Action,
+    bytes: &[u8],
+) -> Option<SubmitFault>
+    ensures { result ≡ op_refusal port.now slot (work_of_action action.now bytes.now) }
+{
+    match action {
+        Action::Queue(queued) => {
+            work_fault(port, slot, queued.write, queued.lba, queued.sectors, bytes)
+        }
+        Action::Sectors { write, span, .. } => {
+            work_fault(port, slot, *write, span.lba, span.sectors, bytes)
+        }
+        Action::Page(_, _) | Action::Flush | Action::Reply(_) | Action::Control { .. } => {
+            port.submit_fault(slot, 0, 0)
+        }
+        Action::Abort => port.submit_fault(slot, 0, 0),
     }
 }
 
@@ -105,25 +167,14 @@ impl<A: Allocator> Hba<A> {
         requires { slot < 32 }
         ensures { result ≡ op_refusal self.now.port slot (work_at (command_at self.now slot)) }
     {
-        let Some(read) = &self.slots[usize::from(slot)] else {
-            return self.port.submit_fault(slot, 0, 0);
-        };
-        match &read.command {
-            Command::Fetched(Task::Queue(queued), _, bytes) if queued.write => {
-                write_fault(&self.port, slot, queued.lba, bytes)
-            }
-            Command::Fetched(Task::Queue(queued), _, _) => {
-                self.port
-                    .submit_fault(slot, queued.lba, u64::from(queued.sectors))
-            }
-            Command::Fetched(Task::Read(span, _), _, _) => {
-                self.port
-                    .submit_fault(slot, span.lba, u64::from(span.sectors))
-            }
-            Command::Fetched(Task::Write(span, _), _, bytes) => {
-                write_fault(&self.port, slot, span.lba, bytes)
-            }
-            _ => self.port.submit_fault(slot, 0, 0),
+        match &self.slots[usize::from(slot)] {
+            Some(read) => match &read.command {
+                Command::Fetched(task, _, bytes) => {
+                    action_fault(&self.port, slot, &action_of(task), bytes)
+                }
+                Command::Sent(_, _) => self.port.submit_fault(slot, 0, 0),
+            },
+            None => self.port.submit_fault(slot, 0, 0),
         }
     }
 

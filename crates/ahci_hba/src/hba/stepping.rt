@@ -1,7 +1,7 @@
 //! Which step the device can take next with the command of a slot, and that step.
 
 ghost use Rattle.std.specs.Prelude.{◌≡◌, ◌<◌, IfErr, IfOk, IsSomeAnd, is_some};
-ghost use Rattle.ahci_hba.specs.Stepping.{IsTaken, fault_if, is_served_for, next_step, queue_step};
+ghost use Rattle.ahci_hba.specs.Stepping.{IsTaken, delivers_for, fault_if, may_deliver, next_step, queue_step};
 
 use crate::fault::HbaFault;
 use crate::hba::Hba;
@@ -11,14 +11,23 @@ use ahci_port::Journal;
 use std::alloc::Allocator;
 
 impl<A: Allocator> Hba<A> {
-    /// Whether the port has done the command of a slot, and its answer is to be put together.
-    fn is_served_for(&self, slot: u8) -> bool
-        ensures { result ≡ is_served_for self.now.work slot }
+    /// Whether the port has done the command of a slot, and its answer is to be put together; or the next block of its transfer by PIO.
+    fn delivers_for(&self, slot: u8) -> bool
+        ensures { result ≡ delivers_for self.now.work slot }
     {
         match &self.work {
             Work::Served(served, _, _, _) => *served == slot,
-            _ => false,
+            Work::Pio(transfer) => transfer.slot() == slot,
+            Work::Idle | Work::Fetching(_, _) | Work::Block(_, _) | Work::Posting(_, _) => false,
         }
+    }
+
+    /// Whether the answer to the command of a slot, or its next block, can be put together now: the device may send FISes, since the port
+    /// processes commands and FRE is 1.
+    pub fn may_deliver(&self, slot: u8) -> bool
+        ensures { result ≡ may_deliver self.now slot }
+    {
+        self.is_running() && self.registers.is_receiving() && self.delivers_for(slot)
     }
 
     /// The next step with a command that goes to the port.
@@ -32,7 +41,7 @@ impl<A: Allocator> Hba<A> {
             Some(Step::Accept)
         } else if self.may_serve(slot) {
             Some(Step::Serve)
-        } else if self.is_served_for(slot) {
+        } else if self.may_deliver(slot) {
             Some(Step::Deliver)
         } else {
             None
@@ -79,7 +88,7 @@ impl<A: Allocator + Copy> Hba<A> {
             Step::Accept => self.accept(slot)?,
             Step::Serve => self.serve(slot)?,
             Step::Execute => self.execute(slot)?,
-            Step::Deliver => self.deliver()?,
+            Step::Deliver => self.deliver(slot)?,
             Step::Control => return self.control(slot),
             Step::Recover => return self.recover(slot),
         }

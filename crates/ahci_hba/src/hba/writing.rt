@@ -50,6 +50,10 @@ impl<A: Allocator> Hba<A> {
             return;
         }
         match mem::replace(&mut self.work, Work::Idle) {
+            Work::Block(mut posting, transfer) => {
+                posting.drop_fises();
+                self.block(posting, transfer);
+            }
             Work::Posting(mut posting, ending) => {
                 posting.drop_fises();
                 self.answer(posting, ending);

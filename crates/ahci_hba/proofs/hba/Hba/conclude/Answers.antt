@@ -1,9 +1,7 @@
-use Rattle.std.proofs.Common.{true, ap}
 use Rattle.ahci_hba.proofs.DeliveringLemmas.{concludes}
-use Rattle.ahci_hba.specs.declared.ending.Ending.TheVariants.{Register}
 use Rattle.ahci_hba.proofs.hba.Hba.conclude.Goals as goal
 
 pub returns : goal.returns
 returns g c =
     concludes c.args.self.now c.vacate.new.self c.answer.new.self c.args.slot c.args.fis _ _ _ _ c.vacate.ensures c.answer.ensures c.only_after-posting.ensures c.received_put-put.ensures
-    c.encode.ensures.bytes (ap (λ f. Register f.status f.error true c.args.slot) c.fis.view_is)
+    c.encode.ensures.bytes c.fis_ending-ending.ensures.ending

@@ -29,6 +29,12 @@ returns-in_err-execute-in-Execute-clause-err g c =
     hands_on c.from_residual-in_err-execute-in-Execute.result c.in_err-execute-in-Execute.field-0.0 _ _ step.Execute _ c.from_residual-in_err-execute-in-Execute.ensures.1
     (next_is_possible step.Execute c.args.self.now c.args.slot next) next c.in_err-execute-in-Execute.ensures.err.0 c.in_err-execute-in-Execute.ensures.err.1
 
+pub returns-in_err-deliver-in-Deliver-clause-err : goal.returns-in_err-deliver-in-Deliver-clause-err
+returns-in_err-deliver-in-Deliver-clause-err g c =
+    let next = sym c.next.ensures ∙ c.in-Some.is ∙ ap Some c.in-Deliver.is in
+    hands_on c.from_residual-in_err-deliver-in-Deliver.result c.in_err-deliver-in-Deliver.field-0.0 _ _ step.Deliver _ c.from_residual-in_err-deliver-in-Deliver.ensures.1
+    (next_is_possible step.Deliver c.args.self.now c.args.slot next) next c.in_err-deliver-in-Deliver.ensures.err.0 c.in_err-deliver-in-Deliver.ensures.err.1
+
 pub returns-in-Control-clause-err : goal.returns-in-Control-clause-err
 returns-in-Control-clause-err g c =
     never_fails c.control.result _ _ _ (next_is_possible step.Control c.args.self.now c.args.slot (sym c.next.ensures ∙ c.in-Some.is ∙ ap Some c.in-Control.is)) c.control.ensures.err

@@ -1,5 +1,5 @@
 use Rattle.ahci_hba.proofs.NewLemmas.{lacks_with, made_with}
-use Rattle.ahci_hba.proofs.hba.Hba.new.Goals as goal
+use Rattle.ahci_hba.proofs.hba.Hba.with_capabilities.Goals as goal
 
 pub returns-clause-fault : goal.returns-clause-fault
 returns-clause-fault g c = made_with c.in_ok-port.port _ _ _ c.in_ok-port.ensures.fault

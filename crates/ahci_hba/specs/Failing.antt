@@ -1,0 +1,133 @@
+-- How the device fails a command that moves sectors (ACS-3, "LBA of first unrecoverable error"): a read has moved the sectors before the LBA
+-- that it names, and a write has changed none and names its first one.
+use Rattle.std.specs.Prelude.{◌≡◌, ℕ, ◌+◌, ◌-◌, ◌*◌, Bool, false, ◌&&◌, ◌||◌, min, nat_eq, nat_le, nat_lt, List, [], Option, Some, None, slice_set, if◌then◌else◌}
+use Rattle.ncq_core.specs.DiskFis.{setup_bytes}
+use Rattle.ncq_journal.specs.Answer.{sectors_at}
+use Rattle.sata_fis.specs.Encoding.{d2h_bytes}
+use Rattle.sata_fis.specs.Fields.{D2hFields, QueuedFields}
+use Rattle.hba_command.specs.Action.{action_of}
+use Rattle.hba_command.specs.Span.{SpanFields}
+use Rattle.hba_command.specs.declared.action.Action.{Action}
+use Rattle.hba_command.specs.declared.action.Action.TheVariants.{Queue, Sectors, Page, Flush, Reply, Control, Abort}
+use Rattle.hba_command.specs.declared.entry.PrdEntry.{PrdEntry}
+use Rattle.hba_command.specs.declared.protocol.Protocol.{Protocol}
+use Rattle.hba_command.specs.declared.protocol.Protocol.TheVariants.{Pio, Dma}
+use Rattle.hba_memory.specs.Posting.{PostingView}
+use Rattle.hba_memory.specs.Runs.{placed}
+use Rattle.hba_regs.specs.HbaState.{HbaState}
+use Rattle.ahci_port.specs.PortView.{PortView, sectors_in}
+use Rattle.ahci_port.specs.Steps.{IsStepped}
+use Rattle.ahci_port.specs.declared.step.DeviceStep.TheVariants as step
+use Rattle.ahci_port.specs.declared.step.Stepped.{Stepped}
+use Rattle.ahci_hba.specs.Delivering.{beginning, d2h_fis, fis_ending, last_ending, last_put, read_answer, received_put}
+use Rattle.ahci_hba.specs.HbaView.{HbaView}
+use Rattle.ahci_hba.specs.Moving.{answering}
+use Rattle.ahci_hba.specs.Queueing.{command_at, fis_put, list_in, only_after, task_in}
+use Rattle.ahci_hba.specs.Transfer.{fits}
+use Rattle.ahci_hba.specs.declared.ending.Ending.TheVariants as ending
+
+-- a slot's command ends with a D2H Register FIS, and the slot is empty
+abbrev pub vacated : HbaView → ℕ → HbaView
+vacated h slot = record h { slots = slice_set h.slots slot None }
+
+abbrev pub concluded : HbaView → ℕ → D2hFields → HbaView
+concluded h slot fis =
+    answering (vacated h slot) (only_after (received_put h.registers 0x40 (d2h_bytes fis))) (fis_ending slot fis)
+
+-- an error at an LBA
+abbrev pub refused : ℕ → ℕ → D2hFields
+refused error lba = d2h_fis 0x41 error lba 0
+
+-- how many sectors from an LBA on a read has moved before another one, at most so many: those that the disk has
+abbrev pub sectors_before : PortView → (first sectors lba : ℕ) → ℕ
+sectors_before port first sectors lba = min (lba - first) (min sectors (sectors_in port - first))
+
+-- the sectors as the image has them now
+abbrev pub sectors_of : PortView → (first sectors : ℕ) → List ℕ
+sectors_of port first sectors = sectors_at port.starting port.past first sectors
+
+-- some sectors go to the driver, and then the error
+abbrev pub moved_before : HbaView → ℕ → Protocol → List PrdEntry → List ℕ → ℕ → D2hFields → HbaView
+moved_before h slot Dma list bytes n fis = read_answer h slot list bytes (512 * n) fis
+moved_before h slot Pio list bytes n fis = beginning h slot false n (record { list = list; bytes = bytes }) (Some fis)
+
+-- a read that is not queued fails: with no sector before the LBA, the FIS comes alone
+abbrev pub read_failed : HbaView → ℕ → Protocol → List PrdEntry → (first n error lba : ℕ) → HbaView
+read_failed h slot p list first n error lba =
+    if nat_eq n 0 then concluded h slot (refused error lba)
+    else moved_before (vacated h slot) slot p list (sectors_of h.port first n) n (refused error lba)
+
+abbrev pub sectors_failed : HbaView → ℕ → List PrdEntry → Bool → SpanFields → Protocol → (error lba : ℕ) → HbaView
+sectors_failed h slot list write span p error lba =
+    if write then concluded h slot (refused error span.lba)
+    else read_failed h slot p list span.lba (sectors_before h.port span.lba span.sectors lba) error lba
+
+-- the device fails a command that is not queued with an error at an LBA
+abbrev pub refused_with : HbaView → ℕ → List PrdEntry → Action → (error lba : ℕ) → HbaView
+refused_with h slot list (Sectors write span p) error lba = sectors_failed h slot list write span p error lba
+refused_with h slot list (Queue q) error lba = concluded h slot (refused error lba)
+refused_with h slot list (Page page p) error lba = concluded h slot (refused error lba)
+refused_with h slot list Flush error lba = concluded h slot (refused error lba)
+refused_with h slot list (Reply r) error lba = concluded h slot (refused error lba)
+refused_with h slot list (Control reset) error lba = concluded h slot (refused error lba)
+refused_with h slot list Abort error lba = concluded h slot (refused error lba)
+
+abbrev pub refused_at : HbaView → ℕ → (error lba : ℕ) → HbaView
+refused_at h slot error lba = refused_with h slot (list_in (command_at h slot)) (action_of (task_in (command_at h slot))) error lba
+
+-- a queued command, if an LBA is one of its sectors
+abbrev pub owns : QueuedFields → ℕ → Bool
+owns q lba = nat_le q.lba lba && nat_lt lba (q.lba + q.sectors)
+
+abbrev pub own_queued : Action → ℕ → Option QueuedFields
+own_queued (Queue q) lba = if owns q lba then Some q else None
+own_queued (Sectors write span p) lba = None
+own_queued (Page page p) lba = None
+own_queued Flush lba = None
+own_queued (Reply r) lba = None
+own_queued (Control reset) lba = None
+own_queued Abort lba = None
+
+-- the command of a slot
+abbrev pub own_in : HbaView → ℕ → ℕ → Option QueuedFields
+own_in h slot lba = own_queued (action_of (task_in (command_at h slot))) lba
+
+-- and the LBA that it names if it fails there
+abbrev pub fails_at : QueuedFields → ℕ → ℕ
+fails_at q lba = if q.write then q.lba else lba
+
+-- how many sectors of a queued command have moved then
+abbrev pub moved_sectors : PortView → QueuedFields → ℕ → ℕ
+moved_sectors port q lba = if q.write then 0 else sectors_before port q.lba q.sectors lba
+
+-- the answer to a queued command that fails: the sectors before the LBA after a DMA Setup FIS, whose tag is the slot, and a Set Device Bits FIS with ERR
+abbrev pub failed_posting : HbaState → PortView → (slot : ℕ) → QueuedFields → List PrdEntry → List ℕ → ℕ → PostingView
+failed_posting s port slot q list bytes n =
+    if nat_eq n 0 then only_after (fis_put s port 0x58 8)
+    else record {
+      before = received_put s 0x00 (setup_bytes (record q { tag = slot }));
+      content = placed list bytes;
+      count = [];
+      after = last_put (fits (512 * n) list) (fis_put s port 0x58 8);
+    }
+
+abbrev pub queue_failed : HbaView → PortView → (slot : ℕ) → QueuedFields → List PrdEntry → List ℕ → ℕ → ℕ → HbaView
+queue_failed h port slot q list bytes n error =
+    answering (record h { port = port }) (failed_posting h.registers port slot q list bytes n)
+    (last_ending (nat_eq n 0 || fits (512 * n) list) (ending.Bits 0x41 error 0))
+
+-- the port fails the request of a slot at a sector
+pub record FailsRequest (slot error at : ℕ) (old new : HbaView) : Type 0 where
+  pub answer : Stepped
+  pub stepped : IsStepped (step.Fail slot error at) old.port new.port answer
+  pub rest : new ≡ record old { port = new.port }
+
+pub record IsFailed (slot error lba : ℕ) (q : QueuedFields) (old new : HbaView) : Type 0 where
+  pub middle : HbaView
+  pub failed : FailsRequest slot error (fails_at q lba) old middle
+  pub answered : new ≡ queue_failed old middle.port slot q (list_in (command_at old slot)) (sectors_of old.port q.lba (moved_sectors old.port q lba)) (moved_sectors old.port q lba) error
+
+-- of the command of a slot
+abbrev pub Fails : (slot error lba : ℕ) → Option QueuedFields → HbaView → HbaView → Type 0
+Fails slot error lba (Some q) old new = IsFailed slot error lba q old new
+Fails slot error lba None old new = ⊥

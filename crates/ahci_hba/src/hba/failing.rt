@@ -1,0 +1,325 @@
+//! How the device fails a command that moves sectors (ACS-3, "LBA of first unrecoverable error").
+
+ghost use Rattle.std.specs.Prelude.{◌≡◌, ◌≤◌, ◌<◌, ◌-◌, ◌^◌, IfErr, IfOk, OnOk};
+ghost use Rattle.hba_memory.specs.Posting.{listed};
+ghost use Rattle.ncq_core.specs.DiskFis.{setup_bytes};
+ghost use Rattle.ahci_port.specs.PortView.{sectors_in};
+ghost use Rattle.ahci_hba.specs.Delivering.{received_put};
+ghost use Rattle.ahci_hba.specs.Failing.{concluded, failed_posting, fails_at, moved_before, moved_sectors, own_queued, owns, queue_failed, read_failed, refused, refused_with, sectors_before, sectors_failed, sectors_of, vacated};
+ghost use Rattle.ahci_hba.specs.Queueing.{command_at, list_in};
+
+use crate::command::Command;
+use crate::ending::Ending;
+use crate::fault::HbaFault;
+use crate::hba::Hba;
+use crate::hba::answering::{DMA_SETUP, REGISTER, SET_BITS};
+use crate::hba::delivering::{d2h_fis, fis_ending, fits, last_ending, last_put};
+use ahci_port::Port;
+use hba_command::{Action, PrdEntry, Protocol, Span};
+use hba_memory::{Blocks, Posting, Scatter, SmallPut};
+use sata_fis::{D2h, DmaSetup, Fis, Queued};
+use std::alloc::{AllocError, Allocator};
+
+/// The FIS of an error at an LBA.
+fn refused(error: u8, lba: u64) -> D2h
+    requires { lba < 2 ^ 48 }
+    ensures { result ≡ refused error lba }
+{
+    d2h_fis(0x41, error, lba, 0)
+}
+
+/// How many sectors from an LBA on a read has moved before another one, at most so many: those that the disk has.
+fn sectors_before<A: Allocator>(port: &Port<A>, first: u64, sectors: u32, lba: u64) -> u32
+    ensures value { result ≡ sectors_before port.now first sectors lba }
+    ensures most { result ≤ sectors }
+    ensures there { result ≤ sectors_in port.now - first }
+{
+    let there = u64::from(port.sectors()).saturating_sub(first);
+    lba.saturating_sub(first).min(u64::from(sectors).min(there)) as u32
+}
+
+/// How many sectors of a queued command have moved before it fails at an LBA.
+fn moved_sectors<A: Allocator>(port: &Port<A>, queued: &Queued, lba: u64) -> u32
+    ensures value { result ≡ moved_sectors port.now queued.now lba }
+    ensures there { result ≤ sectors_in port.now - queued.now.lba }
+    ensures most { result ≤ 65536 }
+{
+    if queued.write {
+        return 0;
+    }
+    sectors_before(port, queued.lba, queued.sectors, lba)
+}
+
+/// Some sectors as the image has them now.
+#[tactic(auto, using(crate::proofs::FailingLemmas::one_sector_more))]
+fn sectors_of<A: Allocator + Copy>(
+    alloc: A,
+    port: &Port<A>,
+    first: u64,
+    sectors: u32,
+) -> Result<Vec<u8, A>, AllocError>
+    requires first { first < 2 ^ 48 }
+    requires there { sectors ≤ sectors_in port.now - first }
+    ensures { IfOk result (λ v. v.items ≡ sectors_of port.now first sectors) }
+{
+    let mut bytes = Vec::new(alloc);
+    for index in 0..sectors {
+        let mut sector = [0; 512];
+        port.copy(first + u64::from(index), &mut sector);
+        bytes.extend_from_slice(&sector)?;
+    }
+    Ok(bytes)
+}
+
+impl<A: Allocator + Copy> Hba<A> {
+    /// Empties a slot, below 32.
+    pub(super) fn vacate(&mut self, slot: u8)
+        requires { slot < 32 }
+        ensures { self.new ≡ vacated self.old slot }
+    {
+        self.slots[usize::from(slot)] = None;
+    }
+
+    /// Ends the command of a slot, below 32, with a D2H Register FIS; the slot is empty.
+    pub(super) fn conclude(&mut self, slot: u8, fis: D2h)
+        requires { slot < 32 }
+        ensures { self.new ≡ concluded self.old slot fis }
+    {
+        let ending = fis_ending(slot, &fis);
+        self.vacate(slot);
+        let put = self.received_put(REGISTER, Fis::D2h(fis).encode());
+        let posting = self.only_after(put);
+        self.answer(posting, ending);
+    }
+
+    /// Some sectors go to the driver for a slot, below 32, and then an error.
+    fn move_before(
+        &mut self,
+        slot: u8,
+        protocol: Protocol,
+        list: Vec<PrdEntry, A>,
+        bytes: Vec<u8, A>,
+        sectors: u32,
+        fis: D2h,
+    )
+        requires slot { slot < 32 }
+        requires sectors { sectors ≤ 65536 }
+        ensures { self.new ≡ moved_before self.old slot protocol list.items bytes.items sectors fis }
+    {
+        match protocol {
+            Protocol::Dma => self.read_answer(slot, list, bytes, 512 * sectors, fis),
+            Protocol::Pio => {
+                self.begin(slot, false, sectors, Blocks::new(list, bytes), Some(fis))
+            }
+        }
+    }
+
+    /// A read that is not queued fails, for a slot below 32: so many sectors from the first one on have moved.
+    fn fail_read(
+        &mut self,
+        slot: u8,
+        protocol: Protocol,
+        first: u64,
+        sectors: u32,
+        error: u8,
+        lba: u64,
+    ) -> Result<(), HbaFault>
+        requires slot { slot < 32 }
+        requires first { first < 2 ^ 48 }
+        requires lba { lba < 2 ^ 48 }
+        requires sectors { sectors ≤ 65536 }
+        requires there { sectors ≤ sectors_in self.old.port - first }
+        ensures ok { OnOk result (self.new ≡ read_failed self.old slot protocol (list_in (command_at self.old slot)) first sectors error lba) }
+        ensures err { IfErr result (λ e. (e ≡ HbaFault.OutOfMemory) × (self.new ≡ self.old)) }
+    {
+        if sectors == 0 {
+            self.conclude(slot, refused(error, lba));
+            return Ok(());
+        }
+        let bytes = sectors_of(self.alloc, &self.port, first, sectors)?;
+        let (_, list) = self.take_command(slot);
+        self.move_before(slot, protocol, list, bytes, sectors, refused(error, lba));
+        Ok(())
+    }
+
+    /// A command that is not queued and moves sectors fails, for a slot below 32.
+    pub(super) fn fail_sectors(
+        &mut self,
+        slot: u8,
+        write: bool,
+        span: &Span,
+        protocol: Protocol,
+        error: u8,
+        lba: u64,
+    ) -> Result<(), HbaFault>
+        requires slot { slot < 32 }
+        requires lba { lba < 2 ^ 48 }
+        ensures ok { OnOk result (self.new ≡ sectors_failed self.old slot (list_in (command_at self.old slot)) write span.now protocol error lba) }
+        ensures err { IfErr result (λ e. (e ≡ HbaFault.OutOfMemory) × (self.new ≡ self.old)) }
+    {
+        if write {
+            self.conclude(slot, refused(error, span.lba));
+            return Ok(());
+        }
+        let sectors = sectors_before(&self.port, span.lba, span.sectors, lba);
+        self.fail_read(slot, protocol, span.lba, sectors, error, lba)
+    }
+
+    /// A command that is not queued fails, for a slot below 32.
+    pub(super) fn refuse_with(
+        &mut self,
+        slot: u8,
+        action: &Action,
+        error: u8,
+        lba: u64,
+    ) -> Result<(), HbaFault>
+        requires slot { slot < 32 }
+        requires lba { lba < 2 ^ 48 }
+        ensures ok { OnOk result (self.new ≡ refused_with self.old slot (list_in (command_at self.old slot)) action.now error lba) }
+        ensures err { IfErr result (λ e. (e ≡ HbaFault.OutOfMemory) × (self.new ≡ self.old)) }
+    {
+        match action {
+            Action::Sectors {
+                write,
+                span,
+                protocol,
+            } => self.fail_sectors(slot, *write, span, *protocol, error, lba),
+            Action::Queue(_) | Action::Page(_, _) | Action::Flush | Action::Reply(_) => {
+                self.conclude(slot, refused(error, lba));
+                Ok(())
+            }
+            Action::Control { .. } | Action::Abort => {
+                self.conclude(slot, refused(error, lba));
+                Ok(())
+            }
+        }
+    }
+}
+
+impl<A: Allocator> Hba<A> {
+    /// The DMA Setup FIS of a queued command of a slot, below 32, which is its tag.
+    fn queue_setup_put(&self, slot: u8, queued: &Queued) -> Option<SmallPut>
+        requires { slot < 32 }
+        ensures { listed result ≡ received_put self.now.registers 0x00 (setup_bytes (record queued.now { tag = slot })) }
+    {
+        let fis = DmaSetup {
+            a: false,
+            i: false,
+            d: !queued.write,
+            tag: slot,
+            offset: 0,
+            count: 512 * queued.sectors,
+        };
+        self.received_put(DMA_SETUP, Fis::DmaSetup(fis).encode())
+    }
+}
+
+impl<A: Allocator + Copy> Hba<A> {
+    /// What the answer to a queued command that fails writes, with the sectors that have moved.
+    fn failed_posting(
+        &self,
+        slot: u8,
+        queued: &Queued,
+        list: Vec<PrdEntry, A>,
+        bytes: Vec<u8, A>,
+        sectors: u32,
+    ) -> Posting<A>
+        requires slot { slot < 32 }
+        requires sectors { sectors ≤ 65536 }
+        ensures { result ≡ failed_posting self.now.registers self.now.port slot queued.now list.items bytes.items sectors }
+    {
+        let fis = self.fis_put(SET_BITS, 8);
+        if sectors == 0 {
+            return self.only_after(fis);
+        }
+        let whole = fits(512 * sectors, &list);
+        Posting::new(
+            self.queue_setup_put(slot, queued),
+            Scatter::new(list, bytes),
+            None,
+            last_put(whole, fis),
+        )
+    }
+
+    /// The answer to a queued command that fails.
+    pub(super) fn answer_failure(
+        &mut self,
+        slot: u8,
+        queued: &Queued,
+        list: Vec<PrdEntry, A>,
+        bytes: Vec<u8, A>,
+        sectors: u32,
+        error: u8,
+    )
+        requires slot { slot < 32 }
+        requires sectors { sectors ≤ 65536 }
+        ensures { self.new ≡ queue_failed self.old self.old.port slot queued.now list.items bytes.items sectors error }
+    {
+        let whole = sectors == 0 || fits(512 * sectors, &list);
+        let ending = Ending::Bits {
+            status: 0x41,
+            error,
+            sactive: 0,
+        };
+        let posting = self.failed_posting(slot, queued, list, bytes, sectors);
+        self.answer(posting, last_ending(whole, ending));
+    }
+
+    /// The list of the command of a slot, below 32, copied.
+    pub(super) fn copy_list(&self, slot: u8) -> Result<Vec<PrdEntry, A>, AllocError>
+        requires { slot < 32 }
+        ensures { IfOk result (λ v. v.items ≡ list_in (command_at self.now slot)) }
+    {
+        match &self.slots[usize::from(slot)] {
+            Some(slot) => match &slot.command {
+                Command::Fetched(_, list, _) => Vec::from_slice(self.alloc, list),
+                Command::Sent(_, list) => Vec::from_slice(self.alloc, list),
+            },
+            None => Ok(Vec::new(self.alloc)),
+        }
+    }
+
+    /// The sectors that a queued command has moved before it fails at an LBA, and how many they are.
+    pub(super) fn moved_sectors(
+        &self,
+        queued: &Queued,
+        lba: u64,
+    ) -> Result<(Vec<u8, A>, u32), AllocError>
+        ensures bytes { IfOk result (λ r. r.0.items ≡ sectors_of self.now.port queued.now.lba (moved_sectors self.now.port queued.now lba)) }
+        ensures count { IfOk result (λ r. r.1 ≡ moved_sectors self.now.port queued.now lba) }
+        ensures most { IfOk result (λ r. r.1 ≤ 65536) }
+    {
+        let sectors = moved_sectors(&self.port, queued, lba);
+        let bytes = sectors_of(self.alloc, &self.port, queued.lba, sectors)?;
+        Ok((bytes, sectors))
+    }
+}
+
+/// Whether an LBA is one of a queued command's sectors.
+fn owns(queued: &Queued, lba: u64) -> bool
+    ensures { result ≡ owns queued.now lba }
+{
+    queued.lba <= lba && lba < queued.lba + u64::from(queued.sectors)
+}
+
+/// A queued command, if an LBA is one of its sectors.
+pub(super) fn own_queued(action: &Action, lba: u64) -> Option<Queued>
+    ensures { result ≡ own_queued action.now lba }
+{
+    match action {
+        Action::Queue(queued) => if owns(queued, lba) {
+            Some(*queued)
+        } else {
+            None
+        },
+        Action::Sectors { .. } | Action::Page(_, _) | Action::Flush | Action::Reply(_) => None,
+        Action::Control { .. } | Action::Abort => None,
+    }
+}
+
+/// The LBA that a queued command names if it fails at one of its sectors.
+pub(super) fn fails_at(queued: &Queued, lba: u64) -> u64
+    ensures { result ≡ fails_at queued.now lba }
+{
+    if queued.write { queued.lba } else { lba }
+}

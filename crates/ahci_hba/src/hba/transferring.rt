@@ -1,0 +1,134 @@
+//! How the data of a command by PIO move, block by block (Serial ATA, "PIO Setup"; ACS-3, "PIO data-in command protocol").
+
+ghost use Rattle.std.specs.Prelude.{◌≡◌, ◌<◌, false, IfOk, OnErr, OnOk};
+ghost use Rattle.hba_memory.specs.Blocks.{block_puts};
+ghost use Rattle.ahci_hba.specs.Delivering.{block_in, block_out, block_posting, content_of, finishing, going_on, gone_on, only_before, setup_put, stepped_on};
+ghost use Rattle.ahci_hba.specs.Transfer.{next_block};
+
+use crate::ending::Ending;
+use crate::hba::Hba;
+use crate::transfer::Transfer;
+use crate::work::Work;
+use hba_memory::{Posting, Scatter};
+use std::alloc::{AllocError, Allocator};
+use std::mem;
+
+impl<A: Allocator> Hba<A> {
+    /// What a block to the driver writes: a PIO Setup FIS, the block, and PRDBC with the bytes so far.
+    fn block_posting(&self, transfer: &Transfer<A>, content: Scatter<A>, e_status: u8) -> Posting<A>
+        requires { content ≡ block_puts transfer.now.rest }
+        ensures { result ≡ block_posting self.now.registers transfer.now e_status }
+    {
+        Posting::new(
+            self.setup_put(true, true, e_status),
+            content,
+            self.count_put(transfer.slot(), transfer.moved_so_far()),
+            None,
+        )
+    }
+
+    /// A block of a read.
+    fn block_in(&mut self, transfer: Transfer<A>, content: Scatter<A>)
+        requires left { 0 < transfer.left }
+        requires content { content ≡ block_puts transfer.rest }
+        ensures { self.new ≡ block_in self.old transfer }
+    {
+        let slot = transfer.slot();
+        if !transfer.fits() {
+            let posting = self.block_posting(&transfer, content, transfer.e_status());
+            self.answer(posting, Ending::PioOverflow);
+        } else if transfer.is_last() {
+            let posting = self.block_posting(&transfer, content, 0x40);
+            self.answer(posting, Ending::Pio { slot });
+        } else {
+            let posting = self.block_posting(&transfer, content, 0xC0);
+            self.block(posting, next_of(transfer));
+        }
+    }
+}
+
+/// A transfer behind its next block.
+fn next_of<A: Allocator>(transfer: Transfer<A>) -> Transfer<A>
+    requires { 0 < transfer.left }
+    ensures { result ≡ next_block transfer }
+{
+    let mut next = transfer;
+    next.advance();
+    next
+}
+
+impl<A: Allocator + Copy> Hba<A> {
+    /// An answer of a PIO Setup FIS alone, for a block to the device.
+    fn out_posting(&self, i: bool) -> Posting<A>
+        ensures { result ≡ only_before (setup_put self.now.registers false i 0xC0) }
+    {
+        let content = Scatter::new(Vec::new(self.alloc), Vec::new(self.alloc));
+        Posting::new(self.setup_put(false, i, 0xC0), content, None, None)
+    }
+
+    /// A block of a write, which the transfer has behind it then.
+    fn block_out(&mut self, transfer: Transfer<A>)
+        ensures { self.new ≡ block_out self.old transfer }
+    {
+        let posting = self.out_posting(transfer.has_interrupt());
+        self.block(posting, transfer);
+    }
+
+    /// The end of a transfer, whose blocks are done.
+    fn finish(&mut self, transfer: Transfer<A>)
+        ensures { self.new ≡ finishing self.old transfer transfer.finish }
+    {
+        match transfer.finish() {
+            Some(fis) => self.close(transfer.slot(), 512 * transfer.done(), fis),
+            None => self.turn_to(Work::Idle),
+        }
+    }
+
+    /// The next step of a transfer.
+    fn move_on(&mut self, transfer: Transfer<A>, content: Scatter<A>)
+        requires { content ≡ block_puts transfer.rest }
+        ensures { self.new ≡ going_on self.old transfer }
+    {
+        if transfer.left() == 0 {
+            self.finish(transfer);
+        } else if transfer.is_write() {
+            self.block_out(next_of(transfer));
+        } else {
+            self.block_in(transfer, content);
+        }
+    }
+
+    /// The next block of a transfer, on its way.
+    fn next_content(&self) -> Result<Scatter<A>, AllocError>
+        ensures { IfOk result (λ s. s ≡ content_of self.now.work) }
+    {
+        match &self.work {
+            Work::Pio(transfer) => transfer.rest().block(self.alloc),
+            _ => Ok(Scatter::new(Vec::new(self.alloc), Vec::new(self.alloc))),
+        }
+    }
+
+    /// Puts together the next block of a transfer, while FRE is 1.
+    pub(super) fn go_on(&mut self) -> Result<(), AllocError>
+        ensures ok { OnOk result (self.new ≡ gone_on self.old self.old.work) }
+        ensures err { OnErr result (self.new ≡ self.old) }
+    {
+        if self.registers.is_receiving() {
+            return self.step_on();
+        }
+        Ok(())
+    }
+
+    /// Puts together the next block of a transfer.
+    fn step_on(&mut self) -> Result<(), AllocError>
+        ensures ok { OnOk result (self.new ≡ stepped_on self.old self.old.work) }
+        ensures err { OnErr result (self.new ≡ self.old) }
+    {
+        let content = self.next_content()?;
+        match mem::replace(&mut self.work, Work::Idle) {
+            Work::Pio(transfer) => self.move_on(transfer, content),
+            other => self.work = other,
+        }
+        Ok(())
+    }
+}
