@@ -1,3 +1,5 @@
+mod blocks;
+mod capabilities;
 mod commands;
 mod drivers;
 mod edk2;

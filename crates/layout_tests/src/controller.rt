@@ -5,13 +5,14 @@ use Row::{Bits, Commands, Does, Halted, Line, Read, Register, Signature, Write};
 use hba_regs::{AccessSize, Consequence, Fatal, HbaRegs};
 use std::process::Abort;
 
+mod capabilities;
 mod drivers;
 mod links;
 mod sizes;
 
 /// Each register that isn't 0 after power-on, and its word.
 static NEW: [(u32, u32); 10] = [
-    (0x000, 0xc124_1f00),
+    (0x000, 0xc124_9f00),
     (0x004, 0x8000_0000),
     (0x00c, 0x0000_0001),
     (0x010, 0x0001_0301),
@@ -204,7 +205,11 @@ fn of_a_slot(rt: &impl Abort, regs: &mut HbaRegs, number: usize, row: Row) {
 
 /// Takes the registers after power-on through the rows of a table.
 fn plays(rt: &impl Abort, rows: &[Row]) {
-    let mut regs = HbaRegs::new();
+    plays_on(rt, HbaRegs::new(), rows);
+}
+
+/// Takes registers through the rows of a table.
+fn plays_on(rt: &impl Abort, mut regs: HbaRegs, rows: &[Row]) {
     for (number, row) in rows.iter().enumerate() {
         goes(rt, &mut regs, number, *row);
     }
@@ -216,7 +221,7 @@ static INITIALISED: [Row; 36] = [
     Read(0x004, 0x8000_0000),
     Read(0x00c, 0x0000_0001),
     Read(0x118, 0x0000_0006),
-    Read(0x000, 0xc124_1f00),
+    Read(0x000, 0xc124_9f00),
     Write(0x100, 0x1234_5400),
     Write(0x104, 0x0000_0001),
     Write(0x108, 0x1234_5100),

@@ -7,8 +7,8 @@ use crate::tests::playing::Row::{
 use crate::tests::playing::{Pieces, Player, Row, Story, plays};
 use crate::tests::registers::{PX_CI, PX_CMD, PX_IS, PX_SACT, PX_TFD};
 use crate::tests::setting::{
-    DATA, IDENTIFY, LIST, MEMORY, NO_PIECES, NONE, ONE, OTHER, READ, READ_DMA, RECEIVED, RESTART,
-    SECTOR, START, TABLE,
+    DATA, IDENTIFY, LIST, MEMORY, NO_PIECES, NONE, ONE, OTHER, READ, READ_DMA, READ_LOG, RECEIVED,
+    RESTART, SECTOR, START, TABLE,
 };
 use ahci_port::{EventKind, Plain};
 use std::process::Abort;
@@ -218,7 +218,7 @@ fn each_read_sees_each_write(rt: HostRuntime) -> Result<(), Fail> {
     Ok(())
 }
 
-/// A command that passes the last sector: IDNF, and nothing moves.
+/// A write that passes the last sector: IDNF names its first one, and nothing moves (ACS-3, "LBA of first unrecoverable error").
 const BEYOND: &[Row] = &[
     Fills(DATA, 1024, 0xAA),
     Lays(
@@ -230,7 +230,7 @@ const BEYOND: &[Row] = &[
     ),
     Writes(PX_CI, 1),
     Does(0),
-    Row::Answered(0x41, 0x10, 8, 0),
+    Row::Answered(0x41, 0x10, 7, 0),
     Reads(PX_IS, 0x4000_0001),
     Reads(PX_CI, 1),
     Sector(7, 0),
@@ -248,6 +248,47 @@ const READ_BEYOND: &[Row] = &[
     Does(0),
     Row::Answered(0x41, 0x10, 9, 0),
     HasAll(DATA, 1024, 0xAA),
+];
+
+/// A read that passes the last sector: those that there are move, and IDNF names the first one that is not there.
+const READ_PAST: &[Row] = &[
+    Fills(DATA, 2048, 0xAA),
+    Lays(
+        0,
+        ONE,
+        TABLE,
+        [0x2780_C800, 0x0600_0040, 0, 0x0400_0000],
+        These(&[(DATA, 2048)]),
+    ),
+    Writes(PX_CI, 1),
+    Does(0),
+    Row::Answered(0x41, 0x10, 8, 0),
+    Reads(PX_IS, 0x4000_0001),
+    Reads(PX_CI, 1),
+    Has(LIST + 4, &[0, 4, 0, 0]),
+    HasAll(DATA, 1024, 0),
+    HasAll(DATA + 1024, 1024, 0xAA),
+];
+
+/// The same by PIO: a block for each sector that there is.
+const READ_PAST_BY_PIO: &[Row] = &[
+    Fills(DATA, 2048, 0xAA),
+    Lays(
+        0,
+        ONE,
+        TABLE,
+        [0x2780_2000, 0x0600_0040, 0, 0x0400_0000],
+        These(&[(DATA, 2048)]),
+    ),
+    Writes(PX_CI, 1),
+    Does(0),
+    Row::Answered(0x41, 0x10, 8, 0),
+    Reads(PX_IS, 0x4000_0003),
+    Reads(PX_CI, 1),
+    Has(LIST + 4, &[0, 4, 0, 0]),
+    Has(RECEIVED + 0x2F, &[0xC0]),
+    HasAll(DATA, 1024, 0),
+    HasAll(DATA + 1024, 1024, 0xAA),
 ];
 
 /// A queued command beyond the last sector: the refusal is a D2H Register FIS, and PxCI and PxSACT keep its bits.
@@ -295,6 +336,97 @@ const REFUSED: &[Row] = &[
     Reads(PX_TFD, 0x4041),
     Reads(PX_CI, 1),
     HasAll(DATA, 512, 0xAA),
+];
+
+/// It fails after two sectors of three, which have moved; and a write, which has changed none and names its first one.
+const REFUSED_LATER: &[Row] = &[
+    Fills(DATA, 1536, 0xAA),
+    Lays(
+        0,
+        ONE,
+        TABLE,
+        [0x2780_C800, 0x0200_0040, 0, 0x0300_0000],
+        These(&[(DATA, 1536)]),
+    ),
+    Writes(PX_CI, 1),
+    Row::Fetches(0),
+    Refuses(0, 0x40, 4),
+    Row::Answered(0x41, 0x40, 4, 0),
+    Reads(PX_CI, 1),
+    Has(LIST + 4, &[0, 4, 0, 0]),
+    HasAll(DATA, 1024, 0),
+    HasAll(DATA + 1024, 512, 0xAA),
+];
+
+const WRITE_REFUSED: &[Row] = &[
+    Lays(
+        0,
+        ONE,
+        TABLE,
+        [0x2780_CA00, 0x0200_0040, 0, 0x0300_0000],
+        These(&[(DATA, 1536)]),
+    ),
+    Writes(PX_CI, 1),
+    Row::Fetches(0),
+    Refuses(0, 0x10, 4),
+    Row::Answered(0x41, 0x10, 2, 0),
+    Sector(2, 0),
+];
+
+/// The disk fails a queued read of three sectors at its last one: a DMA Setup FIS (Serial ATA, "DMA Setup"), two sectors, and a Set Device Bits FIS
+/// with ERR. It fails a queued write at its last one: log 10h names the first one.
+const QUEUE_FAILED: &[Row] = &[
+    Fills(DATA, 1536, 0xAA),
+    Fills(RECEIVED, 256, 0xEE),
+    Lays(
+        1,
+        ONE,
+        OTHER,
+        [0x2780_6003, 0x0200_0040, 0, 0x0800_0000],
+        These(&[(DATA, 1536)]),
+    ),
+    Writes(PX_SACT, 2),
+    Writes(PX_CI, 2),
+    Takes(1),
+    Row::Fails(1, 0x40, 4),
+    Reads(PX_TFD, 0x4041),
+    Reads(PX_IS, 0x4000_0008),
+    Reads(PX_SACT, 2),
+    Has(RECEIVED, &[0x41, 0x20, 0, 0, 1, 0, 0, 0]),
+    Has(RECEIVED + 20, &[0, 6, 0, 0]),
+    Has(RECEIVED + 0x58, &[0xA1, 0x40, 0x41, 0x40, 0, 0, 0, 0]),
+    HasAll(DATA, 1024, 0),
+    HasAll(DATA + 1024, 512, 0xAA),
+];
+
+const READ_THE_LOG: &[Row] = &[
+    Lays(0, ONE, TABLE, READ_LOG, SECTOR),
+    Writes(PX_CI, 1),
+    Does(0),
+    Has(DATA, &[1, 0, 0x41, 0x40, 4]),
+];
+
+const QUEUED_WRITE_FAILED: &[Row] = &[
+    Lays(
+        1,
+        ONE,
+        OTHER,
+        [0x2780_6103, 0x0200_0040, 0, 0x0800_0000],
+        These(&[(DATA, 1536)]),
+    ),
+    Writes(PX_SACT, 2),
+    Writes(PX_CI, 2),
+    Takes(1),
+    Row::Fails(1, 0x10, 4),
+    Reads(PX_IS, 0x4000_0008),
+    Sector(2, 0),
+];
+
+const LOG_OF_THE_WRITE: &[Row] = &[
+    Lays(0, ONE, TABLE, READ_LOG, SECTOR),
+    Writes(PX_CI, 1),
+    Does(0),
+    Has(DATA, &[1, 0, 0x41, 0x10, 2]),
 ];
 
 /// While FRE is 0 no FIS is accepted (AHCI 1.3.1, section 3.3.7, FRE): a command is sent, and answered once FRE is 1.
@@ -369,9 +501,25 @@ static FAILING: Story = Story {
         RESTART,
         READ_BEYOND,
         RESTART,
+        READ_PAST,
+        RESTART,
+        READ_PAST_BY_PIO,
+        RESTART,
         MIXED,
         RESTART,
         REFUSED,
+        RESTART,
+        REFUSED_LATER,
+        RESTART,
+        WRITE_REFUSED,
+        RESTART,
+        QUEUE_FAILED,
+        RESTART,
+        READ_THE_LOG,
+        RESTART,
+        QUEUED_WRITE_FAILED,
+        RESTART,
+        LOG_OF_THE_WRITE,
         RESTART,
         LOGS,
         RESTART,
@@ -380,6 +528,8 @@ static FAILING: Story = Story {
 };
 
 #[test]
-fn a_command_that_fails_moves_nothing(rt: HostRuntime) -> Result<(), Fail> {
+fn a_read_that_fails_moves_what_comes_before_and_a_write_nothing(
+    rt: HostRuntime,
+) -> Result<(), Fail> {
     plays(&rt, rt.alloc(), &FAILING)
 }

@@ -45,15 +45,15 @@ const ONE: Pieces = These(&[(0x1E5F_E000, 0x8000_0200)]);
 const TWO: Pieces = These(&[(0x1E5F_E000, 0x8000_0400)]);
 
 const RESET: &[Row] = &[
-    Reads(CAP, 0xC124_1F00),
+    Reads(CAP, 0xC124_9F00),
     Reads(GHC, 0x8000_0000),
     Reads(GHC, 0x8000_0000),
     Writes(GHC, 0x8000_0001),
     Reads(GHC, 0x8000_0000),
-    Reads(CAP, 0xC124_1F00),
+    Reads(CAP, 0xC124_9F00),
     Reads(GHC, 0x8000_0000),
     Reads(PI, 1),
-    Reads(CAP, 0xC124_1F00),
+    Reads(CAP, 0xC124_9F00),
     Reads(PI, 1),
 ];
 
@@ -82,7 +82,7 @@ const PORT: &[Row] = &[
 
 /// Before each command.
 const STARTED: &[Row] = &[
-    Reads(CAP, 0xC124_1F00),
+    Reads(CAP, 0xC124_9F00),
     Reads(PX_SERR, 0),
     Writes(PX_SERR, 0),
     ReadsBits(PX_IS, 0x4040_0040, 0),

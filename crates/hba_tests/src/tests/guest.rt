@@ -107,10 +107,15 @@ pub fn take<A: Allocator + Copy>(hba: &mut Hba<A>, guest: &mut Guest, slot: u8) 
     }
 }
 
+/// Lets the disk take one step with the command of a slot.
+pub fn step<A: Allocator + Copy>(hba: &mut Hba<A>, guest: &mut Guest, slot: u8) {
+    let _ = hba.step(slot % 32);
+    settle(hba, guest);
+}
+
 /// Lets the disk take each step with the command of a slot.
 pub fn end<A: Allocator + Copy>(hba: &mut Hba<A>, guest: &mut Guest, slot: u8) {
-    for _ in 0..5 {
-        let _ = hba.step(slot % 32);
-        settle(hba, guest);
+    for _ in 0..20 {
+        step(hba, guest, slot);
     }
 }

@@ -35,7 +35,7 @@ pub static STORY: Story = Story {
 
 /// Capabilities, some of registers that there are none of, and a reset of the HBA, which ends at once.
 const PROBED: &[Row] = &[
-    Reads(CAP, 0xC124_1F00),
+    Reads(CAP, 0xC124_9F00),
     Reads(GHC, 0x8000_0000),
     Reads(VS, 0x0001_0301),
     Reads(0x24, 0), // CAP2
@@ -46,7 +46,7 @@ const PROBED: &[Row] = &[
     Reads(GHC, 0x8000_0000),
     Writes(GHC, 0x8000_0001),
     Reads(GHC, 0x8000_0000),
-    Writes(CAP, 0xC124_1F00),
+    Writes(CAP, 0xC124_9F00),
     Writes(PI, 1),
     Reads(PI, 1),
     Writes(PX_CMD, 0),

@@ -7,10 +7,10 @@ use crate::tests::playing::Row::{
 };
 use crate::tests::playing::{Row, Story, plays};
 use crate::tests::registers::{
-    PX_CI, PX_CLB, PX_CLBU, PX_CMD, PX_FB, PX_FBU, PX_IS, PX_SACT, PX_SERR,
+    PX_CI, PX_CLB, PX_CLBU, PX_CMD, PX_FB, PX_FBU, PX_IS, PX_SACT, PX_SERR, PX_TFD,
 };
 use crate::tests::setting::{
-    DATA, LIST, MEMORY, ONE, OTHER, READ, READ_DMA, RESTART, SECTOR, START, TABLE, WRITE,
+    COMRESET, DATA, LIST, MEMORY, ONE, OTHER, READ, READ_DMA, RESTART, SECTOR, START, TABLE, WRITE,
 };
 use std::test::Fail;
 
@@ -160,33 +160,62 @@ const READ_HIGH: &[Row] = &[
     Has(0x1_02B6_0458, &[0xA1, 0x40, 0x40, 0, 0, 0, 0, 2]),
 ];
 
-/// Slots beyond the queue depth.
+/// A command that is not queued has any slot. The device aborts a queued one whose tag is at or above its depth of 4 (ACS-3, IDENTIFY DEVICE,
+/// word 75), and takes one below it.
 const HIGH_SLOTS: &[Row] = &[
-    Lays(
-        11,
-        ONE,
-        TABLE,
-        [0x2780_6001, 0x0300_0040, 0, 0x5800_0000],
-        SECTOR,
-    ),
+    Fills(DATA, 512, 0xAA),
     Lays(
         31,
         ONE,
         OTHER,
-        [0x2780_6101, 0x0300_0040, 0, 0xF800_0000],
+        [0x2780_CA00, 0x0300_0040, 0, 0x0100_0000],
         SECTOR,
     ),
-    Fills(DATA, 512, 0xAA),
-    Writes(PX_SACT, 0x8000_0800),
-    Writes(PX_CI, 0x8000_0800),
-    Takes(11),
-    Takes(31),
-    Reads(PX_CI, 0),
+    Writes(PX_CI, 0x8000_0000),
     Does(31),
-    Does(11),
-    Reads(PX_SACT, 0),
+    Reads(PX_CI, 0),
     Sector(3, 0xAA),
+    Fills(DATA, 512, 0),
+    Lays(
+        3,
+        ONE,
+        TABLE,
+        [0x2780_6001, 0x0300_0040, 0, 0x1800_0000],
+        SECTOR,
+    ),
+    Writes(PX_SACT, 8),
+    Writes(PX_CI, 8),
+    Does(3),
+    Reads(PX_SACT, 0),
     HasAll(DATA, 512, 0xAA),
+    Writes(PX_IS, 0xFFFF_FFFF),
+    Fills(DATA, 512, 0x55),
+    Lays(
+        4,
+        ONE,
+        TABLE,
+        [0x2780_6001, 0x0300_0040, 0, 0x2000_0000],
+        SECTOR,
+    ),
+    Writes(PX_SACT, 0x10),
+    Writes(PX_CI, 0x10),
+    Does(4),
+    Row::Answered(0x41, 4, 0, 0),
+    Reads(PX_IS, 0x4000_0001),
+    Reads(PX_SACT, 0x10),
+    Reads(PX_CI, 0x10),
+    HasAll(DATA, 512, 0x55),
+];
+
+/// Entries behind the data are read with the last 32 at most: those behind them lie in no memory.
+const UNREAD: &[Row] = &[
+    Fills(DATA, 512, 0xAA),
+    Lays(0, 0x0040_0005, 0xFD80, READ_DMA, These(&[(DATA, 512)])),
+    Writes(PX_CI, 1),
+    Does(0),
+    Reads(PX_IS, 1),
+    Reads(PX_CI, 0),
+    HasAll(DATA, 512, 0),
 ];
 
 /// A list with more entries, and more bytes in its last one, than the command's sector.
@@ -231,11 +260,68 @@ const COMES_TO_NOTHING: &[Row] = &[
     Reads(PX_SACT, 2),
 ];
 
-const TOO_SHORT: &[Row] = &[Lays(1, ONE, OTHER, READ, These(&[(DATA, 256)]))];
+/// A read whose list is too short: the list is filled, and OFS comes in place of the last FIS (section 6.1.5).
+const TOO_SHORT: &[Row] = &[
+    Fills(DATA, 512, 0xAA),
+    Lays(1, ONE, OTHER, READ, These(&[(DATA, 256)])),
+    Writes(PX_SACT, 2),
+    Writes(PX_CI, 2),
+    Does(1),
+    Reads(PX_SACT, 2),
+    Reads(PX_CI, 0),
+    Reads(PX_IS, 0x0100_0000),
+    HasAll(DATA, 256, 0),
+    HasAll(DATA + 256, 256, 0xAA),
+    Does(1),
+    Reads(PX_SACT, 2),
+];
 
+const TOO_SHORT_BY_DMA: &[Row] = &[
+    Fills(DATA, 512, 0xAA),
+    Lays(0, ONE, TABLE, READ_DMA, These(&[(DATA, 256)])),
+    Writes(PX_CI, 1),
+    Does(0),
+    Reads(PX_CI, 1),
+    ReadsBits(PX_TFD, 0x80, 0x80),
+    Reads(PX_IS, 0x0100_0000),
+    Has(LIST + 4, &[0, 1, 0, 0]),
+    HasAll(DATA, 256, 0),
+    HasAll(DATA + 256, 256, 0xAA),
+];
+
+const NO_ROOM: &[Row] = &[
+    Lays(0, 5, TABLE, READ_DMA, SECTOR),
+    Writes(PX_CI, 1),
+    Does(0),
+    Reads(PX_CI, 1),
+    Reads(PX_IS, 0x0100_0000),
+    Has(LIST + 4, &[0, 0, 0, 0]),
+];
+
+/// By PIO the first block moves, and half of the second one, whose PIO Setup FIS has said DRQ.
+const TOO_SHORT_BY_PIO: &[Row] = &[
+    Fills(DATA, 1024, 0xAA),
+    Lays(
+        0,
+        ONE,
+        TABLE,
+        [0x2780_2000, 0x0300_0040, 0, 0x0200_0000],
+        These(&[(DATA, 768)]),
+    ),
+    Writes(PX_CI, 1),
+    Does(0),
+    Reads(PX_CI, 1),
+    ReadsBits(PX_TFD, 0x88, 8),
+    Reads(PX_IS, 0x0100_0002),
+    Has(LIST + 4, &[0, 3, 0, 0]),
+    HasAll(DATA, 768, 0),
+    HasAll(DATA + 768, 256, 0xAA),
+];
+
+/// A write whose list is too short: the port is stuck, with no bit of PxIS.
 const NO_ENTRIES: &[Row] = &[Lays(1, 5, OTHER, WRITE, SECTOR)];
 
-const OVERFLOW: &[Row] = &[Reads(PX_IS, 0x0100_0000)];
+const STUCK: &[Row] = &[Reads(PX_IS, 0), ReadsBits(PX_TFD, 0x80, 0x80)];
 
 const WRONG_LENGTH: &[Row] = &[Lays(1, 0x0001_0004, OTHER, READ, SECTOR)];
 
@@ -304,7 +390,7 @@ static LONG_LISTS: [Story; 4] = [
         parts: &[BASES, READ_HIGH],
     },
     Story {
-        name: "any slot is taken whatever the queue depth",
+        name: "a device has the tags below its depth, and commands that are not queued any slot",
         sectors: 8,
         depth: 4,
         memory: MEMORY,
@@ -315,7 +401,7 @@ static LONG_LISTS: [Story; 4] = [
         sectors: 8,
         depth: 32,
         memory: MEMORY,
-        parts: &[START, SPARE],
+        parts: &[START, SPARE, RESTART, UNREAD],
     },
 ];
 
@@ -336,15 +422,21 @@ static FATAL: Story = Story {
     parts: &[
         START,
         TOO_SHORT,
-        COMES_TO_NOTHING,
-        OVERFLOW,
         RESTART,
+        GOES_ON,
+        RESTART,
+        TOO_SHORT_BY_DMA,
+        COMRESET,
+        NO_ROOM,
+        COMRESET,
+        TOO_SHORT_BY_PIO,
+        COMRESET,
         GOES_ON,
         RESTART,
         NO_ENTRIES,
         COMES_TO_NOTHING,
-        OVERFLOW,
-        RESTART,
+        STUCK,
+        COMRESET,
         GOES_ON,
         RESTART,
         WRONG_LENGTH,
@@ -378,6 +470,6 @@ static FATAL: Story = Story {
 };
 
 #[test]
-fn a_fatal_error_moves_nothing_and_halts_the_port(rt: HostRuntime) -> Result<(), Fail> {
+fn a_fatal_error_halts_the_port(rt: HostRuntime) -> Result<(), Fail> {
     plays(&rt, rt.alloc(), &FATAL)
 }

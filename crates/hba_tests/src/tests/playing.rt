@@ -1,8 +1,8 @@
 //! What a driver, its disk and its memory do, as the rows of a table.
 
-use crate::tests::guest::{Guest, Stretch, end, settle, take};
+use crate::tests::guest::{Guest, Stretch, end, settle, step, take};
 use crate::tests::registers::{PX_CLB, PX_CLBU, PX_FB, PX_FBU};
-use ahci_hba::{AccessSize, Hba};
+use ahci_hba::{AccessSize, Capabilities, Hba};
 use ahci_port::{EventKind, TrimFault};
 use std::alloc::{Allocator, Global};
 use std::fmt::Debug;
@@ -39,6 +39,8 @@ pub enum Row {
     Fetches(u8),
     /// The controller reads the command of a slot, and the disk takes it if it moves sectors.
     Takes(u8),
+    /// The disk takes one step with the command of a slot.
+    Steps(u8),
     /// The disk does all of the command of a slot.
     Does(u8),
     /// The disk fails the command of a slot that it has taken, with an error byte at a sector.
@@ -185,6 +187,7 @@ pub fn acts<A: Allocator + Copy>(hba: &mut Hba<A>, guest: &mut Guest, row: Row) 
             settle(hba, guest);
         }
         Row::Takes(slot) => take(hba, guest, slot),
+        Row::Steps(slot) => step(hba, guest, slot),
         Row::Does(slot) => end(hba, guest, slot),
         Row::Fails(slot, error, lba) => {
             let _ = hba.fail(slot % 32, error, lba);
@@ -251,6 +254,19 @@ impl Player {
         Ok(Player {
             hba: Hba::new(alloc, image, depth)?,
             guest: Guest::new(alloc, memory)?,
+        })
+    }
+
+    /// The same of a story, with these capabilities.
+    pub fn with_capabilities(
+        alloc: Global,
+        story: &Story,
+        capabilities: Capabilities,
+    ) -> Result<Self, Fail> {
+        let image = vec![in alloc; 0u8; 512 * (story.sectors % 131_072) as usize]?;
+        Ok(Player {
+            hba: Hba::with_capabilities(alloc, image, story.depth, capabilities)?,
+            guest: Guest::new(alloc, story.memory)?,
         })
     }
 

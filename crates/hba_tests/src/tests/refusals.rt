@@ -34,7 +34,7 @@ enum Call {
     Send(u8),
     Accept(u8),
     Serve(u8),
-    Deliver,
+    Deliver(u8),
     Execute(u8),
     Fail(u8),
     Recover(u8),
@@ -93,7 +93,7 @@ const WRITTEN: &[Step] = &[
     (Accept(1), 0),
     (Settle, 0),
     (Serve(1), 0),
-    (Deliver, 0),
+    (Deliver(1), 0),
     (Settle, 0),
     (Driver(Row::Sector(3, 0xAA)), 0),
 ];
@@ -112,7 +112,7 @@ const READ_AGAIN: &[Step] = &[
     (Accept(1), 0),
     (Settle, 0),
     (Serve(1), 0),
-    (Deliver, 1),
+    (Deliver(1), 1),
     (Settle, 0),
     (Driver(HasAll(DATA, 512, 0xAA)), 0),
 ];
@@ -142,7 +142,7 @@ const READ_BY_DMA: &[Step] = &[
     (Send(0), 1),
     (Accept(0), 0),
     (Serve(0), 0),
-    (Deliver, 1),
+    (Deliver(0), 1),
     (Settle, 0),
     (Driver(HasAll(DATA, 512, 0xAA)), 0),
 ];
@@ -150,7 +150,7 @@ const READ_BY_DMA: &[Step] = &[
 /// The journal's memory goes out with it.
 const TRIMMED: &[Step] = &[(Trim, 0)];
 
-/// A queued read that fails, and its log: a list each, a window, a page, and the journal twice.
+/// A queued read that fails, and its log: a list each, which is copied, a window, a page, and the journal twice.
 const FAILED: &[Step] = &[
     (Driver(Lays(1, ONE, OTHER, READ, SECTOR)), 0),
     (Write(PX_SACT, 2), 0),
@@ -162,7 +162,7 @@ const FAILED: &[Step] = &[
     (Send(1), 2),
     (Accept(1), 0),
     (Settle, 0),
-    (Call::Fail(1), 0),
+    (Call::Fail(1), 1),
     (Settle, 0),
     (Write(PX_CMD, 0x10), 0),
     (Write(PX_IS, 0xFFFF_FFFF), 0),
@@ -277,7 +277,7 @@ fn makes(hba: &mut Hba<&Heap>, guest: &mut Guest, call: Call) -> Result<(), HbaF
         Write(offset, value) => write(hba, offset, value),
         Settle => settle(hba, guest),
         Supply => return granted(supply(hba, guest)),
-        Deliver => return granted(hba.deliver()),
+        Deliver(slot) => return hba.deliver(slot % 32),
         Sign => return hba.sign(),
         Fetch(slot) => return hba.fetch(slot % 32),
         Send(slot) => return hba.send(slot % 32),

@@ -156,7 +156,7 @@ const STOPPED: &[Row] = &[
 /// PxCMD and PxSACT of a second port.
 const FIXED: &[Row] = &[
     Writes(CAP, 0),
-    Reads(CAP, 0xC124_1F00),
+    Reads(CAP, 0xC124_9F00),
     Writes(PI, 3),
     Reads(PI, 1),
     Writes(VS, 0),

@@ -33,7 +33,7 @@ const SECTORS: Pieces = These(&[(0x8000, 1024)]);
 const ROWS: &[Row] = &[
     Reads(GHC, 0x8000_0000),
     Writes(GHC, 0x8000_0000),
-    Reads(CAP, 0xC124_1F00),
+    Reads(CAP, 0xC124_9F00),
     Reads(PI, 1),
     Writes(PX_CLB, 0x1EFE_8800),
     Writes(PX_FB, 0x1EFE_9200),

@@ -4,7 +4,7 @@ use crate::tests::guest::Stretch;
 use crate::tests::playing::Pieces::These;
 use crate::tests::playing::Row::{Signs, Writes};
 use crate::tests::playing::{Pieces, Row};
-use crate::tests::registers::{GHC, PX_CLB, PX_CMD, PX_FB, PX_IE, PX_IS, PX_SERR};
+use crate::tests::registers::{GHC, PX_CLB, PX_CMD, PX_FB, PX_IE, PX_IS, PX_SCTL, PX_SERR};
 
 /// Where the received FIS area, the command list, the tables of slots 0 and 1, and the data are.
 pub const RECEIVED: u64 = 0x400;
@@ -53,6 +53,17 @@ pub const START: &[Row] = &[
     Signs,
     Writes(PX_IS, 0xFFFF_FFFF),
     Writes(PX_IE, 0x7800_002F),
+    Writes(PX_CMD, 0x11),
+];
+
+/// The link is reset (AHCI 1.3.1, section 10.4.2), as after an error that leaves BSY.
+pub const COMRESET: &[Row] = &[
+    Writes(PX_CMD, 0x10),
+    Writes(PX_SCTL, 0x301),
+    Writes(PX_SCTL, 0x300),
+    Writes(PX_SERR, 0xFFFF_FFFF),
+    Signs,
+    Writes(PX_IS, 0xFFFF_FFFF),
     Writes(PX_CMD, 0x11),
 ];
 

@@ -92,7 +92,7 @@ static SYSTEM: [Row; 49] = [
     Does(0x004, 0x8000_0001, Consequence::Reset),
     Read(0x004, 0x8000_0000),
     Read(0x100, 0x0010_0000),
-    Write(0x000, 0xc124_1f00),
+    Write(0x000, 0xc124_9f00),
     Write(0x00c, 0x0000_0001),
     Write(0x118, 0),
     Read(0x118, 0x0000_0006),

@@ -48,7 +48,7 @@ static WIDE: [Row; 15] = [
     Bytes(0x128, Eight, 0x0000_0301_ffff_ffff, Consequence::LinkReset),
     Found(0x128, Eight, 0x0000_0301_0000_0000),
     Bytes(0x000, Eight, 0x0000_0001_0000_0000, Consequence::Reset),
-    Found(0x000, Eight, 0x8000_0000_c124_1f00),
+    Found(0x000, Eight, 0x8000_0000_c124_9f00),
     Found(0x128, Eight, 0x0000_0000_0000_0123),
     Bases(0x1_1234_5400, 0x2_1234_5700),
 ];

@@ -1,0 +1,169 @@
+//! Transfers by PIO, block by block (Serial ATA, "PIO Setup"; ACS-3, "PIO data-in command protocol" and "PIO data-out command protocol").
+
+use crate::tests::playing::Pieces::These;
+use crate::tests::playing::Row::{
+    Does, Fills, Has, HasAll, Lays, Reads, ReadsBits, Sector, Steps, Writes,
+};
+use crate::tests::playing::{Pieces, Row, Story, plays};
+use crate::tests::registers::{PX_CI, PX_CMD, PX_IS, PX_TFD};
+use crate::tests::setting::{COMRESET, DATA, LIST, MEMORY, RECEIVED, START, TABLE};
+use std::test::Fail;
+
+/// Three sectors, in two pieces: the second sector lies in both.
+const THREE: Pieces = These(&[(DATA, 700), (DATA + 0x800, 836)]);
+
+const FILLED: &[Row] = &[
+    Fills(DATA, 512, 0x11),
+    Fills(DATA + 512, 188, 0x22),
+    Fills(DATA + 0x800, 324, 0x22),
+    Fills(DATA + 0x944, 512, 0x33),
+    Fills(RECEIVED, 256, 0xEE),
+    Writes(PX_IS, 0xFFFF_FFFF),
+];
+
+/// The command is read, sent, taken and served; no FIS has come.
+const SERVED: &[Row] = &[
+    Writes(PX_CI, 1),
+    Steps(0),
+    Steps(0),
+    Steps(0),
+    Steps(0),
+    Steps(0),
+    ReadsBits(PX_TFD, 0x89, 0x80),
+    Reads(PX_IS, 0),
+    Reads(PX_CI, 1),
+    Has(LIST + 4, &[0, 0, 0, 0]),
+    HasAll(RECEIVED, 256, 0xEE),
+];
+
+const WRITTEN: &[Row] = &[Lays(
+    0,
+    0x0002_0045,
+    TABLE,
+    [0x2780_3000, 0x0200_0040, 0, 0x0300_0000],
+    THREE,
+)];
+
+/// WRITE SECTOR(S): a PIO Setup FIS for each block, the first one with no I, and a D2H Register FIS behind the last one.
+const BLOCKS_OUT: &[Row] = &[
+    Steps(0),
+    Has(
+        RECEIVED + 0x20,
+        &[
+            0x5F, 0x00, 0x48, 0, 0, 0, 0, 0, 0, 0, 0, 0, 0, 0, 0, 0xC0, 0, 2, 0, 0,
+        ],
+    ),
+    Reads(PX_TFD, 0xC0),
+    Reads(PX_IS, 0),
+    Reads(PX_CI, 1),
+    Steps(0),
+    Has(RECEIVED + 0x20, &[0x5F, 0x40, 0x48]),
+    Reads(PX_TFD, 0xC0),
+    Reads(PX_IS, 2),
+    Writes(PX_IS, 2),
+    Steps(0),
+    Has(RECEIVED + 0x2F, &[0xC0, 0, 2]),
+    Reads(PX_TFD, 0xC0),
+    Reads(PX_IS, 2),
+    Reads(PX_CI, 1),
+    HasAll(RECEIVED + 0x40, 20, 0xEE),
+    Writes(PX_IS, 2),
+    Steps(0),
+    Row::Answered(0x40, 0, 0, 0),
+    Reads(PX_TFD, 0x40),
+    Reads(PX_IS, 1),
+    Reads(PX_CI, 0),
+    Has(LIST + 4, &[0, 6, 0, 0]),
+    Sector(1, 0),
+    Sector(2, 0x11),
+    Sector(3, 0x22),
+    Sector(4, 0x33),
+    Sector(5, 0),
+];
+
+const READ: &[Row] = &[
+    Fills(DATA, 0x1000, 0xEE),
+    Fills(RECEIVED, 256, 0xEE),
+    Writes(PX_IS, 0xFFFF_FFFF),
+    Lays(
+        0,
+        0x0002_0005,
+        TABLE,
+        [0x2780_2000, 0x0200_0040, 0, 0x0300_0000],
+        THREE,
+    ),
+];
+
+/// READ SECTOR(S): for each block a PIO Setup FIS with I, its bytes, PRDBC and PSS. E_Status of the last one ends the command.
+const BLOCKS_IN: &[Row] = &[
+    Steps(0),
+    Has(
+        RECEIVED + 0x20,
+        &[
+            0x5F, 0x60, 0x48, 0, 0, 0, 0, 0, 0, 0, 0, 0, 0, 0, 0, 0xC0, 0, 2, 0, 0,
+        ],
+    ),
+    Reads(PX_TFD, 0xC0),
+    Reads(PX_IS, 2),
+    Reads(PX_CI, 1),
+    Has(LIST + 4, &[0, 2, 0, 0]),
+    HasAll(DATA, 512, 0x11),
+    HasAll(DATA + 512, 512, 0xEE),
+    Writes(PX_IS, 2),
+    Writes(PX_CMD, 0x01),
+    Steps(0),
+    Reads(PX_IS, 0),
+    Writes(PX_CMD, 0x11),
+    Steps(0),
+    Reads(PX_TFD, 0xC0),
+    Reads(PX_IS, 2),
+    Reads(PX_CI, 1),
+    Has(LIST + 4, &[0, 4, 0, 0]),
+    HasAll(DATA + 512, 188, 0x22),
+    HasAll(DATA + 700, 324, 0xEE),
+    HasAll(DATA + 0x800, 324, 0x22),
+    HasAll(DATA + 0x944, 512, 0xEE),
+    Writes(PX_IS, 2),
+    Steps(0),
+    Has(RECEIVED + 0x2F, &[0x40, 0, 2]),
+    Reads(PX_TFD, 0x40),
+    Reads(PX_IS, 2),
+    Reads(PX_CI, 0),
+    Has(LIST + 4, &[0, 6, 0, 0]),
+    HasAll(DATA + 0x944, 512, 0x33),
+    HasAll(RECEIVED + 0x40, 20, 0xEE),
+];
+
+/// A transfer under way ends with ST: no block comes after it, and the next command goes on.
+const STOPPED: &[Row] = &[
+    Steps(0),
+    Has(LIST + 4, &[0, 2, 0, 0]),
+    Writes(PX_CMD, 0x10),
+    Steps(0),
+    Reads(PX_CI, 0),
+    Has(LIST + 4, &[0, 2, 0, 0]),
+    HasAll(DATA + 512, 512, 0xEE),
+];
+
+const AGAIN: &[Row] = &[
+    Writes(PX_CI, 1),
+    Does(0),
+    Reads(PX_CI, 0),
+    HasAll(DATA + 0x944, 512, 0x33),
+];
+
+static STORY: Story = Story {
+    name: "transfers by PIO",
+    sectors: 8,
+    depth: 32,
+    memory: MEMORY,
+    parts: &[
+        START, FILLED, WRITTEN, SERVED, BLOCKS_OUT, READ, SERVED, BLOCKS_IN, READ, SERVED, STOPPED,
+        COMRESET, READ, AGAIN,
+    ],
+};
+
+#[test]
+fn a_command_by_pio_moves_block_by_block(rt: HostRuntime) -> Result<(), Fail> {
+    plays(&rt, rt.alloc(), &STORY)
+}
