@@ -1,12 +1,14 @@
--- Which rules a command breaks: its header, and its command FIS (AHCI 1.3.1, sections 3.3.13, 4.2 and 5.5.1).
-use Rattle.std.specs.Prelude.{ℕ, ◌%◌, Bool, true, false, not, ◌&&◌, nat_eq, bit_or, List, Option, None, Some, if◌then◌else◌}
+-- Which rules a command breaks, as tables over the fields of its header and of its command FIS (AHCI 1.3.1, sections 3.3.13, 4.2, 5.5.1 and
+-- 10.4.1; Serial ATA, "Register FIS - Host to Device").
+use Rattle.std.specs.Prelude.{ℕ, ◌/◌, ◌%◌, Bool, true, false, not, ◌&&◌, ◌||◌, nat_eq, bit_or, List, Option, None, Some, if◌then◌else◌}
 use Rattle.sata_fis.specs.Fields.{H2dFields}
 use Rattle.sata_fis.specs.Places.{byte, number}
 use Rattle.hba_command.specs.CommandFis.{command_fis}
 use Rattle.hba_command.specs.CommandHeader.{header_at}
 use Rattle.hba_command.specs.Task.{task_of}
+use Rattle.hba_command.specs.declared.header.CommandHeader.{CommandHeader}
 use Rattle.hba_command.specs.declared.task.Task.{Task}
-use Rattle.hba_command.specs.declared.task.Task.TheVariants.{Queue}
+use Rattle.hba_command.specs.declared.task.Task.TheVariants.{Queue, Control}
 use Rattle.hba_memory.specs.Reading.{is_write, moved_by}
 use Rattle.hba_rules.specs.declared.rule.Rule.{Rule}
 use Rattle.hba_rules.specs.declared.rule.Rule.TheVariants as rule
@@ -24,6 +26,38 @@ abbrev pub has_other_tag : Task → ℕ → Bool
 has_other_tag (Queue q) slot = not (nat_eq q.tag slot)
 has_other_tag other slot = false
 
+-- the FIS sets SRST
+abbrev pub resets : Task → Bool
+resets (Control reset) = reset
+resets other = false
+
+-- P is bit 7 of dword 0 of a header, bit 11 of that dword is reserved, and PMP is bits 15:12
+abbrev pub prefetches : List ℕ → Bool
+prefetches header = nat_eq (byte 0 header / 128) 1
+
+abbrev pub has_reserved_bit : List ℕ → Bool
+has_reserved_bit header = nat_eq (byte 1 header / 8 % 2) 1
+
+-- dwords 4 to 7 of a header, all bits together: they are reserved
+abbrev pub reserved_dwords : List ℕ → ℕ
+reserved_dwords header = bit_or (bit_or (bit_or (number 16 4 header) (number 20 4 header)) (number 24 4 header)) (number 28 4 header)
+
+-- PMP of a header, or PM Port of a FIS (bits 3:0 of byte 1)
+abbrev pub names_multiplier : (header fis : List ℕ) → Bool
+names_multiplier header fis = not (nat_eq (byte 1 header / 16) 0) || not (nat_eq (byte 1 fis % 16) 0)
+
+-- a FIS with B is a BIST Activate FIS, type 58h
+abbrev pub is_wrong_bist : (header fis : List ℕ) → Bool
+is_wrong_bist header fis = (header_at header).bist && not (nat_eq (byte 0 fis) 0x58)
+
+-- bits 6:4 of byte 1, and bytes 16 to 19, of a Register FIS - Host to Device
+abbrev pub has_reserved_fis : List ℕ → Bool
+has_reserved_fis fis = not (nat_eq (byte 1 fis / 16 % 8) 0) || not (nat_eq (number 16 4 fis) 0)
+
+-- R and C of a header are 1 for a FIS that sets SRST, and 0 for every other
+abbrev pub has_wrong_flags : CommandHeader → Task → Bool
+has_wrong_flags h t = if resets t then not (h.reset && h.clears_busy) else h.reset || h.clears_busy
+
 -- of what the command asks for; PxSACT has its slot or not
 abbrev pub task_rule : Rule → (slot : ℕ) → (active write : Bool) → Task → Bool
 task_rule rule.WriteFlag slot active write t = not (has_direction t write)
@@ -32,18 +66,23 @@ task_rule rule.QueueWithoutActive slot active write t = is_queued t && not activ
 task_rule rule.TagNotSlot slot active write t = has_other_tag t slot
 task_rule other slot active write t = false
 
-abbrev pub fis_rule : Rule → (slot : ℕ) → (active write : Bool) → Option H2dFields → Bool
-fis_rule rule.NoCommandFis slot active write None = true
-fis_rule other slot active write None = false
-fis_rule r slot active write (Some f) = task_rule r slot active write (task_of f)
+-- the same, with the header and the FIS
+abbrev pub flag_rule : Rule → (slot : ℕ) → (active : Bool) → (header fis : List ℕ) → Task → Bool
+flag_rule rule.PrefetchWithQueue slot active header fis t = prefetches header && is_queued t
+flag_rule rule.ResetFlags slot active header fis t = has_wrong_flags (header_at header) t
+flag_rule rule.ReservedFis slot active header fis t = has_reserved_fis fis
+flag_rule r slot active header fis t = task_rule r slot active (header_at header).write t
 
--- dwords 4 to 7 of a header, all bits together: they are reserved
-abbrev pub reserved_dwords : List ℕ → ℕ
-reserved_dwords header = bit_or (bit_or (bit_or (number 16 4 header) (number 20 4 header)) (number 24 4 header)) (number 28 4 header)
+abbrev pub fis_rule : Rule → (slot : ℕ) → (active : Bool) → (header fis : List ℕ) → Option H2dFields → Bool
+fis_rule rule.NoCommandFis slot active header fis None = true
+fis_rule other slot active header fis None = false
+fis_rule r slot active header fis (Some f) = flag_rule r slot active header fis (task_of f)
 
 abbrev pub command_breaks : Rule → (slot : ℕ) → (active : Bool) → (header fis : List ℕ) → Bool
 command_breaks rule.FisLength slot active header fis = not (nat_eq (header_at header).fis_dwords 5)
 command_breaks rule.AtapiFlag slot active header fis = (header_at header).atapi
-command_breaks rule.ReservedHeader slot active header fis = not (nat_eq (reserved_dwords header) 0)
+command_breaks rule.ReservedHeader slot active header fis = has_reserved_bit header || not (nat_eq (reserved_dwords header) 0)
 command_breaks rule.TableUnaligned slot active header fis = not (nat_eq (byte 8 header % 128) 0)
-command_breaks r slot active header fis = fis_rule r slot active (header_at header).write (command_fis fis)
+command_breaks rule.PortOfMultiplier slot active header fis = names_multiplier header fis
+command_breaks rule.BistFlag slot active header fis = is_wrong_bist header fis
+command_breaks r slot active header fis = fis_rule r slot active header fis (command_fis fis)

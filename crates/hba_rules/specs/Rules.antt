@@ -35,6 +35,22 @@ number_of rule.OddAddress = 25
 number_of rule.EvenCount = 26
 number_of rule.ListTooShort = 27
 number_of rule.ListTooLong = 28
+number_of rule.ListUnaligned = 29
+number_of rule.AreaUnaligned = 30
+number_of rule.SlotUsedAgain = 31
+number_of rule.ActiveAfterIssue = 32
+number_of rule.StartWithErrors = 33
+number_of rule.StartWithSerr = 34
+number_of rule.EnableOverStatus = 35
+number_of rule.SpeedAboveInterface = 36
+number_of rule.PowerWithoutCapability = 37
+number_of rule.QueueWithoutCapability = 38
+number_of rule.PrefetchWithQueue = 39
+number_of rule.PortOfMultiplier = 40
+number_of rule.BistFlag = 41
+number_of rule.ResetFlags = 42
+number_of rule.ReservedFis = 43
+number_of rule.ReservedEntry = 44
 
 -- no rule has the number
 abbrev pub IsNoRule : ℕ → Type 0
@@ -70,6 +86,22 @@ name_of rule.OddAddress = codes "OddAddress"
 name_of rule.EvenCount = codes "EvenCount"
 name_of rule.ListTooShort = codes "ListTooShort"
 name_of rule.ListTooLong = codes "ListTooLong"
+name_of rule.ListUnaligned = codes "ListUnaligned"
+name_of rule.AreaUnaligned = codes "AreaUnaligned"
+name_of rule.SlotUsedAgain = codes "SlotUsedAgain"
+name_of rule.ActiveAfterIssue = codes "ActiveAfterIssue"
+name_of rule.StartWithErrors = codes "StartWithErrors"
+name_of rule.StartWithSerr = codes "StartWithSerr"
+name_of rule.EnableOverStatus = codes "EnableOverStatus"
+name_of rule.SpeedAboveInterface = codes "SpeedAboveInterface"
+name_of rule.PowerWithoutCapability = codes "PowerWithoutCapability"
+name_of rule.QueueWithoutCapability = codes "QueueWithoutCapability"
+name_of rule.PrefetchWithQueue = codes "PrefetchWithQueue"
+name_of rule.PortOfMultiplier = codes "PortOfMultiplier"
+name_of rule.BistFlag = codes "BistFlag"
+name_of rule.ResetFlags = codes "ResetFlags"
+name_of rule.ReservedFis = codes "ReservedFis"
+name_of rule.ReservedEntry = codes "ReservedEntry"
 
 abbrev pub section_of : Rule → List ℕ
 section_of rule.StartWithoutReceiving = codes "10.3.1"
@@ -101,6 +133,22 @@ section_of rule.OddAddress = codes "4.2.3"
 section_of rule.EvenCount = codes "4.2.3"
 section_of rule.ListTooShort = codes "3.3.5"
 section_of rule.ListTooLong = codes "4.2.3"
+section_of rule.ListUnaligned = codes "3.3.1"
+section_of rule.AreaUnaligned = codes "3.3.3"
+section_of rule.SlotUsedAgain = codes "5.5.1"
+section_of rule.ActiveAfterIssue = codes "3.3.13"
+section_of rule.StartWithErrors = codes "6.2.2"
+section_of rule.StartWithSerr = codes "10.1.2"
+section_of rule.EnableOverStatus = codes "10.1.2"
+section_of rule.SpeedAboveInterface = codes "3.3.11"
+section_of rule.PowerWithoutCapability = codes "3.3.7"
+section_of rule.QueueWithoutCapability = codes "3.3.13"
+section_of rule.PrefetchWithQueue = codes "4.2.2"
+section_of rule.PortOfMultiplier = codes "4.2.2"
+section_of rule.BistFlag = codes "4.2.2"
+section_of rule.ResetFlags = codes "10.4.1"
+section_of rule.ReservedFis = codes "4.2.3"
+section_of rule.ReservedEntry = codes "4.2.3"
 
 -- the standard forbids all but these
 abbrev pub verdict_of : Rule → Verdict
@@ -108,4 +156,5 @@ verdict_of rule.StartWithReceiving = verdict.Open
 verdict_of rule.CommandWhileHalted = verdict.Odd
 verdict_of rule.InterruptNotCleared = verdict.Odd
 verdict_of rule.ListTooLong = verdict.Odd
+verdict_of rule.SpeedAboveInterface = verdict.Odd
 verdict_of other = verdict.Broken

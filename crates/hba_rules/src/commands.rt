@@ -2,7 +2,7 @@
 
 ghost use Rattle.std.specs.Prelude.{◌≡◌, ◌≤◌, ◌+◌};
 ghost use Rattle.sata_fis.specs.Places.{number};
-ghost use Rattle.hba_rules.specs.Commands.{command_breaks, fis_rule, has_direction, has_other_tag, is_queued, reserved_dwords, task_rule};
+ghost use Rattle.hba_rules.specs.Commands.{command_breaks, fis_rule, flag_rule, has_direction, has_other_tag, has_reserved_bit, has_reserved_fis, has_wrong_flags, is_queued, is_wrong_bist, names_multiplier, prefetches, reserved_dwords, resets, task_rule};
 
 use crate::rule::Rule;
 use byteorder::{ByteOrder, LittleEndian};
@@ -17,16 +17,47 @@ pub fn command_breaks(rule: Rule, slot: u8, active: bool, header: &[u8; 32], fis
     match rule {
         Rule::FisLength => CommandHeader::at(header).fis_dwords != 5,
         Rule::AtapiFlag => CommandHeader::at(header).atapi,
-        Rule::ReservedHeader => reserved_dwords(header) != 0,
+        Rule::ReservedHeader => has_reserved_bit(header) || reserved_dwords(header) != 0,
         Rule::TableUnaligned => header[8] % 128 != 0,
-        _ => fis_rule(
-            rule,
-            slot,
-            active,
-            CommandHeader::at(header).write,
-            &command_fis(fis),
-        ),
+        Rule::PortOfMultiplier => names_multiplier(header, fis),
+        Rule::BistFlag => is_wrong_bist(header, fis),
+        _ => fis_rule(rule, slot, active, header, fis, &command_fis(fis)),
     }
+}
+
+/// Whether P of a header is 1.
+fn prefetches(header: &[u8; 32]) -> bool
+    ensures { result ≡ prefetches header.now }
+{
+    header[0] / 128 == 1
+}
+
+/// Bit 11 of a header's dword 0.
+fn has_reserved_bit(header: &[u8; 32]) -> bool
+    ensures { result ≡ has_reserved_bit header.now }
+{
+    header[1] / 8 % 2 == 1
+}
+
+/// Whether a header or a FIS names a port of a port multiplier.
+fn names_multiplier(header: &[u8; 32], fis: &[u8; 20]) -> bool
+    ensures { result ≡ names_multiplier header.now fis.now }
+{
+    header[1] / 16 != 0 || fis[1] % 16 != 0
+}
+
+/// Whether B of a header is 1 for another FIS than BIST Activate.
+fn is_wrong_bist(header: &[u8; 32], fis: &[u8; 20]) -> bool
+    ensures { result ≡ is_wrong_bist header.now fis.now }
+{
+    CommandHeader::at(header).bist && fis[0] != 0x58
+}
+
+/// Whether reserved bits of a Register FIS - Host to Device are not 0.
+fn has_reserved_fis(fis: &[u8; 20]) -> bool
+    ensures { result ≡ has_reserved_fis fis.now }
+{
+    fis[1] / 16 % 8 != 0 || LittleEndian::read_u32(&fis[16..]) != 0
 }
 
 /// Dwords 4 to 7 of a header, all bits together.
@@ -45,12 +76,59 @@ fn dword(header: &[u8; 32], place: usize) -> u32
 }
 
 /// The rules for the command FIS.
-fn fis_rule(rule: Rule, slot: u8, active: bool, write: bool, fis: &Option<H2d>) -> bool
-    ensures { result ≡ fis_rule rule slot active write fis.now }
+fn fis_rule(
+    rule: Rule,
+    slot: u8,
+    active: bool,
+    header: &[u8; 32],
+    bytes: &[u8; 20],
+    fis: &Option<H2d>,
+) -> bool
+    ensures { result ≡ fis_rule rule slot active header.now bytes.now fis.now }
 {
     match fis {
-        Some(fis) => task_rule(rule, slot, active, write, &task_of(fis)),
+        Some(fis) => flag_rule(rule, slot, active, header, bytes, &task_of(fis)),
         None => matches!(rule, Rule::NoCommandFis),
+    }
+}
+
+/// The rules for a header together with what its command asks for.
+fn flag_rule(
+    rule: Rule,
+    slot: u8,
+    active: bool,
+    header: &[u8; 32],
+    bytes: &[u8; 20],
+    task: &Task,
+) -> bool
+    ensures { result ≡ flag_rule rule slot active header.now bytes.now task.now }
+{
+    match rule {
+        Rule::PrefetchWithQueue => prefetches(header) && is_queued(task),
+        Rule::ResetFlags => has_wrong_flags(&CommandHeader::at(header), task),
+        Rule::ReservedFis => has_reserved_fis(bytes),
+        _ => task_rule(rule, slot, active, CommandHeader::at(header).write, task),
+    }
+}
+
+/// Whether R and C of a header are not those of a command.
+fn has_wrong_flags(header: &CommandHeader, task: &Task) -> bool
+    ensures { result ≡ has_wrong_flags header.now task.now }
+{
+    if resets(task) {
+        !(header.reset && header.clears_busy)
+    } else {
+        header.reset || header.clears_busy
+    }
+}
+
+/// Whether a command sets SRST.
+fn resets(task: &Task) -> bool
+    ensures { result ≡ resets task.now }
+{
+    match task {
+        Task::Control { reset } => *reset,
+        _ => false,
     }
 }
 

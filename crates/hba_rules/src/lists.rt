@@ -1,9 +1,10 @@
 //! The rules for PRDTs.
 
 ghost use Rattle.std.specs.Prelude.{◌≡◌};
-ghost use Rattle.hba_rules.specs.Lists.{entry_breaks, length_breaks};
+ghost use Rattle.hba_rules.specs.Lists.{entry_breaks, has_reserved_entry, length_breaks};
 
 use crate::rule::Rule;
+use byteorder::{ByteOrder, LittleEndian};
 use hba_command::Task;
 use hba_memory::moved_by;
 
@@ -14,8 +15,16 @@ pub fn entry_breaks(rule: Rule, entry: &[u8; 16]) -> bool
     match rule {
         Rule::OddAddress => entry[0] % 2 == 1,
         Rule::EvenCount => entry[12] % 2 == 0,
+        Rule::ReservedEntry => has_reserved_entry(entry),
         _ => false,
     }
+}
+
+/// Whether dword 2 of an entry, or a bit of 30:22 of its dword 3, is not 0.
+fn has_reserved_entry(entry: &[u8; 16]) -> bool
+    ensures { result ≡ has_reserved_entry entry.now }
+{
+    LittleEndian::read_u32(&entry[8..]) != 0 || entry[14] / 64 != 0 || entry[15] % 128 != 0
 }
 
 /// Whether a PRDT of so many bytes in all breaks a rule for a command.

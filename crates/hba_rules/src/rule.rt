@@ -34,7 +34,7 @@ pub enum Rule {
     CommandWhileStopped,
     /// A bit of PxCI is set after an error and before ST is cleared (section 6.2.2).
     CommandWhileHalted,
-    /// Queued commands and others are outstanding together (section 5.5.1).
+    /// Queued commands and others begin to be outstanding together (section 5.5.1).
     MixedCommands,
     /// IS is cleared while an enabled bit of PxIS is 1: it comes again (section 10.7.2).
     InterruptNotCleared,
@@ -46,7 +46,7 @@ pub enum Rule {
     NoCommandFis,
     /// A is 1 for a disk (section 4.2.2).
     AtapiFlag,
-    /// W does not tell the direction of the data (section 4.2.2).
+    /// W is not the direction of the data (section 4.2.2).
     WriteFlag,
     /// PxSACT has the slot of a command that is not queued (section 3.3.13).
     ActiveWithoutQueue,
@@ -54,7 +54,7 @@ pub enum Rule {
     QueueWithoutActive,
     /// The tag of a queued command is not its slot (section 3.3.13).
     TagNotSlot,
-    /// Reserved dwords of a command header are not 0 (section 4.2.2).
+    /// Reserved bits of a command header are not 0 (section 4.2.2).
     ReservedHeader,
     /// CTBA is not a multiple of 128 (section 4.2.2).
     TableUnaligned,
@@ -66,11 +66,43 @@ pub enum Rule {
     ListTooShort,
     /// The PRDT has more bytes than the command moves (section 4.2.3).
     ListTooLong,
+    /// PxCLB is written an address that is not a multiple of 1,024 (section 3.3.1).
+    ListUnaligned,
+    /// PxFB is written an address that is not a multiple of 256 (section 3.3.3).
+    AreaUnaligned,
+    /// A slot is used while PxCI or PxSACT still has it (section 5.5.1).
+    SlotUsedAgain,
+    /// A bit of PxSACT is set after its bit of PxCI, not before (section 3.3.13).
+    ActiveAfterIssue,
+    /// ST is set while TFES, HBFS, HBDS or IFS of PxIS is 1 (section 6.2.2).
+    StartWithErrors,
+    /// ST is set while PxSERR is not 0 (section 10.1.2).
+    StartWithSerr,
+    /// PxIE or GHC.IE enables what PxIS or IS already has (section 10.1.2).
+    EnableOverStatus,
+    /// PxSCTL.SPD is above CAP.ISS, or reserved (section 3.3.11).
+    SpeedAboveInterface,
+    /// ICC, ALPE or ASP is set without the capability (section 3.3.7).
+    PowerWithoutCapability,
+    /// A bit of PxSACT is set while CAP.SNCQ is 0 (section 3.3.13).
+    QueueWithoutCapability,
+    /// P is 1 for a queued command (section 4.2.2).
+    PrefetchWithQueue,
+    /// PMP of a header or PM Port of a FIS is not 0, without port multipliers (section 4.2.2).
+    PortOfMultiplier,
+    /// B is 1 for a FIS that is no BIST Activate FIS (section 4.2.2).
+    BistFlag,
+    /// R and C are not 1 for the FIS that sets SRST, or are 1 for another (section 10.4.1).
+    ResetFlags,
+    /// Reserved bits of a Register FIS - Host to Device are not 0 (section 4.2.3).
+    ReservedFis,
+    /// Reserved bits of a PRDT entry are not 0 (section 4.2.3).
+    ReservedEntry,
 }
 
 impl Rule {
     /// How many rules there are. They are numbered from 0.
-    pub const COUNT: u32 = 29;
+    pub const COUNT: u32 = 45;
 
     /// The rule's number.
     pub fn number(self) -> u32
@@ -106,6 +138,22 @@ impl Rule {
             Rule::EvenCount => 26,
             Rule::ListTooShort => 27,
             Rule::ListTooLong => 28,
+            Rule::ListUnaligned => 29,
+            Rule::AreaUnaligned => 30,
+            Rule::SlotUsedAgain => 31,
+            Rule::ActiveAfterIssue => 32,
+            Rule::StartWithErrors => 33,
+            Rule::StartWithSerr => 34,
+            Rule::EnableOverStatus => 35,
+            Rule::SpeedAboveInterface => 36,
+            Rule::PowerWithoutCapability => 37,
+            Rule::QueueWithoutCapability => 38,
+            Rule::PrefetchWithQueue => 39,
+            Rule::PortOfMultiplier => 40,
+            Rule::BistFlag => 41,
+            Rule::ResetFlags => 42,
+            Rule::ReservedFis => 43,
+            Rule::ReservedEntry => 44,
         }
     }
 
@@ -143,6 +191,22 @@ impl Rule {
             Rule::EvenCount => "EvenCount",
             Rule::ListTooShort => "ListTooShort",
             Rule::ListTooLong => "ListTooLong",
+            Rule::ListUnaligned => "ListUnaligned",
+            Rule::AreaUnaligned => "AreaUnaligned",
+            Rule::SlotUsedAgain => "SlotUsedAgain",
+            Rule::ActiveAfterIssue => "ActiveAfterIssue",
+            Rule::StartWithErrors => "StartWithErrors",
+            Rule::StartWithSerr => "StartWithSerr",
+            Rule::EnableOverStatus => "EnableOverStatus",
+            Rule::SpeedAboveInterface => "SpeedAboveInterface",
+            Rule::PowerWithoutCapability => "PowerWithoutCapability",
+            Rule::QueueWithoutCapability => "QueueWithoutCapability",
+            Rule::PrefetchWithQueue => "PrefetchWithQueue",
+            Rule::PortOfMultiplier => "PortOfMultiplier",
+            Rule::BistFlag => "BistFlag",
+            Rule::ResetFlags => "ResetFlags",
+            Rule::ReservedFis => "ReservedFis",
+            Rule::ReservedEntry => "ReservedEntry",
         }
     }
 
@@ -157,21 +221,38 @@ impl Rule {
             | Rule::StartWithoutDevice
             | Rule::ListMovedWhileStarted => "10.3.1",
             Rule::ReceivingClearedWhileStarted | Rule::AreaMovedWhileReceiving => "10.3.2",
-            Rule::ClearBusyWhileStarted => "3.3.7",
-            Rule::LinkChangedWhileStarted | Rule::ReservedLinkState => "3.3.11",
-            Rule::ActiveWhileStopped | Rule::ActiveWithoutQueue | Rule::TagNotSlot => "3.3.13",
+            Rule::ClearBusyWhileStarted | Rule::PowerWithoutCapability => "3.3.7",
+            Rule::LinkChangedWhileStarted | Rule::ReservedLinkState | Rule::SpeedAboveInterface =>
+                "3.3.11",
+            Rule::ActiveWhileStopped
+            | Rule::ActiveWithoutQueue
+            | Rule::TagNotSlot
+            | Rule::ActiveAfterIssue
+            | Rule::QueueWithoutCapability => "3.3.13",
             Rule::CommandWhileStopped => "3.3.14",
-            Rule::CommandWhileHalted => "6.2.2",
-            Rule::MixedCommands | Rule::QueueWithoutActive => "5.5.1",
+            Rule::CommandWhileHalted | Rule::StartWithErrors => "6.2.2",
+            Rule::MixedCommands | Rule::QueueWithoutActive | Rule::SlotUsedAgain => "5.5.1",
             Rule::InterruptNotCleared => "10.7.2",
             Rule::ReservedBits => "3",
             Rule::FisLength
             | Rule::AtapiFlag
             | Rule::WriteFlag
             | Rule::ReservedHeader
-            | Rule::TableUnaligned => "4.2.2",
-            Rule::NoCommandFis | Rule::OddAddress | Rule::EvenCount | Rule::ListTooLong => "4.2.3",
+            | Rule::TableUnaligned
+            | Rule::PrefetchWithQueue
+            | Rule::PortOfMultiplier
+            | Rule::BistFlag => "4.2.2",
+            Rule::NoCommandFis
+            | Rule::OddAddress
+            | Rule::EvenCount
+            | Rule::ListTooLong
+            | Rule::ReservedFis
+            | Rule::ReservedEntry => "4.2.3",
             Rule::ListTooShort => "3.3.5",
+            Rule::ListUnaligned => "3.3.1",
+            Rule::AreaUnaligned => "3.3.3",
+            Rule::StartWithSerr | Rule::EnableOverStatus => "10.1.2",
+            Rule::ResetFlags => "10.4.1",
         }
     }
 
@@ -181,8 +262,10 @@ impl Rule {
     {
         match self {
             Rule::StartWithReceiving => Verdict::Open,
-            Rule::CommandWhileHalted | Rule::InterruptNotCleared | Rule::ListTooLong =>
-                Verdict::Odd,
+            Rule::CommandWhileHalted
+            | Rule::InterruptNotCleared
+            | Rule::ListTooLong
+            | Rule::SpeedAboveInterface => Verdict::Odd,
             _ => Verdict::Broken,
         }
     }

@@ -1,8 +1,9 @@
 //! The rules for writes to registers.
 
-ghost use Rattle.std.specs.Prelude.{◌≡◌};
+ghost use Rattle.std.specs.Prelude.{◌≡◌, [], ◌∷◌};
 ghost use Rattle.hba_regs.specs.Reading.{word_at};
-ghost use Rattle.hba_rules.specs.Writes.{active_rule, any_of, area_rule, command_rule, interrupt_rule, is_busy, is_link_state, is_mixed, is_present, is_receiving, is_started, issue_rule, link_rule, list_rule, register_rule, reserved_bits, starts, write_breaks};
+ghost use Rattle.hba_regs.specs.declared.register.Register.TheVariants.{PxCmd};
+ghost use Rattle.hba_rules.specs.Writes.{active_row, all, any_of, area_row, command_row, enable_row, exceeds, follows_issue, global_row, has_more_speed, has_state, high_area_row, high_list_row, interrupt_row, is_mixed, issue_row, lacks, lacks_power, link_row, list_row, mixes_active, mixes_issued, register_row, reserved_bits, reserved_state, write_breaks, writes};
 
 use crate::rule::Rule;
 use hba_regs::{HbaRegs, Register};
@@ -19,17 +20,19 @@ pub fn write_breaks(rule: Rule, registers: &HbaRegs, register: Register, word: u
 
 /// The rules that depend on what the registers are.
 fn register_rule(rule: Rule, registers: &HbaRegs, register: Register, word: u32) -> bool
-    ensures { result ≡ register_rule rule registers.now register word }
+    ensures { result ≡ all (register_row rule register) registers.now word }
 {
     match register {
         Register::PxCmd => command_rule(rule, registers, word),
-        Register::PxClb => list_rule(rule, registers, register, word / 1024 * 1024),
-        Register::PxClbu => list_rule(rule, registers, register, word),
-        Register::PxFb => area_rule(rule, registers, register, word / 256 * 256),
-        Register::PxFbu => area_rule(rule, registers, register, word),
+        Register::PxClb => list_rule(rule, registers, word),
+        Register::PxClbu => high_list_rule(rule, registers, word),
+        Register::PxFb => area_rule(rule, registers, word),
+        Register::PxFbu => high_area_rule(rule, registers, word),
         Register::PxSctl => link_rule(rule, registers, word),
         Register::PxSact => active_rule(rule, registers, word),
         Register::PxCi => issue_rule(rule, registers, word),
+        Register::PxIe => enable_rule(rule, registers, word),
+        Register::Ghc => global_rule(rule, registers, word),
         Register::Is => interrupt_rule(rule, registers, word),
         _ => false,
     }
@@ -42,134 +45,252 @@ fn any_of(word: u32, mask: u32) -> bool
     word & mask != 0
 }
 
-/// PxCMD.ST.
-fn is_started(registers: &HbaRegs) -> bool
-    ensures { result ≡ is_started registers.now }
+/// Whether some bit of a word is not in a mask.
+fn exceeds(word: u32, mask: u32) -> bool
+    ensures { result ≡ exceeds word mask }
 {
-    any_of(registers.word_at(Register::PxCmd), 0x01)
+    word & mask != word
 }
 
-/// PxCMD.FRE.
-fn is_receiving(registers: &HbaRegs) -> bool
-    ensures { result ≡ is_receiving registers.now }
+/// Whether some bits of a register are 1.
+fn has(registers: &HbaRegs, register: Register, mask: u32) -> bool
+    ensures { result ≡ any_of (word_at registers.now register) mask }
 {
-    any_of(registers.word_at(Register::PxCmd), 0x10)
+    any_of(registers.word_at(register), mask)
 }
 
 /// Whether a word for PxCMD sets ST.
 fn starts(registers: &HbaRegs, word: u32) -> bool
-    ensures { result ≡ starts registers.now word }
+    ensures { result ≡ all (writes 0x01 ∷ lacks PxCmd 0x01 ∷ []) registers.now word }
 {
-    any_of(word, 0x01) && !is_started(registers)
-}
-
-/// BSY or DRQ.
-fn is_busy(registers: &HbaRegs) -> bool
-    ensures { result ≡ is_busy registers.now }
-{
-    any_of(registers.word_at(Register::PxTfd), 0x88)
-}
-
-/// Whether PxSSTS.DET says that a device is there.
-fn is_present(registers: &HbaRegs) -> bool
-    ensures { result ≡ is_present registers.now }
-{
-    registers.word_at(Register::PxSsts) & 0xf == 3
+    any_of(word, 0x01) && !has(registers, Register::PxCmd, 0x01)
 }
 
 /// PxCMD: when ST and FRE may change (section 10.3).
 fn command_rule(rule: Rule, registers: &HbaRegs, word: u32) -> bool
-    ensures { result ≡ command_rule rule registers.now word }
+    ensures { result ≡ all (command_row rule) registers.now word }
 {
     match rule {
         Rule::StartWithoutReceiving => starts(registers, word) && !any_of(word, 0x10),
         Rule::StartWithReceiving => {
-            starts(registers, word) && any_of(word, 0x10) && !is_receiving(registers)
+            starts(registers, word) && any_of(word, 0x10) && !has(registers, Register::PxCmd, 0x10)
         }
         Rule::StartWhileBusy => {
-            starts(registers, word) && is_busy(registers) && !any_of(word, 0x08)
+            starts(registers, word) && has(registers, Register::PxTfd, 0x88) && !any_of(word, 0x08)
         }
-        Rule::StartWithoutDevice => starts(registers, word) && !is_present(registers),
+        Rule::StartWithoutDevice => {
+            starts(registers, word) && registers.word_at(Register::PxSsts) & 0xf != 3
+        }
+        Rule::StartWithErrors => {
+            starts(registers, word) && has(registers, Register::PxIs, 0x7800_0000)
+        }
+        Rule::StartWithSerr => {
+            starts(registers, word) && has(registers, Register::PxSerr, 0xffff_ffff)
+        }
         Rule::ReceivingClearedWhileStarted => {
-            is_started(registers) && is_receiving(registers) && !any_of(word, 0x10)
+            has(registers, Register::PxCmd, 0x01)
+                && has(registers, Register::PxCmd, 0x10)
+                && !any_of(word, 0x10)
         }
-        Rule::ClearBusyWhileStarted => is_started(registers) && any_of(word, 0x08),
+        Rule::ClearBusyWhileStarted => {
+            has(registers, Register::PxCmd, 0x01) && any_of(word, 0x08)
+        }
+        Rule::PowerWithoutCapability => lacks_power(registers, word),
         _ => false,
     }
 }
 
-/// PxCLB and PxCLBU.
-fn list_rule(rule: Rule, registers: &HbaRegs, register: Register, word: u32) -> bool
-    ensures { result ≡ list_rule rule registers.now register word }
+/// Whether the capabilities have a state of the link, a value of ICC.
+fn has_state(icc: u32, cap: u32) -> bool
+    ensures { result ≡ has_state icc cap }
+{
+    match icc {
+        0 | 1 => true,
+        2 => any_of(cap, 0x2000),
+        6 => any_of(cap, 0x4000),
+        _ => false,
+    }
+}
+
+/// Whether a word for PxCMD asks for a power state that the capabilities do not have.
+fn lacks_power(registers: &HbaRegs, word: u32) -> bool
+    ensures { result ≡ lacks_power registers.now word }
+{
+    !has_state(word / 0x1000_0000, registers.word_at(Register::Cap))
+        || (any_of(word, 0x0c00_0000) && !has(registers, Register::Cap, 0x0400_0000))
+}
+
+/// PxCLB.
+fn list_rule(rule: Rule, registers: &HbaRegs, word: u32) -> bool
+    ensures { result ≡ all (list_row rule) registers.now word }
 {
     match rule {
-        Rule::ListMovedWhileStarted => is_started(registers) && word != registers.word_at(register),
+        Rule::ListMovedWhileStarted => {
+            has(registers, Register::PxCmd, 0x01)
+                && word / 1024 * 1024 != registers.word_at(Register::PxClb)
+        }
+        Rule::ListUnaligned => any_of(word, 0x3ff),
         _ => false,
     }
 }
 
-/// PxFB and PxFBU.
-fn area_rule(rule: Rule, registers: &HbaRegs, register: Register, word: u32) -> bool
-    ensures { result ≡ area_rule rule registers.now register word }
+/// PxCLBU.
+fn high_list_rule(rule: Rule, registers: &HbaRegs, word: u32) -> bool
+    ensures { result ≡ all (high_list_row rule) registers.now word }
+{
+    match rule {
+        Rule::ListMovedWhileStarted => {
+            has(registers, Register::PxCmd, 0x01) && word != registers.word_at(Register::PxClbu)
+        }
+        _ => false,
+    }
+}
+
+/// PxFB.
+fn area_rule(rule: Rule, registers: &HbaRegs, word: u32) -> bool
+    ensures { result ≡ all (area_row rule) registers.now word }
 {
     match rule {
         Rule::AreaMovedWhileReceiving => {
-            is_receiving(registers) && word != registers.word_at(register)
+            has(registers, Register::PxCmd, 0x10)
+                && word / 256 * 256 != registers.word_at(Register::PxFb)
+        }
+        Rule::AreaUnaligned => any_of(word, 0xff),
+        _ => false,
+    }
+}
+
+/// PxFBU.
+fn high_area_rule(rule: Rule, registers: &HbaRegs, word: u32) -> bool
+    ensures { result ≡ all (high_area_row rule) registers.now word }
+{
+    match rule {
+        Rule::AreaMovedWhileReceiving => {
+            has(registers, Register::PxCmd, 0x10) && word != registers.word_at(Register::PxFbu)
         }
         _ => false,
     }
 }
 
-/// The values of PxSCTL.DET.
-fn is_link_state(det: u32) -> bool
-    ensures { result ≡ is_link_state det }
+/// Whether DET of a word for PxSCTL is reserved.
+fn has_reserved_state(word: u32) -> bool
+    ensures { result ≡ reserved_state word }
 {
-    det == 0 || det == 1 || det == 4
+    !matches!(word & 0xf, 0 | 1 | 4)
+}
+
+/// Whether SPD of a word for PxSCTL is above CAP.ISS.
+fn has_more_speed(registers: &HbaRegs, word: u32) -> bool
+    ensures { result ≡ has_more_speed registers.now word }
+{
+    registers.word_at(Register::Cap) / 0x10_0000 % 16 < word / 16 % 16
 }
 
 /// PxSCTL.
 fn link_rule(rule: Rule, registers: &HbaRegs, word: u32) -> bool
-    ensures { result ≡ link_rule rule registers.now word }
+    ensures { result ≡ all (link_row rule) registers.now word }
 {
     match rule {
         Rule::LinkChangedWhileStarted => {
-            is_started(registers) && word & 0xf != registers.word_at(Register::PxSctl) & 0xf
+            has(registers, Register::PxCmd, 0x01)
+                && word & 0xf != registers.word_at(Register::PxSctl) & 0xf
         }
-        Rule::ReservedLinkState => !is_link_state(word & 0xf),
+        Rule::ReservedLinkState => has_reserved_state(word),
+        Rule::SpeedAboveInterface => has_more_speed(registers, word),
         _ => false,
     }
 }
 
 /// PxSACT.
 fn active_rule(rule: Rule, registers: &HbaRegs, word: u32) -> bool
-    ensures { result ≡ active_rule rule registers.now word }
+    ensures { result ≡ all (active_row rule) registers.now word }
 {
     match rule {
-        Rule::ActiveWhileStopped => !is_started(registers) && word != 0,
+        Rule::ActiveWhileStopped => {
+            !has(registers, Register::PxCmd, 0x01) && any_of(word, 0xffff_ffff)
+        }
+        Rule::QueueWithoutCapability => {
+            !has(registers, Register::Cap, 0x4000_0000) && any_of(word, 0xffff_ffff)
+        }
+        Rule::SlotUsedAgain => any_of(word, registers.word_at(Register::PxSact)),
+        Rule::ActiveAfterIssue => follows_issue(registers, word),
+        Rule::MixedCommands => mixes_active(registers, word),
         _ => false,
     }
 }
 
-/// Whether queued commands and others are outstanding together.
-fn is_mixed(sact: u32, all: u32) -> bool
-    ensures { result ≡ is_mixed sact all }
+/// Whether a word for PxSACT has a slot that was issued and is not active.
+fn follows_issue(registers: &HbaRegs, word: u32) -> bool
+    ensures { result ≡ follows_issue registers.now word }
 {
-    sact != 0 && all & sact != all
+    exceeds(
+        word & registers.word_at(Register::PxCi),
+        registers.word_at(Register::PxSact),
+    )
+}
+
+/// Whether queued commands and others are outstanding together.
+fn is_mixed(sact: u32, ci: u32) -> bool
+    ensures { result ≡ is_mixed sact ci }
+{
+    sact != 0 && exceeds(ci, sact)
+}
+
+/// Whether they begin to be with a word for PxSACT.
+fn mixes_active(registers: &HbaRegs, word: u32) -> bool
+    ensures { result ≡ mixes_active registers.now word }
+{
+    let sact = registers.word_at(Register::PxSact);
+    let ci = registers.word_at(Register::PxCi);
+    is_mixed(sact | word, ci) && !is_mixed(sact, ci)
+}
+
+/// Whether they begin to be with a word for PxCI.
+fn mixes_issued(registers: &HbaRegs, word: u32) -> bool
+    ensures { result ≡ mixes_issued registers.now word }
+{
+    let sact = registers.word_at(Register::PxSact);
+    let ci = registers.word_at(Register::PxCi);
+    is_mixed(sact, ci | word) && !is_mixed(sact, ci)
 }
 
 /// PxCI.
 fn issue_rule(rule: Rule, registers: &HbaRegs, word: u32) -> bool
-    ensures { result ≡ issue_rule rule registers.now word }
+    ensures { result ≡ all (issue_row rule) registers.now word }
 {
     match rule {
-        Rule::CommandWhileStopped => !is_started(registers) && word != 0,
-        Rule::CommandWhileHalted => registers.is_halted() && word != 0,
-        Rule::MixedCommands => {
-            word != 0
-                && is_mixed(
-                    registers.word_at(Register::PxSact),
-                    registers.word_at(Register::PxCi) | word,
-                )
+        Rule::CommandWhileStopped => {
+            !has(registers, Register::PxCmd, 0x01) && any_of(word, 0xffff_ffff)
+        }
+        Rule::CommandWhileHalted => registers.is_halted() && any_of(word, 0xffff_ffff),
+        Rule::SlotUsedAgain => any_of(word, registers.word_at(Register::PxCi)),
+        Rule::MixedCommands => mixes_issued(registers, word),
+        _ => false,
+    }
+}
+
+/// PxIE.
+fn enable_rule(rule: Rule, registers: &HbaRegs, word: u32) -> bool
+    ensures { result ≡ all (enable_row rule) registers.now word }
+{
+    match rule {
+        Rule::EnableOverStatus => exceeds(
+            word & registers.word_at(Register::PxIs),
+            registers.word_at(Register::PxIe),
+        ),
+        _ => false,
+    }
+}
+
+/// GHC.
+fn global_rule(rule: Rule, registers: &HbaRegs, word: u32) -> bool
+    ensures { result ≡ all (global_row rule) registers.now word }
+{
+    match rule {
+        Rule::EnableOverStatus => {
+            any_of(word, 0x02)
+                && !has(registers, Register::Ghc, 0x02)
+                && has(registers, Register::Is, 0xffff_ffff)
         }
         _ => false,
     }
@@ -177,15 +298,11 @@ fn issue_rule(rule: Rule, registers: &HbaRegs, word: u32) -> bool
 
 /// IS: the order in which interrupts are cleared (section 10.7.2).
 fn interrupt_rule(rule: Rule, registers: &HbaRegs, word: u32) -> bool
-    ensures { result ≡ interrupt_rule rule registers.now word }
+    ensures { result ≡ all (interrupt_row rule) registers.now word }
 {
     match rule {
         Rule::InterruptNotCleared => {
-            any_of(word, 0x01)
-                && any_of(
-                    registers.word_at(Register::PxIs),
-                    registers.word_at(Register::PxIe),
-                )
+            any_of(word, 0x01) && has(registers, Register::PxIs, registers.word_at(Register::PxIe))
         }
         _ => false,
     }
@@ -196,11 +313,17 @@ fn reserved_bits(register: Register) -> u32
     ensures { result ≡ reserved_bits register }
 {
     match register {
+        Register::Cap => 0x0008_0000,
         Register::Ghc => 0x7fff_fff8,
         Register::Is => 0xffff_fffe,
+        Register::PxClb => 0x0000_03ff,
+        Register::PxFb => 0x0000_00ff,
         Register::PxIs | Register::PxIe => 0x023f_ff00,
         Register::PxCmd => 0x0000_00e0,
+        Register::PxTfd => 0xffff_0000,
+        Register::PxSsts => 0xffff_f000,
         Register::PxSctl => 0xfff0_0000,
+        Register::PxSerr => 0xf800_f0fc,
         _ => 0,
     }
 }
