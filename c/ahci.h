@@ -357,6 +357,19 @@ typedef struct ahci_hba {
 } ahci_hba;
 #define AHCI_HBA_EMPTY { NULL, false }
 
+/* What a controller can do, as its CAP shows it (section 3.1.1), without padding. Of a flag, all but 0 is 1. */
+typedef struct ahci_hba_capabilities {
+    uint32_t ncs;  /* the number of command slots, 1 to 32; CAP.NCS is this number less 1 */
+    uint32_t iss;  /* the fastest generation of the interface, 1 to 3 */
+    uint32_t s64a; /* 64-bit addressing; with 0 the upper halves of all addresses are 0 */
+    uint32_t sncq; /* native command queuing; with 0 a driver must not issue queued commands, which are carried out all the same */
+    uint32_t sss;  /* staggered spin-up: the disk waits for PxCMD.SUD */
+    uint32_t sclo; /* command list override: PxCMD.CLO has an effect */
+    uint32_t salp; /* aggressive link power management: PxCMD.ALPE and PxCMD.ASP can be written; the link stays active */
+    uint32_t pmd;  /* PIO multiple DRQ block; with 0 the data of several blocks are moved all the same */
+} ahci_hba_capabilities;
+#define AHCI_HBA_USUAL { 32, 2, 1, 1, 0, 1, 0, 1 }
+
 /* What the controller does next with the driver's memory. */
 typedef enum ahci_want {
     AHCI_WANT_NOTHING = 0,
@@ -371,8 +384,8 @@ typedef enum ahci_hba_step_kind {
     AHCI_STEP_SEND = 2,    /* it goes to the disk's queue: its request is in the journal then */
     AHCI_STEP_ACCEPT = 3,  /* the disk takes it, or refuses it if it passes the last sector */
     AHCI_STEP_SERVE = 4,   /* the disk moves its data and completes it; or ahci_hba_fail fails it */
-    AHCI_STEP_DELIVER = 5, /* its answer is assembled, and written next */
-    AHCI_STEP_EXECUTE = 6, /* a command that does not move sectors is carried out, or aborted */
+    AHCI_STEP_DELIVER = 5, /* its answer is assembled, and written next; by PIO, one block in each of these steps */
+    AHCI_STEP_EXECUTE = 6, /* a command for which the disk's queue moves no sectors is carried out, or aborted */
     AHCI_STEP_CONTROL = 7, /* the disk takes a control FIS: one with SRST drops all commands (section 10.4.1) */
     AHCI_STEP_RECOVER = 8  /* the log of a failed queued command is read (section 6.2.2): what it held up is dropped */
 } ahci_hba_step_kind;
@@ -403,7 +416,7 @@ typedef enum ahci_rule {
     AHCI_RULE_ACTIVE_WHILE_STOPPED = 10, /* a bit of PxSACT is set while ST is 0 (section 3.3.13) */
     AHCI_RULE_COMMAND_WHILE_STOPPED = 11, /* a bit of PxCI is set while ST is 0 (section 3.3.14) */
     AHCI_RULE_COMMAND_WHILE_HALTED = 12, /* a bit of PxCI is set after an error and before ST is cleared (section 6.2.2) */
-    AHCI_RULE_MIXED_COMMANDS = 13, /* queued commands and others are outstanding together (section 5.5.1) */
+    AHCI_RULE_MIXED_COMMANDS = 13, /* queued commands and others begin to be outstanding together (section 5.5.1) */
     AHCI_RULE_INTERRUPT_NOT_CLEARED = 14, /* IS is cleared while an enabled bit of PxIS is 1: it comes again (section 10.7.2) */
     AHCI_RULE_RESERVED_BITS = 15, /* reserved bits of a register are written 1 (section 3) */
     AHCI_RULE_FIS_LENGTH = 16, /* CFL is not the five dwords of a Register FIS - Host to Device (section 4.2.2) */
@@ -413,14 +426,30 @@ typedef enum ahci_rule {
     AHCI_RULE_ACTIVE_WITHOUT_QUEUE = 20, /* PxSACT has the slot of a command that is not queued (section 3.3.13) */
     AHCI_RULE_QUEUE_WITHOUT_ACTIVE = 21, /* PxSACT does not have the slot of a queued command (section 5.5.1) */
     AHCI_RULE_TAG_NOT_SLOT = 22, /* the tag of a queued command is not its slot (section 3.3.13) */
-    AHCI_RULE_RESERVED_HEADER = 23, /* reserved dwords of a command header are not 0 (section 4.2.2) */
+    AHCI_RULE_RESERVED_HEADER = 23, /* reserved bits of a command header are not 0 (section 4.2.2) */
     AHCI_RULE_TABLE_UNALIGNED = 24, /* CTBA is not a multiple of 128 (section 4.2.2) */
     AHCI_RULE_ODD_ADDRESS = 25, /* DBA of a PRDT entry is odd (section 4.2.3) */
     AHCI_RULE_EVEN_COUNT = 26, /* bit 0 of DBC is 0: the length is odd (section 4.2.3) */
     AHCI_RULE_LIST_TOO_SHORT = 27, /* the PRDT has fewer bytes than the command moves (section 3.3.5) */
-    AHCI_RULE_LIST_TOO_LONG = 28 /* the PRDT has more bytes than the command moves (section 4.2.3) */
+    AHCI_RULE_LIST_TOO_LONG = 28, /* the PRDT has more bytes than the command moves (section 4.2.3) */
+    AHCI_RULE_LIST_UNALIGNED = 29, /* PxCLB is written an address that is not a multiple of 1,024 (section 3.3.1) */
+    AHCI_RULE_AREA_UNALIGNED = 30, /* PxFB is written an address that is not a multiple of 256 (section 3.3.3) */
+    AHCI_RULE_SLOT_USED_AGAIN = 31, /* a slot is used while PxCI or PxSACT still has it (section 5.5.1) */
+    AHCI_RULE_ACTIVE_AFTER_ISSUE = 32, /* a bit of PxSACT is set after its bit of PxCI, not before (section 3.3.13) */
+    AHCI_RULE_START_WITH_ERRORS = 33, /* ST is set while TFES, HBFS, HBDS or IFS of PxIS is 1 (section 6.2.2) */
+    AHCI_RULE_START_WITH_SERR = 34, /* ST is set while PxSERR is not 0 (section 10.1.2) */
+    AHCI_RULE_ENABLE_OVER_STATUS = 35, /* PxIE or GHC.IE enables what PxIS or IS already has (section 10.1.2) */
+    AHCI_RULE_SPEED_ABOVE_INTERFACE = 36, /* PxSCTL.SPD is above CAP.ISS, or reserved (section 3.3.11) */
+    AHCI_RULE_POWER_WITHOUT_CAPABILITY = 37, /* ICC, ALPE or ASP is set without the capability (section 3.3.7) */
+    AHCI_RULE_QUEUE_WITHOUT_CAPABILITY = 38, /* a bit of PxSACT is set while CAP.SNCQ is 0 (section 3.3.13) */
+    AHCI_RULE_PREFETCH_WITH_QUEUE = 39, /* P is 1 for a queued command (section 4.2.2) */
+    AHCI_RULE_PORT_OF_MULTIPLIER = 40, /* PMP of a header or PM Port of a FIS is not 0, without port multipliers (section 4.2.2) */
+    AHCI_RULE_BIST_FLAG = 41, /* B is 1 for a FIS that is no BIST Activate FIS (section 4.2.2) */
+    AHCI_RULE_RESET_FLAGS = 42, /* R and C are not 1 for the FIS that sets SRST, or are 1 for another (section 10.4.1) */
+    AHCI_RULE_RESERVED_FIS = 43, /* reserved bits of a Register FIS - Host to Device are not 0 (section 4.2.3) */
+    AHCI_RULE_RESERVED_ENTRY = 44 /* reserved bits of a PRDT entry are not 0 (section 4.2.3) */
 } ahci_rule;
-#define AHCI_RULES 29 /* how many there are */
+#define AHCI_RULES 45 /* how many there are */
 
 /* ---- a port ---- */
 
@@ -552,9 +581,13 @@ uint32_t ahci_port_state(ahci_port *port, ahci_state *state);
    discarded: *entries is how many entries it had, else 0. The new journal continues with the next number over the disk as it is. At any
    other time the journal only grows, until ahci_hba_trim. */
 
-/* Makes a controller after power-on, in front of a disk with a copy of this image, in an empty place. Its command list has 32 slots;
-   `depth` is the queue depth of IDENTIFY DEVICE. AHCI_PORT_THERE, AHCI_BAD_SIZE, AHCI_BAD_DEPTH, AHCI_OUT_OF_MEMORY. */
+/* Makes a controller after power-on with AHCI_HBA_USUAL, in front of a disk with a copy of this image, in an empty place. `depth` is the queue
+   depth of IDENTIFY DEVICE. AHCI_PORT_THERE, AHCI_BAD_SIZE, AHCI_BAD_DEPTH, AHCI_OUT_OF_MEMORY. */
 uint32_t ahci_hba_new(ahci_hba *hba, const uint8_t *image, size_t image_bytes, uint32_t depth);
+
+/* The same with these capabilities. AHCI_PORT_THERE, AHCI_BAD_SIZE, AHCI_BAD_DEPTH, AHCI_BAD_KIND if `ncs` is not 1 to 32 or `iss` is not 1
+   to 3, AHCI_OUT_OF_MEMORY. */
+uint32_t ahci_hba_new_with(ahci_hba *hba, const uint8_t *image, size_t image_bytes, uint32_t depth, const ahci_hba_capabilities *capabilities);
 
 /* Frees a controller, and leaves its place empty. AHCI_NO_PORT, as every call from here to ahci_hba_port. */
 uint32_t ahci_hba_free(ahci_hba *hba);
@@ -587,13 +620,14 @@ uint32_t ahci_hba_unmapped(ahci_hba *hba);
 uint32_t ahci_hba_step(ahci_hba *hba, uint32_t slot, uint64_t *entries);
 
 /* The disk fails a command that it has accepted with an error byte at one of its sectors, if the command is queued: a Set Device Bits FIS
-   with ERR. Log 10h names that sector, and a driver takes the command's sectors before it as moved: Linux completes their requests. A
-   failed command has moved none, so its first sector is the one to name. AHCI_BAD_TAG, AHCI_NOT_READY if `next` is not AHCI_STEP_SERVE, if the
-   command is not queued, or if the sector is not one of its own. */
+   with ERR. Log 10h names that sector, and a driver takes the command's sectors before it as moved: Linux completes their requests. A read
+   moves them; a write changes no sector, and its first one is named. AHCI_BAD_TAG, AHCI_NOT_READY if `next` is not AHCI_STEP_SERVE, if the
+   command is not queued, or if the sector is not one of its own; AHCI_OUT_OF_MEMORY: the call can be repeated. */
 uint32_t ahci_hba_fail(ahci_hba *hba, uint32_t slot, uint8_t error, uint64_t lba);
 
-/* The disk fails a command that is not queued and was just read, with an error byte and an LBA: a D2H Register FIS with ERR. From the
-   LBA of a failed read or write a driver concludes what it does after ahci_hba_fail. AHCI_BAD_TAG, AHCI_BAD_LBA, AHCI_NOT_READY. */
+/* The disk fails a command that is not queued and was just read, with an error byte and an LBA: a D2H Register FIS with ERR. The sectors
+   of a read before that LBA move; a write changes none, and its first one is named. AHCI_BAD_TAG, AHCI_BAD_LBA, AHCI_NOT_READY;
+   AHCI_OUT_OF_MEMORY: the call can be repeated. */
 uint32_t ahci_hba_refuse(ahci_hba *hba, uint32_t slot, uint8_t error, uint64_t lba);
 
 /* The FIS of the disk's signature is taken, and written if FRE is 1; if not, `sign` is 1 again once FRE is 1. AHCI_NOT_READY if `sign` is 0. If

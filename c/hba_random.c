@@ -1,6 +1,6 @@
 /* Plays bytes as what a driver and a disk do to one controller, and compares each call with the shadow of hba_shadow.h. With COUNT runs it makes
    the bytes itself: hba_random COUNT [FIRST], where FIRST is the number of the first run. */
-#include "hba_shadow.h"
+#include "hba_shadow_answers.h"
 
 static const uint8_t *input;
 static size_t left;
@@ -24,7 +24,7 @@ static void moves(bool gone)
         CHECK(ahci_hba_supply(&hba, bytes, 0) == AHCI_OK && ahci_hba_written(&hba) == AHCI_OK && ahci_hba_unmapped(&hba) == AHCI_OK);
     } else if (!place || gone) {
         CHECK(ahci_hba_unmapped(&hba) == AHCI_OK);
-        halts();
+        fatal(HBFS);
     } else if (fetch.on) {
         CHECK(ahci_hba_supply(&hba, place, (size_t)count) == AHCI_OK);
         reads(place, count);
@@ -36,57 +36,13 @@ static void moves(bool gone)
     follow(0);
 }
 
-/* The answer to a command that the queue has done. */
-static void delivers(uint32_t slot)
+/* The first slot whose next step is this one, or any. */
+static uint32_t slot_at(uint32_t step)
 {
-    const struct command *it = &slots[slot];
-    const uint64_t data = it->writes ? 0 : it->moved;
-    served = false;
-    if (it->kind == QUEUE)
-        answers(slot, 0x00, data, false, 0x58, DONE);
-    else if (it->pio)
-        answers(slot, 0x20, data, true, NO_FIS, ALONE);
-    else
-        answers(slot, NO_FIS, data, true, 0x40, ALONE);
-}
-
-/* A command that is not queued is carried out: a page, or a D2H Register FIS alone. */
-static void executes(uint32_t slot)
-{
-    struct command *it = &slots[slot];
-    bool aborted = failed && !it->error_log;
-    for (uint32_t other = 0; other < 32; other++)
-        aborted = aborted || (slots[other].there && slots[other].kind == QUEUE);
-    it->there = false;
-    if (it->kind == PAGE && !aborted)
-        delivers(slot);
-    else
-        answers(slot, NO_FIS, 0, false, 0x40, ALONE);
-}
-
-static void fails(uint32_t slot, uint8_t error, uint64_t lba, enum ends how)
-{
-    failed = true;
-    CHECK(ahci_log_page(slot, error, lba, page, sizeof page) == AHCI_OK);
-    answers(slot, NO_FIS, 0, false, how == TAKEN ? 0x40 : 0x58, FAILS);
-}
-
-/* The device takes a control FIS (section 10.4.1): SRST holds it in its reset, and the next FIS without SRST ends that. */
-static void controls(uint32_t slot)
-{
-    if (slots[slot].resets) {
-        drop();
-        failed = false;
-        signature = PAST;
-        soft = HELD;
-    } else if (soft == HELD) {
-        drop();
-        signature = DUE;
-        soft = ENDING;
-        soft_slot = slot;
-    } else {
-        slots[slot].there = false;
-    }
+    for (uint32_t slot = 0; slot < 32; slot++)
+        if (look.next[slot] == step)
+            return slot;
+    return byte() % 32;
 }
 
 /* The next step of a slot. */
@@ -102,22 +58,29 @@ static void steps(uint32_t slot)
         fetch.on = true;
         fetch.slot = reg.ccs = slot;
         fetch.phase = 0;
-        reg.first = (slot + 1) % 32;
+        reg.first = (slot + 1) % can.ncs;
         break;
     case AHCI_STEP_SEND: it->sent = true; break;
     case AHCI_STEP_ACCEPT:
-        if (it->lba + it->sectors > SECTORS)
-            fails(slot, 0x10, it->lba > SECTORS ? it->lba : SECTORS, TAKEN);
+        it->accepted = true;
+        if (it->kind == QUEUE && is_past(it))
+            fails(slot, 0x10, first_past(it), true);
         else if (it->kind == QUEUE)
-            answers(slot, NO_FIS, 0, false, 0x40, TAKEN);
+            answers_alone(slot, d2h(0, 0x40, 0, 0));
         break;
     case AHCI_STEP_SERVE:
         follow(0);
         it->there = it->sent = false;
-        served = true;
-        answer.slot = slot;
+        transfer.on = true;
+        transfer.begun = false;
+        transfer.slot = slot;
         break;
-    case AHCI_STEP_DELIVER: delivers(slot); break;
+    case AHCI_STEP_DELIVER:
+        if (transfer.begun)
+            moves_on(slot);
+        else
+            delivers(slot);
+        break;
     case AHCI_STEP_EXECUTE: executes(slot); break;
     case AHCI_STEP_CONTROL: controls(slot); break;
     case AHCI_STEP_RECOVER:
@@ -129,30 +92,31 @@ static void steps(uint32_t slot)
     follow(entries);
 }
 
+/* The disk fails a queued command at one of its sectors, or at one beside them, which it can't. */
 static void fail(void)
 {
-    const uint32_t slot = byte() % 34;
+    const uint32_t slot = byte() % 4 ? slot_at(AHCI_STEP_SERVE) : byte() % 34;
     const uint8_t error = byte();
     const struct command *it = &slots[slot % 32];
     const uint64_t lba = it->lba + byte() % 6 - 1;
     const bool fits = slot < 32 && look.next[slot] == AHCI_STEP_SERVE && it->kind == QUEUE && lba >= it->lba && lba < it->lba + it->sectors;
     CHECK(ahci_hba_fail(&hba, slot, error, lba) == (slot > 31 ? AHCI_BAD_TAG : fits ? AHCI_OK : AHCI_NOT_READY));
     if (fits)
-        fails(slot, error, lba, FAILS);
+        fails(slot, error, lba, false);
     follow(0);
 }
 
+/* The disk fails a command that is not queued, at any LBA. */
 static void refuse(void)
 {
-    const uint32_t slot = byte() % 34;
-    const uint64_t lba = byte() % 8 ? byte() : (uint64_t)1 << 48;
-    struct command *it = &slots[slot % 32];
-    const bool fits = slot < 32 && is_ready() && it->there && !it->sent && it->kind != QUEUE;
+    const uint32_t slot = byte() % 4 ? slot_at(AHCI_STEP_SEND) : byte() % 34;
+    const struct command *it = &slots[slot % 32];
+    const uint8_t pick = byte();
+    const uint64_t lba = pick % 16 == 0 ? (uint64_t)1 << 48 : pick % 16 == 1 ? byte() : (it->lba + pick / 16 % 8 - 1) & 0xFFFFFFFFFFFF;
+    const bool fits = slot < 32 && is_ready() && it->there && !it->sent && !it->queued;
     CHECK(ahci_hba_refuse(&hba, slot, 0x40, lba) == (slot > 31 ? AHCI_BAD_TAG : lba >> 48 ? AHCI_BAD_LBA : fits ? AHCI_OK : AHCI_NOT_READY));
-    if (fits && !(lba >> 48)) {
-        it->there = false;
-        answers(slot, NO_FIS, 0, false, 0x40, ALONE);
-    }
+    if (fits && !(lba >> 48))
+        fails_alone(slot, 0x40, lba);
     follow(0);
 }
 
@@ -161,7 +125,7 @@ static void sign(void)
     CHECK(!look.sign || (reg.link == UP && look.want == AHCI_WANT_NOTHING));
     CHECK(ahci_hba_sign(&hba) == (look.sign ? AHCI_OK : AHCI_NOT_READY));
     if (look.sign)
-        answers(0, NO_FIS, 0, false, 0x40, SIGNED);
+        signs();
     follow(0);
 }
 
@@ -211,12 +175,6 @@ static void trim(void)
 
 /* ---- the driver ---- */
 
-static void put(uint8_t *at, uint64_t value, uint32_t count)
-{
-    for (uint32_t i = 0; i < count; i++)
-        at[i] = (uint8_t)(value >> 8 * i);
-}
-
 /* Data of the driver: below HIGH or above it. */
 static uint64_t somewhere(void)
 {
@@ -224,41 +182,48 @@ static uint64_t somewhere(void)
     return (pick & 1 ? HIGH + 0x2000 : LOW + 0x4000) + 16 * (pick & 0xFE);
 }
 
-/* The PRDT of a command that moves so many bytes; how many entries it has. Some are too short, some too long, some name no memory. */
+/* What a list is like: most have one entry of all the bytes, and the others may be too short too. */
+enum shape { WHOLE, FEW, MANY, SHORT, LONGER, NOWHERE, WILD, NONE, ANY_LENGTH, FEW_SHORT, MANY_SHORT, MORE };
+
+/* The PRDT of a command that moves so many bytes; how many entries it has. */
 static uint32_t lay_list(uint8_t *to, uint32_t moved)
 {
-    const uint32_t pick = byte() % 32, shape = pick < 9 ? pick : 0, pieces = shape == 1 ? 2 + byte() % 4 : shape == 2 ? 110 : 1;
-    const uint32_t needed = shape == 3 ? moved / 2 : shape == 4 ? moved + 2 + byte() % 64 * 2u : moved;
+    const uint32_t pick = byte() % 48;
+    const enum shape shape = pick <= MORE ? (enum shape)pick : WHOLE;
+    const bool is_few = shape == FEW || shape == FEW_SHORT, is_many = shape == MANY || shape == MANY_SHORT, is_short = shape == SHORT || shape == FEW_SHORT || shape == MANY_SHORT;
+    const uint32_t pieces = is_few ? 2 + byte() % 4 : is_many ? 110 : 1;
+    const uint32_t needed = is_short ? (moved * byte() / 256) & ~1u : shape == LONGER ? moved + 2 + byte() % 64 * 2u : moved;
     uint32_t count = 0, laid = 0;
     while ((laid < needed || count == 0) && count < pieces) {
-        const uint32_t rest = needed > laid ? needed - laid : 2, part = count + 1 == pieces ? rest : shape == 2 ? 2 * (1 + byte() % 60u) : 2 * (1 + byte() % 200u);
+        const uint32_t rest = needed > laid ? needed - laid : 2, part = count + 1 == pieces ? rest : 2 * (1 + byte() % (is_many ? 40u : 200u));
         const uint32_t size = part < rest ? part : rest;
-        put(to + 16 * count, shape == 5 && count + 1 == pieces ? 0x20000u + 2u * byte() : somewhere() + byte() % 2, 8);
+        put(to + 16 * count, shape == NOWHERE && count + 1 == pieces ? 0x20000u + 2u * byte() : somewhere() + byte() % 2, 8);
         put(to + 16 * count + 8, 0, 4);
         put(to + 16 * count++ + 12, ((size - 1) & 0x3FFFFF) | (byte() % 4 ? 0 : 0x80000000), 4);
         laid += size;
     }
-    if (shape == 6)
+    if (shape == WILD)
         for (uint32_t i = 0; i < 16 * count; i += 4)
             put(to + i, word(), 4);
-    if (shape == 4) {
+    if (shape == LONGER) {
         put(to + 16 * count, 0xFFFFFFFFFFFF0000, 8);
         put(to + 16 * count++ + 12, word(), 4);
     }
-    return shape == 7 ? 0 : shape == 8 && byte() % 4 == 0 ? word() & 0xFFFF : count;
+    return shape == NONE ? 0 : shape == ANY_LENGTH && byte() % 4 == 0 ? word() & 0xFFFF : shape == MORE ? count + byte() % 64 : count;
 }
 
 /* Lays out a command in a slot, and issues it. */
 static void command(void)
 {
-    static const uint8_t codes[] = { 0x60, 0x61, 0x60, 0x61, 0x60, 0x61, 0x60, 0x61, 0xC8, 0xCA, 0x25, 0x35, 0x20, 0x30, 0x24, 0x34, 0xEC, 0x2F, 0x2F, 0x47, 0xEA, 0xE7, 0xEF, 0xA1,
+    static const uint8_t codes[] = { 0x60, 0x61, 0x60, 0x61, 0x60, 0x61, 0x60, 0x61, 0xC8, 0xCA, 0x25, 0x35, 0x20, 0x20, 0x30, 0x24, 0x34, 0x34, 0xEC, 0x2F, 0x2F, 0x47, 0xEA, 0xE7, 0xEF, 0xA1,
         0x40, 0x42, 0x27, 0x90, 0xE5, 0xE0, 0x00, 0xB0 };
     const uint32_t slot = byte() % 8 == 7 ? 31 : byte() % 6, code = codes[byte() % sizeof codes], bit = 1u << slot;
-    const uint8_t far = byte(), lba = far % 32 ? far % 12 : far / 32 + 10, many = byte(), count = many % 128 ? 1 + many % 4 : 0, odd = byte();
+    const uint8_t far = byte(), lba = far % 32 ? far % 12 : far / 32 + 10, many = byte(), count = many % 128 ? 1 + many % 5 : 0, odd = byte();
     const bool queued = code == 0x60 || code == 0x61, log = code == 0x2F || code == 0x47, is_control = odd % 32 == 30 || (soft == HELD && odd % 4 == 2);
+    const uint32_t tag = odd % 16 == 9 ? depth + many % 3 - 1 : slot;
     const uint64_t at = (odd & 1 ? HIGH + 0x800 : LOW + 0x1000) + 0x800 * (slot % 3);
     uint8_t *header = memory(list_base() + 32 * slot, 32), *table = memory(at, 0x800);
-    uint8_t fis[20] = { 0x27, 0x80, (uint8_t)code, queued ? count : 3, lba, 0, 0, 0x40, 0, 0, 0, 0, queued ? (uint8_t)(slot << 3) : count };
+    uint8_t fis[20] = { 0x27, 0x80, (uint8_t)code, queued ? count : 3, lba, 0, 0, 0x40, 0, 0, 0, 0, queued ? (uint8_t)(tag << 3) : count };
     if (log) {
         fis[4] = many % 8 ? 0x10 : 0;
         fis[12] = many % 16 ? 1 : 2;
@@ -281,6 +246,17 @@ static void command(void)
     write(AHCI_REG_PXCI, bit);
 }
 
+/* What the controller can do: the usual, or anything. */
+static ahci_hba_capabilities capabilities(void)
+{
+    ahci_hba_capabilities it = AHCI_HBA_USUAL;
+    if (byte() % 2) {
+        const uint8_t flags = byte();
+        it = (ahci_hba_capabilities) { 1 + byte() % 32, 1 + byte() % 3, flags & 1, flags & 2, flags & 4, flags & 8, flags & 16, flags & 32 };
+    }
+    return it;
+}
+
 /* The port is initialised (section 10.1.2), with its places below HIGH or above it, or nowhere. */
 static void start(void)
 {
@@ -291,21 +267,24 @@ static void start(void)
     write(AHCI_REG_PXCLBU, pick & 1);
     write(AHCI_REG_PXFB, pick % 64 == 11 ? 0x20000 : pick & 4 ? 0x400 : LOW + 0x400);
     write(AHCI_REG_PXFBU, pick >> 2 & 1);
-    write(AHCI_REG_PXCMD, pick % 32 == 13 ? 0 : 0x10);
+    write(AHCI_REG_PXCMD, pick % 32 == 13 ? 2 : 0x12);
     write(AHCI_REG_PXIS, 0xFFFFFFFF);
     write(AHCI_REG_PXSERR, 0xFFFFFFFF);
     write(AHCI_REG_PXIE, 0x7840007F);
-    write(AHCI_REG_PXCMD, pick % 32 == 13 ? 1 : 0x11);
+    write(AHCI_REG_PXCMD, pick % 32 == 13 ? 3 : 0x13);
 }
 
 /* ST off and on, as after an error; with CLO, so that a command that is never answered leaves no BSY. */
 static void restart(void)
 {
-    write(AHCI_REG_PXCMD, 0x10);
-    write(AHCI_REG_PXCMD, byte() % 4 ? 0x18 : 0x10);
+    write(AHCI_REG_PXCMD, 0x12);
+    write(AHCI_REG_PXCMD, byte() % 4 ? 0x1A : 0x12);
     write(AHCI_REG_PXIS, 0xFFFFFFFF);
-    write(AHCI_REG_PXCMD, 0x11);
+    write(AHCI_REG_PXCMD, 0x13);
 }
+
+/* FRE off or on, whatever the port does. */
+static void pause(void) { write(AHCI_REG_PXCMD, (reg.on ? 3 : 2) | (reg.receiving ? 0 : 0x10)); }
 
 /* Nothing happens any more by itself. */
 static bool is_stuck(void)
@@ -397,10 +376,12 @@ int LLVMFuzzerTestOneInput(const uint8_t *bytes, size_t count);
 int LLVMFuzzerTestOneInput(const uint8_t *bytes, size_t count)
 {
     static void (*const calls[])(void) = { command, command, command, command, step_any, step_any, step_any, step_any, step_any, step_any, step_any, step_any, move_all, move_all,
-        move_all, move_all, move_all, move_one, move_one, step_this, fail, refuse, sign, sign, restart_if_halted, restart_if_halted, restart, reset, write_any, read_any, trim, scribble };
+        move_all, move_all, move_all, move_one, move_one, step_this, fail, refuse, sign, sign, restart_if_halted, restart_if_halted, restart, reset, write_any, read_any, trim, scribble, pause };
     uint8_t sector[AHCI_SECTOR_BYTES];
     input = bytes;
     left = count;
+    can = capabilities();
+    depth = byte() % 2 ? 32 : 1 + byte() % 32;
     begin();
     if (byte() % 16)
         start();
@@ -435,6 +416,8 @@ int main(int count, char **arguments)
     }
     printf("%lu runs of a controller, with %lu commands done, %lu dropped, %lu trims, and the port halted %lu times: the shadow has seen no difference\n", runs, counted.done, counted.dropped,
         counted.trims, counted.halts);
+    printf("of them %lu blocks by PIO, %lu reads that spilled, %lu writes that were stuck, %lu failures behind the first sector, and %lu tags past the depth\n", counted.blocks, counted.spilled,
+        counted.stuck, counted.partial, counted.deep);
     return 0;
 }
 #endif

@@ -52,7 +52,7 @@ def until(hba: Hba, memory: bytearray, slot: int, step: Step) -> None:
 
 memory = bytearray(0x10000)
 with Hba(bytes(SECTORS * 512), depth=32) as hba:
-    assert (hba.read(0x00), hba.read(0x10), hba.read(0x13C), hba.read(0x104, 8)) == (0xC1241F00, 0x00010301, 0, 0)
+    assert (hba.read(0x00), hba.read(0x10), hba.read(0x13C), hba.read(0x104, 8)) == (0xC1249F00, 0x00010301, 0, 0)
     refused(ahci.Status.WRONG_LENGTH, lambda: hba.read(0, 3))
     refused(ahci.Status.WRONG_LENGTH, lambda: hba.write(0, 0, 5))
     assert hba.look().sign  # FRE is 0, so the FIS is taken and not written; it is written once FRE is 1
@@ -63,6 +63,9 @@ with Hba(bytes(SECTORS * 512), depth=32) as hba:
     hba.write(PXCLB, LIST)
     hba.write(PXFB, RECEIVED)
     assert hba.write_breaks(Rule.START_WITHOUT_RECEIVING, PXCMD, 1) and not hba.write_breaks(Rule.START_WITHOUT_RECEIVING, PXCMD, 0x10)
+    for at in (0x08, 0x100, 0x108, 0x110, 0x114, 0x130):  # IS, PxCLB, PxFB, PxIS, PxIE and PxSERR have reserved bits
+        assert hba.write_breaks(Rule.RESERVED_BITS, at, 0xFFFFFFFF)
+    assert not hba.write_breaks(Rule.RESERVED_BITS, 0x130, 0x07FF0F03)
     refused(ahci.Status.NO_SUCH_REGISTER, lambda: hba.write_breaks(Rule.RESERVED_BITS, 0x13C, 1))
     hba.write(PXCMD, 0x10)
     assert hba.look().sign and hba.look().depth == 32
@@ -145,7 +148,16 @@ header, fis = struct.pack("<HHIQ16x", 5, 1, 0, TABLES), queued(0x60, 2, 5).ljust
 assert command_breaks(Rule.TAG_NOT_SLOT, 3, True, header, fis) and not command_breaks(Rule.TAG_NOT_SLOT, 2, True, header, fis)
 assert command_breaks(Rule.QUEUE_WITHOUT_ACTIVE, 2, False, header, fis)
 assert entry_breaks(Rule.ODD_ADDRESS, struct.pack("<QII", DATA + 1, 0, 511)) and not entry_breaks(Rule.EVEN_COUNT, struct.pack("<QII", DATA, 0, 511))
-assert length_breaks(Rule.LIST_TOO_SHORT, fis, 511) and not length_breaks(Rule.LIST_TOO_LONG, fis, 512)
+assert entry_breaks(Rule.RESERVED_ENTRY, struct.pack("<QII", DATA, 1, 511)) and not entry_breaks(Rule.RESERVED_ENTRY, struct.pack("<QII", DATA, 0, 1 << 31 | 511))
+assert command_breaks(Rule.RESET_FLAGS, 0, False, struct.pack("<HHIQ16x", 1 << 8 | 5, 0, 0, TABLES), bytes([0x27, 0]).ljust(15, b"\0") + bytes([4]) + bytes(4))
+assert length_breaks(Rule.LIST_TOO_SHORT, fis, 0) and length_breaks(Rule.LIST_TOO_SHORT, fis, 511) and not length_breaks(Rule.LIST_TOO_LONG, fis, 512)
 refused(ahci.Status.BAD_SIZE, lambda: Hba(bytes(100), 32))
+refused(ahci.Status.BAD_KIND, lambda: Hba(bytes(512), 32, ahci.Capabilities(ncs=33)))
+refused(ahci.Status.BAD_KIND, lambda: Hba(bytes(512), 32, ahci.Capabilities(iss=0)))
+few = ahci.Capabilities(ncs=8, iss=1, s64a=False, sncq=False, sss=True, sclo=False, salp=True, pmd=False)
+with Hba(bytes(512), depth=32, capabilities=few) as hba:
+    assert (hba.read(0x00), hba.read(0x118), hba.read(0x128)) == (0x0C140700, 0x00000004, 0)
+    hba.write(0x118, 0x0C000002)
+    assert (hba.read(0x118), hba.read(0x128)) == (0x0C000006, 0x00000113)
 refused(ahci.Status.BAD_DEPTH, lambda: Hba(bytes(512), 33))
 print("every call of a controller, and every refusal that it has")

@@ -15,9 +15,9 @@ import ctypes
 import mmap
 from typing import Optional, Union
 
-from .library import Bytes, HbaPlace, LookStruct, Owner, fits, given, u32, u64
+from .library import Bytes, CapabilitiesStruct, HbaPlace, LookStruct, Owner, fits, given, u32, u64
 from .names import Rule, Step, Want
-from .records import Entry, Look, State
+from .records import Capabilities, Entry, Look, State
 
 Memory = Union[bytearray, memoryview, mmap.mmap]
 
@@ -27,10 +27,11 @@ class Hba(Owner):
 
     _prefix = "hba"
 
-    def __init__(self, image: Bytes, depth: int) -> None:
-        """After power-on, in front of a disk with a copy of an image of whole sectors."""
+    def __init__(self, image: Bytes, depth: int, capabilities: Capabilities = Capabilities()) -> None:
+        """After power-on, in front of a disk with a copy of an image of whole sectors. The controller can do what `capabilities` says."""
         super().__init__(HbaPlace())
-        self._call("new", *given(image), fits(depth, 32, "depth"))
+        words = CapabilitiesStruct(*(fits(it, 32, name) for name, it in zip(capabilities._fields, capabilities)))
+        self._call("new_with", *given(image), fits(depth, 32, "depth"), ctypes.byref(words))
 
     def __enter__(self) -> "Hba":
         return self

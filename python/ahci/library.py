@@ -94,6 +94,10 @@ class LookStruct(ctypes.Structure):
     ]
 
 
+class CapabilitiesStruct(ctypes.Structure):
+    _fields_ = [(name, u32) for name in ("ncs", "iss", "s64a", "sncq", "sss", "sclo", "salp", "pmd")]
+
+
 def to(kind: Any) -> Any:
     return ctypes.POINTER(kind)
 
@@ -131,6 +135,7 @@ _PORT: Dict[str, List[Any]] = {
 }
 _HBA: Dict[str, List[Any]] = {
     "new": [_text, size, u32],
+    "new_with": [_text, size, u32, to(CapabilitiesStruct)],
     "free": [],
     "read": [u32, u32, to(u64)],
     "write": [u32, u32, u64, to(u64)],

@@ -112,6 +112,19 @@ class Fis(NamedTuple):
     tag: int = 0
 
 
+class Capabilities(NamedTuple):
+    """What a controller can do, as its CAP shows it (ahci_hba_capabilities). Without arguments those of a controller that is made without any."""
+
+    ncs: int = 32
+    iss: int = 2
+    s64a: bool = True
+    sncq: bool = True
+    sss: bool = False
+    sclo: bool = True
+    salp: bool = False
+    pmd: bool = True
+
+
 class Look(NamedTuple):
     """What a controller does next (ahci_hba_state)."""
 

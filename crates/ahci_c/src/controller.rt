@@ -3,16 +3,17 @@
 
 ghost use Rattle.std.specs.Prelude.{◌≡◌, length, ⊤};
 ghost use Rattle.ahci_ffi.specs.Making.{size_refusal};
-ghost use Rattle.ahci_hba.specs.{Moving.{put_done, unmapped}, States.{new_hba}};
+ghost use Rattle.ahci_hba.specs.{Moving.{put_done, unmapped}, States.{hba_with, new_hba}};
 ghost use Rattle.hba_ffi.specs.{
   Calls.{AnswersBytes, AnswersRead, AnswersSupply, AnswersWrite},
+  Capable.{capabilities_for, making_refusal},
   Looking.{IsLook},
   Over.{Changes, Empties, Fills, Reads},
   PlaceView.{view_of},
 };
 
 use ahci_ffi::Status;
-use hba_ffi::{FlatHba, HbaPlace};
+use hba_ffi::{FlatCapabilities, FlatHba, HbaPlace};
 use std::alloc::Global;
 
 /// Makes a controller in front of a disk with a copy of an image, in an empty place.
@@ -24,6 +25,24 @@ pub extern "C" fn ahci_hba_new(hba: &mut HbaPlace, heap: Global, image: &[u8], d
         return Status::PortThere.code();
     }
     hba.fill(hba_ffi::make(heap, image, depth))
+}
+
+/// The same with these capabilities.
+#[unsafe(no_mangle)]
+pub extern "C" fn ahci_hba_new_with(
+    hba: &mut HbaPlace,
+    heap: Global,
+    image: &[u8],
+    depth: u32,
+    capabilities: &FlatCapabilities,
+) -> u32
+    ensures { Fills result (view_of hba.old) (view_of hba.new) (making_refusal (length image.now) depth capabilities.now)
+        (hba_with image.now depth (capabilities_for capabilities.now)) }
+{
+    if hba.is_full() {
+        return Status::PortThere.code();
+    }
+    hba.fill(hba_ffi::make_with(heap, image, depth, capabilities))
 }
 
 /// Frees a controller, and leaves its place empty.

@@ -1,6 +1,6 @@
 -- How each call on a controller is answered: exactly by the reason against it, or else by what it does of the controller and puts where its
 -- pointers lead.
-use Rattle.std.specs.Prelude.{◌≡◌, ℕ, ◌^◌, List, length, nat_le, Option, None, Some, IsSomeAnd, if◌then◌else◌}
+use Rattle.std.specs.Prelude.{◌≡◌, ℕ, ◌^◌, ◌⊎◌, List, length, nat_le, Option, None, Some, IsSomeAnd, if◌then◌else◌}
 use Rattle.ncq_journal.specs.History.{History}
 use Rattle.hba_regs.specs.Accessing.{read_of, size_of, write_of}
 use Rattle.hba_regs.specs.declared.access_size.AccessSize.{AccessSize}
@@ -10,10 +10,9 @@ use Rattle.ahci_ffi.specs.Told.{Told, ToldOr}
 use Rattle.ahci_ffi.specs.declared.status.Status.{Status}
 use Rattle.ahci_ffi.specs.declared.status.Status.TheVariants as status
 use Rattle.ahci_hba.specs.Dropping.{journal_out, written}
-use Rattle.ahci_hba.specs.Executing.{concluded, refused}
+use Rattle.ahci_hba.specs.Failing.{Fails, own_in, refused_at}
 use Rattle.ahci_hba.specs.HbaView.{HbaView}
 use Rattle.ahci_hba.specs.Moving.{put_next, run_read, supplied}
-use Rattle.ahci_hba.specs.Queueing.{IsFailed}
 use Rattle.ahci_hba.specs.Resetting.{may_sign, signing}
 use Rattle.ahci_hba.specs.Stepping.{IsTaken, may_fail, may_refuse, next_step}
 use Rattle.ahci_hba.specs.Trimming.{trimmed_hba}
@@ -66,9 +65,14 @@ AnswersStep slot answer old new before after =
     ToldOr answer (with_tag slot (unless_possible (next_step old slot))) (IsSomeAnd (next_step old slot) (HasTaken slot old new after))
     ((new ≡ old) × (after ≡ before))
 
+-- whatever else may be, an allocation can have failed
+abbrev pub OrLacks : (told : Type 0) → Status → (same : Type 0) → Type 0
+OrLacks told answer same = told ⊎ ((answer ≡ (status.Refused refusal.OutOfMemory)) × same)
+
 abbrev pub AnswersFail : (slot error lba : ℕ) → Status → (old new : HbaView) → Type 0
 AnswersFail slot error lba answer old new =
-    Told answer (with_tag slot (if may_fail old slot lba then None else Some status.NotReady)) (IsFailed slot error lba old new) (new ≡ old)
+    OrLacks (Told answer (with_tag slot (if may_fail old slot lba then None else Some status.NotReady)) (Fails slot error lba (own_in old slot lba) old new) (new ≡ old))
+    answer (new ≡ old)
 
 -- an LBA has 48 bits
 abbrev pub refuse_refusal : HbaView → (slot lba : ℕ) → Option Status
@@ -77,7 +81,7 @@ refuse_refusal h slot lba =
 
 abbrev pub AnswersRefuse : (slot error lba : ℕ) → Status → (old new : HbaView) → Type 0
 AnswersRefuse slot error lba answer old new =
-    Told answer (refuse_refusal old slot lba) (new ≡ concluded old slot (refused error lba)) (new ≡ old)
+    ToldOr answer (refuse_refusal old slot lba) (new ≡ refused_at old slot error lba) (new ≡ old)
 
 abbrev pub AnswersSign : Status → (old new : HbaView) → Type 0
 AnswersSign answer old new = Told answer (if may_sign old then None else Some status.NotReady) (new ≡ signing old) (new ≡ old)

@@ -1,3 +1,4 @@
+pub mod Capable
 pub mod Held
 pub mod PlaceView
 pub mod Over

@@ -5,8 +5,8 @@ use Rattle.hba_memory.specs.Reading.{next_run}
 use Rattle.hba_memory.specs.Posting.{remaining}
 use Rattle.hba_memory.specs.Runs.{first_put}
 use Rattle.hba_regs.specs.Interrupts.{interrupt}
-use Rattle.ahci_hba.specs.HbaView.{HbaView, WorkView, Fetching, Posting}
-use Rattle.ahci_hba.specs.Moving.{place_of, want_of}
+use Rattle.ahci_hba.specs.HbaView.{HbaView, WorkView, Fetching, Posting, Block}
+use Rattle.ahci_hba.specs.Moving.{address_of, want_of}
 use Rattle.ahci_hba.specs.Resetting.{may_sign}
 use Rattle.ahci_hba.specs.Stepping.{next_step}
 use Rattle.ahci_hba.specs.declared.step.Step.{Step}
@@ -35,11 +35,12 @@ step_number (Some step.Recover) = 8
 -- how many bytes are read or written next
 abbrev pub length_moved : WorkView → ℕ
 length_moved (Fetching slot r) = (next_run r).length
+length_moved (Block p t) = length (first_put (remaining p)).bytes
 length_moved (Posting p e) = length (first_put (remaining p)).bytes
 length_moved other = 0
 
 pub record IsLook (h : HbaView) (look : FlatHba) : Type 0 where
-  pub address : look.address ≡ place_of h.work
+  pub address : look.address ≡ address_of h
   pub length : look.length ≡ length_moved h.work
   pub want : look.want ≡ want_number (want_of h.work)
   pub interrupt : look.interrupt ≡ number_if (interrupt h.registers)

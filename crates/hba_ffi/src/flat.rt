@@ -17,3 +17,25 @@ pub struct FlatHba {
     /// By slot, the number of the next step with its command; 0 if there is none.
     pub next: [u8; 32],
 }
+
+/// What a controller can do, as C says it: the fields of CAP that may differ, with no padding. Of a flag, all but 0 is 1.
+#[repr(C)]
+#[derive(Clone, Copy, Debug, PartialEq, Eq)]
+pub struct FlatCapabilities {
+    /// The number of command slots, 1 to 32; CAP.NCS has this number less 1.
+    pub ncs: u32,
+    /// The fastest generation of the interface, 1 to 3.
+    pub iss: u32,
+    /// 64-bit addressing.
+    pub s64a: u32,
+    /// Native command queuing.
+    pub sncq: u32,
+    /// Staggered spin-up.
+    pub sss: u32,
+    /// Command list override.
+    pub sclo: u32,
+    /// Aggressive link power management.
+    pub salp: u32,
+    /// PIO multiple DRQ block.
+    pub pmd: u32,
+}

@@ -1,6 +1,7 @@
 //! What C can do with a controller: a place for one, and each call over it, answered by one status. `ahci_c` exports the calls.
 #![tactic(auto)]
 
+mod capable;
 mod flat;
 mod held;
 mod judging;
@@ -12,11 +13,11 @@ mod registers;
 mod stepping;
 mod trimming;
 
-pub use flat::FlatHba;
+pub use flat::{FlatCapabilities, FlatHba};
 pub use held::HeldHba;
 pub use judging::{command_breaks, entry_breaks, length_breaks, write_breaks};
 pub use looking::{copy, entry, entry_bytes, look, port};
-pub use making::make;
+pub use making::{make, make_with};
 pub use moving::{bytes, supply, unmapped, written};
 pub use place::HbaPlace;
 pub use registers::{read, write};

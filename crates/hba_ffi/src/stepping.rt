@@ -40,7 +40,8 @@ pub fn fail<A: Allocator + Copy>(hba: &mut Hba<A>, slot: u32, error: u8, lba: u6
     }
     match hba.fail(slot as u8, error, lba) {
         Ok(()) => Status::Done,
-        Err(_) => Status::NotReady,
+        Err(HbaFault::NotReady) => Status::NotReady,
+        Err(HbaFault::OutOfMemory) => Status::Refused(Refusal::OutOfMemory),
     }
 }
 
@@ -56,7 +57,8 @@ pub fn refuse<A: Allocator + Copy>(hba: &mut Hba<A>, slot: u32, error: u8, lba: 
     }
     match hba.refuse(slot as u8, error, lba) {
         Ok(()) => Status::Done,
-        Err(_) => Status::NotReady,
+        Err(HbaFault::NotReady) => Status::NotReady,
+        Err(HbaFault::OutOfMemory) => Status::Refused(Refusal::OutOfMemory),
     }
 }
 

@@ -1,0 +1,323 @@
+/* The answers of the shadow's disk: its FISes, which bytes are written and when, and what is next of each slot. */
+#include "hba_shadow_commands.h"
+
+/* ---- the device's FISes ---- */
+
+static struct fis d2h(uint8_t flags, uint8_t status, uint8_t error, uint64_t lba)
+{
+    struct fis it = { { 0x34, flags, status, error }, 20, false };
+    put(it.bytes + 4, lba, 3);
+    put(it.bytes + 8, lba >> 24, 3);
+    return it;
+}
+
+static struct fis good(void) { return d2h(0x40, 0x40, 0, 0); }
+static struct fis bad(uint8_t error, uint64_t lba) { return d2h(0x40, 0x41, error, lba); }
+
+/* With the signature of a disk: count 1 and LBA 1. */
+static struct fis with_signature(struct fis it)
+{
+    it.bytes[4] = it.bytes[12] = 1;
+    return it;
+}
+
+/* It has the whole number of bytes: the device has not come to the sector that fails. */
+static struct fis dma_setup(const struct command *it, uint32_t slot)
+{
+    struct fis made = { { 0x41, it->writes ? 0 : 0x20, 0, 0, (uint8_t)slot }, 28, false };
+    put(made.bytes + 20, it->moved, 4);
+    return made;
+}
+
+static struct fis set_bits(uint8_t status, uint8_t error, uint32_t bits)
+{
+    struct fis made = { { 0xA1, 0x40, status, error }, 8, false };
+    put(made.bytes + 4, bits, 4);
+    return made;
+}
+
+/* The FIS before a block: the host's first block of a write has no I (docs/LAYOUTS.md, "PIO, block by block"). */
+static struct fis pio_setup(bool out, bool is_first, bool is_last)
+{
+    struct fis made = { { 0x5F, out ? (is_first ? 0 : 0x40) : 0x60, 0x48 }, 20, false };
+    made.bytes[15] = !out && is_last ? 0x40 : 0xC0;
+    put(made.bytes + 16, AHCI_SECTOR_BYTES, 2);
+    return made;
+}
+
+/* ---- answers ---- */
+
+/* An answer is put together: a FIS or none, data, PRDBC, another FIS or none. Data that have no room fill the list, and no FIS comes behind them. */
+static void answers(uint32_t slot, struct fis before, uint64_t data, bool counts, struct fis after)
+{
+    const struct command *it = &slots[slot];
+    answer.on = true;
+    answer.slot = slot;
+    answer.spills = data && data > it->room - it->used;
+    answer.left = answer.spills ? it->room - it->used : data;
+    answer.counts = counts;
+    answer.before = before;
+    answer.after = after;
+    answer.before.due = before.size && reg.receiving;
+    answer.after.due = after.size && reg.receiving && !answer.spills;
+    answer.signs = false;
+    if (is_over())
+        ends();
+}
+
+static void answers_alone(uint32_t slot, struct fis fis) { answers(slot, no_fis, 0, false, fis); }
+
+/* The FIS of the signature is taken, or posted later. */
+static void signs(void)
+{
+    answer.on = answer.signs = true;
+    answer.spills = answer.counts = false;
+    answer.slot = 0;
+    answer.left = 0;
+    answer.before = no_fis;
+    answer.after = with_signature(d2h(0, 0x50, 1, 0));
+    answer.after.due = reg.receiving;
+    if (is_over())
+        ends();
+}
+
+/* An answer of several blocks is begun, with a FIS behind them or none. */
+static void begins(uint32_t slot, uint64_t bytes, struct fis end)
+{
+    transfer.on = transfer.begun = true;
+    transfer.slot = slot;
+    transfer.blocks = (uint32_t)(bytes / AHCI_SECTOR_BYTES);
+    transfer.past = 0;
+    transfer.end = end;
+}
+
+/* The next block, or what comes behind the last one of a write and of a read that fails: PRDBC and the FIS. */
+static void moves_on(uint32_t slot)
+{
+    const bool out = slots[slot].writes, is_first = transfer.past == 0, is_last = transfer.past + 1 == transfer.blocks && !transfer.end.size;
+    if (transfer.past == transfer.blocks) {
+        transfer.on = false;
+        answers(slot, no_fis, 0, true, transfer.end);
+        return;
+    }
+    transfer.past++;
+    transfer.on = !is_last;
+    answers(slot, pio_setup(out, is_first, is_last), out ? 0 : AHCI_SECTOR_BYTES, !out, no_fis);
+}
+
+/* The answer to a command that has moved its data in the disk. */
+static void delivers(uint32_t slot)
+{
+    const struct command *it = &slots[slot];
+    const uint64_t data = it->writes ? 0 : it->moved;
+    transfer.on = false;
+    if (it->kind == QUEUE)
+        answers(slot, dma_setup(it, slot), data, false, set_bits(0x40, 0, 1u << slot));
+    else if (it->kind == PAGE && it->pio)
+        answers(slot, pio_setup(false, true, true), data, true, no_fis);
+    else if (it->pio)
+        begins(slot, it->moved, it->writes ? good() : no_fis);
+    else
+        answers(slot, no_fis, data, true, good());
+}
+
+/* How many bytes of a read come before an LBA, of those that are on the disk; they are taken from the image. */
+static uint64_t comes_before(struct command *it, uint64_t lba)
+{
+    const uint64_t end = it->lba + it->sectors, stop = lba < end ? lba : end, last = stop < SECTORS ? stop : SECTORS;
+    if (it->writes || last <= it->lba || !it->moved)
+        return 0;
+    memcpy(it->bytes, image + it->lba * AHCI_SECTOR_BYTES, (last - it->lba) * AHCI_SECTOR_BYTES);
+    counted.partial++;
+    return (last - it->lba) * AHCI_SECTOR_BYTES;
+}
+
+/* A command that is not queued fails at an LBA: a read has moved what comes before, and a write names its first sector. */
+static void fails_alone(uint32_t slot, uint8_t error, uint64_t lba)
+{
+    struct command *it = &slots[slot];
+    const uint64_t data = it->kind == READ ? comes_before(it, lba) : 0;
+    const struct fis fis = bad(error, it->kind == WRITE ? it->lba : lba);
+    it->there = false;
+    if (data && it->pio)
+        begins(slot, data, fis);
+    else
+        answers(slot, no_fis, data, data != 0, fis);
+}
+
+/* A queued command fails: refused as it is taken, or at one of its sectors. */
+static void fails(uint32_t slot, uint8_t error, uint64_t lba, bool is_refused)
+{
+    struct command *it = &slots[slot];
+    const uint64_t at = it->writes && !is_refused ? it->lba : lba, data = is_refused ? 0 : comes_before(it, lba);
+    failed = true;
+    CHECK(ahci_log_page(slot, error, at, page, sizeof page) == AHCI_OK);
+    if (is_refused)
+        answers_alone(slot, bad(error, at));
+    else
+        answers(slot, data ? dma_setup(it, slot) : no_fis, data, false, set_bits(0x41, error, 0));
+}
+
+/* Whether the disk aborts a command that is not queued: a queued one is outstanding, or has failed. */
+static bool is_aborted(uint32_t slot)
+{
+    bool aborted = failed && !slots[slot].error_log;
+    for (uint32_t other = 0; other < 32; other++)
+        aborted = aborted || (other != slot && slots[other].there && slots[other].queued);
+    return aborted;
+}
+
+/* A transfer mode of SET FEATURES that the page of IDENTIFY DEVICE has: PIO default, PIO 0 to 4, multiword DMA 0 to 2, Ultra DMA 0 to 5. */
+static bool is_mode(uint8_t mode) { return mode < 2 || (mode >= 0x08 && mode <= 0x0C) || (mode >= 0x20 && mode <= 0x22) || (mode >= 0x40 && mode <= 0x45); }
+
+/* The D2H Register FIS of a command that moves no data. */
+static struct fis answer_to(const struct command *it)
+{
+    struct fis fis = good();
+    switch (it->fis[2]) {
+    case 0x40: case 0x42: return is_past(it) ? bad(0x10, first_past(it)) : fis;
+    case 0xF8: case 0x27: return d2h(0x40, 0x40, 0, SECTORS - 1);
+    case 0xE7: case 0xEA: case 0xE0: case 0xE1: case 0xE2: case 0xE3: return fis;
+    case 0xEF: return it->fis[3] == 3 && is_mode(it->fis[12]) ? fis : bad(4, 0);
+    case 0xE5: fis.bytes[12] = 0xFF; return fis;
+    case 0x90: return with_signature(d2h(0x40, 0x40, 1, 0));
+    case 0xA1: return with_signature(bad(4, 0));
+    default: return bad(4, 0);
+    }
+}
+
+/* A command for which the queue moves no sectors is carried out, or aborted. */
+static void executes(uint32_t slot)
+{
+    struct command *it = &slots[slot];
+    const bool aborted = is_aborted(slot);
+    it->there = false;
+    if (aborted)
+        answers_alone(slot, bad(4, 0));
+    else if (it->kind == PAGE)
+        delivers(slot);
+    else if (it->kind == READ || it->kind == WRITE)
+        fails_alone(slot, 0x10, first_past(it));
+    else
+        answers_alone(slot, answer_to(it));
+}
+
+/* The device takes a control FIS (section 10.4.1): SRST holds it in its reset, and the next FIS without SRST ends that. */
+static void controls(uint32_t slot)
+{
+    if (slots[slot].resets) {
+        drop();
+        failed = false;
+        signature = PAST;
+        soft = HELD;
+    } else if (soft == HELD) {
+        drop();
+        signature = DUE;
+        soft = ENDING;
+        soft_slot = slot;
+    } else {
+        slots[slot].there = false;
+    }
+}
+
+/* Whether bytes may be written there now: they are the next ones of the answer. */
+static bool may_write(uint64_t at, uint64_t count, const uint8_t *bytes)
+{
+    const struct command *it = &slots[answer.slot];
+    const struct fis *fis = answer.before.due ? &answer.before : &answer.after;
+    const uint32_t place = fis->bytes[0] == 0x41 ? 0 : fis->bytes[0] == 0x5F ? 0x20 : fis->bytes[0] == 0x34 ? 0x40 : 0x58;
+    if (!answer.before.due && answer.left) {
+        const uint64_t room = it->list[it->piece].bytes - it->into, size = room < answer.left ? room : answer.left;
+        return at == reach(it->list[it->piece].at) + it->into && count == size && memcmp(bytes, it->bytes + it->used, size) == 0;
+    }
+    if (!answer.before.due && answer.counts)
+        return at == reach(list_base() + 32 * answer.slot + 4) && count == 4 && little(bytes, 4) == (it->writes ? it->moved : it->used);
+    return reg.receiving && fis->due && at == reach(fis_base() + place) && count == fis->size && memcmp(bytes, fis->bytes, count) == 0;
+}
+
+static void written(uint64_t count)
+{
+    struct command *it = &slots[answer.slot];
+    if (answer.before.due) {
+        answer.before.due = false;
+    } else if (answer.left) {
+        answer.left -= count;
+        it->used += count;
+        it->into += count;
+        if (it->into == it->list[it->piece].bytes) {
+            it->into = 0;
+            it->piece++;
+        }
+    } else if (answer.counts) {
+        answer.counts = false;
+    } else {
+        answer.after.due = false;
+    }
+    if (is_over())
+        ends();
+}
+
+/* ---- what is next of each slot ---- */
+
+/* The controller may take a step with its list; the device may move. */
+static bool is_listening(void) { return reg.on && !reg.halted && reg.link == UP && !fetch.on && !answer.on && !transfer.on; }
+static bool is_ready(void) { return is_listening() && reg.receiving && soft == OFF; }
+
+static bool waits(uint32_t slot) { return reg.ci >> slot & 1 && !slots[slot].there; }
+
+/* The slot to issue from next (AHCI 1.3.1, section 3.3.7, CCS): from the one behind CCS on, the first whose command waits. 32: none, or not now. */
+static uint32_t next_slot(void)
+{
+    if (!is_listening() || is_busy_with_one())
+        return 32;
+    for (uint32_t slot = 0; slot < 32; slot++)
+        if (slots[slot].there && !slots[slot].queued)
+            return 32;
+    for (uint32_t i = 0; i < can.ncs; i++)
+        if (waits((reg.first + i) % can.ncs))
+            return (reg.first + i) % can.ncs;
+    return 32;
+}
+
+/* The next step of a slot (docs/LAYOUTS.md, "The controller's commands"); `issued` is the one to issue from next. */
+static uint32_t next_step(uint32_t slot, uint32_t issued)
+{
+    const struct command *it = &slots[slot];
+    const bool moves = it->kind == QUEUE || it->kind == READ || it->kind == WRITE;
+    if (transfer.on && slot == transfer.slot)
+        return reg.on && !reg.halted && reg.receiving && !answer.on ? AHCI_STEP_DELIVER : AHCI_STEP_NONE;
+    if (it->there && it->kind == CONTROL)
+        return is_listening() ? AHCI_STEP_CONTROL : AHCI_STEP_NONE;
+    if (slot == issued)
+        return AHCI_STEP_FETCH;
+    if (!it->there || !is_ready())
+        return AHCI_STEP_NONE;
+    if (it->sent)
+        return it->accepted ? AHCI_STEP_SERVE : AHCI_STEP_ACCEPT;
+    if (it->error_log && failed && !is_aborted(slot))
+        return AHCI_STEP_RECOVER;
+    if (it->kind == QUEUE)
+        return failed ? AHCI_STEP_EXECUTE : AHCI_STEP_SEND;
+    return moves && !is_aborted(slot) && !is_past(it) ? AHCI_STEP_SEND : AHCI_STEP_EXECUTE;
+}
+
+/* All that the shadow knows, beside what is there. */
+static void compare(void)
+{
+    CHECK(driven(AHCI_REG_PXCLB) == reg.clb && driven(AHCI_REG_PXCLBU) == reg.clbu && driven(AHCI_REG_PXFB) == reg.fb && driven(AHCI_REG_PXFBU) == reg.fbu);
+    CHECK(driven(AHCI_REG_PXIE) == reg.ie && driven(AHCI_REG_PXSCTL) == reg.sctl && driven(AHCI_REG_GHC) == (0x80000000u | reg.enabled << 1));
+    CHECK(driven(AHCI_REG_PXCMD) == (4u | (reg.sud ? AHCI_PXCMD_SUD : 0) | (reg.on ? 0x8001u | reg.ccs << 8 : 0) | (reg.receiving ? 0x4010u : 0) | reg.lights));
+    CHECK(driven(AHCI_REG_PXSSTS) == (reg.link == UP ? 0x103u + (reg.speed << 4) : reg.link == OFFLINE ? 4u : 0));
+    CHECK(driven(AHCI_REG_PXSACT) == reg.sact);
+    CHECK(driven(AHCI_REG_PXCI) == reg.ci);
+    CHECK(driven(AHCI_REG_PXTFD) == reg.tfd);
+    CHECK(driven(AHCI_REG_PXIS) == interrupts());
+    CHECK(driven(AHCI_REG_IS) == reg.pending && driven(AHCI_REG_PXSERR) == reg.serr && driven(AHCI_REG_PXSIG) == reg.sig);
+    CHECK(ahci_hba_look(&hba, &look) == AHCI_OK && look.depth == depth);
+    CHECK(look.interrupt == (reg.enabled && reg.pending));
+    CHECK(look.want == (uint32_t)(fetch.on ? AHCI_WANT_READ : answer.on ? AHCI_WANT_WRITE : AHCI_WANT_NOTHING));
+    CHECK(look.sign == (signature_moves() && !fetch.on && !answer.on && !transfer.on));
+    const uint32_t issued = next_slot();
+    for (uint32_t slot = 0; slot < 32; slot++)
+        CHECK(look.next[slot] == next_step(slot, issued));
+}
