@@ -121,7 +121,7 @@ static void take_step(struct device *device, uint32_t slot) {
     uint8_t kind = device->state.next[slot];
     uint64_t entries = 0;
     if (is_answer(kind))
-        judge_answer(&device->judge, device->memory, slot);
+        judge_answer(&device->judge, slot);
     if (kind == AHCI_STEP_DELIVER)
         history_sync(&device->history); /* an answer may take effect without a write to the guest's memory */
     uint32_t status = ahci_hba_step(&device->hba, slot, &entries);
@@ -199,27 +199,49 @@ uint64_t device_read(struct device *device, uint32_t offset, uint32_t bytes) {
     uint32_t status = ahci_hba_read(&device->hba, offset, bytes, &value);
     if (status != AHCI_OK)
         log_line("a read of %" PRIu32 " bytes at %03" PRIx32 " was refused: status %" PRIu32, bytes, offset, status);
+    value = slow_read(&device->slow, offset, bytes, value);
+    judge_read(&device->judge, &device->hba, offset, bytes, value);
     return value;
 }
 
-void device_write(struct device *device, uint32_t offset, uint32_t bytes, uint64_t value) {
+/* A word of the controller's registers, as it is. */
+static uint32_t word_at(struct device *device, uint32_t offset) {
+    uint64_t word = 0;
+    device_must("ahci_hba_read", ahci_hba_read(&device->hba, offset, 4, &word));
+    return (uint32_t)word;
+}
+
+/* Writes to a register: what the controller does, and what follows from it. */
+static void put(struct device *device, uint32_t offset, uint32_t bytes, uint64_t value) {
     uint64_t entries = 0;
-    judge_write(&device->judge, &device->hba, offset, bytes, value);
+    uint32_t command = word_at(device, AHCI_REG_PXCMD);
     uint32_t status = ahci_hba_write(&device->hba, offset, bytes, value, &entries);
     if (status != AHCI_OK)
         log_line("a write of %" PRIu32 " bytes at %03" PRIx32 " was refused: status %" PRIu32, bytes, offset, status);
+    slow_write(&device->slow, offset, bytes, value, command, word_at(device, AHCI_REG_PXCMD));
     device->stuck = 0;
-    device->stalled &= (uint32_t)(device_read(device, AHCI_REG_PXCI, 4) | device_read(device, AHCI_REG_PXSACT, 4));
+    device->stalled &= word_at(device, AHCI_REG_PXCI) | word_at(device, AHCI_REG_PXSACT);
     device->mute = false;
     history_follow(device, entries, false);
     device_look(device);
 }
 
+void device_write(struct device *device, uint32_t offset, uint32_t bytes, uint64_t value) {
+    judge_write(&device->judge, &device->hba, offset, bytes, value);
+    put(device, offset, bytes, value);
+}
+
+void device_master(struct device *device, bool is_master) {
+    judge_master(&device->judge, &device->hba, is_master);
+}
+
 void device_reset(struct device *device) {
     static const uint32_t bases[] = {AHCI_REG_PXCLB, AHCI_REG_PXCLBU, AHCI_REG_PXFB, AHCI_REG_PXFBU};
-    device_write(device, AHCI_REG_GHC, 4, AHCI_GHC_HR);
+    put(device, AHCI_REG_GHC, 4, AHCI_GHC_HR);
     for (unsigned i = 0; i < sizeof bases / sizeof *bases; i++) /* a reset by GHC.HR keeps them */
-        device_write(device, bases[i], 4, 0);
+        put(device, bases[i], 4, 0);
+    slow_reset(&device->slow);
+    judge_power_on(&device->judge);
 }
 
 /* ---- the beginning and the end ---- */
@@ -233,7 +255,8 @@ static int make(struct device *device) {
     uint8_t *bytes = image_read(&settings->image, settings->sectors);
     if (!bytes)
         return -1;
-    uint32_t status = ahci_hba_new(&device->hba, bytes, (size_t)settings->sectors * AHCI_SECTOR_BYTES, settings->depth);
+    const size_t size = (size_t)settings->sectors * AHCI_SECTOR_BYTES;
+    uint32_t status = ahci_hba_new_with(&device->hba, bytes, size, settings->depth, &settings->capabilities);
     free(bytes);
     if (status == AHCI_OK)
         return 0;
@@ -242,7 +265,8 @@ static int make(struct device *device) {
 }
 
 int device_begin(struct device *device, struct settings *settings, struct memory *memory) {
-    *device = (struct device){.settings = settings, .memory = memory, .hba = AHCI_HBA_EMPTY, .random = generator_of(settings->seed), .started = device_now()};
+    *device = (struct device){.settings = settings, .memory = memory, .hba = AHCI_HBA_EMPTY, .random = generator_of(settings->seed), .started = device_now(),
+                               .slow.reads = settings->slow_bits};
     device->disk = (struct disk){.it = &device->hba, .sectors = settings->sectors, .copy = copy_sector};
     if (make(device))
         return -1;
@@ -250,7 +274,7 @@ int device_begin(struct device *device, struct settings *settings, struct memory
         ahci_hba_free(&device->hba);
         return -1;
     }
-    judge_begin(&device->judge, settings->judge, settings->json);
+    judge_begin(&device->judge, settings, memory);
     device_look(device);
     return 0;
 }

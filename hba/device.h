@@ -9,6 +9,7 @@
 #include "judge.h"
 #include "memory.h"
 #include "settings.h"
+#include "slow.h"
 
 #include <ahci.h>
 
@@ -32,6 +33,7 @@ struct device {
     struct disk disk;      /* its sectors, for the image and the record */
     struct history history;
     struct judge judge;
+    struct slow slow;
     struct task tasks[AHCI_MOST_TAGS]; /* by slot */
     uint64_t commands; /* how many that name sectors were read */
     uint32_t reading; /* the slot whose command is read */
@@ -58,6 +60,9 @@ int device_end(struct device *device, int *broken);
 /* An access of the driver to the registers, in 1, 2, 4 or 8 bytes. */
 uint64_t device_read(struct device *device, uint32_t offset, uint32_t bytes);
 void device_write(struct device *device, uint32_t offset, uint32_t bytes, uint64_t value);
+
+/* The driver makes the function a bus master, or none. */
+void device_master(struct device *device, bool is_master);
 
 /* The PCI function is reset. */
 void device_reset(struct device *device);

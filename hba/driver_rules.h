@@ -11,15 +11,28 @@ enum own_rule {
     JUDGE_TABLE_CHANGED,
     JUDGE_DATA_CHANGED,
     JUDGE_LOG_NOT_READ,
+    JUDGE_LIST_NOT_GIVEN,
+    JUDGE_AREA_NOT_GIVEN,
+    JUDGE_RUNNING_NOT_AWAITED,
+    JUDGE_RECEIVING_NOT_AWAITED,
+    JUDGE_CLEAR_BUSY_NOT_AWAITED,
+    JUDGE_RESET_NOT_AWAITED,
+    JUDGE_LINK_NOT_AWAITED,
+    JUDGE_SHORT_COMRESET,
+    JUDGE_RESET_ALONE,
+    JUDGE_RESET_BESIDE_COMMANDS,
+    JUDGE_TAG_ABOVE_DEPTH,
+    JUDGE_MEMORY_OVERLAPS,
+    JUDGE_MASTER_OFF,
     JUDGE_RULES /* how many there are in all */
 };
 
 enum verdict { VERDICT_BROKEN, VERDICT_OPEN, VERDICT_ODD };
 
-/* A rule of AHCI 1.3.1, named for what breaks it. */
+/* A rule, named for what breaks it. */
 struct driver_rule {
     const char *name;
-    const char *section;
+    const char *section; /* of AHCI 1.3.1; or another standard */
     enum verdict verdict;
     const char *text;
 };

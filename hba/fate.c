@@ -51,17 +51,37 @@ void fate_decide(struct device *device) {
             decide(device, slot);
 }
 
-/* Fails a command by a rule of --fail. The error names the command's first sector: a driver takes the sectors before the named one as moved, and
-   a failed command has moved none. It returns false if the library doesn't let it. */
-static bool fail(struct device *device, uint32_t slot) {
+/* Fails a command with an error byte at an LBA, and returns the library's status. Without memory the device waits, and the caller tries again. */
+static uint32_t fail_at(struct device *device, uint32_t slot, uint8_t error, uint64_t lba) {
+    bool queued = device->tasks[slot].command.queued;
+    uint32_t status = queued ? ahci_hba_fail(&device->hba, slot, error, lba) : ahci_hba_refuse(&device->hba, slot, error, lba);
+    if (status == AHCI_OUT_OF_MEMORY)
+        device_starve(device);
+    return status;
+}
+
+/* Aborts a command that is not queued. It returns false if there is no memory for that now. */
+static bool aborts(struct device *device, uint32_t slot) {
+    uint32_t status = fail_at(device, slot, AHCI_ERROR_ABRT, 0);
+    if (status == AHCI_OUT_OF_MEMORY)
+        return false;
+    device_must("ahci_hba_refuse", status);
+    return true;
+}
+
+/* Fails a command by a rule of --fail. The error of a read names the rule's sector, and the sectors before it have moved; that of a write names its
+   first one, since a write is stored whole or not at all. It returns false if the library doesn't let it. */
+static bool fails_by_rule(struct device *device, uint32_t slot) {
     struct task *task = &device->tasks[slot];
     const struct rule *rule = task->failure;
-    uint64_t lba = task->command.lba;
-    uint32_t status = task->command.queued ? ahci_hba_fail(&device->hba, slot, rule->error, lba) : ahci_hba_refuse(&device->hba, slot, rule->error, lba);
+    uint64_t sector = sector_of(rule, &task->command), named = task->command.writes ? task->command.lba : sector;
+    uint32_t status = fail_at(device, slot, rule->error, named);
+    if (status == AHCI_OUT_OF_MEMORY)
+        return true; /* the rule stays, and so it fails in a later turn */
     task->failure = NULL;
     if (status != AHCI_OK)
         return false;
-    log_line("fail %" PRIu32 " with %02x at sector %" PRIu64 ", by the rule for %" PRIu64, slot, rule->error, lba, sector_of(rule, &task->command));
+    log_line("fail %" PRIu32 " with %02x at sector %" PRIu64 ", by the rule for %" PRIu64, slot, rule->error, named, sector);
     return true;
 }
 
@@ -73,7 +93,7 @@ static bool fails_flush(struct device *device, uint32_t slot) {
     log_flush();
     if (!image_write(&settings->image, &device->disk))
         return false;
-    device_must("ahci_hba_refuse", ahci_hba_refuse(&device->hba, slot, AHCI_ERROR_ABRT, 0));
+    aborts(device, slot); /* without memory it is written again first, which may succeed */
     return true;
 }
 
@@ -81,11 +101,11 @@ static bool fails_flush(struct device *device, uint32_t slot) {
 static bool refuses_log(struct device *device, uint32_t slot) {
     if (!device->settings->refuse_log || device->state.next[slot] != AHCI_STEP_RECOVER)
         return false;
-    device_must("ahci_hba_refuse", ahci_hba_refuse(&device->hba, slot, AHCI_ERROR_ABRT, 0));
-    log_line("the log is refused to %" PRIu32, slot);
+    if (aborts(device, slot))
+        log_line("the log is refused to %" PRIu32, slot);
     return true;
 }
 
 bool fate_fails(struct device *device, uint32_t slot) {
-    return (device->tasks[slot].failure && fail(device, slot)) || fails_flush(device, slot) || refuses_log(device, slot);
+    return (device->tasks[slot].failure && fails_by_rule(device, slot)) || fails_flush(device, slot) || refuses_log(device, slot);
 }

@@ -133,10 +133,13 @@ uint32_t pci_config_read(const struct pci *pci, uint32_t at, uint32_t bytes) {
 
 void pci_config_write(struct pci *pci, uint32_t at, uint32_t bytes, uint32_t value) {
     log_line("config write %02" PRIx32 "/%" PRIu32 " %0*" PRIx32, at, bytes, (int)(2 * (bytes < 4 ? bytes : 4)), value);
+    bool was_master = is_master(pci);
     for (uint32_t i = 0; i < bytes && i < 4 && at < PCI_CONFIG_BYTES - i; i++) {
         uint8_t mask = pci->writable[at + i];
         pci->space[at + i] = (uint8_t)((pci->space[at + i] & ~mask) | (value >> 8 * i & mask));
     }
+    if (is_master(pci) != was_master)
+        device_master(pci->device, !was_master);
     settle(pci);
 }
 

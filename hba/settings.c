@@ -1,5 +1,6 @@
 #include "settings.h"
 
+#include "capabilities.h"
 #include "options.h"
 #include "record.h"
 #include "say.h"
@@ -24,7 +25,15 @@ static const char help[] =
     "      --image FILE             The sectors at the start. They are written back to FILE\n"
     "      --sync WHEN              When the image is written back: at each flush of the guest, before that is answered, and at the\n"
     "                               end (flush), or only then (end) (default flush)\n"
-    "      --depth N                The queue depth that IDENTIFY DEVICE reports, 1 to 32 (default 32)\n"
+    "      --depth N                The queue depth that IDENTIFY DEVICE reports, 1 to 32 (default 32). Queued commands whose tag is\n"
+    "                               not below it are aborted\n"
+    "      --cap FIELD=NUMBER[,FIELD=NUMBER]..\n"
+    "                               What the controller can do, by the fields of its register CAP: ncs, the number of command slots, 1\n"
+    "                               to 32; iss, the fastest generation of the link, 1 to 3; and with 0 or 1 s64a, 64-bit addresses;\n"
+    "                               sncq, queued commands; sss, a disk that waits for spin-up; sclo, the command list override; salp,\n"
+    "                               link power management; pmd, PIO of several blocks. (default\n"
+    "                               ncs=32,iss=2,s64a=1,sncq=1,sss=0,sclo=1,salp=0,pmd=1) A driver takes other paths then: with\n"
+    "                               sncq=0,s64a=0 it queues no command and keeps its memory below 4 GiB\n"
     "      --pick WHICH             The command that the device goes on with: low, high or random slot (default low)\n"
     "      --seed N                 The seed of --pick random (default 1)\n"
     "      --fail WHERE:EE[:COUNT][,CONDITION]..\n"
@@ -49,6 +58,10 @@ static const char help[] =
     "      --judge                  Writes which rules of AHCI 1.3.1 the guest's driver breaks to standard error, as it breaks them,\n"
     "                               and a table at the end\n"
     "      --json FILE              The same table as JSON; judges also without --judge\n"
+    "      --judge-from N           Only the stretches from number N on count, in both tables and for the status. Stretch 1 begins\n"
+    "                               with the guest, and another one with each reset of the HBA (GHC.HR) (default 1)\n"
+    "      --slow-bits N            CR and FR of PxCMD change only after N reads of them, and CLO and HR go to 0 only then\n"
+    "                               (default 0)\n"
     "  -h, --help                   Writes this text\n"
     "      --version                Writes the version\n"
     "\n"
@@ -56,6 +69,7 @@ static const char help[] =
     "could not be written; 2 if the command line is wrong; 3 if all went well but the driver broke a rule that the standard has.\n";
 
 #define LEAST_JOURNAL (UINT64_C(4) << 20) /* the default of a small disk */
+#define MOST_SLOW_READS 1000000
 #define JOURNAL_DISKS 4                   /* that of others, in disks: a trim takes as long as copying the disk */
 
 static int take_pick(const char *text, ahci_order *pick) {
@@ -88,6 +102,8 @@ static int take_one(struct settings *settings, const char *name, const char *val
         return option_small(name, value, 1, AHCI_MOST_SECTORS, &settings->sectors);
     if (!strcmp(name, "depth"))
         return option_small(name, value, 1, AHCI_MOST_TAGS, &settings->depth);
+    if (!strcmp(name, "cap"))
+        return capabilities_take(&settings->capabilities, value);
     if (!strcmp(name, "pick"))
         return take_pick(value, &settings->pick);
     if (!strcmp(name, "seed"))
@@ -106,13 +122,18 @@ static int take_one(struct settings *settings, const char *name, const char *val
         return option_bytes(name, value, &settings->record_limit);
     if (!strcmp(name, "log"))
         return take_path(name, value, &settings->log);
+    if (!strcmp(name, "judge-from"))
+        return option_small(name, value, 1, UINT32_MAX, &settings->judge_from);
+    if (!strcmp(name, "slow-bits"))
+        return option_small(name, value, 0, MOST_SLOW_READS, &settings->slow_bits);
     settings->judge = true;
     return take_path(name, value, &settings->json);
 }
 
 /* Takes one option with its value. */
 static int take_option(struct settings *settings, const char *word, const char *value) {
-    static const char *const names[] = {"sectors", "depth", "pick", "seed", "delay", "image", "sync", "most-journal", "record", "record-limit", "log", "json"};
+    static const char *const names[] = {"sectors", "depth", "cap", "pick", "seed", "delay", "image", "sync", "most-journal", "record", "record-limit", "log",
+                                        "judge-from", "slow-bits", "json"};
     struct rules *rules[] = {&settings->failures, &settings->slow, &settings->stalls};
     const char *name = word + 2;
     for (unsigned at = 0; at < sizeof rules / sizeof *rules; at++)
@@ -202,7 +223,7 @@ static enum asked write_version(void) {
 }
 
 enum asked settings_read(struct settings *settings, int count, char **words) {
-    *settings = (struct settings){.depth = AHCI_MOST_TAGS, .seed = 1, .sync = SYNC_FLUSH, .failures.kind = RULE_FAIL, .slow.kind = RULE_SLOW, .stalls.kind = RULE_STALL};
+    *settings = (struct settings){.depth = AHCI_MOST_TAGS, .capabilities = AHCI_HBA_USUAL, .seed = 1, .judge_from = 1, .sync = SYNC_FLUSH, .failures.kind = RULE_FAIL, .slow.kind = RULE_SLOW, .stalls.kind = RULE_STALL};
     const char *first = count > 1 ? words[1] : "";
     if (is_help(first) || (count > 2 && is_help(words[2]))) {
         fputs(help, stdout);

@@ -20,6 +20,7 @@ struct settings {
     enum guest guest;
     uint32_t sectors; /* 1 to 131,072 */
     uint32_t depth;   /* 1 to 32: the queue depth of IDENTIFY DEVICE */
+    ahci_hba_capabilities capabilities; /* of the controller */
     ahci_order pick;  /* which of the commands that the device has taken it goes on with */
     uint64_t seed;    /* of AHCI_ORDER_DRAWN */
     struct delay delay; /* before the device answers a command */
@@ -33,6 +34,8 @@ struct settings {
     const char *log;       /* a file for a line of each access, or NULL */
     bool judge;            /* the driver is judged */
     const char *json;      /* a file for what the judge found, or NULL */
+    uint32_t judge_from;   /* the first stretch between resets of the HBA whose breaches count */
+    uint32_t slow_bits;    /* how many reads have the old value of CR, FR, CLO and HR */
     uint32_t given;        /* options that were given, as bits */
     char **command;        /* the guest's program and its arguments, with NULL at the end */
 };

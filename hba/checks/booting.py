@@ -7,6 +7,7 @@ import shutil
 import signal
 import subprocess
 import time
+import zlib
 from typing import List, Sequence, Tuple
 
 import images
@@ -38,7 +39,7 @@ def sector_error(room: str) -> str:
     guest = Guest(room, ["--image", image, "--fail", "70:40"], qemu(room), recorded=image)
     guest.wait_for("^INT 13h failed: AX (?!00)[0-9A-F]{4}$", 60)
     guest.end(20, signal.SIGTERM)
-    guest.log_is_usual([r"fail 0 with 40 at sector 64, by the rule for 70"])
+    guest.log_is_usual([r"fail 0 with 40 at sector 70, by the rule for 70"])
     expect(contents(image) == before, "the image has changed, and nobody wrote")
     return guest.serial().strip().split("\n")[-1]
 
@@ -105,6 +106,24 @@ def grub_uefi(room: str) -> str:
     return grub(room, uefi(room), "efi", "hd0,msdos1")
 
 
+def uboot(room: str) -> str:
+    """U-Boot loads a file, reads sectors, writes two and reads them again; it looks at nothing but PxCI, so it runs without interrupts."""
+    firmware, image = file_of("/usr/lib/u-boot/qemu-x86_64/u-boot.rom", "u-boot-qemu"), images.uboot_image(room)
+    before = bytearray(contents(image))
+    place = ["-device", "x-pci-proxy-dev,fd=40,addr=5"]  # U-Boot's device tree has an ISA bridge at the first place
+    guest = Guest(room, ["--image", image], qemu(room, "-bios", firmware, *place), recorded=image)
+    guest.wait_for("^CHECK end$", 60)
+    guest.end(20, signal.SIGTERM)
+    guest.log_is_usual()
+    written = b"\x5a" * (2 * SECTOR)
+    sums = [zlib.crc32(it) for it in (file_in(image, "large.bin"), before[2048 * SECTOR:3072 * SECTOR], written)]
+    told = [int(it, 16) for it in re.findall(r"^crc32 for .* ==> ([0-9a-f]{8})$", guest.serial(), re.MULTILINE)]
+    expect(told == sums, f"U-Boot's sums are {told}, not {sums}: {guest.serial()[-800:]}")
+    before[32 * SECTOR:34 * SECTOR] = written
+    expect(contents(image) == before, "the image is not what U-Boot wrote")
+    return "sums right, 2 sectors written; commands " + counted(guest.codes())
+
+
 def files_right(room: str, guest: Guest, image: str, data: bytes) -> None:
     told = guest.told()
     for name in ("first", "second"):
@@ -114,16 +133,40 @@ def files_right(room: str, guest: Guest, image: str, data: bytes) -> None:
     expect(told["disk"].split()[0] == digest(contents(image)), "the image is not the disk that Linux read last")
 
 
-def linux_files(room: str, memory: str = "512M") -> str:
-    """Linux makes ext4, writes files, mounts it again and reads them."""
+def linux_files(room: str, memory: str = "512M", options: Sequence[str] = (), machine: Sequence[str] = (), said: str = "", depth: str = "32",
+                more: Sequence[str] = ()) -> str:
+    """Linux makes ext4, writes files, mounts it again and reads them. `more` is what it says that others don't."""
     data, image = pattern(8 << 20, "files"), blank(room, 131072)
-    guest = Guest(room, ["--image", image], linux(room, "files", data, memory), recorded=image)
-    guest.end(240)
+    guest = Guest(room, ["--image", image, *options], [*linux(room, "files", data, memory), *machine], recorded=image)
+    guest.end(240, said=said)
     guest.log_is_usual()
-    guest.linux_is_usual()
+    guest.linux_is_usual(more)
     files_right(room, guest, image, data)
-    expect(guest.told()["depth"] == "32", "the queue's depth is not 32")
+    expect(guest.told()["depth"] == depth, f"the queue's depth is not {depth}")
     return counted(guest.codes())
+
+
+def linux_alone(room: str) -> str:
+    """The same on qboot, a firmware without a driver for disks: Linux alone has the controller, and breaks no rule, as the status says. CR, FR, CLO
+    and HR are slow."""
+    qboot = file_of("/usr/share/qemu/qboot.rom", "qemu-system-data")
+    return linux_files(room, options=["--judge", "--slow-bits", "2"], machine=["-bios", qboot], said=".*")
+
+
+# what Linux says when queued commands are aborted whose tag is not below the depth
+ABOVE_DEPTH = [r"ata1: failed to read log page 10h \(errno=-2\)", r"ata1: EH complete", r"ata1\.00: NCQ disabled due to excessive errors",
+               r"ata1\.00: (exception Emask 0x1 .*|irq_stat 0x40000001|failed command: READ FPDMA QUEUED|cmd 60/.*|status: \{ DRDY ERR \}|error: \{ ABRT \})"]
+
+
+def linux_shallow(room: str) -> str:
+    """The same on qboot with a queue of 8 commands. Linux uses all 32 tags all the same; those above the depth are aborted, so it gives the queue up."""
+    qboot = file_of("/usr/share/qemu/qboot.rom", "qemu-system-data")
+    codes = linux_files(room, options=["--depth", "8"], machine=["-bios", qboot], depth="8", more=ABOVE_DEPTH)
+    with open(os.path.join(room, "serial"), encoding="utf-8", errors="replace") as file:
+        serial = file.read()
+    aborted = serial.count("error: { ABRT }")
+    expect(aborted > 0 and serial.count("NCQ disabled due to excessive errors") == 1, f"Linux has not given the queue up: {aborted} commands were aborted")
+    return f"{aborted} queued commands aborted, then the queue is given up; {codes}"
 
 
 def linux_high(room: str) -> str:
@@ -132,6 +175,35 @@ def linux_high(room: str) -> str:
     with open(os.path.join(room, "log"), encoding="utf-8") as file:
         expect(bool(re.search(r"write PxCLBU 0000000[1-9]", file.read())), "the command list is not above 4 GiB")
     return codes
+
+
+def linux_with(room: str, cap: str, says: str, more: Sequence[str]) -> Guest:
+    """Linux writes and reads files on a controller that can do this, and finds the link as `says` has it; `more` is what it says then of the rest."""
+    data, image = pattern(8 << 20, "files"), blank(room, 131072)
+    guest = Guest(room, ["--image", image, "--cap", cap], linux(room, "files", data), recorded=image)
+    guest.end(240)
+    guest.log_is_usual()
+    guest.linux_is_usual([rf"ata1: {re.escape(says)}", *more])
+    files_right(room, guest, image, data)
+    expect(says in guest.serial(), f"Linux has not found {says}")
+    return guest
+
+
+def linux_small(room: str) -> str:
+    """The controller has 32-bit addresses, no queued commands and a link of generation 1. (With fewer than 32 slots Linux still uses all 32.)"""
+    found = [r"ahci 0000:00:..\.0: (AHCI 0001\.0301 32 slots 1 ports 1\.5 Gbps 0x1 impl SATA mode|flags: clo only pio)", r"ata1\.00: \d+ sectors, multi 0: LBA48 NCQ \(depth 0/32\)"]
+    guest = linux_with(room, "s64a=0,sncq=0,iss=1", "SATA link up 1.5 Gbps (SStatus 113 SControl 300)", found)
+    codes = guest.codes()
+    expect(not codes.keys() & {0x60, 0x61}, f"Linux queued commands, and the controller has no SNCQ: {counted(codes)}")
+    expect(not any(re.match(r"write Px(CLBU|FBU) (?!00000000)", line) for line in guest.log()), "an address is above 4 GiB")
+    return counted(codes)
+
+
+def linux_staggered(room: str) -> str:
+    """The disk waits until Linux sets PxCMD.SUD."""
+    guest = linux_with(room, "sss=1", "SATA link up 3.0 Gbps (SStatus 123 SControl 300)", [r"ahci 0000:00:..\.0: (flags: 64bit ncq stag clo only pio|SSS flag set, parallel bus scan disabled)"])
+    expect(guest.told()["depth"] == "32", "the queue's depth is not 32")
+    return counted(guest.codes())
 
 
 def linux_queue(room: str, more: Sequence[str] = ()) -> str:
@@ -173,7 +245,7 @@ def deepest(guest: Guest) -> int:
     return most
 
 
-# the log's line of a command that fails, if its first sector is 1000: each request is a command (guests/error.sh), or one sector is read
+# the log's line of a read that fails for sector 1000
 FAILS_1000 = r"fail \d+ with 40 at sector 1000, by the rule for 1000"
 
 # what Linux says of commands that did not come right, and of those that failed by UNC at sector 1000
@@ -232,33 +304,36 @@ def linux_lasting(room: str) -> str:
     return f"{reads[2]} of 5,000 reads failed, {reads[1]} right"
 
 
-# the lines of guests/merged.sh: the code of the command that Linux makes of four requests, its first block, and whether it fails
-MERGED = {"read": (0x60, 200, False), "write": (0x61, 300, False), "failed_read": (0x60, 100, True), "failed_write": (0x61, 500, True),
-          "failed_dma_read": (0xC8, 152, True), "failed_dma_write": (0xCA, 400, True)}
 FAILING = 26  # the rules are about this sector of a command's 32: it belongs to the last request
-# what Linux says of the commands that fail: each error is at the command's first sector
+# the lines of guests/merged.sh: the code of the command that Linux makes of four requests, its first block, and the sector of it that an error names: a
+# read's is the rule's, and the requests before it succeed; a write's is its first one
+MERGED = {"read": (0x60, 200, None), "write": (0x61, 300, None), "failed_read": (0x60, 100, FAILING), "failed_write": (0x61, 500, 0),
+          "failed_dma_read": (0xC8, 152, FAILING), "failed_dma_write": (0xCA, 400, 0)}
+# what Linux says of the commands that fail
 MERGED_ENDED = [r"ata1\.00: (irq_stat 0x40000001|failed command: (WRITE FPDMA QUEUED|READ DMA|WRITE DMA)|cmd (61|c8|ca)/.*)",
-                r"(blk_update_request: )?(I/O|critical medium) error, dev sda, sector (800|4000|1216|3200) .*", r"sd 0:0:0:0: \[sda\] tag#\d+ CDB: Write\(10\) .*"]
+                r"(blk_update_request: )?(I/O|critical medium) error, dev sda, sector (826|4000|1242|3200) .*", r"sd 0:0:0:0: \[sda\] tag#\d+ CDB: Write\(10\) .*"]
 
 
 def linux_merged(room: str) -> str:
-    """Four requests are one command, which fails for a sector of the last one: no request is answered whose block was not read, or is not stored."""
+    """Four requests are one command, which fails for a sector of the last one. Of a read the three requests before are right. No request is answered
+    whose block was not read, or is not stored."""
     image = numbered(room)
     wanted = bytearray(contents(image))
-    failing = [8 * block for _, block, fails in MERGED.values() if fails]
-    rules = [word for first in failing for word in ("--fail", f"{first + FAILING}:40:1")]
+    failing = [(8 * block + named, 8 * block + FAILING) for _, block, named in MERGED.values() if named is not None]
+    rules = [word for _, sector in failing for word in ("--fail", f"{sector}:40:1")]
     guest = Guest(room, ["--image", image, *rules], linux(room, "merged"), recorded=image)
     guest.end(120)
     told = guest.told()
     are_merged(guest)
     answers = ", ".join(f"{name} {told[name]}" for name in MERGED)
-    for name, (_, block, fails) in MERGED.items():
-        expect(bool(re.fullmatch("(?=.*e)[re]{4}" if fails else "r{4}", told[name])), f"right (r), wrong (w) or failed (e): {answers}")
+    for name, (_, block, named) in MERGED.items():
+        form = "r{4}" if named is None else "(?=.*e)[re]{4}" if named == 0 else "r{3}e"
+        expect(bool(re.fullmatch(form, told[name])), f"right (r), wrong (w) or failed (e): {answers}")
         for it in range(4):
             if "write" in name and told[name][it] == "r":
                 wanted[4096 * (block + it):4096 * (block + it + 1)] = images.block_text(block + it, 2, 4096)
     expect(contents(image) == wanted, f"the image is not what was answered: {answers}")
-    guest.log_is_usual([r"the queue's journal of \d+ entries was handed out", *(rf"fail \d+ with 40 at sector {first}, by the rule for {first + FAILING}" for first in failing)])
+    guest.log_is_usual([r"the queue's journal of \d+ entries was handed out", *(rf"fail \d+ with 40 at sector {named}, by the rule for {sector}" for named, sector in failing)])
     guest.linux_is_usual([*ENDED, *MEDIUM, *MERGED_ENDED])
     return answers
 
@@ -374,9 +449,10 @@ def user_mode_linux(room: str) -> str:
     raise Skipped("the machine was too busy in four runs: a read took more than 40 ms")
 
 
-CHECKS = [Check(sector, title="SeaBIOS and a boot sector"), Check(sector_error, title="SeaBIOS and an error"), Check(grub_bios, title="GRUB on BIOS"), Check(grub_uefi, title="GRUB on UEFI"),
+CHECKS = [Check(sector, title="SeaBIOS and a boot sector"), Check(sector_error, title="SeaBIOS and an error"), Check(grub_bios, title="GRUB on BIOS"), Check(grub_uefi, title="GRUB on UEFI"), Check(uboot, title="U-Boot"),
           Check(boot_bios, title="GRUB boots Linux on BIOS"), Check(boot_uefi, title="GRUB boots Linux on UEFI"), Check(linux_files, title="Linux, files"),
-          Check(linux_high, title="Linux, memory above 4 GiB"), Check(linux_queue, title="Linux, queue", is_long=True), Check(linux_error, title="Linux, an error in the queue"),
+          Check(linux_alone, title="Linux, without firmware's driver"), Check(linux_shallow, title="Linux, a short queue"),
+          Check(linux_high, title="Linux, memory above 4 GiB"), Check(linux_small, title="Linux, few capabilities"), Check(linux_staggered, title="Linux, staggered spin-up"), Check(linux_queue, title="Linux, queue", is_long=True), Check(linux_error, title="Linux, an error in the queue"),
           Check(linux_lasting, title="Linux, a lasting error"), Check(linux_merged, title="Linux, merged requests over a failing sector"), Check(linux_refused_log, title="Linux, a log that is refused"),
           Check(linux_stalled, title="Linux, a command without an answer"), Check(linux_two, title="Linux, two processors", is_long=True),
           Check(linux_reset, title="Linux, a reset of the machine"), Check(linux_flush, title="Linux, flushes and a kill"),

@@ -31,7 +31,7 @@ USUAL = [r"(read|write) \S+ [0-9a-f]+", r"config (read|write) [0-9a-f]+/\d [0-9a
          r"interrupt message [0-9a-f]+ [0-9a-f]{4}", r"signature", r"reset of the PCI function", r"starts .*", r"the same, \d+ times more", r"judge: .*"]
 
 # what Linux says of a disk that works
-USUAL_OF_LINUX = [r"ahci 0000:00:..\.0: (version 3\.0|AHCI 0001\.0301 32 slots 1 ports 3 Gbps 0x1 impl SATA mode|flags: 64bit ncq clo only)",
+USUAL_OF_LINUX = [r"ahci 0000:00:..\.0: (version 3\.0|AHCI 0001\.0301 32 slots 1 ports 3 Gbps 0x1 impl SATA mode|flags: 64bit ncq clo only pio)",
                   r"ahci 0000:00:..\.0: .*(bus master|enabling device|legacy IRQ|PCI->APIC).*", r"scsi host0: ahci",
                   r"ata1: SATA max UDMA/133 abar m4096@0x[0-9a-f]+ port 0x[0-9a-f]+ irq \d+", r"ata1: SATA link up 3\.0 Gbps \(SStatus 123 SControl 300\)",
                   r"ata1\.00: ATA-10: SOFTWARE NCQ DISK, 1\.0, max UDMA/100", r"ata1\.00: \d+ sectors, multi 0: LBA48 NCQ \(depth \d+\)", r"ata1\.00: configured for UDMA/100",

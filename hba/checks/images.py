@@ -126,16 +126,26 @@ def grub_image(room: str, config: str, more: Dict[str, bytes]) -> str:
     ran([program("grub-mkimage", "grub-common"), "-O", "i386-pc", "-o", core, "-p", "(hd0,msdos1)/boot/grub", "biosdisk", "part_msdos", "fat", "normal"])
     with open(file_of("/usr/lib/grub/i386-pc/boot.img", "grub-pc-bin"), "rb") as file:
         boot = bytearray(file.read(SECTOR))
+    write_disk(path, bytes(boot), read(core))
+    fill_partition(path, room, {**grub_files(room, config), **more})
+    return path
+
+
+def write_disk(path: str, boot: bytes, text: bytes) -> None:
+    """A disk of 64 MiB with one partition: its first sector, with a partition table, and what follows it."""
     sectors = (64 << 20) // SECTOR
-    boot[446:510] = struct.pack("<B3sB3sII48x", 0x80, b"\xfe\xff\xff", 0x0C, b"\xfe\xff\xff", PARTITION, sectors - PARTITION)
-    boot[510:512] = b"\x55\xaa"
-    with open(core, "rb") as file:
-        text = file.read()
+    table = struct.pack("<B3sB3sII48x", 0x80, b"\xfe\xff\xff", 0x0C, b"\xfe\xff\xff", PARTITION, sectors - PARTITION)
     with open(path, "wb") as file:
         file.truncate(sectors * SECTOR)
-        file.write(boot)
-        file.write(text)
-    fill_partition(path, room, {**grub_files(room, config), **more})
+        file.write(boot[:446].ljust(446, b"\0") + table + b"\x55\xaa" + text)
+
+
+def uboot_image(room: str) -> str:
+    """An image with a partition in which U-Boot finds guests/uboot.cmd as its script, and a file of 4 MiB."""
+    path, script = os.path.join(room, "uboot.img"), os.path.join(room, "boot.scr")
+    ran([program("mkimage", "u-boot-tools"), "-T", "script", "-C", "none", "-n", "boot", "-d", os.path.join(GUESTS, "uboot.cmd"), script])
+    write_disk(path, b"", b"")
+    fill_partition(path, room, {"boot.scr": read(script), "large.bin": pattern(4 << 20, "large")})
     return path
 
 

@@ -18,6 +18,7 @@ from records import ACCEPT, FAIL, RESET, SERVE, WRITE, Record, bounds
 from suite import Check, expect
 
 GARBAGE = os.path.join(HERE, "checks", "garbage")
+READER = os.path.join(HERE, "checks", "reader")
 WRITER = os.path.join(HERE, "checks", "writer")
 
 
@@ -72,6 +73,7 @@ def command_lines(room: str) -> str:
     run = ["--", "true"]
     number, size = "expected a decimal number from", "expected a number of bytes from 1 on, such as 4096, 512K, 64M or 1G"
     rest = "[:COUNT][,reads|writes][,commands=A-B][,seconds=A-B][,rate=N/M][,seed=S], where WHERE is LBA, LBA-LBA or any, COUNT a number from 1 on or ever"
+    fields = "expected FIELD=NUMBER, where FIELD is ncs, iss, s64a, sncq, sss, sclo, salp or pmd"
     small = ["run", "--sectors", "8"]
     cases: List[Tuple[List[str], str]] = [
         ([], 'expected run or uml, got ""; see ahci-hba --help'),
@@ -81,6 +83,12 @@ def command_lines(room: str) -> str:
         (["run", "--sectors", "0", *run], f'--sectors: {number} 1 to 131072, got "0"'),
         (["run", "--sectors=8x", *run], f'--sectors: {number} 1 to 131072, got "8x"'),
         (["run", "--depth", "33", *run], f'--depth: {number} 1 to 32, got "33"'),
+        (["run", "--cap", "sss=1,ncs=33", *run], '--cap sss=1,ncs=33: ncs: expected a decimal number from 1 to 32, got "33"'),
+        (["run", "--cap", "iss=4", *run], '--cap iss=4: iss: expected a decimal number from 1 to 3, got "4"'),
+        (["run", "--cap", "s64a=no", *run], '--cap s64a=no: s64a: expected a decimal number from 0 to 1, got "no"'),
+        (["run", "--cap", "sss=1,,sclo=0", *run], f'--cap sss=1,,sclo=0: {fields}, got ""'),
+        (["run", "--cap", "sxs=1", *run], f'--cap sxs=1: {fields}, got "sxs=1"'),
+        (["run", "--cap", "sss=1,sss=0", *run], "--cap sss=1,sss=0: sss is given twice"),
         (["run", "--pick", "all", *run], '--pick: expected low, high or random, got "all"'),
         (["run", "--sync", "never", *run], '--sync: expected end or flush, got "never"'),
         (["run", "--seed", "18446744073709551616", *run], f'--seed: {number} 0 to 18446744073709551615, got "18446744073709551616"'),
@@ -113,9 +121,8 @@ def record(room: str) -> str:
     image = os.path.join(room, "disk.img")
     with open(image, "wb") as file:
         file.write(images.numbered_blocks(512, 4096))
-    guest = Guest(room, ["--image", image, "--depth", "8", "--fail", "1000:40", "--pick", "random", "--delay", "500"], linux(room, "record", pattern(65536, "record")), recorded=image)
+    guest = Guest(room, ["--image", image, "--fail", "1000:40", "--pick", "random", "--delay", "500"], linux(room, "record", pattern(65536, "record")), recorded=image)
     guest.end(240)
-    expect("LBA48 NCQ (depth 8)" in guest.serial(), "Linux was not told a depth of 8")
     told = guest.told()
     expect(told["reads"] == "requests 2000 compared 1999 errors 1 wrong 0", f"reads: {told['reads']}")
     expect(contents(image)[-65536:] == pattern(65536, "record"), "the image has not what Linux wrote")
@@ -151,6 +158,21 @@ def refused_memory(room: str) -> str:
     expect(bool(re.fullmatch(r"requests 4000 compared [1-9]\d* errors 0 wrong 0", told["small"])), f"small: {told['small']}")
     expect(told["disk"].split()[0] == digest(contents(image)), "the image is not the disk that Linux read last")
     return told["small"]
+
+
+def failed_reads(room: str) -> str:
+    """A read that fails has moved the sectors before the one that it names, queued, by DMA or by PIO; PRDBC says so of one that is not queued. No rule
+    is lost while there is no memory."""
+    image = os.path.join(room, "disk.img")
+    with open(image, "wb") as file:
+        file.write(b"".join(struct.pack("<Q", lba) * (SECTOR // 8) for lba in range(64)))
+    wanted = [f"{code}: 5 sectors, PRDBC {counted}, error 40 at 21: 200" for code, counted in (("20h", 5 * SECTOR), ("60h", 0), ("C8h", 5 * SECTOR))]
+    for binary, said in ((PROGRAM, ""), (STARVED, "ahci-hba: there is no memory; the device waits for it\n")):
+        words = [binary, "run", "--image", image, "--fail", "21-63:40:ever,reads", "--", READER, "16", "600"]
+        done = pace.ran(words, 120, stdout=subprocess.PIPE, stderr=subprocess.PIPE, text=True)
+        expect(done.returncode == 0 and done.stderr == said, f"status {done.returncode}: {done.stderr}")
+        expect(done.stdout.split("\n")[:-1] == wanted, f"{os.path.basename(binary)}: the reads came to {done.stdout}")
+    return "1,200 reads moved five sectors and failed at the sixth"
 
 
 def killed_guest(room: str) -> str:
@@ -211,7 +233,7 @@ def written(room: str, options: List[str], words: List[str], status: int = 0, sa
 
 
 def rules(room: str) -> str:
-    """--fail and --slow are about the commands that their conditions name: by number, direction and sector. Commands have 64 sectors, and fail at the first."""
+    """--fail and --slow are about the commands that their conditions name: by number, direction and sector. Writes have 64 sectors, and fail at the first."""
     ended, taken = "a write failed\nahci-hba: the guest's program ended with status 1\n", 0
     for number, (options, failures) in enumerate([(["--fail", "any:40,commands=3"], [128]), (["--fail", "70-127:04,writes"], [64]), (["--fail", "70:04:ever,reads"], []), (["--fail", "any:40,rate=1/1,seconds=90-99"], [])]):
         folder = os.path.join(room, f"record{number}")
@@ -288,7 +310,7 @@ def answered_and_killed(room: str) -> str:
 
 
 CHECKS = [Check(command_lines, title="Command lines"), Check(arguments, title="Arguments of QEMU"), Check(record, title="Record of Linux"), Check(garbage, title="Garbage"),
-          Check(refused_memory, title="Refused memory"), Check(killed_guest, title="A killed guest"), Check(unkept, title="A flush that can't be kept"),
+          Check(refused_memory, title="Refused memory"), Check(failed_reads, title="Reads that fail"), Check(killed_guest, title="A killed guest"), Check(unkept, title="A flush that can't be kept"),
           Check(written_at_the_end, title="An image that is written at the end"), Check(full, title="Files that can't be written"), Check(rules, title="Rules"), Check(much_written, title="Much that is written"),
           Check(very_much_written, title="10 GiB that are written", is_long=True), Check(a_limit, title="A limit of the record"),
           Check(answered_and_killed, title="A kill after an answer")]
