@@ -59,7 +59,7 @@ static struct choice choice_of(const struct device *device) {
     uint32_t sends = 0;
     for (uint32_t slot = 0; slot < AHCI_MOST_TAGS; slot++) {
         uint8_t kind = device->state.next[slot];
-        uint32_t bit = UINT32_C(1) << slot & ~(device->stuck | device->stalled);
+        uint32_t bit = UINT32_C(1) << slot & ~(device->stuck | device->stalled | device->flushing);
         uint64_t ready = kind == AHCI_STEP_FETCH ? 0 : device->tasks[slot].ready; /* before a fetch it is that of the slot's last command */
         if (kind == AHCI_STEP_NONE || !bit)
             continue;
@@ -72,7 +72,7 @@ static struct choice choice_of(const struct device *device) {
         else
             choice.early |= bit;
     }
-    bool goes_on = choice.early || choice.answers || choice.soonest != UINT64_MAX || device->stalled;
+    bool goes_on = choice.early || choice.answers || choice.soonest != UINT64_MAX || device->stalled || device->flushing;
     if (!goes_on || !history_drains(device, sends))
         choice.early |= sends;
     return choice;
@@ -159,6 +159,10 @@ void device_turn(struct device *device) {
     uint32_t slot;
     if (device_waits(device) != 0)
         return;
+    if (device->writeback.state == WRITEBACK_COPIES)
+        writeback_copy(&device->writeback);
+    if (memory_waits(device->memory))
+        return;
     if (device->wait == WAIT_MEMORY)
         device->wait = WAIT_NOTHING;
     if (!move(device))
@@ -175,6 +179,10 @@ void device_turn(struct device *device) {
 
 /* When the next step is due, in nanoseconds of CLOCK_MONOTONIC; UINT64_MAX if there is none. */
 static uint64_t next_due(const struct device *device) {
+    if (device->writeback.state == WRITEBACK_COPIES)
+        return 0;
+    if (memory_waits(device->memory))
+        return UINT64_MAX;
     struct choice choice = choice_of(device);
     bool is_urgent = device->state.want != AHCI_WANT_NOTHING || can_sign(device) || choice.early;
     if (is_urgent)
@@ -211,6 +219,14 @@ static uint32_t word_at(struct device *device, uint32_t offset) {
     return (uint32_t)word;
 }
 
+/* Forgets the run of memory that is moved by messages once the controller wants another one, or none: it has dropped the command. */
+static void look_again(struct device *device) {
+    const ahci_hba_state before = device->state;
+    device_look(device);
+    if (before.want != device->state.want || before.address != device->state.address || before.length != device->state.length)
+        memory_forget(device->memory);
+}
+
 /* Writes to a register: what the controller does, and what follows from it. */
 static void put(struct device *device, uint32_t offset, uint32_t bytes, uint64_t value) {
     uint64_t entries = 0;
@@ -220,10 +236,13 @@ static void put(struct device *device, uint32_t offset, uint32_t bytes, uint64_t
         log_line("a write of %" PRIu32 " bytes at %03" PRIx32 " was refused: status %" PRIu32, bytes, offset, status);
     slow_write(&device->slow, offset, bytes, value, command, word_at(device, AHCI_REG_PXCMD));
     device->stuck = 0;
-    device->stalled &= word_at(device, AHCI_REG_PXCI) | word_at(device, AHCI_REG_PXSACT);
+    uint32_t outstanding = word_at(device, AHCI_REG_PXCI) | word_at(device, AHCI_REG_PXSACT);
+    device->stalled &= outstanding;
+    device->flushing &= outstanding;
+    device->covered &= outstanding;
     device->mute = false;
     history_follow(device, entries, false);
-    device_look(device);
+    look_again(device);
 }
 
 void device_write(struct device *device, uint32_t offset, uint32_t bytes, uint64_t value) {
@@ -242,6 +261,29 @@ void device_reset(struct device *device) {
         put(device, bases[i], 4, 0);
     slow_reset(&device->slow);
     judge_power_on(&device->judge);
+}
+
+/* ---- the image ---- */
+
+void device_save(struct device *device) {
+    struct writeback *writeback = &device->writeback;
+    if (!device->settings->image.path || !device->settings->image.is_changed || writeback->state != WRITEBACK_NONE || !writeback_start(writeback))
+        return;
+    while (writeback->state == WRITEBACK_COPIES)
+        writeback_copy(writeback);
+}
+
+int device_event(const struct device *device) {
+    return device->writeback.ended;
+}
+
+void device_take_event(struct device *device) {
+    int failed;
+    if (!writeback_take(&device->writeback, &failed))
+        return;
+    for (uint32_t slots = device->covered; slots; slots &= slots - 1)
+        device->tasks[__builtin_ctz(slots)].kept = failed ? KEPT_NOT : KEPT;
+    device->flushing = device->covered = 0;
 }
 
 /* ---- the beginning and the end ---- */
@@ -275,11 +317,13 @@ int device_begin(struct device *device, struct settings *settings, struct memory
         return -1;
     }
     judge_begin(&device->judge, settings, memory);
+    writeback_begin(&device->writeback, &settings->image, &device->disk);
     device_look(device);
     return 0;
 }
 
 int device_end(struct device *device, int *broken) {
+    writeback_end(&device->writeback);
     int failed = image_write(&device->settings->image, &device->disk) ? -1 : 0;
     if (history_end(&device->history))
         failed = -1;

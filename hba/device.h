@@ -10,11 +10,15 @@
 #include "memory.h"
 #include "settings.h"
 #include "slow.h"
+#include "writeback.h"
 
 #include <ahci.h>
 
 /* Why the device takes no step although there is one. */
 enum wait { WAIT_NOTHING, WAIT_DELAY, WAIT_MEMORY };
+
+/* What became of the write-back that a flush waits for. */
+enum kept { KEPT_NOT_YET, KEPT, KEPT_NOT };
 
 /* The command of a slot, as it was read there last. */
 struct task {
@@ -23,6 +27,7 @@ struct task {
     bool is_decided;            /* the rules were applied */
     const struct rule *failure; /* the rule by which the device fails it, or NULL */
     uint64_t ready;             /* a slow one goes on then, in nanoseconds of CLOCK_MONOTONIC; 0: at once */
+    enum kept kept;             /* of a flush */
 };
 
 struct device {
@@ -40,6 +45,9 @@ struct device {
     uint32_t runs;    /* how many runs of it were read */
     uint32_t stuck;   /* slots whose step was refused, until the driver writes a register */
     uint32_t stalled; /* slots whose command is never answered, until the driver drops it */
+    uint32_t flushing; /* slots whose flush waits for the image */
+    uint32_t covered; /* those of them that the write-back is enough for that has begun */
+    struct writeback writeback;
     bool mute;        /* no signature is sent until then either, since there was no memory for the last FIS */
     uint64_t random;  /* the state of --pick random, and of --delay's jitter */
     uint64_t started; /* nanoseconds of CLOCK_MONOTONIC */
@@ -64,8 +72,15 @@ void device_write(struct device *device, uint32_t offset, uint32_t bytes, uint64
 /* The driver makes the function a bus master, or none. */
 void device_master(struct device *device, bool is_master);
 
-/* The PCI function is reset. */
+/* The PCI function is reset: the controller is as after power-on, bases and all, and the disk keeps its sectors. */
 void device_reset(struct device *device);
+
+/* Writes the image back if a command has written, without waiting for it. */
+void device_save(struct device *device);
+
+/* A file that is readable once a write-back has ended, -1 if there is none; and takes that end: the flushes that wait for it go on. */
+int device_event(const struct device *device);
+void device_take_event(struct device *device);
 
 /* Takes the device's next step, if there is one that is due. */
 void device_turn(struct device *device);

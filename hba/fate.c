@@ -85,16 +85,42 @@ static bool fails_by_rule(struct device *device, uint32_t slot) {
     return true;
 }
 
-/* Writes the image back before a flush is answered; if that fails, so does the flush. */
-static bool fails_flush(struct device *device, uint32_t slot) {
-    struct settings *settings = device->settings;
-    if (settings->sync != SYNC_FLUSH || device->state.next[slot] != AHCI_STEP_EXECUTE || !device->tasks[slot].command.flushes || !settings->image.is_changed)
-        return false;
+/* Begins a write-back for a flush, or writes by itself if there is no memory for that. It returns false if the flush can go on. */
+static bool begin_write(struct device *device, uint32_t slot) {
     log_flush();
-    if (!image_write(&settings->image, &device->disk))
+    if (writeback_start(&device->writeback)) {
+        device->flushing = device->covered = UINT32_C(1) << slot;
+        return true;
+    }
+    if (!image_write(&device->settings->image, &device->disk))
         return false;
     aborts(device, slot); /* without memory it is written again first, which may succeed */
     return true;
+}
+
+/* A flush waits for the write-back that has begun. It is enough if no command has written since. */
+static bool wait_for_write(struct device *device, uint32_t slot) {
+    uint32_t bit = UINT32_C(1) << slot;
+    device->flushing |= bit;
+    if (!device->settings->image.is_changed)
+        device->covered |= bit;
+    return true;
+}
+
+/* The image is written back before a flush is answered; if that fails, so does the flush. Meanwhile it takes no step, and others go on. It returns
+   false if the flush can go on. */
+static bool holds_flush(struct device *device, uint32_t slot) {
+    const struct settings *settings = device->settings;
+    const struct task *task = &device->tasks[slot];
+    if (settings->sync != SYNC_FLUSH || !settings->image.path || device->state.next[slot] != AHCI_STEP_EXECUTE || !task->command.flushes || task->kept == KEPT)
+        return false;
+    if (task->kept == KEPT_NOT) {
+        aborts(device, slot);
+        return true;
+    }
+    if (device->writeback.state != WRITEBACK_NONE)
+        return wait_for_write(device, slot);
+    return settings->image.is_changed && begin_write(device, slot);
 }
 
 /* Aborts a command that reads the log of a failed queued one, if --refuse-log says so. */
@@ -107,5 +133,5 @@ static bool refuses_log(struct device *device, uint32_t slot) {
 }
 
 bool fate_fails(struct device *device, uint32_t slot) {
-    return (device->tasks[slot].failure && fails_by_rule(device, slot)) || fails_flush(device, slot) || refuses_log(device, slot);
+    return (device->tasks[slot].failure && fails_by_rule(device, slot)) || holds_flush(device, slot) || refuses_log(device, slot);
 }

@@ -10,7 +10,8 @@ struct device;
 /* Applies the rules to each command whose moment has come, once: a queued one when the device has taken it, any other before it goes on. */
 void fate_decide(struct device *device);
 
-/* Fails the command of a slot if some option says so, instead of its next step. Without memory for that the device waits, and it is tried again. */
+/* Fails the command of a slot if some option says so, instead of its next step, or lets a flush wait for the image. Without memory for that the device
+   waits, and it is tried again. */
 bool fate_fails(struct device *device, uint32_t slot);
 
 #endif

@@ -2,6 +2,7 @@
 
 #include "say.h"
 
+#include <pthread.h>
 #include <stdarg.h>
 #include <stdio.h>
 #include <string.h>
@@ -11,6 +12,7 @@
 #define BUFFER (1 << 20) /* bytes of lines that wait to be written */
 #define HOLD 1000000     /* microseconds for which they wait at most while lines come */
 
+static pthread_mutex_t lock = PTHREAD_MUTEX_INITIALIZER; /* a write-back's thread may have a line, too */
 static FILE *file;
 static struct timespec begun;
 static char last[MOST_LINE]; /* the line that was written last */
@@ -47,6 +49,11 @@ static void write_repeats(void) {
     repeats = 0;
 }
 
+static void flush(void) {
+    fflush(file);
+    flushed = stamp();
+}
+
 static void put(const char *line) {
     if (!strcmp(line, last)) {
         repeats++;
@@ -57,7 +64,7 @@ static void put(const char *line) {
     fprintf(file, "%5ld.%06ld %s\n", micros / 1000000, micros % 1000000, line);
     strcpy(last, line);
     if (micros - flushed > HOLD)
-        log_flush();
+        flush();
 }
 
 void log_line(const char *format, ...) {
@@ -68,7 +75,9 @@ void log_line(const char *format, ...) {
     va_start(rest, format);
     vsnprintf(line, sizeof line, format, rest);
     va_end(rest);
+    pthread_mutex_lock(&lock);
     put(line);
+    pthread_mutex_unlock(&lock);
 }
 
 void log_complaint(const char *line) {
@@ -79,8 +88,9 @@ void log_complaint(const char *line) {
 void log_flush(void) {
     if (!file)
         return;
-    fflush(file);
-    flushed = stamp();
+    pthread_mutex_lock(&lock);
+    flush();
+    pthread_mutex_unlock(&lock);
 }
 
 int log_end(void) {

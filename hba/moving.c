@@ -39,48 +39,57 @@ static void note_command(struct device *device, const uint8_t *fis) {
     log_line("command %" PRIu32 " %s", device->reading, text);
 }
 
-/* Reads the run that the controller asks for. It returns false if there is no memory for now. */
-static bool move_in(struct device *device) {
+/* What became of a run. */
+enum run { RUN_MOVED, RUN_WITHOUT_ROOM, RUN_LATER };
+
+/* Reads the run that the controller asks for. */
+static enum run move_in(struct device *device) {
     size_t count = (size_t)device->state.length;
     uint8_t *bytes = room_for(device, count);
     if (!bytes)
-        return false;
-    if (!memory_read(device->memory, device->state.address, bytes, count)) {
+        return RUN_WITHOUT_ROOM;
+    enum moved moved = memory_move(device->memory, false, device->state.address, bytes, count);
+    if (moved == MOVED_LATER)
+        return RUN_LATER;
+    if (moved == MOVED_NOTHING) {
         report_unmapped(device);
-        return true;
+        return RUN_MOVED;
     }
     uint32_t status = ahci_hba_supply(&device->hba, bytes, count);
     if (status == AHCI_OUT_OF_MEMORY)
-        return false;
+        return RUN_WITHOUT_ROOM;
     device_must("ahci_hba_supply", status);
     judge_run(&device->judge, &device->hba, device->reading, device->state.address, bytes, count);
     if (device->runs++ == FIS_RUN && count == COMMAND_FIS_BYTES)
         note_command(device, bytes);
-    return true;
+    return RUN_MOVED;
 }
 
 /* Writes the run that the controller has. What it answers is in the record before. */
-static bool move_out(struct device *device) {
+static enum run move_out(struct device *device) {
     size_t count = (size_t)device->state.length;
     uint8_t *bytes = room_for(device, count);
     if (!bytes)
-        return false;
+        return RUN_WITHOUT_ROOM;
     history_sync(&device->history);
     device_must("ahci_hba_bytes", ahci_hba_bytes(&device->hba, bytes, count));
-    if (memory_write(device->memory, device->state.address, bytes, count))
+    enum moved moved = memory_move(device->memory, true, device->state.address, bytes, count);
+    if (moved == MOVED_LATER)
+        return RUN_LATER;
+    if (moved == MOVED_ALL)
         device_must("ahci_hba_written", ahci_hba_written(&device->hba));
     else
         report_unmapped(device);
-    return true;
+    return RUN_MOVED;
 }
 
 bool move(struct device *device) {
-    bool moved = true;
-    while (moved && device->state.want != AHCI_WANT_NOTHING) {
-        moved = device->state.want == AHCI_WANT_READ ? move_in(device) : move_out(device);
+    enum run run = RUN_MOVED;
+    while (run == RUN_MOVED && device->state.want != AHCI_WANT_NOTHING) {
+        run = device->state.want == AHCI_WANT_READ ? move_in(device) : move_out(device);
         device_look(device);
     }
-    if (!moved)
+    if (run == RUN_WITHOUT_ROOM)
         device_starve(device);
-    return moved;
+    return run == RUN_MOVED;
 }

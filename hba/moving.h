@@ -6,7 +6,7 @@
 
 struct device;
 
-/* Moves until the controller reads and writes nothing. It returns false if there is no memory for now. */
+/* Moves until the controller reads and writes nothing. It returns false if there is no memory for now, or if a run waits for a message. */
 bool move(struct device *device);
 
 #endif

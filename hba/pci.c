@@ -72,7 +72,7 @@ static void fill_writable(uint8_t *writable) {
 }
 
 void pci_begin(struct pci *pci, struct device *device, struct wire wire) {
-    *pci = (struct pci){.device = device, .wire = wire};
+    *pci = (struct pci){.device = device, .wire = wire, .hold.settings = device->settings->hold};
     fill_space(pci->space);
     fill_writable(pci->writable);
 }
@@ -102,23 +102,59 @@ static void send_message(struct pci *pci) {
     pci->wire.message(pci->wire.it, address, data);
 }
 
+static bool sends_messages(const struct pci *pci) {
+    return has_messages(pci) && is_master(pci);
+}
+
 /* Brings the controller's interrupt to the guest: as a message if it comes, or as the level of the line. */
 static void settle(struct pci *pci) {
     bool before = pci->level, level = pci->device->state.interrupt;
     bool line = level && !has_messages(pci) && !(get(pci->space + COMMAND, 2) & COMMAND_NO_LINE);
     pci->level = level;
     set_line(pci, line);
-    if (level && !before && has_messages(pci) && is_master(pci))
+    if (level && !before && sends_messages(pci) && hold_takes(&pci->hold, device_now()))
         send_message(pci);
+}
+
+/* Sends the message that is held, unless the driver has cleared its cause meanwhile. */
+static void release(struct pci *pci) {
+    if (!pci->hold.is_owed)
+        return;
+    hold_end(&pci->hold);
+    if (pci->level && sends_messages(pci))
+        send_message(pci);
+}
+
+static int64_t step_waits(const struct pci *pci) {
+    return is_master(pci) ? device_waits(pci->device) : -1;
+}
+
+static int64_t hold_left(const struct pci *pci, int64_t step) {
+    return pci->hold.is_owed ? hold_waits(&pci->hold, step < 0, device_now()) : -1;
 }
 
 /* ---- configuration space ---- */
 
-void pci_reset(struct pci *pci) {
-    log_line("reset of the PCI function");
+static void power_on(struct pci *pci) {
+    pci->hold.is_owed = false;
     fill_space(pci->space);
     device_reset(pci->device);
     settle(pci);
+}
+
+void pci_reset(struct pci *pci) {
+    log_line("reset of the PCI function");
+    power_on(pci);
+}
+
+void pci_unplug(struct pci *pci) {
+    log_line("the PCI function is unplugged");
+    power_on(pci);
+    device_save(pci->device);
+}
+
+static bool is_place(uint32_t at, uint32_t bytes) {
+    return (bytes == 1 || bytes == 2 || bytes == 4) && at < PCI_CONFIG_BYTES && bytes <= PCI_CONFIG_BYTES - at;
 }
 
 uint32_t pci_config_read(const struct pci *pci, uint32_t at, uint32_t bytes) {
@@ -126,7 +162,7 @@ uint32_t pci_config_read(const struct pci *pci, uint32_t at, uint32_t bytes) {
     memcpy(space, pci->space, sizeof space);
     if (pci->level)
         space[STATUS] |= STATUS_INTERRUPT;
-    uint32_t value = at < PCI_CONFIG_BYTES && bytes <= PCI_CONFIG_BYTES - at && bytes <= 4 ? get(space + at, bytes) : UINT32_MAX;
+    uint32_t value = is_place(at, bytes) ? get(space + at, bytes) : UINT32_MAX;
     log_line("config read %02" PRIx32 "/%" PRIu32 " %0*" PRIx32, at, bytes, (int)(2 * (bytes < 4 ? bytes : 4)), value);
     return value;
 }
@@ -134,7 +170,10 @@ uint32_t pci_config_read(const struct pci *pci, uint32_t at, uint32_t bytes) {
 void pci_config_write(struct pci *pci, uint32_t at, uint32_t bytes, uint32_t value) {
     log_line("config write %02" PRIx32 "/%" PRIu32 " %0*" PRIx32, at, bytes, (int)(2 * (bytes < 4 ? bytes : 4)), value);
     bool was_master = is_master(pci);
-    for (uint32_t i = 0; i < bytes && i < 4 && at < PCI_CONFIG_BYTES - i; i++) {
+    if (!is_place(at, bytes))
+        return;
+    release(pci); /* by the address and data that it was due for */
+    for (uint32_t i = 0; i < bytes; i++) {
         uint8_t mask = pci->writable[at + i];
         pci->space[at + i] = (uint8_t)((pci->space[at + i] & ~mask) | (value >> 8 * i & mask));
     }
@@ -169,7 +208,16 @@ static void log_access(const char *what, uint32_t at, uint32_t bytes, uint64_t v
         log_line("%s %s/%" PRIu32 " %0*" PRIx64, what, name_of(at, text), bytes, (int)(2 * (bytes < 8 ? bytes : 8)), value);
 }
 
+/* Whether a read or a write of so many bytes is one of the bus. */
+static bool is_size(uint32_t bytes) {
+    return bytes == 1 || bytes == 2 || bytes == 4 || bytes == 8;
+}
+
 uint64_t pci_register_read(struct pci *pci, uint32_t at, uint32_t bytes) {
+    if (!is_size(bytes)) {
+        log_line("a read of %" PRIu32 " bytes is none of the bus", bytes);
+        return UINT64_MAX;
+    }
     uint64_t value = device_read(pci->device, at, bytes);
     log_access("read", at, bytes, value);
     return value;
@@ -180,8 +228,19 @@ static bool clears_is(uint32_t at, uint32_t bytes, uint64_t value) {
     return at <= AHCI_REG_IS && AHCI_REG_IS - at < bytes && value >> 8 * (AHCI_REG_IS - at) & 1;
 }
 
+/* Whether a write issues commands. */
+static bool issues(uint32_t at, uint32_t bytes) {
+    return at <= AHCI_REG_PXCI && AHCI_REG_PXCI - at < bytes;
+}
+
 void pci_register_write(struct pci *pci, uint32_t at, uint32_t bytes, uint64_t value) {
+    if (!is_size(bytes)) {
+        log_line("a write of %" PRIu32 " bytes is none of the bus", bytes);
+        return;
+    }
     log_access("write", at, bytes, value);
+    if (pci->hold.is_owed && issues(at, bytes))
+        hold_issued(&pci->hold, device_now());
     device_write(pci->device, at, bytes, value);
     if (clears_is(at, bytes, value))
         pci->level = false;
@@ -191,12 +250,17 @@ void pci_register_write(struct pci *pci, uint32_t at, uint32_t bytes, uint64_t v
 /* ---- the device's turn ---- */
 
 void pci_turn(struct pci *pci) {
-    if (!is_master(pci))
-        return;
-    device_turn(pci->device);
-    settle(pci);
+    if (is_master(pci)) {
+        device_turn(pci->device);
+        settle(pci);
+    }
+    if (pci->hold.is_owed && hold_left(pci, step_waits(pci)) == 0)
+        release(pci);
 }
 
 int64_t pci_waits(const struct pci *pci) {
-    return is_master(pci) ? device_waits(pci->device) : -1;
+    int64_t step = step_waits(pci), held = hold_left(pci, step);
+    if (step < 0 || held < 0)
+        return step < 0 ? held : step;
+    return step < held ? step : held;
 }

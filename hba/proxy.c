@@ -53,33 +53,33 @@ void proxy_begin(struct proxy *proxy, int socket, int qtest, struct pci *pci, st
     *proxy = (struct proxy){.socket = socket, .qtest = qtest, .trigger = -1, .resample = -1, .pci = pci, .memory = memory};
 }
 
-static bool answer(struct proxy *proxy, uint64_t value) {
+static enum found answer(struct proxy *proxy, uint64_t value) {
     struct {
         struct header header;
         uint64_t value;
     } message = {.header = {.kind = RETURN, .bytes = sizeof value}, .value = value};
-    return socket_send(proxy->socket, &message, sizeof message);
+    return socket_send(proxy->socket, &message, sizeof message) ? FOUND_MESSAGE : FOUND_END;
 }
 
 static void take_memory(struct proxy *proxy, const struct regions *regions, const struct files *files) {
     memory_clear(proxy->memory);
-    for (unsigned i = 0; i < files->count; i++)
-        memory_add(proxy->memory, regions->addresses[i], regions->sizes[i], files->at[i], regions->offsets[i]);
+    for (unsigned i = 0; i < files->count; i++) {
+        const struct region wanted = {.base = regions->addresses[i], .bytes = regions->sizes[i], .is_readable = true, .is_writable = true};
+        int failed = memory_add(proxy->memory, &wanted, files->at[i], regions->offsets[i]);
+        if (failed)
+            say("the guest's memory at %" PRIx64 " of %" PRIu64 " bytes can't be used: %s", wanted.base, wanted.bytes, strerror(failed));
+    }
 }
 
 /* ---- interrupts ---- */
 
-static void close_file(int *file) {
-    if (*file >= 0)
-        close(*file);
-    *file = -1;
-}
-
 static void take_irqfd(struct proxy *proxy, struct files *files) {
-    close_file(&proxy->trigger);
-    close_file(&proxy->resample);
+    file_close(&proxy->trigger);
+    file_close(&proxy->resample);
     proxy->trigger = files_take(files, 0);
     proxy->resample = files_take(files, 1);
+    if (proxy->trigger >= 0)
+        fcntl(proxy->trigger, F_SETFL, O_NONBLOCK);
     if (proxy->resample >= 0)
         fcntl(proxy->resample, F_SETFL, O_NONBLOCK);
 }
@@ -118,7 +118,7 @@ static void drain_qtest(struct proxy *proxy) {
     char answers[4096];
     ssize_t got = read(proxy->qtest, answers, sizeof answers);
     if (got == 0 || (got < 0 && errno != EINTR && errno != EAGAIN))
-        close_file(&proxy->qtest);
+        file_close(&proxy->qtest);
 }
 
 struct wire proxy_wire(struct proxy *proxy) {
@@ -127,7 +127,7 @@ struct wire proxy_wire(struct proxy *proxy) {
 
 /* ---- messages ---- */
 
-static bool take_config(struct proxy *proxy, enum kind kind, const struct config_access *it) {
+static enum found take_config(struct proxy *proxy, enum kind kind, const struct config_access *it) {
     uint32_t value = 0;
     if (kind == CONFIG_READ)
         value = pci_config_read(proxy->pci, it->at, it->bytes);
@@ -136,7 +136,7 @@ static bool take_config(struct proxy *proxy, enum kind kind, const struct config
     return answer(proxy, value);
 }
 
-static bool take_bar(struct proxy *proxy, enum kind kind, const struct bar_access *it) {
+static enum found take_bar(struct proxy *proxy, enum kind kind, const struct bar_access *it) {
     uint32_t at = (uint32_t)(it->address & (PCI_BAR_BYTES - 1));
     uint64_t value = 0;
     if (kind == BAR_READ)
@@ -146,12 +146,12 @@ static bool take_bar(struct proxy *proxy, enum kind kind, const struct bar_acces
     return answer(proxy, value);
 }
 
-static bool take_message(struct proxy *proxy, const struct header *header, const union data *data, struct files *files) {
+static enum found take_message(struct proxy *proxy, const struct header *header, const union data *data, struct files *files) {
     enum kind kind = (enum kind)header->kind;
     switch (kind) {
     case SYNC_SYSMEM:
         take_memory(proxy, &data->regions, files);
-        return true;
+        return FOUND_MESSAGE;
     case CONFIG_WRITE:
     case CONFIG_READ:
         return take_config(proxy, kind, &data->config);
@@ -160,30 +160,40 @@ static bool take_message(struct proxy *proxy, const struct header *header, const
         return take_bar(proxy, kind, &data->bar);
     case SET_IRQFD:
         take_irqfd(proxy, files);
-        return true;
+        return FOUND_MESSAGE;
     case DEVICE_RESET:
         pci_reset(proxy->pci);
         return answer(proxy, 0);
     default:
         say("QEMU sent a message of kind %d, which is not known here", header->kind);
-        return false;
+        return FOUND_WRONG;
     }
 }
 
-/* Receives one message. It returns false once QEMU is gone. */
-static bool receive(struct proxy *proxy) {
-    struct header header;
+/* Receives the rest of a message behind its header. */
+static enum found receive_data(struct proxy *proxy, const struct header *header, struct files *files) {
     union data data;
-    struct files files = {.count = 0};
     memset(&data, 0, sizeof data);
-    bool taken = socket_receive(proxy->socket, &header, sizeof header, &files);
-    if (taken && header.bytes > sizeof data) {
-        say("QEMU sent a message of %" PRIu64 " bytes, of which %zu are known here", header.bytes, sizeof data);
-        taken = false;
+    if (header->bytes > sizeof data) {
+        say("QEMU sent a message of %" PRIu64 " bytes, of which %zu are known here", header->bytes, sizeof data);
+        return FOUND_WRONG;
     }
-    taken = taken && socket_receive(proxy->socket, &data, (size_t)header.bytes, &files) && take_message(proxy, &header, &data, &files);
+    enum found found = socket_receive(proxy->socket, &data, (size_t)header->bytes, files);
+    if (found == FOUND_END)
+        say("the guest's program ended in the middle of a message");
+    if (found != FOUND_MESSAGE)
+        return FOUND_WRONG;
+    return take_message(proxy, header, &data, files);
+}
+
+static enum found receive(struct proxy *proxy) {
+    struct header header;
+    struct files files = {.count = 0};
+    enum found found = socket_receive(proxy->socket, &header, sizeof header, &files);
+    if (found == FOUND_MESSAGE)
+        found = receive_data(proxy, &header, &files);
     files_close(&files);
-    return taken;
+    return found;
 }
 
 /* ---- the main loop's view ---- */
@@ -196,13 +206,13 @@ static unsigned watch(void *it, struct pollfd *files) {
     return 3;
 }
 
-static bool serve(void *it, const struct pollfd *files) {
+static enum found serve(void *it, const struct pollfd *files) {
     struct proxy *proxy = it;
     if (files[1].revents)
         drain_qtest(proxy);
     if (files[2].revents & POLLIN)
         take_resample(proxy);
-    return !files[0].revents || receive(proxy);
+    return files[0].revents ? receive(proxy) : FOUND_NOTHING;
 }
 
 struct transport proxy_transport(struct proxy *proxy) {
@@ -210,8 +220,8 @@ struct transport proxy_transport(struct proxy *proxy) {
 }
 
 void proxy_end(struct proxy *proxy) {
-    close_file(&proxy->socket);
-    close_file(&proxy->qtest);
-    close_file(&proxy->trigger);
-    close_file(&proxy->resample);
+    file_close(&proxy->socket);
+    file_close(&proxy->qtest);
+    file_close(&proxy->trigger);
+    file_close(&proxy->resample);
 }

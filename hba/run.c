@@ -15,6 +15,7 @@
 #include <string.h>
 #include <sys/prctl.h>
 #include <sys/socket.h>
+#include <sys/wait.h>
 #include <unistd.h>
 
 #define MOST_ADDED 16
@@ -95,7 +96,7 @@ static void add_accelerator(struct line *line, char *const *command) {
     add(line, "tcg,thread=single");
 }
 
-static void add_devices(struct line *line, char *const *command, char *proxy, char *qtest, size_t room) {
+static void add_proxy(struct line *line, char *const *command, char *proxy, char *qtest, size_t room) {
     if (!has(command, "-device", "x-pci-proxy-dev")) {
         snprintf(proxy, room, "x-pci-proxy-dev,id=ahci-hba,fd=%d", RUN_PROXY_FILE);
         add(line, "-device");
@@ -131,13 +132,25 @@ static void become(char **words) {
     _exit(127);
 }
 
-static pid_t start_qemu(struct line *line, int proxy, int qtest) {
+static void log_command(char *const *words) {
+    char text[200];
+    size_t at = 0;
+    text[0] = 0;
+    for (; *words && at + strlen(*words) + 2 < sizeof text; words++)
+        at += (size_t)snprintf(text + at, sizeof text - at, " %s", *words);
+    log_line("starts%s%s", text, *words ? " .." : "");
+}
+
+/* Starts the program of a command line, with two files if they are not -1. */
+static pid_t start(struct line *line, int proxy, int qtest) {
+    log_command(line->words);
     pid_t child = fork();
     if (child < 0)
         say("no process can be made: %m");
     if (child == 0) {
         begin_child();
-        hand_over(proxy, qtest);
+        if (proxy >= 0)
+            hand_over(proxy, qtest);
         become(line->words);
     }
     return child;
@@ -154,16 +167,7 @@ static int make_sockets(int proxy[2], int qtest[2]) {
     return -1;
 }
 
-static void log_command(char *const *words) {
-    char text[200];
-    size_t at = 0;
-    text[0] = 0;
-    for (; *words && at + strlen(*words) + 2 < sizeof text; words++)
-        at += (size_t)snprintf(text + at, sizeof text - at, " %s", *words);
-    log_line("starts%s%s", text, *words ? " .." : "");
-}
-
-pid_t run_qemu(char *const *command, int *proxy, int *qtest) {
+pid_t run_proxy(char *const *command, int *proxy, int *qtest) {
     char backend[96], device[64], chardev[64];
     int proxies[2], qtests[2];
     struct line line;
@@ -171,10 +175,9 @@ pid_t run_qemu(char *const *command, int *proxy, int *qtest) {
     if (begin_line(&line, command))
         return -1;
     add_accelerator(&line, command);
-    add_devices(&line, command, device, chardev, sizeof device);
+    add_proxy(&line, command, device, chardev, sizeof device);
     if (add_memory(&line, command, backend, sizeof backend) == 0 && make_sockets(proxies, qtests) == 0) {
-        log_command(line.words);
-        child = start_qemu(&line, proxies[1], qtests[1]);
+        child = start(&line, proxies[1], qtests[1]);
         close(proxies[1]);
         close(qtests[1]);
         *proxy = proxies[0];
@@ -184,21 +187,100 @@ pid_t run_qemu(char *const *command, int *proxy, int *qtest) {
     return child;
 }
 
+/* ---- vfio-user ---- */
+
+/* How many words of a command come before QEMU's options: `nice qemu-system-x86_64 -m 1G` begins with two. 0 if none of them names a QEMU. */
+static size_t words_of_program(char *const *command) {
+    for (size_t count = 0; command[count] && command[count][0] != '-'; count++) {
+        const char *slash = strrchr(command[count], '/');
+        if (strstr(slash ? slash : command[count], "qemu"))
+            return count + 1;
+    }
+    return 0;
+}
+
+/* What a program prints, up to so many bytes. */
+static void read_answer(char **words, char *text, size_t room) {
+    int pipes[2], status, nothing = open("/dev/null", O_RDWR | O_CLOEXEC);
+    size_t count = 0;
+    ssize_t got = 1;
+    if (pipe2(pipes, O_CLOEXEC))
+        return;
+    pid_t child = fork();
+    if (child == 0) {
+        begin_child();
+        dup2(nothing, STDIN_FILENO);
+        dup2(pipes[1], STDOUT_FILENO);
+        dup2(nothing, STDERR_FILENO);
+        become(words);
+    }
+    close(pipes[1]);
+    close(nothing);
+    for (; got > 0 && count < room - 1; count += got > 0 ? (size_t)got : 0)
+        got = read(pipes[0], text + count, room - 1 - count);
+    close(pipes[0]);
+    text[count] = 0;
+    while (child > 0 && waitpid(child, &status, 0) < 0 && errno == EINTR)
+        continue;
+}
+
+/* QEMU ends with status 0, too, if it does not know the device, so the text counts. */
+bool run_has_vfio_user(char *const *command) {
+    char text[256] = "";
+    struct line line;
+    size_t program = words_of_program(command);
+    if (program == 0 || begin_line(&line, command))
+        return true;
+    line.count = program;
+    add(&line, "-device");
+    add(&line, "vfio-user-pci,help");
+    line.words[line.count] = NULL;
+    read_answer(line.words, text, sizeof text);
+    free(line.words);
+    return strstr(text, "vfio-user-pci options");
+}
+
+#define DEVICE_ROOM 256 /* bytes of the device's argument */
+
+/* QEMU gives a message 60 seconds instead of 5, since a machine may be busy; after that the device is gone for its guest. */
+static void write_device(char *device, const char *path) {
+    snprintf(device, DEVICE_ROOM, "{\"driver\":\"vfio-user-pci\",\"id\":\"ahci-hba\",\"socket\":{\"type\":\"unix\",\"path\":\"%s\"},\"x-msg-timeout\":60000}", path);
+}
+
+pid_t run_vfio_user(char *const *command, const char *socket_path) {
+    char backend[96], device[DEVICE_ROOM];
+    struct line line;
+    pid_t child = -1;
+    if (begin_line(&line, command))
+        return -1;
+    if (!has(command, "-device", "vfio-user-pci")) {
+        write_device(device, socket_path);
+        add(&line, "-device");
+        add(&line, device);
+    }
+    if (add_memory(&line, command, backend, sizeof backend) == 0)
+        child = start(&line, -1, -1);
+    free(line.words);
+    return child;
+}
+
+void run_print_arguments(const char *socket_path) {
+    char device[DEVICE_ROOM];
+    write_device(device, socket_path);
+    printf("-object memory-backend-memfd,id=ahci-hba-memory,size=512M,share=on -machine memory-backend=ahci-hba-memory -m 512M -device '%s'\n", device);
+    fflush(stdout);
+}
+
+/* ---- User Mode Linux ---- */
+
 pid_t run_uml(char *const *command, const char *socket_path) {
-    char device[256];
+    char device[DEVICE_ROOM];
     struct line line;
     if (begin_line(&line, command))
         return -1;
     snprintf(device, sizeof device, "virtio_uml.device=%s:1234", socket_path);
     add(&line, device);
-    log_command(line.words);
-    pid_t child = fork();
-    if (child < 0)
-        say("no process can be made: %m");
-    if (child == 0) {
-        begin_child();
-        become(line.words);
-    }
+    pid_t child = start(&line, -1, -1);
     free(line.words);
     return child;
 }

@@ -13,14 +13,26 @@ static const char help[] =
     "An AHCI controller with one disk, for a guest of QEMU or for User Mode Linux\n"
     "\n"
     "Usage: ahci-hba run [OPTIONS] -- qemu-system-x86_64 ARGUMENTS..\n"
+    "       ahci-hba serve --socket PATH [OPTIONS]\n"
     "       ahci-hba uml [OPTIONS] -- KERNEL ARGUMENTS..\n"
     "\n"
     "Commands:\n"
-    "  run  Starts QEMU with the controller as a PCI function of its guest. Added to the arguments is what is missing of:\n"
-    "       a memory backend, the device x-pci-proxy-dev, a socket for interrupts, and one thread for the emulation\n"
-    "  uml  Starts a kernel of User Mode Linux with the controller as its PCI function\n"
+    "  run    Starts QEMU with the controller as a PCI function of its guest. Added to the arguments is what is missing of:\n"
+    "         a memory backend, and the device vfio-user-pci; for a QEMU before 10.1 the device x-pci-proxy-dev, a socket for\n"
+    "         interrupts, and one thread for the emulation\n"
+    "  serve  Waits at a socket for any client of vfio-user, one after the other, until a signal comes, and prints the\n"
+    "         arguments by which QEMU is one\n"
+    "  uml    Starts a kernel of User Mode Linux with the controller as its PCI function\n"
     "\n"
     "Options:\n"
+    "      --transport WAY          How QEMU has the controller: by vfio-user, or by proxy, as QEMU before 10.1 does (default: vfio-user\n"
+    "                               if QEMU has the device)\n"
+    "      --socket PATH            The socket of vfio-user (default of run: one in a folder of its own). Only this user can\n"
+    "                               come to it, unless its mode is changed\n"
+    "      --hold MICROSECONDS[:GAP[:COUNT]]\n"
+    "                               By vfio-user an interrupt message waits so long at most, so that a driver takes several answers by one;\n"
+    "                               it is sent before if the device is idle, and no command came for GAP microseconds, or COUNT\n"
+    "                               came (default 2000:300:16; 0, no wait, with --judge and without vfio-user)\n"
     "      --sectors N              The disk's sectors of 512 bytes, 1 to 131072 (default: those of the image, or 131072)\n"
     "      --image FILE             The sectors at the start. They are written back to FILE\n"
     "      --sync WHEN              When the image is written back: at each flush of the guest, before that is answered, and at the\n"
@@ -68,6 +80,7 @@ static const char help[] =
     "Status: 0 if the guest's program ended with 0 and all was written; 1 if it did not, or if the image, the record or the log\n"
     "could not be written; 2 if the command line is wrong; 3 if all went well but the driver broke a rule that the standard has.\n";
 
+#define MOST_HOLD 1000000u /* microseconds */
 #define LEAST_JOURNAL (UINT64_C(4) << 20) /* the default of a small disk */
 #define MOST_SLOW_READS 1000000
 #define JOURNAL_DISKS 4                   /* that of others, in disks: a trim takes as long as copying the disk */
@@ -88,9 +101,38 @@ static int take_sync(const char *text, enum sync *sync) {
     return wrong;
 }
 
+static int take_way(const char *text, enum way *way) {
+    static const char *const words[] = {"vfio-user", "proxy", NULL};
+    unsigned place = 0;
+    int wrong = option_word("transport", text, words, "vfio-user or proxy", &place);
+    *way = place ? WAY_PROXY : WAY_VFIO_USER;
+    return wrong;
+}
+
+static const char *take_number_below(const char *text, uint32_t *number) {
+    uint64_t taken = 0;
+    text = take_digits(text, &taken);
+    *number = (uint32_t)taken;
+    return taken <= MOST_HOLD ? text : NULL;
+}
+
+static int take_hold(struct settings *settings, const char *text) {
+    struct hold_settings *hold = &settings->hold;
+    const char *end = take_number_below(text, &hold->longest);
+    if (end && *end == ':')
+        end = take_number_below(end + 1, &hold->gap);
+    if (end && *end == ':')
+        end = take_number_below(end + 1, &hold->most);
+    settings->has_hold = true;
+    if (end && !*end)
+        return 0;
+    say_expected("hold", text, "MICROSECONDS[:GAP[:COUNT]], each a decimal number up to %u", MOST_HOLD);
+    return -1;
+}
+
 static int take_path(const char *name, const char *text, const char **path) {
     if (!*text) {
-        say_expected(name, text, "%s", strcmp(name, "record") ? "a file" : "a folder");
+        say_expected(name, text, "%s", !strcmp(name, "record") ? "a folder" : !strcmp(name, "socket") ? "a path" : "a file");
         return -1;
     }
     *path = text;
@@ -104,6 +146,12 @@ static int take_one(struct settings *settings, const char *name, const char *val
         return option_small(name, value, 1, AHCI_MOST_TAGS, &settings->depth);
     if (!strcmp(name, "cap"))
         return capabilities_take(&settings->capabilities, value);
+    if (!strcmp(name, "transport"))
+        return take_way(value, &settings->way);
+    if (!strcmp(name, "socket"))
+        return take_path(name, value, &settings->socket);
+    if (!strcmp(name, "hold"))
+        return take_hold(settings, value);
     if (!strcmp(name, "pick"))
         return take_pick(value, &settings->pick);
     if (!strcmp(name, "seed"))
@@ -133,7 +181,7 @@ static int take_one(struct settings *settings, const char *name, const char *val
 /* Takes one option with its value. */
 static int take_option(struct settings *settings, const char *word, const char *value) {
     static const char *const names[] = {"sectors", "depth", "cap", "pick", "seed", "delay", "image", "sync", "most-journal", "record", "record-limit", "log",
-                                        "judge-from", "slow-bits", "json"};
+                                        "judge-from", "slow-bits", "json", "transport", "socket", "hold"};
     struct rules *rules[] = {&settings->failures, &settings->slow, &settings->stalls};
     const char *name = word + 2;
     for (unsigned at = 0; at < sizeof rules / sizeof *rules; at++)
@@ -165,11 +213,23 @@ static int look_at_pairs(const struct settings *settings) {
     return -1;
 }
 
-static int settle(struct settings *settings) {
-    if (!settings->command || !settings->command[0]) {
+/* Whether the command is there that is needed, and the socket. */
+static int look_at_command(const struct settings *settings) {
+    bool has_command = settings->command && settings->command[0];
+    if (settings->guest != GUEST_CLIENT && !has_command)
         say("expected a command after `--`");
+    else if (settings->guest == GUEST_CLIENT && has_command)
+        say("serve starts no command, got \"%s\"", settings->command[0]);
+    else if (settings->guest == GUEST_CLIENT && !settings->socket)
+        say("expected --socket PATH");
+    else
+        return 0;
+    return -1;
+}
+
+static int settle(struct settings *settings) {
+    if (look_at_command(settings))
         return -1;
-    }
     if (image_settle(&settings->image, &settings->sectors) || look_at_pairs(settings))
         return -1;
     if (settings->most_journal == 0) {
@@ -223,7 +283,7 @@ static enum asked write_version(void) {
 }
 
 enum asked settings_read(struct settings *settings, int count, char **words) {
-    *settings = (struct settings){.depth = AHCI_MOST_TAGS, .capabilities = AHCI_HBA_USUAL, .seed = 1, .judge_from = 1, .sync = SYNC_FLUSH, .failures.kind = RULE_FAIL, .slow.kind = RULE_SLOW, .stalls.kind = RULE_STALL};
+    *settings = (struct settings){.hold = {.longest = 2000, .gap = 300, .most = 16}, .depth = AHCI_MOST_TAGS, .capabilities = AHCI_HBA_USUAL, .seed = 1, .judge_from = 1, .sync = SYNC_FLUSH, .failures.kind = RULE_FAIL, .slow.kind = RULE_SLOW, .stalls.kind = RULE_STALL};
     const char *first = count > 1 ? words[1] : "";
     if (is_help(first) || (count > 2 && is_help(words[2]))) {
         fputs(help, stdout);
@@ -231,11 +291,15 @@ enum asked settings_read(struct settings *settings, int count, char **words) {
     }
     if (!strcmp(first, "--version"))
         return write_version();
-    if (strcmp(first, "run") && strcmp(first, "uml")) {
-        say("expected run or uml, got \"%s\"; see ahci-hba --help", first);
+    static const char *const guests[] = {[GUEST_QEMU] = "run", [GUEST_UML] = "uml", [GUEST_CLIENT] = "serve"};
+    unsigned guest = 0;
+    while (guest <= GUEST_CLIENT && strcmp(first, guests[guest]))
+        guest++;
+    if (guest > GUEST_CLIENT) {
+        say("expected run, serve or uml, got \"%s\"; see ahci-hba --help", first);
         return ASKED_WRONGLY;
     }
-    settings->guest = strcmp(first, "uml") ? GUEST_QEMU : GUEST_UML;
+    settings->guest = (enum guest)guest;
     return take_words(settings, words + 2) ? ASKED_WRONGLY : ASKED_RUN;
 }
 

@@ -2,6 +2,7 @@
 #ifndef AHCI_HBA_SETTINGS_H
 #define AHCI_HBA_SETTINGS_H
 
+#include "hold.h"
 #include "image.h"
 #include "numbers.h"
 #include "rules.h"
@@ -10,14 +11,21 @@
 #include <stdbool.h>
 #include <stdint.h>
 
-/* What starts: a program of QEMU, or a kernel of User Mode Linux. */
-enum guest { GUEST_QEMU, GUEST_UML };
+/* What starts: a program of QEMU, or a kernel of User Mode Linux; or nothing, and any client of vfio-user comes. */
+enum guest { GUEST_QEMU, GUEST_UML, GUEST_CLIENT };
+
+/* How QEMU has the device. */
+enum way { WAY_ASKED /* by what QEMU knows */, WAY_VFIO_USER, WAY_PROXY };
 
 /* When the image is written back. */
 enum sync { SYNC_END, SYNC_FLUSH };
 
 struct settings {
     enum guest guest;
+    enum way way;
+    const char *socket; /* where it is served by vfio-user, or NULL for a folder of its own */
+    struct hold_settings hold;
+    bool has_hold;      /* it was given */
     uint32_t sectors; /* 1 to 131,072 */
     uint32_t depth;   /* 1 to 32: the queue depth of IDENTIFY DEVICE */
     ahci_hba_capabilities capabilities; /* of the controller */

@@ -26,27 +26,47 @@ static void take_files(struct msghdr *message, struct files *files) {
     }
 }
 
-bool socket_receive(int socket, void *bytes, size_t count, struct files *files) {
+static ssize_t receive_some(int socket, void *bytes, size_t count, struct files *files, int flags) {
+    union {
+        char room[CMSG_SPACE(MOST_FILES * sizeof(int))];
+        struct cmsghdr aligned;
+    } control;
+    struct iovec part = {.iov_base = bytes, .iov_len = count};
+    struct msghdr message = {.msg_iov = &part, .msg_iovlen = 1, .msg_control = control.room, .msg_controllen = sizeof control.room};
+    ssize_t got = recvmsg(socket, &message, MSG_CMSG_CLOEXEC | flags);
+    if (got >= 0)
+        take_files(&message, files);
+    return got;
+}
+
+ssize_t socket_take(int socket, void *bytes, size_t count, struct files *files) {
+    return receive_some(socket, bytes, count, files, MSG_DONTWAIT);
+}
+
+/* What it means that no more bytes come, of a message of which some or none are there. */
+static enum found at_end(ssize_t got, bool is_begun) {
+    if (got < 0 && errno != ECONNRESET) {
+        say("the guest's socket can't be read: %m");
+        return FOUND_WRONG;
+    }
+    if (!is_begun)
+        return FOUND_END;
+    say("the guest's program ended in the middle of a message");
+    return FOUND_WRONG;
+}
+
+enum found socket_receive(int socket, void *bytes, size_t count, struct files *files) {
     uint8_t *to = bytes;
     while (count) {
-        union {
-            char room[CMSG_SPACE(MOST_FILES * sizeof(int))];
-            struct cmsghdr aligned;
-        } control;
-        struct iovec part = {.iov_base = to, .iov_len = count};
-        struct msghdr message = {.msg_iov = &part, .msg_iovlen = 1, .msg_control = control.room, .msg_controllen = sizeof control.room};
-        ssize_t got = recvmsg(socket, &message, MSG_CMSG_CLOEXEC);
+        ssize_t got = receive_some(socket, to, count, files, 0);
         if (got < 0 && errno == EINTR)
             continue;
-        if (got < 0 && errno != ECONNRESET)
-            say("the guest's socket can't be read: %m");
         if (got <= 0)
-            return false;
-        take_files(&message, files);
+            return at_end(got, to != bytes);
         to += got;
         count -= (size_t)got;
     }
-    return true;
+    return FOUND_MESSAGE;
 }
 
 bool socket_send(int socket, const void *bytes, size_t count) {
@@ -55,6 +75,8 @@ bool socket_send(int socket, const void *bytes, size_t count) {
         ssize_t sent = send(socket, from, count, MSG_NOSIGNAL);
         if (sent < 0 && errno == EINTR)
             continue;
+        if (sent < 0 && (errno == EAGAIN || errno == EWOULDBLOCK))
+            say("the guest's program takes no answers");
         if (sent <= 0) {
             log_line("a message was not sent, since the guest is gone");
             return false;
@@ -67,8 +89,7 @@ bool socket_send(int socket, const void *bytes, size_t count) {
 
 void files_close(struct files *files) {
     for (unsigned i = 0; i < files->count; i++)
-        if (files->at[i] >= 0)
-            close(files->at[i]);
+        file_close(&files->at[i]);
     files->count = 0;
 }
 
@@ -78,4 +99,10 @@ int files_take(struct files *files, unsigned which) {
     int file = files->at[which];
     files->at[which] = -1;
     return file;
+}
+
+void file_close(int *file) {
+    if (*file >= 0)
+        close(*file);
+    *file = -1;
 }

@@ -4,13 +4,8 @@
 #include "say.h"
 #include "socket.h"
 
-#include <fcntl.h>
 #include <inttypes.h>
-#include <stdio.h>
-#include <stdlib.h>
 #include <string.h>
-#include <sys/socket.h>
-#include <sys/un.h>
 #include <unistd.h>
 
 /* Requests of vhost-user (QEMU's docs/interop/vhost-user.rst). */
@@ -96,7 +91,10 @@ static void take_memory(struct vhost *vhost, const union data *data, const struc
     memory_clear(vhost->memory);
     for (unsigned i = 0; i < files->count && i < data->table.count; i++) {
         const struct region_of_table *it = &data->table.regions[i];
-        memory_add(vhost->memory, it->address, it->bytes, files->at[i], it->offset);
+        const struct region wanted = {.base = it->address, .bytes = it->bytes, .is_readable = true, .is_writable = true};
+        int failed = memory_add(vhost->memory, &wanted, files->at[i], it->offset);
+        if (failed)
+            say("the guest's memory at %" PRIx64 " of %" PRIu64 " bytes can't be used: %s", wanted.base, wanted.bytes, strerror(failed));
     }
 }
 
@@ -173,16 +171,30 @@ static bool take_request(struct vhost *vhost, uint32_t request, const union data
     }
 }
 
-/* Receives one request. It returns false once the kernel is gone. */
-static bool receive(struct vhost *vhost) {
-    struct header header;
+/* Receives the rest of a request behind its header. */
+static enum found receive_data(struct vhost *vhost, const struct header *header, struct files *files) {
     union data data;
-    struct files files = {.count = 0};
     memset(&data, 0, sizeof data);
-    bool taken = socket_receive(vhost->socket, &header, sizeof header, &files) && header.bytes <= sizeof data &&
-                 socket_receive(vhost->socket, &data, header.bytes, &files) && take_request(vhost, header.request, &data, &files);
+    if (header->bytes > sizeof data) {
+        say("the kernel sent a request of %" PRIu32 " bytes, of which %zu are known here", header->bytes, sizeof data);
+        return FOUND_WRONG;
+    }
+    enum found found = socket_receive(vhost->socket, &data, header->bytes, files);
+    if (found == FOUND_END)
+        say("the guest's program ended in the middle of a message");
+    if (found != FOUND_MESSAGE)
+        return FOUND_WRONG;
+    return take_request(vhost, header->request, &data, files) ? FOUND_MESSAGE : FOUND_WRONG;
+}
+
+static enum found receive(struct vhost *vhost) {
+    struct header header;
+    struct files files = {.count = 0};
+    enum found found = socket_receive(vhost->socket, &header, sizeof header, &files);
+    if (found == FOUND_MESSAGE)
+        found = receive_data(vhost, &header, &files);
     files_close(&files);
-    return taken;
+    return found;
 }
 
 /* ---- accesses and interrupts ---- */
@@ -274,7 +286,7 @@ struct wire vhost_wire(struct vhost *vhost) {
 
 static unsigned watch(void *it, struct pollfd *files) {
     const struct vhost *vhost = it;
-    files[0] = (struct pollfd){.fd = vhost->socket >= 0 ? vhost->socket : vhost->listening, .events = POLLIN};
+    files[0] = (struct pollfd){.fd = vhost->socket >= 0 ? vhost->socket : vhost->place.listening, .events = POLLIN};
     files[1] = (struct pollfd){.fd = vhost->rings[ACCESSES].kick, .events = POLLIN};
     files[2] = (struct pollfd){.fd = vhost->rings[INTERRUPTS].kick, .events = POLLIN};
     return 3;
@@ -287,18 +299,18 @@ static void drain(int file) {
         log_line("the kernel's signal can't be read: %m");
 }
 
-static bool serve(void *it, const struct pollfd *files) {
+static enum found serve(void *it, const struct pollfd *files) {
     struct vhost *vhost = it;
     for (unsigned i = 0; i < VHOST_RINGS; i++)
         if (files[1 + i].revents & POLLIN)
             drain(files[1 + i].fd);
     take_accesses(vhost);
     if (!files[0].revents)
-        return true;
+        return FOUND_NOTHING;
     if (vhost->socket >= 0)
         return receive(vhost);
-    vhost->socket = accept4(vhost->listening, NULL, NULL, SOCK_CLOEXEC);
-    return true;
+    vhost->socket = place_accept(&vhost->place);
+    return FOUND_NOTHING;
 }
 
 struct transport vhost_transport(struct vhost *vhost) {
@@ -306,49 +318,24 @@ struct transport vhost_transport(struct vhost *vhost) {
 }
 
 const char *vhost_path(const struct vhost *vhost) {
-    return vhost->path;
+    return vhost->place.path;
 }
 
 /* ---- the beginning and the end ---- */
 
-static int listen_at(const char *path) {
-    struct sockaddr_un address = {.sun_family = AF_UNIX};
-    snprintf(address.sun_path, sizeof address.sun_path, "%s", path);
-    int file = socket(AF_UNIX, SOCK_STREAM | SOCK_CLOEXEC, 0);
-    if (file >= 0 && bind(file, (const struct sockaddr *)&address, sizeof address) == 0 && listen(file, 1) == 0)
-        return file;
-    say("no socket can be made at %s: %m", path);
-    if (file >= 0)
-        close(file);
-    return -1;
-}
-
 int vhost_begin(struct vhost *vhost, struct pci *pci, struct memory *memory) {
-    *vhost = (struct vhost){.listening = -1, .socket = -1, .back = -1, .pci = pci, .memory = memory};
+    *vhost = (struct vhost){.socket = -1, .back = -1, .pci = pci, .memory = memory};
     for (unsigned i = 0; i < VHOST_RINGS; i++)
         vhost->rings[i].kick = vhost->rings[i].call = -1;
-    const char *where = getenv("TMPDIR");
-    int length = snprintf(vhost->folder, sizeof vhost->folder, "%s/ahci-hba-XXXXXX", where ? where : "/tmp");
-    if (length >= (int)sizeof vhost->folder || !mkdtemp(vhost->folder)) {
-        say("no folder can be made for a socket in %s: %m", where ? where : "/tmp");
-        return -1;
-    }
-    snprintf(vhost->path, sizeof vhost->path, "%s/socket", vhost->folder);
-    vhost->listening = listen_at(vhost->path);
-    if (vhost->listening >= 0)
-        return 0;
-    vhost_end(vhost);
-    return -1;
+    return place_begin(&vhost->place, NULL);
 }
 
 void vhost_end(struct vhost *vhost) {
-    replace(&vhost->listening, -1);
     replace(&vhost->socket, -1);
     replace(&vhost->back, -1);
     for (unsigned i = 0; i < VHOST_RINGS; i++) {
         replace(&vhost->rings[i].kick, -1);
         replace(&vhost->rings[i].call, -1);
     }
-    unlink(vhost->path);
-    rmdir(vhost->folder);
+    place_end(&vhost->place);
 }

@@ -4,15 +4,14 @@
 
 #include "memory.h"
 #include "pci.h"
+#include "place.h"
 #include "ring.h"
 #include "transport.h"
 
 #define VHOST_RINGS 2
 
 struct vhost {
-    char folder[80]; /* with the socket, for as long as there is one */
-    char path[96];
-    int listening;
+    struct place place;
     int socket; /* -1 until the kernel has come */
     int back;   /* by which a device may ask the kernel; it takes the device away once this is closed */
     struct ring rings[VHOST_RINGS]; /* the kernel's accesses, and the device's interrupts */

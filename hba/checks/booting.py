@@ -11,7 +11,7 @@ import zlib
 from typing import List, Sequence, Tuple
 
 import images
-from harness import SECTOR, Guest, blank, contents, counted, digest, file_of_ext4, linux, qemu
+from harness import SECTOR, Guest, blank, contents, counted, digest, file_of_ext4, linux, qemu, vfio_device, way_of
 from images import file_in, file_of, pattern
 import pace
 import playing
@@ -110,8 +110,10 @@ def uboot(room: str) -> str:
     """U-Boot loads a file, reads sectors, writes two and reads them again; it looks at nothing but PxCI, so it runs without interrupts."""
     firmware, image = file_of("/usr/lib/u-boot/qemu-x86_64/u-boot.rom", "u-boot-qemu"), images.uboot_image(room)
     before = bytearray(contents(image))
-    place = ["-device", "x-pci-proxy-dev,fd=40,addr=5"]  # U-Boot's device tree has an ISA bridge at the first place
-    guest = Guest(room, ["--image", image], qemu(room, "-bios", firmware, *place), recorded=image)
+    # U-Boot's device tree has an ISA bridge at the first place
+    path = os.path.join(room, "socket")
+    place = ["-device", "x-pci-proxy-dev,fd=40,addr=5"] if way_of(room) == images.PROXY else ["-device", vfio_device(path, addr="5")]
+    guest = Guest(room, ["--image", image, "--socket", path], qemu(room, "-bios", firmware, *place), recorded=image)
     guest.wait_for("^CHECK end$", 60)
     guest.end(20, signal.SIGTERM)
     guest.log_is_usual()
@@ -134,10 +136,10 @@ def files_right(room: str, guest: Guest, image: str, data: bytes) -> None:
 
 
 def linux_files(room: str, memory: str = "512M", options: Sequence[str] = (), machine: Sequence[str] = (), said: str = "", depth: str = "32",
-                more: Sequence[str] = ()) -> str:
+                more: Sequence[str] = (), folder: str = "kernel") -> str:
     """Linux makes ext4, writes files, mounts it again and reads them. `more` is what it says that others don't."""
     data, image = pattern(8 << 20, "files"), blank(room, 131072)
-    guest = Guest(room, ["--image", image, *options], [*linux(room, "files", data, memory), *machine], recorded=image)
+    guest = Guest(room, ["--image", image, *options], [*linux(room, "files", data, memory, folder), *machine], recorded=image)
     guest.end(240, said=said)
     guest.log_is_usual()
     guest.linux_is_usual(more)

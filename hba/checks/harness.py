@@ -4,6 +4,7 @@ from __future__ import annotations
 import atexit
 import contextlib
 import hashlib
+import json
 import os
 import re
 import shutil
@@ -17,7 +18,7 @@ from images import program  # it knows where the shared checks are
 import pace
 import playing
 from records import WRITE, Record, bounds
-from suite import Failed, expect
+from suite import Check, Failed, expect
 
 HERE = os.path.dirname(os.path.dirname(os.path.realpath(__file__)))
 PROGRAM = os.path.join(HERE, "out", "ahci-hba")
@@ -27,7 +28,9 @@ PLAYER = os.path.join(HERE, "out", "play")
 SECTOR = 512
 
 # what a log has in any run
-USUAL = [r"(read|write) \S+ [0-9a-f]+", r"config (read|write) [0-9a-f]+/\d [0-9a-f]+", r"command \d+ [0-9a-f]{40}", r"memory [0-9a-f]+ to [0-9a-f]+",
+USUAL = [r"(read|write) \S+ [0-9a-f]+", r"config (read|write) [0-9a-f]+/\d [0-9a-f]+", r"command \d+ [0-9a-f]{40}",
+         r"memory [0-9a-f]+ to [0-9a-f]+(, to be read)?(, without a file)?", r"no memory any more [0-9a-f]+ to [0-9a-f]+", r"vfio-user 0\.\d \{.*\}",
+         r"interrupts [01], flags [0-9a-f]{2}, [01] from 0 on", r"interrupt line [01]", r"a message of command 16 is refused", r"the PCI function is unplugged",
          r"interrupt message [0-9a-f]+ [0-9a-f]{4}", r"signature", r"reset of the PCI function", r"starts .*", r"the same, \d+ times more", r"judge: .*"]
 
 # what Linux says of a disk that works
@@ -40,8 +43,26 @@ USUAL_OF_LINUX = [r"ahci 0000:00:..\.0: (version 3\.0|AHCI 0001\.0301 32 slots 1
                   r"EXT4-fs \(sda\): (mounted filesystem with ordered data mode\. .*|unmounting filesystem.*)"]
 
 
+WAYS: Dict[str, str] = {}  # how QEMU has the controller, by a check's room; by the proxy if nothing is said
 JUDGED: List[str] = []  # the options by which each guest's driver is judged; then status 3 is as good as 0
 BROKE_A_RULE = 3
+
+
+def way_of(room: str) -> str:
+    return WAYS.get(room, images.PROXY)
+
+
+def by(way: str, check: Check) -> Check:
+    """A check in which QEMU has the controller in this way."""
+    def run(room: str) -> str:
+        WAYS[room] = way
+        try:
+            return check.run(room)
+        finally:
+            del WAYS[room]
+
+    run.__doc__ = check.run.__doc__
+    return check._replace(run=run, title=f"{check.name}, by {way}")
 
 
 def go_first() -> None:
@@ -104,7 +125,8 @@ class Guest:
         self.recorded, self.room = "" if JUDGED else recorded, room
         self.record_path = os.path.join(room, "record")
         kept = [*(["--log", self.log_path] if log else []), *(["--record", self.record_path] if self.recorded else [])]
-        words = [binary, mode, *kept, *JUDGED, *options, "--", *command]
+        way = ["--transport", way_of(room)] if mode == "run" else []
+        words = [binary, mode, *way, *kept, *JUDGED, *options, "--", *command]
         with open(self.said_path, "wb") as said:
             self.process = subprocess.Popen(words, stdin=subprocess.DEVNULL, stdout=said, stderr=said, preexec_fn=go_first if first else None)
         atexit.register(self.kill)
@@ -147,7 +169,8 @@ class Guest:
         if JUDGED and self.process.returncode == BROKE_A_RULE:
             return
         expect(self.process.returncode == status, f"status {self.process.returncode}, not {status}: {self.said()[-1500:]}{self.serial()[-1000:]}")
-        expect(bool(JUDGED) or bool(re.fullmatch(said, self.said(), re.DOTALL)), f"it said: {self.said()}")
+        told = re.sub(r"qemu-system-\w+: terminating on signal 15 from pid \d+ \(.*\)\n", "", self.said()) if how else self.said()
+        expect(bool(JUDGED) or bool(re.fullmatch(said, told, re.DOTALL)), f"it said: {told}")
         if self.recorded:
             self.has_recorded = makes(self.record_path, self.recorded, self.room)
 
@@ -187,13 +210,19 @@ class Guest:
 
 def qemu(room: str, *more: str, memory: str = "512M") -> List[str]:
     """A machine with no other disk."""
-    return [program("qemu-system-x86_64", "qemu-system-x86"), "-nodefaults", "-display", "none", "-machine", "q35,sata=off", "-cpu", "max", "-m", memory,
+    return [images.qemu_of(way_of(room)), "-nodefaults", "-display", "none", "-machine", "q35,sata=off", "-cpu", "max", "-m", memory,
             "-serial", f"file:{room}/serial", *more]
 
 
-def linux(room: str, test: str, data: bytes = b"", memory: str = "512M") -> List[str]:
-    image, modules = images.kernel()
-    words = "console=ttyS0 loglevel=7 panic=1 no_timer_check"
+def vfio_device(path: str, **more: str) -> str:
+    """The device of a QEMU at a socket."""
+    return json.dumps({"driver": "vfio-user-pci", "id": "ahci-hba", "socket": {"type": "unix", "path": path}, "x-msg-timeout": 60000, **more})
+
+
+def linux(room: str, test: str, data: bytes = b"", memory: str = "512M", folder: str = "kernel", more: str = "") -> List[str]:
+    """A machine with a kernel of a folder of out/, which runs guests/TEST.sh; `more` is for its command line."""
+    image, modules = images.kernel(folder)
+    words = " ".join(["console=ttyS0 loglevel=7 panic=1 no_timer_check", *([more] if more else [])])
     return qemu(room, "-kernel", image, "-initrd", images.initrd(room, test, data, modules), "-append", words, memory=memory)
 
 

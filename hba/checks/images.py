@@ -1,10 +1,13 @@
 """What the checks run on the controller: disk images, and a Linux with its initial RAM disk, made of Debian's packages."""
 from __future__ import annotations
 
+import functools
 import glob
 import gzip
 import hashlib
+import lzma
 import os
+import re
 import shutil
 import struct
 import subprocess
@@ -21,12 +24,11 @@ from suite import Skipped  # noqa: E402
 OUT = os.path.join(HERE, "out")
 GUESTS = os.path.join(HERE, "guests")
 SECTOR = 512
+VFIO_USER, PROXY = "vfio-user", "proxy"  # the ways in which QEMU has the controller
 PARTITION = 2048  # the first sector of a GRUB image's partition
 
-# the modules of Debian's kernel that the disk and a file system want, each after those that it uses
-MODULES = """crypto/crc32c_generic crypto/crct10dif_common crypto/crct10dif_generic lib/crc64 crypto/crc64_rocksoft_generic lib/crc64-rocksoft
-drivers/scsi/scsi_common drivers/scsi/scsi_mod lib/crc-t10dif block/t10-pi drivers/scsi/sd_mod drivers/ata/libata
-drivers/ata/libahci drivers/ata/ahci fs/jbd2/jbd2 fs/mbcache lib/crc16 fs/ext4/ext4""".split()
+# the modules of a kernel that the disk and a file system want; those that they use come with them. A kernel may have no such module, or have it built in
+MODULES = ["crc32c_generic", "crc64_rocksoft_generic", "crct10dif_generic", "sd_mod", "ahci", "ext4"]
 
 
 def program(name: str, package: str) -> str:
@@ -35,6 +37,24 @@ def program(name: str, package: str) -> str:
     if not found:
         raise Skipped(f"there is no {name} (package {package})")
     return found
+
+
+@functools.lru_cache(maxsize=None)
+def has_vfio_user(qemu: str) -> bool:
+    """Whether a QEMU has the device vfio-user-pci, as from 10.1 on."""
+    done = pace.ran([qemu, "-device", "vfio-user-pci,help"], 20, stdout=subprocess.PIPE, stderr=subprocess.STDOUT, text=True)
+    return "vfio-user-pci options" in str(done.stdout)
+
+
+def qemu_of(way: str, machine: str = "x86_64") -> str:
+    """A QEMU that has the controller in this way: the machine's own, or that of ./fetch --qemu."""
+    name, fetched = f"qemu-system-{machine}", os.path.join(OUT, "qemu", "bin", f"qemu-system-{machine}")
+    own = shutil.which(name)
+    if own and has_vfio_user(own) == (way == VFIO_USER):
+        return own
+    if way == VFIO_USER and os.path.exists(fetched):
+        return fetched
+    raise Skipped(f"there is no {name} with {way} (./fetch --qemu makes one)" if way == VFIO_USER else f"there is no {name} before 10.1 (package qemu-system-x86 of Debian 12)")
 
 
 def file_of(path: str, package: str) -> str:
@@ -69,14 +89,18 @@ def pattern(count: int, seed: str) -> bytes:
 # ---- a boot sector ----
 
 
+def assembled(room: str, name: str) -> str:
+    """The program of guests/NAME.S, as the BIOS loads it."""
+    objects, boot = os.path.join(room, f"{name}.o"), os.path.join(room, f"{name}.bin")
+    ran([program("as", "binutils"), "--32", "-o", objects, os.path.join(GUESTS, f"{name}.S")])
+    ran([program("ld", "binutils"), "-m", "elf_i386", "-Ttext", "0x7c00", "--oformat", "binary", "-o", boot, objects])
+    return boot
+
+
 def sector_image(room: str) -> Tuple[str, int]:
     """An image of 8 MiB that begins with guests/sector.S, and the sum of the bytes that it adds up, below 2^16."""
-    objects, boot = os.path.join(room, "sector.o"), os.path.join(room, "sector.bin")
-    ran([program("as", "binutils"), "--32", "-o", objects, os.path.join(GUESTS, "sector.S")])
-    ran([program("ld", "binutils"), "-m", "elf_i386", "-Ttext", "0x7c00", "--oformat", "binary", "-o", boot, objects])
     image = bytearray(8 << 20)
-    with open(boot, "rb") as file:
-        image[:SECTOR] = file.read(SECTOR)
+    image[:SECTOR] = read(assembled(room, "sector"))[:SECTOR]
     image[SECTOR:2 * SECTOR] = b"sector 1\n".ljust(SECTOR, b"\0")
     summed = pattern(64 * SECTOR, "sum")
     image[64 * SECTOR:128 * SECTOR] = summed
@@ -160,13 +184,40 @@ def file_in(path: str, name: str) -> bytes:
 # ---- Linux ----
 
 
-def kernel() -> Tuple[str, str]:
-    """Debian's kernel and the folder of its modules: those of ./fetch."""
-    images = glob.glob(os.path.join(OUT, "kernel/boot/vmlinuz-*"))
-    if not images:
-        raise Skipped("there is no kernel (./fetch has not got linux-image-amd64)")
-    version = os.path.basename(images[0])[len("vmlinuz-"):]
-    return images[0], os.path.join(OUT, "kernel/lib/modules", version, "kernel")
+def kernel(folder: str = "kernel") -> Tuple[str, str]:
+    """A kernel of Debian and the folder of its modules: those of ./fetch, or of another folder of out/."""
+    root = os.path.join(OUT, folder)
+    images, modules = glob.glob(os.path.join(root, "boot/vmlinuz-*")) + glob.glob(os.path.join(root, "usr/lib/modules/*/vmlinuz")), glob.glob(os.path.join(root, "**/modules/*/kernel"), recursive=True)
+    if not images or not modules:
+        raise Skipped(f"there is no out/{folder} (./fetch{'' if folder == 'kernel' else ' --' + folder} makes it)")
+    return images[0], modules[0]
+
+
+def module(path: str) -> bytes:
+    content = read(path)
+    return lzma.decompress(content) if path.endswith(".xz") else content
+
+
+def modules_of(folder: str) -> Dict[str, bytes]:
+    """The modules that the disk and a file system want, each after those that it uses."""
+    paths = {os.path.basename(it).split(".ko")[0].replace("-", "_"): it for it in glob.glob(os.path.join(folder, "**/*.ko*"), recursive=True)}
+    out: Dict[str, bytes] = {}
+    seen = set()
+
+    def take(name: str) -> None:
+        if name in seen or name not in paths:
+            return
+        seen.add(name)
+        content = module(paths[name])
+        for key in (rb"depends=", rb"softdep=pre: "):
+            for used in re.findall(rb"\0" + key + rb"([^\0]+)\0", content)[:1]:
+                for it in re.split(r"[, ]", used.decode()):
+                    take(it.replace("-", "_"))
+        out[name] = content
+
+    for name in MODULES:
+        take(name)
+    return out
 
 
 def libraries(path: str) -> List[str]:
@@ -198,17 +249,24 @@ def compiled(room: str, name: str) -> bytes:
     return read(path)
 
 
-def initrd(room: str, test: str, data: bytes, modules: Optional[str]) -> str:
-    """An initial RAM disk that runs guests/TEST.sh, with `data` as /data; with the modules of a folder if one is named."""
+def programs(room: str) -> Dict[str, bytes]:
+    """What a script of guests/ runs, for this machine."""
     mkfs, busybox = program("mkfs.ext4", "e2fsprogs"), program("busybox", "busybox")
-    files = {"init": read(os.path.join(GUESTS, "init")), "test": read(os.path.join(GUESTS, f"{test}.sh")), "data": data,
-             "bin/busybox": read(busybox), "bin/requests": compiled(room, "requests"), "bin/merged": compiled(room, "merged"), "sbin/mkfs.ext4": read(mkfs)}
+    files = {"bin/busybox": read(busybox), "bin/requests": compiled(room, "requests"), "bin/merged": compiled(room, "merged"), "sbin/mkfs.ext4": read(mkfs)}
     for path in libraries(mkfs) + libraries(busybox):
         files[path.lstrip("/")] = read(os.path.realpath(path))
+    return files
+
+
+def initrd(room: str, test: str, data: bytes, modules: Optional[str], busybox: str = "") -> str:
+    """An initial RAM disk that runs guests/TEST.sh, with `data` as /data; with the modules of a folder if one is named. `busybox` is all that it has of programs
+    for another machine."""
+    files = {"init": read(os.path.join(GUESTS, "init")), "test": read(os.path.join(GUESTS, f"{test}.sh")), "data": data}
+    files.update({"bin/busybox": read(busybox)} if busybox else programs(room))
     if modules:
-        for it in MODULES:
-            files[f"modules/{os.path.basename(it)}.ko"] = read(os.path.join(modules, f"{it}.ko"))
-        files["modules/order"] = "".join(f"{os.path.basename(it)}.ko\n" for it in MODULES).encode()
+        taken = modules_of(modules)
+        files.update({f"modules/{name}.ko": content for name, content in taken.items()})
+        files["modules/order"] = "".join(f"{name}.ko\n" for name in taken).encode()
     path = os.path.join(room, f"{test}.initrd")
     with gzip.open(path, "wb", compresslevel=1) as file:
         file.write(archive(files))

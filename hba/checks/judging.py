@@ -8,7 +8,7 @@ from concurrent.futures import ThreadPoolExecutor
 from typing import Any, Dict, List, Sequence
 
 from faults import FAULTS, RIGHT
-from harness import BROKE_A_RULE, HERE, SANITIZED
+from harness import BROKE_A_RULE, HERE, SANITIZED, way_of
 import pace
 from suite import Check, expect
 
@@ -20,7 +20,7 @@ ALONE = ["queue_without_sncq", "many_entries"]  # these break no other rule
 def judged(room: str, fault: str, options: Sequence[str]) -> List[Dict[str, Any]]:
     """The rules that the judge names, of a run with a fault."""
     found = os.path.join(room, f"{fault}.json")
-    ran = pace.ran([SANITIZED, "run", "--sectors", "64", "--json", found, *options, "--", DRIVER, fault], 60, stdout=subprocess.PIPE, stderr=subprocess.PIPE, text=True)
+    ran = pace.ran([SANITIZED, "run", "--transport", way_of(room), "--sectors", "64", "--json", found, *options, "--", DRIVER, fault], 60, stdout=subprocess.PIPE, stderr=subprocess.PIPE, text=True)
     with open(found, encoding="utf-8") as file:
         rules: List[Dict[str, Any]] = json.load(file)["rules"]
     broken = any(it["verdict"] == "broken" for it in rules)

@@ -10,7 +10,7 @@ import subprocess
 from typing import List, Tuple
 
 import images
-from harness import HERE, PROGRAM, SANITIZED, SECTOR, STARVED, Guest, blank, contents, digest, linux, makes, qemu
+from harness import HERE, PROGRAM, SANITIZED, SECTOR, STARVED, Guest, blank, contents, digest, linux, makes, qemu, way_of
 from images import pattern
 import pace
 import playing
@@ -33,34 +33,42 @@ def refused(words: List[str], says: str) -> None:
     expect(done.returncode == 2 and done.stdout == "" and done.stderr == f"ahci-hba: {says}\n", f"{words}: status {done.returncode}, {done.stdout}{done.stderr}")
 
 
-DEVICE = "-device x-pci-proxy-dev,id=ahci-hba,fd=40 -chardev socket,id=ahci-hba-messages,fd=41 -object qtest,id=ahci-hba-qtest,chardev=ahci-hba-messages,log=none"
+PROXY_DEVICE = "-device x-pci-proxy-dev,id=ahci-hba,fd=40 -chardev socket,id=ahci-hba-messages,fd=41 -object qtest,id=ahci-hba-qtest,chardev=ahci-hba-messages,log=none"
 
 
 def memory_of(size: int) -> str:
     return f" -object memory-backend-memfd,id=ahci-hba-memory,size={size},share=on -machine memory-backend=ahci-hba-memory"
 
 
-def started(words: str, added: str) -> None:
+def vfio_device(path: str) -> str:
+    return '-device {"driver":"vfio-user-pci","id":"ahci-hba","socket":{"type":"unix","path":"%s"},"x-msg-timeout":60000}' % path
+
+
+def started(way: str, path: str, words: str, added: str) -> None:
     """A command line of QEMU gets these arguments, and no others."""
-    done = program("run", "--sectors", "8", "--", "sh", "-c", 'echo "$*"', "sh", *words.split())
-    expect(done.stdout == f"{words} {added}\n" and done.returncode == 0, f"{words}: {done.stdout}{done.stderr}")
+    done = program("run", "--transport", way, "--socket", path, "--sectors", "8", "--", "sh", "-c", 'echo "$*"', "sh", *words.split())
+    expect(done.stdout == f"{words} {added}".strip() + "\n" and done.returncode == 0, f"{words}: {done.stdout}{done.stderr}")
 
 
-def arguments(_: str) -> str:
+def arguments(room: str) -> str:
     """What `run` adds to the arguments of QEMU."""
-    single = "-accel tcg,thread=single "
+    single, path = "-accel tcg,thread=single ", os.path.join(room, "socket")
+    device = vfio_device(path)
     cases = [
-        ("-m 1G", single + DEVICE + memory_of(1 << 30)),
-        ("-m size=512M,slots=2,maxmem=2G", single + DEVICE + memory_of(512 << 20)),
-        ("-m 256", single + DEVICE + memory_of(256 << 20)),
-        ("-smp 2", single + DEVICE + memory_of(128 << 20)),
-        ("-accel kvm -m 5g", DEVICE + memory_of(5 << 30)),
-        ("-machine q35,accel=kvm,memory-backend=x", DEVICE),
-        ("-enable-kvm -M q35,memory-backend=x -device x-pci-proxy-dev,fd=40,addr=5", DEVICE[DEVICE.index("-chardev"):]),
+        ("proxy", "-m 1G", single + PROXY_DEVICE + memory_of(1 << 30)),
+        ("proxy", "-m size=512M,slots=2,maxmem=2G", single + PROXY_DEVICE + memory_of(512 << 20)),
+        ("proxy", "-smp 2", single + PROXY_DEVICE + memory_of(128 << 20)),
+        ("proxy", "-accel kvm -m 5g", PROXY_DEVICE + memory_of(5 << 30)),
+        ("proxy", "-machine q35,accel=kvm,memory-backend=x", PROXY_DEVICE),
+        ("proxy", "-enable-kvm -M q35,memory-backend=x -device x-pci-proxy-dev,fd=40,addr=5", PROXY_DEVICE[PROXY_DEVICE.index("-chardev"):]),
+        ("vfio-user", "-m 256", device + memory_of(256 << 20)),
+        ("vfio-user", "-accel kvm -smp 2", device + memory_of(128 << 20)),
+        ("vfio-user", "-M virt,memory-backend=x", device),
+        ("vfio-user", "-M q35,memory-backend=x -device " + device.split(" ")[1].replace("}", ',"addr":"5"}'), ""),
     ]
-    for words, added in cases:
-        started(words, added)
-    done = program("run", "--sectors", "8", "--", "qemu-system-x86_64", "-m", "0.5G")
+    for way, words, added in cases:
+        started(way, path, words, added)
+    done = program("run", "--transport", "proxy", "--sectors", "8", "--", "qemu-system-x86_64", "-m", "0.5G")
     expect(done.returncode == 1 and done.stderr == "ahci-hba: -m 0.5G: the size of the guest's memory can't be read\n", f"-m 0.5G: {done.stderr}")
     return f"{len(cases)} command lines"
 
@@ -76,8 +84,14 @@ def command_lines(room: str) -> str:
     fields = "expected FIELD=NUMBER, where FIELD is ncs, iss, s64a, sncq, sss, sclo, salp or pmd"
     small = ["run", "--sectors", "8"]
     cases: List[Tuple[List[str], str]] = [
-        ([], 'expected run or uml, got ""; see ahci-hba --help'),
-        (["walk"], 'expected run or uml, got "walk"; see ahci-hba --help'),
+        ([], 'expected run, serve or uml, got ""; see ahci-hba --help'),
+        (["walk"], 'expected run, serve or uml, got "walk"; see ahci-hba --help'),
+        (["serve"], "expected --socket PATH"),
+        (["serve", "--socket", "s", "--", "true"], 'serve starts no command, got "true"'),
+        (["run", "--socket", "", *run], '--socket: expected a path, got ""'),
+        (["run", "--transport", "ide", *run], '--transport: expected vfio-user or proxy, got "ide"'),
+        (["run", "--hold", "2000:300:16:1", *run], '--hold: expected MICROSECONDS[:GAP[:COUNT]], each a decimal number up to 1000000, got "2000:300:16:1"'),
+        (["run", "--hold", "1000001", *run], '--hold: expected MICROSECONDS[:GAP[:COUNT]], each a decimal number up to 1000000, got "1000001"'),
         (["run"], "expected a command after `--`"),
         (["run", "--"], "expected a command after `--`"),
         (["run", "--sectors", "0", *run], f'--sectors: {number} 1 to 131072, got "0"'),
@@ -168,7 +182,7 @@ def failed_reads(room: str) -> str:
         file.write(b"".join(struct.pack("<Q", lba) * (SECTOR // 8) for lba in range(64)))
     wanted = [f"{code}: 5 sectors, PRDBC {counted}, error 40 at 21: 200" for code, counted in (("20h", 5 * SECTOR), ("60h", 0), ("C8h", 5 * SECTOR))]
     for binary, said in ((PROGRAM, ""), (STARVED, "ahci-hba: there is no memory; the device waits for it\n")):
-        words = [binary, "run", "--image", image, "--fail", "21-63:40:ever,reads", "--", READER, "16", "600"]
+        words = [binary, "run", "--transport", way_of(room), "--image", image, "--fail", "21-63:40:ever,reads", "--", READER, "16", "600"]
         done = pace.ran(words, 120, stdout=subprocess.PIPE, stderr=subprocess.PIPE, text=True)
         expect(done.returncode == 0 and done.stderr == said, f"status {done.returncode}: {done.stderr}")
         expect(done.stdout.split("\n")[:-1] == wanted, f"{os.path.basename(binary)}: the reads came to {done.stdout}")
@@ -227,7 +241,7 @@ def full(room: str) -> str:
 
 def written(room: str, options: List[str], words: List[str], status: int = 0, said: str = "") -> str:
     """Runs checks/writer, and returns what it printed."""
-    done = pace.ran([PROGRAM, "run", *options, "--", WRITER, *words], 240, stdout=subprocess.PIPE, stderr=subprocess.PIPE, text=True)
+    done = pace.ran([PROGRAM, "run", "--transport", way_of(room), *options, "--", WRITER, *words], 240, stdout=subprocess.PIPE, stderr=subprocess.PIPE, text=True)
     expect(done.returncode == status and done.stderr == said, f"{options} {words}: status {done.returncode}: {done.stderr}")
     return str(done.stdout)
 
@@ -277,7 +291,7 @@ def very_much_written(room: str) -> str:
 def a_limit(room: str) -> str:
     """--record-limit: the record never has more bytes, while the queue is full all the time, and what is left plays."""
     folder, limit = os.path.join(room, "record"), 80 << 20
-    words = [PROGRAM, "run", "--sectors", "8192", "--image", blank(room, 8192), "--record", folder, "--record-limit", "80M", "--pick", "random", "--", WRITER, "256", "64", "8192", "32", "-"]
+    words = [PROGRAM, "run", "--transport", way_of(room), "--sectors", "8192", "--image", blank(room, 8192), "--record", folder, "--record-limit", "80M", "--pick", "random", "--", WRITER, "256", "64", "8192", "32", "-"]
     largest, process = 0, subprocess.Popen(words, stdin=subprocess.DEVNULL, stdout=subprocess.DEVNULL, stderr=subprocess.PIPE, text=True)
     while process.poll() is None:
         largest = max(largest, size_of(folder))

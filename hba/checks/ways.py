@@ -1,0 +1,50 @@
+"""Which checks run in which way: by vfio-user, as a current QEMU has the controller, and by the proxy, as QEMU before 10.1 has it."""
+from __future__ import annotations
+
+from typing import List
+
+import booting
+import images
+import judging
+import rough
+import served
+from harness import by
+from images import PROXY, VFIO_USER
+from suite import Check, Skipped
+
+# these have no guest of QEMU
+WITHOUT = ["Command lines", "Arguments of QEMU", "Files that can't be written", "User Mode Linux"]
+# these have a driver of our own instead of a QEMU
+BARE = ["Garbage", "Reads that fail", "Rules", "Much that is written", "10 GiB that are written", "A limit of the record", "A kill after an answer", "The judge, faults of a driver",
+        "The judge, drivers without a fault", "The judge, from a stretch on"]
+# these run by the proxy, too
+ALSO = ["SeaBIOS and a boot sector", "GRUB on UEFI", "U-Boot", "Linux, files", "Linux, an error in the queue", "Linux, a reset of the machine", "Linux, flushes and a kill", "Garbage", "A killed guest",
+        "Rules", "The judge, faults of a driver", "The judge, drivers without a fault"]
+
+
+def missing_qemu(_: str) -> str:
+    """Whether there is a QEMU with vfio-user; without one its checks run by the proxy, and some don't run."""
+    images.qemu_of(VFIO_USER)
+    return "there is one"
+
+
+def has_qemu(way: str) -> bool:
+    try:
+        return bool(images.qemu_of(way))
+    except Skipped:
+        return False
+
+
+def ways_of(check: Check, has_new: bool) -> List[Check]:
+    """The check in each of its ways."""
+    if check.name in WITHOUT:
+        return [check]
+    by_vfio_user = [by(VFIO_USER, check)] if has_new or check.name in BARE else []
+    return by_vfio_user + ([by(PROXY, check)] if check.name in ALSO or not by_vfio_user else [])
+
+
+def checks() -> List[Check]:
+    has_new = has_qemu(VFIO_USER)
+    both = [*rough.CHECKS, *booting.CHECKS, *judging.CHECKS]
+    found = [it for check in both for it in ways_of(check, has_new)] + served.CHECKS
+    return found if has_new else [Check(missing_qemu, title="A QEMU with vfio-user"), *found]

@@ -1,0 +1,127 @@
+#include "loop.h"
+
+#include "log.h"
+#include "say.h"
+
+#include <errno.h>
+#include <signal.h>
+#include <stddef.h>
+#include <stdint.h>
+#include <sys/prctl.h>
+#include <time.h>
+
+#define QUIET 100000000 /* nanoseconds without an access after which the log is flushed */
+#define STEPS 16        /* of the device between two looks at the guest's socket */
+#define LOOKS 64        /* after which signals and other files are looked at, too */
+
+static volatile sig_atomic_t stopped; /* a signal has ended the run */
+static volatile sig_atomic_t child_changed;
+static uint64_t deadline; /* of the guest's program to end, in nanoseconds of CLOCK_MONOTONIC; 0 before it was told to */
+static sigset_t waiting; /* the mask while the loop waits: signals come only then */
+
+static void note_signal(int number) {
+    if (number == SIGCHLD)
+        child_changed = 1;
+    else
+        stopped = 1;
+}
+
+void loop_begin(void) {
+    static const int numbers[] = {SIGCHLD, SIGTERM, SIGINT, SIGHUP};
+    struct sigaction action = {.sa_handler = note_signal, .sa_flags = SA_NOCLDSTOP};
+    sigset_t held;
+    sigemptyset(&held);
+    for (unsigned i = 0; i < sizeof numbers / sizeof *numbers; i++) {
+        sigaction(numbers[i], &action, NULL);
+        sigaddset(&held, numbers[i]);
+    }
+    signal(SIGPIPE, SIG_IGN);
+    signal(SIGXFSZ, SIG_IGN); /* a write past a limit of the system fails instead */
+    sigprocmask(SIG_BLOCK, &held, &waiting);
+    prctl(PR_SET_TIMERSLACK, 1); /* a wait of some microseconds is not rounded up to 50 more */
+}
+
+bool loop_is_stopped(void) {
+    return stopped;
+}
+
+/* How many nanoseconds the loop waits at most: until the next step is due, or until the guest's program has no more time to end. */
+static int64_t longest_wait(const struct pci *pci) {
+    int64_t step = pci_waits(pci), rest = deadline ? (int64_t)(deadline - device_now()) : -1;
+    if (deadline && rest < 0)
+        rest = 0;
+    if (step < 0 || rest < 0)
+        return step < 0 ? rest : step;
+    return step < rest ? step : rest;
+}
+
+/* Waits for files until the next step is due. The log is flushed once nothing has come for a while. */
+static int wait_for(struct pci *pci, struct pollfd *files, unsigned count) {
+    int64_t left = longest_wait(pci), first = left < 0 || left > QUIET ? QUIET : left;
+    struct timespec until = {.tv_nsec = first};
+    int ready = ppoll(files, count, &until, &waiting);
+    if (ready != 0 || left == first)
+        return ready;
+    log_flush();
+    until = (struct timespec){.tv_sec = (left - first) / 1000000000, .tv_nsec = (left - first) % 1000000000};
+    return ppoll(files, count, left < 0 ? NULL : &until, &waiting);
+}
+
+/* Takes what is there without waiting, with a turn of the device after each message; then some steps, and another look, for as long as there is something
+   to do, or for many looks. */
+static enum found work(struct pci *pci, const struct transport *transport) {
+    enum found found = FOUND_MESSAGE;
+    for (unsigned looks = 0; looks < LOOKS; looks++) {
+        found = transport->look(transport->it);
+        bool is_idle = found == FOUND_NOTHING && pci_waits(pci) != 0;
+        if (is_idle || found == FOUND_END || found == FOUND_WRONG)
+            break;
+        for (unsigned left = found == FOUND_MESSAGE ? 1 : STEPS; left && pci_waits(pci) == 0; left--)
+            pci_turn(pci);
+    }
+    return found;
+}
+
+/* Waits for the guest, the next step or the end of a write-back, and takes what comes. */
+static enum found wait_and_take(struct pci *pci, const struct transport *transport) {
+    struct pollfd files[MOST_WATCHED + 1];
+    unsigned count = transport->watch(transport->it, files);
+    files[count] = (struct pollfd){.fd = device_event(pci->device), .events = POLLIN};
+    int ready = wait_for(pci, files, count + 1);
+    if (ready < 0 && errno != EINTR) {
+        say("the guest can't be waited for: %m");
+        return FOUND_WRONG;
+    }
+    if (ready <= 0)
+        return FOUND_NOTHING;
+    if (files[count].revents)
+        device_take_event(pci->device);
+    return transport->serve(transport->it, files);
+}
+
+static bool is_end(enum found found) {
+    return found == FOUND_END || found == FOUND_WRONG;
+}
+
+/* One round of the loop. */
+static enum found go_round(struct pci *pci, const struct transport *transport) {
+    enum found found = wait_and_take(pci, transport);
+    if (is_end(found))
+        return found;
+    pci_turn(pci);
+    return transport->look ? work(pci, transport) : found;
+}
+
+int loop_run(struct pci *pci, struct transport transport) {
+    enum found found = FOUND_NOTHING;
+    while (!stopped && !child_changed && !is_end(found))
+        found = go_round(pci, &transport);
+    return found == FOUND_WRONG ? -1 : 0;
+}
+
+void loop_finish(struct pci *pci, struct transport transport, unsigned seconds) {
+    enum found found = FOUND_NOTHING;
+    deadline = device_now() + UINT64_C(1000000000) * seconds;
+    while (!child_changed && device_now() < deadline && !is_end(found))
+        found = go_round(pci, &transport);
+}
