@@ -2,6 +2,7 @@
 10.1 has it. The arguments that the program adds to a driver's command say which."""
 from __future__ import annotations
 
+import ctypes
 import mmap
 import os
 import re
@@ -26,6 +27,11 @@ class Access(NamedTuple):
 
 def gone() -> None:
     sys.exit("the program is gone")
+
+
+def eventfd() -> int:
+    """A file of eventfd(2), which Python has from 3.10 on."""
+    return int(ctypes.CDLL(None, use_errno=True).eventfd(0, os.O_NONBLOCK | os.O_CLOEXEC))
 
 
 def receive(link: socket.socket, count: int) -> bytes:
@@ -91,7 +97,7 @@ class VfioUser:
         self.socket.connect(path)
         self.number = 0
         self.call(self.VERSION, struct.pack("<HH", 0, 1) + b'{"capabilities":{"max_data_xfer_size":65536}}\0')
-        self.interrupts = [os.eventfd(0, os.EFD_NONBLOCK) for _ in range(2)] if hasattr(os, "eventfd") else []  # from Python 3.10 on
+        self.interrupts = [eventfd() for _ in range(2)]
         for index, file in enumerate(self.interrupts):
             self.call(self.SET_IRQS, struct.pack("<5I", 20, self.EVENTFD_TRIGGER, index, 0, 1), [file])
 

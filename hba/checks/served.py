@@ -250,7 +250,7 @@ def never_late(room: str) -> str:
     if not found:
         raise Failed(f"it printed {done.stdout}")
     expect(int(found[2]) >= 20 * int(found[1]), f"only {found[2]} reads were answered while flushes were outstanding")
-    return done.stdout.strip()
+    return found[0].strip()
 
 
 # ---- interrupts without an operating system ----
