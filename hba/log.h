@@ -16,7 +16,7 @@ __attribute__((format(printf, 1, 2))) void log_line(const char *format, ...);
 /* Writes a line to standard error, after the program's name, and to the log. */
 void log_complaint(const char *line);
 
-/* Hands the lines so far to the system. */
+/* Gives the lines so far to the thread that writes them. */
 void log_flush(void);
 
 /* Closes the log. It returns 0, or -1 if some line could not be written. */

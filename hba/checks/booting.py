@@ -106,14 +106,11 @@ def grub_uefi(room: str) -> str:
     return grub(room, uefi(room), "efi", "hd0,msdos1")
 
 
-def uboot(room: str) -> str:
-    """U-Boot loads a file, reads sectors, writes two and reads them again; it looks at nothing but PxCI, so it runs without interrupts."""
-    firmware, image = file_of("/usr/lib/u-boot/qemu-x86_64/u-boot.rom", "u-boot-qemu"), images.uboot_image(room)
+def uboot_right(room: str, words: Sequence[str]) -> str:
+    """U-Boot on a machine loads a file, reads sectors, writes two and reads them again."""
+    image = images.uboot_image(room)
     before = bytearray(contents(image))
-    # U-Boot's device tree has an ISA bridge at the first place
-    path = os.path.join(room, "socket")
-    place = ["-device", "x-pci-proxy-dev,fd=40,addr=5"] if way_of(room) == images.PROXY else ["-device", vfio_device(path, addr="5")]
-    guest = Guest(room, ["--image", image, "--socket", path], qemu(room, "-bios", firmware, *place), recorded=image)
+    guest = Guest(room, ["--image", image, "--socket", os.path.join(room, "socket")], words, recorded=image)
     guest.wait_for("^CHECK end$", 60)
     guest.end(20, signal.SIGTERM)
     guest.log_is_usual()
@@ -124,6 +121,14 @@ def uboot(room: str) -> str:
     before[32 * SECTOR:34 * SECTOR] = written
     expect(contents(image) == before, "the image is not what U-Boot wrote")
     return "sums right, 2 sectors written; commands " + counted(guest.codes())
+
+
+def uboot(room: str) -> str:
+    """U-Boot loads a file, reads sectors, writes two and reads them again; it looks at nothing but PxCI, so it runs without interrupts."""
+    firmware = file_of("/usr/lib/u-boot/qemu-x86_64/u-boot.rom", "u-boot-qemu")
+    # its device tree has an ISA bridge at the first place
+    place = "x-pci-proxy-dev,fd=40,addr=5" if way_of(room) == images.PROXY else vfio_device(os.path.join(room, "socket"), addr="5")
+    return uboot_right(room, qemu(room, "-bios", firmware, "-device", place))
 
 
 def files_right(room: str, guest: Guest, image: str, data: bytes) -> None:

@@ -67,16 +67,25 @@ def linux_current(room: str) -> str:
     return booting.linux_files(room, "5G", machine=["-smp", "2"], more=CURRENT, folder="current")
 
 
+def virt(room: str, *more: str) -> List[str]:
+    """A machine for arm64, whose processors and interrupt controller are others."""
+    return [qemu_of(VFIO_USER, "aarch64"), "-nodefaults", "-display", "none", "-machine", "virt", "-cpu", "cortex-a57", "-smp", "2", "-m", "512M", "-serial", f"file:{room}/serial", *more]
+
+
+def uboot_arm(room: str) -> str:
+    """U-Boot for arm64 loads a file, reads sectors, writes two and reads them again."""
+    return booting.uboot_right(room, virt(room, "-bios", file_of("/usr/lib/u-boot/qemu_arm64/u-boot.bin", "u-boot-qemu")))
+
+
 def linux_arm(room: str) -> str:
-    """Linux for arm64 on the machine `virt`, whose processors and interrupt controller are others."""
+    """Linux for arm64 adds up the disk, and writes and reads."""
     image, data = os.path.join(room, "disk.img"), pattern(1 << 20, "arm")
     with open(image, "wb") as file:
         file.write(images.numbered_blocks(2048, 4096))
     before = contents(image)
     kernel, modules = images.kernel("arm")
     busybox = file_of(os.path.join(images.OUT, "arm/usr/bin/busybox"), "busybox-static, ./fetch --arm")
-    words = [qemu_of(VFIO_USER, "aarch64"), "-nodefaults", "-display", "none", "-machine", "virt", "-cpu", "cortex-a57", "-smp", "2", "-m", "512M", "-serial", f"file:{room}/serial",
-             "-kernel", kernel, "-initrd", images.initrd(room, "copy", data, modules, busybox), "-append", "console=ttyAMA0 loglevel=7 panic=1"]
+    words = virt(room, "-kernel", kernel, "-initrd", images.initrd(room, "copy", data, modules, busybox), "-append", "console=ttyAMA0 loglevel=7 panic=1")
     guest = Guest(room, ["--image", image], words, recorded=image)
     guest.end(300)
     guest.log_is_usual()
@@ -312,7 +321,7 @@ def linux_kvm(room: str) -> str:
 
 CHECKS = [by(VFIO_USER, it) for it in (
     Check(linux_line, title="Linux, interrupts by INTA#"), Check(linux_messages, title="Linux, memory without a file"), Check(linux_current, title="Linux 7, two processors and 5 GiB"),
-    Check(linux_arm, title="Linux on arm64"), Check(resets, title="Resets of the machine"), Check(many_resets, title="Ten resets of the machine", is_long=True),
+    Check(linux_arm, title="Linux on arm64"), Check(uboot_arm, title="U-Boot on arm64"), Check(resets, title="Resets of the machine"), Check(many_resets, title="Ten resets of the machine", is_long=True),
     Check(plugged, title="Hot plug"), Check(often_plugged, title="Hot plug 20 times", is_long=True), Check(served, title="A server of its own"),
     Check(wrong_messages, title="Wrong messages"), Check(never_late, title="Never late"), Check(interrupts_tcg, title="Interrupts"),
     Check(interrupts_kvm, title="Interrupts under KVM"), Check(linux_kvm, title="Linux under KVM"))]
