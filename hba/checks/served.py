@@ -127,32 +127,46 @@ class Monitor:
             expect(not limit.has_passed(), "QEMU's monitor doesn't come")
             self.socket.close()
             self.socket = socket.socket(socket.AF_UNIX)
+        self.socket.settimeout(60 * pace.times())
         self.file = self.socket.makefile("rw", encoding="utf-8")
+        self.events: List[str] = []
         self.file.readline()
         self.ask("qmp_capabilities")
+
+    def message(self) -> Dict[str, Any]:
+        """The next message; an event is kept."""
+        found: Dict[str, Any] = json.loads(self.file.readline())
+        if "event" in found and found.get("data", {}).get("device", "ahci-hba") == "ahci-hba":
+            self.events.append(found["event"])
+        return found
 
     def ask(self, what: str, **arguments: Any) -> None:
         self.file.write(json.dumps({"execute": what, "arguments": arguments}) + "\n")
         self.file.flush()
-        while True:
-            answer = json.loads(self.file.readline())
-            if "error" in answer:
-                raise Failed(f"{what}: {answer['error']}")
-            if "return" in answer:
-                return
+        answer = self.message()
+        while "event" in answer:
+            answer = self.message()
+        expect("return" in answer, f"{what}: {answer}")
+
+    def wait_for(self, event: str) -> None:
+        """Waits for an event that nobody has waited for."""
+        while event not in self.events:
+            self.message()
+        self.events.remove(event)
 
 
 def plugged(room: str, times: int = 3) -> str:
     """The controller is taken out of the running machine under load, and put in again."""
     image, path = blank(room, 32768), os.path.join(room, "socket")
-    port = ["-device", "pcie-root-port,id=port,bus=pcie.0,chassis=1", "-device", vfio_device(path, bus="port")]
+    port = ["-device", "pcie-root-port,id=plug,bus=pcie.0,chassis=1", "-device", vfio_device(path, bus="plug")]
     guest = Guest(room, ["--image", image, "--socket", path], [*linux(room, "plug", more=f"times={times}"), *port, "-qmp", f"unix:{room}/qmp,server=on,wait=off"])
     monitor = Monitor(f"{room}/qmp")
-    device: Dict[str, Any] = json.loads(vfio_device(path, bus="port"))
+    device: Dict[str, Any] = json.loads(vfio_device(path, bus="plug"))
     for at in range(times):
         guest.wait_for(f"^CHECK up{at}$", 120)
         monitor.ask("device_del", id="ahci-hba")
         guest.wait_for(f"^CHECK gone{at}$", 60)
+        monitor.wait_for("DEVICE_DELETED")
         monitor.ask("device_add", **device)
     guest.end(120)
     guest.log_is_usual([r"the queue's journal of \d+ entries was handed out"])
