@@ -82,12 +82,14 @@ static enum found work(struct pci *pci, const struct transport *transport) {
     return found;
 }
 
-/* Waits for the guest, the next step or the end of a write-back, and takes what comes. */
-static enum found wait_and_take(struct pci *pci, const struct transport *transport) {
+/* Waits for the guest, the next step or the end of a write-back, and takes what comes. It doesn't wait if a message may be there already that the transport
+   has received. */
+static enum found wait_and_take(struct pci *pci, const struct transport *transport, bool has_more) {
+    static const struct timespec at_once;
     struct pollfd files[MOST_WATCHED + 1];
     unsigned count = transport->watch(transport->it, files);
     files[count] = (struct pollfd){.fd = device_event(pci->device), .events = POLLIN};
-    int ready = wait_for(pci, files, count + 1);
+    int ready = has_more ? ppoll(files, count + 1, &at_once, &waiting) : wait_for(pci, files, count + 1);
     if (ready < 0 && errno != EINTR) {
         say("the guest can't be waited for: %m");
         return FOUND_WRONG;
@@ -103,9 +105,9 @@ static bool is_end(enum found found) {
     return found == FOUND_END || found == FOUND_WRONG;
 }
 
-/* One round of the loop. */
-static enum found go_round(struct pci *pci, const struct transport *transport) {
-    enum found found = wait_and_take(pci, transport);
+/* One round of the loop; `before` is what was found last. */
+static enum found go_round(struct pci *pci, const struct transport *transport, enum found before) {
+    enum found found = wait_and_take(pci, transport, transport->look && before == FOUND_MESSAGE);
     if (is_end(found))
         return found;
     pci_turn(pci);
@@ -115,7 +117,7 @@ static enum found go_round(struct pci *pci, const struct transport *transport) {
 int loop_run(struct pci *pci, struct transport transport) {
     enum found found = FOUND_NOTHING;
     while (!stopped && !child_changed && !is_end(found))
-        found = go_round(pci, &transport);
+        found = go_round(pci, &transport, found);
     return found == FOUND_WRONG ? -1 : 0;
 }
 
@@ -123,5 +125,5 @@ void loop_finish(struct pci *pci, struct transport transport, unsigned seconds) 
     enum found found = FOUND_NOTHING;
     deadline = device_now() + UINT64_C(1000000000) * seconds;
     while (!child_changed && device_now() < deadline && !is_end(found))
-        found = go_round(pci, &transport);
+        found = go_round(pci, &transport, found);
 }
