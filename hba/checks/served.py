@@ -98,20 +98,15 @@ def linux_arm(room: str) -> str:
     return told["uname"]
 
 
-def resets(room: str, times: int = 3) -> str:
-    """The machine is reset again and again in the middle of requests."""
-    image = blank(room, 32768)
+def resets(room: str) -> str:
+    """The machine is reset ten times in the middle of requests."""
+    image, times = blank(room, 32768), 10
     guest = Guest(room, ["--image", image], [*linux(room, "reboots", more=f"times={times}"), "-smp", "2"])
     guest.end(100 * times)
     guest.log_is_usual([r"the queue's journal of \d+ entries was handed out"])
     told = guest.told()
     expect(told["resets"] == str(times) and bool(re.fullmatch(COMPARED, told["again"])), f"{told}")
     return f"{times} resets; {told['again']}"
-
-
-def many_resets(room: str) -> str:
-    """The same ten times."""
-    return resets(room, 10)
 
 
 # ---- hot plug ----
@@ -155,7 +150,7 @@ class Monitor:
         self.events.remove(event)
 
 
-def plugged(room: str, times: int = 3) -> str:
+def plugged(room: str, times: int = 2) -> str:
     """The controller is taken out of the running machine under load, and put in again."""
     image, path = blank(room, 32768), os.path.join(room, "socket")
     port = ["-device", "pcie-root-port,id=plug,bus=pcie.0,chassis=1", "-device", vfio_device(path, bus="plug")]
@@ -335,7 +330,7 @@ def linux_kvm(room: str) -> str:
 
 CHECKS = [by(VFIO_USER, it) for it in (
     Check(linux_line, title="Linux, interrupts by INTA#"), Check(linux_messages, title="Linux, memory without a file"), Check(linux_current, title="Linux 7, two processors and 5 GiB"),
-    Check(linux_arm, title="Linux on arm64"), Check(uboot_arm, title="U-Boot on arm64"), Check(resets, title="Resets of the machine"), Check(many_resets, title="Ten resets of the machine", is_long=True),
+    Check(linux_arm, title="Linux on arm64"), Check(uboot_arm, title="U-Boot on arm64"), Check(resets, title="Ten resets of the machine", is_long=True),
     Check(plugged, title="Hot plug"), Check(often_plugged, title="Hot plug 20 times", is_long=True), Check(served, title="A server of its own"),
     Check(wrong_messages, title="Wrong messages"), Check(never_late, title="Never late"), Check(interrupts_tcg, title="Interrupts"),
     Check(interrupts_kvm, title="Interrupts under KVM"), Check(linux_kvm, title="Linux under KVM"))]

@@ -18,8 +18,8 @@ WITHOUT = ["Command lines", "Arguments of QEMU", "Files that can't be written", 
 BARE = ["Garbage", "Reads that fail", "Rules", "Much that is written", "10 GiB that are written", "A limit of the record", "A kill after an answer", "The judge, faults of a driver",
         "The judge, drivers without a fault", "The judge, from a stretch on"]
 # these run by the proxy, too
-ALSO = ["SeaBIOS and a boot sector", "GRUB on UEFI", "U-Boot", "Linux, files", "Linux, an error in the queue", "Linux, a reset of the machine", "Linux, flushes and a kill", "Garbage", "A killed guest",
-        "Rules", "The judge, faults of a driver", "The judge, drivers without a fault"]
+ALSO = ["SeaBIOS and a boot sector", "SeaBIOS and an error", "GRUB on BIOS", "U-Boot", "Linux, flushes and a kill", "Garbage", "A killed guest", "Rules", "Reads that fail", "A kill after an answer",
+        "The judge, faults of a driver", "The judge, drivers without a fault"]
 
 
 def missing_qemu(_: str) -> str:

@@ -1,7 +1,7 @@
 # The controller is taken away while requests are made, and comes back, as many times as the kernel's command line says by `times`. What was kept before is
 # there each time.
 n=0
-while [ $n -lt "${times:-3}" ]; do
+while [ $n -lt "${times:-2}" ]; do
     printf "%02d" $n | dd of=/dev/sda bs=512 seek=32000 conv=notrunc,fsync 2> /dev/null || echo "CHECK failed: dd"
     requests /dev/sda 1024 4096 32 100000000 50 > /dev/null 2>&1 &
     echo "CHECK up$n"
