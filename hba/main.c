@@ -29,9 +29,19 @@ static bool wait_for_child(pid_t child, int *status) {
     return false;
 }
 
+/* Says how the guest's program ended that did not end well. */
+static void say_end(int status, bool by_proxy) {
+    if (!WIFSIGNALED(status))
+        say("the guest's program ended with status %d", WEXITSTATUS(status));
+    else if (by_proxy && WTERMSIG(status) == SIGSEGV)
+        say("the guest's program was ended by signal %d; QEMU since 10.0 crashes with the device of --transport proxy, and 10.1 has vfio-user", SIGSEGV);
+    else
+        say("the guest's program was ended by signal %d", WTERMSIG(status));
+}
+
 /* Ends the guest's program if it has not ended: at once if this one was told to stop, or could not serve it. It returns 0 if it ended with status
    0 or since this program was told to stop. */
-static int end_child(pid_t child, bool has_failed) {
+static int end_child(pid_t child, bool has_failed, bool by_proxy) {
     int status = 0;
     if (loop_is_stopped() || has_failed)
         kill(child, SIGTERM);
@@ -44,10 +54,7 @@ static int end_child(pid_t child, bool has_failed) {
         return -1;
     if (loop_is_stopped() || (WIFEXITED(status) && WEXITSTATUS(status) == 0))
         return 0;
-    if (WIFSIGNALED(status))
-        say("the guest's program was ended by signal %d", WTERMSIG(status));
-    else
-        say("the guest's program ended with status %d", WEXITSTATUS(status));
+    say_end(status, by_proxy);
     return -1;
 }
 
@@ -63,7 +70,7 @@ static int run_by_proxy(const struct settings *settings, struct device *device, 
     pci_begin(&pci, device, proxy_wire(&proxy));
     bool has_failed = loop_run(&pci, proxy_transport(&proxy));
     proxy_end(&proxy);
-    return end_child(child, has_failed);
+    return end_child(child, has_failed, true);
 }
 
 /* Serves the device by vfio-user: to QEMU, which is started, or to whoever comes. */
@@ -85,7 +92,7 @@ static int run_by_vfio_user(const struct settings *settings, struct device *devi
         loop_finish(&pci, vfio_user_transport(&it), GRACE);
     }
     vfio_user_end(&it);
-    return child > 0 ? end_child(child, has_failed) : has_failed ? -1 : 0;
+    return child > 0 ? end_child(child, has_failed, false) : has_failed ? -1 : 0;
 }
 
 /* Runs a kernel of User Mode Linux on the device. */
@@ -98,7 +105,7 @@ static int run_with_uml(const struct settings *settings, struct device *device, 
     pid_t child = run_uml(settings->command, vhost_path(&vhost));
     bool has_failed = child < 0 || loop_run(&pci, vhost_transport(&vhost));
     vhost_end(&vhost);
-    return child < 0 ? -1 : end_child(child, has_failed);
+    return child < 0 ? -1 : end_child(child, has_failed, false);
 }
 
 static bool is_by_vfio_user(const struct settings *settings) {

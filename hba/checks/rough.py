@@ -10,7 +10,7 @@ import subprocess
 from typing import List, Tuple
 
 import images
-from harness import HERE, PROGRAM, SANITIZED, SECTOR, STARVED, Guest, blank, contents, digest, linux, makes, qemu, way_of
+from harness import BROKE_A_RULE, HERE, PROGRAM, SANITIZED, SECTOR, STARVED, Guest, blank, contents, digest, linux, makes, qemu, way_of
 from images import pattern
 import pace
 import playing
@@ -20,6 +20,7 @@ from suite import Check, expect
 GARBAGE = os.path.join(HERE, "checks", "garbage")
 READER = os.path.join(HERE, "checks", "reader")
 WRITER = os.path.join(HERE, "checks", "writer")
+PEER = os.path.join(HERE, "checks", "peer")
 
 
 def program(*words: str) -> "subprocess.CompletedProcess[str]":
@@ -160,6 +161,20 @@ def garbage(room: str) -> str:
         entries += len(kinds)
     expect(resets > 20, f"the records have {resets} resets")
     return f"{steps} accesses, {entries} entries, {resets} resets"
+
+
+def wrong_peer(room: str) -> str:
+    """A peer of the proxy that sends what no QEMU does, under the sanitizers: what is no message ends the run with status 1, and all else is answered."""
+    ended, unknown = "the guest's program ended in the middle of a message", "QEMU sent a message of "
+    cases = [("sizes", 0, ""), ("short_file", 0, "(the guest's memory at [0-9a-f]+ of 1048576 bytes can't be used: Invalid argument ?)+"), ("shortened", 0, ""), ("full_pipe", 0, ""), ("past_the_end", 0, ""),
+             ("unknown", 1, unknown + "kind 99, which is not known here"), ("long", 1, unknown + "1048576 bytes, of which [0-9]+ are known here"), ("half", 1, ended), ("half_data", 1, ended)]
+    for what, status, said in cases:
+        words = [SANITIZED, "run", "--transport", "proxy", "--judge", "--sectors", "64", "--", PEER, what]
+        done = pace.ran(words, 60, stdout=subprocess.PIPE, stderr=subprocess.PIPE, text=True)
+        lines = [line[len("ahci-hba: "):] for line in done.stderr.splitlines() if line.startswith("ahci-hba: ") and "judge:" not in line]
+        expect(bool(re.fullmatch(said, " ".join(lines))), f"{what}: {done.stderr}")
+        expect(done.returncode in (status, status or BROKE_A_RULE), f"{what}: status {done.returncode}: {done.stderr}")
+    return f"{len(cases)} peers"
 
 
 def refused_memory(room: str) -> str:
@@ -323,7 +338,7 @@ def answered_and_killed(room: str) -> str:
     return "three records have all that was answered"
 
 
-CHECKS = [Check(command_lines, title="Command lines"), Check(arguments, title="Arguments of QEMU"), Check(record, title="Record of Linux"), Check(garbage, title="Garbage"),
+CHECKS = [Check(command_lines, title="Command lines"), Check(arguments, title="Arguments of QEMU"), Check(record, title="Record of Linux"), Check(garbage, title="Garbage"), Check(wrong_peer, title="A peer of the proxy that is wrong"),
           Check(refused_memory, title="Refused memory"), Check(failed_reads, title="Reads that fail"), Check(killed_guest, title="A killed guest"), Check(unkept, title="A flush that can't be kept"),
           Check(written_at_the_end, title="An image that is written at the end"), Check(full, title="Files that can't be written"), Check(rules, title="Rules"), Check(much_written, title="Much that is written"),
           Check(very_much_written, title="10 GiB that are written", is_long=True), Check(a_limit, title="A limit of the record"),

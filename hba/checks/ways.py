@@ -12,8 +12,8 @@ from harness import by
 from images import PROXY, VFIO_USER
 from suite import Check, Skipped
 
-# these have no guest of QEMU
-WITHOUT = ["Command lines", "Arguments of QEMU", "Files that can't be written", "User Mode Linux"]
+# these have no guest of QEMU, or a way of their own
+WITHOUT = ["Command lines", "Arguments of QEMU", "Files that can't be written", "User Mode Linux", "A peer of the proxy that is wrong"]
 # these have a driver of our own instead of a QEMU
 BARE = ["Garbage", "Reads that fail", "Rules", "Much that is written", "10 GiB that are written", "A limit of the record", "A kill after an answer", "The judge, faults of a driver",
         "The judge, drivers without a fault", "The judge, from a stretch on"]
