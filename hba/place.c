@@ -31,8 +31,11 @@ static int take_path(struct place *place, const char *wanted) {
     return -1;
 }
 
-/* Removes a socket at which nobody listens any more. */
+/* Removes a socket at which nobody listens any more, and nothing else. */
 static void remove_left(const struct sockaddr_un *address) {
+    struct stat found;
+    if (lstat(address->sun_path, &found) || !S_ISSOCK(found.st_mode))
+        return;
     int file = socket(AF_UNIX, SOCK_STREAM | SOCK_CLOEXEC, 0);
     if (file < 0)
         return;

@@ -184,8 +184,8 @@ def often_plugged(room: str) -> str:
 class Server:
     """`ahci-hba serve`."""
 
-    def __init__(self, room: str, options: List[str], binary: str = PROGRAM) -> None:
-        self.path, self.said_path = os.path.join(room, "socket"), os.path.join(room, "said")
+    def __init__(self, room: str, options: List[str], binary: str = PROGRAM, path: str = "") -> None:
+        self.path, self.said_path = path or os.path.join(room, "socket"), os.path.join(room, "said")
         with open(self.said_path, "wb") as said:
             self.process = subprocess.Popen([binary, "serve", "--socket", self.path, *options], stdin=subprocess.DEVNULL, stdout=subprocess.PIPE, stderr=said, text=True)
         assert self.process.stdout
@@ -236,6 +236,27 @@ def served(room: str) -> str:
     expect(bool(re.fullmatch(COMPARED, told["small"])), f"small: {told['small']}")
     expect(told["disk"].split()[0] == digest(contents(image)), "the image is not the disk that Linux read last")
     return told["small"]
+
+
+def paths(room: str) -> str:
+    """A socket that a server has left is replaced; one that is served, a file, and a path that is too long are refused."""
+    left, file, long = os.path.join(room, "left"), os.path.join(room, "file"), os.path.join(room, "x" * 108)
+    with socket.socket(socket.AF_UNIX) as other:
+        other.bind(left)
+    with open(file, "w", encoding="ascii") as text:
+        text.write("kept")
+    server = Server(room, ["--sectors", "8"])
+    cases = [(server.path, "no socket can be made at {}: Address already in use"), (file, "no socket can be made at {}: Address already in use"),
+             (long, "--socket {}: a socket's path has 107 bytes at most"), (os.path.join(room, "it's"), "the socket's path {} can't be written in an argument of QEMU")]
+    for path, says in cases:
+        done = pace.ran([PROGRAM, "serve", "--sectors", "8", "--socket", path], 20, stdout=subprocess.PIPE, stderr=subprocess.PIPE, text=True)
+        expect(done.returncode == 1 and done.stderr == f"ahci-hba: {says.format(path)}\n", f"{path}: status {done.returncode}: {done.stderr}")
+    expect(contents(file) == b"kept", "the file is gone")
+    expect(os.stat(server.path).st_mode & 0o777 == 0o600, "others can come to the socket")
+    server.end()
+    again = Server(room, ["--sectors", "8"], path=left)
+    again.end()
+    return f"{len(cases)} are refused"
 
 
 def wrong_messages(room: str) -> str:
@@ -331,6 +352,6 @@ def linux_kvm(room: str) -> str:
 CHECKS = [by(VFIO_USER, it) for it in (
     Check(linux_line, title="Linux, interrupts by INTA#"), Check(linux_messages, title="Linux, memory without a file"), Check(linux_current, title="Linux 7, two processors and 5 GiB"),
     Check(linux_arm, title="Linux on arm64"), Check(uboot_arm, title="U-Boot on arm64"), Check(resets, title="Ten resets of the machine", is_long=True),
-    Check(plugged, title="Hot plug"), Check(often_plugged, title="Hot plug 20 times", is_long=True), Check(served, title="A server of its own"),
+    Check(plugged, title="Hot plug"), Check(often_plugged, title="Hot plug 20 times", is_long=True), Check(served, title="A server of its own"), Check(paths, title="Paths of sockets"),
     Check(wrong_messages, title="Wrong messages"), Check(never_late, title="Never late"), Check(interrupts_tcg, title="Interrupts"),
     Check(interrupts_kvm, title="Interrupts under KVM"), Check(linux_kvm, title="Linux under KVM"))]
