@@ -12,6 +12,7 @@
 
 #define QUIET 100000000 /* nanoseconds without an access after which the log is flushed */
 #define STEPS 16        /* of the device between two looks at the guest's socket */
+#define LONG 1000000    /* nanoseconds after which no other step begins before a look: one may move many bytes */
 #define LOOKS 64        /* after which signals and other files are looked at, too */
 
 static volatile sig_atomic_t stopped; /* a signal has ended the run */
@@ -67,6 +68,16 @@ static int wait_for(struct pci *pci, struct pollfd *files, unsigned count) {
     return ppoll(files, count, left < 0 ? NULL : &until, &waiting);
 }
 
+/* Takes some steps of the device. */
+static void take_steps(struct pci *pci, unsigned most) {
+    const uint64_t until = device_now() + LONG;
+    for (; most && pci_waits(pci) == 0; most--) {
+        pci_turn(pci);
+        if (device_now() >= until)
+            return;
+    }
+}
+
 /* Takes what is there without waiting, with a turn of the device after each message; then some steps, and another look, for as long as there is something
    to do, or for many looks. */
 static enum found work(struct pci *pci, const struct transport *transport) {
@@ -76,8 +87,7 @@ static enum found work(struct pci *pci, const struct transport *transport) {
         bool is_idle = found == FOUND_NOTHING && pci_waits(pci) != 0;
         if (is_idle || found == FOUND_END || found == FOUND_WRONG)
             break;
-        for (unsigned left = found == FOUND_MESSAGE ? 1 : STEPS; left && pci_waits(pci) == 0; left--)
-            pci_turn(pci);
+        take_steps(pci, found == FOUND_MESSAGE ? 1 : STEPS);
     }
     return found;
 }

@@ -281,7 +281,9 @@ def wrong_messages(room: str) -> str:
 
 def never_late(room: str) -> str:
     """Registers are read while a disk of 64 MiB is written back for each flush: reads are answered meanwhile."""
-    image = blank(room, 131072)
+    image = os.path.join(room, "disk.img")
+    with open(image, "wb") as file:
+        file.write(images.numbered_blocks(16384, 4096))
     words = [PROGRAM, "run", "--transport", VFIO_USER, "--image", image, "--", LATENCY, "5"]
     done = pace.ran(words, 120, stdout=subprocess.PIPE, stderr=subprocess.PIPE, text=True)
     expect(done.returncode == 0 and not done.stderr, f"status {done.returncode}: {done.stderr}{done.stdout}")
