@@ -22,6 +22,7 @@ from suite import Check, Failed, Skipped, expect
 
 MESSAGES = os.path.join(HERE, "checks", "messages")
 LATENCY = os.path.join(HERE, "checks", "latency")
+HELD = os.path.join(HERE, "checks", "held")
 COMPARED = r"requests \d+ compared [1-9]\d* errors 0 wrong 0"
 
 
@@ -294,6 +295,18 @@ def never_late(room: str) -> str:
     return found[0].strip()
 
 
+def held(room: str) -> str:
+    """A message waits for as long as --hold says, and brings the answers of several commands; PxIS has their cause before it."""
+    for options, commands, least in ((["--hold", "0"], 1, 0), (["--hold", "300000:300000:1000"], 1, 300000), (["--hold", "300000:300000:1000"], 3, 300000), (["--hold", "1000000:50000"], 3, 50000)):
+        words = [PROGRAM, "run", "--transport", VFIO_USER, "--sectors", "64", *options, "--", HELD, str(commands)]
+        done = pace.ran(words, 60, stdout=subprocess.PIPE, stderr=subprocess.PIPE, text=True)
+        found = re.fullmatch(r"(\d+) us, 1 messages, (a message|PxIS) first\n", done.stdout)
+        expect(done.returncode == 0 and found is not None, f"{options}: status {done.returncode}: {done.stderr}{done.stdout}")
+        if found:
+            expect(int(found[1]) >= least, f"{options}: the message came after {found[1]} us")
+    return "no message is early, one brings three answers"
+
+
 # ---- interrupts without an operating system ----
 
 
@@ -355,5 +368,5 @@ CHECKS = [by(VFIO_USER, it) for it in (
     Check(linux_line, title="Linux, interrupts by INTA#"), Check(linux_messages, title="Linux, memory without a file"), Check(linux_current, title="Linux 7, two processors and 5 GiB"),
     Check(linux_arm, title="Linux on arm64"), Check(uboot_arm, title="U-Boot on arm64"), Check(resets, title="Ten resets of the machine", is_long=True),
     Check(plugged, title="Hot plug"), Check(often_plugged, title="Hot plug 20 times", is_long=True), Check(served, title="A server of its own"), Check(paths, title="Paths of sockets"),
-    Check(wrong_messages, title="Wrong messages"), Check(never_late, title="Never late"), Check(interrupts_tcg, title="Interrupts"),
+    Check(wrong_messages, title="Wrong messages"), Check(never_late, title="Never late"), Check(held, title="Held interrupts"), Check(interrupts_tcg, title="Interrupts"),
     Check(interrupts_kvm, title="Interrupts under KVM"), Check(linux_kvm, title="Linux under KVM"))]

@@ -6,6 +6,7 @@ while [ $n -lt "${times:-2}" ]; do
     requests /dev/sda 1024 4096 32 100000000 50 > /dev/null 2>&1 &
     echo "CHECK up$n"
     while [ -b /dev/sda ]; do sleep 0.1; done
+    kill $! 2> /dev/null # each of its requests fails from now on
     wait
     echo "CHECK gone$n"
     while [ ! -b /dev/sda ]; do sleep 0.1; done
