@@ -68,6 +68,10 @@ static int wait_for(struct pci *pci, struct pollfd *files, unsigned count) {
     return ppoll(files, count, left < 0 ? NULL : &until, &waiting);
 }
 
+static bool is_end(enum found found) {
+    return found == FOUND_END || found == FOUND_WRONG;
+}
+
 /* Takes some steps of the device. */
 static void take_steps(struct pci *pci, unsigned most) {
     const uint64_t until = device_now() + LONG;
@@ -85,7 +89,7 @@ static enum found work(struct pci *pci, const struct transport *transport) {
     for (unsigned looks = 0; looks < LOOKS; looks++) {
         found = transport->look(transport->it);
         bool is_idle = found == FOUND_NOTHING && pci_waits(pci) != 0;
-        if (is_idle || found == FOUND_END || found == FOUND_WRONG)
+        if (is_idle || is_end(found))
             break;
         take_steps(pci, found == FOUND_MESSAGE ? 1 : STEPS);
     }
@@ -109,10 +113,6 @@ static enum found wait_and_take(struct pci *pci, const struct transport *transpo
     if (files[count].revents)
         device_take_event(pci->device);
     return transport->serve(transport->it, files);
-}
-
-static bool is_end(enum found found) {
-    return found == FOUND_END || found == FOUND_WRONG;
 }
 
 /* One round of the loop; `before` is what was found last. */

@@ -13,7 +13,8 @@
 
 /* ---- replies ---- */
 
-static bool refuse(struct vfio_user *it, const struct vfio_message *message, int error) {
+/* Replies with no data: 0, or an errno. */
+static bool answer(struct vfio_user *it, const struct vfio_message *message, int error) {
     return link_reply(&it->link, &message->header, error, NULL, 0);
 }
 
@@ -49,7 +50,7 @@ static bool agree(struct vfio_user *it, const struct vfio_message *message) {
     const char *text = has_text ? (const char *)message->data + sizeof version : "";
     log_line("vfio-user %" PRIu16 ".%" PRIu16 " %s", version.major, version.minor, text);
     if (version.major != 0)
-        return refuse(it, message, EINVAL);
+        return answer(it, message, EINVAL);
     uint64_t most = capability(text, "\"max_data_xfer_size\"", it->link.most_data);
     it->link.most_data = most == 0 ? 1 : most < VFIO_MOST_DATA ? (uint32_t)most : VFIO_MOST_DATA;
     it->has_agreed = true;
@@ -70,7 +71,7 @@ static bool tell_region(struct vfio_user *it, const struct vfio_message *message
     struct vfio_region_info info;
     memcpy(&info, message->data, sizeof info);
     if (info.index >= VFIO_REGIONS)
-        return refuse(it, message, EINVAL);
+        return answer(it, message, EINVAL);
     info = (struct vfio_region_info){.argsz = sizeof info, .index = info.index, .size = size_of_region(info.index)};
     info.flags = info.size ? VFIO_REGION_READABLE | VFIO_REGION_WRITABLE : 0;
     return reply(it, message, &info, sizeof info);
@@ -81,7 +82,7 @@ static bool tell_io_files(struct vfio_user *it, const struct vfio_message *messa
     struct vfio_io_files info;
     memcpy(&info, message->data, sizeof info);
     if (info.index >= VFIO_REGIONS)
-        return refuse(it, message, EINVAL);
+        return answer(it, message, EINVAL);
     info = (struct vfio_io_files){.argsz = sizeof info, .index = info.index};
     return reply(it, message, &info, sizeof info);
 }
@@ -90,7 +91,7 @@ static bool tell_interrupts(struct vfio_user *it, const struct vfio_message *mes
     struct vfio_irq_info info;
     memcpy(&info, message->data, sizeof info);
     int error = interrupts_tell(&info);
-    return error ? refuse(it, message, error) : reply(it, message, &info, sizeof info);
+    return error ? answer(it, message, error) : reply(it, message, &info, sizeof info);
 }
 
 static bool set_interrupts(struct vfio_user *it, const struct vfio_message *message) {
@@ -98,7 +99,7 @@ static bool set_interrupts(struct vfio_user *it, const struct vfio_message *mess
     memcpy(&set, message->data, sizeof set);
     int error = interrupts_set(&it->interrupts, &set, message->data + sizeof set, message->bytes - sizeof set, message->files);
     log_line("interrupts %" PRIu32 ", flags %02" PRIx32 ", %" PRIu32 " from %" PRIu32 " on%s", set.index, set.flags, set.count, set.start, error ? ": refused" : "");
-    return refuse(it, message, error);
+    return answer(it, message, error);
 }
 
 /* ---- memory ---- */
@@ -106,14 +107,14 @@ static bool set_interrupts(struct vfio_user *it, const struct vfio_message *mess
 static bool map(struct vfio_user *it, const struct vfio_message *message) {
     struct vfio_dma_map map;
     memcpy(&map, message->data, sizeof map);
-    return refuse(it, message, vfio_memory_map(&it->memory, &map, message->files));
+    return answer(it, message, vfio_memory_map(&it->memory, &map, message->files));
 }
 
 static bool unmap(struct vfio_user *it, const struct vfio_message *message) {
     struct vfio_dma_unmap unmap;
     memcpy(&unmap, message->data, sizeof unmap);
     int error = vfio_memory_unmap(&it->memory, &unmap);
-    return error ? refuse(it, message, error) : reply(it, message, &unmap, sizeof unmap);
+    return error ? answer(it, message, error) : reply(it, message, &unmap, sizeof unmap);
 }
 
 /* ---- regions ---- */
@@ -152,7 +153,7 @@ static bool read_region(struct vfio_user *it, const struct vfio_message *message
     uint8_t data[PCI_CONFIG_BYTES];
     memcpy(&access, message->data, sizeof access);
     if (!is_access(&access))
-        return refuse(it, message, EINVAL);
+        return answer(it, message, EINVAL);
     if (access.region == VFIO_CONFIG) {
         read_config(it->pci, (uint32_t)access.offset, data, access.count);
     } else {
@@ -179,7 +180,7 @@ static bool write_region(struct vfio_user *it, const struct vfio_message *messag
     struct vfio_access access;
     memcpy(&access, message->data, sizeof access);
     int error = access.count > message->bytes - sizeof access ? EINVAL : write_one(it, &access, message->data + sizeof access);
-    return error ? refuse(it, message, error) : reply(it, message, &access, sizeof access);
+    return error ? answer(it, message, error) : reply(it, message, &access, sizeof access);
 }
 
 static bool write_many(struct vfio_user *it, const struct vfio_message *message) {
@@ -187,13 +188,13 @@ static bool write_many(struct vfio_user *it, const struct vfio_message *message)
     const uint8_t *at = message->data + sizeof count;
     memcpy(&count, message->data, sizeof count);
     if (count > (message->bytes - sizeof count) / sizeof(struct vfio_small_write))
-        return refuse(it, message, EINVAL);
+        return answer(it, message, EINVAL);
     for (done = 0; done < count; done++, at += sizeof(struct vfio_small_write)) {
         struct vfio_small_write one;
         memcpy(&one, at, sizeof one);
         int error = one.access.count > sizeof one.value ? EINVAL : write_one(it, &one.access, (const uint8_t *)&one.value);
         if (error)
-            return refuse(it, message, error);
+            return answer(it, message, error);
     }
     return reply(it, message, &done, sizeof done);
 }
@@ -203,7 +204,7 @@ static bool write_many(struct vfio_user *it, const struct vfio_message *message)
 static bool reset(struct vfio_user *it, const struct vfio_message *message) {
     interrupts_reset(&it->interrupts);
     pci_reset(it->pci);
-    return refuse(it, message, 0);
+    return answer(it, message, 0);
 }
 
 struct handler {
@@ -236,11 +237,11 @@ static bool take(struct vfio_user *it, const struct vfio_message *message) {
     const struct handler *handler = command < sizeof handlers / sizeof *handlers && handlers[command].take ? &handlers[command] : NULL;
     if (!handler) { /* migration, and what is newer */
         log_line("a message of command %" PRIu16 " is refused", command);
-        return refuse(it, message, ENOTTY);
+        return answer(it, message, ENOTTY);
     }
     if (message->bytes < handler->least || (!it->has_agreed && command != VFIO_VERSION)) {
         log_line("a message of command %" PRIu16 " and %zu bytes is refused", command, message->bytes);
-        return refuse(it, message, EINVAL);
+        return answer(it, message, EINVAL);
     }
     return handler->take(it, message);
 }
