@@ -227,19 +227,28 @@ static void look_again(struct device *device) {
         memory_forget(device->memory);
 }
 
-/* Writes to a register: what the controller does, and what follows from it. */
-static void put(struct device *device, uint32_t offset, uint32_t bytes, uint64_t value) {
-    uint64_t entries = 0;
-    uint32_t command = word_at(device, AHCI_REG_PXCMD);
-    uint32_t status = ahci_hba_write(&device->hba, offset, bytes, value, &entries);
-    if (status != AHCI_OK)
-        log_line("a write of %" PRIu32 " bytes at %03" PRIx32 " was refused: status %" PRIu32, bytes, offset, status);
-    slow_write(&device->slow, offset, bytes, value, command, word_at(device, AHCI_REG_PXCMD));
-    device->stuck = 0;
+/* A command that waits for its rule or for the image waits no longer once the driver has dropped it. */
+static void forget_dropped(struct device *device) {
+    if (!(device->stalled | device->flushing))
+        return;
     uint32_t outstanding = word_at(device, AHCI_REG_PXCI) | word_at(device, AHCI_REG_PXSACT);
     device->stalled &= outstanding;
     device->flushing &= outstanding;
     device->covered &= outstanding;
+}
+
+/* Writes to a register: what the controller does, and what follows from it. */
+static void put(struct device *device, uint32_t offset, uint32_t bytes, uint64_t value) {
+    const bool is_slow = device->slow.reads != 0;
+    uint64_t entries = 0;
+    uint32_t command = is_slow ? word_at(device, AHCI_REG_PXCMD) : 0;
+    uint32_t status = ahci_hba_write(&device->hba, offset, bytes, value, &entries);
+    if (status != AHCI_OK)
+        log_line("a write of %" PRIu32 " bytes at %03" PRIx32 " was refused: status %" PRIu32, bytes, offset, status);
+    if (is_slow)
+        slow_write(&device->slow, offset, bytes, value, command, word_at(device, AHCI_REG_PXCMD));
+    device->stuck = 0;
+    forget_dropped(device);
     device->mute = false;
     history_follow(device, entries, false);
     look_again(device);

@@ -30,8 +30,6 @@ static bool sets(enum slow_bit it, uint32_t offset, uint32_t bytes, uint64_t val
 }
 
 void slow_write(struct slow *slow, uint32_t offset, uint32_t bytes, uint64_t value, uint32_t command_before, uint32_t command_now) {
-    if (slow->reads == 0)
-        return;
     uint32_t changed = command_before ^ command_now;
     for (enum slow_bit it = SLOW_CR; it <= SLOW_FR; it++)
         if (changed >> places[it].bit & 1)
