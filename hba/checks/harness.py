@@ -65,6 +65,11 @@ def by(way: str, check: Check) -> Check:
     return check._replace(run=run, title=f"{check.name}, by {way}")
 
 
+def environment(room: str) -> Dict[str, str]:
+    """A program that is killed leaves the folder of its socket in the check's room."""
+    return {**os.environ, "TMPDIR": room}
+
+
 def go_first() -> None:
     """Takes a process before others, if that is allowed."""
     with contextlib.suppress(PermissionError):
@@ -128,7 +133,7 @@ class Guest:
         way = ["--transport", way_of(room)] if mode == "run" else []
         words = [binary, mode, *way, *kept, *JUDGED, *options, "--", *command]
         with open(self.said_path, "wb") as said:
-            self.process = subprocess.Popen(words, stdin=subprocess.DEVNULL, stdout=said, stderr=said, preexec_fn=go_first if first else None)
+            self.process = subprocess.Popen(words, stdin=subprocess.DEVNULL, stdout=said, stderr=said, env=environment(room), preexec_fn=go_first if first else None)
         atexit.register(self.kill)
 
     def serial(self) -> str:

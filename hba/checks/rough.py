@@ -10,7 +10,7 @@ import subprocess
 from typing import List, Tuple
 
 import images
-from harness import BROKE_A_RULE, HERE, PROGRAM, SANITIZED, SECTOR, STARVED, Guest, blank, contents, digest, linux, makes, qemu, way_of
+from harness import BROKE_A_RULE, HERE, PROGRAM, SANITIZED, SECTOR, STARVED, Guest, blank, contents, digest, environment, linux, makes, qemu, way_of
 from images import pattern
 import pace
 import playing
@@ -256,7 +256,7 @@ def full(room: str) -> str:
 
 def written(room: str, options: List[str], words: List[str], status: int = 0, said: str = "") -> str:
     """Runs checks/writer, and returns what it printed."""
-    done = pace.ran([PROGRAM, "run", "--transport", way_of(room), *options, "--", WRITER, *words], 240, stdout=subprocess.PIPE, stderr=subprocess.PIPE, text=True)
+    done = pace.ran([PROGRAM, "run", "--transport", way_of(room), *options, "--", WRITER, *words], 240, stdout=subprocess.PIPE, stderr=subprocess.PIPE, text=True, env=environment(room))
     expect(done.returncode == status and done.stderr == said, f"{options} {words}: status {done.returncode}: {done.stderr}")
     return str(done.stdout)
 
