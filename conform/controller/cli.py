@@ -70,6 +70,7 @@ def words() -> Words:
     made.add_argument("--json", action="store_true", help="an object a program, a line each, in the place of text and table")
     made.add_argument("--quiet", action="store_true", help="no progress on standard error")
     made.add_argument("--shown", metavar="FOLDER", help="check that the list's entries are each shown by the program FOLDER/NAME.prog")
+    made.add_argument("--smallest", metavar="FOLDER", help="write the smallest of the given programs that shows it for each entry of the list which FOLDER has no program of")
     return made
 
 
@@ -218,6 +219,9 @@ def chosen(asked: argparse.Namespace) -> int:
     if asked.shown:
         from .shown import check_list
         return check_list(asked.shown, known_for(asked), emulator_of(asked))
+    if asked.smallest:
+        from .smallest import write_smallest
+        return write_smallest(asked.smallest, known_for(asked), emulator_of(asked), programs_in(asked))
     return run(asked)
 
 

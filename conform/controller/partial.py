@@ -74,9 +74,14 @@ def write_is_partial(it: Moment, lba: int) -> bool:
 
 
 def count_is_partial(it: Moment, found: Difference) -> bool:
-    """PRDBC of a command that fails has a number of bytes from before the failing sector, or what software wrote."""
+    """PRDBC of a command that fails has a number of bytes from before the failing sector, or what software wrote. By PIO data-out a block
+    goes to the device before that writes it, so the failing one may count too."""
     got, at = int.from_bytes(found.got, "big"), found.at
-    return any(at == one.command.at + 4 and (got <= most or got == one.command.prdbc) for one, most in failing(it))
+    for one, most in failing(it):
+        sent = most + (layout.SECTOR if one.asked.kind == "pio" and one.asked.write else 0)
+        if at == one.command.at + 4 and (got <= sent or got == one.command.prdbc):
+            return True
+    return False
 
 
 def page_of_disk(it: Moment) -> bool:
