@@ -124,8 +124,8 @@ def _named(it: Seen, fallen: int) -> bool:
 
 
 def absent_while_down(it: Seen) -> bool:
-    """While the link is down PxTFD has the value of an absent device (section 3.3.8), and no command runs."""
-    return it.now.reg(layout.PX_SSTS) & 15 not in (0, 4) or it.now.reg(layout.PX_TFD) & 0xFF == 0x7F
+    """While the link is down PxTFD has the value of an absent device (section 3.3.8). CLO may have cleared BSY and DRQ of it."""
+    return it.now.reg(layout.PX_SSTS) & 15 not in (0, 4) or it.now.reg(layout.PX_TFD) & 0x77 == 0x77
 
 
 class Rule(NamedTuple):

@@ -3,6 +3,7 @@ from typing import Callable, Iterator, Optional, Set
 
 from . import library  # finds the library's package
 from . import layout
+from .moment import written_to
 from .program import Op, Write
 
 from ahci import Refused, Rule, command_breaks, entry_breaks, length_breaks
@@ -10,7 +11,7 @@ from ahci import Refused, Rule, command_breaks, entry_breaks, length_breaks
 R = Rule
 # the standard says what a controller does after them, or that they are without effect
 HARMLESS = {
-    R.START_WITH_RECEIVING, R.INTERRUPT_NOT_CLEARED, R.RESERVED_BITS, R.WRITE_FLAG, R.RESERVED_HEADER, R.LIST_TOO_LONG, R.START_WITH_ERRORS, R.START_WITH_SERR,
+    R.START_WITH_RECEIVING, R.INTERRUPT_NOT_CLEARED, R.RESERVED_BITS, R.RESERVED_HEADER, R.LIST_TOO_LONG, R.START_WITH_ERRORS, R.START_WITH_SERR,
     R.ENABLE_OVER_STATUS, R.SPEED_ABOVE_INTERFACE, R.POWER_WITHOUT_CAPABILITY, R.PREFETCH_WITH_QUEUE, R.RESET_FLAGS, R.RESERVED_FIS, R.RESERVED_ENTRY,
 }
 OF_WRITES = [it for it in R if it <= R.RESERVED_BITS or R.LIST_UNALIGNED <= it <= R.QUEUE_WITHOUT_CAPABILITY]
@@ -83,14 +84,25 @@ class Breaches:
     """The rules that have been broken, and after which the standard leaves a controller free."""
 
     def __init__(self) -> None:
+        self.armed = 0  # bits of PxSACT whose command isn't issued yet
         self.lasting: Set[str] = set()
         self.of_commands: Set[str] = set()
         self.harmless: Set[str] = set()
+
+    def by(self, it: "library.Library", op: Op) -> Set[str]:
+        """The rules that an operation is about to break. The library alone doesn't know whether PxSACT has a slot of now or of before."""
+        found = by_write(it, op)
+        issued = written_to(op, layout.PX_CI)
+        if issued & it.read(layout.PX_SACT, 4) & ~self.armed & ~it.read(layout.PX_CI, 4):
+            found.add(R.SLOT_USED_AGAIN.name)
+        self.armed = (self.armed | written_to(op, layout.PX_SACT)) & ~issued
+        return found
 
     def take(self, found: Set[str], is_reset: bool, is_idle: bool) -> None:
         """`is_reset`: the HBA is reset by this operation; `is_idle`: no command was outstanding before it, so what was wrong with one is over."""
         if is_reset:
             self.lasting.clear()
+            self.armed = 0
         if is_idle or is_reset:
             self.of_commands.clear()
         free = {it for it in found if it not in {rule.name for rule in HARMLESS}}

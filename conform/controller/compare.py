@@ -31,14 +31,17 @@ def word(place: str, expected: int, got: int, bits: int) -> Difference:
 
 def registers(it: Moment) -> Iterator[Difference]:
     """All registers but IS, which follows from the emulator's own."""
-    if it.model.host == it.emulator.host and it.model.port == it.emulator.port:
-        return
-    for offset, name in layout.NAMES.items():
-        expected, got = it.model.reg(offset), it.emulator.reg(offset)
-        before = it.was_model.reg(offset) ^ it.was.reg(offset) if it.was and it.was_model else 0
-        bits = (expected ^ got) & ~before
-        if bits and offset != layout.IS:
-            yield word(name, expected, got, bits)
+    for base, expected, got, expected_was, got_was in (
+        (0, it.model.host, it.emulator.host, it.was_model and it.was_model.host, it.was and it.was.host),
+        (layout.PORT_BASE, it.model.port, it.emulator.port, it.was_model and it.was_model.port, it.was and it.was.port),
+    ):
+        if expected == got or (expected, got) == (expected_was, got_was):
+            continue
+        olds = zip(layout.words(expected_was), layout.words(got_was)) if expected_was and got_was else [(0, 0)] * len(expected)
+        for at, (one, other, (one_was, other_was)) in enumerate(zip(layout.words(expected), layout.words(got), olds)):
+            bits = (one ^ other) & ~(one_was ^ other_was)
+            if bits and base + 4 * at != layout.IS:
+                yield word(layout.NAMES[base + 4 * at], one, other, bits)
 
 
 def interrupt(it: Moment, now: Look, was: Optional[Look]) -> Tuple[int, bool]:
@@ -54,9 +57,14 @@ def interrupts(it: Moment) -> Iterator[Difference]:
     got = it.emulator.reg(layout.IS)
     if status != got:
         yield word("IS", status, got, status ^ got)
-    line = bool(got and it.emulator.reg(layout.GHC) & 2)
-    if line != it.emulator.line:
+    line = line_of(it.emulator)
+    if line != it.emulator.line and (it.was is None or (line, it.emulator.line) != (line_of(it.was), it.was.line)):
         yield word("interrupt line", int(line), int(it.emulator.line), 1)
+
+
+def line_of(look: Look) -> bool:
+    """The line as it follows from IS and GHC.IE."""
+    return bool(look.reg(layout.IS) and look.reg(layout.GHC) & 2)
 
 
 def answer(it: Moment) -> Iterator[Difference]:
@@ -98,10 +106,21 @@ def place_of(address: int, it: Moment) -> Tuple[str, int, int]:
     return "memory beside", address & ~15, 16
 
 
-def differing(expected: bytes, got: bytes, step: int = 512) -> Iterator[int]:
-    for at in range(0, len(expected), step):
-        if expected[at : at + step] != got[at : at + step]:
-            yield from (it for it in range(at, min(at + step, len(expected))) if expected[it] != got[it])
+Olds = Optional[Tuple[bytes, bytes]]
+
+
+def differing(expected: bytes, got: bytes, olds: Olds = None, steps: Tuple[int, ...] = (8192, 256, 1), low: int = 0, high: int = -1) -> Iterator[int]:
+    """Where two parts differ, and did not differ in the same way before: by blocks, then within them."""
+    high = len(expected) if high < 0 else high
+    for at in range(low, high, steps[0]):
+        span = slice(at, min(at + steps[0], high))
+        one, other = expected[span], got[span]
+        if one == other or olds and one == olds[0][span] and other == olds[1][span]:
+            continue
+        if steps[0] == 1:
+            yield at
+        else:
+            yield from differing(expected, got, olds, steps[1:], at, span.stop)
 
 
 def memory(it: Moment) -> Iterator[Difference]:
@@ -111,9 +130,7 @@ def memory(it: Moment) -> Iterator[Difference]:
         olds = (it.was_model.memory[part], it.was.memory[part]) if it.was_model and it.was else None
         if expected == got or olds and expected is olds[0] and got is olds[1]:
             continue
-        for at in differing(expected, got):
-            if olds and expected[at] == olds[0][at] and got[at] == olds[1][at]:
-                continue  # it differed before, and stays so
+        for at in differing(expected, got, olds):
             name, begin, length = place_of(base.base + at, it)
             if (name, begin) not in told:
                 told.add((name, begin))
@@ -122,7 +139,7 @@ def memory(it: Moment) -> Iterator[Difference]:
                 return
 
 
-def run(name: str, expected: bytes, got: bytes, olds: Optional[Tuple[bytes, bytes]], where: Tuple[int, int, int]) -> Difference:
+def run(name: str, expected: bytes, got: bytes, olds: Olds, where: Tuple[int, int, int]) -> Difference:
     """A run of memory, with the bits that begin to differ."""
     low, length, address = where
     if name == "data":

@@ -235,6 +235,12 @@ class HeldMaker(Maker):
         self.ops += [Go(slot) for slot in held]
         return self.ops
 
+    def recover(self, queued: bool) -> None:
+        """By ST alone: an emulator may wait in a reset for what is held."""
+        self.stop()
+        self.write(IS, 1)
+        self.write(PX_CMD, RUNNING)
+
     def hold(self, held: List[int]) -> bool:
         """One more command that is held. False: no other may be issued beside it."""
         slot = self.dice.choice([it for it in (0, 1, 2, 5, 31) if it not in held])

@@ -3,7 +3,7 @@ import itertools
 from typing import Dict, List, NamedTuple, Optional, Sequence, Set, Tuple
 
 from . import alone, layout
-from .breaks import Breaches, by_write
+from .breaks import Breaches
 from .compare import Difference, differences
 from .known import Known
 from .library import Library
@@ -82,8 +82,8 @@ class Beside:
         it, model = self.it, self.model
         outstanding = sum(look.reg(at) for look in (it.model, it.emulator) for at in (layout.PX_CI, layout.PX_SACT))
         it.take(op)
-        self.breaches.take(by_write(model, op), bool(written_to(op, layout.GHC) & 1), not outstanding)
-        model.log, model.order = [], self.orders.get(index, ())
+        self.breaches.take(self.breaches.by(model, op), bool(written_to(op, layout.GHC) & 1), not outstanding)
+        model.log, model.order = [], self.orders.get(index) or self.likely(index)
         answer = do(model, op)
         look = look_at(model, it.model, op, answer)
         if isinstance(op, (Write, Go)) and model.choice:
@@ -94,6 +94,13 @@ class Beside:
             return
         it.see(look, self.recording.looks[index + 1], model.log)
         self.compare()
+
+    def likely(self, index: int) -> Tuple[int, ...]:
+        """The order of completions that the emulator's last Set Device Bits FIS speaks for: its tags come last."""
+        looks = self.recording.looks[index + 1 : index + 2]
+        fis = looks[0].bytes_at(looks[0].area_base + 0x58, 8) if looks else None
+        tags = int.from_bytes(fis[4:8], "little") if fis and fis[0] == 0xA1 else 0
+        return tuple(sorted(range(32), key=lambda slot: tags >> slot & 1))
 
     def die(self, it: Optional[Moment]) -> None:
         text = self.recording.death or "the recording ends"
@@ -152,7 +159,9 @@ def judge(model: Library, known: Known, ops: Program, recording: Recording) -> J
 def reordered(model: Library, known: Known, ops: Program, recording: Recording, orders: Dict[int, Sequence[int]], judged: Judged, slots: Tuple[int, ...]) -> Optional[Tuple[Beside, Judged]]:
     """The first order of these slots with which the comparison goes past this operation."""
     index = judged.operations - 1
-    for order in list(itertools.permutations(slots))[1:MOST_ORDERS]:
+    for order in itertools.islice(itertools.permutations(slots), MOST_ORDERS):
+        if order == orders.get(index):
+            continue
         beside = Beside(model, known, ops, recording, {**orders, index: order})
         trial = beside.run()
         if trial.end != "new" or trial.operations > judged.operations:

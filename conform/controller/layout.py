@@ -1,5 +1,6 @@
 """Where things are: registers by name, the FISes of the received FIS area, the driver's memory, the disk."""
 import random
+import struct
 from typing import Dict, NamedTuple, Optional, Tuple
 
 SECTOR = 512
@@ -79,4 +80,4 @@ def register_name(offset: int) -> str:
 
 
 def words(data: bytes) -> Tuple[int, ...]:
-    return tuple(int.from_bytes(data[at : at + 4], "little") for at in range(0, len(data), 4))
+    return struct.unpack(f"<{len(data) // 4}I", data)

@@ -1,7 +1,7 @@
 """The library's controller as one to be judged: its memory, and the order of its steps as the caller chooses it."""
 import os
 import sys
-from typing import Dict, FrozenSet, List, Optional, Sequence, Tuple
+from typing import Dict, FrozenSet, List, Optional, Sequence, Set, Tuple
 
 from judge.adapter import EmulatorFault
 
@@ -60,7 +60,7 @@ class Library(Controller):
     def reset(self, image: bytes) -> None:
         self.stop()
         self.hba = Hba(image, 32)
-        self.image: Optional[bytes] = None
+        self.image, self.dirty = image, set()  # type: bytes, Set[int]
         self.fises: Dict[int, bytes] = {}  # by slot: the command FIS that was read last
         self.fetching, self.reads = -1, 0
         self.log: List[str] = []  # what it did since the last operation
@@ -90,8 +90,12 @@ class Library(Controller):
         self.ram[at : at + len(data)] = data
 
     def disk(self) -> bytes:
-        if self.image is None:
-            self.image = b"".join(self.it.copy(lba) for lba in range(layout.SECTORS))
+        """Only sectors of commands that may have written since are copied."""
+        if self.dirty:
+            image = bytearray(self.image)
+            for lba in self.dirty:
+                image[lba * layout.SECTOR : (lba + 1) * layout.SECTOR] = self.it.copy(lba)
+            self.image, self.dirty = bytes(image), set()
         return self.image
 
     def idle(self) -> None:
@@ -176,8 +180,9 @@ class Library(Controller):
         if step == Step.FETCH:
             self.fetching, self.reads = slot, 0
         self.log.append(f"{step.name.lower()} {slot}")
-        self.image = None if step in (Step.SERVE, Step.DELIVER, Step.EXECUTE) else self.image
         it = self.asked(slot)
+        if it.write:
+            self.dirty.update(range(it.lba, min(it.lba + it.count, layout.SECTORS)))
         failing = it.first_of(layout.BAD, layout.SECTORS)
         if failing in layout.BAD and step == Step.SERVE and it.kind == "queued":
             self.it.fail(slot, UNC, failing)

@@ -32,9 +32,10 @@ class Moment:
         self.areas: Set[int] = {0}
         self.issued: List[Issued] = []
         self.in_reset = False  # the last control FIS had SRST 1
-        self.reset_again = False
+        self.reset_again = self.reset_alone = False
         self.taken = 0  # slots that were issued and that PxCI or PxSACT still has
         self.issued_again = 0
+        self.queue_failed = False  # a queued command has failed, and log 10h was not read since
         self.facts: FrozenSet[str] = frozenset(("power-on",))
         self.note_bases()
 
@@ -54,11 +55,16 @@ class Moment:
         for it in self.issued:
             if it.asked.kind == "control":
                 now = bool(it.command.fis[15] & 4)
-                self.reset_again, self.in_reset = now and self.in_reset, now
+                self.reset_again, self.reset_alone, self.in_reset = now and self.in_reset, not now and not self.in_reset, now
         written = written_to(self.op, layout.PX_CI)
         self.issued_again = written & self.taken
         self.taken = (self.taken | written) & (model.reg(layout.PX_CI) | model.reg(layout.PX_SACT) | emulator.reg(layout.PX_CI) | emulator.reg(layout.PX_SACT))
-        self.facts = frozenset(facts_of(self))
+        facts = facts_of(self)
+        self.facts = frozenset(facts | ({"queue failed"} if self.queue_failed else set()))
+        if "model fails" in facts:
+            self.queue_failed |= "queued" in facts
+        elif facts & {"signature", "resets", "write PxSCTL", "command 2F", "command 47"}:
+            self.queue_failed = False
 
     def note_bases(self) -> None:
         for look in (self.model, self.emulator):
@@ -150,6 +156,8 @@ def command_facts(it: Moment) -> Set[str]:
         found.add("several")
     if it.reset_again and "SRST" in found:
         found.add("SRST again")
+    if it.reset_alone and "no SRST" in found:
+        found.add("no SRST before")
     if it.issued_again:
         found.add("slot in use")
     return found

@@ -220,6 +220,8 @@ class Qemu(Controller):
 
     def write(self, offset: int, size: int, value: int) -> None:
         self.written = offset & ~3
+        if self.held and self.written in (layout.PX_SCTL, layout.GHC):
+            raise EmulatorFault("QEMU waits in a reset for a request that is held, and hears no 'go' then: PxSCTL and GHC can't be written meanwhile")
         self.ask(f"write{'bwlq'[size.bit_length() - 1]} {ABAR + offset:#x} {value:#x}")
 
     def level(self) -> bool:
