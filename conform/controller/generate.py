@@ -132,7 +132,8 @@ class Maker:
         for control in self.dice.choice(ways):
             fis = bytearray(20)
             fis[0], fis[15] = 0x27, control
-            self.ops.append(Command(self.list + 32 * slot, layout.TABLES + 0x800 * slot, bytes(fis), (), 5 | (0x500 if control else 0)))
+            flags = 5 | (0x500 if control and (self.lawful or not self.one_in(3)) else 0)
+            self.ops.append(Command(self.list + 32 * slot, layout.TABLES + 0x800 * slot, bytes(fis), (), flags))
             self.write(PX_CI, 1 << slot)
 
     def acknowledge(self) -> None:

@@ -43,6 +43,11 @@ class Judged(NamedTuple):
         return [it for it in self.found if it.is_new] if self.end == "new" else []
 
     @property
+    def differs(self) -> bool:
+        """Whether it ended at a difference that the list doesn't have: a new one, or one after a rule that the driver broke."""
+        return self.end == "new" or self.end.startswith("after ")
+
+    @property
     def names(self) -> Set[str]:
         return {name for it in self.found for name in it.names}
 
@@ -146,8 +151,8 @@ def judge(model: Library, known: Known, ops: Program, recording: Recording) -> J
     beside = Beside(model, known, ops, recording, orders)
     judged = beside.run()
     for _ in range(MOST_RERUNS):
-        here = [slots for index, slots in beside.choices if judged.end in ("new",) and index == judged.operations - 1]
-        if not here:
+        here = [slots for index, slots in beside.choices if index == judged.operations - 1]
+        if not here or not judged.differs:
             break
         better = reordered(model, known, ops, recording, orders, judged, here[-1])
         if better is None:
@@ -164,7 +169,7 @@ def reordered(model: Library, known: Known, ops: Program, recording: Recording, 
             continue
         beside = Beside(model, known, ops, recording, {**orders, index: order})
         trial = beside.run()
-        if trial.end != "new" or trial.operations > judged.operations:
+        if trial.operations > judged.operations or not trial.differs:
             orders[index] = order
             return beside, trial
     return None

@@ -22,6 +22,7 @@ from ahci.library import loaded  # noqa: E402
 UNC = 0x40
 MOST_STEPS = 200_000
 DOUBLES = range(0, 0x28, 8)
+REFUSABLE = ((Step.SEND, "dma"), (Step.SEND, "pio"), (Step.EXECUTE, "verify"))  # where a command that isn't queued meets a bad sector
 
 
 def needed() -> None:
@@ -186,7 +187,7 @@ class Library(Controller):
         failing = it.first_of(layout.BAD, layout.SECTORS)
         if failing in layout.BAD and step == Step.SERVE and it.kind == "queued":
             self.it.fail(slot, UNC, failing)
-        elif failing in layout.BAD and step == Step.SEND and it.kind in ("dma", "pio", "verify"):
+        elif failing in layout.BAD and (step, it.kind) in REFUSABLE:
             self.it.refuse(slot, UNC, failing)
         else:
             self.it.step(slot)

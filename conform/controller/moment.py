@@ -35,6 +35,7 @@ class Moment:
         self.reset_again = self.reset_alone = False
         self.taken = 0  # slots that were issued and that PxCI or PxSACT still has
         self.issued_again = 0
+        self.unseen = False  # queued commands may have been completed while FRE was 0
         self.queue_failed = False  # a queued command has failed, and log 10h was not read since
         self.facts: FrozenSet[str] = frozenset(("power-on",))
         self.note_bases()
@@ -60,7 +61,8 @@ class Moment:
         self.issued_again = written & self.taken
         self.taken = (self.taken | written) & (model.reg(layout.PX_CI) | model.reg(layout.PX_SACT) | emulator.reg(layout.PX_CI) | emulator.reg(layout.PX_SACT))
         facts = facts_of(self)
-        self.facts = frozenset(facts | ({"queue failed"} if self.queue_failed else set()))
+        self.facts = frozenset(facts | ({"queue failed"} if self.queue_failed else set()) | ({"completed while FRE was 0"} if self.unseen else set()))
+        self.unseen |= bool(emulator.reg(layout.PX_SACT) and not emulator.reg(layout.PX_CMD) & layout.FRE)
         if "model fails" in facts:
             self.queue_failed |= "queued" in facts
         elif facts & {"signature", "resets", "write PxSCTL", "command 2F", "command 47"}:

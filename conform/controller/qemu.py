@@ -19,7 +19,7 @@ PROGRAM = "qemu-system-x86_64"
 ABAR = 0xE0000000
 FUNCTION = 0x8000FA00  # PCI 00:1f.2, by the ports CF8h and CFCh
 SECONDS = 20.0
-HELD_SECONDS = 0.4  # a command that is neither held nor ignored ends within them
+HELD_SECONDS = 1.5  # a command that is neither held nor ignored ends within them, also on a busy machine
 EQUAL_LOOKS = 4  # with nothing changed, while a command is outstanding: it is taken that nothing will change
 STARTERS = (layout.PX_CI, layout.PX_SACT, layout.PX_CMD, layout.PX_SCTL, layout.GHC)  # registers whose write may begin or end a request
 Snap = Tuple[bytes, bytes, int]
@@ -273,7 +273,7 @@ class Qemu(Controller):
     def rest(self, last: Snap) -> Snap:
         same, until, memory = 0, time.monotonic() + HELD_SECONDS, self.moving()
         ignored = self.stuck if self.written != layout.PX_CI else (0, 0)
-        for _ in range(400):
+        for _ in range(4000):
             waits = self.waiting(last)
             others = (waits[0] | waits[1]) & ~sum(1 << it for it in self.held)
             busy = waits not in ((0, 0), ignored) and (others or not self.held)

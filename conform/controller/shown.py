@@ -27,11 +27,11 @@ def faults_of(known: Known, folder: str, make: Callable[[], Controller]) -> Iter
             judged = worker.one(given).judged
             if entry.name not in judged.names:
                 yield f"{entry.name}: its program doesn't show it"
-            elif judged.end == "new":
-                yield f"{entry.name}: its program has a new difference beside it: {', '.join(sorted({it.difference.place for it in judged.new}))}"
+            elif judged.differs:
+                yield f"{entry.name}: its program has another difference beside it: {', '.join(sorted({it.difference.place for it in judged.found if it.is_new}))}"
             worker.known = known._replace(entries=[it for it in known.entries if it.name != entry.name])
-            if worker.judge(given.ops).end != "new":
-                yield f"{entry.name}: without the entry its program shows nothing new"
+            if not worker.judge(given.ops).differs:
+                yield f"{entry.name}: without the entry its program shows no difference"
         except EmulatorFault as why:
             yield f"{entry.name}: {why}"
         finally:

@@ -26,13 +26,14 @@ class Smallest:
         return [name for name in self.entries if not os.path.exists(self.path(name))]
 
     def shows(self, name: str, ops: Program, broken: str) -> bool:
-        """With the list nothing is new and the entry is there; without the entry something is new. No rule is broken that wasn't."""
+        """With the list the entry is there and nothing else is left; without the entry something differs, after no other rule than `broken`."""
         self.worker.known = self.known
         judged = self.worker.judge(ops)
-        if name not in judged.names or judged.end == "new" or judged.end.startswith("after") and judged.end != broken:
+        if name not in judged.names or judged.differs:
             return False
         self.worker.known = self.known._replace(entries=[it for it in self.known.entries if it.name != name])
-        return self.worker.judge(ops).end == "new"
+        without = self.worker.judge(ops)
+        return without.differs and without.end in ("new", broken)
 
     def take(self, given: Given) -> Iterator[Tuple[str, int]]:
         """Writes the smallest program of each entry that this one is the first to show."""
@@ -41,10 +42,15 @@ class Smallest:
         for name in sorted(judged.names & set(self.missing())):
             last = min(it.index for it in judged.found if name in it.names)
             ops = given.ops[: last + 1]
-            if self.shows(name, ops, judged.end):
-                small = shrunk(ops, lambda it: self.shows(name, it, judged.end), BUDGET)
+            broken = self.end_without(name, ops)
+            if self.shows(name, ops, broken):
+                small = shrunk(ops, lambda it: self.shows(name, it, broken), BUDGET)
                 self.write(self.entries[name], small)
                 yield name, len(small)
+
+    def end_without(self, name: str, ops: Program) -> str:
+        self.worker.known = self.known._replace(entries=[it for it in self.known.entries if it.name != name])
+        return self.worker.judge(ops).end
 
     def write(self, entry: Entry, ops: Program) -> None:
         os.makedirs(self.folder, exist_ok=True)

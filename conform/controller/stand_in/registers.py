@@ -50,7 +50,7 @@ class Registers(Controller):
     def reset(self, image: bytes) -> None:
         self.words: Dict[int, int] = {PX_CLB: 0, PX_CLBU: 0, PX_FB: 0, PX_FBU: 0}
         self.drive = Disk(image)
-        self.held: Set[int] = set()
+        self.held: Set[int] = set()  # slots whose requests are held in the disk
         self.power_on()
         self.work()
 
@@ -90,6 +90,7 @@ class Registers(Controller):
     def drop(self) -> None:
         """No command is left (section 3.3.7, ST)."""
         self.queue: Dict[int, Task] = {}
+        self.held = set()
         self.waiting: Optional[Task] = None  # a command that isn't queued, and is held in the disk
         self.halted = self.stuck = False
         self.behind = 0  # the slot that has the highest priority
