@@ -28,7 +28,9 @@ class Seen(NamedTuple):
     @property
     def new(self) -> int:
         """The bits of PxCI that are issued now."""
-        return written_to(self.it.op, layout.PX_CI) & ~self.was.reg(layout.PX_CI) if self.was.reg(layout.PX_CMD) & layout.ST else 0
+        if "unaligned" in self.it.facts or not self.was.reg(layout.PX_CMD) & layout.ST:
+            return 0
+        return written_to(self.it.op, layout.PX_CI) & ~self.was.reg(layout.PX_CI)
 
     @property
     def free(self) -> bool:

@@ -51,9 +51,7 @@ class Maker:
         if self.one_in(5):
             self.comreset()
         self.bases()
-        self.write(PX_CMD, STOPPED)
-        self.write(PX_SERR, ONES)
-        self.write(PX_IS, ONES)
+        self.stop()
         if not self.one_in(4):
             self.write(IS, ONES)
         self.write(PX_IE, dice.choice([ENABLED, ENABLED, 0xFDC000FF, 1, 2, 8, 0x40000000, 0]))
@@ -72,8 +70,8 @@ class Maker:
     def stop(self) -> None:
         """ST is cleared, and what would be in the way of setting it again."""
         self.write(PX_CMD, STOPPED)
-        self.write(PX_SERR, ONES)
-        self.write(PX_IS, ONES)
+        for offset in self.dice.sample([PX_SERR, PX_IS], 2):
+            self.write(offset, ONES)
 
     def recover(self, queued: bool) -> None:
         """One of the ways back from an error (section 6.2.2)."""
@@ -191,13 +189,19 @@ class Maker:
             places = [GHC, IS, *(0x100 + 4 * it for it in range(20))]
             self.odd_write(self.dice.choice(places), self.dice.choice([4, 4, 4, 1, 2, 8]))
 
+    def enable(self) -> None:
+        if self.lawful or not self.one_in(3):
+            self.write(PX_IE, self.dice.choice([0, ONES, 1, 2, 8, 0x40000001, 0x400040, ENABLED]))
+        else:
+            self.write(PX_IE + self.dice.randrange(4), self.dice.randrange(256), 1)
+
     # ---- programs ----
 
     def step(self) -> None:
         what = self.dice.randrange({"sloppy": 30, "wild": 40}.get(self.level, 20))
         ways: List[Sequence[int]] = [(4, 0)] if self.level in ("clean", "errors") else [(4, 0), (4, 0), (4, 0), (0,), (4, 4, 0)]
         steps: Dict[int, Callable[[], None]] = {
-            15: lambda: self.write(PX_IE, self.dice.choice([0, ONES, 1, 2, 8, 0x40000001, 0x400040, ENABLED])),
+            15: self.enable,
             16: lambda: self.write(GHC, self.dice.choice([0x80000000, 0x80000002, 0x80000002])),
             17: self.look_around, 18: lambda: self.software_reset(ways), 19: self.restart,
         }

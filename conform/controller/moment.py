@@ -2,10 +2,11 @@
 from typing import Dict, FrozenSet, List, NamedTuple, Optional, Set, Tuple
 
 from . import layout
-from .ata import Asked, asked
+from .ata import COMMANDS, Asked, asked
 from .look import Look
-from .program import Command, Go, Op, Read, Write
+from .program import Command, Go, Hold, Op, Read, Write
 
+SHORT = frozenset(code for code, (_, _, short) in COMMANDS.items() if short)  # LBAs of 28 bits
 PIO_IN, PIO_OUT = frozenset((0x20, 0x24, 0xEC, 0x2F)), frozenset((0x30, 0x34))
 
 
@@ -35,6 +36,8 @@ class Moment:
         self.reset_again = self.reset_alone = False
         self.taken = 0  # slots that were issued and that PxCI or PxSACT still has
         self.issued_again = 0
+        self.held: Set[int] = set()  # slots whose requests stop in the disk
+        self.left: Set[int] = set()  # those of them whose commands were dropped since
         self.unseen = False  # queued commands may have been completed while FRE was 0
         self.queue_failed = False  # a queued command has failed, and log 10h was not read since
         self.facts: FrozenSet[str] = frozenset(("power-on",))
@@ -47,6 +50,11 @@ class Moment:
         if isinstance(op, Command):
             self.commands.append(op)
             self.at[op.at] = op
+        if isinstance(op, Hold):
+            self.held.add(op.slot)
+        if isinstance(op, Go):
+            self.held.discard(op.slot)
+            self.left.discard(op.slot)
 
     def see(self, model: Look, emulator: Look, log: List[str]) -> None:
         """What came of it."""
@@ -61,6 +69,7 @@ class Moment:
         self.issued_again = written & self.taken
         self.taken = (self.taken | written) & (model.reg(layout.PX_CI) | model.reg(layout.PX_SACT) | emulator.reg(layout.PX_CI) | emulator.reg(layout.PX_SACT))
         facts = facts_of(self)
+        self.left |= self.held if "stops" in facts else set()
         self.facts = frozenset(facts | ({"queue failed"} if self.queue_failed else set()) | ({"completed while FRE was 0"} if self.unseen else set()))
         self.unseen |= bool(emulator.reg(layout.PX_SACT) and not emulator.reg(layout.PX_CMD) & layout.FRE)
         if "model fails" in facts:
@@ -144,8 +153,9 @@ def command_facts(it: Moment) -> Set[str]:
     found: Set[str] = set()
     for _, command, wants in it.issued:
         found |= {wants.kind, "control" if wants.kind == "control" else f"command {command.fis[2]:02X}"}
+        found |= {"C"} if command.flags & 0x400 else set()
         if wants.kind == "control":
-            found |= {"SRST" if command.fis[15] & 4 else "no SRST"} | ({"C"} if command.flags & 0x400 else set())
+            found |= {"SRST" if command.fis[15] & 4 else "no SRST"}
             continue
         failing = wants.first_of(layout.BAD, layout.SECTORS)
         found |= {"pio in"} if command.fis[2] in PIO_IN else {"pio out"} if command.fis[2] in PIO_OUT else set()
@@ -153,13 +163,17 @@ def command_facts(it: Moment) -> Set[str]:
         found |= {"past the end"} if wants.lba + wants.count > layout.SECTORS else set()
         found |= {"bad sector"} if failing in layout.BAD else set()
         found |= {"no list"} if command.prdtl == 0 or not (command.entries or command.prdtl) else set()
-        found |= {"reserved count"} if command.fis[2] in (0x20, 0x30, 0x40, 0xC8, 0xCA) and command.fis[13] else set()
+        found |= {"no LBA bit"} if wants.count and not command.fis[7] & 0x40 else set()
+        if command.fis[2] in SHORT:
+            found |= {"28 bits"} | ({"reserved count"} if command.fis[13] else set())
     if len(it.issued) > 1:
         found.add("several")
     if it.reset_again and "SRST" in found:
         found.add("SRST again")
     if it.reset_alone and "no SRST" in found:
         found.add("no SRST before")
+    if any(one.slot in it.left for one in it.issued):
+        found.add("left in the disk")
     if it.issued_again:
         found.add("slot in use")
     return found

@@ -2,11 +2,10 @@
 from typing import Dict, List, NamedTuple, Optional, Tuple, Type
 
 from .. import layout
-from ..ata import Asked
-from ..layout import BSY, DRQ, ERR, FRE, GHC, IS, PX_CI, PX_CLB, PX_CMD, PX_FB, PX_IE, PX_IS, PX_SACT, PX_SCTL, PX_SERR, PX_SIG, PX_SSTS, PX_TFD, ST
-from .disk import GOOD, Failure
+from ..layout import BSY, DRQ, ERR, GHC, IS, PX_CI, PX_CLB, PX_CMD, PX_FB, PX_IE, PX_IS, PX_SACT, PX_SERR, PX_SIG, PX_SSTS, PX_TFD, ST
+from .disk import GOOD
 from .hba import Hba
-from .registers import DHRS, PSS, SDBS, TFES, Task
+from .registers import DHRS, SDBS, TFES, Task
 
 
 class StopKeepsActive(Hba):
@@ -188,7 +187,7 @@ class StatusWrittenWhole(Hba):
 
 
 class ErrorsStayWithStatus(Hba):
-    """Writing PCS or PRCS of PxIS clears the bits of PxSERR too."""
+    """Writing 1 to PCS or PRCS of PxIS clears DIAG.X or DIAG.N."""
 
     def write_word(self, at: int, value: int) -> None:
         super().write_word(at, value)
@@ -312,7 +311,7 @@ class LengthWithoutItsOne(Hba):
 
 
 class UpperHalfIgnored(Hba):
-    """DBAU and PxCLBU above 4 GiB are left away for data."""
+    """DBAU is left away: data go below 4 GiB."""
 
     def put(self, address: int, data: bytes) -> None:
         super().put(address & 0xFFFFFFFF if len(data) > 64 else address, data)
@@ -394,7 +393,7 @@ class PartWritesClear(Hba):
 
 
 class WritesAnywhere(Hba):
-    """The last sector of a read is moved whole, though the command ends within the entry."""
+    """A read writes two bytes behind its last entry."""
 
     def scatter(self, task: Task, data: bytes, after: int = 0) -> None:
         super().scatter(task, data, after)
@@ -418,9 +417,9 @@ def _snake(name: str) -> str:
 
 _PLACES: Dict[Type[Hba], Tuple[str, ...]] = {
     StopKeepsActive: ("PxSACT",), StopKeepsIssued: ("PxCI",), StopKeepsSlot: ("PxCMD",), NoCurrentSlot: ("PxCMD",), LowestSlotFirst: ("PxCMD", "PxCI"),
-    TakenWhileBusy: ("emulator: no command is taken while BSY or DRQ", "PxCI", "PxTFD"), NoBusy: ("PxTFD",), CKeepsIssued: ("PxCI", "emulator: C is set and PxCI loses the slot"),
+    TakenWhileBusy: ("emulator: no command is taken while BSY or DRQ", "the emulator dies", "PxCI", "PxTFD"), NoBusy: ("PxTFD", "the emulator dies"), CKeepsIssued: ("PxCI", "the emulator dies", "emulator: C is set and PxCI loses the slot"),
     CKeepsBusy: ("PxTFD", "emulator: C is set and BSY is cleared"), LoneControlSigns: ("PxTFD", "PxSIG", "PxCI"), ErrorByteLost: ("PxTFD",), BitsFisTakesAll: ("PxSACT",),
-    ErrorClearsActive: ("PxSACT",), NoTfes: ("PxIS",), GoesOnAfterAnError: ("PxCI", "PxTFD", "PxSACT"), ErrorClearsIssued: ("PxCI",), NoSdbs: ("PxIS",), DhrsWithoutI: ("PxIS",),
+    ErrorClearsActive: ("PxSACT",), NoTfes: ("PxIS",), GoesOnAfterAnError: ("PxCI", "the emulator dies", "PxTFD", "PxSACT"), ErrorClearsIssued: ("PxCI",), NoSdbs: ("PxIS",), DhrsWithoutI: ("PxIS",),
     NoPssOfWrites: ("PxIS",), PssAtOnce: ("PxIS",), StatusWrittenWhole: ("PxIS",), ErrorsStayWithStatus: ("PxSERR", "PxIS"), StatusFalls: ("IS",), StatusIgnoresEnable: ("IS",),
     LineIgnoresEnable: ("interrupt line",), LineFollowsPort: ("interrupt line",), ResetKeepsEnable: ("GHC",), ResetClearsBases: ("PxCLB", "PxFB"), ResetKeepsPortEnable: ("PxIE",),
     LinkSetsNoX: ("PxSERR", "PxIS"), LinkKeepsSignature: ("PxSIG",), OfflineIsPresent: ("PxSSTS",), SignatureWithoutStatus: ("PxTFD",), CountOfTheList: ("PRDBC",), NoCount: ("PRDBC",),

@@ -2,10 +2,14 @@
 from typing import Callable, List, Optional, Tuple
 
 from .. import layout
+from ..adapter import Died
 from ..ata import Asked, asked
 from ..layout import BSY, DRQ, ERR, FRE, IS, PX_CI, PX_CLB, PX_CLBU, PX_CMD, PX_IE, PX_IS, PX_SACT, PX_SSTS, PX_TFD, ST
 from .disk import ABRT, BAD_STATUS, GOOD, MODES, POWER, UNC, Failure
 from .registers import DHRS, HBFS, IFS, OFS, PSS, SDBS, TFES, Bad, Registers, Task
+
+
+MOST_MOVES = 2000  # of one access
 
 
 class Overflow(Exception):
@@ -19,13 +23,15 @@ class Hba(Registers):
 
     def work(self) -> None:
         """All that can be done now: every command is taken before a queued one is served."""
-        while True:
+        for _ in range(MOST_MOVES):
             self.send_signature()
             if self.post_due and self.words[PX_CMD] & FRE:
                 self.post_due = False
                 self.guard(lambda: self.post(0x40, self.signature_fis()))
             elif not (self.finish() or self.take() or self.serve()):
                 break
+        else:
+            raise Died("the stand-in never comes to rest")
         if self.word(PX_IS) & self.words[PX_IE]:
             self.words[IS] |= 1
 
