@@ -4,6 +4,7 @@ import functools
 import importlib.util
 import json
 import os
+import re
 import sys
 import time
 from typing import Callable, Iterator, List, Optional
@@ -18,11 +19,10 @@ from .campaign import Given, Result, results
 from .draft import Draft
 from .generate import LEVELS, program
 from .known import NOTHING, Known, read_known
-from .qemu import Qemu
+from .qemu import PROGRAM, Qemu, version_of
 from .text import TextFault, program_of
 
 FOLDER = os.path.dirname(os.path.abspath(__file__))
-LISTS = {"qemu": os.path.join(FOLDER, "qemu-7.2.json")}
 BASE = os.path.join(FOLDER, "any_controller.json")
 ABOUT = """\
 Plays random driver programs on an emulator's AHCI controller, and compares it with the reference model after each access: 31 registers, the
@@ -58,6 +58,7 @@ def words() -> Words:
     made.add_argument("--level", metavar="NAME", default="good", help="of the random programs: " + ", ".join(LEVELS) + " (default: good)")
     made.add_argument("--program", metavar="FILE", action="append", default=[], help="judge this program; - is standard input")
     made.add_argument("--play", metavar="FILE", help="play this program on the emulator alone, and tell what changes")
+    made.add_argument("--slow-disk", action="store_true", help="with --play on QEMU: what is held waits on a slow disk, not at a breakpoint")
     made.add_argument("--print", action="store_true", help="print the programs, and judge nothing")
     made.add_argument("--known", metavar="FILE", help="the list of known differences, or `none` (default: the emulator's own)")
     made.add_argument("--base", metavar="FILE", help="the list of what any controller may do otherwise, or `none` (default: conform/controller/any_controller.json)")
@@ -93,7 +94,7 @@ def programs_in(asked: argparse.Namespace) -> Iterator[Given]:
 def emulator_of(asked: argparse.Namespace) -> Callable[[], Controller]:
     """What makes the emulator."""
     if asked.emulator == "qemu":
-        return functools.partial(Qemu, asked.qemu) if asked.qemu else Qemu
+        return functools.partial(Qemu, asked.qemu or PROGRAM, bool(asked.play and asked.slow_disk))
     if asked.emulator == "library":
         from .library import Library
         return Library
@@ -124,9 +125,18 @@ def class_of(path: str, name: str) -> Callable[[], Controller]:
     return made
 
 
+def list_of(asked: argparse.Namespace) -> str:
+    """The list of the QEMU that is there: that of its version, or of the next older one that has a list."""
+    if asked.emulator != "qemu":
+        return "none"
+    lists = sorted((tuple(map(int, name[5:-5].split("."))), name) for name in os.listdir(FOLDER) if re.fullmatch(r"qemu-[0-9]+\.[0-9]+\.json", name))
+    there = version_of(asked.qemu or PROGRAM)
+    return os.path.join(FOLDER, next((name for version, name in reversed(lists) if version <= there), lists[0][1]))
+
+
 def known_for(asked: argparse.Namespace) -> Known:
-    path = asked.known or LISTS.get(asked.emulator)
-    known = NOTHING if not path or path == "none" else read_known(path)
+    path = asked.known or list_of(asked)
+    known = NOTHING if path == "none" else read_known(path)
     base = asked.base or ("none" if asked.emulator == "library" else BASE)
     known = known if base == "none" else known.over(read_known(base))
     if asked.without and asked.without not in [it.name for it in known.entries]:

@@ -7,6 +7,7 @@ from .look import Look
 from .program import Command, Go, Hold, Op, Read, Write
 
 SHORT = frozenset(code for code, (_, _, short) in COMMANDS.items() if short)  # LBAs of 28 bits
+FATAL = 0x79000000  # TFES, HBFS, HBDS, IFS and OFS of PxIS
 PIO_IN, PIO_OUT = frozenset((0x20, 0x24, 0xEC, 0x2F)), frozenset((0x30, 0x34))
 
 
@@ -38,7 +39,6 @@ class Moment:
         self.issued_again = 0
         self.held: Set[int] = set()  # slots whose requests stop in the disk
         self.left: Set[int] = set()  # those of them whose commands were dropped since
-        self.unseen = False  # queued commands may have been completed while FRE was 0
         self.queue_failed = False  # a queued command has failed, and log 10h was not read since
         self.facts: FrozenSet[str] = frozenset(("power-on",))
         self.note_bases()
@@ -70,8 +70,7 @@ class Moment:
         self.taken = (self.taken | written) & (model.reg(layout.PX_CI) | model.reg(layout.PX_SACT) | emulator.reg(layout.PX_CI) | emulator.reg(layout.PX_SACT))
         facts = facts_of(self)
         self.left |= self.held if "stops" in facts else set()
-        self.facts = frozenset(facts | ({"queue failed"} if self.queue_failed else set()) | ({"completed while FRE was 0"} if self.unseen else set()))
-        self.unseen |= bool(emulator.reg(layout.PX_SACT) and not emulator.reg(layout.PX_CMD) & layout.FRE)
+        self.facts = frozenset(facts | ({"queue failed"} if self.queue_failed else set()))
         if "model fails" in facts:
             self.queue_failed |= "queued" in facts
         elif facts & {"signature", "resets", "write PxSCTL", "command 2F", "command 47"}:
@@ -134,12 +133,18 @@ def state_facts(it: Moment) -> Set[str]:
     for name, holds in (
         ("starts", after > before), ("stops", after < before), ("link down", it.model.reg(layout.PX_SSTS) & 15 != 3), ("signature", "sign" in it.log or signs(it.was, it.emulator) or signs(it.was_model, it.model)),
         ("unsigned", it.model.reg(layout.PX_SIG) == layout.ONES), ("old error", it.was.reg(layout.PX_TFD) & layout.ERR), ("resets", isinstance(it.op, Write) and written_to(it.op, layout.GHC) & 1),
-        ("model fails", it.model.reg(layout.PX_IS) & ~it.was_model.reg(layout.PX_IS) & 0x79000000), ("emulator fails", it.emulator.reg(layout.PX_IS) & ~it.was.reg(layout.PX_IS) & 0x79000000),
+        ("model fails", fails(it.was_model, it.model)), ("emulator fails", fails(it.was, it.emulator)),
         ("model waits", it.model.reg(layout.PX_TFD) & (layout.BSY | layout.DRQ)),
     ):
         if holds:
             found.add(name)
     return found
+
+
+def fails(was: Look, now: Look) -> bool:
+    """Whether an error has come: a bit of PxIS, or an ERR in PxTFD that was not there in this form."""
+    task = now.reg(layout.PX_TFD)
+    return bool(now.reg(layout.PX_IS) & ~was.reg(layout.PX_IS) & FATAL or task & layout.ERR and task & 0x77 != 0x77 and task != was.reg(layout.PX_TFD))
 
 
 def signs(was: Look, now: Look) -> bool:

@@ -2,6 +2,7 @@
 import json
 import mmap
 import os
+import re
 import shutil
 import socket
 import subprocess
@@ -23,6 +24,16 @@ HELD_SECONDS = 1.5  # a command that is neither held nor ignored ends within the
 EQUAL_LOOKS = 4  # with nothing changed, while a command is outstanding: it is taken that nothing will change
 STARTERS = (layout.PX_CI, layout.PX_SACT, layout.PX_CMD, layout.PX_SCTL, layout.GHC)  # registers whose write may begin or end a request
 Snap = Tuple[bytes, bytes, int]
+
+
+def version_of(program: str) -> Tuple[int, ...]:
+    """Major and minor version of a QEMU; nothing if it can't be told."""
+    try:
+        said = subprocess.run([program, "--version"], stdout=subprocess.PIPE, stderr=subprocess.DEVNULL, timeout=SECONDS, check=False).stdout.decode("utf-8", "replace")
+    except (OSError, subprocess.SubprocessError):
+        return ()
+    found = re.search(r"version ([0-9]+)\.([0-9]+)", said)
+    return (int(found[1]), int(found[2])) if found else ()
 
 
 class Socket:
@@ -77,10 +88,10 @@ class Qemu(Controller):
 
     title = "QEMU"
     can_hold = True
-    options = ""  # more of the drive
 
-    def __init__(self, program: str = PROGRAM) -> None:
-        self.program = program
+    def __init__(self, program: str = PROGRAM, slow: bool = False) -> None:
+        """`slow`: what is held waits on a disk of one request a second, not at a breakpoint. A newer QEMU waits for it in a reset, and at ST 0."""
+        self.program, self.slow = program, slow
         self.process: Optional["subprocess.Popen[bytes]"] = None
         self.folder = ""
 
@@ -111,7 +122,7 @@ class Qemu(Controller):
 
     def drive(self) -> str:
         """The file below blkdebug, which fails the bad sectors and stops requests at breakpoints."""
-        words = [f"id=d0,if=none,driver=raw,file.driver=blkdebug,file.image.driver=file,file.image.filename={self.path('disk')},werror=report,rerror=report{self.options}"]
+        words = [f"id=d0,if=none,driver=raw,file.driver=blkdebug,file.image.driver=file,file.image.filename={self.path('disk')},werror=report,rerror=report{',throttling.iops-total=1' if self.slow else ''}"]
         for at, (way, lba) in enumerate((way, lba) for way in ("read", "write") for lba in layout.BAD):
             words.append("".join(f",file.inject-error.{at}.{name}={it}" for name, it in (("event", "none"), ("iotype", way), ("sector", lba), ("errno", 5))))
         return "".join(words)
@@ -220,7 +231,7 @@ class Qemu(Controller):
 
     def write(self, offset: int, size: int, value: int) -> None:
         self.written = offset & ~3
-        if self.held and self.written in (layout.PX_SCTL, layout.GHC):
+        if self.held and not self.slow and self.written in (layout.PX_SCTL, layout.GHC):
             raise EmulatorFault("QEMU waits in a reset for a request that is held, and hears no 'go' then: PxSCTL and GHC can't be written meanwhile")
         self.ask(f"write{'bwlq'[size.bit_length() - 1]} {ABAR + offset:#x} {value:#x}")
 
@@ -241,14 +252,19 @@ class Qemu(Controller):
         return self.image[:]
 
     def hold(self, slot: int, way: str) -> None:
-        self.on_disk(f"break {way}_aio t{slot}")
+        if self.slow:
+            self.on_disk("read 0 512")  # the request of this second
+        else:
+            self.on_disk(f"break {way}_aio t{slot}")
         self.held.add(slot)
 
     def go(self, slot: int) -> None:
-        if slot in self.held:
+        if slot in self.held and self.slow:
+            self.on_disk("aio_flush")
+        elif slot in self.held:
             self.on_disk(f"resume t{slot}")
             self.on_disk(f"remove_break t{slot}")
-            self.held.discard(slot)
+        self.held.discard(slot)
 
     # ---- rest ----
 
@@ -261,7 +277,7 @@ class Qemu(Controller):
         """Two equal looks. While a command is outstanding the disk is drained between them, and the memory has to be the same too:
         a PIO command of many sectors changes nothing else between two looks, and a command that is ignored never ends."""
         last = self.snap()
-        if moved and self.written in STARTERS:
+        if moved and self.written in STARTERS and not (self.slow and self.held):
             last = self.rest(last)
         return last[0], last[1], bool(last[2] >> 19 & 1)
 

@@ -5,7 +5,7 @@ from typing import Callable, Iterator
 from judge.adapter import EmulatorFault
 
 from .adapter import Controller
-from .campaign import Given, Worker
+from .campaign import SURVIVES, Given, Worker
 from .known import Known
 from .text import program_of
 
@@ -13,8 +13,8 @@ from .text import program_of
 def faults_of(known: Known, folder: str, make: Callable[[], Controller]) -> Iterator[str]:
     """What is wrong: an entry without a program, one that its program doesn't show, or shows beside something new."""
     for entry in known.entries:
-        if entry.name in known.base:
-            continue
+        if entry.name in known.base or any(cover.place.fullmatch(SURVIVES) for cover in entry.covers):
+            continue  # what a reset leaves behind takes two programs
         path = os.path.join(folder, f"{entry.name}.prog")
         try:
             with open(path, encoding="utf-8") as text:
