@@ -154,7 +154,7 @@ class Qemu(Controller):
         except subprocess.TimeoutExpired:
             return f"QEMU has answered nothing for {SECONDS:.0f} seconds"
         with open(self.path("err"), encoding="utf-8", errors="replace") as err:
-            said = [line.strip() for line in err if line.strip()]
+            said = [line.strip() for line in err if line.strip() and not line.startswith(("blkdebug: ", "read 512/512 ", "512 bytes, "))]
         return f"QEMU has ended {f'by signal {-status}' if status < 0 else f'with status {status}'}" + (f": {said[-1]}" if said else "")
 
     def stop(self) -> None:

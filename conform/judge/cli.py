@@ -9,6 +9,7 @@ import sys
 import time
 from typing import Callable, Iterator, List, Optional, Tuple
 
+from controller import page as controller_page
 from stand_in import faults
 
 from . import model, page, report, shown
@@ -237,7 +238,7 @@ def main(given: Optional[List[str]] = None) -> int:
         if asked.fault and asked.emulator != "stand-in":
             raise Wrong("--fault is for --emulator stand-in alone")
         if asked.page:
-            print(page.page_of(read_known(asked.page), os.path.basename(asked.page)), end="")
+            print(page.page_of(read_known(asked.page), os.path.basename(asked.page), controller_page.part()), end="")
             return 0
         return check_list(asked) if asked.shown else run(asked)
     except (Wrong, ListFault, model.ModelFault) as why:
