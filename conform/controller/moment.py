@@ -177,7 +177,9 @@ def command_facts(it: Moment) -> Set[str]:
         found.add("SRST again")
     if it.reset_alone and "no SRST" in found:
         found.add("no SRST before")
-    if any(one.slot in it.left for one in it.issued):
+    if any(one.slot in it.held for one in it.issued):
+        found.add("in flight")
+    if it.left and it.issued:
         found.add("left in the disk")
     if it.issued_again:
         found.add("slot in use")
