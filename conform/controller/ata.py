@@ -21,7 +21,7 @@ class Asked(NamedTuple):
 
     kind: str  # queued, dma, pio, verify, page, none, control; other: a command that isn't in the table
     lba: int = 0
-    count: int = 0
+    count: int = 0  # type: ignore[assignment]
     write: bool = False
     code: int = 0
 

@@ -62,16 +62,20 @@ def run(it: "library.Library", address: int, length: int) -> Optional[bytes]:
 def by_command(it: "library.Library", slot: int, active: bool, header: Optional[bytes]) -> Set[str]:
     table = int.from_bytes(header[8:16], "little") & ~0x7F if header else 0
     fis = run(it, table, 20) if header else None
-    if header is None or fis is None:
-        return {"NO_MEMORY"}
+    return by_read_command(it, slot, active, header, fis, table) if header and fis else {"NO_MEMORY"}
+
+
+def by_read_command(it: "library.Library", slot: int, active: bool, header: bytes, fis: bytes, table: int) -> Set[str]:
     found = {rule.name for rule in OF_COMMANDS if holds(lambda: command_breaks(rule, slot, active, header, fis))}
     total = 0
     for entry in entries(it, table + 0x80, header[2] | header[3] << 8):
-        length = (int.from_bytes(entry[12:16], "little") & 0x3FFFFF) + 1 if entry else 0
-        if entry is None or layout.place(int.from_bytes(entry[:8], "little"), length) is None:
+        if entry is None:
+            return found | {"NO_MEMORY"}
+        length, read = (int.from_bytes(entry[12:16], "little") & 0x3FFFFF) + 1, entry
+        if layout.place(int.from_bytes(entry[:8], "little"), length) is None:
             return found | {"NO_MEMORY"}
         total += length
-        found |= {rule.name for rule in OF_ENTRIES if holds(lambda: entry_breaks(rule, entry))}
+        found |= {rule.name for rule in OF_ENTRIES if holds(lambda: entry_breaks(rule, read))}
     return found | {rule.name for rule in OF_LENGTHS if holds(lambda: length_breaks(rule, fis, total))}
 
 

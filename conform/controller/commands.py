@@ -27,7 +27,7 @@ class Made(NamedTuple):
     queued: bool
     fails: bool  # by the standard
     first: int
-    count: int
+    count: int  # type: ignore[assignment]
 
 
 class Commands:

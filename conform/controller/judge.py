@@ -19,7 +19,7 @@ MOST_ORDERS = 24
 class Found(NamedTuple):
     """A difference at an operation (-1 is power-on), and what explains it."""
 
-    index: int
+    index: int  # type: ignore[assignment]
     difference: Difference
     names: Tuple[str, ...]  # of the entries that explain some of its bits; none: it is new
 

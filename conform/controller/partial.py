@@ -1,7 +1,7 @@
 """What a device may have moved of a command that fails (ACS-3, "LBA of first unrecoverable error"): the sectors before the failing one, or fewer.
 
 A difference is excused only if the emulator's bytes are exactly such: a beginning of the command's data, and behind it what was there."""
-from typing import Iterator, List, Optional, Tuple
+from typing import Callable, Dict, Iterator, List, Optional, Tuple
 
 from . import layout
 from .compare import Difference
@@ -103,5 +103,7 @@ def marked(it: Moment, found: Difference) -> Difference:
         return found
     if found.place == "data" and page_of_disk(it):
         return found._replace(facts=found.facts | {"page of this disk"})
-    holds = {"data": lambda: read_is_partial(it), "disk": lambda: write_is_partial(it, found.at or 0), "PRDBC": lambda: count_is_partial(it, found)}.get(found.place)
-    return found._replace(facts=found.facts | {FACT}) if holds and holds() else found
+    exact: Dict[str, Callable[[], bool]] = {
+        "data": lambda: read_is_partial(it), "disk": lambda: write_is_partial(it, found.at or 0), "PRDBC": lambda: count_is_partial(it, found),
+    }
+    return found._replace(facts=found.facts | {FACT}) if exact.get(found.place, bool)() else found

@@ -5,7 +5,7 @@ import json
 import os
 import tempfile
 import unittest
-from typing import List, Tuple
+from typing import Dict, List, Tuple
 
 from controller import cli, layout
 from controller.campaign import Given, Worker
@@ -59,13 +59,14 @@ class Covers(unittest.TestCase):
 
     def test_a_fault_of_a_list_names_the_entry(self) -> None:
         entry = {"name": "a", "title": "t", "section": "s", "choice": "standard", "sure": "certain", "emulator": "e", "model": "m", "covers": [{"place": "PxIS"}]}
-        for change, text in (
+        cases: List[Tuple[Dict[str, object], str]] = [
             ({"choice": "mine"}, "it, difference 1 (a): 'choice' is 'mine', and none of standard, open, undefined, model"),
             ({"covers": [{"bits": "01"}]}, "it, difference 1 (a), cover 1 has no 'place'"),
             ({"covers": [{"place": "PxIS", "bits": "00"}]}, "it, difference 1 (a), cover 1: no bit of 'bits' is 1"),
             ({"ends": 1}, "it, difference 1: 'ends' is no bool"),
             ({"extra": "x"}, "it, difference 1 has a member 'extra', which means nothing here"),
-        ):
+        ]
+        for change, text in cases:
             with self.assertRaises(ListFault) as raised:
                 known_of(json.dumps({"title": "t", "differences": [{**entry, **change}]}), "it")
             self.assertEqual(str(raised.exception), text)

@@ -1,4 +1,5 @@
 """The stand-in's port: its state machine and the data of its disk, by AHCI 1.3.1, chapters 4 to 6. It works only while it is called."""
+import functools
 from typing import Callable, List, Optional, Tuple
 
 from .. import layout
@@ -119,7 +120,7 @@ class Hba(Registers):
         if task.asked.kind != "queued" and task.slot in self.held:
             return False
         self.waiting = None
-        self.guard(lambda: self.answer(task))
+        self.guard(functools.partial(self.answer, task))
         return True
 
     def answer(self, task: Task) -> None:

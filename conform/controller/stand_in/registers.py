@@ -1,5 +1,5 @@
 """The stand-in's registers, resets and link, by AHCI 1.3.1, chapters 3 and 10."""
-from typing import Callable, Dict, List, NamedTuple, Optional, Set, Tuple
+from typing import Dict, List, NamedTuple, Optional, Set, Tuple
 
 from .. import layout
 from ..adapter import Controller
