@@ -1,5 +1,5 @@
 """Which rules for drivers a program has broken: those of the library (`ahci_hba_write_breaks`, `ahci_command_breaks`, ..), asked before each write."""
-from typing import Callable, Iterator, Optional, Set
+from typing import Callable, Iterator, Optional, Set, Tuple
 
 from . import library  # finds the library's package
 from . import layout
@@ -20,6 +20,7 @@ OF_ENTRIES = [R.ODD_ADDRESS, R.EVEN_COUNT, R.RESERVED_ENTRY]
 OF_LENGTHS = [R.LIST_TOO_SHORT, R.LIST_TOO_LONG]
 COMMAND_RULES = {it.name for it in (*OF_COMMANDS, *OF_ENTRIES, *OF_LENGTHS, R.SLOT_USED_AGAIN)} | {"NO_MEMORY"}
 MOST_ENTRIES = 300
+BY_ONES = (layout.IS, layout.PX_IS, layout.PX_SERR, layout.PX_SACT, layout.PX_CI)  # writing 1 clears or sets
 
 
 def holds(ask: Callable[[], bool]) -> bool:
@@ -34,15 +35,25 @@ def by_write(it: "library.Library", op: Op) -> Set[str]:
     """The rules that an operation is about to break, harmless ones among them."""
     if not isinstance(op, Write):
         return set()
-    if op.size not in (4, 8) or op.offset % op.size:
+    if op.offset % op.size:
         return {"ODD_ACCESS"}
     found: Set[str] = set()
-    for offset in range(op.offset, op.offset + op.size, 4):
-        value = op.value >> 8 * (offset - op.offset) & layout.ONES
+    for offset, value in whole_words(it, op):
         found |= {rule.name for rule in OF_WRITES if holds(lambda: it.it.write_breaks(rule, offset, value))}
         if offset == layout.PX_CI:
             found |= by_commands(it, value)
     return found
+
+
+def whole_words(it: "library.Library", op: Write) -> Iterator[Tuple[int, int]]:
+    """The words that a write changes. Of a part of a word the other bytes are as they are, or 0 where writing 1 clears or sets."""
+    if op.size >= 4:
+        for offset in range(op.offset, op.offset + op.size, 4):
+            yield offset, op.value >> 8 * (offset - op.offset) & layout.ONES
+        return
+    base, shift = op.offset & ~3, 8 * (op.offset & 3)
+    rest = 0 if base in BY_ONES else it.read(base, 4) & ~((1 << 8 * op.size) - 1 << shift)
+    yield base, rest | op.value << shift
 
 
 def by_commands(it: "library.Library", value: int) -> Set[str]:

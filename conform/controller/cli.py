@@ -70,7 +70,8 @@ def words() -> Words:
     made.add_argument("--go-on", action="store_true", help="judge the programs after one with a new difference too")
     made.add_argument("--json", action="store_true", help="an object a program, a line each, in the place of text and table")
     made.add_argument("--quiet", action="store_true", help="no progress on standard error")
-    made.add_argument("--shown", metavar="FOLDER", help="check that the list's entries are each shown by the program FOLDER/NAME.prog")
+    made.add_argument("--brief", action="store_true", help="a line in the place of the table, and no progress")
+    made.add_argument("--shown", metavar="FOLDER", nargs="?", const="", help="check that the list's entries are each shown by the program FOLDER/NAME.prog (default: the folder beside the list)")
     made.add_argument("--smallest", metavar="FOLDER", help="write the smallest of the given programs that shows it for each entry of the list which FOLDER has no program of")
     return made
 
@@ -125,17 +126,19 @@ def class_of(path: str, name: str) -> Callable[[], Controller]:
     return made
 
 
-def list_of(asked: argparse.Namespace) -> str:
-    """The list of the QEMU that is there: that of its version, or of the next older one that has a list."""
-    if asked.emulator != "qemu":
-        return "none"
+def newest_list(qemu: str) -> str:
+    """The list of a QEMU: that of its version, or of the next older one that has a list."""
     lists = sorted((tuple(map(int, name[5:-5].split("."))), name) for name in os.listdir(FOLDER) if re.fullmatch(r"qemu-[0-9]+\.[0-9]+\.json", name))
-    there = version_of(asked.qemu or PROGRAM)
+    there = version_of(qemu)
     return os.path.join(FOLDER, next((name for version, name in reversed(lists) if version <= there), lists[0][1]))
 
 
+def known_path(asked: argparse.Namespace) -> str:
+    return asked.known or (newest_list(asked.qemu or PROGRAM) if asked.emulator == "qemu" else "none")
+
+
 def known_for(asked: argparse.Namespace) -> Known:
-    path = asked.known or list_of(asked)
+    path = known_path(asked)
     known = NOTHING if path == "none" else read_known(path)
     base = asked.base or ("none" if asked.emulator == "library" else BASE)
     known = known if base == "none" else known.over(read_known(base))
@@ -175,7 +178,7 @@ def run(asked: argparse.Namespace) -> int:
     """Judges all programs, and tells of each as it ends."""
     if not asked.seed and not asked.program:
         raise Wrong("--seed, --program or --play is missing (conform/ahci_conform --controller --help explains)")
-    known, progress = known_for(asked), Progress(asked.quiet)
+    known, progress = known_for(asked), Progress(asked.quiet or asked.brief)
     draft = Draft(known) if asked.draft_list else None
     done: List[Result] = []
     for result in results((emulator_of(asked), draft or known, asked.shrink), programs_in(asked), 1 if draft else asked.jobs):
@@ -186,7 +189,9 @@ def run(asked: argparse.Namespace) -> int:
             break
     if draft:
         return write_draft(asked, draft)
-    if not asked.json:
+    if asked.brief:
+        print(report.brief(done))
+    elif not asked.json:
         print("\n".join(report.table(done, known, progress.seconds)))
     return 1 if any(it.judged.end == "new" for it in done) else 0
 
@@ -226,9 +231,9 @@ def chosen(asked: argparse.Namespace) -> int:
         lines = list(play.played(emulator_of(asked)(), read_program(asked.play).ops))
         print("\n".join(lines))
         return 1 if lines and " has ended " in lines[-1] else 0
-    if asked.shown:
+    if asked.shown is not None:
         from .shown import check_list
-        return check_list(asked.shown, known_for(asked), emulator_of(asked))
+        return check_list(asked.shown or known_path(asked)[:-5], known_for(asked), emulator_of(asked))
     if asked.smallest:
         from .smallest import write_smallest
         return write_smallest(asked.smallest, known_for(asked), emulator_of(asked), programs_in(asked))

@@ -64,6 +64,8 @@ class Maker:
             self.write(offset, value)
 
     def comreset(self) -> None:
+        if self.one_in(4):
+            self.write(PX_SCTL, 0x304)
         self.write(PX_SCTL, 0x301)
         self.write(PX_SCTL, 0x300)
 

@@ -142,6 +142,14 @@ def table(results: List[Result], known: Known, seconds: float) -> List[str]:
     return lines + (new_rows(bad) if bad else [])
 
 
+def brief(results: List[Result]) -> str:
+    """A whole run in a line."""
+    bad = [it for it in results if it.judged.end == "new"]
+    names_ = f"{results[0].given.name} to {results[-1].given.name}" if results else "no program"
+    what = f"{len(bad)} with a new difference" if bad else "nothing outside the list"
+    return f"{names_}: {len(results):,} programs, {sum(it.judged.operations for it in results):,} operations, {what}"
+
+
 def new_rows(bad: List[Result]) -> List[str]:
     """New differences by place: how many programs have them, and the first."""
     rows: Dict[str, Row] = {}

@@ -1,5 +1,6 @@
 """Each fault that is planted in the stand-in's controller is found within 300 programs, at its place."""
 import fnmatch
+import multiprocessing
 import unittest
 from typing import Iterator, List, Tuple
 
@@ -7,7 +8,7 @@ from controller import cli
 from controller.campaign import Given, Worker
 from controller.generate import program
 from controller.known import read_known
-from controller.stand_in.faults import FAULTS, Fault
+from controller.stand_in.faults import FAULTS, named
 from controller.stand_in.hba import Hba
 from tests.common import needs_library
 
@@ -22,24 +23,27 @@ def programs() -> Iterator[Given]:
         yield Given(f"{level} {seed}", program(seed, level))
 
 
+def found(name: str) -> Tuple[str, List[str]]:
+    """The first program that shows a fault, and its places."""
+    faulty = named(name)
+    assert faulty
+    worker = Worker(faulty, read_known(cli.BASE))
+    for given in programs():
+        judged = worker.judge(given.ops)
+        if judged.end == "new":
+            return f"{given.name}, operation {judged.operations}", [it.difference.place for it in judged.new]
+    return "", []
+
+
 @needs_library
 class Planted(unittest.TestCase):
-    def found(self, fault: Fault) -> Tuple[str, List[str]]:
-        """The first program that shows it, and its places."""
-        worker = Worker(fault.stand_in, read_known(cli.BASE))
-        for given in programs():
-            judged = worker.judge(given.ops)
-            if judged.end == "new":
-                return f"{given.name}, operation {judged.operations}", [it.difference.place for it in judged.new]
-        return "", []
-
-    def test_the_faults_are_found_at_their_places(self) -> None:
+    def test_46_faults_are_found_at_their_places(self) -> None:
         self.assertEqual(len(FAULTS), 46)
-        for fault in FAULTS:
-            where, places = self.found(fault)
-            self.assertTrue(where, f"{fault.name} isn't found within {MOST} programs")
-            self.assertTrue(any(fnmatch.filter(places, it) for it in fault.places), f"{fault.name}: {places}")
-            print(f"  {fault.name:<32}{places[0]:<44.43}{where}")
+        with multiprocessing.get_context("fork").Pool(2) as pool:
+            for fault, (where, places) in zip(FAULTS, pool.imap(found, [it.name for it in FAULTS])):
+                self.assertTrue(where, f"{fault.name} isn't found within {MOST} programs")
+                self.assertTrue(any(fnmatch.filter(places, it) for it in fault.places), f"{fault.name}: {places}")
+                print(f"  {fault.name:<32}{places[0]:<44.43}{where}")
 
     def test_without_a_fault_nothing_differs(self) -> None:
         worker = Worker(Hba, read_known(cli.BASE))
