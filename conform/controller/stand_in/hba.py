@@ -53,7 +53,8 @@ class Hba(Registers):
 
     def take(self) -> bool:
         """P:Idle to CFIS:Xmit (section 5.3): the next slot from behind the last one on."""
-        wanted = [slot for slot in range(32) if self.words[PX_CI] >> slot & 1 and slot not in self.queue]
+        taken = {*self.queue, *([self.waiting.slot] if self.waiting else [])}
+        wanted = [slot for slot in range(32) if self.words[PX_CI] >> slot & 1 and slot not in taken]
         if not self.runs or not wanted or self.words[PX_TFD] & (BSY | DRQ):
             return False
         slot = next((it for it in wanted if it >= self.behind), wanted[0])

@@ -95,7 +95,6 @@ class Registers(Controller):
         self.halted = self.stuck = False
         self.behind = 0  # the slot that has the highest priority
         self.words[PX_SACT] = self.words[PX_CI] = 0
-        self.words[PX_CMD] &= ~0x1F00
 
     def link_down(self, state: int) -> None:
         was_up = self.words[PX_SSTS] & 15 == 3
@@ -199,6 +198,7 @@ class Registers(Controller):
             self.words[PX_TFD] &= ~(BSY | DRQ)
         if before & ST and not value & ST:
             self.drop()
+            self.words[PX_CMD] &= ~0x1F00
 
     def write_link(self, value: int) -> None:
         before = self.words[PX_SCTL] & 15
