@@ -85,6 +85,7 @@ class Registers(Controller):
         """GHC.HR and power-on (sections 3.1.2, 10.4.3): the bases stay."""
         bases = {at: self.words[at] for at in (PX_CLB, PX_CLBU, PX_FB, PX_FBU)}
         self.words = {**CONSTANT, GHC: 0x80000000, IS: 0, PX_IS: 0, PX_IE: 0, PX_CMD: SUD | POD, PX_TFD: ABSENT, PX_SIG: 0xFFFFFFFF, PX_SSTS: 0, PX_SCTL: 0, PX_SERR: 0, PX_SACT: 0, PX_CI: 0, **bases}
+        self.drop()
         self.link_up()
 
     def drop(self) -> None:
@@ -105,7 +106,6 @@ class Registers(Controller):
 
     def link_up(self) -> None:
         """The device answers with its signature (section 10.4.2; Serial ATA, COMRESET)."""
-        self.drop()
         limit = self.words[PX_SCTL] >> 4 & 15
         self.words[PX_SSTS] = 0x103 | (limit if limit in (1, 2) else 2) << 4
         self.words[PX_TFD] = 0x80
