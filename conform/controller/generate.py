@@ -83,12 +83,13 @@ class Maker:
             self.write(GHC, 0x80000001)
             self.begin()
             return
-        if how < 3 or self.level == "errors" and how < 5:
+        by_link = how < 3 or self.level == "errors" and how < 5
+        if by_link:
             self.comreset()
             self.write(PX_SERR, ONES)
         self.write(IS, 1)
         self.write(PX_CMD, RUNNING)
-        if queued and how >= 5:
+        if queued and not by_link:
             self.command(0, "log", READ_LOG)
             self.write(PX_CI, 1)
         elif self.level == "errors" and self.one_in(4):
@@ -201,7 +202,8 @@ class Maker:
 
     def step(self) -> None:
         what = self.dice.randrange({"sloppy": 30, "wild": 40}.get(self.level, 20))
-        ways: List[Sequence[int]] = [(4, 0)] if self.level in ("clean", "errors") else [(4, 0), (4, 0), (4, 0), (0,), (4, 4, 0)]
+        ways: List[Sequence[int]] = [(4, 0)] if self.level in ("clean", "errors") else [(4, 0), (4, 0), (4, 4, 0)]
+        ways += [] if self.lawful else [(0,)]
         steps: Dict[int, Callable[[], None]] = {
             15: self.enable,
             16: lambda: self.write(GHC, self.dice.choice([0x80000000, 0x80000002, 0x80000002])),
