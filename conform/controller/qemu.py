@@ -21,6 +21,7 @@ ABAR = 0xE0000000
 FUNCTION = 0x8000FA00  # PCI 00:1f.2, by the ports CF8h and CFCh
 SECONDS = 20.0
 HELD_SECONDS = 1.5  # a command that is neither held nor ignored ends within them, also on a busy machine
+RELEASED_SECONDS = 0.3
 EQUAL_LOOKS = 4  # with nothing changed, while a command is outstanding: it is taken that nothing will change
 STARTERS = (layout.PX_CI, layout.PX_SACT, layout.PX_CMD, layout.PX_SCTL, layout.GHC)  # registers whose write may begin or end a request
 Snap = Tuple[bytes, bytes, int]
@@ -105,7 +106,7 @@ class Qemu(Controller):
         self.qtest, self.monitor = Socket(self.path("qtest")), Socket(self.path("qmp"))
         self.held: Set[int] = set()
         self.stuck = (0, 0)
-        self.written = 0
+        self.written, self.released = 0, 0.0
         try:
             self.launch()
         except BaseException:
@@ -265,6 +266,10 @@ class Qemu(Controller):
             self.on_disk(f"resume t{slot}")
             self.on_disk(f"remove_break t{slot}")
         self.held.discard(slot)
+        if self.held:
+            self.released = time.monotonic()  # a drain would wait for the others
+        else:
+            self.on_disk("aio_flush")
 
     # ---- rest ----
 
@@ -288,11 +293,12 @@ class Qemu(Controller):
 
     def rest(self, last: Snap) -> Snap:
         same, until, memory = 0, time.monotonic() + HELD_SECONDS, self.moving()
+        released = self.released + RELEASED_SECONDS  # when what `go` let go has ended, though no register may show it
         ignored = self.stuck if self.written != layout.PX_CI else (0, 0)
         for _ in range(4000):
             waits = self.waiting(last)
             others = (waits[0] | waits[1]) & ~sum(1 << it for it in self.held)
-            busy = waits not in ((0, 0), ignored) and (others or not self.held)
+            busy = waits not in ((0, 0), ignored) and (others or not self.held) or time.monotonic() < released
             if busy and self.held:
                 time.sleep(0.001)  # a drain would wait for the held request
             elif busy:
