@@ -22,7 +22,7 @@ def shrunk(ops: Program, holds: Callable[[Program], bool], budget: int = 200) ->
             if better is None:
                 break
             ops = [*ops[:at], better, *ops[at + 1 :]]
-    return ops
+    return shorter(ops, ok, left)  # a simpler operation may need fewer others
 
 
 def shorter(ops: Program, ok: Callable[[Program], bool], left: Sequence[int]) -> Program:
