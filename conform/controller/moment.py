@@ -159,6 +159,7 @@ def command_facts(it: Moment) -> Set[str]:
     for _, command, wants in it.issued:
         found |= {wants.kind, "control" if wants.kind == "control" else f"command {command.fis[2]:02X}"}
         found |= {"C"} if command.flags & 0x400 else set()
+        found |= {"reserved in the FIS"} if command.fis[1] & 0x70 else set()
         if wants.kind == "control":
             found |= {"SRST" if command.fis[15] & 4 else "no SRST"}
             continue
@@ -169,8 +170,8 @@ def command_facts(it: Moment) -> Set[str]:
         found |= {"bad sector"} if failing in layout.BAD else set()
         found |= {"no list"} if command.prdtl == 0 or not (command.entries or command.prdtl) else set()
         found |= {"no LBA bit"} if wants.count and not command.fis[7] & 0x40 else set()
-        if command.fis[2] in SHORT:
-            found |= {"28 bits"} | ({"reserved count"} if command.fis[13] else set())
+        found |= {"28 bits"} if command.fis[2] in SHORT else set()
+        found |= {"reserved count"} if command.fis[13] and command.fis[2] in (*SHORT, 0xEF) else set()
     if len(it.issued) > 1:
         found.add("several")
     if it.reset_again and "SRST" in found:
