@@ -9,6 +9,7 @@ import sys
 import time
 from typing import Callable, Iterator, List, Optional, Tuple
 
+from controller import page as controller_page
 from stand_in import faults
 
 from . import model, page, report, shown
@@ -77,6 +78,7 @@ def words() -> Words:
     made.add_argument("--json", action="store_true", help="an object a script, a line each, in the place of text and table")
     made.add_argument("--each-line", action="store_true", help="a line for each line of the scripts: its number, and the known differences that it shows; a new difference goes to standard error")
     made.add_argument("--shown", metavar="FOLDER", help="check that the list's entries are each shown by the script FOLDER/NAME.ahci")
+    made.add_argument("--controller", action="store_true", help="judge the whole controller by random driver programs, with options of its own: --controller --help")
     made.add_argument("--page", metavar="FILE", help="print the page of this list of known differences, and judge nothing")
     return made
 
@@ -224,6 +226,10 @@ def stop(number: int, _: object) -> None:
 
 def main(given: Optional[List[str]] = None) -> int:
     signal.signal(signal.SIGTERM, stop)
+    if "--controller" in (sys.argv[1:] if given is None else given):
+        from controller import cli as controller  # needs the library, which the scripts don't
+
+        return controller.main(given)
     try:
         asked = words().parse_args(given)
         if asked.fault == "list":
@@ -232,7 +238,7 @@ def main(given: Optional[List[str]] = None) -> int:
         if asked.fault and asked.emulator != "stand-in":
             raise Wrong("--fault is for --emulator stand-in alone")
         if asked.page:
-            print(page.page_of(read_known(asked.page), os.path.basename(asked.page)), end="")
+            print(page.page_of(read_known(asked.page), os.path.basename(asked.page), controller_page.part()), end="")
             return 0
         return check_list(asked) if asked.shown else run(asked)
     except (Wrong, ListFault, model.ModelFault) as why:

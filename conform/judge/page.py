@@ -8,12 +8,15 @@ CHOICES = {
     "model": "the model's own, where the standard leaves one or the model is narrower",
 }
 HEAD = """\
-# {title} beside the model
+# QEMU beside the model
+
+{controller}
+## Scripts on a started port
 
 The same scripts were played on {title}'s AHCI port and on the model, with data as the model lays them and in many pieces, and compared
 after each line: registers, received FISes, data, disk ([conform](../conform/README.md)). A command that succeeds goes the same way in both, in any order: PxSACT and PxCI,
-the FISes and their bytes, the data, the scatter lists and the sectors are those of the model. What differs is below, and nothing
-else was found. This page is made from `conform/{file}` by `conform/ahci_conform --page`; `make -C conform check` compares them.
+the FISes and their bytes, the data, the scatter lists and the sectors are those of the model. What differs is below, from `conform/{file}`, and nothing
+else was found.
 
 Each difference has the smallest script that shows it, by its last line. `conform/ahci_conform --without NAME
 conform/qemu/NAME.ahci` tells it as a new one, with what was expected and what was got.
@@ -55,8 +58,9 @@ def anchor(title: str) -> str:
     return "".join(it for it in title.lower().replace(" ", "-") if it.isalnum() or it in "-_")
 
 
-def page_of(known: Known, file: str) -> str:
-    lines = [HEAD.format(title=known.title, file=file).rstrip("\n")]
+def page_of(known: Known, file: str, controller: str) -> str:
+    """The page, with the part of it that another judge has."""
+    lines = [HEAD.format(title=known.title, file=file, controller=controller).rstrip("\n")]
     lines += [f"| [{it.title}](#{anchor(it.title)}) | {it.section} | {CHOICES[it.choice].split(',')[0]} |" for it in known.entries]
     lines.append("")
     for entry in known.entries:

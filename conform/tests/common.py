@@ -14,6 +14,9 @@ BUILT = os.path.join(TOP, "crates", "ahci", "out", "rlib", "ahci", "ahci")
 MODEL: Optional[str] = os.environ.get("MODEL") or (BUILT if os.path.exists(BUILT) else None)
 
 needs_model = unittest.skipUnless(MODEL, "the model isn't built: ./ahci --build, or make check MODEL=PATH")
+LIBRARY = os.environ.get("AHCI_LIBRARY") or os.path.join(TOP, "c", "out", "libahci.so.0")
+
+needs_library = unittest.skipUnless(os.path.exists(LIBRARY), "the library isn't built: make -C c, or AHCI_LIBRARY=FILE")
 needs_cc = unittest.skipUnless(shutil.which("cc"), "there is no C compiler: Debian's package is gcc")
 needs_qemu = unittest.skipUnless(shutil.which("qemu-system-x86_64"), "QEMU is missing: Debian's package is qemu-system-x86")
 
@@ -33,4 +36,4 @@ def trace_of(script: str) -> Trace:
     return model.trace_of(MODEL, script)
 
 
-__all__ = ["commands_of", "needs_cc", "needs_model", "needs_qemu", "stored", "text_of", "trace_of"]
+__all__ = ["commands_of", "needs_cc", "needs_library", "needs_model", "needs_qemu", "stored", "text_of", "trace_of"]

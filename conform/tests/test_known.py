@@ -7,6 +7,7 @@ from typing import Any, Dict
 from judge.differences import Difference, differs
 from judge.known import ListFault, known_of, read_known
 from judge.model import Step
+from controller import page as controller_page
 from judge.page import anchor, page_of
 from tests.common import CONFORM, text_of
 
@@ -94,7 +95,7 @@ class Matching(unittest.TestCase):
 class Pages(unittest.TestCase):
     def test_the_page_of_qemu_is_up_to_date(self) -> None:
         known = read_known(os.path.join(CONFORM, "qemu-7.2.json"))
-        made = page_of(known, "qemu-7.2.json")
+        made = page_of(known, "qemu-7.2.json", controller_page.part())
         self.assertEqual(text_of("docs", "QEMU.md"), made, "conform/ahci_conform --page conform/qemu-7.2.json > docs/QEMU.md writes it")
 
     def test_each_decision_that_the_list_names_is_a_heading(self) -> None:

@@ -20,6 +20,7 @@ from .names import Rule, Step, Want
 from .records import Capabilities, Entry, Look, State
 
 Memory = Union[bytearray, memoryview, mmap.mmap]
+_STEPS = tuple(Step)  # by number
 
 
 class Hba(Owner):
@@ -52,7 +53,7 @@ class Hba(Owner):
         """What the controller does next."""
         found = LookStruct()
         self._call("look", ctypes.byref(found))
-        steps = tuple(Step(it) for it in found.next)
+        steps = tuple(map(_STEPS.__getitem__, found.next))
         return Look(found.address, found.length, Want(found.want), bool(found.interrupt), bool(found.sign), found.depth, steps)
 
     def supply(self, data: Bytes) -> None:

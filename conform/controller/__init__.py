@@ -1,0 +1,1 @@
+"""Judges AHCI controllers by random driver programs: conform/controller/README.md."""
