@@ -16,7 +16,7 @@ use Rattle.hba_regs.specs.declared.soft_reset.SoftReset.TheVariants.{Off, Held, 
 use Rattle.hba_regs.specs.declared.link.Link.{Link}
 use Rattle.hba_regs.specs.declared.link.Link.TheVariants.{Up, Listening, InReset, Offline}
 use Rattle.hba_regs.specs.declared.fatal.Fatal.{Fatal}
-use Rattle.hba_regs.specs.declared.fatal.Fatal.TheVariants.{HostBusFatal, HostBusData, Interface, Overflow}
+use Rattle.hba_regs.specs.declared.fatal.Fatal.TheVariants.{HostBusFatal, HostBusData, Interface}
 
 -- ---- PxIS
 
@@ -42,7 +42,6 @@ pub kept-fatal : (s : List Bool) (fatal : Fatal) → IsKept s → IsKept (with_p
 kept-fatal s HostBusFatal h = kept-with s 29 (omega arith) (omega arith) h
 kept-fatal s HostBusData h = kept-with s 28 (omega arith) (omega arith) h
 kept-fatal s Interface h = kept-with s 27 (omega arith) (omega arith) h
-kept-fatal s Overflow h = kept-with s 24 (omega arith) (omega arith) h
 
 -- ---- commands
 

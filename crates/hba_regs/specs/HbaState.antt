@@ -1,6 +1,6 @@
 -- What the registers of an HBA with one port keep (AHCI 1.3.1, sections 3.1 and 3.3). A register of 32 bits with a bit for each
 -- slot, interrupt or error is the set of its bits that are 1.
-use Rattle.std.specs.Prelude.{◌≡◌, ℕ, ◌/◌, ◌%◌, ◌^◌, ◌<◌, ◌≤◌, Bool, true, false, not, ◌&&◌, ◌||◌, List, length, nat_eq, nat_le, if◌then◌else◌}
+use Rattle.std.specs.Prelude.{◌≡◌, ℕ, ◌/◌, ◌%◌, ◌^◌, ◌<◌, ◌≤◌, Bool, true, false, not, ◌&&◌, ◌||◌, List, Option, Some, None, length, nat_eq, nat_le, nat_lt, if◌then◌else◌}
 use Rattle.word_bits.specs.Places.{bits, no_places, has_place, intersection}
 use Rattle.hba_regs.specs.CapFields.{CapFields, IsCapable}
 use Rattle.hba_regs.specs.declared.link.Link.{Link}
@@ -8,7 +8,7 @@ use Rattle.hba_regs.specs.declared.link.Link.TheVariants.{Up, Listening, InReset
 use Rattle.hba_regs.specs.declared.signature.Signature.{Signature}
 use Rattle.hba_regs.specs.declared.signature.Signature.TheVariants.{Past, Due}
 use Rattle.hba_regs.specs.declared.soft_reset.SoftReset.{SoftReset}
-use Rattle.hba_regs.specs.declared.soft_reset.SoftReset.TheVariants.{Off, Ending}
+use Rattle.hba_regs.specs.declared.soft_reset.SoftReset.TheVariants.{Off}
 
 -- the registers of the port (section 3.3)
 pub record HbaPort : Type 0 where
@@ -63,9 +63,9 @@ pub record HbaState : Type 0 where
   pub ips : Bool
   pub port : HbaPort
 
--- PxSERR after the link came up: DIAG.N (bit 16) and DIAG.X (bit 26)
+-- PxSERR after the link came up: DIAG.N (bit 16), DIAG.W (bit 18, COMWAKE was detected) and DIAG.X (bit 26)
 abbrev pub link_changed : List Bool
-link_changed = bits 0x04010000
+link_changed = bits 0x04050000
 
 -- the bits that PxIE has (section 3.3.6): CPDE (31) and DMPE (7) are read-only 0, since there is no cold presence detection and no
 -- mechanical presence switch
@@ -122,6 +122,10 @@ reset_port c clb fb =
       signature = if c.sss then Past else Due;
     }
 
+-- the slot of a number
+abbrev pub slot_of : ℕ → Option ℕ
+slot_of n = if nat_lt n 32 then Some n else None
+
 -- the HBA after a reset that keeps these bases; what it can do stays
 abbrev pub reset_with : CapFields → ℕ → ℕ → HbaState
 reset_with c clb fb = record { ghc_ie = false; ips = false; port = reset_port c clb fb }
@@ -145,11 +149,6 @@ asked_link det sud link =
 pub record IsKept (s : List Bool) : Type 0 where
   pub no_pcs : has_place s 6 ≡ false
   pub no_prcs : has_place s 22 ≡ false
-
--- a software reset that ends ends the command of a slot
-abbrev pub IsOfSlot : SoftReset → Type 0
-IsOfSlot (Ending slot) = slot < 32
-IsOfSlot other = Unit {0}
 
 -- without 64-bit addressing (CAP.S64A) the upper halves of the bases are 0
 abbrev pub IsInReach : Bool → (clb fb : ℕ) → Type 0
@@ -186,7 +185,6 @@ pub record IsLawful (p : HbaPort) : Type 0 where
   pub speed : p.speed ≤ p.capabilities.iss
   pub ccs : p.ccs < 32
   pub first : p.first < p.capabilities.ncs
-  pub soft : IsOfSlot p.soft
 
 -- the sets of a port are those of words of 32 bits
 pub record HasWords (p : HbaPort) : Type 0 where

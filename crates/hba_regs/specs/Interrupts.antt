@@ -3,7 +3,7 @@ use Rattle.std.specs.Prelude.{ℕ, Bool, not, ◌&&◌, ◌||◌, List, nat_eq, 
 use Rattle.word_bits.specs.Places.{has_place, with_place, intersection, word_of}
 use Rattle.hba_regs.specs.HbaState.{HbaPort, HbaState}
 use Rattle.hba_regs.specs.declared.fatal.Fatal.{Fatal}
-use Rattle.hba_regs.specs.declared.fatal.Fatal.TheVariants.{HostBusFatal, HostBusData, Interface, Overflow}
+use Rattle.hba_regs.specs.declared.fatal.Fatal.TheVariants.{HostBusFatal, HostBusData, Interface}
 
 -- the bits of PxIS that this model raises
 abbrev pub dhrs : ℕ
@@ -21,15 +21,17 @@ pcs = 6
 abbrev pub prcs : ℕ
 prcs = 22
 
+abbrev pub ofs : ℕ
+ofs = 24
+
 abbrev pub tfes : ℕ
 tfes = 30
 
--- OFS is bit 24, IFS 27, HBDS 28, HBFS 29
+-- IFS is bit 27, HBDS 28, HBFS 29
 abbrev pub place_of : Fatal → ℕ
 place_of HostBusFatal = 29
 place_of HostBusData = 28
 place_of Interface = 27
-place_of Overflow = 24
 
 -- a set with one place more, if it is raised
 abbrev pub raised : Bool → ℕ → List Bool → List Bool

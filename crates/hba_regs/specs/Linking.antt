@@ -34,7 +34,7 @@ went_down p link =
       soft = Off;
     }
 
--- the link comes up, at the generation that CAP.ISS and PxSCTL.SPD allow: DIAG.N and DIAG.X report it, and the device is busy until its signature
+-- the link comes up, at the generation that CAP.ISS and PxSCTL.SPD allow: DIAG.N, DIAG.W and DIAG.X report it, and the device is busy until its signature
 -- is taken
 abbrev pub came_up : HbaPort → HbaPort
 came_up p =

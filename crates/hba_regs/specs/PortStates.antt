@@ -1,41 +1,15 @@
 -- The port's state machine (AHCI 1.3.1, section 5.3 "HBA Port State Machine"): a definition for each state that moves the registers, by
--- the state's own name, and in it the rows of its table in their order, each of which goes on with the next state. A path ends in a state of
--- rest (`rest_of`). What a driver can't see is left out: docs/LAYOUTS.md has the table of all states.
+-- the state's own name, and in it the rows of its table in their order, each of which goes on with the next state. A path ends in a state
+-- in which the port waits: P:NotRunning, P:Idle, ERR:WaitForClear, or one of the link's. What a driver can't see is left out: docs/LAYOUTS.md has
+-- the table of all states.
 use Rattle.std.specs.Prelude.{ℕ, ◌+◌, ◌%◌, Bool, true, false, not, ◌&&◌, ◌||◌, List, bit_and, bit_or, if◌then◌else◌}
 use Rattle.word_bits.specs.Places.{bits, has_place, with_place, without_place, minus}
 use Rattle.hba_regs.specs.HbaState.{HbaPort}
-use Rattle.hba_regs.specs.Interrupts.{dhrs, pss, sdbs, tfes, place_of, raised}
+use Rattle.hba_regs.specs.Interrupts.{dhrs, pss, sdbs, ofs, tfes, place_of, raised}
 use Rattle.hba_regs.specs.declared.fatal.Fatal.{Fatal}
 use Rattle.hba_regs.specs.declared.signature.Signature.TheVariants.{Past, Unposted}
 use Rattle.hba_regs.specs.declared.soft_reset.SoftReset.{SoftReset}
 use Rattle.hba_regs.specs.declared.soft_reset.SoftReset.TheVariants.{Off, Ending}
-use Rattle.hba_regs.specs.declared.link.Link.{Link}
-use Rattle.hba_regs.specs.declared.link.Link.TheVariants.{Up, Listening, InReset, Offline}
-
--- ---- states of rest
-
-pub data Rest : Type 0 where
-  -- P:PhyListening: DET is 0, and the device waits for SUD
-  PhyListening : Rest
-  -- P:StartComm: DET is 1, COMRESET is sent
-  StartComm : Rest
-  -- P:Offline: DET is 4
-  OfflineState : Rest
-  -- P:NotRunning: ST is 0
-  NotRunning : Rest
-  -- P:Idle: ST is 1; commands are selected, FISes received
-  Idle : Rest
-  -- ERR:WaitForClear: until ST is 0, no command is processed and no FIS received
-  WaitForClear : Rest
-
-abbrev pub over_link : Link → Rest → Rest
-over_link Up rest = rest
-over_link Listening rest = PhyListening
-over_link InReset rest = StartComm
-over_link Offline rest = OfflineState
-
-abbrev pub rest_of : HbaPort → Rest
-rest_of p = over_link p.link (if p.halted then WaitForClear else if p.st then Idle else NotRunning)
 
 -- ---- bits of a status
 
@@ -98,8 +72,8 @@ cfis_clear_ci slot p = record p { sts = bit_and p.sts 0x7f; ci = without_place p
 abbrev pub cfis_success : ℕ → (c : Bool) → HbaPort → HbaPort
 cfis_success slot c p = if c then cfis_clear_ci slot p else record p { sts = bit_or p.sts 0x80 }
 
--- the same of a write whose list names fewer bytes than it moves: the port has no data to go on with in DX:Transmit, and the standard has no
--- text for it (section 6.1.5 is of data that a device sends). It is stuck until ST is cleared or the link is reset (profile)
+-- the same of a write whose list names fewer bytes than it moves: the port runs out of data in DX:Transmit. Section 6.1.5 calls that an
+-- overflow of the command list too, and has no text for what registers show. It is stuck until ST is cleared or the link is reset (profile)
 abbrev pub stuck : ℕ → (c : Bool) → HbaPort → HbaPort
 stuck slot c p = record (cfis_success slot c p) { halted = true }
 
@@ -150,10 +124,18 @@ pio_set_intr i p = record p { is = raised i pss p.is }
 abbrev pub pio_clear_ci : (i : Bool) → (slot : ℕ) → HbaPort → HbaPort
 pio_clear_ci i slot p = pio_set_intr i (record p { ci = without_place p.ci slot })
 
--- PIO:Update, once the data have moved: the status is pPioESts; ERR is 1, BSY and DRQ are 0, or neither
+-- PIO:Update, once the data have moved: the status is pPioESts; ERR is 1, BSY and DRQ are 0, or neither. PSS is set with ERR too: the table
+-- goes to ERR:FatalTaskfile at once, but the text of the bit sets it whether the data moved without error or not (section 3.3.5)
 abbrev pub pio_update : (e_status : ℕ) → (i : Bool) → (slot : ℕ) → HbaPort → HbaPort
 pio_update e_status i slot p =
     let q = record p { sts = e_status } in
-    if err_of e_status then err_fatal_taskfile q
+    if err_of e_status then err_fatal_taskfile (pio_set_intr i q)
     else if bsy_or_drq_of e_status then pio_set_intr i q
     else pio_clear_ci i slot q
+
+-- ---- DR, "Data Receive"
+
+-- the list has no room for the data: OFS is set, what is left of the data is dropped, and the port goes on, since OFS is no fatal error (sections
+-- 3.3.5, OFS, 6.1.5 and 6.2.1)
+abbrev pub dr_overflow : HbaPort → HbaPort
+dr_overflow p = record p { is = with_place p.is ofs }

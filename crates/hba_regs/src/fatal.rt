@@ -1,7 +1,7 @@
 ghost use Rattle.std.specs.Prelude.{◌≡◌};
 ghost use Rattle.hba_regs.specs.Interrupts.{place_of};
 
-/// The errors that halt the port by themselves (AHCI 1.3.1, section 6.1).
+/// The errors that halt the port by themselves (AHCI 1.3.1, sections 6.1 and 6.2.1).
 #[derive(Clone, Copy, PartialEq, Eq, Debug)]
 pub enum Fatal {
     /// Host Bus Fatal Error: the HBA can't go on from a fault of the host's bus.
@@ -10,8 +10,6 @@ pub enum Fatal {
     HostBusData,
     /// Interface Fatal Error: the link failed under a FIS.
     Interface,
-    /// Overflow: the device sent more data than the command's list has room for.
-    Overflow,
 }
 
 impl Fatal {
@@ -24,7 +22,6 @@ impl Fatal {
             Fatal::HostBusFatal => 29,
             Fatal::HostBusData => 28,
             Fatal::Interface => 27,
-            Fatal::Overflow => 24,
         }
     }
 }

@@ -12,6 +12,7 @@ mod link;
 mod port;
 mod register;
 mod signature;
+mod slot;
 mod soft_reset;
 mod words;
 
@@ -23,4 +24,5 @@ pub use hba_regs::HbaRegs;
 pub use link::Link;
 pub use register::Register;
 pub use signature::Signature;
+pub use slot::Slot;
 pub use soft_reset::SoftReset;

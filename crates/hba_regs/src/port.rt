@@ -34,14 +34,16 @@ const PCS: u8 = 6;
 
 const PRCS: u8 = 22;
 
+const OFS: u8 = 24;
+
 const TFES: u8 = 30;
 
-/// DIAG.N and DIAG.X of PxSERR (section 3.3.12), by their places and in one word.
+/// DIAG.N and DIAG.X of PxSERR (section 3.3.12) by their places, and with DIAG.W, COMWAKE, in one word: what a link that comes up reports.
 const DIAG_N: u8 = 16;
 
 const DIAG_X: u8 = 26;
 
-const LINK_CHANGED: u32 = 0x0401_0000;
+const LINK_CHANGED: u32 = 0x0405_0000;
 
 /// What PxSIG is before the device's first FIS (section 3.3.9).
 const NO_SIGNATURE: u32 = 0xffff_ffff;

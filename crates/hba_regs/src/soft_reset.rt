@@ -1,3 +1,5 @@
+use crate::slot::Slot;
+
 /// How far the device is with a software reset (AHCI 1.3.1, section 10.4.1).
 #[derive(Clone, Copy, PartialEq, Eq, Debug)]
 pub enum SoftReset {
@@ -5,6 +7,6 @@ pub enum SoftReset {
     Off,
     /// A control FIS has set SRST.
     Held,
-    /// The control FIS of this slot, below 32, has cleared it, and the signature ends its command.
-    Ending(u8),
+    /// The control FIS of this slot has cleared it, and the signature ends its command.
+    Ending(Slot),
 }

@@ -1,46 +1,43 @@
 //! What the device's FISes and errors do to the registers. Each ends as a write does: IS.IPS is set if an interrupt is pending.
 
-ghost use Rattle.std.specs.Prelude.{◌≡◌, ◌<◌, true};
-ghost use Rattle.hba_regs.specs.PortStates.{cfis_success, err_fatal, p_select_cmd, pio_entry, pio_update, reg_fis_entry, sdb_entry, stuck};
+ghost use Rattle.std.specs.Prelude.{◌≡◌, true};
+ghost use Rattle.hba_regs.specs.PortStates.{cfis_success, dr_overflow, err_fatal, p_select_cmd, pio_entry, pio_update, reg_fis_entry, sdb_entry, stuck};
 ghost use Rattle.hba_regs.specs.Receiving.{after_srst_cleared, after_srst_set, moved, signature_moves, signed};
 
 use super::HbaRegs;
 use crate::fatal::Fatal;
+use crate::slot::Slot;
 
 impl HbaRegs {
-    /// Selects the command of a slot, below 32, as the next one to issue (AHCI 1.3.1, section 5.3.2, P:SelectCmd): CCS is the slot.
-    pub fn select(&mut self, slot: u8)
-        requires { slot < 32 }
+    /// Selects the command of a slot, as the next one to issue (AHCI 1.3.1, section 5.3.2, P:SelectCmd): CCS is the slot.
+    pub fn select(&mut self, slot: Slot)
         ensures { self.new ≡ moved self.old (p_select_cmd slot self.old.port) }
     {
         self.port.select(slot);
         self.pending = self.pending || self.port.is_pending();
     }
 
-    /// Sends the command FIS of a slot, below 32 (section 5.3.5): BSY is set; or, if C is 1 in its header, BSY and its bit of PxCI are
+    /// Sends the command FIS of a slot (section 5.3.5): BSY is set; or, if C is 1 in its header, BSY and its bit of PxCI are
     /// cleared.
-    pub fn send(&mut self, slot: u8, clears: bool)
-        requires { slot < 32 }
+    pub fn send(&mut self, slot: Slot, clears: bool)
         ensures { self.new ≡ moved self.old (cfis_success slot clears self.old.port) }
     {
         self.port.send(slot, clears);
         self.pending = self.pending || self.port.is_pending();
     }
 
-    /// Sends the command FIS of a slot's write, below 32, whose list names fewer bytes than it moves: the port is stuck until ST is cleared or
+    /// Sends the command FIS of a slot's write, whose list names fewer bytes than it moves: the port is stuck until ST is cleared or
     /// the link is reset (profile).
-    pub fn stick(&mut self, slot: u8, clears: bool)
-        requires { slot < 32 }
+    pub fn stick(&mut self, slot: Slot, clears: bool)
         ensures { self.new ≡ moved self.old (stuck slot clears self.old.port) }
     {
         self.port.stick(slot, clears);
         self.pending = self.pending || self.port.is_pending();
     }
 
-    /// Takes a D2H Register FIS for the command of a slot, below 32 (sections 3.3.8 and 3.3.14): its status and error, and its
+    /// Takes a D2H Register FIS for the command of a slot (sections 3.3.8 and 3.3.14): its status and error, and its
     /// I bit. PxCI loses the slot if BSY, DRQ and ERR of the status are 0; a status with ERR halts the port.
-    pub fn receive_register(&mut self, status: u8, error: u8, i: bool, slot: u8)
-        requires { slot < 32 }
+    pub fn receive_register(&mut self, status: u8, error: u8, i: bool, slot: Slot)
         ensures { self.new ≡ moved self.old (reg_fis_entry status error i slot self.old.port) }
     {
         self.port.receive_register(status, error, i, slot);
@@ -64,12 +61,20 @@ impl HbaRegs {
         self.pending = self.pending || self.port.is_pending();
     }
 
-    /// Ends a PIO Setup FIS's data, for the command of a slot, below 32: the FIS's E_Status and its I bit.
-    pub fn end_pio(&mut self, e_status: u8, i: bool, slot: u8)
-        requires { slot < 32 }
+    /// Ends a PIO Setup FIS's data, for the command of a slot: the FIS's E_Status and its I bit.
+    pub fn end_pio(&mut self, e_status: u8, i: bool, slot: Slot)
         ensures { self.new ≡ moved self.old (pio_update e_status i slot self.old.port) }
     {
         self.port.end_pio(e_status, i, slot);
+        self.pending = self.pending || self.port.is_pending();
+    }
+
+    /// Takes that the device sends more data than the list of its command has room for (sections 3.3.5, OFS, and 6.1.5): OFS is set, and the port
+    /// goes on.
+    pub fn overflow(&mut self)
+        ensures { self.new ≡ moved self.old (dr_overflow self.old.port) }
+    {
+        self.port.overflow();
         self.pending = self.pending || self.port.is_pending();
     }
 
@@ -91,10 +96,9 @@ impl HbaRegs {
         self.pending = self.pending || self.port.is_pending();
     }
 
-    /// Takes that the control FIS of a slot, below 32, clears SRST, the second of the two: a device that is held in its reset then sends
+    /// Takes that the control FIS of a slot, clears SRST, the second of the two: a device that is held in its reset then sends
     /// its signature, and any other one ignores it.
-    pub fn clear_srst(&mut self, slot: u8)
-        requires { slot < 32 }
+    pub fn clear_srst(&mut self, slot: Slot)
         ensures { self.new ≡ moved self.old (after_srst_cleared self.old.port slot self.old.port.soft) }
     {
         self.port.clear_srst(slot);

@@ -2,43 +2,40 @@
 
 ghost use Rattle.std.specs.Prelude.{◌≡◌, ◌≢◌, ◌<◌};
 ghost use Rattle.word_bits.specs.Places.{bits, minus, with_place, without_place};
-ghost use Rattle.hba_regs.specs.HbaState.{IsOfSlot};
 ghost use Rattle.hba_regs.specs.Interrupts.{place_of, raised};
-ghost use Rattle.hba_regs.specs.PortStates.{bsy_or_drq_of, cfis_success, ended_by_signature, err_fatal, err_fatal_taskfile, err_of, p_reg_fis_update, p_select_cmd, pio_entry, pio_update, reg_fis_entry, sdb_entry, stuck};
+ghost use Rattle.hba_regs.specs.PortStates.{bsy_or_drq_of, cfis_success, dr_overflow, ended_by_signature, err_fatal, err_fatal_taskfile, err_of, p_reg_fis_update, p_select_cmd, pio_entry, pio_update, reg_fis_entry, sdb_entry, stuck};
 ghost use Rattle.hba_regs.specs.Receiving.{after_srst_cleared, after_srst_set, signed};
 
-use super::{DHRS, PSS, Port, SDBS, TFES, raised};
+use super::{DHRS, OFS, PSS, Port, SDBS, TFES, raised};
 use crate::fatal::Fatal;
 use crate::signature::Signature;
+use crate::slot::Slot;
 use crate::soft_reset::SoftReset;
 use word_bits::{is_set, with_bit, without_bit};
 
 impl Port {
     /// A slot's command is the one to issue.
-    pub fn select(&mut self, slot: u8)
-        requires { slot < 32 }
+    pub fn select(&mut self, slot: Slot)
         ensures { self.new ≡ p_select_cmd slot self.old }
     {
-        self.current = slot;
-        self.first = (slot + 1) % self.capabilities.ncs();
+        self.current = slot.number();
+        self.first = (slot.number() + 1) % self.capabilities.ncs();
     }
 
     /// The command FIS of a slot is sent: with C, BSY and the slot's bit of PxCI are cleared.
-    pub fn send(&mut self, slot: u8, clears: bool)
-        requires { slot < 32 }
+    pub fn send(&mut self, slot: Slot, clears: bool)
         ensures { self.new ≡ cfis_success slot clears self.old }
     {
         if clears {
             self.status &= 0x7f;
-            self.ci = without_bit(self.ci, slot);
+            self.clear_issued(slot);
         } else {
             self.status |= 0x80;
         }
     }
 
     /// The command FIS of a slot's write is sent, and its list is too short to go on.
-    pub fn stick(&mut self, slot: u8, clears: bool)
-        requires { slot < 32 }
+    pub fn stick(&mut self, slot: Slot, clears: bool)
         ensures { self.new ≡ stuck slot clears self.old }
     {
         self.send(slot, clears);
@@ -46,8 +43,7 @@ impl Port {
     }
 
     /// RegFIS:Entry, of a D2H Register FIS for a slot.
-    pub fn receive_register(&mut self, status: u8, error: u8, i: bool, slot: u8)
-        requires { slot < 32 }
+    pub fn receive_register(&mut self, status: u8, error: u8, i: bool, slot: Slot)
         ensures { self.new ≡ reg_fis_entry status error i slot self.old }
     {
         self.status = status;
@@ -85,19 +81,23 @@ impl Port {
     }
 
     /// PIO:Update, once its data have moved.
-    pub fn end_pio(&mut self, e_status: u8, i: bool, slot: u8)
-        requires { slot < 32 }
+    pub fn end_pio(&mut self, e_status: u8, i: bool, slot: Slot)
         ensures { self.new ≡ pio_update e_status i slot self.old }
     {
         self.status = e_status;
+        self.raise(PSS, i);
         if has_error(e_status) {
             self.fail_taskfile();
-            return;
-        }
-        self.raise(PSS, i);
-        if !is_busy(e_status) {
+        } else if !is_busy(e_status) {
             self.clear_issued(slot);
         }
+    }
+
+    /// The list has no room for the data that the device sends.
+    pub fn overflow(&mut self)
+        ensures { self.new ≡ dr_overflow self.old }
+    {
+        self.raise(OFS, true);
     }
 
     /// The commands of a Set Device Bits FIS are done: PxSACT loses their slots.
@@ -125,12 +125,11 @@ impl Port {
         self.is = raised(self.is, place, is_raised);
     }
 
-    /// RegFIS:ClearCI and PIO:ClearCI: PxCI loses a slot.
-    fn clear_issued(&mut self, slot: u8)
-        requires { slot < 32 }
+    /// CFIS:ClearCI, RegFIS:ClearCI and PIO:ClearCI: PxCI loses a slot.
+    fn clear_issued(&mut self, slot: Slot)
         ensures { self.new ≡ record self.old { ci = without_place self.old.ci slot } }
     {
-        self.ci = without_bit(self.ci, slot);
+        self.ci = without_bit(self.ci, slot.number());
     }
 
     /// The FIS of the device's signature: it is taken, or posted if it was taken before.
@@ -168,8 +167,7 @@ impl Port {
     }
 
     /// The control FIS of a slot clears SRST, if it is set.
-    pub fn clear_srst(&mut self, slot: u8)
-        requires { slot < 32 }
+    pub fn clear_srst(&mut self, slot: Slot)
         ensures { self.new ≡ after_srst_cleared self.old slot self.old.soft }
     {
         match self.soft {
@@ -214,11 +212,10 @@ fn failed(is: u32, fatal: Fatal) -> u32
 
 /// PxCI after the signature: that of a software reset ends the command of its second control FIS.
 fn ended_by_signature(soft: SoftReset, ci: u32) -> u32
-    requires { IsOfSlot soft }
     ensures { bits result ≡ ended_by_signature soft (bits ci) }
 {
     match soft {
-        SoftReset::Ending(slot) => without_bit(ci, slot),
+        SoftReset::Ending(slot) => without_bit(ci, slot.number()),
         SoftReset::Off | SoftReset::Held => ci,
     }
 }

@@ -21,5 +21,4 @@ invariant_of-self c =
       ccs = h.ccs;
       speed = h.speed;
       first = h.first;
-      soft = h.soft;
     }

@@ -23,5 +23,4 @@ invariant_of-self c =
       ccs = h.ccs;
       speed = h.speed;
       first = h.first;
-      soft = h.soft;
     }

@@ -22,5 +22,4 @@ invariant_of-result c = record {
   ccs = omega arith;
   speed = omega (arith, c.iss.ensures.value);
   first = omega (arith, c.keeps_its_rules.ensures.0);
-  soft = tt;
 }
