@@ -118,6 +118,15 @@ after_bytes (Entries t c table room) bytes = after_entries t c (with_entries tab
 after_bytes (Content t c g) bytes = after_content t c (record { runs = later_runs g.runs; bytes = g.bytes ++ bytes })
 after_bytes other bytes = other
 
+-- memory is allocated with these bytes: with the command FIS of a command that moves data
+abbrev pub moves_data : Option H2dFields → Bool
+moves_data (Some f) = not (moved_by (task_of f) == 0)
+moves_data None = false
+
+abbrev pub allocates : ReadingView → List ℕ → Bool
+allocates (Command h) bytes = moves_data (command_fis bytes)
+allocates other bytes = false
+
 -- what every stage of the reading keeps: there is room for all that a write's data need
 abbrev pub HasRoom : ReadingView → Type 0
 HasRoom (Entries t c table room) = room ≡ read_by t

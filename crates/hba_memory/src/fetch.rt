@@ -1,9 +1,9 @@
 //! How a command is read from the driver's memory.
 
-ghost use Rattle.std.specs.Prelude.{◌≡◌, ◌≤◌, ◌*◌, ◌++◌, [], IfErr, IfOk, OnErr, length};
+ghost use Rattle.std.specs.Prelude.{◌≡◌, ◌≢◌, ◌≤◌, ◌*◌, ◌++◌, [], true, IfErr, IfOk, OnErr, length};
 ghost use Rattle.hba_command.specs.CommandFis.{command_fis};
 ghost use Rattle.hba_command.specs.CommandHeader.{header_at};
-ghost use Rattle.hba_memory.specs.Reading.{HasRoom, after_bytes, after_command, after_content, after_entries, after_header, after_list, after_task, is_over, is_sendable, is_short, is_write, moved_by, next_run, read_by, reading_of, with_entries};
+ghost use Rattle.hba_memory.specs.Reading.{HasRoom, after_bytes, allocates, after_command, after_content, after_entries, after_header, after_list, after_task, is_over, is_sendable, is_short, is_write, moved_by, moves_data, next_run, read_by, reading_of, with_entries};
 ghost use Rattle.hba_memory.specs.Runs.{first_run, later_runs};
 ghost use Rattle.hba_memory.specs.Table.{next_entries};
 
@@ -109,6 +109,7 @@ fn after_task<A: Allocator + Copy>(
 ) -> Result<Reading<A>, AllocError>
     ensures next { IfOk result (λ r. reading_of r ≡ after_task header.now task) }
     ensures room { IfOk result (λ r. HasRoom (reading_of r)) }
+    ensures lacking { OnErr result (moved_by task ≢ 0) }
 {
     if moved_by(&task) == 0 {
         return Ok(Reading::Whole(task, header.clears_busy, Vec::new(alloc), Vec::new(alloc)));
@@ -129,6 +130,7 @@ fn after_command<A: Allocator + Copy>(
 ) -> Result<Reading<A>, AllocError>
     ensures next { IfOk result (λ r. reading_of r ≡ after_command header.now (command_fis bytes.now)) }
     ensures room { IfOk result (λ r. HasRoom (reading_of r)) }
+    ensures lacking { OnErr result (moves_data (command_fis bytes.now) ≡ true) }
 {
     match command_fis(bytes) {
         Some(h2d) => after_task(alloc, header, task_of(&h2d)),
@@ -188,6 +190,7 @@ fn after_bytes<A: Allocator + Copy>(
     ensures ok { IfOk result (λ r. reading_of r ≡ after_bytes (reading_of reading) bytes.now) }
     ensures room { IfOk result (λ r. HasRoom (reading_of r)) }
     ensures err { IfErr result (λ e. e.0 ≡ reading) }
+    ensures lacking { OnErr result (allocates (reading_of reading) bytes.now ≡ true) }
 {
     match reading {
         Reading::Header(_) => {
@@ -275,11 +278,12 @@ impl<A: Allocator + Copy> Fetch<A> {
     /// Takes the bytes that come next.
     ///
     /// # Errors
-    /// An allocation failed, which can happen with a command FIS alone; nothing has changed, and the same bytes may be supplied again.
+    /// An allocation failed, with the command FIS of a command that moves data; nothing has changed, and the same bytes may be supplied again.
     pub fn supply(&mut self, alloc: A, bytes: &[u8]) -> Result<(), AllocError>
         requires { length bytes.now ≡ (next_run self.old).length }
         ensures ok { OnOk result (self.new ≡ after_bytes self.old bytes.now) }
         ensures err { OnErr result (self.new ≡ self.old) }
+        ensures lacking { OnErr result (allocates self.old bytes.now ≡ true) }
     {
         let reading = mem::replace(&mut self.reading, Reading::Malformed);
         match after_bytes(alloc, reading, bytes) {
