@@ -2,7 +2,11 @@
 use Rattle.std.specs.Prelude.{ℕ, ◌*◌, Bool, true, false}
 use Rattle.hba_command.specs.declared.action.Action.{Action}
 use Rattle.hba_command.specs.declared.action.Action.TheVariants.{Queue, Sectors, Page, Flush, Reply, Control, Abort}
+use Rattle.hba_command.specs.declared.log.Log.{Log}
+use Rattle.hba_command.specs.declared.log.Log.TheVariants as log
+use Rattle.hba_command.specs.declared.page.Page.{Page as Pages}
 use Rattle.hba_command.specs.declared.page.Page.TheVariants as page
+use Rattle.hba_command.specs.declared.power.Power.TheVariants as power
 use Rattle.hba_command.specs.declared.protocol.Protocol.TheVariants.{Pio}
 use Rattle.hba_command.specs.declared.reply.Reply.TheVariants as reply
 use Rattle.hba_command.specs.declared.task.Task.{Task}
@@ -18,17 +22,30 @@ action_of task.Identify = Page page.Identify Pio  -- IDENTIFY DEVICE
 action_of (task.ReadLog log p) = Page (page.Log log) p  -- READ LOG EXT, READ LOG DMA EXT
 action_of task.NativeMax = Reply reply.NativeMax  -- READ NATIVE MAX ADDRESS, with EXT or without
 action_of task.PowerMode = Reply reply.PowerMode  -- CHECK POWER MODE
+action_of task.Idle = Reply (reply.Entered power.Idle)  -- IDLE, IDLE IMMEDIATE
+action_of task.Standby = Reply (reply.Entered power.Standby)  -- STANDBY, STANDBY IMMEDIATE
+action_of task.Sleep = Reply (reply.Entered power.Sleep)  -- SLEEP
 action_of task.Diagnose = Reply reply.Diagnosed  -- EXECUTE DEVICE DIAGNOSTIC
-action_of task.Nothing = Reply reply.Done  -- SET FEATURES 03h, IDLE and STANDBY, with IMMEDIATE or without
+action_of task.Nothing = Reply reply.Done  -- SET FEATURES 03h
 action_of (task.Control reset) = Control reset  -- the device control register
 action_of task.Packet = Reply reply.Packet  -- IDENTIFY PACKET DEVICE
 action_of task.Unknown = Abort  -- every other command
+
+-- how many pages of 512 bytes a page stands for
+abbrev pub pages_in_log : Log → ℕ
+pages_in_log log.Directory = 1
+pages_in_log log.QueuedError = 1
+pages_in_log (log.IdentifyData pages) = pages.count
+
+abbrev pub pages_of : Pages → ℕ
+pages_of page.Identify = 1
+pages_of (page.Log l) = pages_in_log l
 
 -- how many bytes of data move
 abbrev pub moved_by : Action → ℕ
 moved_by (Queue q) = 512 * q.sectors
 moved_by (Sectors write span p) = 512 * span.sectors
-moved_by (Page page p) = 512
+moved_by (Page page p) = 512 * pages_of page
 moved_by Flush = 0
 moved_by (Reply r) = 0
 moved_by (Control reset) = 0

@@ -1,7 +1,10 @@
 pub mod CommandHeader
 pub mod PrdEntry
 pub mod Span
+pub mod IdentifyPages
 pub mod CommandFis
 pub mod Task
 pub mod Action
+pub mod Power
 pub mod Pages
+pub mod IdentifyLog

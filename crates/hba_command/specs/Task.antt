@@ -4,11 +4,11 @@ use Rattle.sata_fis.specs.Command.{queued_in}
 use Rattle.sata_fis.specs.Fields.{H2dFields, QueuedFields}
 use Rattle.sata_fis.specs.Places.{bit}
 use Rattle.hba_command.specs.Span.{SpanFields}
-use Rattle.hba_command.specs.declared.log.Log.TheVariants.{Directory, QueuedError}
+use Rattle.hba_command.specs.declared.log.Log.TheVariants.{Directory, IdentifyData, QueuedError}
 use Rattle.hba_command.specs.declared.protocol.Protocol.{Protocol}
 use Rattle.hba_command.specs.declared.protocol.Protocol.TheVariants.{Pio, Dma}
 use Rattle.hba_command.specs.declared.task.Task.{Task}
-use Rattle.hba_command.specs.declared.task.Task.TheVariants.{Queue, Read, Write, Verify, Flush, Identify, ReadLog, NativeMax, PowerMode, Diagnose, Nothing, Control, Packet, Unknown}
+use Rattle.hba_command.specs.declared.task.Task.TheVariants.{Queue, Read, Write, Verify, Flush, Identify, ReadLog, NativeMax, PowerMode, Idle, Standby, Sleep, Diagnose, Nothing, Control, Packet, Unknown}
 
 -- a count of 0 means the most that the field can name and one
 abbrev pub counted : ℕ → ℕ → ℕ
@@ -22,21 +22,28 @@ short_span f = record { lba = f.lba % 2 ^ 24 + 2 ^ 24 * (f.device % 16); sectors
 abbrev pub long_span : H2dFields → SpanFields
 long_span f = record { lba = f.lba; sectors = counted 65536 f.count }
 
--- the log is LBA 7:0, and the page LBA 15:8 and 39:32
+-- the log is LBA 7:0, and the first page LBA 15:8 and 39:32
 abbrev pub log_of : H2dFields → ℕ
 log_of f = f.lba % 256
 
--- the count is one page, the first one
-abbrev pub is_first_page : H2dFields → Bool
-is_first_page f = f.count == 1 && f.lba / 2 ^ 8 % 256 == 0 && f.lba / 2 ^ 32 % 256 == 0
+abbrev pub first_page : H2dFields → ℕ
+first_page f = f.lba / 2 ^ 8 % 256 + 256 * (f.lba / 2 ^ 32 % 256)
 
--- log 00h is the directory, log 10h the NCQ Command Error log; there is no other
+-- log 00h is the directory, log 10h the NCQ Command Error log, log 30h the IDENTIFY DEVICE data log; there is no other
+abbrev pub pages_in : ℕ → ℕ
+pages_in log = if log == 0x00 || log == 0x10 then 1 else (if log == 0x30 then 3 else 0)
+
+-- the count is of pages that the log has, at least one
+abbrev pub is_in_log : H2dFields → Bool
+is_in_log f = not (f.count == 0) && nat_le (first_page f + f.count) (pages_in (log_of f))
+
 abbrev pub log_task : H2dFields → Protocol → Task
 log_task f p =
-    if not (is_first_page f) then Unknown
+    if not (is_in_log f) then Unknown
     else (if log_of f == 0x00 then ReadLog Directory p
     else (if log_of f == 0x10 then ReadLog QueuedError p
-    else Unknown))
+    else (if log_of f == 0x30 then ReadLog (IdentifyData (record { first = first_page f; count = f.count })) p
+    else Unknown)))
 
 -- a transfer mode that the disk has, by the count of SET FEATURES (ACS-3, "Set transfer mode"): the default PIO mode, PIO modes 0 to 4,
 -- multiword DMA modes 0 to 2, Ultra DMA modes 0 to 5
@@ -61,12 +68,14 @@ task_by code f =
     else (if code == 0xA1 then Packet  -- IDENTIFY PACKET DEVICE
     else (if code == 0xC8 then Read (short_span f) Dma  -- READ DMA
     else (if code == 0xCA then Write (short_span f) Dma  -- WRITE DMA
-    else (if nat_le 0xE0 code && nat_le code 0xE3 then Nothing  -- STANDBY and IDLE, with IMMEDIATE or without
+    else (if code == 0xE0 || code == 0xE2 then Standby  -- STANDBY IMMEDIATE, STANDBY
+    else (if code == 0xE1 || code == 0xE3 then Idle  -- IDLE IMMEDIATE, IDLE
     else (if code == 0xE5 then PowerMode  -- CHECK POWER MODE
+    else (if code == 0xE6 then Sleep  -- SLEEP
     else (if code == 0xE7 || code == 0xEA then Flush  -- FLUSH CACHE, FLUSH CACHE EXT
     else (if code == 0xEC then Identify  -- IDENTIFY DEVICE
     else (if code == 0xEF && f.features % 256 == 0x03 && is_mode (f.count % 256) then Nothing  -- SET FEATURES, set transfer mode
-    else Unknown)))))))))))))))))))
+    else Unknown)))))))))))))))))))))
 
 -- a queued command, else one that is not
 abbrev pub command_task : H2dFields → Option QueuedFields → Task

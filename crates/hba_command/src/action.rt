@@ -2,7 +2,8 @@ ghost use Rattle.std.specs.Prelude.{◌≡◌};
 ghost use Rattle.hba_command.specs.Action.{action_of, is_write, moved_by};
 ghost use Rattle.hba_command.specs.declared.action.Action.TheVariants.{Sectors};
 
-use crate::page::Page;
+use crate::page::{Page, pages_of};
+use crate::power::Power;
 use crate::protocol::Protocol;
 use crate::reply::Reply;
 use crate::span::Span;
@@ -59,6 +60,9 @@ pub fn action_of(task: &Task) -> Action
         Task::ReadLog(log, protocol) => Action::Page(Page::Log(*log), *protocol),
         Task::NativeMax => Action::Reply(Reply::NativeMax),
         Task::PowerMode => Action::Reply(Reply::PowerMode),
+        Task::Idle => Action::Reply(Reply::Entered(Power::Idle)),
+        Task::Standby => Action::Reply(Reply::Entered(Power::Standby)),
+        Task::Sleep => Action::Reply(Reply::Entered(Power::Sleep)),
         Task::Diagnose => Action::Reply(Reply::Diagnosed),
         Task::Nothing => Action::Reply(Reply::Done),
         Task::Control { reset } => Action::Control { reset: *reset },
@@ -74,7 +78,7 @@ pub fn moved_by(action: &Action) -> u32
     match action {
         Action::Queue(queued) => 512 * queued.sectors,
         Action::Sectors { span, .. } => 512 * span.sectors,
-        Action::Page(_, _) => 512,
+        Action::Page(page, _) => 512 * pages_of(page),
         Action::Flush | Action::Reply(_) | Action::Control { .. } | Action::Abort => 0,
     }
 }

@@ -1,10 +1,35 @@
+ghost use Rattle.std.specs.Prelude.{◌≡◌, ◌≤◌};
+ghost use Rattle.hba_command.specs.Action.{pages_in_log, pages_of};
+
 use crate::log::Log;
 
-/// A page of 512 bytes that the disk answers with (ACS-3, by the commands' titles).
+/// Pages of 512 bytes that the disk answers with (ACS-3, by the commands' titles).
 #[derive(Clone, Copy, Debug, PartialEq, Eq)]
 pub enum Page {
     /// IDENTIFY DEVICE.
     Identify,
-    /// READ LOG EXT and READ LOG DMA EXT, of one page that there is.
+    /// READ LOG EXT and READ LOG DMA EXT, of pages that there are.
     Log(Log),
+}
+
+/// How many pages are read of a log.
+pub fn pages_in_log(log: &Log) -> u32
+    ensures value { result ≡ pages_in_log log.now }
+    ensures most { result ≤ 3 }
+{
+    match log {
+        Log::Directory | Log::QueuedError => 1,
+        Log::IdentifyData(pages) => pages.count,
+    }
+}
+
+/// How many pages of 512 bytes they are.
+pub fn pages_of(page: &Page) -> u32
+    ensures value { result ≡ pages_of page.now }
+    ensures most { result ≤ 3 }
+{
+    match page {
+        Page::Identify => 1,
+        Page::Log(log) => pages_in_log(log),
+    }
 }

@@ -6,7 +6,7 @@ ghost use Rattle.hba_command.specs.Pages.{controller_page, directory_page, not_q
 use ncq_core::identify_page;
 
 /// Puts a word into a page, its low byte first.
-fn put_word(page: &mut [u8; 512], number: usize, word: u16)
+pub(crate) fn put_word(page: &mut [u8; 512], number: usize, word: u16)
     requires { number < 256 }
     ensures { page.new ≡ with_word number word page.old }
 {
@@ -30,7 +30,9 @@ fn put_features(page: &mut [u8; 512])
     put_word(page, 82, 0x0008); // supported: the Power Management feature set
     put_word(page, 83, 0x7400); // FLUSH CACHE EXT, FLUSH CACHE and 48-bit addresses
     put_word(page, 85, 0x0008); // enabled: the same
-    put_word(page, 86, 0x3400);
+    put_word(page, 86, 0xB400); // and words 119 and 120 are valid
+    put_word(page, 119, 0x4008); // supported: READ LOG DMA EXT
+    put_word(page, 120, 0x4008); // enabled: the same
 }
 
 /// What IDENTIFY DEVICE reads through the controller: the page of the port's disk, of so many sectors and 1 to 32 tags, with the
@@ -50,13 +52,14 @@ pub fn controller_page(sectors: u32, depth: u32) -> [u8; 512]
     page
 }
 
-/// What READ LOG EXT reads of log 00h: version 1, and log 10h has one page (ACS-3, "General Purpose Log directory").
+/// What READ LOG EXT reads of log 00h: version 1, and log 10h has one page, log 30h three (ACS-3, "General Purpose Log directory").
 pub fn directory_page() -> [u8; 512]
     ensures { result ≡ directory_page }
 {
     let mut page = [0; 512];
     put_word(&mut page, 0x00, 0x0001);
     put_word(&mut page, 0x10, 0x0001);
+    put_word(&mut page, 0x30, 0x0003);
     page
 }
 

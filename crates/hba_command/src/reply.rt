@@ -1,3 +1,4 @@
+use crate::power::Power;
 use crate::span::Span;
 
 /// What a D2H Register FIS alone answers, of a command that moves nothing (ACS-3, by the commands' titles).
@@ -9,8 +10,10 @@ pub enum Reply {
     Verified(Span),
     /// The LBA of the last sector.
     NativeMax,
-    /// The count FFh, "active or idle".
+    /// The count that tells the power mode.
     PowerMode,
+    /// The command is done, and the device is in this power mode.
+    Entered(Power),
     /// The signature of a disk: the device has passed its diagnostic.
     Diagnosed,
     /// The command is aborted with the signature of a disk.

@@ -22,11 +22,17 @@ pub enum Task {
     ReadLog(Log, Protocol),
     /// READ NATIVE MAX ADDRESS, with EXT or without: the LBA of the last sector is answered.
     NativeMax,
-    /// CHECK POWER MODE: the count FFh is answered, "active or idle".
+    /// CHECK POWER MODE: the count tells the power mode.
     PowerMode,
+    /// IDLE, with IMMEDIATE or without.
+    Idle,
+    /// STANDBY, with IMMEDIATE or without.
+    Standby,
+    /// SLEEP.
+    Sleep,
     /// EXECUTE DEVICE DIAGNOSTIC: the signature of a disk is answered.
     Diagnose,
-    /// A command with nothing to do: SET FEATURES 03h, IDLE and STANDBY, with IMMEDIATE or without.
+    /// A command with nothing to do: SET FEATURES 03h.
     Nothing,
     /// The device control register, with SRST, in a FIS whose C bit is 0.
     Control { reset: bool },

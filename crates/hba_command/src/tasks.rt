@@ -1,8 +1,9 @@
 //! The commands by their codes (ACS-3).
 
 ghost use Rattle.std.specs.Prelude.{◌≡◌, ◌%◌, ◌<◌, ◌^◌};
-ghost use Rattle.hba_command.specs.Task.{is_mode, log_task, short_span, long_span, task_by, task_of};
+ghost use Rattle.hba_command.specs.Task.{first_page, is_mode, log_task, long_span, pages_in, short_span, task_by, task_of};
 
+use crate::identify_pages::IdentifyPages;
 use crate::log::Log;
 use crate::protocol::Protocol;
 use crate::span::Span;
@@ -33,16 +34,38 @@ fn long_span(h2d: &H2d) -> Span
     }
 }
 
-/// READ LOG EXT and READ LOG DMA EXT: the log stands in LBA 7:0, the page in LBA 15:8 and 39:32. Both logs have the page 0 alone.
+/// How many pages a log has; 0 of one that there is not.
+fn pages_in(log: u64) -> u32
+    ensures { result ≡ pages_in log }
+{
+    match log {
+        0x00 | 0x10 => 1,
+        0x30 => 3,
+        _ => 0,
+    }
+}
+
+/// The first page that READ LOG EXT and READ LOG DMA EXT ask for: LBA 15:8 and 39:32.
+fn first_page(h2d: &H2d) -> u32
+    ensures { result ≡ first_page h2d.now }
+{
+    (h2d.lba / 256 % 256 + 256 * ((h2d.lba >> 32) % 256)) as u32
+}
+
+/// READ LOG EXT and READ LOG DMA EXT: the log stands in LBA 7:0, and it has each page that is asked for, at least one.
 fn log_task(h2d: &H2d, protocol: Protocol) -> Task
     ensures { result ≡ log_task h2d.now protocol }
 {
-    if h2d.count != 1 || h2d.lba / 256 % 256 != 0 || (h2d.lba >> 32) % 256 != 0 {
+    let log = h2d.lba % 256;
+    let first = first_page(h2d);
+    let count = u32::from(h2d.count);
+    if count == 0 || first + count > pages_in(log) {
         return Task::Unknown;
     }
-    match h2d.lba % 256 {
+    match log {
         0x00 => Task::ReadLog(Log::Directory, protocol),
         0x10 => Task::ReadLog(Log::QueuedError, protocol),
+        0x30 => Task::ReadLog(Log::IdentifyData(IdentifyPages { first, count }), protocol),
         _ => Task::Unknown,
     }
 }
@@ -75,8 +98,10 @@ fn task_by(code: u8, h2d: &H2d) -> Task
         0xA1 => Task::Packet, // IDENTIFY PACKET DEVICE
         0xC8 => Task::Read(short_span(h2d), Protocol::Dma), // READ DMA
         0xCA => Task::Write(short_span(h2d), Protocol::Dma), // WRITE DMA
-        0xE0..=0xE3 => Task::Nothing, // STANDBY IMMEDIATE, IDLE IMMEDIATE, STANDBY, IDLE
+        0xE0 | 0xE2 => Task::Standby, // STANDBY IMMEDIATE, STANDBY
+        0xE1 | 0xE3 => Task::Idle, // IDLE IMMEDIATE, IDLE
         0xE5 => Task::PowerMode, // CHECK POWER MODE
+        0xE6 => Task::Sleep, // SLEEP
         0xE7 | 0xEA => Task::Flush, // FLUSH CACHE, FLUSH CACHE EXT
         0xEC => Task::Identify, // IDENTIFY DEVICE
         0xEF if h2d.features % 256 == 0x03 && is_mode(h2d.count) => Task::Nothing, // SET FEATURES, set transfer mode
