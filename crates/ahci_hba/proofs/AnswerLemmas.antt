@@ -15,6 +15,7 @@ use Rattle.ahci_hba.specs.Stepping.{may_fail, may_fail_at, may_serve}
 use Rattle.ncq_journal.specs.Request.{request}
 use Rattle.ahci_port.specs.Faults.{is_of_request}
 use Rattle.ahci_hba.specs.Moving.{answering}
+use Rattle.ahci_hba.specs.Powering.{awake}
 use Rattle.ahci_hba.specs.Queueing.{IsAccepted, after_acceptance, command_at, has_alone, list_in, only_after}
 use Rattle.ahci_hba.specs.declared.ending.Ending.{Ending}
 
@@ -24,21 +25,21 @@ pub answered_alone : (h new : HbaView) (p : PostingView) (l m : List Put) (e f :
 answered_alone h new p l m e f made posted listed same =
     made ∙ ap (λ x. answering h x e) (posted ∙ ap (λ x. only_after x) listed) ∙ ap (λ x. answering h (only_after m) x) same
 
-pub accepts : (slot : ℕ) (alone : Bool) (h new : HbaView) (port : PortView) (answer : Stepped) → alone ≡ has_alone (command_at h slot) → IsStepped (Accept slot) h.port port answer
-    → new ≡ after_acceptance slot alone (record h { port = port }) port answer → IsAccepted slot (has_alone (command_at h slot)) h new
-accepts slot alone h new port answer e stepped made = record {
+pub accepts : (slot tag : ℕ) (alone : Bool) (h mid new : HbaView) (port : PortView) (answer : Stepped) → tag ≡ slot → alone ≡ has_alone (command_at h slot) → IsStepped (Accept tag) h.port port answer
+    → mid ≡ after_acceptance slot alone (record h { port = port }) port answer → new ≡ awake mid → IsAccepted slot (has_alone (command_at h slot)) h new
+accepts slot tag alone h mid new port answer same e stepped made woken = record {
   port = port;
   answer = answer;
-  stepped = stepped;
-  answered = made ∙ ap (λ b. after_acceptance slot b h port answer) e;
+  stepped = subst (λ n. IsStepped (Accept n) h.port port answer) same stepped;
+  answered = woken ∙ ap (λ m. awake m) (made ∙ ap (λ b. after_acceptance slot b h port answer) e);
 }
 
 -- the port's step for a request that fails
-pub fails_request : (slot error at : ℕ) (h was : HbaView) (s : DeviceStep) (port : PortView) (answer : Stepped) → h ≡ was → s ≡ Fail slot error at → IsStepped s h.port port answer
+pub fails_request : (slot tag error at : ℕ) (h was : HbaView) (s : DeviceStep) (port : PortView) (answer : Stepped) → tag ≡ slot → h ≡ was → s ≡ Fail tag error at → IsStepped s h.port port answer
     → FailsRequest slot error at was (record h { port = port })
-fails_request slot error at h was s port answer same is stepped =
+fails_request slot tag error at h was s port answer numbered same is stepped =
     subst (λ v. FailsRequest slot error at v (record h { port = port })) same
-    (record { answer = answer; stepped = subst (λ x. IsStepped x h.port port answer) is stepped; rest = refl })
+    (record { answer = answer; stepped = subst (λ x. IsStepped x h.port port answer) (is ∙ ap (λ n. Fail n error at) numbered) stepped; rest = refl })
 
 -- the port's step for a queued command that fails, and its answer
 pub fails : (slot error lba at : ℕ) (q : QueuedFields) (h middle new : HbaView) (list : List PrdEntry) (bytes : List ℕ) (n : ℕ)

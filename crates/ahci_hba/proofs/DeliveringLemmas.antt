@@ -21,8 +21,9 @@ use Rattle.ahci_hba.specs.Failing.{concluded, vacated}
 use Rattle.ahci_hba.specs.Queueing.{command_at, list_in, only_after}
 use Rattle.ahci_hba.specs.HbaView.{HbaView, WorkView, Idle, Pio as InPio, Served}
 use Rattle.ahci_hba.specs.Transfer.{TransferView}
-use Rattle.ahci_hba.specs.Moving.{answering}
+use Rattle.ahci_hba.specs.Moving.{answering, ending_of}
 use Rattle.ahci_hba.specs.declared.ending.Ending.{Ending}
+use Rattle.ahci_hba.specs.declared.last_fis.LastFis.{LastFis}
 
 pub delivers : (h new : HbaView) (slot : ℕ) (t : Task) (w : WindowState) (list : List PrdEntry) (bytes : List ℕ) (a : Action) (was : WorkView)
     → was ≡ Served slot t w list → bytes ≡ delivered was → a ≡ action_of t → new ≡ answer_with (record h { work = Idle }) slot list bytes a → new ≡ served_answer h was
@@ -57,14 +58,14 @@ steps_on h new t was is made = made ∙ idle h t ∙ sym (ap (λ x. stepped_on h
     idle h t = refl
 
 -- a command ends with a D2H Register FIS
-pub concludes : (h taken new : HbaView) (slot : ℕ) (fis : D2hFields) (l : List Put) (p : PostingView) (bytes : List ℕ) (e : Ending) → taken ≡ vacated h slot
-    → new ≡ answering taken p e → p ≡ only_after l → l ≡ received_put taken.registers 0x40 bytes → bytes ≡ d2h_bytes fis → e ≡ fis_ending slot fis
+pub concludes : (h taken new : HbaView) (slot : ℕ) (fis : D2hFields) (l : List Put) (p : PostingView) (bytes : List ℕ) (last : LastFis) (e : Ending) → taken ≡ vacated h slot
+    → new ≡ answering taken p e → p ≡ only_after l → l ≡ received_put taken.registers 0x40 bytes → bytes ≡ d2h_bytes fis → last ≡ fis_ending slot fis → e ≡ ending_of true last
     → new ≡ concluded h slot fis
-concludes h taken new slot fis l p bytes e was made posted put spelt ended =
+concludes h taken new slot fis l p bytes last e was made posted put spelt said ended =
     made
     ∙ ap (λ x. answering taken x e) (posted ∙ ap (λ x. only_after x) (put ∙ ap (λ b. received_put taken.registers 0x40 b) spelt))
     ∙ ap {A = HbaView} {B = HbaView} (λ v. answering v (only_after (received_put v.registers 0x40 (d2h_bytes fis))) e) was
-    ∙ ap (λ x. answering (vacated h slot) (only_after (received_put h.registers 0x40 (d2h_bytes fis))) x) ended
+    ∙ ap (λ x. answering (vacated h slot) (only_after (received_put h.registers 0x40 (d2h_bytes fis))) x) (ended ∙ ap (λ f. ending_of true f) said)
 
 -- IDENTIFY DEVICE: the port's part and the page
 pub identifies : (slot : ℕ) (h new : HbaView) (port : PortView) (page : List ℕ) → IsIdentified h.port port → page ≡ controller_page (sectors_in h.port) h.depth

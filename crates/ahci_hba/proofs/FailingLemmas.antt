@@ -14,7 +14,7 @@ use Rattle.hba_command.specs.declared.protocol.Protocol.{Protocol}
 use Rattle.ahci_hba.specs.Failing.{moved_before, read_failed, refused, sectors_of, vacated}
 use Rattle.ahci_hba.specs.HbaView.{HbaView}
 
-flat_map_one_more : (f : ℕ → List ℕ) (a n : ℕ) → flat_map f (range_with_len a (n + 1)) ≡ flat_map f (range_with_len a n) ++ f (a + n)
+pub flat_map_one_more : (f : ℕ → List ℕ) (a n : ℕ) → flat_map f (range_with_len a (n + 1)) ≡ flat_map f (range_with_len a n) ++ f (a + n)
 flat_map_one_more f a n =
     sym (flat_map-map f (λ x. x) (range_with_len a (n + 1)))
     ∙ ap (λ l. flat_map f l) (map-range_with_len_more (λ x. x) a n (a + n) refl)

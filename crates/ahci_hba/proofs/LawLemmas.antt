@@ -1,4 +1,4 @@
--- Which slot's command is fetched next, and that a halted port takes no step.
+-- Which slot's command is fetched next, that a device in Sleep answers none, and that a halted port takes no step.
 use Rattle.std.proofs.Common.{◌≡◌, ℕ, zero, suc, ◌<◌, ◌≤◌, Bool, true, false, not, nat_lt, ◌&&◌, Option, Some, None, if◌then◌else◌, refl, ap, inl, inr, arith}
 use Rattle.std.specs.List.{list_any, range_with_len}
 use Rattle.std.proofs.lemmas.Bool.{and_parts, cases_Bool, ltb-true}
@@ -7,11 +7,14 @@ use Rattle.std.proofs.lemmas.List.FromFn.{get_or-range_with_len}
 use Rattle.hba_regs.specs.HbaState.{HbaPort}
 use Rattle.hba_regs.specs.Linking.{is_up}
 use Rattle.hba_regs.specs.PortStates.{p_idle_selects}
-use Rattle.ahci_hba.specs.HbaView.{HbaView}
-use Rattle.ahci_hba.specs.Stepping.{may_control, may_execute, may_recover, next_step, queue_step}
+use Rattle.hba_command.specs.Power.{is_awake}
+use Rattle.hba_command.specs.declared.power.Power.{Power}
+use Rattle.hba_command.specs.declared.power.Power.TheVariants.{Sleep}
+use Rattle.ahci_hba.specs.HbaView.{HbaView, WorkView, Idle}
+use Rattle.ahci_hba.specs.Stepping.{answers, delivers_for, may_control, may_deliver, may_execute, may_recover, next_step, queue_step}
 use Rattle.ahci_hba.specs.declared.step.Step.{Step}
 use Rattle.ahci_hba.specs.declared.step.Step.TheVariants as step
-use Rattle.ahci_hba.specs.Queueing.{distance_of, has_alone, is_before, is_listening, is_overtaken, is_running, may_fetch, waits}
+use Rattle.ahci_hba.specs.Queueing.{distance_of, has_alone, is_before, is_idle, is_listening, is_off, is_overtaken, is_ready, is_running, may_fetch, waits}
 
 -- a slot that overtakes another one
 closer : (h : HbaView) (slot : ℕ) → is_overtaken h slot ≡ true
@@ -63,3 +66,45 @@ halted_stops p e = by p.st p.halted (is_up p.link) e
 
 pub halted_takes_none : (h : HbaView) (slot : ℕ) → h.registers.port.halted ≡ true → next_step h slot ≡ None
 halted_takes_none h slot e = rw (halted_stops h.registers.port e) refl
+
+-- in Sleep the device isn't ready, and each step with a command wants that it is, but for an answer that was begun
+asleep_waits : (h : HbaView) → h.power ≡ Sleep → is_ready h ≡ false
+asleep_waits h e = by (is_listening h) h.registers.port.fre (is_off h.registers.port.soft) h.power e
+  where
+    by : (listening fre off : Bool) (p : Power) → p ≡ Sleep → (listening && fre && off && is_awake p) ≡ false
+    by true true true Sleep e = refl
+    by true true false Sleep e = refl
+    by true false off Sleep e = refl
+    by false fre off Sleep e = refl
+    by listening fre off p e = cc
+
+begins_none : (w : WorkView) (slot : ℕ) → is_idle w ≡ true → delivers_for w slot ≡ false
+begins_none Idle slot e = refl
+begins_none w slot e = cc
+
+delivers_none : (h : HbaView) (slot : ℕ) → is_idle h.work ≡ true → may_deliver h slot ≡ false
+delivers_none h slot idle = by (is_running h.registers.port) h.registers.port.fre (delivers_for h.work slot) (begins_none h.work slot idle)
+  where
+    by : (running fre delivers : Bool) → delivers ≡ false → (running && (fre && delivers)) ≡ false
+    by true true d e = e
+    by true false d e = refl
+    by false fre d e = refl
+
+-- the steps behind a fetch and a control FIS, in their order
+abbrev last_steps : HbaView → ℕ → Option Step
+last_steps h slot =
+    if may_execute h slot then Some step.Execute
+    else if may_recover h slot then Some step.Recover
+    else queue_step h slot
+
+sleeps : (h : HbaView) (slot : ℕ) → h.power ≡ Sleep → is_idle h.work ≡ true → last_steps h slot ≡ None
+sleeps h slot asleep idle = rw (asleep_waits h asleep, delivers_none h slot idle) refl
+
+pub asleep_answers_none : (h : HbaView) (slot : ℕ) → h.power ≡ Sleep → is_idle h.work ≡ true → answers (next_step h slot) ≡ false
+asleep_answers_none h slot asleep idle = by (may_fetch h slot) (may_control h slot) (last_steps h slot) (sleeps h slot asleep idle)
+  where
+    by : (fetch control : Bool) (rest : Option Step) → rest ≡ None
+        → answers (if fetch then Some step.Fetch else if control then Some step.Control else rest) ≡ false
+    by true control rest e = refl
+    by false true rest e = refl
+    by false false rest e = ap (λ s. answers s) e

@@ -4,8 +4,11 @@ pub mod DroppingLemmas
 pub mod ExecutingLemmas
 pub mod FailingLemmas
 pub mod LawLemmas
+pub mod LogLemmas
 pub mod NewLemmas
 pub mod RecoveringLemmas
 pub mod SendingLemmas
 pub mod ServeLemmas
 pub mod SteppingLemmas
+pub mod TransitionLemmas
+pub mod StepTransitionLemmas

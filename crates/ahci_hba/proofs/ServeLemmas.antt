@@ -56,20 +56,20 @@ served_is_collected old middle slot number owner first past =
     ∙ completed_is_collected old.first old.past slot number owner
 
 -- what the port did makes up what the controller did
-pub serves : (slot number entry : ℕ) (outcome : Outcome) (h taken new : HbaView) (middle port : PortView) (s : DeviceStep) (answer : Stepped) (window : WindowState) (t : Task) (list : List PrdEntry)
-    → s ≡ Serve (record { items = slot ∷ [] }) → IsStepped s h.port middle answer → IsCollected slot middle port → Some number ≡ owner_of h.port slot
+pub serves : (slot tag number entry : ℕ) (outcome : Outcome) (h taken new : HbaView) (middle port : PortView) (s : DeviceStep) (answer : Stepped) (window : WindowState) (t : Task) (list : List PrdEntry)
+    → tag ≡ slot → s ≡ Serve (record { items = tag ∷ [] }) → IsStepped s h.port middle answer → IsCollected tag middle port → Some number ≡ owner_of h.port tag
     → answer_to middle number ≡ Some (record { entry = entry; outcome = outcome; bytes = bytes_in outcome window })
     → taken ≡ record h { port = port; slots = slice_set h.slots slot None } → t ≡ task_in (command_at h slot) → list ≡ list_in (command_at h slot) → new ≡ record taken { work = Served slot t window list }
     → IsServed slot (task_in (command_at h slot)) (list_in (command_at h slot)) h new
-serves slot number entry outcome h taken new middle port s answer window t list e stepped collected owner answered was asked listed made = record {
+serves slot tag number entry outcome h taken new middle port s answer window t list same e stepped collected owner answered was asked listed made = record {
   middle = middle;
   port = port;
   answer = answer;
-  stepped = subst (λ x. IsStepped x h.port middle answer) e stepped;
-  collected = collected;
+  stepped = subst (λ x. IsStepped x h.port middle answer) (e ∙ ap (λ n. Serve (record { items = n ∷ [] })) same) stepped;
+  collected = subst (λ n. IsCollected n middle port) same collected;
   window = window;
   number = number;
-  owner = sym owner;
+  owner = ap (λ n. owner_of h.port n) (sym same) ∙ sym owner;
   answered = subst (λ o. IsSomeAnd o (λ a. a.bytes ≡ bytes_in a.outcome window)) (sym answered) refl;
   served =
       made ∙ ap {A = HbaView} (λ v. record v { work = Served slot t window list }) was

@@ -19,11 +19,11 @@ use Rattle.ahci_port.specs.PortView.{PortView}
 use Rattle.ahci_table.specs.Text.{text}
 use Rattle.ahci_table.specs.Window.{WindowState}
 use Rattle.ahci_hba.specs.HbaView.{HbaView, WorkView, Idle, Served, Pio}
-use Rattle.ahci_hba.specs.Moving.{answering, blocking}
+use Rattle.ahci_hba.specs.Moving.{answering, blocking, ending_of}
 use Rattle.ahci_hba.specs.Queueing.{fis_put}
-use Rattle.ahci_hba.specs.Transfer.{TransferView, e_status_of, fits, has_interrupt, is_last, moved_so_far, moved_to, next_block}
-use Rattle.ahci_hba.specs.declared.ending.Ending.{Ending}
-use Rattle.ahci_hba.specs.declared.ending.Ending.TheVariants as ending
+use Rattle.ahci_hba.specs.Transfer.{TransferView, first_block, fits, has_interrupt, is_last, moved_so_far, moved_to, next_block, sends_block}
+use Rattle.ahci_hba.specs.declared.last_fis.LastFis.{LastFis}
+use Rattle.ahci_hba.specs.declared.last_fis.LastFis.TheVariants as last_fis
 
 -- bytes at a place of the driver's received FIS area, while FRE is 1
 abbrev pub received_put : HbaState → ℕ → List ℕ → List Put
@@ -45,8 +45,8 @@ abbrev pub done : D2hFields
 done = d2h_fis 0x40 0 0 0
 
 -- a D2H Register FIS that ends a slot's command
-abbrev pub fis_ending : ℕ → D2hFields → Ending
-fis_ending slot fis = ending.Register fis.status fis.error true slot
+abbrev pub fis_ending : ℕ → D2hFields → LastFis
+fis_ending slot fis = last_fis.Register fis.status fis.error true slot
 
 -- PIO Setup FISes: status 48h is DRDY with DRQ; a block of 512 bytes comes, or is asked for
 abbrev pub setup_fis : (d i : Bool) → ℕ → PioSetupFields
@@ -55,38 +55,28 @@ setup_fis d i e_status = record { i = i; d = d; status = 0x48; error = 0; lba = 
 abbrev pub setup_put : HbaState → (d i : Bool) → ℕ → List Put
 setup_put s d i e_status = received_put s 0x20 (pio_setup_bytes (setup_fis d i e_status))
 
--- the last FIS of an answer, in place of which OFS comes if the list has no room for the data (section 6.1.5)
-abbrev pub last_put : Bool → List Put → List Put
-last_put whole fis = if whole then fis else []
-
-abbrev pub last_ending : Bool → Ending → Ending
-last_ending whole e = if whole then e else ending.Overflow
-
 -- a queued read: a DMA Setup FIS, the data, and a Set Device Bits FIS
-abbrev pub queued_posting : HbaState → PortView → List Put → Bool → PostingView
-queued_posting s port content whole =
-    record { before = fis_put s port 0x00 28; content = content; count = []; after = last_put whole (fis_put s port 0x58 8) }
+abbrev pub queued_posting : HbaState → PortView → List Put → PostingView
+queued_posting s port content =
+    record { before = fis_put s port 0x00 28; content = content; count = []; after = fis_put s port 0x58 8 }
 
 abbrev pub queued_answer : HbaView → ℕ → List PrdEntry → List ℕ → ℕ → HbaView
 queued_answer h slot list bytes n =
-    answering h (queued_posting h.registers h.port (placed list bytes) (fits n list)) (last_ending (fits n list) (ending.Bits 0x40 0 (2 ^ slot)))
+    answering h (queued_posting h.registers h.port (placed list bytes)) (ending_of (fits n list) (last_fis.Bits 0x40 0 (2 ^ slot)))
 
 -- a read by DMA: the data, PRDBC, and a D2H Register FIS
-abbrev pub read_posting : HbaState → ℕ → List Put → ℕ → Bool → D2hFields → PostingView
-read_posting s slot content moved whole fis =
-    record { before = []; content = content; count = count_put s slot moved; after = last_put whole (received_put s 0x40 (d2h_bytes fis)) }
+abbrev pub read_posting : HbaState → ℕ → List Put → ℕ → D2hFields → PostingView
+read_posting s slot content moved fis =
+    record { before = []; content = content; count = count_put s slot moved; after = received_put s 0x40 (d2h_bytes fis) }
 
 abbrev pub read_answer : HbaView → ℕ → List PrdEntry → List ℕ → ℕ → D2hFields → HbaView
 read_answer h slot list bytes n fis =
-    answering h (read_posting h.registers slot (placed list bytes) (moved_to n list) (fits n list) fis)
-    (last_ending (fits n list) (fis_ending slot fis))
+    answering h (read_posting h.registers slot (placed list bytes) (moved_to n list) fis)
+    (ending_of (fits n list) (fis_ending slot fis))
 
 -- the end of a command whose data have moved: PRDBC, and a D2H Register FIS
 abbrev pub closing : HbaView → ℕ → ℕ → D2hFields → HbaView
-closing h slot n fis = answering h (read_posting h.registers slot [] n true fis) (fis_ending slot fis)
-
-abbrev pub page_ending : Bool → ℕ → Ending
-page_ending whole slot = if whole then ending.Pio slot else ending.PioOverflow
+closing h slot n fis = answering h (read_posting h.registers slot [] n fis) (ending_of true (fis_ending slot fis))
 
 -- a page by PIO: a PIO Setup FIS, the page, and PRDBC
 abbrev pub page_posting : HbaState → ℕ → List Put → ℕ → PostingView
@@ -94,12 +84,12 @@ page_posting s slot content moved = record { before = setup_put s true true 0x40
 
 abbrev pub page_answer : HbaView → ℕ → List PrdEntry → List ℕ → HbaView
 page_answer h slot list page =
-    answering h (page_posting h.registers slot (placed list page) (moved_to 512 list)) (page_ending (fits 512 list) slot)
+    answering h (page_posting h.registers slot (placed list page) (moved_to 512 list)) (ending_of (fits 512 list) (last_fis.Pio slot))
 
 -- a transfer by PIO begins, of so many blocks
 abbrev pub beginning : HbaView → ℕ → Bool → ℕ → BlocksView → Option D2hFields → HbaView
 beginning h slot write n rest finish =
-    record h { work = Pio (record { slot = slot; write = write; done = 0; left = n; rest = rest; finish = finish }) }
+    record h { work = Pio (first_block slot write n rest finish) }
 
 -- the bytes that go to the driver: those of a read, none of a write
 abbrev pub bytes_for : Task → WindowState → List ℕ
@@ -146,14 +136,13 @@ block_posting s t e_status =
 
 abbrev pub block_in : HbaView → TransferView → HbaView
 block_in h t =
-    if not (fits 512 (block_list t.rest)) then answering h (block_posting h.registers t (e_status_of t)) ending.PioOverflow
-    else if is_last t then answering h (block_posting h.registers t 0x40) (ending.Pio t.slot)
+    if is_last t then answering h (block_posting h.registers t 0x40) (ending_of (fits 512 (block_list t.rest)) (last_fis.Pio t.slot))
     else blocking h (block_posting h.registers t 0xC0) (next_block t)
 
 -- all blocks have moved
 abbrev pub finishing : HbaView → TransferView → Option D2hFields → HbaView
 finishing h t None = record h { work = Idle }
-finishing h t (Some fis) = closing h t.slot (512 * t.done) fis
+finishing h t (Some fis) = closing h t.slot t.moved fis
 
 -- the next step of a transfer
 abbrev pub going_on : HbaView → TransferView → HbaView
@@ -162,10 +151,19 @@ going_on h t =
     else if t.write then block_out h (next_block t)
     else block_in h t
 
--- the block that it moves next
+-- the block that it moves to the driver next
+abbrev pub block_content : TransferView → List Put
+block_content t = if sends_block t then block_puts t.rest else []
+
 abbrev pub content_of : WorkView → List Put
-content_of (Pio t) = block_puts t.rest
+content_of (Pio t) = block_content t
 content_of other = []
+
+-- data of a read go to the driver next, for which memory is allocated
+abbrev pub sends_data : WorkView → Bool
+sends_data (Served slot t w list) = not (is_write t)
+sends_data (Pio t) = sends_block t
+sends_data other = false
 
 -- the answer to the command that the port has done; of a transfer by PIO the next block, while FRE is 1
 abbrev pub served_answer : HbaView → WorkView → HbaView

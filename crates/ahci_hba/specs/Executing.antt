@@ -1,26 +1,30 @@
 -- What the device does with a command that is not queued (ACS-3, by the commands' titles).
-use Rattle.std.specs.Prelude.{◌≡◌, ℕ, ◌-◌, Bool, true, false, not, ◌&&◌, ◌||◌, max, List, Option, Some, if◌then◌else◌}
+use Rattle.std.specs.Prelude.{◌≡◌, ℕ, ◌-◌, ◌*◌, Bool, true, false, not, ◌&&◌, ◌||◌, max, List, Option, None, Some, if◌then◌else◌}
 use Rattle.std.specs.List.{list_any}
 use Rattle.ncq_journal.specs.Halted.{halted}
 use Rattle.sata_fis.specs.Fields.{D2hFields}
 use Rattle.hba_command.specs.Action.{action_of}
+use Rattle.hba_command.specs.IdentifyLog.{identify_log_pages}
+use Rattle.hba_command.specs.IdentifyPages.{IdentifyPagesFields}
 use Rattle.hba_command.specs.Pages.{controller_page, directory_page, not_queued_page}
+use Rattle.hba_command.specs.Power.{power_count}
 use Rattle.hba_command.specs.Span.{SpanFields}
 use Rattle.hba_command.specs.declared.action.Action.{Action}
 use Rattle.hba_command.specs.declared.action.Action.TheVariants.{Queue, Sectors, Page, Flush, Reply as Replies, Control, Abort}
 use Rattle.hba_command.specs.declared.entry.PrdEntry.{PrdEntry}
 use Rattle.hba_command.specs.declared.log.Log.{Log}
-use Rattle.hba_command.specs.declared.log.Log.TheVariants.{Directory, QueuedError}
+use Rattle.hba_command.specs.declared.log.Log.TheVariants.{Directory, IdentifyData, QueuedError}
 use Rattle.hba_command.specs.declared.page.Page.TheVariants as page
 use Rattle.hba_command.specs.declared.protocol.Protocol.{Protocol}
 use Rattle.hba_command.specs.declared.protocol.Protocol.TheVariants.{Pio, Dma}
 use Rattle.hba_command.specs.declared.reply.Reply.{Reply}
 use Rattle.hba_command.specs.declared.reply.Reply.TheVariants as reply
 use Rattle.ahci_port.specs.PortView.{PortView, sectors_in}
-use Rattle.ahci_port.specs.Steps.{IsFlushed, IsIdentified}
-use Rattle.ahci_hba.specs.Delivering.{d2h_fis, done, page_answer, read_answer}
-use Rattle.ahci_hba.specs.Failing.{concluded, sectors_failed, vacated}
+use Rattle.ahci_port.specs.Steps.{IsFlushed, IsIdentified, LacksRoom}
+use Rattle.ahci_hba.specs.Delivering.{beginning, d2h_fis, done, page_answer, read_answer}
+use Rattle.ahci_hba.specs.Failing.{concluded, moves_some, sectors_failed, vacated}
 use Rattle.ahci_hba.specs.HbaView.{CommandView, Fetched, HbaView}
+use Rattle.ahci_hba.specs.Powering.{awake, turned}
 use Rattle.ahci_hba.specs.Queueing.{command_at, has_queued, is_alone, is_on, list_in, task_in}
 
 -- a command is aborted; the signature of a disk stands in LBA and count (Serial ATA, "Signature")
@@ -39,13 +43,18 @@ abbrev pub verified : PortView → SpanFields → D2hFields
 verified port span = if is_on port span then done else d2h_fis 0x41 0x10 (first_missing port span) 0
 
 -- the answer to a command that moves nothing
-abbrev pub reply_fis : PortView → Reply → D2hFields
-reply_fis port reply.Done = done
-reply_fis port (reply.Verified span) = verified port span
-reply_fis port reply.NativeMax = d2h_fis 0x40 0 (sectors_in port - 1) 0
-reply_fis port reply.PowerMode = d2h_fis 0x40 0 0 0xFF
-reply_fis port reply.Diagnosed = signed 0x40 0x01
-reply_fis port reply.Packet = signed 0x41 0x04
+abbrev pub reply_fis : HbaView → Reply → D2hFields
+reply_fis h reply.Done = done
+reply_fis h (reply.Entered mode) = done
+reply_fis h (reply.Verified span) = verified h.port span
+reply_fis h reply.NativeMax = d2h_fis 0x40 0 (sectors_in h.port - 1) 0
+reply_fis h reply.PowerMode = d2h_fis 0x40 0 0 (power_count h.power)
+reply_fis h reply.Diagnosed = signed 0x40 0x01
+reply_fis h reply.Packet = signed 0x41 0x04
+
+-- and the power mode behind it
+abbrev pub replied : HbaView → ℕ → Reply → HbaView
+replied h slot r = turned r (concluded h slot (reply_fis h r))
 
 -- a page of 512 bytes goes to the driver, by PIO or DMA
 abbrev pub page_by : HbaView → ℕ → Protocol → List PrdEntry → List ℕ → HbaView
@@ -75,26 +84,39 @@ pub record Identifies (slot : ℕ) (list : List PrdEntry) (old new : HbaView) : 
   pub identified : IsIdentified old.port port
   pub answered : new ≡ paged (record old { port = port }) slot Pio list (controller_page (sectors_in old.port) old.depth)
 
--- FLUSH CACHE: the port flushes
+-- FLUSH CACHE: the port flushes, and the device is Active
 pub record Flushes (slot : ℕ) (old new : HbaView) : Type 0 where
   pub port : PortView
   pub flushed : IsFlushed old.port port
-  pub answered : new ≡ concluded (record old { port = port }) slot done
+  pub answered : new ≡ awake (concluded (record old { port = port }) slot done)
 
--- the page of a log, with no queued command failed
-abbrev pub log_page : Log → List ℕ
-log_page Directory = directory_page
-log_page QueuedError = not_queued_page
+-- so many pages go to the driver, by PIO a block each
+abbrev pub pages_by : HbaView → ℕ → Protocol → List PrdEntry → List ℕ → ℕ → HbaView
+pages_by h slot Pio list bytes n = beginning h slot false n (record { list = list; bytes = bytes }) None
+pages_by h slot Dma list bytes n = read_answer h slot list bytes (512 * n) done
+
+abbrev pub pages_given : HbaView → ℕ → Protocol → List PrdEntry → List ℕ → ℕ → HbaView
+pages_given h slot p list bytes n = pages_by (vacated h slot) slot p list bytes n
+
+-- some pages of log 30h
+abbrev pub identify_log_in : HbaView → IdentifyPagesFields → List ℕ
+identify_log_in h pages = identify_log_pages (sectors_in h.port) h.depth pages.first pages.count
+
+-- a log, with no queued command failed
+abbrev pub log_given : HbaView → ℕ → Protocol → List PrdEntry → Log → HbaView
+log_given h slot p list Directory = paged h slot p list directory_page
+log_given h slot p list QueuedError = paged h slot p list not_queued_page
+log_given h slot p list (IdentifyData pages) = pages_given h slot p list (identify_log_in h pages) pages.count
 
 -- what the device does with a command that it doesn't abort and the port doesn't take. Sectors are not all on the disk then: those of a read
--- that are there move. A queued command has a tag that the device hasn't
+-- that are there move, and the device is Active. A queued command has a tag that the device hasn't
 abbrev pub Performs : ℕ → Action → List PrdEntry → HbaView → HbaView → Type 0
 Performs slot (Queue q) list old new = new ≡ concluded old slot aborted
-Performs slot (Sectors write span p) list old new = new ≡ sectors_failed old slot list write span p 0x10 (first_missing old.port span)
+Performs slot (Sectors write span p) list old new = new ≡ awake (sectors_failed old slot list write span p 0x10 (first_missing old.port span))
 Performs slot (Page page.Identify p) list old new = Identifies slot list old new
-Performs slot (Page (page.Log log) p) list old new = new ≡ paged old slot p list (log_page log)
+Performs slot (Page (page.Log log) p) list old new = new ≡ log_given old slot p list log
 Performs slot Flush list old new = Flushes slot old new
-Performs slot (Replies r) list old new = new ≡ concluded old slot (reply_fis old.port r)
+Performs slot (Replies r) list old new = new ≡ replied old slot r
 Performs slot (Control reset) list old new = ⊥
 Performs slot Abort list old new = new ≡ concluded old slot aborted
 
@@ -105,6 +127,20 @@ Executes false slot a list old new = Performs slot a list old new
 -- what the device does with the command of a slot
 abbrev pub ExecutesAt : ℕ → Action → List PrdEntry → HbaView → HbaView → Type 0
 ExecutesAt slot a list old new = Executes (is_aborted old a) slot a list old new
+
+-- an allocation can be refused: for a page, for the journal that a flush stands in, and for the sectors of a read that are there
+abbrev pub MayLack : HbaView → Action → Type 0
+MayLack h (Page page p) = Unit {0}
+MayLack h Flush = LacksRoom h.port
+MayLack h (Sectors write span p) = moves_some h.port write span (first_missing h.port span) ≡ true
+MayLack h other = ⊥
+
+abbrev pub LacksUnless : (aborts : Bool) → HbaView → Action → Type 0
+LacksUnless true h a = ⊥
+LacksUnless false h a = MayLack h a
+
+abbrev pub MayLackAt : ℕ → HbaView → Type 0
+MayLackAt slot h = LacksUnless (is_aborted h (action_of (task_in (command_at h slot)))) h (action_of (task_in (command_at h slot)))
 
 abbrev pub IsExecuted : ℕ → HbaView → HbaView → Type 0
 IsExecuted slot old new = ExecutesAt slot (action_of (task_in (command_at old slot))) (list_in (command_at old slot)) old new

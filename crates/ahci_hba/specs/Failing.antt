@@ -1,6 +1,6 @@
 -- How the device fails a command that moves sectors (ACS-3, "LBA of first unrecoverable error"): a read has moved the sectors before the LBA
 -- that it names, and a write has changed none and names its first one.
-use Rattle.std.specs.Prelude.{◌≡◌, ℕ, ◌+◌, ◌-◌, ◌*◌, Bool, false, ◌&&◌, ◌||◌, min, nat_eq, nat_le, nat_lt, List, [], Option, Some, None, slice_set, if◌then◌else◌}
+use Rattle.std.specs.Prelude.{◌≡◌, ℕ, ◌+◌, ◌-◌, ◌*◌, Bool, true, false, not, ◌&&◌, ◌||◌, min, nat_eq, nat_le, nat_lt, List, [], Option, Some, None, slice_set, if◌then◌else◌}
 use Rattle.ncq_core.specs.DiskFis.{setup_bytes}
 use Rattle.ncq_journal.specs.Answer.{sectors_at}
 use Rattle.sata_fis.specs.Encoding.{d2h_bytes}
@@ -19,12 +19,13 @@ use Rattle.ahci_port.specs.PortView.{PortView, sectors_in}
 use Rattle.ahci_port.specs.Steps.{IsStepped}
 use Rattle.ahci_port.specs.declared.step.DeviceStep.TheVariants as step
 use Rattle.ahci_port.specs.declared.step.Stepped.{Stepped}
-use Rattle.ahci_hba.specs.Delivering.{beginning, d2h_fis, fis_ending, last_ending, last_put, read_answer, received_put}
+use Rattle.ahci_hba.specs.Delivering.{beginning, d2h_fis, fis_ending, read_answer, received_put}
 use Rattle.ahci_hba.specs.HbaView.{HbaView}
-use Rattle.ahci_hba.specs.Moving.{answering}
+use Rattle.ahci_hba.specs.Moving.{answering, ending_of}
+use Rattle.ahci_hba.specs.Powering.{woken_for}
 use Rattle.ahci_hba.specs.Queueing.{command_at, fis_put, list_in, only_after, task_in}
 use Rattle.ahci_hba.specs.Transfer.{fits}
-use Rattle.ahci_hba.specs.declared.ending.Ending.TheVariants as ending
+use Rattle.ahci_hba.specs.declared.last_fis.LastFis.TheVariants.{Bits}
 
 -- a slot's command ends with a D2H Register FIS, and the slot is empty
 abbrev pub vacated : HbaView → ℕ → HbaView
@@ -32,7 +33,7 @@ vacated h slot = record h { slots = slice_set h.slots slot None }
 
 abbrev pub concluded : HbaView → ℕ → D2hFields → HbaView
 concluded h slot fis =
-    answering (vacated h slot) (only_after (received_put h.registers 0x40 (d2h_bytes fis))) (fis_ending slot fis)
+    answering (vacated h slot) (only_after (received_put h.registers 0x40 (d2h_bytes fis))) (ending_of true (fis_ending slot fis))
 
 -- an error at an LBA
 abbrev pub refused : ℕ → ℕ → D2hFields
@@ -50,6 +51,14 @@ sectors_of port first sectors = sectors_at port.starting port.past first sectors
 abbrev pub moved_before : HbaView → ℕ → Protocol → List PrdEntry → List ℕ → ℕ → D2hFields → HbaView
 moved_before h slot Dma list bytes n fis = read_answer h slot list bytes (512 * n) fis
 moved_before h slot Pio list bytes n fis = beginning h slot false n (record { list = list; bytes = bytes }) (Some fis)
+
+-- a command that fails at an LBA is a read that has moved sectors before it
+abbrev pub moves_some : PortView → Bool → SpanFields → ℕ → Bool
+moves_some port write span lba = not write && nat_lt 0 (sectors_before port span.lba span.sectors lba)
+
+abbrev pub moves_before : PortView → Action → ℕ → Bool
+moves_before port (Sectors write span p) lba = moves_some port write span lba
+moves_before port other lba = false
 
 -- a read that is not queued fails: with no sector before the LBA, the FIS comes alone
 abbrev pub read_failed : HbaView → ℕ → Protocol → List PrdEntry → (first n error lba : ℕ) → HbaView
@@ -72,8 +81,10 @@ refused_with h slot list (Reply r) error lba = concluded h slot (refused error l
 refused_with h slot list (Control reset) error lba = concluded h slot (refused error lba)
 refused_with h slot list Abort error lba = concluded h slot (refused error lba)
 
+-- that of a slot, of which one that needs the medium makes the device Active
 abbrev pub refused_at : HbaView → ℕ → (error lba : ℕ) → HbaView
-refused_at h slot error lba = refused_with h slot (list_in (command_at h slot)) (action_of (task_in (command_at h slot))) error lba
+refused_at h slot error lba =
+    woken_for (action_of (task_in (command_at h slot))) (refused_with h slot (list_in (command_at h slot)) (action_of (task_in (command_at h slot))) error lba)
 
 -- a queued command, if an LBA is one of its sectors
 abbrev pub owns : QueuedFields → ℕ → Bool
@@ -108,13 +119,13 @@ failed_posting s port slot q list bytes n =
       before = received_put s 0x00 (setup_bytes (record q { tag = slot }));
       content = placed list bytes;
       count = [];
-      after = last_put (fits (512 * n) list) (fis_put s port 0x58 8);
+      after = fis_put s port 0x58 8;
     }
 
 abbrev pub queue_failed : HbaView → PortView → (slot : ℕ) → QueuedFields → List PrdEntry → List ℕ → ℕ → ℕ → HbaView
 queue_failed h port slot q list bytes n error =
     answering (record h { port = port }) (failed_posting h.registers port slot q list bytes n)
-    (last_ending (nat_eq n 0 || fits (512 * n) list) (ending.Bits 0x41 error 0))
+    (ending_of (nat_eq n 0 || fits (512 * n) list) (Bits 0x41 error 0))
 
 -- the port fails the request of a slot at a sector
 pub record FailsRequest (slot error at : ℕ) (old new : HbaView) : Type 0 where

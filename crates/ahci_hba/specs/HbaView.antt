@@ -1,6 +1,7 @@
 -- What callers see of a controller.
 use Rattle.std.specs.Prelude.{ℕ, List, Option}
 use Rattle.hba_command.specs.declared.entry.PrdEntry.{PrdEntry}
+use Rattle.hba_command.specs.declared.power.Power.{Power}
 use Rattle.hba_command.specs.declared.task.Task.{Task}
 use Rattle.hba_memory.specs.Posting.{PostingView}
 use Rattle.hba_memory.specs.Reading.{ReadingView}
@@ -47,6 +48,8 @@ pub record HbaView : Type 0 where
   pub port : PortView
   -- how many queued commands IDENTIFY DEVICE tells a driver to have outstanding
   pub depth : ℕ
+  -- the disk's power mode
+  pub power : Power
   -- by slot, the commands that were read and are not done
   pub slots : List (Option CommandView)
   -- what is read or written just now

@@ -1,5 +1,6 @@
 pub mod Transfer
 pub mod HbaView
+pub mod Powering
 pub mod States
 pub mod Moving
 pub mod Queueing
@@ -11,3 +12,4 @@ pub mod Resetting
 pub mod Recovering
 pub mod Trimming
 pub mod Stepping
+pub mod Transitions

@@ -1,17 +1,18 @@
 -- What a controller reads and writes in the driver's memory, and what follows (AHCI 1.3.1, section 5.3).
-use Rattle.std.specs.Prelude.{ℕ, ◌%◌, ◌^◌, Bool, true, List, [], Some, slice_set, if◌then◌else◌}
+use Rattle.std.specs.Prelude.{ℕ, ◌%◌, ◌^◌, Bool, true, false, not, List, [], Some, slice_set, if◌then◌else◌}
 use Rattle.hba_memory.specs.Posting.{PostingView, advanced, is_none, remaining}
-use Rattle.hba_memory.specs.Reading.{ReadingView, Whole, Malformed, Short, after_bytes, next_run, no_run}
+use Rattle.hba_memory.specs.Reading.{ReadingView, Whole, Malformed, Short, after_bytes, allocates, next_run, no_run}
 use Rattle.hba_memory.specs.Runs.{Put, Run, first_put}
 use Rattle.hba_regs.specs.HbaState.{HbaState}
-use Rattle.hba_regs.specs.PortStates.{cfis_success, err_fatal, pio_entry, pio_update, reg_fis_entry, sdb_entry, stuck}
+use Rattle.hba_regs.specs.PortStates.{cfis_success, dr_overflow, err_fatal, pio_entry, pio_update, reg_fis_entry, sdb_entry, stuck}
 use Rattle.hba_regs.specs.Receiving.{moved, signature_moves, signed}
 use Rattle.hba_regs.specs.declared.fatal.Fatal.{Fatal}
 use Rattle.hba_regs.specs.declared.fatal.Fatal.TheVariants as fatal
 use Rattle.ahci_hba.specs.HbaView.{CommandView, Fetched, HbaView, WorkView, Idle, Fetching, Pio, Block, Posting}
 use Rattle.ahci_hba.specs.Transfer.{TransferView, has_interrupt}
 use Rattle.ahci_hba.specs.declared.ending.Ending.{Ending}
-use Rattle.ahci_hba.specs.declared.ending.Ending.TheVariants as ending
+use Rattle.ahci_hba.specs.declared.last_fis.LastFis.{LastFis}
+use Rattle.ahci_hba.specs.declared.last_fis.LastFis.TheVariants as last_fis
 use Rattle.ahci_hba.specs.declared.want.Want.{Want}
 use Rattle.ahci_hba.specs.declared.want.Want.TheVariants as want
 
@@ -77,32 +78,45 @@ abbrev pub supplied : HbaView → WorkView → List ℕ → HbaView
 supplied h (Fetching slot r) bytes = read_so_far h slot (after_bytes r bytes)
 supplied h other bytes = h
 
--- what the last FIS of an answer does to the registers; where a read's list is too short, OFS takes its place, and the port halts (sections
--- 3.3.5, OFS, and 6.1.5)
+-- how an answer ends whose data had room in their list, or not
+abbrev pub ending_of : (whole : Bool) → LastFis → Ending
+ending_of whole fis = record { overflow = not whole; fis = fis }
+
+-- memory is allocated with these bytes
+abbrev pub allocates_with : WorkView → List ℕ → Bool
+allocates_with (Fetching slot r) bytes = allocates r bytes
+allocates_with other bytes = false
+
+-- what data without room in their list do to the registers
+abbrev pub overflowed : HbaState → Bool → HbaState
+overflowed s overflow = if overflow then moved s (dr_overflow s.port) else s
+
+-- what the last FIS of an answer does to them
 abbrev pub after_data_in : HbaState → ℕ → HbaState
 after_data_in s slot = moved s (pio_update 0x40 true slot s.port)
 
-abbrev pub overflowed : HbaState → HbaState
-overflowed s = moved s (err_fatal fatal.Overflow s.port)
+unfoldable pub ended_by : HbaState → LastFis → HbaState
+ended_by s (last_fis.Register status error i slot) = moved s (reg_fis_entry status error i slot s.port)
+ended_by s (last_fis.Bits status error sactive) = moved s (sdb_entry status error true sactive s.port)
+ended_by s (last_fis.Pio slot) = after_data_in (moved s (pio_entry 0x48 0 s.port)) slot
+ended_by s last_fis.Signature = if signature_moves s.port s.port.signature then moved s (signed s.port s.port.signature) else s
 
-unfoldable pub ended_by : HbaState → Ending → HbaState
-ended_by s (ending.Register status error i slot) = moved s (reg_fis_entry status error i slot s.port)
-ended_by s (ending.Bits status error sactive) = moved s (sdb_entry status error true sactive s.port)
-ended_by s (ending.Pio slot) = after_data_in (moved s (pio_entry 0x48 0 s.port)) slot
-ended_by s ending.Overflow = overflowed s
-ended_by s ending.PioOverflow = overflowed (moved s (pio_entry 0x48 0 s.port))
-ended_by s ending.Signature = if signature_moves s.port s.port.signature then moved s (signed s.port s.port.signature) else s
+abbrev pub ended : HbaState → Ending → HbaState
+ended s e = ended_by (overflowed s e.overflow) e.fis
 
 -- an answer, of which so much is still to be written: with the last byte it takes effect
 abbrev pub answering : HbaView → PostingView → Ending → HbaView
-answering h p e = if is_none (remaining p) then record h { registers = ended_by h.registers e; work = Idle } else record h { work = Posting p e }
+answering h p e = if is_none (remaining p) then record h { registers = ended h.registers e; work = Idle } else record h { work = Posting p e }
 
 -- a block has moved, and the device is busy with the next one: BSY and DRDY are set, and DRQ is 0
+abbrev pub setup_taken : HbaState → HbaState
+setup_taken s = moved s (pio_entry 0x48 0 s.port)
+
 abbrev pub after_block_of : HbaState → TransferView → HbaState
 after_block_of s t = moved s (pio_update 0xC0 (has_interrupt t) t.slot s.port)
 
 unfoldable pub block_ended : HbaState → TransferView → HbaState
-block_ended s t = after_block_of (moved s (pio_entry 0x48 0 s.port)) t
+block_ended s t = after_block_of (setup_taken (overflowed s t.short)) t
 
 -- a block of a transfer, of which so much is still to be written: with the last byte it has moved
 abbrev pub blocking : HbaView → PostingView → TransferView → HbaView

@@ -4,6 +4,7 @@ use Rattle.std.specs.List.{list_any, range_with_len}
 use Rattle.sata_fis.specs.Fields.{QueuedFields}
 use Rattle.word_bits.specs.Places.{has_place}
 use Rattle.hba_command.specs.Action.{action_of}
+use Rattle.hba_command.specs.Power.{is_awake}
 use Rattle.hba_command.specs.declared.action.Action.{Action}
 use Rattle.hba_command.specs.declared.action.Action.TheVariants.{Queue, Sectors, Page, Flush, Reply, Control, Abort}
 use Rattle.hba_command.specs.declared.entry.PrdEntry.{PrdEntry}
@@ -29,9 +30,10 @@ use Rattle.ahci_port.specs.declared.step.DeviceStep.TheVariants as step
 use Rattle.ahci_port.specs.declared.step.Stepped.{Stepped}
 use Rattle.ahci_port.specs.declared.step.Stepped.TheVariants as stepped
 use Rattle.ahci_hba.specs.HbaView.{CommandView, Fetched, Sent, HbaView, WorkView, Idle, Fetching, Served}
-use Rattle.ahci_hba.specs.Moving.{answering}
-use Rattle.ahci_hba.specs.declared.ending.Ending.{Ending}
-use Rattle.ahci_hba.specs.declared.ending.Ending.TheVariants as ending
+use Rattle.ahci_hba.specs.Moving.{answering, ending_of}
+use Rattle.ahci_hba.specs.Powering.{awake}
+use Rattle.ahci_hba.specs.declared.last_fis.LastFis.{LastFis}
+use Rattle.ahci_hba.specs.declared.last_fis.LastFis.TheVariants as last_fis
 
 -- the command of a slot
 abbrev pub command_at : HbaView → ℕ → Option CommandView
@@ -123,9 +125,10 @@ abbrev pub is_off : SoftReset → Bool
 is_off Off = true
 is_off other = false
 
--- the device may move: its FISes are accepted, since FRE is 1 (section 3.3.7, FRE), and it isn't held in a software reset
+-- the device may move: its FISes are accepted, since FRE is 1 (section 3.3.7, FRE), it isn't held in a software reset, and it isn't in Sleep
+-- (ACS-3, "SLEEP")
 abbrev pub is_ready : HbaView → Bool
-is_ready h = is_listening h && h.registers.port.fre && is_off h.registers.port.soft
+is_ready h = is_listening h && h.registers.port.fre && is_off h.registers.port.soft && is_awake h.power
 
 abbrev pub is_empty : Option CommandView → Bool
 is_empty None = true
@@ -214,9 +217,9 @@ Sends slot (Some (Fetched t list bytes)) old new = IsSent slot t list bytes old 
 Sends slot other old new = ⊥
 
 -- what the answer to an acceptance says to the registers: the command is taken, or it passes the last sector
-abbrev pub accepting : ℕ → Stepped → Ending
-accepting slot (stepped.Accepted n) = ending.Register 0x40 0x00 false slot
-accepting slot other = ending.Register 0x41 0x10 true slot
+abbrev pub accepting : ℕ → Stepped → LastFis
+accepting slot (stepped.Accepted n) = last_fis.Register 0x40 0x00 false slot
+accepting slot other = last_fis.Register 0x41 0x10 true slot
 
 -- the device takes a slot's command or refuses it: a D2H Register FIS
 abbrev pub is_taken : Stepped → Bool
@@ -227,13 +230,14 @@ is_taken other = false
 abbrev pub after_acceptance : ℕ → Bool → HbaView → PortView → Stepped → HbaView
 after_acceptance slot alone h port answer =
     if alone && is_taken answer then record h { port = port }
-    else answering (record h { port = port }) (only_after (fis_put h.registers port 0x40 20)) (accepting slot answer)
+    else answering (record h { port = port }) (only_after (fis_put h.registers port 0x40 20)) (ending_of true (accepting slot answer))
 
+-- whether it is taken or refused, the device is Active then
 pub record IsAccepted (slot : ℕ) (alone : Bool) (old new : HbaView) : Type 0 where
   pub port : PortView
   pub answer : Stepped
   pub stepped : IsStepped (step.Accept slot) old.port port answer
-  pub answered : new ≡ after_acceptance slot alone old port answer
+  pub answered : new ≡ awake (after_acceptance slot alone old port answer)
 
 -- the device moves the data of a slot's command and completes it, and its answer is taken from the port: the window has the bytes of
 -- the answer by the journal

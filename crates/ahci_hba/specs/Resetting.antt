@@ -3,6 +3,7 @@ use Rattle.std.specs.Prelude.{ℕ, Bool, true, false, ◌&&◌, Option, None, So
 use Rattle.sata_fis.specs.Encoding.{d2h_bytes}
 use Rattle.sata_fis.specs.Fields.{D2hFields}
 use Rattle.hba_command.specs.Action.{action_of}
+use Rattle.hba_command.specs.Power.{after_reset}
 use Rattle.hba_command.specs.declared.action.Action.{Action}
 use Rattle.hba_command.specs.declared.action.Action.TheVariants.{Control}
 use Rattle.hba_regs.specs.Receiving.{after_srst_cleared, after_srst_set, moved, signature_moves}
@@ -13,9 +14,9 @@ use Rattle.hba_regs.specs.declared.consequence.Consequence.TheVariants.{LinkRese
 use Rattle.ahci_hba.specs.Delivering.{received_put}
 use Rattle.ahci_hba.specs.Dropping.{emptied, handed_out, is_reset, port_after}
 use Rattle.ahci_hba.specs.HbaView.{CommandView, Fetched, HbaView}
-use Rattle.ahci_hba.specs.Moving.{answering}
+use Rattle.ahci_hba.specs.Moving.{answering, ending_of}
 use Rattle.ahci_hba.specs.Queueing.{command_at, is_idle, only_after}
-use Rattle.ahci_hba.specs.declared.ending.Ending.TheVariants.{Signature}
+use Rattle.ahci_hba.specs.declared.last_fis.LastFis.TheVariants.{Signature}
 
 -- the signature of a disk: status 50h, error 01h, LBA 1, count 1, with no I
 abbrev pub signature : D2hFields
@@ -27,7 +28,7 @@ may_sign h = is_idle h.work && signature_moves h.registers.port h.registers.port
 
 -- it is taken, and posted if FRE is 1
 abbrev pub signing : HbaView → HbaView
-signing h = answering h (only_after (received_put h.registers 0x40 (d2h_bytes signature))) Signature
+signing h = answering h (only_after (received_put h.registers 0x40 (d2h_bytes signature))) (ending_of true Signature)
 
 -- what a slot's control FIS says of SRST
 abbrev pub control_of : Action → Option Bool
@@ -38,12 +39,13 @@ abbrev pub control_in : Option CommandView → Option Bool
 control_in (Some (Fetched t list bytes)) = control_of (action_of t)
 control_in other = None
 
--- SRST is set: the device is held in its reset, and all commands are dropped, as by a reset of the link
+-- SRST is set: the device is held in its reset, and all commands are dropped, as by a reset of the link. One that was in Sleep is in Standby
 abbrev pub held : HbaView → HbaView
 held h =
     emptied (record h {
       registers = moved h.registers (after_srst_set h.registers.port);
       port = port_after (is_reset LinkReset h) h.port;
+      power = after_reset h.power;
     })
 
 -- SRST is 0: a device that is held in its reset ends it, and what was sent to it meanwhile is dropped; any other one ignores the FIS

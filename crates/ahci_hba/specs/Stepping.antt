@@ -4,7 +4,7 @@ use Rattle.std.specs.List.{list_any}
 use Rattle.hba_command.specs.Action.{action_of}
 use Rattle.hba_command.specs.declared.action.Action.{Action}
 use Rattle.hba_command.specs.declared.action.Action.TheVariants as action
-use Rattle.hba_command.specs.declared.log.Log.TheVariants.{Directory, QueuedError}
+use Rattle.hba_command.specs.declared.log.Log.TheVariants.{Directory, IdentifyData, QueuedError}
 use Rattle.hba_command.specs.declared.page.Page.TheVariants.{Identify, Log}
 use Rattle.ncq_journal.specs.Halted.{halted}
 use Rattle.ncq_journal.specs.History.{History}
@@ -12,8 +12,8 @@ use Rattle.ncq_journal.specs.Phase.{phase}
 use Rattle.ncq_journal.specs.Request.{request}
 use Rattle.ncq_journal.specs.Work.{Work, Read}
 use Rattle.ahci_port.specs.Faults.{is_accepted, is_issued, is_of_request, op_refusal, plain_refusal}
-use Rattle.ahci_hba.specs.Delivering.{answered}
-use Rattle.ahci_hba.specs.Executing.{IsExecuted, is_aborted, is_alone_fetched}
+use Rattle.ahci_hba.specs.Delivering.{answered, sends_data}
+use Rattle.ahci_hba.specs.Executing.{IsExecuted, MayLackAt, is_aborted, is_alone_fetched}
 use Rattle.sata_fis.specs.Fields.{QueuedFields}
 use Rattle.ahci_hba.specs.Failing.{fails_at, own_in}
 use Rattle.ahci_hba.specs.HbaView.{CommandView, Fetched, HbaView, WorkView, Served, Pio}
@@ -70,6 +70,7 @@ is_answered h (action.Queue q) = halted h.port.past || not (has_tag h q)
 is_answered h (action.Sectors write span p) = is_aborted h (action.Sectors write span p) || not (is_on h.port span)
 is_answered h (action.Page Identify p) = is_aborted h (action.Page Identify p) || not (is_some (plain_refusal h.port))
 is_answered h (action.Page (Log Directory) p) = true
+is_answered h (action.Page (Log (IdentifyData pages)) p) = true
 is_answered h (action.Page (Log QueuedError) p) = list_any has_queued h.slots || not (halted h.port.past)
 is_answered h action.Flush = is_aborted h action.Flush || not (is_some (plain_refusal h.port))
 is_answered h (action.Reply r) = true
@@ -115,6 +116,21 @@ next_step h slot =
     else if may_recover h slot then Some step.Recover
     else queue_step h slot
 
+-- whether a step is one of the device with a command: a fetch is the controller's alone, and a control FIS is no command
+abbrev pub is_answering : Step → Bool
+is_answering step.Fetch = false
+is_answering step.Control = false
+is_answering step.Send = true
+is_answering step.Accept = true
+is_answering step.Serve = true
+is_answering step.Deliver = true
+is_answering step.Execute = true
+is_answering step.Recover = true
+
+abbrev pub answers : Option Step → Bool
+answers None = false
+answers (Some s) = is_answering s
+
 -- what a step does, and the journal that is handed out if it resets the port
 abbrev pub IsTaken : Step → ℕ → HbaView → HbaView → Option History → Type 0
 IsTaken step.Fetch slot old new journal = (new ≡ fetching old slot) × (journal ≡ None)
@@ -126,6 +142,17 @@ IsTaken step.Deliver slot old new journal = (new ≡ answered old old.work) × (
 IsTaken step.Execute slot old new journal = IsExecuted slot old new × (journal ≡ None)
 IsTaken step.Control slot old new journal = IsControlled slot old new × (journal ≡ control_journal old (control_in (command_at old slot)))
 IsTaken step.Recover slot old new journal = ReadsErrorLog slot old new journal
+
+-- an allocation can be refused in a step: never where the device only takes a command, serves it, or takes a control FIS
+abbrev pub StepMayLack : Step → ℕ → HbaView → Type 0
+StepMayLack step.Fetch slot h = ⊥
+StepMayLack step.Send slot h = Unit {0}
+StepMayLack step.Accept slot h = ⊥
+StepMayLack step.Serve slot h = ⊥
+StepMayLack step.Deliver slot h = sends_data h.work ≡ true
+StepMayLack step.Execute slot h = MayLackAt slot h
+StepMayLack step.Control slot h = ⊥
+StepMayLack step.Recover slot h = Unit {0}
 
 -- why the device does not fail a command: it can't, or an allocation failed
 abbrev pub RefusesFor : HbaFault → Bool → Type 0

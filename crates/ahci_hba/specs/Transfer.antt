@@ -1,5 +1,5 @@
 -- A transfer by PIO, block by block (Serial ATA, "PIO Setup"; ACS-3, "PIO data-in command protocol" and "PIO data-out command protocol").
-use Rattle.std.specs.Prelude.{ℕ, ◌+◌, ◌-◌, ◌*◌, Bool, not, ◌||◌, ◌&&◌, min, nat_eq, nat_le, nat_lt, List, Option, is_some, if◌then◌else◌}
+use Rattle.std.specs.Prelude.{ℕ, ◌+◌, ◌-◌, Bool, false, not, ◌||◌, ◌&&◌, min, nat_eq, nat_le, nat_lt, List, Option, is_some, if◌then◌else◌}
 use Rattle.sata_fis.specs.Fields.{D2hFields}
 use Rattle.hba_command.specs.declared.entry.PrdEntry.{PrdEntry}
 use Rattle.hba_memory.specs.Blocks.{BlocksView, after_block, block_list}
@@ -12,6 +12,9 @@ pub record TransferView : Type 0 where
   pub write : Bool
   pub done : ℕ
   pub left : ℕ
+  -- how many bytes have moved, and whether the list had no room for the whole last block
+  pub moved : ℕ
+  pub short : Bool
   pub rest : BlocksView
   pub finish : Option D2hFields
 
@@ -31,14 +34,28 @@ has_interrupt t = not t.write || nat_lt 1 t.done
 abbrev pub is_last : TransferView → Bool
 is_last t = nat_eq t.left 1 && not (is_some t.finish)
 
--- E_Status of a block to the driver: the device has ended the command, or is busy with the next block. It does not know the list
-abbrev pub e_status_of : TransferView → ℕ
-e_status_of t = if is_last t then 0x40 else 0xC0
+-- so many blocks come
+abbrev pub first_block : ℕ → Bool → ℕ → BlocksView → Option D2hFields → TransferView
+first_block slot write n rest finish =
+    record { slot = slot; write = write; done = 0; left = n; moved = 0; short = false; rest = rest; finish = finish }
 
--- how many bytes have moved to the driver with the next block
+-- a block to the driver comes next
+abbrev pub sends_block : TransferView → Bool
+sends_block t = not t.write && nat_lt 0 t.left
+
+-- how many bytes the next block moves, of a read those that the list has room for; and how many have moved then
+abbrev pub moved_next : TransferView → ℕ
+moved_next t = if t.write then 512 else moved_to 512 (block_list t.rest)
+
 abbrev pub moved_so_far : TransferView → ℕ
-moved_so_far t = 512 * t.done + moved_to 512 (block_list t.rest)
+moved_so_far t = t.moved + moved_next t
 
 -- the device goes on to the next block: of a write, whose data are there, with no byte to the driver
 abbrev pub next_block : TransferView → TransferView
-next_block t = record t { done = t.done + 1; left = t.left - 1; rest = if t.write then t.rest else after_block t.rest }
+next_block t = record t {
+  done = t.done + 1;
+  left = t.left - 1;
+  moved = moved_so_far t;
+  short = not t.write && not (fits 512 (block_list t.rest));
+  rest = if t.write then t.rest else after_block t.rest;
+}

@@ -11,13 +11,13 @@ pub enum Command<A: Allocator = Global> {
     Sent(Task, Vec<PrdEntry, A>),
 }
 
-/// A slot of the command list with its command.
+/// A command in its slot of the command list.
 #[derive(Drop)]
-pub(crate) struct Slot<A: Allocator = Global> {
+pub(crate) struct Listed<A: Allocator = Global> {
     pub(crate) command: Command<A>,
 }
 
-impl<A: Allocator> Model for Slot<A> {
+impl<A: Allocator> Model for Listed<A> {
     ghost use Rattle.ahci_hba.specs.HbaView.{CommandView, command_of};
 
     ghost Value = { CommandView };

@@ -5,7 +5,9 @@ mod delivering;
 mod executing;
 mod failing;
 mod fetching;
+mod logging;
 mod moving;
+mod powering;
 mod queueing;
 mod recovering;
 mod resetting;
@@ -22,9 +24,10 @@ ghost use Rattle.ncq_core.specs.DiskState.{new_fault};
 ghost use Rattle.ahci_port.specs.{Faults.{AnswersOr}, Headline.{Headline}, PortView.{new_port}};
 ghost use Rattle.ahci_hba.specs.States.{hba_with, new_hba};
 
-use crate::command::Slot;
+use crate::command::Listed;
 use crate::work::Work;
 use ahci_port::{DiskFault, Port};
+use hba_command::Power;
 use hba_regs::{AccessSize, Capabilities, HbaRegs};
 use std::alloc::{AllocError, Allocator, Global};
 use std::marker::Model;
@@ -39,7 +42,8 @@ pub struct Hba<A: Allocator = Global> {
     registers: HbaRegs,
     port: Port<A>,
     depth: u32,
-    slots: Vec<Option<Slot<A>>, A>,
+    power: Power,
+    slots: Vec<Option<Listed<A>>, A>,
     work: Work<A>,
 }
 
@@ -50,7 +54,7 @@ impl<A: Allocator> Model for Hba<A> {
 
     ghost Value = { HbaView };
 
-    ghost view = { λ h. record { registers = h.registers; port = h.port; depth = h.depth; slots = h.slots.items; work = work_of h.work } };
+    ghost view = { λ h. record { registers = h.registers; port = h.port; depth = h.depth; power = h.power; slots = h.slots.items; work = work_of h.work } };
 
     ghost invariant = { λ h. IsSound h.port h.depth h.slots.items (work_of h.work) };
 }
@@ -73,7 +77,7 @@ fn port_for<A: Allocator + Copy>(
 }
 
 /// As many empty slots as the command list has.
-fn empty_slots<A: Allocator>(alloc: A) -> Result<Vec<Option<Slot<A>>, A>, AllocError>
+fn empty_slots<A: Allocator>(alloc: A) -> Result<Vec<Option<Listed<A>>, A>, AllocError>
     ensures { IfOk result (λ v. v.items ≡ replicate 32 None) }
 {
     let mut slots = Vec::new(alloc);
@@ -117,6 +121,7 @@ impl<A: Allocator + Copy> Hba<A> {
             registers: HbaRegs::with_capabilities(capabilities),
             port,
             depth,
+            power: Power::Active,
             slots,
             work: Work::Idle,
         })

@@ -1,12 +1,20 @@
 //! What follows from the contracts of `Hba`. The functions change nothing: each stands for its clauses.
-ghost use Rattle.std.specs.Prelude.{◌≡◌, ◌<◌, ℕ, None, Some, true, false};
+ghost use Rattle.std.specs.Prelude.{◌≡◌, ◌<◌, ℕ, List, Option, None, Some, true, false};
 ghost use Rattle.std.specs.List.{list_any};
 ghost use Rattle.hba_regs.specs.PortStates.{p_idle_selects};
-ghost use Rattle.ahci_hba.specs.Queueing.{has_alone, is_listening, waits};
-ghost use Rattle.ahci_hba.specs.Stepping.{next_step};
+ghost use Rattle.hba_command.specs.declared.power.Power.TheVariants.{Sleep};
+ghost use Rattle.ncq_journal.specs.History.{History};
+ghost use Rattle.ahci_hba.specs.Failing.{Fails, own_in, refused_at};
+ghost use Rattle.ahci_hba.specs.Moving.{put_done, supplied, unmapped};
+ghost use Rattle.ahci_hba.specs.Queueing.{has_alone, is_idle, is_listening, waits};
+ghost use Rattle.ahci_hba.specs.Resetting.{signing};
+ghost use Rattle.ahci_hba.specs.Stepping.{IsTaken, answers, next_step};
+ghost use Rattle.ahci_hba.specs.Transitions.{Takes};
 ghost use Rattle.ahci_hba.specs.declared.step.Step.TheVariants as step;
 
 use crate::hba::Hba;
+use crate::step::Step;
+use hba_regs::Slot;
 use std::alloc::Allocator;
 
 /// No command is stranded: while the port is in P:Idle with BSY and DRQ 0, and the device isn't busy with a command that is not queued, a slot
@@ -17,8 +25,33 @@ pub fn no_command_is_stranded<A: Allocator>(hba: &Hba<A>)
         → (next : ℕ) × (next < 32) × (next_step hba.now next ≡ Some step.Fetch) }
 {}
 
+/// A device in Sleep answers no command: while nothing is written, a command is read at most, and a control FIS is taken (ACS-3, "SLEEP").
+pub fn a_device_in_sleep_answers_no_command<A: Allocator>(hba: &Hba<A>)
+    requires { hba.now.power ≡ Sleep }
+    ensures { is_idle hba.now.work ≡ true → (slot : ℕ) → answers (next_step hba.now slot) ≡ false }
+{}
+
 /// In ERR:WaitForClear no slot has a step (section 5.3, "Error Recovery").
 pub fn a_halted_port_takes_no_step<A: Allocator>(hba: &Hba<A>)
     requires { hba.now.registers.port.halted ≡ true }
     ensures { (slot : ℕ) → next_step hba.now slot ≡ None }
+{}
+
+/// The device moves registers by the transitions of section 5.3 and by nothing else, whatever step it takes.
+pub fn a_step_takes_transitions<A: Allocator>(old: &Hba<A>, new: &Hba<A>, slot: Slot, step: Step)
+    ensures { (journal : Option History) → IsTaken step slot old.now new.now journal → Takes old.now.registers new.now.registers }
+{}
+
+/// The same while it reads and writes the driver's memory.
+pub fn a_move_takes_transitions<A: Allocator>(hba: &Hba<A>)
+    ensures read { (bytes : List ℕ) → Takes hba.now.registers (supplied hba.now hba.now.work bytes).registers }
+    ensures written { Takes hba.now.registers (put_done hba.now hba.now.work).registers }
+    ensures unmapped { Takes hba.now.registers (unmapped hba.now hba.now.work).registers }
+    ensures signed { Takes hba.now.registers (signing hba.now).registers }
+{}
+
+/// The same where it fails a command.
+pub fn a_failure_takes_transitions<A: Allocator>(old: &Hba<A>, new: &Hba<A>, slot: Slot)
+    ensures failed { (error lba : ℕ) → Fails slot error lba (own_in old.now slot lba) old.now new.now → Takes old.now.registers new.now.registers }
+    ensures refused { (error lba : ℕ) → Takes old.now.registers (refused_at old.now slot error lba).registers }
 {}

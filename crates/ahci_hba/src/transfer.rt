@@ -1,4 +1,5 @@
 use hba_memory::{Blocks, Scatter};
+use hba_regs::Slot;
 use sata_fis::D2h;
 use std::alloc::{AllocError, Allocator, Global};
 use std::marker::Model;
@@ -6,56 +7,58 @@ use std::marker::Model;
 /// A transfer by PIO, block by block (Serial ATA, "PIO Setup").
 #[derive(Drop)]
 pub(crate) struct Transfer<A: Allocator = Global> {
-    slot: u8,
+    slot: Slot,
     write: bool,
     done: u32,
     left: u32,
+    moved: u32,
+    short: bool,
     rest: Blocks<A>,
     finish: Option<D2h>,
 }
 
 impl<A: Allocator> Model for Transfer<A> {
-    ghost use Rattle.std.specs.Prelude.{◌<◌, ◌≤◌, ◌+◌};
+    ghost use Rattle.std.specs.Prelude.{◌≤◌, ◌+◌, ◌*◌};
     ghost use Rattle.ahci_hba.specs.Transfer.{TransferView};
 
     ghost Value = { TransferView };
 
-    ghost view = { λ t. record { slot = t.slot; write = t.write; done = t.done; left = t.left; rest = t.rest; finish = t.finish } };
+    ghost view = { λ t. record { slot = t.slot; write = t.write; done = t.done; left = t.left; moved = t.moved; short = t.short; rest = t.rest; finish = t.finish } };
 
-    ghost invariant = { λ t. (t.slot < 32) × (t.done + t.left ≤ 65536) };
+    ghost invariant = { λ t. (t.done + t.left ≤ 65536) × (t.moved ≤ 512 * t.done) };
 }
 
 impl<A: Allocator> Transfer<A> {
-    ghost use Rattle.std.specs.Prelude.{◌≡◌, ◌≤◌, ◌<◌, None};
-    ghost use Rattle.ahci_hba.specs.Transfer.{e_status_of, fits, has_interrupt, is_last, moved_so_far, next_block};
+    ghost use Rattle.std.specs.Prelude.{◌≡◌, ◌≤◌, ◌<◌, ◌*◌, ◌+◌};
+    ghost use Rattle.ahci_hba.specs.Transfer.{first_block, fits, has_interrupt, is_last, moved_next, moved_so_far, next_block, sends_block};
     ghost use Rattle.hba_memory.specs.Blocks.{block_list};
 
-    /// A transfer of so many blocks, for a slot below 32; a D2H Register FIS ends it, or its last block.
+    /// A transfer of so many blocks, for a slot; a D2H Register FIS ends it, or its last block.
     pub(crate) fn new(
-        slot: u8,
+        slot: Slot,
         write: bool,
         blocks: u32,
         rest: Blocks<A>,
         finish: Option<D2h>,
     ) -> Self
-        requires slot { slot < 32 }
         requires blocks { blocks ≤ 65536 }
-        ensures { result ≡ record { slot = slot; write = write; done = 0; left = blocks; rest = rest; finish = finish } }
+        ensures { result ≡ first_block slot write blocks rest finish }
     {
         Transfer {
             slot,
             write,
             done: 0,
             left: blocks,
+            moved: 0,
+            short: false,
             rest,
             finish,
         }
     }
 
     /// Its slot.
-    pub(crate) fn slot(&self) -> u8
-        ensures value { result ≡ self.now.slot }
-        ensures slot { result < 32 }
+    pub(crate) fn slot(&self) -> Slot
+        ensures { result ≡ self.now.slot }
     {
         self.slot
     }
@@ -65,6 +68,13 @@ impl<A: Allocator> Transfer<A> {
         ensures { result ≡ self.now.write }
     {
         self.write
+    }
+
+    /// Whether a block to the driver comes next.
+    pub(crate) fn sends_block(&self) -> bool
+        ensures { result ≡ sends_block self.now }
+    {
+        !self.write && self.left > 0
     }
 
     /// How many blocks are left.
@@ -110,13 +120,6 @@ impl<A: Allocator> Transfer<A> {
         self.left == 1 && self.finish.is_none()
     }
 
-    /// E_Status of the next block of a read: the device has ended the command, or is busy with the block after it.
-    pub(crate) fn e_status(&self) -> u8
-        ensures { result ≡ e_status_of self.now }
-    {
-        if self.is_last() { 0x40 } else { 0xC0 }
-    }
-
     /// Whether the list has room for the next block.
     pub(crate) fn fits(&self) -> bool
         ensures { result ≡ fits 512 (block_list self.now.rest) }
@@ -124,11 +127,38 @@ impl<A: Allocator> Transfer<A> {
         512 <= self.rest.block_room()
     }
 
-    /// How many bytes have moved to the driver with the next block.
-    pub(crate) fn moved_so_far(&self) -> u32
-        ensures { result ≡ moved_so_far self.now }
+    /// How many bytes have moved.
+    pub(crate) fn moved(&self) -> u32
+        ensures { result ≡ self.now.moved }
     {
-        512 * self.done + self.rest.block_room().min(512) as u32
+        self.moved
+    }
+
+    /// Whether the list had no room for the whole last block.
+    pub(crate) fn is_short(&self) -> bool
+        ensures { result ≡ self.now.short }
+    {
+        self.short
+    }
+
+    /// How many bytes the next block moves: those of a read that the list has room for.
+    fn moved_next(&self) -> u32
+        ensures value { result ≡ moved_next self.now }
+        ensures most { result ≤ 512 }
+    {
+        if self.write {
+            512
+        } else {
+            self.rest.block_room().min(512) as u32
+        }
+    }
+
+    /// How many bytes have moved with the next block.
+    pub(crate) fn moved_so_far(&self) -> u32
+        ensures value { result ≡ moved_so_far self.now }
+        ensures most { result ≤ 512 * self.now.done + 512 }
+    {
+        self.moved + self.moved_next()
     }
 
     /// The next block is done. One is left.
@@ -136,10 +166,14 @@ impl<A: Allocator> Transfer<A> {
         requires { 0 < self.old.left }
         ensures { self.new ≡ next_block self.old }
     {
-        self.done += 1;
-        self.left -= 1;
+        let moved = self.moved_so_far();
+        let short = !self.write && !self.fits();
         if !self.write {
             self.rest.advance();
         }
+        self.done += 1;
+        self.left -= 1;
+        self.moved = moved;
+        self.short = short;
     }
 }

@@ -3,6 +3,7 @@ use crate::transfer::Transfer;
 use ahci_port::Window;
 use hba_command::{PrdEntry, Task};
 use hba_memory::{Fetch, Posting};
+use hba_regs::Slot;
 use std::alloc::{Allocator, Global};
 
 /// What the controller does with the driver's memory.
@@ -11,9 +12,9 @@ pub(crate) enum Work<A: Allocator = Global> {
     /// Nothing.
     Idle,
     /// It reads the command of a slot.
-    Fetching(u8, Fetch<A>),
+    Fetching(Slot, Fetch<A>),
     /// A slot's command is done by the port. Its window has the data of a read, which go to the runs of the list.
-    Served(u8, Task, Window<A>, Vec<PrdEntry, A>),
+    Served(Slot, Task, Window<A>, Vec<PrdEntry, A>),
     /// It waits for the next block of a transfer by PIO.
     Pio(Transfer<A>),
     /// It writes a block of a transfer, which goes on so.

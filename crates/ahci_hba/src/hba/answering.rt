@@ -4,7 +4,6 @@ ghost use Rattle.std.specs.Prelude.{◌≡◌, ◌≤◌, ◌+◌};
 ghost use Rattle.hba_memory.specs.Posting.{listed};
 ghost use Rattle.ahci_hba.specs.Moving.{answering, blocking};
 ghost use Rattle.ahci_hba.specs.Queueing.{fis_put, only_after};
-ghost use Rattle.ahci_hba.specs.States.{IsForSlot};
 
 use crate::ending::Ending;
 use crate::hba::Hba;
@@ -48,7 +47,6 @@ impl<A: Allocator> Hba<A> {
 
     /// Begins to write an answer; one with nothing to write takes effect at once.
     pub(super) fn answer(&mut self, posting: Posting<A>, ending: Ending)
-        requires { IsForSlot ending }
         ensures { self.new ≡ answering self.old posting ending }
     {
         if posting.is_done() {

@@ -1,10 +1,10 @@
 //! How the answer to a command is put together.
 
-ghost use Rattle.std.specs.Prelude.{◌≡◌, ◌≤◌, ◌<◌, ◌^◌, true, IfErr, IfOk, OnErr, OnOk};
+ghost use Rattle.std.specs.Prelude.{◌≡◌, ◌≤◌, ◌<◌, ◌^◌, not, true, IfErr, IfOk, OnErr, OnOk};
 ghost use Rattle.hba_memory.specs.Posting.{listed};
+ghost use Rattle.hba_memory.specs.Reading.{is_write};
 ghost use Rattle.ahci_table.specs.Fit.{IsFit};
-ghost use Rattle.ahci_hba.specs.States.{IsForSlot};
-ghost use Rattle.ahci_hba.specs.Delivering.{answer_with, answered, beginning, bytes_for, closing, count_put, d2h_fis, delivered, dma_answer, done, finish_of, fis_ending, is_pio, last_ending, last_put, page_answer, page_ending, page_posting, queue_answer, queued_answer, queued_posting, read_answer, read_posting, received_put, served_answer, setup_fis, setup_put};
+ghost use Rattle.ahci_hba.specs.Delivering.{answer_with, answered, beginning, bytes_for, closing, count_put, d2h_fis, delivered, dma_answer, done, finish_of, fis_ending, is_pio, page_answer, page_posting, queue_answer, queued_answer, queued_posting, read_answer, read_posting, received_put, sends_data, served_answer, setup_fis, setup_put};
 ghost use Rattle.ahci_hba.specs.Stepping.{fault_if, may_deliver};
 ghost use Rattle.ahci_hba.specs.Transfer.{fits, moved_to};
 
@@ -12,12 +12,14 @@ use crate::ending::Ending;
 use crate::fault::HbaFault;
 use crate::hba::Hba;
 use crate::hba::answering::{DMA_SETUP, PIO_SETUP, REGISTER, SET_BITS};
+use crate::last_fis::LastFis;
 use crate::transfer::Transfer;
 use crate::work::Work;
 use ahci_port::Window;
 use arrayvec::ArrayVec;
 use hba_command::{Action, PrdEntry, Protocol, Task, action_of};
 use hba_memory::{Blocks, Posting, Scatter, SmallPut, is_write, total};
+use hba_regs::Slot;
 use sata_fis::{D2h, Fis, PioSetup};
 use std::alloc::{AllocError, Allocator};
 use std::mem;
@@ -45,12 +47,10 @@ pub(super) fn done() -> D2h
 }
 
 /// What a D2H Register FIS that ends a slot's command says to the registers.
-pub(super) fn fis_ending(slot: u8, fis: &D2h) -> Ending
-    requires { slot < 32 }
-    ensures ending { result ≡ fis_ending slot fis.now }
-    ensures slot { IsForSlot result }
+pub(super) fn fis_ending(slot: Slot, fis: &D2h) -> LastFis
+    ensures { result ≡ fis_ending slot fis.now }
 {
-    Ending::Register {
+    LastFis::Register {
         status: fis.status,
         error: fis.error,
         interrupt: true,
@@ -70,35 +70,6 @@ pub(super) fn moved_to(bytes: u32, list: &[PrdEntry]) -> u32
     ensures { result ≡ moved_to bytes list.now }
 {
     u128::from(bytes).min(total(list)) as u32
-}
-
-/// The last FIS of an answer, if the list has room for the data.
-pub(super) fn last_put(whole: bool, fis: Option<SmallPut>) -> Option<SmallPut>
-    ensures { listed result ≡ last_put whole (listed fis) }
-{
-    if whole { fis } else { None }
-}
-
-/// What the end of an answer says to the registers: OFS if the list has no room for the data.
-pub(super) fn last_ending(whole: bool, ending: Ending) -> Ending
-    requires { IsForSlot ending }
-    ensures ending { result ≡ last_ending whole ending }
-    ensures slot { IsForSlot result }
-{
-    if whole { ending } else { Ending::Overflow }
-}
-
-/// What a page by PIO says to the registers of a slot, below 32; OFS if the list has no room for it.
-fn page_ending(whole: bool, slot: u8) -> Ending
-    requires { slot < 32 }
-    ensures ending { result ≡ page_ending whole slot }
-    ensures slot { IsForSlot result }
-{
-    if whole {
-        Ending::Pio { slot }
-    } else {
-        Ending::PioOverflow
-    }
 }
 
 /// The FIS that ends a transfer by PIO that has not failed: a write's; the last block ends a read.
@@ -132,7 +103,8 @@ fn bytes_for<A: Allocator + Copy>(
     window: &Window<A>,
 ) -> Result<Vec<u8, A>, AllocError>
     requires { IsFit window.now }
-    ensures { IfOk result (λ v. v.items ≡ bytes_for task.now window.now) }
+    ensures ok { IfOk result (λ v. v.items ≡ bytes_for task.now window.now) }
+    ensures lacking { OnErr result (not (is_write task.now) ≡ true) }
 {
     if is_write(task) {
         return Ok(Vec::new(alloc));
@@ -156,11 +128,10 @@ impl<A: Allocator> Hba<A> {
     }
 
     /// PRDBC of a slot's header.
-    pub(super) fn count_put(&self, slot: u8, moved: u32) -> Option<SmallPut>
-        requires { slot < 32 }
+    pub(super) fn count_put(&self, slot: Slot, moved: u32) -> Option<SmallPut>
         ensures { listed result ≡ count_put self.now.registers slot moved }
     {
-        let place = 32 * u64::from(slot) + 4;
+        let place = 32 * u64::from(slot.number()) + 4;
         let mut bytes = ArrayVec::new();
         bytes.try_extend_from_slice(&moved.to_le_bytes()).unwrap();
         let address = self.registers.list_base().wrapping_add(place);
@@ -175,40 +146,31 @@ impl<A: Allocator> Hba<A> {
     }
 
     /// What the answer to a queued command writes: a DMA Setup FIS, a read's data, and a Set Device Bits FIS.
-    fn queued_posting(&self, content: Scatter<A>, whole: bool) -> Posting<A>
-        ensures { result ≡ queued_posting self.now.registers self.now.port content whole }
+    fn queued_posting(&self, content: Scatter<A>) -> Posting<A>
+        ensures { result ≡ queued_posting self.now.registers self.now.port content }
     {
         Posting::new(
             self.fis_put(DMA_SETUP, 28),
             content,
             None,
-            last_put(whole, self.fis_put(SET_BITS, 8)),
+            self.fis_put(SET_BITS, 8),
         )
     }
 
     /// What a read by DMA writes: the data, PRDBC, and a D2H Register FIS.
-    fn read_posting(
-        &self,
-        slot: u8,
-        content: Scatter<A>,
-        moved: u32,
-        whole: bool,
-        fis: D2h,
-    ) -> Posting<A>
-        requires { slot < 32 }
-        ensures { result ≡ read_posting self.now.registers slot content moved whole fis }
+    fn read_posting(&self, slot: Slot, content: Scatter<A>, moved: u32, fis: D2h) -> Posting<A>
+        ensures { result ≡ read_posting self.now.registers slot content moved fis }
     {
         Posting::new(
             None,
             content,
             self.count_put(slot, moved),
-            last_put(whole, self.received_put(REGISTER, Fis::D2h(fis).encode())),
+            self.received_put(REGISTER, Fis::D2h(fis).encode()),
         )
     }
 
     /// What the answer with a page by PIO writes: a PIO Setup FIS, the page, and PRDBC.
-    fn page_posting(&self, slot: u8, content: Scatter<A>, moved: u32) -> Posting<A>
-        requires { slot < 32 }
+    fn page_posting(&self, slot: Slot, content: Scatter<A>, moved: u32) -> Posting<A>
         ensures { result ≡ page_posting self.now.registers slot content moved }
     {
         Posting::new(
@@ -220,60 +182,56 @@ impl<A: Allocator> Hba<A> {
     }
 
     /// The answer to a queued command that the port has done.
-    fn queued_answer(&mut self, slot: u8, list: Vec<PrdEntry, A>, bytes: Vec<u8, A>, count: u32)
-        requires { slot < 32 }
+    fn queued_answer(&mut self, slot: Slot, list: Vec<PrdEntry, A>, bytes: Vec<u8, A>, count: u32)
         ensures { self.new ≡ queued_answer self.old slot list.items bytes.items count }
     {
         let whole = fits(count, &list);
-        let ending = Ending::Bits {
+        let bits = LastFis::Bits {
             status: 0x40,
             error: 0,
-            sactive: 1 << slot,
+            sactive: 1 << slot.number(),
         };
-        let posting = self.queued_posting(Scatter::new(list, bytes), whole);
-        self.answer(posting, last_ending(whole, ending));
+        let posting = self.queued_posting(Scatter::new(list, bytes));
+        self.answer(posting, Ending::of(whole, bits));
     }
 
     /// The answer to a read by DMA, of so many bytes, with the FIS that ends it.
     pub(super) fn read_answer(
         &mut self,
-        slot: u8,
+        slot: Slot,
         list: Vec<PrdEntry, A>,
         bytes: Vec<u8, A>,
         count: u32,
         fis: D2h,
     )
-        requires { slot < 32 }
         ensures { self.new ≡ read_answer self.old slot list.items bytes.items count fis }
     {
         let whole = fits(count, &list);
         let moved = moved_to(count, &list);
-        let ending = fis_ending(slot, &fis);
-        let posting = self.read_posting(slot, Scatter::new(list, bytes), moved, whole, fis);
-        self.answer(posting, last_ending(whole, ending));
+        let last = fis_ending(slot, &fis);
+        let posting = self.read_posting(slot, Scatter::new(list, bytes), moved, fis);
+        self.answer(posting, Ending::of(whole, last));
     }
 
     /// The answer with a page by PIO.
-    pub(super) fn page_answer(&mut self, slot: u8, list: Vec<PrdEntry, A>, page: Vec<u8, A>)
-        requires { slot < 32 }
+    pub(super) fn page_answer(&mut self, slot: Slot, list: Vec<PrdEntry, A>, page: Vec<u8, A>)
         ensures { self.new ≡ page_answer self.old slot list.items page.items }
     {
         let whole = fits(512, &list);
         let moved = moved_to(512, &list);
         let posting = self.page_posting(slot, Scatter::new(list, page), moved);
-        self.answer(posting, page_ending(whole, slot));
+        self.answer(posting, Ending::of(whole, LastFis::Pio { slot }));
     }
 
     /// A transfer by PIO begins, of so many blocks.
     pub(super) fn begin(
         &mut self,
-        slot: u8,
+        slot: Slot,
         write: bool,
         blocks: u32,
         rest: Blocks<A>,
         finish: Option<D2h>,
     )
-        requires slot { slot < 32 }
         requires blocks { blocks ≤ 65536 }
         ensures { self.new ≡ beginning self.old slot write blocks rest finish }
     {
@@ -283,26 +241,24 @@ impl<A: Allocator> Hba<A> {
 
 impl<A: Allocator + Copy> Hba<A> {
     /// The end of a command whose data have moved: PRDBC, and a D2H Register FIS.
-    pub(super) fn close(&mut self, slot: u8, moved: u32, fis: D2h)
-        requires { slot < 32 }
+    pub(super) fn close(&mut self, slot: Slot, moved: u32, fis: D2h)
         ensures { self.new ≡ closing self.old slot moved fis }
     {
-        let ending = fis_ending(slot, &fis);
+        let last = fis_ending(slot, &fis);
         let content = Scatter::new(Vec::new(self.alloc), Vec::new(self.alloc));
-        let posting = self.read_posting(slot, content, moved, true, fis);
-        self.answer(posting, ending);
+        let posting = self.read_posting(slot, content, moved, fis);
+        self.answer(posting, Ending::of(true, last));
     }
 
     /// The answer to a queued command; a write has no list.
     fn queue_answer(
         &mut self,
-        slot: u8,
+        slot: Slot,
         write: bool,
         list: Vec<PrdEntry, A>,
         bytes: Vec<u8, A>,
         count: u32,
     )
-        requires { slot < 32 }
         ensures { self.new ≡ queue_answer self.old slot write list.items bytes.items count }
     {
         self.queued_answer(slot, list, bytes, if write { 0 } else { count });
@@ -311,13 +267,12 @@ impl<A: Allocator + Copy> Hba<A> {
     /// The answer to a command by DMA.
     fn dma_answer(
         &mut self,
-        slot: u8,
+        slot: Slot,
         write: bool,
         list: Vec<PrdEntry, A>,
         bytes: Vec<u8, A>,
         count: u32,
     )
-        requires { slot < 32 }
         ensures { self.new ≡ dma_answer self.old slot write list.items bytes.items count }
     {
         if write {
@@ -328,8 +283,13 @@ impl<A: Allocator + Copy> Hba<A> {
     }
 
     /// The answer to a command that the port has done, with a read's bytes: it does queued ones and those that move sectors.
-    fn answer_with(&mut self, slot: u8, list: Vec<PrdEntry, A>, bytes: Vec<u8, A>, action: &Action)
-        requires { slot < 32 }
+    fn answer_with(
+        &mut self,
+        slot: Slot,
+        list: Vec<PrdEntry, A>,
+        bytes: Vec<u8, A>,
+        action: &Action,
+    )
         ensures { self.new ≡ answer_with self.old slot list.items bytes.items action.now }
     {
         match action {
@@ -363,7 +323,8 @@ impl<A: Allocator + Copy> Hba<A> {
 
     /// The bytes that go to the driver.
     fn delivered(&self) -> Result<Vec<u8, A>, AllocError>
-        ensures { IfOk result (λ v. v.items ≡ delivered self.now.work) }
+        ensures ok { IfOk result (λ v. v.items ≡ delivered self.now.work) }
+        ensures lacking { OnErr result (sends_data self.now.work ≡ true) }
     {
         match &self.work {
             Work::Served(_, task, window, _) => bytes_for(self.alloc, task, window),
@@ -375,6 +336,7 @@ impl<A: Allocator + Copy> Hba<A> {
     fn deliver_served(&mut self) -> Result<(), AllocError>
         ensures ok { OnOk result (self.new ≡ served_answer self.old self.old.work) }
         ensures err { OnErr result (self.new ≡ self.old) }
+        ensures lacking { OnErr result (sends_data self.old.work ≡ true) }
     {
         let bytes = self.delivered()?;
         match mem::replace(&mut self.work, Work::Idle) {
@@ -397,6 +359,7 @@ impl<A: Allocator + Copy> Hba<A> {
     fn put_together(&mut self) -> Result<(), AllocError>
         ensures ok { OnOk result (self.new ≡ answered self.old self.old.work) }
         ensures err { OnErr result (self.new ≡ self.old) }
+        ensures lacking { OnErr result (sends_data self.old.work ≡ true) }
     {
         if self.is_pio() {
             return self.go_on();
@@ -408,11 +371,13 @@ impl<A: Allocator + Copy> Hba<A> {
     /// if it is not queued. A command by PIO moves block by block, and each call puts the next one together.
     ///
     /// # Errors
-    /// `NotReady` exactly if `may_deliver` is false; else `OutOfMemory` if an allocation failed, and it can be tried again. Nothing has changed.
-    pub fn deliver(&mut self, slot: u8) -> Result<(), HbaFault>
+    /// `NotReady` exactly if `may_deliver` is false; else `OutOfMemory` if data of a read go to the driver and an allocation failed, and it can be
+    /// tried again. Nothing has changed.
+    pub fn deliver(&mut self, slot: Slot) -> Result<(), HbaFault>
         ensures ready { OnOk result (may_deliver self.old slot ≡ true) }
         ensures ok { OnOk result (self.new ≡ answered self.old self.old.work) }
         ensures err { IfErr result (λ e. (e ≡ fault_if (may_deliver self.old slot)) × (self.new ≡ self.old)) }
+        ensures lacking { IfErr result (λ e. e ≡ HbaFault.OutOfMemory → sends_data self.old.work ≡ true) }
     {
         if !self.may_deliver(slot) {
             return Err(HbaFault::NotReady);

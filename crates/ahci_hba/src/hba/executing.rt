@@ -3,8 +3,8 @@
 ghost use Rattle.std.specs.Prelude.{◌≡◌, ◌-◌, ◌<◌, ◌^◌, true, false, None, IfErr, OnErr, OnOk, slice_set};
 ghost use Rattle.ahci_hba.specs.Queueing.{command_at, list_in, task_in};
 ghost use Rattle.ahci_hba.specs.Stepping.{fault_if, is_answered, is_answered_at, may_execute};
-ghost use Rattle.ahci_port.specs.{Faults.{plain_refusal}, PortView.{sectors_in}};
-ghost use Rattle.ahci_hba.specs.Executing.{Flushes, Identifies, IsExecuted, Performs, aborted, first_missing, is_aborted, is_alone_fetched, log_page, paged, reads_error_log, reply_fis, signed, verified};
+ghost use Rattle.ahci_port.specs.{Faults.{plain_refusal}, PortView.{sectors_in}, Steps.{LacksRoom}};
+ghost use Rattle.ahci_hba.specs.Executing.{Flushes, Identifies, IsExecuted, MayLack, MayLackAt, Performs, aborted, first_missing, is_aborted, is_alone_fetched, paged, reads_error_log, replied, reply_fis, signed, verified};
 
 use crate::command::Command;
 use crate::fault::HbaFault;
@@ -13,9 +13,9 @@ use crate::hba::delivering::{d2h_fis, done};
 use crate::hba::fetching::is_alone;
 use ahci_port::PlainFault;
 use hba_command::{
-    Action, Log, Page, Protocol, Reply, Span, Task, action_of, controller_page, directory_page,
-    not_queued_page,
+    Action, Log, Page, Protocol, Reply, Span, Task, action_of, controller_page, power_count,
 };
+use hba_regs::Slot;
 use sata_fis::D2h;
 use std::alloc::Allocator;
 
@@ -63,13 +63,13 @@ impl<A: Allocator> Hba<A> {
 
     /// The answer to a command that moves nothing.
     fn reply_fis(&self, reply: &Reply) -> D2h
-        ensures { result ≡ reply_fis self.now.port reply.now }
+        ensures { result ≡ reply_fis self.now reply.now }
     {
         match reply {
-            Reply::Done => done(),
+            Reply::Done | Reply::Entered(_) => done(),
             Reply::Verified(span) => self.verified(span),
             Reply::NativeMax => d2h_fis(0x40, 0, self.last_sector(), 0),
-            Reply::PowerMode => d2h_fis(0x40, 0, 0, 0xFF), // active or idle
+            Reply::PowerMode => d2h_fis(0x40, 0, 0, power_count(self.power)),
             Reply::Diagnosed => signed(0x40, 0x01), // the device has passed
             Reply::Packet => signed(0x41, 0x04),
         }
@@ -92,12 +92,11 @@ impl<A: Allocator> Hba<A> {
         self.is_queueing() || (self.port.halted() && !reads_error_log(action))
     }
 
-    /// Whether a slot, below 32, has a command that is read and not queued.
-    pub(super) fn is_alone_fetched(&self, slot: u8) -> bool
-        requires { slot < 32 }
+    /// Whether a slot has a command that is read and not queued.
+    pub(super) fn is_alone_fetched(&self, slot: Slot) -> bool
         ensures { result ≡ is_alone_fetched (command_at self.now slot) }
     {
-        match &self.slots[usize::from(slot)] {
+        match &self.slots[slot.index()] {
             Some(slot) => match &slot.command {
                 Command::Fetched(task, _, _) => is_alone(task),
                 Command::Sent(_, _) => false,
@@ -116,7 +115,7 @@ impl<A: Allocator> Hba<A> {
             Action::Page(Page::Identify, _) | Action::Flush => {
                 self.is_aborted(action) || self.port.plain_fault().is_none()
             }
-            Action::Page(Page::Log(Log::Directory), _) => true,
+            Action::Page(Page::Log(Log::Directory | Log::IdentifyData(_)), _) => true,
             Action::Page(Page::Log(Log::QueuedError), _) => {
                 self.is_queueing() || !self.port.halted()
             }
@@ -126,20 +125,18 @@ impl<A: Allocator> Hba<A> {
         }
     }
 
-    /// Whether the device answers the command of a slot, below 32, now: it aborts it, or executes it without a move of sectors.
-    pub fn may_execute(&self, slot: u8) -> bool
-        requires { slot < 32 }
+    /// Whether the device answers the command of a slot now: it aborts it, or executes it without a move of sectors.
+    pub fn may_execute(&self, slot: Slot) -> bool
         ensures { result ≡ may_execute self.now slot }
     {
         self.is_ready() && self.is_answered_at(slot)
     }
 
-    /// Whether a slot, below 32, has a command that was read and that the device answers itself.
-    fn is_answered_at(&self, slot: u8) -> bool
-        requires { slot < 32 }
+    /// Whether a slot has a command that was read and that the device answers itself.
+    fn is_answered_at(&self, slot: Slot) -> bool
         ensures { result ≡ is_answered_at self.now (command_at self.now slot) }
     {
-        match &self.slots[usize::from(slot)] {
+        match &self.slots[slot.index()] {
             Some(slot) => match &slot.command {
                 Command::Fetched(task, _, _) => self.is_answered(&action_of(task)),
                 Command::Sent(_, _) => false,
@@ -148,12 +145,11 @@ impl<A: Allocator> Hba<A> {
         }
     }
 
-    /// What the command of a slot, below 32, asks.
-    pub(super) fn task_in(&self, slot: u8) -> Task
-        requires { slot < 32 }
+    /// What the command of a slot asks.
+    pub(super) fn task_in(&self, slot: Slot) -> Task
         ensures { result ≡ task_in (command_at self.now slot) }
     {
-        match &self.slots[usize::from(slot)] {
+        match &self.slots[slot.index()] {
             Some(slot) => match &slot.command {
                 Command::Fetched(task, _, _) => *task,
                 Command::Sent(task, _) => *task,
@@ -163,20 +159,9 @@ impl<A: Allocator> Hba<A> {
     }
 }
 
-/// The page of a log, with no queued command failed.
-fn log_page(log: Log) -> [u8; 512]
-    ensures { result ≡ log_page log }
-{
-    match log {
-        Log::Directory => directory_page(),
-        Log::QueuedError => not_queued_page(),
-    }
-}
-
 impl<A: Allocator + Copy> Hba<A> {
-    /// A page goes to the driver for the command of a slot, below 32; the slot is empty.
-    pub(super) fn give_page(&mut self, slot: u8, protocol: Protocol, page: Vec<u8, A>)
-        requires { slot < 32 }
+    /// A page goes to the driver for the command of a slot; the slot is empty.
+    pub(super) fn give_page(&mut self, slot: Slot, protocol: Protocol, page: Vec<u8, A>)
         ensures { self.new ≡ paged self.old slot protocol (list_in (command_at self.old slot)) page.items }
     {
         let (_, list) = self.take_command(slot);
@@ -187,8 +172,7 @@ impl<A: Allocator + Copy> Hba<A> {
     }
 
     /// IDENTIFY DEVICE, which the port takes.
-    fn identify(&mut self, slot: u8) -> Result<(), HbaFault>
-        requires slot { slot < 32 }
+    fn identify(&mut self, slot: Slot) -> Result<(), HbaFault>
         requires taken { plain_refusal self.old.port ≡ None }
         ensures ok { OnOk result (Identifies slot (list_in (command_at self.old slot)) self.old self.new) }
         ensures err { IfErr result (λ e. (e ≡ HbaFault.OutOfMemory) × (self.new ≡ self.old)) }
@@ -206,15 +190,16 @@ impl<A: Allocator + Copy> Hba<A> {
     }
 
     /// FLUSH CACHE, with EXT or without, which the port takes.
-    fn flush(&mut self, slot: u8) -> Result<(), HbaFault>
-        requires slot { slot < 32 }
+    fn flush(&mut self, slot: Slot) -> Result<(), HbaFault>
         requires taken { plain_refusal self.old.port ≡ None }
         ensures ok { OnOk result (Flushes slot self.old self.new) }
         ensures err { IfErr result (λ e. (e ≡ HbaFault.OutOfMemory) × (self.new ≡ self.old)) }
+        ensures lacking { OnErr result (LacksRoom self.old.port) }
     {
         match self.port.flush() {
             Ok(()) => {
                 self.conclude(slot, done());
+                self.wake();
                 Ok(())
             }
             Err(PlainFault::OutOfMemory) => Err(HbaFault::OutOfMemory),
@@ -222,24 +207,22 @@ impl<A: Allocator + Copy> Hba<A> {
         }
     }
 
-    /// READ LOG EXT and READ LOG DMA EXT, with no queued command failed.
-    fn read_log(&mut self, slot: u8, log: Log, protocol: Protocol) -> Result<(), HbaFault>
-        requires { slot < 32 }
-        ensures ok { OnOk result (self.new ≡ paged self.old slot protocol (list_in (command_at self.old slot)) (log_page log)) }
-        ensures err { IfErr result (λ e. (e ≡ HbaFault.OutOfMemory) × (self.new ≡ self.old)) }
+    /// A command that moves nothing is answered, for a slot, and the power mode is that behind it.
+    fn reply(&mut self, slot: Slot, reply: &Reply)
+        ensures { self.new ≡ replied self.old slot reply.now }
     {
-        let page = Vec::from_slice(self.alloc, &log_page(log))?;
-        self.give_page(slot, protocol, page);
-        Ok(())
+        let fis = self.reply_fis(reply);
+        self.conclude(slot, fis);
+        self.turn_by(reply);
     }
 
-    /// What the device does with a command that it doesn't abort, for a slot below 32.
-    fn perform(&mut self, slot: u8, action: &Action) -> Result<(), HbaFault>
-        requires slot { slot < 32 }
+    /// What the device does with a command that it doesn't abort, for a slot.
+    fn perform(&mut self, slot: Slot, action: &Action) -> Result<(), HbaFault>
         requires answered { is_answered self.old action.now ≡ true }
         requires kept { is_aborted self.old action.now ≡ false }
         ensures ok { OnOk result (Performs slot action.now (list_in (command_at self.old slot)) self.old self.new) }
         ensures err { IfErr result (λ e. (e ≡ HbaFault.OutOfMemory) × (self.new ≡ self.old)) }
+        ensures lacking { OnErr result (MayLack self.old action.now) }
     {
         match action {
             Action::Sectors {
@@ -248,14 +231,15 @@ impl<A: Allocator + Copy> Hba<A> {
                 protocol,
             } => {
                 let missing = self.first_missing(span);
-                self.fail_sectors(slot, *write, span, *protocol, 0x10, missing) // IDNF
+                self.fail_sectors(slot, *write, span, *protocol, 0x10, missing)?; // IDNF
+                self.wake();
+                Ok(())
             }
             Action::Page(Page::Identify, _) => self.identify(slot),
-            Action::Page(Page::Log(log), protocol) => self.read_log(slot, *log, *protocol),
+            Action::Page(Page::Log(log), protocol) => self.read_log(slot, log, *protocol),
             Action::Flush => self.flush(slot),
             Action::Reply(reply) => {
-                let fis = self.reply_fis(reply);
-                self.conclude(slot, fis);
+                self.reply(slot, reply);
                 Ok(())
             }
             Action::Queue(_) | Action::Abort => {
@@ -266,16 +250,17 @@ impl<A: Allocator + Copy> Hba<A> {
         }
     }
 
-    /// The device answers the command of a slot, below 32: it executes one that is not queued and that the port moves no sectors for, or it aborts the
+    /// The device answers the command of a slot: it executes one that is not queued and that the port moves no sectors for, or it aborts the
     /// command. A read past the last sector moves the sectors that there are.
     ///
     /// # Errors
-    /// `NotReady` exactly if `may_execute` is false; else `OutOfMemory` if an allocation failed, and it can be tried again. Nothing has changed.
-    pub fn execute(&mut self, slot: u8) -> Result<(), HbaFault>
-        requires { slot < 32 }
+    /// `NotReady` exactly if `may_execute` is false; else `OutOfMemory` if a page, a flush or a read's sectors want memory and an allocation failed,
+    /// and it can be tried again. Nothing has changed.
+    pub fn execute(&mut self, slot: Slot) -> Result<(), HbaFault>
         ensures ready { OnOk result (may_execute self.old slot ≡ true) }
         ensures ok { OnOk result (IsExecuted slot self.old self.new) }
         ensures err { IfErr result (λ e. (e ≡ fault_if (may_execute self.old slot)) × (self.new ≡ self.old)) }
+        ensures lacking { IfErr result (λ e. e ≡ HbaFault.OutOfMemory → MayLackAt slot self.old) }
     {
         if !self.may_execute(slot) {
             return Err(HbaFault::NotReady);

@@ -1,11 +1,11 @@
 //! How the device fails a command that moves sectors (ACS-3, "LBA of first unrecoverable error").
 
-ghost use Rattle.std.specs.Prelude.{◌≡◌, ◌≤◌, ◌<◌, ◌-◌, ◌^◌, IfErr, IfOk, OnOk};
+ghost use Rattle.std.specs.Prelude.{◌≡◌, ◌≤◌, ◌<◌, ◌-◌, ◌^◌, true, IfErr, IfOk, OnErr, OnOk};
 ghost use Rattle.hba_memory.specs.Posting.{listed};
 ghost use Rattle.ncq_core.specs.DiskFis.{setup_bytes};
 ghost use Rattle.ahci_port.specs.PortView.{sectors_in};
 ghost use Rattle.ahci_hba.specs.Delivering.{received_put};
-ghost use Rattle.ahci_hba.specs.Failing.{concluded, failed_posting, fails_at, moved_before, moved_sectors, own_queued, owns, queue_failed, read_failed, refused, refused_with, sectors_before, sectors_failed, sectors_of, vacated};
+ghost use Rattle.ahci_hba.specs.Failing.{concluded, failed_posting, fails_at, moved_before, moved_sectors, moves_before, moves_some, own_queued, owns, queue_failed, read_failed, refused, refused_with, sectors_before, sectors_failed, sectors_of, vacated};
 ghost use Rattle.ahci_hba.specs.Queueing.{command_at, list_in};
 
 use crate::command::Command;
@@ -13,10 +13,12 @@ use crate::ending::Ending;
 use crate::fault::HbaFault;
 use crate::hba::Hba;
 use crate::hba::answering::{DMA_SETUP, REGISTER, SET_BITS};
-use crate::hba::delivering::{d2h_fis, fis_ending, fits, last_ending, last_put};
+use crate::hba::delivering::{d2h_fis, fis_ending, fits};
+use crate::last_fis::LastFis;
 use ahci_port::Port;
 use hba_command::{Action, PrdEntry, Protocol, Span};
 use hba_memory::{Blocks, Posting, Scatter, SmallPut};
+use hba_regs::Slot;
 use sata_fis::{D2h, DmaSetup, Fis, Queued};
 use std::alloc::{AllocError, Allocator};
 
@@ -72,37 +74,34 @@ fn sectors_of<A: Allocator + Copy>(
 }
 
 impl<A: Allocator + Copy> Hba<A> {
-    /// Empties a slot, below 32.
-    pub(super) fn vacate(&mut self, slot: u8)
-        requires { slot < 32 }
+    /// Empties a slot.
+    pub(super) fn vacate(&mut self, slot: Slot)
         ensures { self.new ≡ vacated self.old slot }
     {
-        self.slots[usize::from(slot)] = None;
+        self.slots[slot.index()] = None;
     }
 
-    /// Ends the command of a slot, below 32, with a D2H Register FIS; the slot is empty.
-    pub(super) fn conclude(&mut self, slot: u8, fis: D2h)
-        requires { slot < 32 }
+    /// Ends the command of a slot with a D2H Register FIS; the slot is empty.
+    pub(super) fn conclude(&mut self, slot: Slot, fis: D2h)
         ensures { self.new ≡ concluded self.old slot fis }
     {
-        let ending = fis_ending(slot, &fis);
+        let last = fis_ending(slot, &fis);
         self.vacate(slot);
         let put = self.received_put(REGISTER, Fis::D2h(fis).encode());
         let posting = self.only_after(put);
-        self.answer(posting, ending);
+        self.answer(posting, Ending::of(true, last));
     }
 
-    /// Some sectors go to the driver for a slot, below 32, and then an error.
+    /// Some sectors go to the driver for a slot, and then an error.
     fn move_before(
         &mut self,
-        slot: u8,
+        slot: Slot,
         protocol: Protocol,
         list: Vec<PrdEntry, A>,
         bytes: Vec<u8, A>,
         sectors: u32,
         fis: D2h,
     )
-        requires slot { slot < 32 }
         requires sectors { sectors ≤ 65536 }
         ensures { self.new ≡ moved_before self.old slot protocol list.items bytes.items sectors fis }
     {
@@ -114,23 +113,23 @@ impl<A: Allocator + Copy> Hba<A> {
         }
     }
 
-    /// A read that is not queued fails, for a slot below 32: so many sectors from the first one on have moved.
+    /// A read that is not queued fails, for a slot: so many sectors from the first one on have moved.
     fn fail_read(
         &mut self,
-        slot: u8,
+        slot: Slot,
         protocol: Protocol,
         first: u64,
         sectors: u32,
         error: u8,
         lba: u64,
     ) -> Result<(), HbaFault>
-        requires slot { slot < 32 }
         requires first { first < 2 ^ 48 }
         requires lba { lba < 2 ^ 48 }
         requires sectors { sectors ≤ 65536 }
         requires there { sectors ≤ sectors_in self.old.port - first }
         ensures ok { OnOk result (self.new ≡ read_failed self.old slot protocol (list_in (command_at self.old slot)) first sectors error lba) }
         ensures err { IfErr result (λ e. (e ≡ HbaFault.OutOfMemory) × (self.new ≡ self.old)) }
+        ensures lacking { OnErr result (0 < sectors) }
     {
         if sectors == 0 {
             self.conclude(slot, refused(error, lba));
@@ -142,20 +141,20 @@ impl<A: Allocator + Copy> Hba<A> {
         Ok(())
     }
 
-    /// A command that is not queued and moves sectors fails, for a slot below 32.
+    /// A command that is not queued and moves sectors fails, for a slot.
     pub(super) fn fail_sectors(
         &mut self,
-        slot: u8,
+        slot: Slot,
         write: bool,
         span: &Span,
         protocol: Protocol,
         error: u8,
         lba: u64,
     ) -> Result<(), HbaFault>
-        requires slot { slot < 32 }
         requires lba { lba < 2 ^ 48 }
         ensures ok { OnOk result (self.new ≡ sectors_failed self.old slot (list_in (command_at self.old slot)) write span.now protocol error lba) }
         ensures err { IfErr result (λ e. (e ≡ HbaFault.OutOfMemory) × (self.new ≡ self.old)) }
+        ensures lacking { OnErr result (moves_some self.old.port write span.now lba ≡ true) }
     {
         if write {
             self.conclude(slot, refused(error, span.lba));
@@ -165,18 +164,18 @@ impl<A: Allocator + Copy> Hba<A> {
         self.fail_read(slot, protocol, span.lba, sectors, error, lba)
     }
 
-    /// A command that is not queued fails, for a slot below 32.
+    /// A command that is not queued fails, for a slot.
     pub(super) fn refuse_with(
         &mut self,
-        slot: u8,
+        slot: Slot,
         action: &Action,
         error: u8,
         lba: u64,
     ) -> Result<(), HbaFault>
-        requires slot { slot < 32 }
         requires lba { lba < 2 ^ 48 }
         ensures ok { OnOk result (self.new ≡ refused_with self.old slot (list_in (command_at self.old slot)) action.now error lba) }
         ensures err { IfErr result (λ e. (e ≡ HbaFault.OutOfMemory) × (self.new ≡ self.old)) }
+        ensures lacking { OnErr result (moves_before self.old.port action.now lba ≡ true) }
     {
         match action {
             Action::Sectors {
@@ -197,16 +196,15 @@ impl<A: Allocator + Copy> Hba<A> {
 }
 
 impl<A: Allocator> Hba<A> {
-    /// The DMA Setup FIS of a queued command of a slot, below 32, which is its tag.
-    fn queue_setup_put(&self, slot: u8, queued: &Queued) -> Option<SmallPut>
-        requires { slot < 32 }
+    /// The DMA Setup FIS of a queued command of a slot, which is its tag.
+    fn queue_setup_put(&self, slot: Slot, queued: &Queued) -> Option<SmallPut>
         ensures { listed result ≡ received_put self.now.registers 0x00 (setup_bytes (record queued.now { tag = slot })) }
     {
         let fis = DmaSetup {
             a: false,
             i: false,
             d: !queued.write,
-            tag: slot,
+            tag: slot.number(),
             offset: 0,
             count: 512 * queued.sectors,
         };
@@ -218,13 +216,12 @@ impl<A: Allocator + Copy> Hba<A> {
     /// What the answer to a queued command that fails writes, with the sectors that have moved.
     fn failed_posting(
         &self,
-        slot: u8,
+        slot: Slot,
         queued: &Queued,
         list: Vec<PrdEntry, A>,
         bytes: Vec<u8, A>,
         sectors: u32,
     ) -> Posting<A>
-        requires slot { slot < 32 }
         requires sectors { sectors ≤ 65536 }
         ensures { result ≡ failed_posting self.now.registers self.now.port slot queued.now list.items bytes.items sectors }
     {
@@ -232,45 +229,42 @@ impl<A: Allocator + Copy> Hba<A> {
         if sectors == 0 {
             return self.only_after(fis);
         }
-        let whole = fits(512 * sectors, &list);
         Posting::new(
             self.queue_setup_put(slot, queued),
             Scatter::new(list, bytes),
             None,
-            last_put(whole, fis),
+            fis,
         )
     }
 
     /// The answer to a queued command that fails.
     pub(super) fn answer_failure(
         &mut self,
-        slot: u8,
+        slot: Slot,
         queued: &Queued,
         list: Vec<PrdEntry, A>,
         bytes: Vec<u8, A>,
         sectors: u32,
         error: u8,
     )
-        requires slot { slot < 32 }
         requires sectors { sectors ≤ 65536 }
         ensures { self.new ≡ queue_failed self.old self.old.port slot queued.now list.items bytes.items sectors error }
     {
         let whole = sectors == 0 || fits(512 * sectors, &list);
-        let ending = Ending::Bits {
+        let bits = LastFis::Bits {
             status: 0x41,
             error,
             sactive: 0,
         };
         let posting = self.failed_posting(slot, queued, list, bytes, sectors);
-        self.answer(posting, last_ending(whole, ending));
+        self.answer(posting, Ending::of(whole, bits));
     }
 
-    /// The list of the command of a slot, below 32, copied.
-    pub(super) fn copy_list(&self, slot: u8) -> Result<Vec<PrdEntry, A>, AllocError>
-        requires { slot < 32 }
+    /// The list of the command of a slot, copied.
+    pub(super) fn copy_list(&self, slot: Slot) -> Result<Vec<PrdEntry, A>, AllocError>
         ensures { IfOk result (λ v. v.items ≡ list_in (command_at self.now slot)) }
     {
-        match &self.slots[usize::from(slot)] {
+        match &self.slots[slot.index()] {
             Some(slot) => match &slot.command {
                 Command::Fetched(_, list, _) => Vec::from_slice(self.alloc, list),
                 Command::Sent(_, list) => Vec::from_slice(self.alloc, list),

@@ -3,15 +3,15 @@
 ghost use Rattle.std.specs.Prelude.{◌≡◌, ◌<◌, ◌≤◌, false, true, IfErr, OnErr, OnOk};
 ghost use Rattle.std.specs.List.{list_any};
 ghost use Rattle.hba_command.specs.declared.task.Task.{Task};
-ghost use Rattle.ahci_hba.specs.Queueing.{command_at, fetching, has_alone, has_queued, distance, distance_of, is_alone, is_empty, is_idle, is_listening, is_off, is_overtaken, is_ready, is_running, is_sent, may_fetch, waits};
+ghost use Rattle.ahci_hba.specs.Queueing.{command_at, fetching, has_alone, has_queued, distance, distance_of, is_alone, is_idle, is_listening, is_off, is_overtaken, is_ready, is_running, is_sent, may_fetch, waits};
 
-use crate::command::{Command, Slot};
+use crate::command::{Command, Listed};
 use crate::fault::HbaFault;
 use crate::hba::{Hba, SLOTS};
 use crate::work::Work;
 use hba_command::{Action, Task, action_of};
 use hba_memory::Fetch;
-use hba_regs::SoftReset;
+use hba_regs::{Slot, SoftReset};
 use std::alloc::Allocator;
 use word_bits::is_set;
 
@@ -27,7 +27,7 @@ pub(super) fn is_alone(task: &Task) -> bool
 }
 
 /// Whether a slot has a command that is with the port.
-pub(super) fn is_sent<A: Allocator>(slot: &Option<Slot<A>>) -> bool
+pub(super) fn is_sent<A: Allocator>(slot: &Option<Listed<A>>) -> bool
     ensures { result ≡ is_sent slot.now }
 {
     match slot {
@@ -37,7 +37,7 @@ pub(super) fn is_sent<A: Allocator>(slot: &Option<Slot<A>>) -> bool
 }
 
 /// Whether a slot has a queued command.
-pub(super) fn has_queued<A: Allocator>(slot: &Option<Slot<A>>) -> bool
+pub(super) fn has_queued<A: Allocator>(slot: &Option<Listed<A>>) -> bool
     ensures { result ≡ has_queued slot.now }
 {
     match slot {
@@ -50,7 +50,7 @@ pub(super) fn has_queued<A: Allocator>(slot: &Option<Slot<A>>) -> bool
 }
 
 /// Whether a slot has a command that is not queued.
-fn has_alone<A: Allocator>(slot: &Option<Slot<A>>) -> bool
+fn has_alone<A: Allocator>(slot: &Option<Listed<A>>) -> bool
     ensures { result ≡ has_alone slot.now }
 {
     match slot {
@@ -101,22 +101,25 @@ impl<A: Allocator> Hba<A> {
         self.is_running() && self.is_idle()
     }
 
-    /// Whether the device may move: its FISes are accepted, and it isn't held in a software reset.
+    /// Whether the device may move: its FISes are accepted, it isn't held in a software reset, and it isn't in Sleep.
     pub(super) fn is_ready(&self) -> bool
         ensures { result ≡ is_ready self.now }
     {
-        self.is_listening() && self.registers.is_receiving() && is_off(self.registers.soft_reset())
+        self.is_listening()
+            && self.registers.is_receiving()
+            && is_off(self.registers.soft_reset())
+            && self.is_awake()
     }
 
-    /// Whether the command of a slot, below 32, waits to be issued.
+    /// Whether the command of the slot of a number waits to be issued.
     fn waits(&self, slot: u8) -> bool
         requires { slot < 32 }
         ensures { result ≡ waits self.now slot }
     {
-        is_set(self.registers.ci(), slot) && self.is_empty(slot)
+        is_set(self.registers.ci(), slot) && self.slots[usize::from(slot)].is_none()
     }
 
-    /// How many slots behind the one with the highest priority a slot is.
+    /// How many slots behind the one with the highest priority the slot of a number is.
     fn distance(&self, slot: u8) -> u32
         ensures { result ≡ distance_of self.now.registers.port slot }
     {
@@ -124,21 +127,12 @@ impl<A: Allocator> Hba<A> {
         distance(capabilities.ncs(), self.registers.first_slot(), slot)
     }
 
-    /// Whether another slot that waits has a higher priority than a slot, below 32.
-    fn is_overtaken(&self, slot: u8) -> bool
-        requires { slot < 32 }
+    /// Whether another slot that waits has a higher priority than a slot.
+    fn is_overtaken(&self, slot: Slot) -> bool
         ensures { result ≡ is_overtaken self.now slot }
     {
-        let own = self.distance(slot);
+        let own = self.distance(slot.number());
         (0..SLOTS as u8).any(|other| self.waits(other) && self.distance(other) < own)
-    }
-
-    /// Whether a slot, below 32, has no command that was read.
-    pub(super) fn is_empty(&self, slot: u8) -> bool
-        requires { slot < 32 }
-        ensures { result ≡ is_empty (command_at self.now slot) }
-    {
-        self.slots[usize::from(slot)].is_none()
     }
 
     /// Whether the device is busy with a command that is not queued.
@@ -155,42 +149,38 @@ impl<A: Allocator> Hba<A> {
         self.slots.iter().any(|slot| has_queued(slot))
     }
 
-    /// Whether the command of a slot, below 32, is with the port.
-    pub(super) fn is_sent(&self, slot: u8) -> bool
-        requires { slot < 32 }
+    /// Whether the command of a slot is with the port.
+    pub(super) fn is_sent(&self, slot: Slot) -> bool
         ensures { result ≡ is_sent (command_at self.now slot) }
     {
-        is_sent(&self.slots[usize::from(slot)])
+        is_sent(&self.slots[slot.index()])
     }
 
-    /// Whether the command of a slot, below 32, is not queued.
-    pub(super) fn has_alone(&self, slot: u8) -> bool
-        requires { slot < 32 }
+    /// Whether the command of a slot is not queued.
+    pub(super) fn has_alone(&self, slot: Slot) -> bool
         ensures { result ≡ has_alone (command_at self.now slot) }
     {
-        has_alone(&self.slots[usize::from(slot)])
+        has_alone(&self.slots[slot.index()])
     }
 
-    /// Whether the command of a slot, below 32, may be read now: the port processes commands, nothing is read or written just now, BSY and
+    /// Whether the command of a slot may be read now: the port processes commands, nothing is read or written just now, BSY and
     /// DRQ are 0, the slot's bit of PxCI is set, no slot of a higher priority waits (AHCI 1.3.1, section 3.3.7, CCS), and the device is
     /// not busy with a command that is not queued.
-    pub fn may_fetch(&self, slot: u8) -> bool
-        requires { slot < 32 }
+    pub fn may_fetch(&self, slot: Slot) -> bool
         ensures { result ≡ may_fetch self.now slot }
     {
         self.is_listening()
             && self.registers.is_free()
-            && self.waits(slot)
+            && self.waits(slot.number())
             && !self.is_overtaken(slot)
             && !self.is_busy_alone()
     }
 
-    /// Begins to read the command of a slot, below 32, which CCS names then: its header comes first.
+    /// Begins to read the command of a slot, which CCS names then: its header comes first.
     ///
     /// # Errors
     /// `NotReady` exactly if `may_fetch` is false.
-    pub fn fetch(&mut self, slot: u8) -> Result<(), HbaFault>
-        requires { slot < 32 }
+    pub fn fetch(&mut self, slot: Slot) -> Result<(), HbaFault>
         ensures ok { OnOk result ((may_fetch self.old slot ≡ true) × (self.new ≡ fetching self.old slot)) }
         ensures err { OnErr result ((may_fetch self.old slot ≡ false) × (self.new ≡ self.old)) }
         ensures fault { IfErr result (λ e. e ≡ HbaFault.NotReady) }
@@ -201,7 +191,7 @@ impl<A: Allocator> Hba<A> {
         let place = self
             .registers
             .list_base()
-            .wrapping_add(32 * u64::from(slot));
+            .wrapping_add(32 * u64::from(slot.number()));
         self.registers.select(slot);
         self.turn_to(Work::Fetching(slot, Fetch::new(place)));
         Ok(())

@@ -1,53 +1,65 @@
 //! How the controller reads and writes the driver's memory: it says what comes next, and is told once it is done.
 
-ghost use Rattle.std.specs.Prelude.{◌≡◌, ◌<◌, length, OnErr, OnOk};
-ghost use Rattle.ahci_hba.specs.{HbaView.{command_of, work_of}, Moving.{address_of, block_ended, ended_by, failed_fatally, place_of, placed_in, put_done, put_next, read_so_far, run_read, stuck_with, supplied, unmapped, want_of}};
-ghost use Rattle.ahci_hba.specs.States.{IsForSlot, IsSoundWork};
+ghost use Rattle.std.specs.Prelude.{◌≡◌, true, length, OnErr, OnOk};
+ghost use Rattle.ahci_hba.specs.{HbaView.{command_of, work_of}, Moving.{address_of, allocates_with, block_ended, ended, ended_by, failed_fatally, overflowed, place_of, placed_in, put_done, put_next, read_so_far, run_read, stuck_with, supplied, unmapped, want_of}};
+ghost use Rattle.ahci_hba.specs.States.{IsSoundWork};
 
-use crate::command::{Command, Slot};
+use crate::command::{Command, Listed};
 use crate::ending::Ending;
 use crate::hba::Hba;
+use crate::last_fis::LastFis;
 use crate::transfer::Transfer;
 use crate::want::Want;
 use crate::work::Work;
 use hba_memory::{Fetch, Reading};
-use hba_regs::{Fatal, HbaRegs};
+use hba_regs::{Fatal, HbaRegs, Slot};
 use std::alloc::{AllocError, Allocator};
 use std::mem;
 
 /// What the last FIS of an answer does to the registers.
 #[tactic(auto, unfolding(crate::specs::Moving::ended_by))]
-pub(super) fn end(registers: &mut HbaRegs, ending: Ending)
-    requires { IsForSlot ending }
-    ensures { registers.new ≡ ended_by registers.old ending }
+fn end_by(registers: &mut HbaRegs, fis: LastFis)
+    ensures { registers.new ≡ ended_by registers.old fis }
 {
-    match ending {
-        Ending::Register {
+    match fis {
+        LastFis::Register {
             status,
             error,
             interrupt,
             slot,
         } => registers.receive_register(status, error, interrupt, slot),
-        Ending::Bits {
+        LastFis::Bits {
             status,
             error,
             sactive,
         } => registers.receive_bits(status, error, true, sactive),
-        Ending::Pio { slot } => {
+        LastFis::Pio { slot } => {
             registers.receive_pio(0x48, 0); // DRDY and DRQ
             registers.end_pio(0x40, true, slot);
         }
-        Ending::Overflow => registers.fail_fatally(Fatal::Overflow),
-        Ending::PioOverflow => {
-            registers.receive_pio(0x48, 0); // DRDY and DRQ
-            registers.fail_fatally(Fatal::Overflow);
-        }
-        Ending::Signature => {
+        LastFis::Signature => {
             if registers.signature_moves() {
                 registers.take_signature();
             }
         }
     }
+}
+
+/// What data without room in their list do to the registers.
+fn overflow(registers: &mut HbaRegs, overflow: bool)
+    ensures { registers.new ≡ overflowed registers.old overflow }
+{
+    if overflow {
+        registers.overflow();
+    }
+}
+
+/// What the end of an answer does to the registers.
+pub(super) fn end(registers: &mut HbaRegs, ending: Ending)
+    ensures { registers.new ≡ ended registers.old ending }
+{
+    overflow(registers, ending.overflow);
+    end_by(registers, ending.fis);
 }
 
 /// What a block of a transfer does to the registers: its PIO Setup FIS, and the end of its data, after which the device is busy with the next
@@ -56,6 +68,7 @@ pub(super) fn end(registers: &mut HbaRegs, ending: Ending)
 pub(super) fn end_block<A: Allocator>(registers: &mut HbaRegs, transfer: &Transfer<A>)
     ensures { registers.new ≡ block_ended registers.old transfer.now }
 {
+    overflow(registers, transfer.is_short());
     registers.receive_pio(0x48, 0); // DRDY and DRQ
     registers.end_pio(0xC0, transfer.has_interrupt(), transfer.slot()); // BSY and DRDY
 }
@@ -151,11 +164,12 @@ impl<A: Allocator + Copy> Hba<A> {
     /// Takes the bytes that it reads. Memory for a command's list and a write's data is allocated here, once its FIS is known.
     ///
     /// # Errors
-    /// An allocation failed; nothing has changed, and the same bytes may be supplied again.
+    /// An allocation failed, with the command FIS of a command that moves data; nothing has changed, and the same bytes may be supplied again.
     pub fn supply(&mut self, bytes: &[u8]) -> Result<(), AllocError>
         requires { length bytes.now ≡ (run_read self.old.work).length }
         ensures ok { OnOk result (self.new ≡ supplied self.old self.old.work bytes.now) }
         ensures err { OnErr result (self.new ≡ self.old) }
+        ensures lacking { OnErr result (allocates_with self.old.work bytes.now ≡ true) }
     {
         match mem::replace(&mut self.work, Work::Idle) {
             Work::Fetching(slot, mut fetch) => match fetch.supply(self.alloc, bytes) {
@@ -186,8 +200,7 @@ impl<A: Allocator> Hba<A> {
     }
 
     /// Goes on with a slot's command: it is read further, stands in its slot, or ends in a fatal error.
-    fn read_so_far(&mut self, slot: u8, fetch: Fetch<A>)
-        requires { slot < 32 }
+    fn read_so_far(&mut self, slot: Slot, fetch: Fetch<A>)
         ensures { self.new ≡ read_so_far self.old slot fetch }
     {
         if !fetch.is_over() {
@@ -204,18 +217,16 @@ impl<A: Allocator> Hba<A> {
     }
 
     /// Puts a command that was read into its slot, and sends its FIS, with C of its header.
-    fn place(&mut self, slot: u8, clears: bool, command: Command<A>)
-        requires { slot < 32 }
+    fn place(&mut self, slot: Slot, clears: bool, command: Command<A>)
         ensures { self.new ≡ placed_in self.old slot clears (command_of command) }
     {
         self.registers.send(slot, clears);
-        self.slots[usize::from(slot)] = Some(Slot { command });
+        self.slots[slot.index()] = Some(Listed { command });
         self.work = Work::Idle;
     }
 
     /// The command FIS of a write is sent whose list is too short: the port is stuck.
-    fn stick(&mut self, slot: u8, clears: bool)
-        requires { slot < 32 }
+    fn stick(&mut self, slot: Slot, clears: bool)
         ensures { self.new ≡ stuck_with self.old slot clears }
     {
         self.registers.stick(slot, clears);

@@ -13,23 +13,25 @@ use crate::fault::HbaFault;
 use crate::hba::Hba;
 use crate::hba::answering::REGISTER;
 use crate::hba::failing::{fails_at, own_queued};
+use crate::last_fis::LastFis;
 use crate::work::Work;
 use ahci_port::{DeviceStep, Phase, Stepped};
 use hba_command::{PrdEntry, Task, action_of};
+use hba_regs::Slot;
 use std::alloc::Allocator;
 
 /// What the answer to an acceptance says to the registers.
-fn accepting(slot: u8, stepped: Stepped) -> Ending
+fn accepting(slot: Slot, stepped: Stepped) -> LastFis
     ensures { result ≡ accepting slot stepped }
 {
     match stepped {
-        Stepped::Accepted(_) => Ending::Register {
+        Stepped::Accepted(_) => LastFis::Register {
             status: 0x40,
             error: 0,
             interrupt: false,
             slot,
         },
-        _ => Ending::Register {
+        _ => LastFis::Register {
             status: 0x41,
             error: 0x10, // IDNF
             interrupt: true,
@@ -46,35 +48,33 @@ fn is_taken(stepped: Stepped) -> bool
 }
 
 impl<A: Allocator> Hba<A> {
-    /// Whether the command of a slot, below 32, is with the port and waits for the device; after a failure none does.
-    fn is_waiting(&self, slot: u8) -> bool
-        requires { slot < 32 }
+    /// Whether the command of a slot is with the port and waits for the device; after a failure none does.
+    fn is_waiting(&self, slot: Slot) -> bool
         ensures { result ≡ is_waiting self.now slot }
     {
-        self.is_sent(slot) && !self.port.halted() && matches!(self.port.phase(slot), Phase::Issued)
+        self.is_sent(slot)
+            && !self.port.halted()
+            && matches!(self.port.phase(slot.number()), Phase::Issued)
     }
 
-    /// Whether the device has taken the command of a slot, below 32; after a failure it has none.
-    fn is_taken_up(&self, slot: u8) -> bool
-        requires { slot < 32 }
+    /// Whether the device has taken the command of a slot; after a failure it has none.
+    fn is_taken_up(&self, slot: Slot) -> bool
         ensures { result ≡ is_taken_up self.now slot }
     {
         self.is_sent(slot)
             && !self.port.halted()
-            && matches!(self.port.phase(slot), Phase::Accepted)
+            && matches!(self.port.phase(slot.number()), Phase::Accepted)
     }
 
-    /// Whether the device can take the command of a slot, below 32: it is with the port and waits for the device, and the device may move.
-    pub fn may_accept(&self, slot: u8) -> bool
-        requires { slot < 32 }
+    /// Whether the device can take the command of a slot: it is with the port and waits for the device, and the device may move.
+    pub fn may_accept(&self, slot: Slot) -> bool
         ensures { result ≡ may_accept self.now slot }
     {
         self.is_ready() && self.is_waiting(slot)
     }
 
-    /// Whether the device can serve the command of a slot, below 32: it has taken it, and may move.
-    pub fn may_serve(&self, slot: u8) -> bool
-        requires { slot < 32 }
+    /// Whether the device can serve the command of a slot: it has taken it, and may move.
+    pub fn may_serve(&self, slot: Slot) -> bool
         ensures { result ≡ may_serve self.now slot }
     {
         self.is_ready() && self.is_taken_up(slot)
@@ -82,14 +82,13 @@ impl<A: Allocator> Hba<A> {
 }
 
 impl<A: Allocator + Copy> Hba<A> {
-    /// Takes the command out of a slot, below 32, and leaves it empty; what it asks and its PRDT are the answer.
-    pub(super) fn take_command(&mut self, slot: u8) -> (Task, Vec<PrdEntry, A>)
-        requires { slot < 32 }
+    /// Takes the command out of a slot, and leaves it empty; what it asks and its PRDT are the answer.
+    pub(super) fn take_command(&mut self, slot: Slot) -> (Task, Vec<PrdEntry, A>)
         ensures task { result.0 ≡ task_in (command_at self.old slot) }
         ensures list { result.1.items ≡ list_in (command_at self.old slot) }
         ensures slots { self.new ≡ record self.old { slots = slice_set self.old.slots slot None } }
     {
-        match self.slots[usize::from(slot)].take() {
+        match self.slots[slot.index()].take() {
             Some(taken) => match taken.command {
                 Command::Fetched(task, list, _) => (task, list),
                 Command::Sent(task, list) => (task, list),
@@ -98,13 +97,12 @@ impl<A: Allocator + Copy> Hba<A> {
         }
     }
 
-    /// The device moves the data of the command of a slot, below 32, and completes it; its answer is taken from the port. It stands
+    /// The device moves the data of the command of a slot and completes it; its answer is taken from the port. It stands
     /// in the controller until `deliver` puts it together. Nothing is allocated.
     ///
     /// # Errors
     /// `NotReady` exactly if `may_serve` is false.
-    pub fn serve(&mut self, slot: u8) -> Result<(), HbaFault>
-        requires { slot < 32 }
+    pub fn serve(&mut self, slot: Slot) -> Result<(), HbaFault>
         ensures ready { OnOk result (may_serve self.old slot ≡ true) }
         ensures ok { OnOk result (IsServed slot (task_in (command_at self.old slot)) (list_in (command_at self.old slot)) self.old self.new) }
         ensures err { IfErr result (λ e. (e ≡ HbaFault.NotReady) × (may_serve self.old slot ≡ false) × (self.new ≡ self.old)) }
@@ -113,13 +111,14 @@ impl<A: Allocator + Copy> Hba<A> {
             return Err(HbaFault::NotReady);
         }
         self.port.keeps_its_promise();
-        let Some(number) = self.port.owner(slot) else {
+        let tag = slot.number();
+        let Some(number) = self.port.owner(tag) else {
             unreachable!() // an accepted command has a request
         };
-        let Ok(_) = self.port.step(DeviceStep::serve_one(slot)) else {
+        let Ok(_) = self.port.step(DeviceStep::serve_one(tag)) else {
             unreachable!() // the device has taken it
         };
-        let Ok((_, window)) = self.port.collect(slot, number) else {
+        let Ok((_, window)) = self.port.collect(tag, number) else {
             unreachable!() // it is done
         };
         let (task, list) = self.take_command(slot);
@@ -127,13 +126,12 @@ impl<A: Allocator + Copy> Hba<A> {
         Ok(())
     }
 
-    /// The device takes the command of a slot, below 32, or refuses it if it passes the last sector. Of a queued one a D2H Register FIS is
-    /// written, and then PxCI loses the slot, or the port halts.
+    /// The device takes the command of a slot, or refuses it if it passes the last sector, and is Active then. Of a queued one a D2H Register FIS
+    /// is written, and then PxCI loses the slot, or the port halts.
     ///
     /// # Errors
     /// `NotReady` exactly if `may_accept` is false.
-    pub fn accept(&mut self, slot: u8) -> Result<(), HbaFault>
-        requires { slot < 32 }
+    pub fn accept(&mut self, slot: Slot) -> Result<(), HbaFault>
         ensures ready { OnOk result (may_accept self.old slot ≡ true) }
         ensures ok { OnOk result (IsAccepted slot (has_alone (command_at self.old slot)) self.old self.new) }
         ensures err { IfErr result (λ e. (e ≡ HbaFault.NotReady) × (may_accept self.old slot ≡ false) × (self.new ≡ self.old)) }
@@ -142,16 +140,17 @@ impl<A: Allocator + Copy> Hba<A> {
             return Err(HbaFault::NotReady);
         }
         let alone = self.has_alone(slot);
-        let Ok(stepped) = self.port.step(DeviceStep::Accept(slot)) else {
+        let tag = slot.number();
+        let Ok(stepped) = self.port.step(DeviceStep::Accept(tag)) else {
             unreachable!() // it waits
         };
         self.answer_acceptance(slot, alone, stepped);
+        self.wake();
         Ok(())
     }
 
     /// Answers the acceptance of a slot's command.
-    fn answer_acceptance(&mut self, slot: u8, alone: bool, stepped: Stepped)
-        requires { slot < 32 }
+    fn answer_acceptance(&mut self, slot: Slot, alone: bool, stepped: Stepped)
         ensures { self.new ≡ after_acceptance slot alone self.old self.old.port stepped }
     {
         if alone && is_taken(stepped) {
@@ -159,16 +158,15 @@ impl<A: Allocator + Copy> Hba<A> {
         }
         let fis = self.fis_put(REGISTER, 20);
         let posting = self.only_after(fis);
-        self.answer(posting, accepting(slot, stepped));
+        self.answer(posting, Ending::of(true, accepting(slot, stepped)));
     }
 
-    /// The device fails the queued command of a slot, below 32, that it has taken, with an error byte at one of its sectors: a Set Device Bits
+    /// The device fails the queued command of a slot that it has taken, with an error byte at one of its sectors: a Set Device Bits
     /// FIS is written, and then the port halts. A read has moved its sectors before that one; a write has changed none, and names its first one.
     ///
     /// # Errors
     /// `NotReady` only if `may_fail` is false; `OutOfMemory` if an allocation failed, and it can be tried again. Nothing has changed.
-    pub fn fail(&mut self, slot: u8, error: u8, lba: u64) -> Result<(), HbaFault>
-        requires { slot < 32 }
+    pub fn fail(&mut self, slot: Slot, error: u8, lba: u64) -> Result<(), HbaFault>
         ensures ready { OnOk result (may_fail self.old slot lba ≡ true) }
         ensures ok { OnOk result (Fails slot error lba (own_in self.old slot lba) self.old self.new) }
         ensures err { IfErr result (λ e. RefusesFor e (may_fail self.old slot lba) × (self.new ≡ self.old)) }
@@ -188,20 +186,16 @@ impl<A: Allocator + Copy> Hba<A> {
         Ok(())
     }
 
-    /// Lets the port fail the request of a slot, below 32, that the device has taken, at a sector. It is false if the request has no such sector, and
+    /// Lets the port fail the request of a slot that the device has taken, at a sector. It is false if the request has no such sector, and
     /// nothing has changed.
-    fn fail_request(&mut self, slot: u8, error: u8, at: u64) -> bool
-        requires slot { slot < 32 }
+    fn fail_request(&mut self, slot: Slot, error: u8, at: u64) -> bool
         requires taken { may_serve self.old slot ≡ true }
         ensures answer { result ≡ is_of_request (request self.old.port.past slot) at }
         ensures failed { result ≡ true → FailsRequest slot error at self.old self.new }
         ensures same { result ≡ false → self.new ≡ self.old }
     {
-        let step = DeviceStep::Fail {
-            tag: slot,
-            error,
-            at,
-        };
+        let tag = slot.number();
+        let step = DeviceStep::Fail { tag, error, at };
         let Ok(_) = self.port.step(step) else {
             return false; // it is no sector of the request
         };

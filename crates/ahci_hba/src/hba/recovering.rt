@@ -12,6 +12,7 @@ use crate::hba::Hba;
 use crate::hba::writing::reset;
 use ahci_port::{Journal, Outcome, Port, RecoverFault, Reply};
 use hba_command::{Action, Log, Page, Protocol, action_of, not_queued_page};
+use hba_regs::Slot;
 use ncq_core::{LBA_LIMIT, log_page};
 use std::alloc::Allocator;
 
@@ -42,12 +43,11 @@ fn error_log_of(action: &Action) -> Option<Protocol>
 }
 
 impl<A: Allocator> Hba<A> {
-    /// How the command of a slot, below 32, reads the log of failed queued commands; nothing if it doesn't.
-    pub fn error_log_in(&self, slot: u8) -> Option<Protocol>
-        requires { slot < 32 }
+    /// How the command of a slot reads the log of failed queued commands; nothing if it doesn't.
+    pub fn error_log_in(&self, slot: Slot) -> Option<Protocol>
         ensures { result ≡ error_log_in (command_at self.now slot) }
     {
-        match &self.slots[usize::from(slot)] {
+        match &self.slots[slot.index()] {
             Some(slot) => match &slot.command {
                 Command::Fetched(task, _, _) => error_log_of(&action_of(task)),
                 Command::Sent(_, _) => None,
@@ -56,10 +56,9 @@ impl<A: Allocator> Hba<A> {
         }
     }
 
-    /// Whether the device reads the log of failed queued commands for the command of a slot, below 32, now: one has failed, and no queued command
+    /// Whether the device reads the log of failed queued commands for the command of a slot now: one has failed, and no queued command
     /// is outstanding.
-    pub fn may_recover(&self, slot: u8) -> bool
-        requires { slot < 32 }
+    pub fn may_recover(&self, slot: Slot) -> bool
         ensures { result ≡ may_recover self.now slot }
     {
         self.is_ready()
@@ -92,14 +91,13 @@ fn recover<A: Allocator>(port: &mut Port<A>) -> Result<(u8, Reply), HbaFault>
 }
 
 impl<A: Allocator + Copy> Hba<A> {
-    /// The device answers a command of a slot, below 32, that reads the log of failed queued commands, after one has failed: the port recovers,
+    /// The device answers a command of a slot that reads the log of failed queued commands, after one has failed: the port recovers,
     /// the failed request is collected, what was held is dropped, and the page goes to the driver. The port is reset after that, and the
     /// journal that it hands out is the answer.
     ///
     /// # Errors
     /// `NotReady` exactly if `may_recover` is false; else `OutOfMemory` if an allocation failed, and it can be tried again. Nothing has changed.
-    pub fn recover(&mut self, slot: u8) -> Result<Option<Journal<A>>, HbaFault>
-        requires { slot < 32 }
+    pub fn recover(&mut self, slot: Slot) -> Result<Option<Journal<A>>, HbaFault>
         ensures ready { OnOk result (may_recover self.old slot ≡ true) }
         ensures ok { IfOk result (λ j. ReadsErrorLog slot self.old self.new j) }
         ensures err { IfErr result (λ e. (e ≡ fault_if (may_recover self.old slot)) × (self.new ≡ self.old)) }

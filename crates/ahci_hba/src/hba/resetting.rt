@@ -2,8 +2,9 @@
 
 ghost use Rattle.std.specs.Prelude.{◌≡◌, ◌<◌, ◌^◌, true, false, IfErr, OnErr, OnOk, IfOk};
 ghost use Rattle.ahci_hba.specs.Dropping.{handed_out, is_reset};
-ghost use Rattle.ahci_hba.specs.Failing.{refused_at};
-ghost use Rattle.ahci_hba.specs.Queueing.{command_at};
+ghost use Rattle.hba_command.specs.Action.{action_of};
+ghost use Rattle.ahci_hba.specs.Failing.{moves_before, refused_at};
+ghost use Rattle.ahci_hba.specs.Queueing.{command_at, task_in};
 ghost use Rattle.ahci_hba.specs.Stepping.{fault_if, may_control, may_refuse};
 ghost use Rattle.ahci_hba.specs.Resetting.{IsControlled, control_in, control_journal, control_of, held, may_sign, released, signature, signing};
 ghost use Rattle.hba_regs.specs.declared.consequence.Consequence.TheVariants.{LinkReset};
@@ -13,9 +14,10 @@ use crate::ending::Ending;
 use crate::fault::HbaFault;
 use crate::hba::Hba;
 use crate::hba::answering::REGISTER;
+use crate::last_fis::LastFis;
 use ahci_port::Journal;
 use hba_command::{Action, action_of};
-use hba_regs::{Consequence, SoftReset};
+use hba_regs::{Consequence, Slot, SoftReset};
 use sata_fis::{D2h, Fis};
 use std::alloc::Allocator;
 
@@ -51,12 +53,11 @@ impl<A: Allocator> Hba<A> {
         self.is_idle() && self.registers.signature_moves()
     }
 
-    /// What the device control register of a slot's control FIS says of SRST, below 32; nothing if the slot has none that was read.
-    pub fn control_in(&self, slot: u8) -> Option<bool>
-        requires { slot < 32 }
+    /// What the device control register of a slot's control FIS says of SRST; nothing if the slot has none that was read.
+    pub fn control_in(&self, slot: Slot) -> Option<bool>
         ensures { result ≡ control_in (command_at self.now slot) }
     {
-        match &self.slots[usize::from(slot)] {
+        match &self.slots[slot.index()] {
             Some(slot) => match &slot.command {
                 Command::Fetched(task, _, _) => control_of(&action_of(task)),
                 Command::Sent(_, _) => None,
@@ -65,25 +66,22 @@ impl<A: Allocator> Hba<A> {
         }
     }
 
-    /// Whether the device takes the control FIS of a slot, below 32, now.
-    pub fn may_control(&self, slot: u8) -> bool
-        requires { slot < 32 }
+    /// Whether the device takes the control FIS of a slot now.
+    pub fn may_control(&self, slot: Slot) -> bool
         ensures { result ≡ may_control self.now slot }
     {
         self.is_listening() && self.control_in(slot).is_some()
     }
 
-    /// Whether the device can fail the command of a slot, below 32, that is read and not queued.
-    pub fn may_refuse(&self, slot: u8) -> bool
-        requires { slot < 32 }
+    /// Whether the device can fail the command of a slot that is read and not queued.
+    pub fn may_refuse(&self, slot: Slot) -> bool
         ensures { result ≡ may_refuse self.now slot }
     {
         self.is_ready() && self.is_alone_fetched(slot)
     }
 
-    /// The device takes SRST 0, in the control FIS of a slot, below 32.
-    fn release(&mut self, slot: u8)
-        requires { slot < 32 }
+    /// The device takes SRST 0, in the control FIS of a slot.
+    fn release(&mut self, slot: Slot)
         ensures { self.new ≡ released self.old.registers.port.soft self.old slot }
     {
         match self.registers.soft_reset() {
@@ -93,7 +91,7 @@ impl<A: Allocator> Hba<A> {
             }
             SoftReset::Off | SoftReset::Ending(_) => {
                 self.registers.clear_srst(slot);
-                self.slots[usize::from(slot)] = None;
+                self.slots[slot.index()] = None;
             }
         }
     }
@@ -114,18 +112,17 @@ impl<A: Allocator + Copy> Hba<A> {
         }
         let put = self.received_put(REGISTER, Fis::D2h(signature()).encode());
         let posting = self.only_after(put);
-        self.answer(posting, Ending::Signature);
+        self.answer(posting, Ending::of(true, LastFis::Signature));
         Ok(())
     }
 
-    /// The device takes the control FIS of a slot, below 32 (AHCI 1.3.1, section 10.4.1). One with SRST holds it in a reset and drops all
+    /// The device takes the control FIS of a slot (AHCI 1.3.1, section 10.4.1). One with SRST holds it in a reset and drops all
     /// commands; if the port has requests, it is reset, and the journal that it hands out is the answer. The next one, without SRST, ends
     /// the reset, and the device sends its signature. One without SRST alone changes nothing.
     ///
     /// # Errors
     /// `NotReady` exactly if `may_control` is false.
-    pub fn control(&mut self, slot: u8) -> Result<Option<Journal<A>>, HbaFault>
-        requires { slot < 32 }
+    pub fn control(&mut self, slot: Slot) -> Result<Option<Journal<A>>, HbaFault>
         ensures ready { OnOk result (may_control self.old slot ≡ true) }
         ensures ok { OnOk result (IsControlled slot self.old self.new) }
         ensures journal { IfOk result (λ j. j ≡ control_journal self.old (control_in (command_at self.old slot))) }
@@ -150,26 +147,31 @@ impl<A: Allocator + Copy> Hba<A> {
         ensures journal { result ≡ handed_out (is_reset LinkReset self.old) self.old.port }
     {
         let journal = self.reset_port(Consequence::LinkReset);
+        self.settle_power(Consequence::LinkReset);
         self.registers.set_srst();
         self.empty();
         journal
     }
 
-    /// The device fails the command of a slot, below 32, that is read and not queued, with an error byte at an LBA below 2^48: a D2H Register
+    /// The device fails the command of a slot that is read and not queued, with an error byte at an LBA below 2^48: a D2H Register
     /// FIS is written, and then the port halts. No sector has changed. A read has moved its sectors before the LBA; a write names its first one.
     ///
     /// # Errors
-    /// `NotReady` exactly if `may_refuse` is false; else `OutOfMemory` if an allocation failed, and it can be tried again. Nothing has changed.
-    pub fn refuse(&mut self, slot: u8, error: u8, lba: u64) -> Result<(), HbaFault>
-        requires slot { slot < 32 }
+    /// `NotReady` exactly if `may_refuse` is false; else `OutOfMemory` if a read has moved sectors and an allocation failed, and it can be tried again.
+    /// Nothing has changed.
+    pub fn refuse(&mut self, slot: Slot, error: u8, lba: u64) -> Result<(), HbaFault>
         requires lba { lba < 2 ^ 48 }
         ensures ready { OnOk result (may_refuse self.old slot ≡ true) }
         ensures ok { OnOk result (self.new ≡ refused_at self.old slot error lba) }
         ensures err { IfErr result (λ e. (e ≡ fault_if (may_refuse self.old slot)) × (self.new ≡ self.old)) }
+        ensures lacking { IfErr result (λ e. e ≡ HbaFault.OutOfMemory → moves_before self.old.port (action_of (task_in (command_at self.old slot))) lba ≡ true) }
     {
         if !self.may_refuse(slot) {
             return Err(HbaFault::NotReady);
         }
-        self.refuse_with(slot, &action_of(&self.task_in(slot)), error, lba)
+        let action = action_of(&self.task_in(slot));
+        self.refuse_with(slot, &action, error, lba)?;
+        self.wake_for(&action);
+        Ok(())
     }
 }

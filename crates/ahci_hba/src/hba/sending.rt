@@ -7,11 +7,12 @@ ghost use Rattle.ahci_hba.specs.HbaView.{Fetched, command_of};
 ghost use Rattle.ahci_hba.specs.Queueing.{IsSent, Sends, asked_for, command_at, goes_to_port, has_tag, is_fetched, is_on, moves_sectors, put_back, work_for, work_of_action};
 ghost use Rattle.ahci_hba.specs.Stepping.{fault_if, may_send, work_at};
 
-use crate::command::{Command, Slot};
+use crate::command::{Command, Listed};
 use crate::fault::HbaFault;
 use crate::hba::Hba;
 use ahci_port::{Bytes, Op, Port, SubmitFault};
 use hba_command::{Action, PrdEntry, Span, Task, action_of};
+use hba_regs::Slot;
 use ncq_core::SECTOR;
 use sata_fis::Queued;
 use std::alloc::Allocator;
@@ -65,7 +66,7 @@ fn put_back<A: Allocator>(op: Op<A>, left: Vec<u8, A>) -> Vec<u8, A>
 /// Why a port would not take a write of these bytes for a slot, memory aside.
 fn write_fault<A: Allocator>(
     port: &Port<A>,
-    slot: u8,
+    slot: Slot,
     lba: u64,
     bytes: &[u8],
 ) -> Option<SubmitFault>
@@ -74,13 +75,13 @@ fn write_fault<A: Allocator>(
     if bytes.len() % SECTOR != 0 {
         return Some(SubmitFault::BadCount);
     }
-    port.submit_fault(slot, lba, (bytes.len() / SECTOR) as u64)
+    port.submit_fault(slot.number(), lba, (bytes.len() / SECTOR) as u64)
 }
 
 /// The same of a read, or of a write of these bytes.
 fn work_fault<A: Allocator>(
     port: &Port<A>,
-    slot: u8,
+    slot: Slot,
     write: bool,
     lba: u64,
     sectors: u32,
@@ -91,7 +92,7 @@ fn work_fault<A: Allocator>(
     if write {
         return write_fault(port, slot, lba, bytes);
     }
-    port.submit_fault(slot, lba, u64::from(sectors))
+    port.submit_fault(slot.number(), lba, u64::from(sectors))
 }
 
 impl<A: Allocator> Hba<A> {
@@ -122,13 +123,12 @@ impl<A: Allocator> Hba<A> {
         }
     }
 
-    /// Whether the command of a slot, below 32, goes to the port: it is read, and is queued with a tag that the device has, or moves sectors of the
+    /// Whether the command of a slot goes to the port: it is read, and is queued with a tag that the device has, or moves sectors of the
     /// disk while no queued one is outstanding.
-    pub fn goes_to_port(&self, slot: u8) -> bool
-        requires { slot < 32 }
+    pub fn goes_to_port(&self, slot: Slot) -> bool
         ensures { result ≡ goes_to_port self.now (command_at self.now slot) }
     {
-        match &self.slots[usize::from(slot)] {
+        match &self.slots[slot.index()] {
             Some(slot) => match &slot.command {
                 Command::Fetched(task, _, _) => self.moves_sectors(&action_of(task)),
                 Command::Sent(_, _) => false,
@@ -141,7 +141,7 @@ impl<A: Allocator> Hba<A> {
 /// Why a port would not take what a command asks for a slot, memory aside.
 fn action_fault<A: Allocator>(
     port: &Port<A>,
-    slot: u8,
+    slot: Slot,
     action: &Action,
     bytes: &[u8],
 ) -> Option<SubmitFault>
@@ -155,32 +155,30 @@ fn action_fault<A: Allocator>(
             work_fault(port, slot, *write, span.lba, span.sectors, bytes)
         }
         Action::Page(_, _) | Action::Flush | Action::Reply(_) | Action::Control { .. } => {
-            port.submit_fault(slot, 0, 0)
+            port.submit_fault(slot.number(), 0, 0)
         }
-        Action::Abort => port.submit_fault(slot, 0, 0),
+        Action::Abort => port.submit_fault(slot.number(), 0, 0),
     }
 }
 
 impl<A: Allocator> Hba<A> {
-    /// Why the port would not take the command of a slot, below 32, memory aside.
-    fn submit_fault(&self, slot: u8) -> Option<SubmitFault>
-        requires { slot < 32 }
+    /// Why the port would not take the command of a slot, memory aside.
+    fn submit_fault(&self, slot: Slot) -> Option<SubmitFault>
         ensures { result ≡ op_refusal self.now.port slot (work_at (command_at self.now slot)) }
     {
-        match &self.slots[usize::from(slot)] {
+        match &self.slots[slot.index()] {
             Some(read) => match &read.command {
                 Command::Fetched(task, _, bytes) => {
                     action_fault(&self.port, slot, &action_of(task), bytes)
                 }
-                Command::Sent(_, _) => self.port.submit_fault(slot, 0, 0),
+                Command::Sent(_, _) => self.port.submit_fault(slot.number(), 0, 0),
             },
-            None => self.port.submit_fault(slot, 0, 0),
+            None => self.port.submit_fault(slot.number(), 0, 0),
         }
     }
 
-    /// Whether the command of a slot, below 32, goes to the port now: `goes_to_port` holds, the port takes it, and the device may move.
-    pub fn may_send(&self, slot: u8) -> bool
-        requires { slot < 32 }
+    /// Whether the command of a slot goes to the port now: `goes_to_port` holds, the port takes it, and the device may move.
+    pub fn may_send(&self, slot: Slot) -> bool
         ensures { result ≡ may_send self.now slot }
     {
         self.is_ready() && self.goes_to_port(slot) && self.submit_fault(slot).is_none()
@@ -188,21 +186,20 @@ impl<A: Allocator> Hba<A> {
 }
 
 impl<A: Allocator + Copy> Hba<A> {
-    /// Sends a command that the port takes to it for a slot, below 32; if an allocation fails, it is in its slot again.
+    /// Sends a command that the port takes to it for a slot; if an allocation fails, it is in its slot again.
     fn send_command(
         &mut self,
-        slot: u8,
+        slot: Slot,
         task: Task,
         list: Vec<PrdEntry, A>,
         bytes: Vec<u8, A>,
     ) -> Result<(), HbaFault>
-        requires slot { slot < 32 }
-        requires taken { op_refusal self.old.port slot (asked_for task bytes.items) ≡ None }
+        requires { op_refusal self.old.port slot (asked_for task bytes.items) ≡ None }
         ensures ok { OnOk result (IsSent slot task list.items bytes.items self.old self.new) }
         ensures err { IfErr result (λ e. (e ≡ HbaFault.OutOfMemory) × (self.new ≡ record self.old { slots = slice_set self.old.slots slot (Some (Fetched task list.items bytes.items)) })) }
     {
         let (op, left) = asked(self.alloc, &task, bytes);
-        match self.port.submit_tested(slot, op) {
+        match self.port.submit_tested(slot.number(), op) {
             Ok(_) => {
                 self.put(slot, Command::Sent(task, list));
                 Ok(())
@@ -214,21 +211,19 @@ impl<A: Allocator + Copy> Hba<A> {
         }
     }
 
-    /// Puts a command into a slot, below 32.
-    fn put(&mut self, slot: u8, command: Command<A>)
-        requires { slot < 32 }
+    /// Puts a command into a slot.
+    fn put(&mut self, slot: Slot, command: Command<A>)
         ensures { self.new ≡ record self.old { slots = slice_set self.old.slots slot (Some (command_of command)) } }
     {
-        self.slots[usize::from(slot)] = Some(Slot { command });
+        self.slots[slot.index()] = Some(Listed { command });
     }
 
-    /// Sends the command of a slot, below 32, to the port, if it goes there: its request is in the journal then, a write with the bytes that were
+    /// Sends the command of a slot to the port, if it goes there: its request is in the journal then, a write with the bytes that were
     /// read.
     ///
     /// # Errors
     /// `NotReady` exactly if `may_send` is false; else `OutOfMemory` if an allocation failed, and it can be tried again. Nothing has changed.
-    pub fn send(&mut self, slot: u8) -> Result<(), HbaFault>
-        requires { slot < 32 }
+    pub fn send(&mut self, slot: Slot) -> Result<(), HbaFault>
         ensures ready { OnOk result (may_send self.old slot ≡ true) }
         ensures ok { OnOk result (Sends slot (command_at self.old slot) self.old self.new) }
         ensures err { IfErr result (λ e. (e ≡ fault_if (may_send self.old slot)) × (self.new ≡ self.old)) }
@@ -240,16 +235,15 @@ impl<A: Allocator + Copy> Hba<A> {
         self.send_command(slot, task, list, bytes)
     }
 
-    /// Takes a command that was read out of a slot, below 32, and leaves it empty.
-    pub(super) fn take_fetched(&mut self, slot: u8) -> (Task, Vec<PrdEntry, A>, Vec<u8, A>)
-        requires slot { slot < 32 }
+    /// Takes a command that was read out of a slot, and leaves it empty.
+    pub(super) fn take_fetched(&mut self, slot: Slot) -> (Task, Vec<PrdEntry, A>, Vec<u8, A>)
         requires fetched { is_fetched (command_at self.old slot) ≡ true }
         ensures command { command_at self.old slot ≡ Some (Fetched result.0 result.1.items result.2.items) }
         ensures slots { self.new ≡ record self.old { slots = slice_set self.old.slots slot None } }
     {
-        match self.slots[usize::from(slot)].take() {
+        match self.slots[slot.index()].take() {
             Some(
-                Slot {
+                Listed {
                     command: Command::Fetched(task, list, bytes),
                 },
             ) => (task, list, bytes),

@@ -1,18 +1,19 @@
 //! Which step the device can take next with the command of a slot, and that step.
 
 ghost use Rattle.std.specs.Prelude.{◌≡◌, ◌<◌, IfErr, IfOk, IsSomeAnd, is_some};
-ghost use Rattle.ahci_hba.specs.Stepping.{IsTaken, delivers_for, fault_if, may_deliver, next_step, queue_step};
+ghost use Rattle.ahci_hba.specs.Stepping.{IsTaken, StepMayLack, delivers_for, fault_if, may_deliver, next_step, queue_step};
 
 use crate::fault::HbaFault;
 use crate::hba::Hba;
 use crate::step::Step;
 use crate::work::Work;
 use ahci_port::Journal;
+use hba_regs::Slot;
 use std::alloc::Allocator;
 
 impl<A: Allocator> Hba<A> {
     /// Whether the port has done the command of a slot, and its answer is to be put together; or the next block of its transfer by PIO.
-    fn delivers_for(&self, slot: u8) -> bool
+    fn delivers_for(&self, slot: Slot) -> bool
         ensures { result ≡ delivers_for self.now.work slot }
     {
         match &self.work {
@@ -24,15 +25,14 @@ impl<A: Allocator> Hba<A> {
 
     /// Whether the answer to the command of a slot, or its next block, can be put together now: the device may send FISes, since the port
     /// processes commands and FRE is 1.
-    pub fn may_deliver(&self, slot: u8) -> bool
+    pub fn may_deliver(&self, slot: Slot) -> bool
         ensures { result ≡ may_deliver self.now slot }
     {
         self.is_running() && self.registers.is_receiving() && self.delivers_for(slot)
     }
 
     /// The next step with a command that goes to the port.
-    fn queue_step(&self, slot: u8) -> Option<Step>
-        requires { slot < 32 }
+    fn queue_step(&self, slot: Slot) -> Option<Step>
         ensures { result ≡ queue_step self.now slot }
     {
         if self.may_send(slot) {
@@ -48,10 +48,9 @@ impl<A: Allocator> Hba<A> {
         }
     }
 
-    /// The next step that the device can take with the command of a slot, below 32; which slot comes first is the caller's choice. A command
+    /// The next step that the device can take with the command of a slot; which slot comes first is the caller's choice. A command
     /// that may be served may also be failed, and one that is executed, refused.
-    pub fn next(&self, slot: u8) -> Option<Step>
-        requires { slot < 32 }
+    pub fn next(&self, slot: Slot) -> Option<Step>
         ensures { result ≡ next_step self.now slot }
     {
         if self.may_fetch(slot) {
@@ -69,15 +68,16 @@ impl<A: Allocator> Hba<A> {
 }
 
 impl<A: Allocator + Copy> Hba<A> {
-    /// Takes the next step with the command of a slot, below 32: that of `next`. The answer is the journal that is handed out if the step
+    /// Takes the next step with the command of a slot: that of `next`. The answer is the journal that is handed out if the step
     /// resets the port.
     ///
     /// # Errors
-    /// `NotReady` exactly if `next` names no step; else `OutOfMemory` if an allocation failed, and it can be tried again. Nothing has changed.
-    pub fn step(&mut self, slot: u8) -> Result<Option<Journal<A>>, HbaFault>
-        requires { slot < 32 }
+    /// `NotReady` exactly if `next` names no step; else `OutOfMemory` if the step allocates and an allocation failed, and it can be tried again. Nothing
+    /// has changed.
+    pub fn step(&mut self, slot: Slot) -> Result<Option<Journal<A>>, HbaFault>
         ensures ok { IfOk result (λ j. IsSomeAnd (next_step self.old slot) (λ s. IsTaken s slot self.old self.new j)) }
         ensures err { IfErr result (λ e. (e ≡ fault_if (is_some (next_step self.old slot))) × (self.new ≡ self.old)) }
+        ensures lacking { IfErr result (λ e. e ≡ HbaFault.OutOfMemory → IsSomeAnd (next_step self.old slot) (λ s. StepMayLack s slot self.old)) }
     {
         let Some(step) = self.next(slot) else {
             return Err(HbaFault::NotReady);

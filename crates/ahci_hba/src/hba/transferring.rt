@@ -1,12 +1,13 @@
 //! How the data of a command by PIO move, block by block (Serial ATA, "PIO Setup"; ACS-3, "PIO data-in command protocol").
 
-ghost use Rattle.std.specs.Prelude.{◌≡◌, ◌<◌, false, IfOk, OnErr, OnOk};
+ghost use Rattle.std.specs.Prelude.{◌≡◌, ◌<◌, false, true, IfOk, OnErr, OnOk};
 ghost use Rattle.hba_memory.specs.Blocks.{block_puts};
-ghost use Rattle.ahci_hba.specs.Delivering.{block_in, block_out, block_posting, content_of, finishing, going_on, gone_on, only_before, setup_put, stepped_on};
-ghost use Rattle.ahci_hba.specs.Transfer.{next_block};
+ghost use Rattle.ahci_hba.specs.Delivering.{block_content, block_in, block_out, block_posting, content_of, finishing, going_on, gone_on, only_before, sends_data, setup_put, stepped_on};
+ghost use Rattle.ahci_hba.specs.Transfer.{next_block, sends_block};
 
 use crate::ending::Ending;
 use crate::hba::Hba;
+use crate::last_fis::LastFis;
 use crate::transfer::Transfer;
 use crate::work::Work;
 use hba_memory::{Posting, Scatter};
@@ -34,12 +35,9 @@ impl<A: Allocator> Hba<A> {
         ensures { self.new ≡ block_in self.old transfer }
     {
         let slot = transfer.slot();
-        if !transfer.fits() {
-            let posting = self.block_posting(&transfer, content, transfer.e_status());
-            self.answer(posting, Ending::PioOverflow);
-        } else if transfer.is_last() {
+        if transfer.is_last() {
             let posting = self.block_posting(&transfer, content, 0x40);
-            self.answer(posting, Ending::Pio { slot });
+            self.answer(posting, Ending::of(transfer.fits(), LastFis::Pio { slot }));
         } else {
             let posting = self.block_posting(&transfer, content, 0xC0);
             self.block(posting, next_of(transfer));
@@ -55,6 +53,20 @@ fn next_of<A: Allocator>(transfer: Transfer<A>) -> Transfer<A>
     let mut next = transfer;
     next.advance();
     next
+}
+
+/// The next block of a transfer to the driver; nothing if none comes.
+fn block_content<A: Allocator + Copy>(
+    alloc: A,
+    transfer: &Transfer<A>,
+) -> Result<Scatter<A>, AllocError>
+    ensures ok { IfOk result (λ s. s ≡ block_content transfer.now) }
+    ensures lacking { OnErr result (sends_block transfer.now ≡ true) }
+{
+    if !transfer.sends_block() {
+        return Ok(Scatter::new(Vec::new(alloc), Vec::new(alloc)));
+    }
+    transfer.rest().block(alloc)
 }
 
 impl<A: Allocator + Copy> Hba<A> {
@@ -79,14 +91,14 @@ impl<A: Allocator + Copy> Hba<A> {
         ensures { self.new ≡ finishing self.old transfer transfer.finish }
     {
         match transfer.finish() {
-            Some(fis) => self.close(transfer.slot(), 512 * transfer.done(), fis),
+            Some(fis) => self.close(transfer.slot(), transfer.moved(), fis),
             None => self.turn_to(Work::Idle),
         }
     }
 
     /// The next step of a transfer.
     fn move_on(&mut self, transfer: Transfer<A>, content: Scatter<A>)
-        requires { content ≡ block_puts transfer.rest }
+        requires { content ≡ block_content transfer }
         ensures { self.new ≡ going_on self.old transfer }
     {
         if transfer.left() == 0 {
@@ -98,12 +110,13 @@ impl<A: Allocator + Copy> Hba<A> {
         }
     }
 
-    /// The next block of a transfer, on its way.
+    /// The next block of a transfer to the driver, on its way.
     fn next_content(&self) -> Result<Scatter<A>, AllocError>
-        ensures { IfOk result (λ s. s ≡ content_of self.now.work) }
+        ensures ok { IfOk result (λ s. s ≡ content_of self.now.work) }
+        ensures lacking { OnErr result (sends_data self.now.work ≡ true) }
     {
         match &self.work {
-            Work::Pio(transfer) => transfer.rest().block(self.alloc),
+            Work::Pio(transfer) => block_content(self.alloc, transfer),
             _ => Ok(Scatter::new(Vec::new(self.alloc), Vec::new(self.alloc))),
         }
     }
@@ -112,6 +125,7 @@ impl<A: Allocator + Copy> Hba<A> {
     pub(super) fn go_on(&mut self) -> Result<(), AllocError>
         ensures ok { OnOk result (self.new ≡ gone_on self.old self.old.work) }
         ensures err { OnErr result (self.new ≡ self.old) }
+        ensures lacking { OnErr result (sends_data self.old.work ≡ true) }
     {
         if self.registers.is_receiving() {
             return self.step_on();
@@ -123,6 +137,7 @@ impl<A: Allocator + Copy> Hba<A> {
     fn step_on(&mut self) -> Result<(), AllocError>
         ensures ok { OnOk result (self.new ≡ stepped_on self.old self.old.work) }
         ensures err { OnErr result (self.new ≡ self.old) }
+        ensures lacking { OnErr result (sends_data self.old.work ≡ true) }
     {
         let content = self.next_content()?;
         match mem::replace(&mut self.work, Work::Idle) {

@@ -5,7 +5,7 @@ ghost use Rattle.hba_regs.specs.Accessing.{write_of};
 ghost use Rattle.ahci_hba.specs.Queueing.{is_sent};
 ghost use Rattle.ahci_hba.specs.Dropping.{drops_requests, emptied, handed_out, is_reset, is_spent, journal_out, port_after, settled_work, written};
 
-use crate::command::Slot;
+use crate::command::Listed;
 use crate::hba::Hba;
 use crate::hba::fetching::is_sent;
 use crate::work::Work;
@@ -15,7 +15,7 @@ use std::alloc::Allocator;
 use std::mem;
 
 /// Empties every slot.
-fn clear<A: Allocator>(slots: &mut [Option<Slot<A>>])
+fn clear<A: Allocator>(slots: &mut [Option<Listed<A>>])
     ensures { slots.new ≡ replicate (length slots.old) None }
 {
     for slot in 0..slots.len() {
@@ -107,6 +107,7 @@ impl<A: Allocator + Copy> Hba<A> {
             return None;
         }
         let journal = self.reset_port(consequence);
+        self.settle_power(consequence);
         self.empty();
         journal
     }

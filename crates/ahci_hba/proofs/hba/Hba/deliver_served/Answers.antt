@@ -10,4 +10,4 @@ returns-in-Served-clause-ok g c =
     subst (λ v. c.answer_with.new.self ≡ served_answer v c.args.self.now.work) c.self.view_is
     (delivers _ _ c.in-Served.slot c.in-Served.task c.in-Served.field-2 c.in-Served.list.items c.in_ok-bytes.bytes.items _ c.args.self.now.work
     (sym (ap (λ v. v.work) c.self.view_is) ∙ ap (λ w. work_of w) (sym c.replace.ensures.value ∙ c.in-Served.is))
-    c.in_ok-bytes.ensures c.action_of.ensures c.answer_with.ensures)
+    c.in_ok-bytes.ensures.ok c.action_of.ensures c.answer_with.ensures)

@@ -4,8 +4,8 @@ use Rattle.ahci_hba.proofs.SendingLemmas.{on_ok, sends, stands_again}
 use Rattle.ahci_hba.proofs.SteppingLemmas.{if_err, sent_is_taken}
 use Rattle.ahci_hba.proofs.hba.Hba.send.Goals as goal
 
-pub send_command-requires-clause-taken : goal.send_command-requires-clause-taken
-send_command-requires-clause-taken g c =
+pub send_command-requires : goal.send_command-requires
+send_command-requires g c =
     sent_is_taken _ _ c.args.self.now _ c.args.slot _ _ _ (sym c.if-not-may_send.ensures) c.take_fetched-task.ensures.command c.take_fetched-task.ensures.slots
 
 pub returns-clause-ok : goal.returns-clause-ok

@@ -1,0 +1,268 @@
+-- What each step of the device does to the registers is a list of transitions.
+use Rattle.std.proofs.Common.{◌≡◌, ℕ, ◌*◌, ◌^◌, Bool, true, false, not, ◌&&◌, ◌||◌, List, [], Option, Some, None, if◌then◌else◌, nat_eq, IsSomeAnd, refl, subst, sym}
+use Rattle.sata_fis.specs.Encoding.{d2h_bytes}
+use Rattle.sata_fis.specs.Fields.{D2hFields, QueuedFields}
+use Rattle.hba_command.specs.Action.{action_of}
+use Rattle.hba_command.specs.Pages.{controller_page, directory_page, not_queued_page}
+use Rattle.hba_command.specs.Power.{needs_medium}
+use Rattle.hba_command.specs.Span.{SpanFields}
+use Rattle.hba_command.specs.declared.action.Action.{Action}
+use Rattle.hba_command.specs.declared.action.Action.TheVariants.{Queue, Sectors, Page, Flush, Reply, Control, Abort}
+use Rattle.hba_command.specs.declared.entry.PrdEntry.{PrdEntry}
+use Rattle.hba_command.specs.declared.log.Log.{Log}
+use Rattle.hba_command.specs.declared.log.Log.TheVariants.{Directory, IdentifyData, QueuedError}
+use Rattle.hba_command.specs.declared.page.Page.TheVariants as page
+use Rattle.hba_command.specs.declared.protocol.Protocol.{Protocol}
+use Rattle.hba_command.specs.declared.protocol.Protocol.TheVariants.{Pio as ByPio, Dma as ByDma}
+use Rattle.hba_memory.specs.Blocks.{block_list}
+use Rattle.hba_memory.specs.Posting.{PostingView}
+use Rattle.hba_memory.specs.Runs.{placed}
+use Rattle.hba_regs.specs.Receiving.{after_srst_cleared, moved}
+use Rattle.hba_regs.specs.declared.soft_reset.SoftReset.{SoftReset}
+use Rattle.hba_regs.specs.declared.soft_reset.SoftReset.TheVariants as soft
+use Rattle.ncq_journal.specs.History.{History}
+use Rattle.ahci_port.specs.PortView.{PortView, sectors_in}
+use Rattle.ahci_port.specs.Steps.{answer_to}
+use Rattle.ahci_port.specs.declared.step.Stepped.{Stepped}
+use Rattle.ahci_hba.specs.Delivering.{answer_with, answered, block_in, block_out, block_posting, bytes_for, closing, dma_answer, done, finishing, fis_ending, going_on, only_before, page_posting, queued_answer, queued_posting, read_answer, read_posting, received_put, setup_put}
+use Rattle.ahci_hba.specs.Dropping.{is_spent, port_after}
+use Rattle.ahci_hba.specs.Executing.{Executes, Performs, aborted, first_missing, identify_log_in, is_aborted, log_given, paged, pages_given, replied, reply_fis}
+use Rattle.ahci_hba.specs.Failing.{Fails, concluded, failed_posting, moved_before, moved_sectors, queue_failed, read_failed, refused, refused_at, refused_with, sectors_before, sectors_failed, sectors_of, vacated}
+use Rattle.ahci_hba.specs.HbaView.{CommandView, Fetched, Sent, HbaView, WorkView, Idle, Fetching, Served, Pio, Block, Posting}
+use Rattle.ahci_hba.specs.Moving.{answering, blocking, ending_of}
+use Rattle.ahci_hba.specs.Powering.{awake}
+use Rattle.ahci_hba.specs.Queueing.{Sends, accepting, after_acceptance, command_at, fis_put, has_alone, is_taken, list_in, only_after, task_in}
+use Rattle.ahci_hba.specs.Recovering.{Recovers, error_log_in, error_page}
+use Rattle.ahci_hba.specs.Resetting.{control_in, controlled, released, signature, signing}
+use Rattle.ahci_hba.specs.Stepping.{IsTaken}
+use Rattle.ahci_hba.specs.Transfer.{TransferView, fits, has_interrupt, is_last, moved_to, next_block}
+use Rattle.ahci_hba.specs.Transitions.{Takes, SelectCmd, SrstCleared, SrstSet}
+use Rattle.ahci_hba.specs.declared.ending.Ending.{Ending}
+use Rattle.ahci_hba.specs.declared.last_fis.LastFis.TheVariants as last_fis
+use Rattle.ahci_hba.specs.declared.step.Step.{Step}
+use Rattle.ahci_hba.specs.declared.step.Step.TheVariants as step
+use Rattle.ahci_hba.proofs.TransitionLemmas.{answers, blocks, none, one}
+
+-- what holds of the registers of a state holds of those of an equal one
+made_by : (old new made : HbaView) → new ≡ made → Takes old.registers made.registers → Takes old.registers new.registers
+made_by old new made e t = subst (λ v. Takes old.registers v.registers) (sym e) t
+
+of_some : {T Q : Type 0} (o : Option T) {P : T → Type 0} → ((x : T) → P x → Q) → IsSomeAnd o P → Q
+of_some (Some x) f h = f x h
+of_some None f h = absurd h
+
+-- a power mode moves no register
+wakes : (b : Bool) (old new : HbaView) → Takes old.registers new.registers → Takes old.registers (if b then awake new else new).registers
+wakes true old new t = t
+wakes false old new t = t
+
+-- ---- the queue
+
+sends : (slot : ℕ) (c : Option CommandView) (old new : HbaView) → Sends slot c old new → Takes old.registers new.registers
+sends slot (Some (Fetched t list bytes)) old new s = made_by old new _ s.sent (none old.registers)
+sends slot (Some (Sent t list)) old new s = absurd s
+sends slot None old new s = absurd s
+
+accepts : (slot : ℕ) (alone : Bool) (old : HbaView) (port : PortView) (answer : Stepped) → Takes old.registers (after_acceptance slot alone old port answer).registers
+accepts slot alone old port answer = by (alone && is_taken answer)
+  where
+    posted : PostingView
+    posted = only_after (fis_put old.registers port 0x40 20)
+
+    end : Ending
+    end = ending_of true (accepting slot answer)
+
+    by : (b : Bool) → Takes old.registers (if b then record old { port = port } else answering (record old { port = port }) posted end).registers
+    by true = none old.registers
+    by false = answers (record old { port = port }) posted end
+
+-- ---- deliveries
+
+closes : (h : HbaView) (slot n : ℕ) (fis : D2hFields) → Takes h.registers (closing h slot n fis).registers
+closes h slot n fis = answers h (read_posting h.registers slot [] n fis) (ending_of true (fis_ending slot fis))
+
+reads : (h : HbaView) (slot : ℕ) (list : List PrdEntry) (bytes : List ℕ) (n : ℕ) (fis : D2hFields) → Takes h.registers (read_answer h slot list bytes n fis).registers
+reads h slot list bytes n fis =
+    answers h (read_posting h.registers slot (placed list bytes) (moved_to n list) fis) (ending_of (fits n list) (fis_ending slot fis))
+
+concludes : (h : HbaView) (slot : ℕ) (fis : D2hFields) → Takes h.registers (concluded h slot fis).registers
+concludes h slot fis =
+    answers (vacated h slot) (only_after (received_put h.registers 0x40 (d2h_bytes fis))) (ending_of true (fis_ending slot fis))
+
+completes : (h : HbaView) (slot : ℕ) (list : List PrdEntry) (bytes : List ℕ) (n : ℕ) → Takes h.registers (queued_answer h slot list bytes n).registers
+completes h slot list bytes n =
+    answers h (queued_posting h.registers h.port (placed list bytes)) (ending_of (fits n list) (last_fis.Bits 0x40 0 (2 ^ slot)))
+
+closes_or_reads : (h : HbaView) (slot : ℕ) (write : Bool) (list : List PrdEntry) (bytes : List ℕ) (n : ℕ) → Takes h.registers (dma_answer h slot write list bytes n).registers
+closes_or_reads h slot true list bytes n = closes h slot n done
+closes_or_reads h slot false list bytes n = reads h slot list bytes n done
+
+answers_with : (h : HbaView) (slot : ℕ) (list : List PrdEntry) (bytes : List ℕ) (a : Action) → Takes h.registers (answer_with h slot list bytes a).registers
+answers_with h slot list bytes (Queue q) = completes h slot list bytes (if q.write then 0 else 512 * q.sectors)
+answers_with h slot list bytes (Sectors write span ByDma) = closes_or_reads h slot write list bytes (512 * span.sectors)
+answers_with h slot list bytes (Sectors write span ByPio) = none h.registers
+answers_with h slot list bytes (Page page p) = closes h slot 0 done
+answers_with h slot list bytes Flush = closes h slot 0 done
+answers_with h slot list bytes (Reply r) = closes h slot 0 done
+answers_with h slot list bytes (Control reset) = closes h slot 0 done
+answers_with h slot list bytes Abort = closes h slot 0 done
+
+finishes : (h : HbaView) (t : TransferView) (fis : Option D2hFields) → Takes h.registers (finishing h t fis).registers
+finishes h t None = none h.registers
+finishes h t (Some fis) = closes h t.slot t.moved fis
+
+moves_in : (h : HbaView) (t : TransferView) → Takes h.registers (block_in h t).registers
+moves_in h t = by (is_last t)
+  where
+    posted : PostingView
+    posted = block_posting h.registers t 0x40
+
+    end : Ending
+    end = ending_of (fits 512 (block_list t.rest)) (last_fis.Pio t.slot)
+
+    by : (b : Bool) → Takes h.registers (if b then answering h posted end else blocking h (block_posting h.registers t 0xC0) (next_block t)).registers
+    by true = answers h posted end
+    by false = blocks h (block_posting h.registers t 0xC0) (next_block t)
+
+goes_on : (h : HbaView) (t : TransferView) → Takes h.registers (going_on h t).registers
+goes_on h t = by (nat_eq t.left 0) t.write
+  where
+    by : (b write : Bool) → Takes h.registers (if b then finishing h t t.finish else if write then block_out h (next_block t) else block_in h t).registers
+    by true write = finishes h t t.finish
+    by false true = blocks h (only_before (setup_put h.registers false (has_interrupt (next_block t)) 0xC0)) (next_block t)
+    by false false = moves_in h t
+
+delivers : (h : HbaView) (w : WorkView) → Takes h.registers (answered h w).registers
+delivers h Idle = none h.registers
+delivers h (Fetching slot r) = none h.registers
+delivers h (Served slot t window list) = answers_with h slot list (bytes_for t window) (action_of t)
+delivers h (Pio t) = by h.registers.port.fre
+  where
+    by : (b : Bool) → Takes h.registers (if b then going_on h t else h).registers
+    by true = goes_on h t
+    by false = none h.registers
+delivers h (Block p t) = none h.registers
+delivers h (Posting p e) = none h.registers
+
+-- ---- commands that are not queued
+
+gives_page : (h : HbaView) (slot : ℕ) (p : Protocol) (list : List PrdEntry) (page : List ℕ) → Takes h.registers (paged h slot p list page).registers
+gives_page h slot ByPio list page =
+    answers (vacated h slot) (page_posting h.registers slot (placed list page) (moved_to 512 list)) (ending_of (fits 512 list) (last_fis.Pio slot))
+gives_page h slot ByDma list page = reads (vacated h slot) slot list page 512 done
+
+moves_before : (h : HbaView) (slot : ℕ) (p : Protocol) (list : List PrdEntry) (bytes : List ℕ) (n : ℕ) (fis : D2hFields)
+    → Takes h.registers (moved_before h slot p list bytes n fis).registers
+moves_before h slot ByDma list bytes n fis = reads h slot list bytes (512 * n) fis
+moves_before h slot ByPio list bytes n fis = none h.registers
+
+reads_failing : (h : HbaView) (slot : ℕ) (p : Protocol) (list : List PrdEntry) (first n error lba : ℕ) → Takes h.registers (read_failed h slot p list first n error lba).registers
+reads_failing h slot p list first n error lba = by (nat_eq n 0)
+  where
+    by : (b : Bool) → Takes h.registers (if b then concluded h slot (refused error lba) else moved_before (vacated h slot) slot p list (sectors_of h.port first n) n (refused error lba)).registers
+    by true = concludes h slot (refused error lba)
+    by false = moves_before (vacated h slot) slot p list (sectors_of h.port first n) n (refused error lba)
+
+fails_sectors : (h : HbaView) (slot : ℕ) (list : List PrdEntry) (write : Bool) (span : SpanFields) (p : Protocol) (error lba : ℕ)
+    → Takes h.registers (sectors_failed h slot list write span p error lba).registers
+fails_sectors h slot list true span p error lba = concludes h slot (refused error span.lba)
+fails_sectors h slot list false span p error lba =
+    reads_failing h slot p list span.lba (sectors_before h.port span.lba span.sectors lba) error lba
+
+gives_pages : (h : HbaView) (slot : ℕ) (p : Protocol) (list : List PrdEntry) (bytes : List ℕ) (n : ℕ) → Takes h.registers (pages_given h slot p list bytes n).registers
+gives_pages h slot ByPio list bytes n = none h.registers
+gives_pages h slot ByDma list bytes n = reads (vacated h slot) slot list bytes (512 * n) done
+
+gives_log : (h : HbaView) (slot : ℕ) (p : Protocol) (list : List PrdEntry) (log : Log) → Takes h.registers (log_given h slot p list log).registers
+gives_log h slot p list Directory = gives_page h slot p list directory_page
+gives_log h slot p list QueuedError = gives_page h slot p list not_queued_page
+gives_log h slot p list (IdentifyData pages) = gives_pages h slot p list (identify_log_in h pages) pages.count
+
+performs : (slot : ℕ) (a : Action) (list : List PrdEntry) (old new : HbaView) → Performs slot a list old new → Takes old.registers new.registers
+performs slot (Queue q) list old new h = made_by old new (concluded old slot aborted) h (concludes old slot aborted)
+performs slot (Sectors write span p) list old new h =
+    made_by old new (awake (sectors_failed old slot list write span p 0x10 (first_missing old.port span))) h (fails_sectors old slot list write span p 0x10 (first_missing old.port span))
+performs slot (Page page.Identify p) list old new h =
+    let page = controller_page (sectors_in old.port) old.depth in
+    made_by old new (paged (record old { port = h.port }) slot ByPio list page) h.answered (gives_page (record old { port = h.port }) slot ByPio list page)
+performs slot (Page (page.Log log) p) list old new h = made_by old new (log_given old slot p list log) h (gives_log old slot p list log)
+performs slot Flush list old new h =
+    made_by old new (awake (concluded (record old { port = h.port }) slot done)) h.answered (concludes (record old { port = h.port }) slot done)
+performs slot (Reply r) list old new h = made_by old new (replied old slot r) h (concludes old slot (reply_fis old r))
+performs slot (Control reset) list old new h = absurd h
+performs slot Abort list old new h = made_by old new (concluded old slot aborted) h (concludes old slot aborted)
+
+executes : (b : Bool) (slot : ℕ) (a : Action) (list : List PrdEntry) (old new : HbaView) → Executes b slot a list old new → Takes old.registers new.registers
+executes true slot a list old new h = made_by old new (concluded old slot aborted) h (concludes old slot aborted)
+executes false slot a list old new h = performs slot a list old new h
+
+releases : (h : HbaView) (slot : ℕ) (soft : SoftReset) → h.registers.port.soft ≡ soft → Takes h.registers (released soft h slot).registers
+releases h slot was e = subst (λ s. Takes h.registers (released s h slot).registers) e (by h.registers.port.soft (one h.registers (SrstCleared slot)))
+  where
+    by : (s : SoftReset) → Takes h.registers (moved h.registers (after_srst_cleared h.registers.port slot s)) → Takes h.registers (released s h slot).registers
+    by soft.Off t = t
+    by soft.Held t = t
+    by (soft.Ending x) t = t
+
+controls : (h : HbaView) (slot : ℕ) (reset : Bool) → Takes h.registers (controlled h slot reset).registers
+controls h slot true = one h.registers SrstSet
+controls h slot false = releases h slot h.registers.port.soft refl
+
+-- a page goes to the driver for what the port has done
+pages : (slot : ℕ) (p : Protocol) (list : List PrdEntry) (page : List ℕ) (port : PortView) (old new : HbaView) → new ≡ paged (record old { port = port }) slot p list page
+    → Takes old.registers new.registers
+pages slot p list page port old new h =
+    made_by old new (paged (record old { port = port }) slot p list page) h (gives_page (record old { port = port }) slot p list page)
+
+recovers : (slot : ℕ) (p : Protocol) (list : List PrdEntry) (old new : HbaView) (journal : Option History) → Recovers slot p list old new journal
+    → Takes old.registers new.registers
+recovers slot p list old new journal r =
+    of_some (answer_to r.middle r.number) {P = λ a. new ≡ paged (record old { port = port_after (not (is_spent r.port)) r.port }) slot p list (error_page r.tag a.outcome)}
+    (λ a h. pages slot p list (error_page r.tag a.outcome) (port_after (not (is_spent r.port)) r.port) old new h) r.answered
+
+-- ---- each step
+
+pub takes_steps : (s : Step) (slot : ℕ) (old new : HbaView) (journal : Option History) → IsTaken s slot old new journal → Takes old.registers new.registers
+takes_steps step.Fetch slot old new journal t = made_by old new _ t.0 (one old.registers (SelectCmd slot))
+takes_steps step.Send slot old new journal t = sends slot (command_at old slot) old new t.0
+takes_steps step.Accept slot old new journal t =
+    made_by old new (awake (after_acceptance slot (has_alone (command_at old slot)) old t.0.port t.0.answer)) t.0.answered (accepts slot (has_alone (command_at old slot)) old t.0.port t.0.answer)
+takes_steps step.Serve slot old new journal t = made_by old new _ t.0.served (none old.registers)
+takes_steps step.Deliver slot old new journal t = made_by old new (answered old old.work) t.0 (delivers old old.work)
+takes_steps step.Execute slot old new journal t =
+    executes (is_aborted old (action_of (task_in (command_at old slot)))) slot (action_of (task_in (command_at old slot))) (list_in (command_at old slot)) old new t.0
+takes_steps step.Control slot old new journal t = of_some (control_in (command_at old slot)) (λ reset h. made_by old new (controlled old slot reset) h (controls old slot reset)) t.0
+takes_steps step.Recover slot old new journal t =
+    of_some (error_log_in (command_at old slot)) (λ p r. recovers slot p (list_in (command_at old slot)) old new journal r) t
+
+pub signs : (old : HbaView) → Takes old.registers (signing old).registers
+signs old = answers old (only_after (received_put old.registers 0x40 (d2h_bytes signature))) (ending_of true last_fis.Signature)
+
+pub fails : (slot error lba : ℕ) (q : Option QueuedFields) (old new : HbaView) → Fails slot error lba q old new → Takes old.registers new.registers
+fails slot error lba (Some q) old new f =
+    let port = f.middle.port in
+    let list = list_in (command_at old slot) in
+    let n = moved_sectors old.port q lba in
+    let bytes = sectors_of old.port q.lba n in
+    made_by old new (queue_failed old port slot q list bytes n error) f.answered
+    (answers (record old { port = port }) (failed_posting old.registers port slot q list bytes n) (ending_of (nat_eq n 0 || fits (512 * n) list) (last_fis.Bits 0x41 error 0)))
+fails slot error lba None old new f = absurd f
+
+refuses_with : (h : HbaView) (slot : ℕ) (list : List PrdEntry) (a : Action) (error lba : ℕ) → Takes h.registers (refused_with h slot list a error lba).registers
+refuses_with h slot list (Queue q) error lba = concludes h slot (refused error lba)
+refuses_with h slot list (Sectors write span p) error lba = fails_sectors h slot list write span p error lba
+refuses_with h slot list (Page page p) error lba = concludes h slot (refused error lba)
+refuses_with h slot list Flush error lba = concludes h slot (refused error lba)
+refuses_with h slot list (Reply r) error lba = concludes h slot (refused error lba)
+refuses_with h slot list (Control reset) error lba = concludes h slot (refused error lba)
+refuses_with h slot list Abort error lba = concludes h slot (refused error lba)
+
+pub refuses : (h : HbaView) (slot error lba : ℕ) → Takes h.registers (refused_at h slot error lba).registers
+refuses h slot error lba =
+    wakes (needs_medium a) h (refused_with h slot list a error lba) (refuses_with h slot list a error lba)
+  where
+    a : Action
+    a = action_of (task_in (command_at h slot))
+
+    list : List PrdEntry
+    list = list_in (command_at h slot)

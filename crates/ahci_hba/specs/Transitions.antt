@@ -1,0 +1,59 @@
+-- The transitions of the port's state machine that a call of the controller takes (AHCI 1.3.1, section 5.3). Nothing that the device does moves a register
+-- but by one of them.
+use Rattle.std.specs.Prelude.{◌≡◌, ℕ, Bool, List, [], ◌∷◌}
+use Rattle.hba_regs.specs.HbaState.{HbaPort, HbaState}
+use Rattle.hba_regs.specs.PortStates.{cfis_success, dr_overflow, err_fatal, p_reg_fis_post_to_mem, p_reg_fis_update, p_select_cmd, pio_entry, pio_update, reg_fis_entry, sdb_entry, stuck}
+use Rattle.hba_regs.specs.Receiving.{after_srst_cleared, after_srst_set, moved}
+use Rattle.hba_regs.specs.declared.fatal.Fatal.{Fatal}
+
+pub data Transition : Type 0 where
+  -- P:Idle to P:SelectCmd and P:FetchCmd
+  SelectCmd : (slot : ℕ) → Transition
+  -- CFIS:Xmit to CFIS:Success and CFIS:ClearCI
+  CfisSuccess : (slot : ℕ) → (c : Bool) → Transition
+  -- CFIS:Success to DX:Transmit, which has no data to go on with
+  Stuck : (slot : ℕ) → (c : Bool) → Transition
+  -- NDR:Accept to RegFIS:Entry, RegFIS:ClearCI and RegFIS:SetIntr, or ERR:FatalTaskfile
+  RegFisEntry : (status error : ℕ) → (i : Bool) → (slot : ℕ) → Transition
+  -- NDR:Accept to SDB:Entry and SDB:SetIntr, or ERR:FatalTaskfile
+  SdbEntry : (status error : ℕ) → (i : Bool) → (sactive : ℕ) → Transition
+  -- NDR:Accept to PIO:Entry
+  PioEntry : (status error : ℕ) → Transition
+  -- DR:Receive or DX:Transmit to PIO:Update, PIO:ClearCI and PIO:SetIntr
+  PioUpdate : (e_status : ℕ) → (i : Bool) → (slot : ℕ) → Transition
+  -- DR:Receive, with data for which the list has no room
+  DrOverflow : Transition
+  -- any state to ERR:Fatal
+  ErrFatal : Fatal → Transition
+  -- P:NotRunning to P:RegFisUpdate, or RegFIS:UpdateSig
+  RegFisUpdate : Transition
+  -- P:RegFisPostToMem
+  RegFisPostToMem : Transition
+  -- CFIS:Success of a control FIS: SRST is set in the device, or cleared
+  SrstSet : Transition
+  SrstCleared : (slot : ℕ) → Transition
+
+abbrev pub after : Transition → HbaPort → HbaPort
+after (SelectCmd slot) p = p_select_cmd slot p
+after (CfisSuccess slot c) p = cfis_success slot c p
+after (Stuck slot c) p = stuck slot c p
+after (RegFisEntry status error i slot) p = reg_fis_entry status error i slot p
+after (SdbEntry status error i sactive) p = sdb_entry status error i sactive p
+after (PioEntry status error) p = pio_entry status error p
+after (PioUpdate e_status i slot) p = pio_update e_status i slot p
+after DrOverflow p = dr_overflow p
+after (ErrFatal fatal) p = err_fatal fatal p
+after RegFisUpdate p = p_reg_fis_update p
+after RegFisPostToMem p = p_reg_fis_post_to_mem p
+after SrstSet p = after_srst_set p
+after (SrstCleared slot) p = after_srst_cleared p slot p.soft
+
+-- the registers after some transitions, one after the other
+abbrev pub after_all : List Transition → HbaState → HbaState
+after_all [] s = s
+after_all (t ∷ rest) s = after_all rest (moved s (after t s.port))
+
+-- the registers have gone from one state to another by transitions, and by nothing else
+pub record Takes (old new : HbaState) : Type 0 where
+  pub transitions : List Transition
+  pub reached : new ≡ after_all transitions old
