@@ -1,5 +1,7 @@
 -- How a step is answered.
-use Rattle.std.proofs.Common.{◌≡◌, ℕ, ◌<◌, Option, None, Some, IsSomeAnd, is_some, refl, sym, subst, inl, inr}
+use Rattle.std.proofs.Common.{◌≡◌, ℕ, ◌<◌, Bool, true, false, nat_lt, if◌then◌else◌, Option, None, Some, IsSomeAnd, is_some, refl, sym, subst, inl, inr}
+use Rattle.std.proofs.lemmas.Bool.{ltb-true}
+use Rattle.hba_regs.specs.HbaState.{slot_of}
 use Rattle.ncq_journal.specs.History.{History}
 use Rattle.ahci_ffi.proofs.ArgumentLemmas.{with_small}
 use Rattle.ahci_ffi.specs.Refusals.{with_tag}
@@ -12,6 +14,14 @@ use Rattle.ahci_hba.specs.Stepping.{IsTaken, fault_if, next_step}
 use Rattle.ahci_hba.specs.declared.fault.HbaFault.TheVariants as fault
 use Rattle.ahci_hba.specs.declared.step.Step.{Step}
 use Rattle.hba_ffi.specs.Calls.{AnswersStep, HasTaken, entries_in, unless_possible}
+
+-- the slot of a number is that number, below 32
+pub slot_is : (number slot : ℕ) → slot_of number ≡ Some slot → (slot < 32) × (slot ≡ number)
+slot_is number slot e = by (nat_lt number 32) refl e
+  where
+    by : (b : Bool) → nat_lt number 32 ≡ b → (if b then Some number else None) ≡ Some slot → (slot < 32) × (slot ≡ number)
+    by true small is = let same : number ≡ slot = cc in (subst (λ n. n < 32) same (ltb-true number 32 small), sym same)
+    by false small is = cc
 
 -- of a slot that there is, the tag is no reason
 below : (slot : ℕ) (answer : Status) (reason : Option Status) (done same : Type 0) → slot < 32 → ToldOr answer reason done same → ToldOr answer (with_tag slot reason) done same

@@ -8,7 +8,7 @@ ghost use Rattle.hba_ffi.specs.Looking.{IsLook, length_moved, step_number, want_
 
 use crate::flat::FlatHba;
 use ahci_ffi::{FlatEntry, FlatState, Status};
-use ahci_hba::{Hba, Step, Want};
+use ahci_hba::{Hba, Slot, Step, Want};
 use std::alloc::Allocator;
 
 /// What the controller does next.
@@ -72,8 +72,11 @@ fn next_steps<A: Allocator>(hba: &Hba<A>) -> [u8; 32]
     ensures { (slot : ℕ) → slot < 32 → slice_index_or result slot 0 ≡ step_number (next_step hba.now slot) }
 {
     let mut steps = [0; 32];
-    for slot in 0..32u8 {
-        steps[usize::from(slot)] = step_number(hba.next(slot));
+    for number in 0..32 {
+        let Some(slot) = Slot::of(number) else {
+            unreachable!() // there are 32
+        };
+        steps[slot.index()] = step_number(hba.next(slot));
     }
     steps
 }

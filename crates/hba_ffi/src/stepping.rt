@@ -5,23 +5,20 @@ ghost use Rattle.hba_ffi.specs.Calls.{AnswersFail, AnswersRefuse, AnswersSign, A
 
 use crate::registers::entries_in;
 use ahci_ffi::Status;
-use ahci_hba::{Hba, HbaFault};
+use ahci_hba::{Hba, HbaFault, Slot};
 use ncq_core::LBA_LIMIT;
 use port_refusal::Refusal;
 use std::alloc::Allocator;
-
-/// How many slots there are.
-const SLOTS: u32 = 32;
 
 /// Takes the next step with the command of a slot. `entries` is how many entries the journal has that is handed out, if the step resets
 /// the port.
 pub fn step<A: Allocator + Copy>(hba: &mut Hba<A>, slot: u32, entries: &mut u64) -> Status
     ensures { AnswersStep slot result hba.old hba.new entries.old entries.new }
 {
-    if slot >= SLOTS {
+    let Some(slot) = Slot::of(slot) else {
         return Status::BadTag;
-    }
-    match hba.step(slot as u8) {
+    };
+    match hba.step(slot) {
         Ok(journal) => {
             *entries = entries_in(&journal);
             Status::Done
@@ -35,10 +32,10 @@ pub fn step<A: Allocator + Copy>(hba: &mut Hba<A>, slot: u32, entries: &mut u64)
 pub fn fail<A: Allocator + Copy>(hba: &mut Hba<A>, slot: u32, error: u8, lba: u64) -> Status
     ensures { AnswersFail slot error lba result hba.old hba.new }
 {
-    if slot >= SLOTS {
+    let Some(slot) = Slot::of(slot) else {
         return Status::BadTag;
-    }
-    match hba.fail(slot as u8, error, lba) {
+    };
+    match hba.fail(slot, error, lba) {
         Ok(()) => Status::Done,
         Err(HbaFault::NotReady) => Status::NotReady,
         Err(HbaFault::OutOfMemory) => Status::Refused(Refusal::OutOfMemory),
@@ -49,13 +46,13 @@ pub fn fail<A: Allocator + Copy>(hba: &mut Hba<A>, slot: u32, error: u8, lba: u6
 pub fn refuse<A: Allocator + Copy>(hba: &mut Hba<A>, slot: u32, error: u8, lba: u64) -> Status
     ensures { AnswersRefuse slot error lba result hba.old hba.new }
 {
-    if slot >= SLOTS {
+    let Some(slot) = Slot::of(slot) else {
         return Status::BadTag;
-    }
+    };
     if lba >= LBA_LIMIT {
         return Status::Refused(Refusal::BadLba);
     }
-    match hba.refuse(slot as u8, error, lba) {
+    match hba.refuse(slot, error, lba) {
         Ok(()) => Status::Done,
         Err(HbaFault::NotReady) => Status::NotReady,
         Err(HbaFault::OutOfMemory) => Status::Refused(Refusal::OutOfMemory),

@@ -4,5 +4,5 @@ use Rattle.hba_ffi.specs.Looking.{step_number}
 use Rattle.ncq_journal.proofs.FilledLemmas.{IsFilled}
 use Rattle.hba_ffi.proofs.looking.next_steps.Given as goal
 
-abbrev pub invariant-loop-slot : goal.invariant-loop-slot
-invariant-loop-slot g l = IsFilled 0 (λ slot. step_number (next_step l.hba slot)) l.steps l.slot
+abbrev pub invariant-loop-number : goal.invariant-loop-number
+invariant-loop-number g l = IsFilled 0 (λ slot. step_number (next_step l.hba slot)) l.steps l.number
