@@ -2,7 +2,7 @@
 //! change, and the rows of real drivers.
 use crate::table::equal;
 use Row::{Bits, Commands, Does, Halted, Line, Read, Register, Signature, Write};
-use hba_regs::{AccessSize, Consequence, Fatal, HbaRegs};
+use hba_regs::{AccessSize, Consequence, Fatal, HbaRegs, Slot};
 use std::process::Abort;
 
 mod capabilities;
@@ -21,7 +21,7 @@ static NEW: [(u32, u32); 10] = [
     (0x120, 0x0000_0080),
     (0x124, 0xffff_ffff),
     (0x128, 0x0000_0123),
-    (0x130, 0x0401_0000),
+    (0x130, 0x0405_0000),
 ];
 
 /// The word at an offset after power-on.
@@ -111,6 +111,8 @@ enum Row {
     EndPio(u8, bool, u8),
     /// The device takes the control FIS of a slot, which sets SRST or clears it.
     Reset(bool, u8),
+    /// The list of the device's data has no room for them.
+    Overflows,
     Fails(Fatal),
 }
 
@@ -159,6 +161,7 @@ fn goes(rt: &impl Abort, regs: &mut HbaRegs, number: usize, row: Row) {
         Row::Bits(status, error, i, sactive) => regs.receive_bits(status, error, i, sactive),
         Row::Pio(status, error) => regs.receive_pio(status, error),
         Row::Fails(fatal) => regs.fail_fatally(fatal),
+        Row::Overflows => regs.overflow(),
         Row::Signature => {
             assert!(rt; regs.signature_moves());
             regs.take_signature();
@@ -171,36 +174,28 @@ fn goes(rt: &impl Abort, regs: &mut HbaRegs, number: usize, row: Row) {
 fn of_a_slot(rt: &impl Abort, regs: &mut HbaRegs, number: usize, row: Row) {
     match row {
         Row::Send(slot) => {
-            assert!(rt; slot < 32);
-            regs.select(slot);
-            regs.send(slot, false);
+            regs.select(slot_of(rt, slot));
+            regs.send(slot_of(rt, slot), false);
         }
-        Row::Select(slot) => {
-            assert!(rt; slot < 32);
-            regs.select(slot);
-        }
-        Row::Clears(slot) => {
-            assert!(rt; slot < 32);
-            regs.send(slot, true);
-        }
+        Row::Select(slot) => regs.select(slot_of(rt, slot)),
+        Row::Clears(slot) => regs.send(slot_of(rt, slot), true),
         Row::Register(status, error, i, slot) => {
-            assert!(rt; slot < 32);
-            regs.receive_register(status, error, i, slot);
+            regs.receive_register(status, error, i, slot_of(rt, slot));
         }
-        Row::EndPio(status, i, slot) => {
-            assert!(rt; slot < 32);
-            regs.end_pio(status, i, slot);
-        }
-        Row::Reset(set, slot) => {
-            assert!(rt; slot < 32);
-            if set {
-                regs.set_srst();
-            } else {
-                regs.clear_srst(slot);
-            }
-        }
+        Row::EndPio(status, i, slot) => regs.end_pio(status, i, slot_of(rt, slot)),
+        Row::Reset(true, _) => regs.set_srst(),
+        Row::Reset(false, slot) => regs.clear_srst(slot_of(rt, slot)),
         _ => stands(rt, regs, number, row),
     }
+}
+
+/// The slot of a number in a table.
+fn slot_of(rt: &impl Abort, number: u8) -> Slot {
+    assert!(rt; number < 32);
+    let Some(slot) = Slot::of(u32::from(number)) else {
+        unreachable!()
+    };
+    slot
 }
 
 /// Takes the registers after power-on through the rows of a table.
@@ -318,7 +313,7 @@ fn a_failed_command_halts_the_port_until_st_is_cleared(rt: HostRuntime) {
     plays(&rt, FAILED.as_slice());
 }
 
-static FATAL: [Row; 13] = [
+static FATAL: [Row; 14] = [
     Write(0x130, 0xffff_ffff),
     Write(0x118, 0x0000_0017),
     Row::Fails(Fatal::HostBusFatal),
@@ -326,10 +321,11 @@ static FATAL: [Row; 13] = [
     Halted(true),
     Row::Fails(Fatal::HostBusData),
     Row::Fails(Fatal::Interface),
-    Row::Fails(Fatal::Overflow),
-    Read(0x110, 0x3900_0000),
+    Read(0x110, 0x3800_0000),
     Does(0x118, 0x0000_0006, Consequence::Stopped),
     Write(0x118, 0x0000_0017),
+    Halted(false),
+    Row::Overflows,
     Halted(false),
     Read(0x110, 0x3900_0000),
 ];

@@ -18,7 +18,7 @@ use std::test::Fail;
 type Answered = ([u32; 4], u8, u8, u8, u8);
 
 /// Commands to a disk of 8 sectors, by their titles. None of them moves data.
-static ANSWERS: [(&str, Answered); 26] = [
+static ANSWERS: [(&str, Answered); 32] = [
     ("FLUSH CACHE", ([0x2780_E700, 0, 0, 0], 0x40, 0, 0, 0)),
     (
         "FLUSH CACHE EXT",
@@ -99,6 +99,36 @@ static ANSWERS: [(&str, Answered); 26] = [
     (
         "READ LOG EXT of two pages",
         ([0x2780_2F00, 0x1000_0000, 0, 0x0200_0000], 0x41, 4, 0, 0),
+    ),
+    (
+        "READ LOG EXT of no page",
+        ([0x2780_2F00, 0x3000_0000, 0, 0], 0x41, 4, 0, 0),
+    ),
+    (
+        "READ LOG EXT of page 01h of log 00h",
+        ([0x2780_2F00, 0x0001_0000, 0, 0x0100_0000], 0x41, 4, 0, 0),
+    ),
+    (
+        "READ LOG EXT of page 03h of log 30h",
+        ([0x2780_2F00, 0x3003_0000, 0, 0x0100_0000], 0x41, 4, 0, 0),
+    ),
+    (
+        "READ LOG EXT of page 0100h of log 30h",
+        (
+            [0x2780_2F00, 0x3000_0000, 0x0001_0000, 0x0100_0000],
+            0x41,
+            4,
+            0,
+            0,
+        ),
+    ),
+    (
+        "READ LOG EXT of four pages of log 30h",
+        ([0x2780_2F00, 0x3000_0000, 0, 0x0400_0000], 0x41, 4, 0, 0),
+    ),
+    (
+        "READ LOG DMA EXT beyond log 30h",
+        ([0x2780_4700, 0x3002_0000, 0, 0x0200_0000], 0x41, 4, 0, 0),
     ),
     (
         "DATA SET MANAGEMENT",
@@ -468,25 +498,6 @@ const NOT_RECEIVED: &[Row] = &[
     HasAll(DATA, 512, 0),
 ];
 
-/// The directory of logs, by PIO and by DMA.
-const LOGS: &[Row] = &[
-    Writes(PX_IS, 0xFFFF_FFFF),
-    Lays(0, ONE, TABLE, [0x2780_2F00, 0, 0, 0x0100_0000], SECTOR),
-    Writes(PX_CI, 1),
-    Does(0),
-    Reads(PX_IS, 2),
-    Has(DATA, &[1, 0, 0, 0]),
-    Has(DATA + 0x20, &[1, 0]),
-    Fills(DATA, 512, 0xEE),
-    Writes(PX_IS, 0xFFFF_FFFF),
-    Lays(0, ONE, TABLE, [0x2780_4700, 0, 0, 0x0100_0000], SECTOR),
-    Writes(PX_CI, 1),
-    Does(0),
-    Reads(PX_IS, 1),
-    Has(DATA, &[1, 0, 0, 0]),
-    Has(LIST + 4, &[0, 2, 0, 0]),
-];
-
 static FAILING: Story = Story {
     name: "commands that fail",
     sectors: 8,
@@ -495,7 +506,6 @@ static FAILING: Story = Story {
     parts: &[
         START,
         NOT_RECEIVED,
-        LOGS,
         RESTART,
         BEYOND,
         RESTART,
@@ -520,8 +530,6 @@ static FAILING: Story = Story {
         QUEUED_WRITE_FAILED,
         RESTART,
         LOG_OF_THE_WRITE,
-        RESTART,
-        LOGS,
         RESTART,
         QUEUED_BEYOND,
     ],

@@ -75,8 +75,8 @@ const PORT: &[Row] = &[
     Reads(PX_TFD, 0x150),
     Reads(PX_SIG, 0x101),
     Reads(PX_SIG, 0x101),
-    Reads(PX_SERR, 0x0401_0000),
-    Writes(PX_SERR, 0x0401_0000),
+    Reads(PX_SERR, 0x0405_0000),
+    Writes(PX_SERR, 0x0405_0000),
     Writes(PX_CMD, 0x4006),
 ];
 

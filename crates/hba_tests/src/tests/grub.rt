@@ -36,7 +36,7 @@ const FIRMWARE: &[Row] = &[
     Writes(PX_FB, 0x1EFE_9200),
     Writes(PX_CMD, 0x16),
     Signs,
-    Writes(PX_SERR, 0x0401_0000),
+    Writes(PX_SERR, 0x0405_0000),
     Writes(PX_CMD, 0x17),
     Reads(PX_SERR, 0),
     Writes(PX_SERR, 0),

@@ -1,7 +1,7 @@
 //! A guest's memory, and what moves bytes between it and the controller.
 ghost use Rattle.std.specs.Prelude.{◌≡◌, IfSome, length};
 
-use ahci_hba::{Hba, Step, Want};
+use ahci_hba::{Hba, Slot, Step, Want};
 use std::alloc::{AllocError, Allocator, Global};
 
 /// Addresses with memory: the first one, and how many there are.
@@ -96,9 +96,17 @@ pub fn settle<A: Allocator + Copy>(hba: &mut Hba<A>, guest: &mut Guest) {
     }
 }
 
+/// The slot of a number, modulo 32.
+pub fn slot_of(number: u8) -> Slot {
+    let Some(slot) = Slot::of(u32::from(number % 32)) else {
+        unreachable!()
+    };
+    slot
+}
+
 /// Lets the disk read the command of a slot, and take it if it moves sectors.
 pub fn take<A: Allocator + Copy>(hba: &mut Hba<A>, guest: &mut Guest, slot: u8) {
-    let slot = slot % 32;
+    let slot = slot_of(slot);
     for _ in 0..3 {
         if let Some(Step::Fetch | Step::Send | Step::Accept) = hba.next(slot) {
             let _ = hba.step(slot);
@@ -109,7 +117,7 @@ pub fn take<A: Allocator + Copy>(hba: &mut Hba<A>, guest: &mut Guest, slot: u8) 
 
 /// Lets the disk take one step with the command of a slot.
 pub fn step<A: Allocator + Copy>(hba: &mut Hba<A>, guest: &mut Guest, slot: u8) {
-    let _ = hba.step(slot % 32);
+    let _ = hba.step(slot_of(slot));
     settle(hba, guest);
 }
 

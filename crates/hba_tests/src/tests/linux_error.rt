@@ -56,7 +56,7 @@ const STARTED: &[Row] = &[
     Writes(PX_FB, 0x027E_0400),
     Writes(PX_CMD, 0x16),
     Writes(PX_CMD, 0x4017),
-    Writes(PX_SERR, 0x0401_0000),
+    Writes(PX_SERR, 0x0405_0000),
     Signs,
     Writes(IS, 1),
     Writes(PX_IE, 0x7840_007F),

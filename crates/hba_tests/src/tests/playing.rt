@@ -1,6 +1,6 @@
 //! What a driver, its disk and its memory do, as the rows of a table.
 
-use crate::tests::guest::{Guest, Stretch, end, settle, step, take};
+use crate::tests::guest::{Guest, Stretch, end, settle, slot_of, step, take};
 use crate::tests::registers::{PX_CLB, PX_CLBU, PX_FB, PX_FBU};
 use ahci_hba::{AccessSize, Capabilities, Hba};
 use ahci_port::{EventKind, TrimFault};
@@ -183,18 +183,18 @@ pub fn acts<A: Allocator + Copy>(hba: &mut Hba<A>, guest: &mut Guest, row: Row) 
             settle(hba, guest);
         }
         Row::Fetches(slot) => {
-            let _ = hba.fetch(slot % 32);
+            let _ = hba.fetch(slot_of(slot));
             settle(hba, guest);
         }
         Row::Takes(slot) => take(hba, guest, slot),
         Row::Steps(slot) => step(hba, guest, slot),
         Row::Does(slot) => end(hba, guest, slot),
         Row::Fails(slot, error, lba) => {
-            let _ = hba.fail(slot % 32, error, lba);
+            let _ = hba.fail(slot_of(slot), error, lba);
             settle(hba, guest);
         }
         Row::Refuses(slot, error, lba) if lba < 1 << 48 => {
-            let _ = hba.refuse(slot % 32, error, lba);
+            let _ = hba.refuse(slot_of(slot), error, lba);
             settle(hba, guest);
         }
         _ => {}

@@ -1,8 +1,9 @@
 //! A life of a controller in which each allocation is refused in turn.
 
-use crate::tests::guest::{Guest, settle, supply};
+use crate::tests::guest::{Guest, settle, slot_of, supply};
+use crate::tests::playing::Pieces::These;
 use crate::tests::playing::Row::{Fills, Has, HasAll, Lays};
-use crate::tests::playing::{Row, acts, sees, write};
+use crate::tests::playing::{Pieces, Row, acts, sees, write};
 use crate::tests::registers::{
     GHC, PX_CI, PX_CLB, PX_CMD, PX_FB, PX_IE, PX_IS, PX_SACT, PX_SCTL, PX_SERR,
 };
@@ -64,6 +65,9 @@ const STARTED: &[Step] = &[
     (Write(PX_IE, 0x7800_002F), 0),
     (Write(PX_CMD, 0x11), 0),
 ];
+
+/// Three pages of data.
+const PAGES: Pieces = These(&[(DATA, 1536)]);
 
 /// The list of the command, its page, and the journal.
 const IDENTIFIED: &[Step] = &[
@@ -193,6 +197,28 @@ const LOGGED: &[Step] = &[
     (Driver(Has(DATA, &[0x80, 0])), 0),
 ];
 
+/// The whole of log 30h, whose bytes grow page by page.
+const ALL_LOGGED: &[Step] = &[
+    (
+        Driver(Lays(
+            0,
+            ONE,
+            TABLE,
+            [0x2780_4700, 0x3000_0000, 0, 0x0300_0000],
+            PAGES,
+        )),
+        0,
+    ),
+    (Write(PX_CI, 1), 0),
+    (Fetch(0), 0),
+    (Supply, 0),
+    (Supply, 1),
+    (Supply, 0),
+    (Execute(0), 3),
+    (Settle, 0),
+    (Driver(Has(DATA, &[1, 0, 0, 0, 0, 0, 0, 0, 3, 0, 1, 2])), 0),
+];
+
 /// Commands that are dropped: by ST, by the link, by a software reset, and by the HBA's.
 const TAKEN: &[Step] = &[
     (Driver(Lays(1, ONE, OTHER, READ, SECTOR)), 0),
@@ -213,6 +239,20 @@ const LINK_RESET: &[Step] = &[
     (Write(PX_SCTL, 0x301), 0),
     (Write(PX_SCTL, 0x300), 0),
     (Sign, 0),
+    (Settle, 0),
+];
+
+/// SLEEP, which a reset of the link ends.
+const ASLEEP: &[Step] = &[
+    (
+        Driver(Lays(0, NONE, TABLE, [0x2780_E600, 0, 0, 0], NO_PIECES)),
+        0,
+    ),
+    (Write(PX_CI, 1), 0),
+    (Fetch(0), 0),
+    (Supply, 0),
+    (Supply, 0),
+    (Execute(0), 0),
     (Settle, 0),
 ];
 
@@ -241,7 +281,7 @@ const SOFTWARE_RESET: &[Step] = &[
 
 const HBA_RESET: &[Step] = &[(Write(GHC, 0x8000_0001), 0)];
 
-static LIFE: [&[Step]; 18] = [
+static LIFE: [&[Step]; 21] = [
     STARTED,
     IDENTIFIED,
     WRITTEN,
@@ -252,12 +292,15 @@ static LIFE: [&[Step]; 18] = [
     FAILED,
     RECOVERED,
     LOGGED,
+    ALL_LOGGED,
     TAKEN,
     STOPPED,
     TAKEN,
     LINK_RESET,
     TAKEN,
     SOFTWARE_RESET,
+    ASLEEP,
+    LINK_RESET,
     TAKEN,
     HBA_RESET,
 ];
@@ -277,19 +320,19 @@ fn makes(hba: &mut Hba<&Heap>, guest: &mut Guest, call: Call) -> Result<(), HbaF
         Write(offset, value) => write(hba, offset, value),
         Settle => settle(hba, guest),
         Supply => return granted(supply(hba, guest)),
-        Deliver(slot) => return hba.deliver(slot % 32),
+        Deliver(slot) => return hba.deliver(slot_of(slot)),
         Sign => return hba.sign(),
-        Fetch(slot) => return hba.fetch(slot % 32),
-        Send(slot) => return hba.send(slot % 32),
-        Accept(slot) => return hba.accept(slot % 32),
-        Serve(slot) => return hba.serve(slot % 32),
-        Execute(slot) => return hba.execute(slot % 32),
-        Call::Fail(slot) => return hba.fail(slot % 32, 0x40, 3),
+        Fetch(slot) => return hba.fetch(slot_of(slot)),
+        Send(slot) => return hba.send(slot_of(slot)),
+        Accept(slot) => return hba.accept(slot_of(slot)),
+        Serve(slot) => return hba.serve(slot_of(slot)),
+        Execute(slot) => return hba.execute(slot_of(slot)),
+        Call::Fail(slot) => return hba.fail(slot_of(slot), 0x40, 3),
         Recover(slot) => {
-            let _journal = hba.recover(slot % 32)?;
+            let _journal = hba.recover(slot_of(slot))?;
         }
         Control(slot) => {
-            let _journal = hba.control(slot % 32)?;
+            let _journal = hba.control(slot_of(slot))?;
         }
         Trim => {
             if hba.trim().is_err() {

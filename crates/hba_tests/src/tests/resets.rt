@@ -49,12 +49,12 @@ const LINK_RESET: &[Row] = &[
 /// A link that has come up, and its signature.
 const LINK_UP: &[Row] = &[
     Reads(PX_SSTS, 0x123),
-    Reads(PX_SERR, 0x0401_0000),
+    Reads(PX_SERR, 0x0405_0000),
     ReadsBits(PX_IS, 0x0040_0040, 0x0040_0040),
     ReadsBits(PX_TFD, 0x80, 0x80),
     Writes(PX_IS, 0xFFFF_FFFF),
     ReadsBits(PX_IS, 0x0040_0040, 0x0040_0040),
-    Writes(PX_SERR, 0x0401_0000),
+    Writes(PX_SERR, 0x0405_0000),
     Reads(PX_SERR, 0),
     Reads(PX_IS, 0),
     Signs,
@@ -101,7 +101,7 @@ const OFFLINE: &[Row] = &[
 ];
 
 /// AHCI 1.3.1, section 10.4.3: the bases stay.
-const HBA_RESET: &[Row] = &[
+pub const HBA_RESET: &[Row] = &[
     Writes(GHC, 0x8000_0003),
     Reads(GHC, 0x8000_0000),
     Reads(PX_CMD, 0x6),
@@ -112,7 +112,7 @@ const HBA_RESET: &[Row] = &[
 ];
 
 /// A control FIS with SRST, one without, and the signature (AHCI 1.3.1, section 10.4.1).
-const SOFTWARE_RESET: &[Row] = &[
+pub const SOFTWARE_RESET: &[Row] = &[
     Lays(
         0,
         NONE | 0x500,

@@ -1,6 +1,7 @@
 //! All that a controller shows.
 
-use ahci_hba::{AccessSize, Hba, Want};
+use crate::tests::guest::slot_of;
+use ahci_hba::{AccessSize, Hba, Power, Slot, Want};
 use ahci_port::TagSets;
 use refusing_allocator::Refusing;
 use std::alloc::Global;
@@ -24,6 +25,7 @@ pub struct Shown {
     moves: (Want, u64, usize, usize),
     slots: [(bool, bool, bool, bool); 32],
     signs: bool,
+    power: Power,
     received: [u8; 256],
     halted: bool,
     entries: (u64, u64),
@@ -31,10 +33,7 @@ pub struct Shown {
     image: [[u8; 512]; SECTORS],
 }
 
-fn slot_of(hba: &Hba<&Heap>, slot: u8) -> (bool, bool, bool, bool) {
-    if slot >= 32 {
-        return (false, false, false, false);
-    }
+fn shown_of(hba: &Hba<&Heap>, slot: Slot) -> (bool, bool, bool, bool) {
     (
         hba.may_fetch(slot),
         hba.goes_to_port(slot),
@@ -60,7 +59,7 @@ pub fn look_at(hba: &Hba<&Heap>) -> Shown {
     }
     let mut slots = [(false, false, false, false); 32];
     for (slot, number) in slots.iter_mut().zip(0u8..32) {
-        *slot = slot_of(hba, number);
+        *slot = shown_of(hba, slot_of(number));
     }
     let port = hba.port();
     Shown {
@@ -74,6 +73,7 @@ pub fn look_at(hba: &Hba<&Heap>) -> Shown {
         ),
         slots,
         signs: hba.may_sign(),
+        power: hba.power(),
         received: *port.received(),
         halted: port.halted(),
         entries: (port.journal().len(), port.journal().room()),

@@ -25,7 +25,7 @@ static COMRESET: [Row; 24] = [
     Write(0x130, 0xffff_ffff),
     Write(0x12c, 0xffff_f300),
     Read(0x12c, 0x0000_0300),
-    Read(0x130, 0x0401_0000),
+    Read(0x130, 0x0405_0000),
     Row::Due(true),
     Read(0x110, 0x4040_0048),
 ];

@@ -1,0 +1,169 @@
+//! Stories of the logs (ACS-3, "General Purpose Log directory" and "IDENTIFY DEVICE data log").
+
+use crate::tests::playing::Pieces::These;
+use crate::tests::playing::Row::{Does, Fills, Has, HasAll, Lays, Reads, Steps, Writes};
+use crate::tests::playing::{Row, Story, plays};
+use crate::tests::registers::{PX_CI, PX_IS, PX_TFD};
+use crate::tests::setting::{DATA, IDENTIFY, LIST, MEMORY, ONE, RECEIVED, SECTOR, START, TABLE};
+use std::test::Fail;
+
+/// The directory, by PIO and by DMA: logs 10h and 30h, of one page and of three.
+const DIRECTORY: &[Row] = &[
+    Lays(0, ONE, TABLE, [0x2780_2F00, 0, 0, 0x0100_0000], SECTOR),
+    Writes(PX_CI, 1),
+    Does(0),
+    Reads(PX_IS, 2),
+    Has(DATA, &[1, 0, 0, 0]),
+    Has(DATA + 0x20, &[1, 0]),
+    HasAll(DATA + 0x22, 0x3E, 0),
+    Has(DATA + 0x60, &[3, 0]),
+    HasAll(DATA + 0x62, 512 - 0x62, 0),
+    Fills(DATA, 512, 0xEE),
+    Writes(PX_IS, 0xFFFF_FFFF),
+    Lays(0, ONE, TABLE, [0x2780_4700, 0, 0, 0x0100_0000], SECTOR),
+    Writes(PX_CI, 1),
+    Does(0),
+    Reads(PX_IS, 1),
+    Has(DATA + 0x60, &[3, 0]),
+    Has(LIST + 4, &[0, 2, 0, 0]),
+];
+
+/// The words of IDENTIFY DEVICE that speak of logs: 84 and 87 (bit 5), 86 (bit 15), 119 and 120 (bit 3).
+const WORDS: &[Row] = &[
+    Lays(0, ONE, TABLE, IDENTIFY, SECTOR),
+    Writes(PX_CI, 1),
+    Does(0),
+    Has(DATA + 2 * 84, &[0x20, 0x40]),
+    Has(DATA + 2 * 86, &[0x00, 0xB4, 0x20, 0x40]),
+    Has(DATA + 2 * 119, &[0x08, 0x40, 0x08, 0x40]),
+];
+
+/// Page 00h: a header with revision 1, three pages, and their numbers.
+const SUPPORTED: &[Row] = &[
+    Fills(DATA, 512, 0xEE),
+    Writes(PX_IS, 0xFFFF_FFFF),
+    Lays(
+        0,
+        ONE,
+        TABLE,
+        [0x2780_2F00, 0x3000_0000, 0, 0x0100_0000],
+        SECTOR,
+    ),
+    Writes(PX_CI, 1),
+    Does(0),
+    Reads(PX_IS, 2),
+    Reads(PX_TFD, 0x40),
+    Reads(PX_CI, 0),
+    Has(LIST + 4, &[0, 2, 0, 0]),
+    Has(RECEIVED + 0x20, &[0x5F, 0x60, 0x48, 0]),
+    Has(RECEIVED + 0x2F, &[0x40, 0, 2]),
+    Has(DATA, &[1, 0, 0, 0, 0, 0, 0, 0, 3, 0, 1, 2]),
+    HasAll(DATA + 12, 500, 0),
+];
+
+/// Page 01h: what IDENTIFY DEVICE reads, of 8 sectors and 32 tags.
+const COPY: &[Row] = &[
+    Fills(DATA, 512, 0xEE),
+    Lays(
+        0,
+        ONE,
+        TABLE,
+        [0x2780_2F00, 0x3001_0000, 0, 0x0100_0000],
+        SECTOR,
+    ),
+    Writes(PX_CI, 1),
+    Does(0),
+    Has(DATA + 2 * 27, b"OSTFAWER"),
+    Has(DATA + 2 * 60, &[8, 0, 0, 0]),
+    Has(DATA + 2 * 75, &[31, 0]),
+    Has(DATA + 2 * 82, &[0x08, 0x00, 0x00, 0x74, 0x20, 0x40]),
+    Has(DATA + 2 * 88, &[0x3F, 0x20]),
+    Has(DATA + 2 * 100, &[8, 0, 0, 0, 0, 0, 0, 0]),
+    Has(DATA + 2 * 119, &[0x08, 0x40, 0x08, 0x40]),
+];
+
+/// Page 02h: 8 sectors, of 512 bytes each.
+const CAPACITY: &[Row] = &[
+    Fills(DATA, 512, 0xEE),
+    Lays(
+        0,
+        ONE,
+        TABLE,
+        [0x2780_2F00, 0x3002_0000, 0, 0x0100_0000],
+        SECTOR,
+    ),
+    Writes(PX_CI, 1),
+    Does(0),
+    Has(DATA, &[1, 0, 2, 0, 0, 0, 0, 0x80]),
+    Has(DATA + 8, &[8, 0, 0, 0, 0, 0, 0, 0x80]),
+    Has(DATA + 16, &[0, 0, 0, 0, 0, 0, 0, 0x80]),
+    HasAll(DATA + 24, 488, 0),
+];
+
+/// All three pages by PIO, a block each, in pieces that end within pages.
+const ALL_BY_PIO: &[Row] = &[
+    Fills(DATA, 0x1000, 0xEE),
+    Writes(PX_IS, 0xFFFF_FFFF),
+    Lays(
+        0,
+        0x0002_0005,
+        TABLE,
+        [0x2780_2F00, 0x3000_0000, 0, 0x0300_0000],
+        These(&[(DATA, 700), (DATA + 700, 836)]),
+    ),
+    Writes(PX_CI, 1),
+    Steps(0),
+    Steps(0),
+    Steps(0),
+    Reads(PX_IS, 2),
+    Reads(PX_TFD, 0xC0),
+    Reads(PX_CI, 1),
+    Has(LIST + 4, &[0, 2, 0, 0]),
+    Has(RECEIVED + 0x2F, &[0xC0, 0, 2]),
+    Does(0),
+    Reads(PX_TFD, 0x40),
+    Reads(PX_CI, 0),
+    Has(LIST + 4, &[0, 6, 0, 0]),
+    Has(RECEIVED + 0x2F, &[0x40, 0, 2]),
+    Has(DATA, &[1, 0, 0, 0, 0, 0, 0, 0, 3, 0, 1, 2]),
+    Has(DATA + 512 + 2 * 60, &[8, 0, 0, 0]),
+    Has(DATA + 1024, &[1, 0, 2, 0, 0, 0, 0, 0x80, 8, 0]),
+    HasAll(DATA + 1536, 512, 0xEE),
+];
+
+/// Pages 01h and 02h by DMA.
+const TWO_BY_DMA: &[Row] = &[
+    Fills(DATA, 0x1000, 0xEE),
+    Writes(PX_IS, 0xFFFF_FFFF),
+    Lays(
+        0,
+        ONE,
+        TABLE,
+        [0x2780_4700, 0x3001_0000, 0, 0x0200_0000],
+        These(&[(DATA, 1024)]),
+    ),
+    Writes(PX_CI, 1),
+    Does(0),
+    Row::Answered(0x40, 0, 0, 0),
+    Reads(PX_IS, 1),
+    Reads(PX_CI, 0),
+    Has(LIST + 4, &[0, 4, 0, 0]),
+    Has(DATA + 2 * 60, &[8, 0, 0, 0]),
+    Has(DATA + 512, &[1, 0, 2, 0, 0, 0, 0, 0x80, 8, 0]),
+    HasAll(DATA + 1024, 512, 0xEE),
+];
+
+static READING: Story = Story {
+    name: "logs are read",
+    sectors: 8,
+    depth: 32,
+    memory: MEMORY,
+    parts: &[
+        START, DIRECTORY, WORDS, SUPPORTED, COPY, CAPACITY, ALL_BY_PIO, TWO_BY_DMA, SUPPORTED,
+    ],
+};
+
+#[test]
+fn the_logs_that_the_directory_names_are_read(rt: HostRuntime) -> Result<(), Fail> {
+    plays(&rt, rt.alloc(), &READING)
+}
