@@ -63,6 +63,7 @@ static void steps(uint32_t slot)
     case AHCI_STEP_SEND: it->sent = true; break;
     case AHCI_STEP_ACCEPT:
         it->accepted = true;
+        needs_medium(it);
         if (it->kind == QUEUE && is_past(it))
             fails(slot, 0x10, first_past(it), true);
         else if (it->kind == QUEUE)
@@ -115,8 +116,10 @@ static void refuse(void)
     const uint64_t lba = pick % 16 == 0 ? (uint64_t)1 << 48 : pick % 16 == 1 ? byte() : (it->lba + pick / 16 % 8 - 1) & 0xFFFFFFFFFFFF;
     const bool fits = slot < 32 && is_ready() && it->there && !it->sent && !it->queued;
     CHECK(ahci_hba_refuse(&hba, slot, 0x40, lba) == (slot > 31 ? AHCI_BAD_TAG : lba >> 48 ? AHCI_BAD_LBA : fits ? AHCI_OK : AHCI_NOT_READY));
-    if (fits && !(lba >> 48))
+    if (fits && !(lba >> 48)) {
+        needs_medium(it);
         fails_alone(slot, 0x40, lba);
+    }
     follow(0);
 }
 
@@ -216,7 +219,7 @@ static uint32_t lay_list(uint8_t *to, uint32_t moved)
 static void command(void)
 {
     static const uint8_t codes[] = { 0x60, 0x61, 0x60, 0x61, 0x60, 0x61, 0x60, 0x61, 0xC8, 0xCA, 0x25, 0x35, 0x20, 0x20, 0x30, 0x24, 0x34, 0x34, 0xEC, 0x2F, 0x2F, 0x47, 0xEA, 0xE7, 0xEF, 0xA1,
-        0x40, 0x42, 0x27, 0x90, 0xE5, 0xE0, 0x00, 0xB0 };
+        0x40, 0x42, 0x27, 0x90, 0xE5, 0xE5, 0xE5, 0xE0, 0xE2, 0xE1, 0xE3, 0xE6, 0x00, 0xB0 };
     const uint32_t slot = byte() % 8 == 7 ? 31 : byte() % 6, code = codes[byte() % sizeof codes], bit = 1u << slot;
     const uint8_t far = byte(), lba = far % 32 ? far % 12 : far / 32 + 10, many = byte(), count = many % 128 ? 1 + many % 5 : 0, odd = byte();
     const bool queued = code == 0x60 || code == 0x61, log = code == 0x2F || code == 0x47, is_control = odd % 32 == 30 || (soft == HELD && odd % 4 == 2);
@@ -225,8 +228,9 @@ static void command(void)
     uint8_t *header = memory(list_base() + 32 * slot, 32), *table = memory(at, 0x800);
     uint8_t fis[20] = { 0x27, 0x80, (uint8_t)code, queued ? count : 3, lba, 0, 0, 0x40, 0, 0, 0, 0, queued ? (uint8_t)(tag << 3) : count };
     if (log) {
-        fis[4] = many % 8 ? 0x10 : 0;
-        fis[12] = many % 16 ? 1 : 2;
+        fis[4] = many % 4 == 1 ? 0x30 : many % 8 ? 0x10 : 0;
+        fis[5] = many % 4 == 1 ? far % 4 : 0;
+        fis[12] = many % 4 == 1 ? 1 + far / 4 % 3 : many % 16 ? 1 : 2;
     }
     if (is_control) /* with SRST or without */
         fis[1] = 0, fis[15] = odd >> 5 & 4;
@@ -234,7 +238,7 @@ static void command(void)
         fis[byte() % 20] = byte();
     if (header) {
         memcpy(table, fis, sizeof fis);
-        const uint32_t entries = lay_list(table + 0x80, code == 0xEC || log ? 512 : count ? count * 512u : 0x2000);
+        const uint32_t entries = lay_list(table + 0x80, code == 0xEC ? 512 : log ? 512u * fis[12] : count ? count * 512u : 0x2000);
         put(header, 5 | (odd & 0x40) | (is_control && many % 4 ? 0x500 : many % 64 == 33 ? 0x400 : 0) | entries << 16, 4);
         put(header + 4, 0, 4);
         put(header + 8, odd % 64 == 12 ? at + 0x20000 : at + (odd & 0x7F), 8);
@@ -301,13 +305,13 @@ static void restart_if_halted(void)
         restart();
 }
 
-/* A reset of the HBA, of the link, or none. */
+/* A reset of the HBA, of the link, or none; a device in Sleep waits for one. */
 static void reset(void)
 {
     const uint8_t pick = byte();
     if (pick % 16 == 1)
         write(AHCI_REG_GHC, 0x80000001 | (pick & 2));
-    if (pick % 4)
+    if (pick % 4 && power != SLEEP)
         return;
     write(AHCI_REG_PXSCTL, byte() % 4 ? 0x301 : 0x304);
     if (byte() % 8)
@@ -416,8 +420,8 @@ int main(int count, char **arguments)
     }
     printf("%lu runs of a controller, with %lu commands done, %lu dropped, %lu trims, and the port halted %lu times: the shadow has seen no difference\n", runs, counted.done, counted.dropped,
         counted.trims, counted.halts);
-    printf("of them %lu blocks by PIO, %lu reads that spilled, %lu writes that were stuck, %lu failures behind the first sector, and %lu tags past the depth\n", counted.blocks, counted.spilled,
-        counted.stuck, counted.partial, counted.deep);
+    printf("of them %lu blocks by PIO, %lu reads that spilled, %lu writes that were stuck, %lu failures behind the first sector, %lu tags past the depth, and %lu times in Sleep\n", counted.blocks, counted.spilled,
+        counted.stuck, counted.partial, counted.deep, counted.slept);
     return 0;
 }
 #endif

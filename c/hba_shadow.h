@@ -16,7 +16,7 @@
 /* Bits of PxIS, PxTFD and PxSERR (AHCI 1.3.1, sections 3.3.5, 3.3.8 and 3.3.12). */
 enum { DHRS = 1, PSS = 2, SDBS = 8, OFS = 1 << 24, IFS = 1 << 27, HBFS = 1 << 29, TFES = 1 << 30 };
 enum { BSY = 0x80, DRQ = 8, ERR = 1 };
-enum { DIAG_X = 1 << 26, DIAG_N = 1 << 16 };
+enum { DIAG_X = 1 << 26, DIAG_W = 1 << 18, DIAG_N = 1 << 16 };
 
 static ahci_hba hba;
 static ahci_hba_state look;
@@ -39,6 +39,7 @@ static enum signature { PAST, DUE, UNPOSTED } signature;
 static enum soft { OFF, HELD, ENDING } soft;
 static uint32_t soft_slot;
 static bool failed; /* a queued command has failed, and its log is not read */
+static enum power { ACTIVE, IDLE, STANDBY, SLEEP } power; /* the device's power mode (ACS-3, "Power Management feature set") */
 static uint8_t page[AHCI_PAGE_BYTES]; /* the log of that */
 
 /* A FIS of the device, or none, and whether it is still to be written to the received FIS area. */
@@ -48,11 +49,11 @@ static const struct fis no_fis;
 /* The commands that were read, by slot. Of the list: how many bytes it has, and which run and which of its bytes the data have come to. */
 enum kind { OTHER, QUEUE, READ, WRITE, PAGE, CONTROL };
 static struct command {
-    bool there, sent, accepted, queued, writes, pio, error_log, resets;
+    bool there, sent, accepted, queued, writes, pio, error_log, identify_log, resets;
     enum kind kind;
     uint8_t fis[20];
     uint64_t lba, moved, room, used, into;
-    uint32_t sectors, pieces, piece;
+    uint32_t sectors, pages, pieces, piece;
     struct { uint64_t at, bytes; } list[PIECES];
     uint8_t bytes[KEPT]; /* of a write as they were read, of a read as the image had them */
 } slots[32];
@@ -63,7 +64,7 @@ static struct { bool on, clears; uint32_t slot, phase, entries, piece; uint64_t 
 static struct { bool on, counts, spills, signs; struct fis before, after; uint32_t slot; uint64_t left; } answer;
 static struct { bool on, begun; uint32_t slot, blocks, past; struct fis end; } transfer;
 
-static struct { unsigned long done, halts, dropped, trims, blocks, spilled, stuck, partial, deep; } counted;
+static struct { unsigned long done, halts, dropped, trims, blocks, spilled, stuck, partial, deep, slept; } counted;
 
 static uint8_t *memory(uint64_t at, uint64_t count)
 {
@@ -131,10 +132,13 @@ static void come_up(void)
     reg.link = UP;
     reg.speed = limit >= 1 && limit <= 3 && limit < can.iss ? limit : can.iss;
     reg.tfd = BSY;
-    reg.serr |= DIAG_X | DIAG_N;
+    reg.serr |= DIAG_X | DIAG_W | DIAG_N;
     signature = DUE;
     soft = OFF;
 }
+
+/* A reset of the device, of whatever kind: it is what ends Sleep, and then the device is in Standby. */
+static void is_reset(void) { power = power == SLEEP ? STANDBY : power; }
 
 static void go_down(void)
 {
@@ -145,6 +149,7 @@ static void go_down(void)
     reg.halted = failed = false;
     signature = PAST;
     soft = OFF;
+    is_reset();
     drop();
 }
 
@@ -184,6 +189,7 @@ static void power_on(void)
 static void begin(void)
 {
     memset(&reg, 0, sizeof reg);
+    power = ACTIVE;
     power_on();
     memset(low, 0, sizeof low);
     memset(high, 0, sizeof high);
@@ -244,13 +250,13 @@ static void receives(const struct fis *fis, uint32_t slot)
     }
 }
 
-/* What a PIO Setup FIS leaves after its data (PIO:Update): E_Status with ERR sets no PSS. */
+/* What a PIO Setup FIS leaves after its data (PIO:Update): PSS comes with ERR too (section 3.3.5, PSS). */
 static void ends_block(const struct fis *fis, uint32_t slot)
 {
     const uint8_t status = fis->bytes[15];
     counted.blocks++;
     reg.tfd = (reg.tfd & ~0xFFu) | status;
-    reg.is |= fis->bytes[1] & 0x40 && !(status & ERR) ? PSS : 0;
+    reg.is |= fis->bytes[1] & 0x40 ? PSS : 0;
     if (!(status & (ERR | BSY | DRQ))) {
         counted.done++;
         reg.ci &= ~(1u << slot);
@@ -275,17 +281,17 @@ static void is_signed(void)
     }
 }
 
-/* What the last byte of an answer does: its FISes take effect, and data that had no room are an overflow (DR:Receive; sections 3.3.5 and 6.1.5). */
+/* What the last byte of an answer does: its FISes take effect, and data that had no room set OFS, which is no fatal error (DR:Receive; sections 3.3.5, 6.1.5
+   and 6.2.1). */
 static void ends(void)
 {
     const bool is_block = answer.before.size && answer.before.bytes[0] == 0x5F;
     answer.on = false;
     receives(&answer.before, answer.slot);
+    reg.is |= answer.spills ? OFS : 0;
+    counted.spilled += answer.spills;
     if (answer.signs) {
         is_signed();
-    } else if (answer.spills) {
-        counted.spilled++;
-        fatal(OFS);
     } else if (is_block) {
         ends_block(&answer.before, answer.slot);
     } else {

@@ -47,7 +47,7 @@ static struct fis pio_setup(bool out, bool is_first, bool is_last)
 
 /* ---- answers ---- */
 
-/* An answer is put together: a FIS or none, data, PRDBC, another FIS or none. Data that have no room fill the list, and no FIS comes behind them. */
+/* An answer is put together: a FIS or none, data, PRDBC, another FIS or none. Data that have no room fill the list, and the rest of them is dropped. */
 static void answers(uint32_t slot, struct fis before, uint64_t data, bool counts, struct fis after)
 {
     const struct command *it = &slots[slot];
@@ -59,7 +59,7 @@ static void answers(uint32_t slot, struct fis before, uint64_t data, bool counts
     answer.before = before;
     answer.after = after;
     answer.before.due = before.size && reg.receiving;
-    answer.after.due = after.size && reg.receiving && !answer.spills;
+    answer.after.due = after.size && reg.receiving;
     answer.signs = false;
     if (is_over())
         ends();
@@ -113,7 +113,7 @@ static void delivers(uint32_t slot)
     transfer.on = false;
     if (it->kind == QUEUE)
         answers(slot, dma_setup(it, slot), data, false, set_bits(0x40, 0, 1u << slot));
-    else if (it->kind == PAGE && it->pio)
+    else if (it->kind == PAGE && it->pio && !it->identify_log)
         answers(slot, pio_setup(false, true, true), data, true, no_fis);
     else if (it->pio)
         begins(slot, it->moved, it->writes ? good() : no_fis);
@@ -177,12 +177,31 @@ static struct fis answer_to(const struct command *it)
     switch (it->fis[2]) {
     case 0x40: case 0x42: return is_past(it) ? bad(0x10, first_past(it)) : fis;
     case 0xF8: case 0x27: return d2h(0x40, 0x40, 0, SECTORS - 1);
-    case 0xE7: case 0xEA: case 0xE0: case 0xE1: case 0xE2: case 0xE3: return fis;
+    case 0xE7: case 0xEA: case 0xE0: case 0xE1: case 0xE2: case 0xE3: case 0xE6: return fis;
     case 0xEF: return it->fis[3] == 3 && is_mode(it->fis[12]) ? fis : bad(4, 0);
-    case 0xE5: fis.bytes[12] = 0xFF; return fis;
+    case 0xE5: fis.bytes[12] = power == STANDBY ? 0 : 0xFF; return fis;
     case 0x90: return with_signature(d2h(0x40, 0x40, 1, 0));
     case 0xA1: return with_signature(bad(4, 0));
     default: return bad(4, 0);
+    }
+}
+
+/* A command that needs the medium makes the device Active. */
+static void needs_medium(const struct command *it)
+{
+    const uint8_t code = it->fis[2];
+    if (it->kind == QUEUE || it->kind == READ || it->kind == WRITE || code == 0x40 || code == 0x42 || code == 0xE7 || code == 0xEA)
+        power = ACTIVE;
+}
+
+/* The power mode behind a command that is carried out (ACS-3, by the commands' titles). */
+static void turns_by(const struct command *it)
+{
+    needs_medium(it);
+    switch (it->fis[2]) {
+    case 0xE0: case 0xE2: power = STANDBY; break;
+    case 0xE1: case 0xE3: power = IDLE; break;
+    case 0xE6: power = SLEEP, counted.slept++; break;
     }
 }
 
@@ -200,6 +219,8 @@ static void executes(uint32_t slot)
         fails_alone(slot, 0x10, first_past(it));
     else
         answers_alone(slot, answer_to(it));
+    if (!aborted)
+        turns_by(it);
 }
 
 /* The device takes a control FIS (section 10.4.1): SRST holds it in its reset, and the next FIS without SRST ends that. */
@@ -207,6 +228,7 @@ static void controls(uint32_t slot)
 {
     if (slots[slot].resets) {
         drop();
+        is_reset();
         failed = false;
         signature = PAST;
         soft = HELD;
@@ -259,9 +281,9 @@ static void written(uint64_t count)
 
 /* ---- what is next of each slot ---- */
 
-/* The controller may take a step with its list; the device may move. */
+/* The controller may take a step with its list; the device may move, which it doesn't in Sleep. */
 static bool is_listening(void) { return reg.on && !reg.halted && reg.link == UP && !fetch.on && !answer.on && !transfer.on; }
-static bool is_ready(void) { return is_listening() && reg.receiving && soft == OFF; }
+static bool is_ready(void) { return is_listening() && reg.receiving && soft == OFF && power != SLEEP; }
 
 static bool waits(uint32_t slot) { return reg.ci >> slot & 1 && !slots[slot].there; }
 

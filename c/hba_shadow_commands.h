@@ -48,27 +48,57 @@ static void write(uint32_t offset, uint32_t value) { writes(offset, 4, value); }
 
 /* ---- what a command FIS asks ---- */
 
-/* Whether it reads a log that there is, one page of it. */
+/* The first page that is read of a log, and whether the log has all pages that are read: logs 00h and 10h have one, and log 30h has three. */
+static uint64_t first_page(uint64_t lba) { return (lba >> 8 & 0xFF) | (lba >> 32 & 0xFF) << 8; }
+
 static bool reads_log(uint32_t code, uint64_t lba, uint32_t count)
 {
-    const uint64_t log = lba & 0xFF;
-    return (code == 0x2F || code == 0x47) && count == 1 && !(lba >> 8 & 0xFF) && !(lba >> 32 & 0xFF) && (log == 0 || log == 0x10);
+    const uint64_t log = lba & 0xFF, there = log == 0 || log == 0x10 ? 1 : log == 0x30 ? 3 : 0;
+    return (code == 0x2F || code == 0x47) && count && first_page(lba) + count <= there;
 }
 
-/* The page of IDENTIFY DEVICE, of log 10h while nothing has failed, or of log 00h. */
-static void lays_page(struct command *it)
+/* The page of IDENTIFY DEVICE. */
+static void lays_identify(uint8_t *to)
 {
     static const uint8_t words[][3] = { { 53, 6, 0 }, { 63, 7, 0 }, { 64, 3, 0 }, { 65, 120, 0 }, { 66, 120, 0 }, { 67, 120, 0 }, { 68, 120, 0 },
-        { 82, 8, 0 }, { 83, 0, 0x74 }, { 85, 8, 0 }, { 86, 0, 0x34 }, { 88, 0x3F, 0x20 } };
-    memset(it->bytes, 0, AHCI_PAGE_BYTES);
+        { 82, 8, 0 }, { 83, 0, 0x74 }, { 85, 8, 0 }, { 86, 0, 0xB4 }, { 88, 0x3F, 0x20 }, { 119, 8, 0x40 }, { 120, 8, 0x40 } };
+    CHECK(ahci_identify_page(SECTORS, depth, to, AHCI_PAGE_BYTES) == AHCI_OK);
+    for (size_t i = 0; i < sizeof words / sizeof *words; i++)
+        memcpy(to + 2 * words[i][0], words[i] + 1, 2);
+}
+
+/* A page of log 30h (ACS-3, "IDENTIFY DEVICE data log"): the pages that there are, the page of IDENTIFY DEVICE, or the capacity. */
+static void lays_identify_log(uint8_t *to, uint64_t number)
+{
+    to[0] = 1;
+    if (number == 0) {
+        to[8] = 3;
+        to[10] = 1;
+        to[11] = 2;
+    } else if (number == 1) {
+        lays_identify(to);
+    } else {
+        to[2] = 2;
+        to[7] = to[15] = to[23] = 0x80;
+        put(to + 8, SECTORS, 6);
+    }
+}
+
+/* What a command reads that is no sector: IDENTIFY DEVICE, log 10h while nothing has failed, some of log 30h, or log 00h. */
+static void lays_pages(struct command *it)
+{
+    const uint64_t first = first_page(little(it->fis + 4, 3) | little(it->fis + 8, 3) << 24);
+    memset(it->bytes, 0, it->pages * AHCI_PAGE_BYTES);
     if (it->fis[2] == 0xEC) {
-        CHECK(ahci_identify_page(SECTORS, depth, it->bytes, AHCI_PAGE_BYTES) == AHCI_OK);
-        for (size_t i = 0; i < sizeof words / sizeof *words; i++)
-            memcpy(it->bytes + 2 * words[i][0], words[i] + 1, 2);
+        lays_identify(it->bytes);
+    } else if (it->identify_log) {
+        for (uint32_t i = 0; i < it->pages; i++)
+            lays_identify_log(it->bytes + i * AHCI_PAGE_BYTES, first + i);
     } else if (it->error_log) {
         it->bytes[0] = it->bytes[511] = 0x80;
     } else {
         it->bytes[0] = it->bytes[0x20] = 1;
+        it->bytes[0x60] = 3;
     }
 }
 
@@ -80,7 +110,7 @@ static void asks(struct command *it, const uint8_t *fis)
     const uint64_t low_lba = little(fis + 4, 3), lba = low_lba | little(fis + 8, 3) << 24;
     const bool is_short = code == 0x20 || code == 0x30 || code == 0xC8 || code == 0xCA || code == 0x40;
     memcpy(it->fis, fis, sizeof it->fis);
-    it->sent = it->accepted = it->queued = it->writes = it->pio = it->error_log = false;
+    it->sent = it->accepted = it->queued = it->writes = it->pio = it->error_log = it->identify_log = false;
     it->pieces = it->piece = it->sectors = 0;
     it->room = it->used = it->into = 0;
     it->kind = OTHER;
@@ -103,9 +133,11 @@ static void asks(struct command *it, const uint8_t *fis)
         it->kind = PAGE;
         it->pio = code != 0x47;
         it->error_log = code != 0xEC && (lba & 0xFF) == 0x10;
-        lays_page(it);
+        it->identify_log = code != 0xEC && (lba & 0xFF) == 0x30;
+        it->pages = code == 0xEC ? 1 : count;
+        lays_pages(it);
     }
-    it->moved = it->kind == PAGE ? AHCI_PAGE_BYTES : code == 0x40 || code == 0x42 ? 0 : (uint64_t)it->sectors * AHCI_SECTOR_BYTES;
+    it->moved = it->kind == PAGE ? it->pages * AHCI_PAGE_BYTES : code == 0x40 || code == 0x42 ? 0 : (uint64_t)it->sectors * AHCI_SECTOR_BYTES;
 }
 
 /* Whether some sector of it is not on the disk, and the first one that is not. */
