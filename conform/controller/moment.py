@@ -7,7 +7,7 @@ from .look import Look
 from .program import Command, Go, Hold, Op, Read, Write
 
 SHORT = frozenset(code for code, (_, _, short) in COMMANDS.items() if short)  # LBAs of 28 bits
-FATAL = 0x79000000  # TFES, HBFS, HBDS, IFS and OFS of PxIS
+FATAL = 0x78000000  # TFES, HBFS, HBDS and IFS of PxIS (section 6.2.1)
 PIO_IN, PIO_OUT = frozenset((0x20, 0x24, 0xEC, 0x2F)), frozenset((0x30, 0x34))
 
 

@@ -13,10 +13,6 @@ from .registers import DHRS, HBFS, IFS, OFS, PSS, SDBS, TFES, Bad, Registers, Ta
 MOST_MOVES = 2000  # of one access
 
 
-class Overflow(Exception):
-    """The PRDT has no room for all data: what it has room for was moved."""
-
-
 class Hba(Registers):
     """One controller with one port and its disk."""
 
@@ -37,14 +33,11 @@ class Hba(Registers):
             self.words[IS] |= 1
 
     def guard(self, act: Callable[[], None]) -> None:
-        """Bad pointers are HBFS, full lists OFS: both are fatal (section 6.1)."""
+        """Bad pointers are HBFS, a fatal error (section 6.2.1)."""
         try:
             act()
         except Bad:
             self.words[PX_IS] |= HBFS
-            self.halted = True
-        except Overflow:
-            self.words[PX_IS] |= OFS
             self.halted = True
 
     @property
@@ -295,11 +288,13 @@ class Hba(Registers):
 
     # ---- memory ----
 
-    def count(self, task: Task, moved: int) -> None:
+    def count(self, task: Task, sent: int) -> None:
+        """PRDBC: what was moved of so many bytes."""
+        moved = min(sent, sum(length for _, length in task.runs))
         self.put(task.header + 4, moved.to_bytes(4, "little"))
 
     def scatter(self, task: Task, data: bytes, after: int = 0) -> None:
-        """Data into the runs of the PRDT; those before `after` are there already."""
+        """Data into the runs of the PRDT; those before `after` are there already. Data without room are dropped: OFS, which is not fatal (section 6.1.5)."""
         at = 0
         for address, length in task.runs:
             part = data[at : at + length]
@@ -308,8 +303,7 @@ class Hba(Registers):
                 self.put(address + skip, part[skip:])
             at += length
         if at < len(data):
-            self.count(task, at)
-            raise Overflow
+            self.words[PX_IS] |= OFS
 
     def gather(self, task: Task) -> bytes:
         return b"".join(self.get(address, length) for address, length in task.runs)[: layout.SECTOR * task.asked.count]

@@ -10,7 +10,7 @@ from .disk import Disk
 CAP, PI, VS = 0x00, 0x0C, 0x10
 CLO, SUD, POD, FR, CR = 0x8, 0x2, 0x4, 0x4000, 0x8000
 DHRS, PSS, SDBS, OFS, IFS, HBFS, TFES = 0x1, 0x2, 0x8, 1 << 24, 1 << 27, 1 << 29, 1 << 30
-DIAG_X, DIAG_N = 1 << 26, 1 << 16
+DIAG_X, DIAG_W, DIAG_N = 1 << 26, 1 << 18, 1 << 16
 CONSTANT = {CAP: 0xC1249F00, PI: 1, VS: 0x00010301}
 CLEARED_BY_ONE, SET_BY_ONE = (IS, PX_IS, PX_SERR), (PX_SACT, PX_CI)
 WRITABLE = {PX_CLB: 0xFFFFFC00, PX_CLBU: 0xFFFFFFFF, PX_FB: 0xFFFFFF00, PX_FBU: 0xFFFFFFFF, PX_IE: 0x7DC0007F, PX_SCTL: 0xFFF, PX_CMD: 0x03000011}
@@ -109,7 +109,7 @@ class Registers(Controller):
         limit = self.words[PX_SCTL] >> 4 & 15
         self.words[PX_SSTS] = 0x103 | (limit if limit in (1, 2) else 2) << 4
         self.words[PX_TFD] = 0x80
-        self.words[PX_SERR] |= DIAG_X | DIAG_N
+        self.words[PX_SERR] |= DIAG_X | DIAG_W | DIAG_N
         self.signature_due, self.post_due, self.in_reset = True, False, False
         self.reset_slot: Optional[int] = None
         self.drive.failed = None
