@@ -48,6 +48,8 @@ def line_follows(it: Seen) -> bool:
 
 
 def status_follows(it: Seen) -> bool:
+    if "unaligned" in it.it.facts:  # what such an access writes is open
+        return True
     return interrupt(it.it, it.now, it.was)[0] == it.now.reg(layout.IS)
 
 
