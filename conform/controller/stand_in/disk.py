@@ -8,6 +8,7 @@ GOOD, BAD_STATUS = 0x40, 0x41
 ABRT, IDNF, UNC = 0x04, 0x10, 0x40
 MODES = {0x00, 0x01, *range(0x08, 0x0D), *range(0x20, 0x23), *range(0x40, 0x46)}  # of SET FEATURES 03h
 POWER = (0xE0, 0xE1, 0xE2, 0xE3)
+LOGS = {0x00: 1, 0x10: 1, 0x30: 3}  # how many pages each has
 
 
 class Failure(NamedTuple):
@@ -55,20 +56,25 @@ class Disk:
         self.failed = bytes(page)
 
     def log(self, fis: bytes) -> Optional[bytes]:
-        """READ LOG EXT: a page, if there is that log."""
+        """READ LOG EXT: pages, if there are that log and these pages."""
         address, page, count = fis[4], fis[5] | fis[9] << 8, fis[12] | fis[13] << 8
-        if page or count != 1:
+        if not count or page + count > LOGS.get(address, 0):
             return None
+        if address == 0x30:
+            return b"".join(self.identify_log(at) for at in range(page, page + count))
         if address == 0:
-            found = bytearray(512)
-            found[0], found[2 * 0x10] = 1, 1
-            return bytes(found)
-        if address != 0x10:
-            return None
+            return b"".join(word.to_bytes(2, "little") for word in (1, *(LOGS.get(it, 0) for it in range(1, 256))))
         found = bytearray(self.failed or bytes([0x80]) + bytes(511))
         found[511] = -sum(found[:511]) & 0xFF
         self.failed = None
         return bytes(found)
+
+    def identify_log(self, page: int) -> bytes:
+        """The IDENTIFY DEVICE data log: its pages, the copy of IDENTIFY DEVICE, and the capacity."""
+        if page == 1:
+            return self.identify()
+        words = (1 | page << 16 | 1 << 63, 1 << 63 | layout.SECTORS, 1 << 63) if page else (1, 0x02010003)
+        return b"".join(it.to_bytes(8, "little") for it in words).ljust(512, b"\0")
 
     def identify(self) -> bytes:
         page = bytearray(512)

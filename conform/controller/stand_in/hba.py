@@ -235,10 +235,11 @@ class Hba(Registers):
             self.count(task, len(data))
             self.register_fis(task)
         else:
-            self.pio_setup(task, True, GOOD, False)
-            self.scatter(task, data)
-            self.count(task, len(data))
-            self.end_pio(task, GOOD, False)
+            for end in range(layout.SECTOR, len(data) + 1, layout.SECTOR):
+                ends = GOOD if end == len(data) else 0xC0
+                self.pio_setup(task, True, ends, False)
+                self.block(task, data[:end])
+                self.end_pio(task, ends, False)
 
     def no_data(self, task: Task, code: int) -> None:
         last = (layout.SECTORS - 1).to_bytes(6, "little")
