@@ -23,7 +23,7 @@ enum moved { MOVED_NOTHING, /* some byte is no memory */ MOVED_ALL, MOVED_LATER 
 /* How memory without a file is reached. */
 struct far {
     void *it;
-    enum moved (*move)(void *it, bool writes, uint64_t address, uint8_t *bytes, size_t count); /* the same run is asked for again until it is moved */
+    enum moved (*move)(void *it, bool writes, uint64_t address, uint8_t *bytes, size_t count); /* called again for the same run until it has moved */
     bool (*waits)(const void *it); /* whether an answer is to come */
     void (*forget)(void *it);      /* the run is not wanted any more */
 };
