@@ -447,9 +447,10 @@ typedef enum ahci_rule {
     AHCI_RULE_BIST_FLAG = 41, /* B is 1 for a FIS that is no BIST Activate FIS (section 4.2.2) */
     AHCI_RULE_RESET_FLAGS = 42, /* R and C are not 1 for the FIS that sets SRST, or are 1 for another (section 10.4.1) */
     AHCI_RULE_RESERVED_FIS = 43, /* reserved bits of a Register FIS - Host to Device are not 0 (section 4.2.3) */
-    AHCI_RULE_RESERVED_ENTRY = 44 /* reserved bits of a PRDT entry are not 0 (section 4.2.3) */
+    AHCI_RULE_RESERVED_ENTRY = 44, /* reserved bits of a PRDT entry are not 0 (section 4.2.3) */
+    AHCI_RULE_SLOT_ABOVE_LIST = 45 /* a bit of PxSACT or PxCI is set for a slot at or above CAP.NCS (section 3.1.1) */
 } ahci_rule;
-#define AHCI_RULES 45 /* how many there are */
+#define AHCI_RULES 46 /* how many there are */
 
 /* ---- a port ---- */
 

@@ -49,7 +49,7 @@ static const struct fis no_fis;
 /* The commands that were read, by slot. Of the list: how many bytes it has, and which run and which of its bytes the data have come to. */
 enum kind { OTHER, QUEUE, READ, WRITE, PAGE, CONTROL };
 static struct command {
-    bool there, sent, accepted, queued, writes, pio, error_log, identify_log, resets;
+    bool there, sent, accepted, queued, writes, pio, error_log, identify_log, resets, has_48_bits;
     enum kind kind;
     uint8_t fis[20];
     uint64_t lba, moved, room, used, into;

@@ -12,7 +12,16 @@ static struct fis d2h(uint8_t flags, uint8_t status, uint8_t error, uint64_t lba
 }
 
 static struct fis good(void) { return d2h(0x40, 0x40, 0, 0); }
-static struct fis bad(uint8_t error, uint64_t lba) { return d2h(0x40, 0x41, error, lba); }
+
+/* An LBA after a command of 28 bits has its bits 27:24 in the device field (Serial ATA, "Register FIS - Device to Host"). */
+static struct fis at_lba(const struct command *it, uint8_t status, uint8_t error, uint64_t lba)
+{
+    struct fis made = d2h(0x40, status, error, it->has_48_bits ? lba : lba & 0xFFFFFF);
+    made.bytes[7] = it->has_48_bits ? 0 : lba >> 24 & 15;
+    return made;
+}
+
+static struct fis bad(const struct command *it, uint8_t error, uint64_t lba) { return at_lba(it, 0x41, error, lba); }
 
 /* With the signature of a disk: count 1 and LBA 1. */
 static struct fis with_signature(struct fis it)
@@ -137,7 +146,7 @@ static void fails_alone(uint32_t slot, uint8_t error, uint64_t lba)
 {
     struct command *it = &slots[slot];
     const uint64_t data = it->kind == READ ? comes_before(it, lba) : 0;
-    const struct fis fis = bad(error, it->kind == WRITE ? it->lba : lba);
+    const struct fis fis = bad(it, error, it->kind == WRITE ? it->lba : lba);
     it->there = false;
     if (data && it->pio)
         begins(slot, data, fis);
@@ -153,7 +162,7 @@ static void fails(uint32_t slot, uint8_t error, uint64_t lba, bool is_refused)
     failed = true;
     CHECK(ahci_log_page(slot, error, at, page, sizeof page) == AHCI_OK);
     if (is_refused)
-        answers_alone(slot, bad(error, at));
+        answers_alone(slot, bad(it, error, at));
     else
         answers(slot, data ? dma_setup(it, slot) : no_fis, data, false, set_bits(0x41, error, 0));
 }
@@ -175,14 +184,14 @@ static struct fis answer_to(const struct command *it)
 {
     struct fis fis = good();
     switch (it->fis[2]) {
-    case 0x40: case 0x42: return is_past(it) ? bad(0x10, first_past(it)) : fis;
-    case 0xF8: case 0x27: return d2h(0x40, 0x40, 0, SECTORS - 1);
+    case 0x40: case 0x42: return is_past(it) ? bad(it, 0x10, first_past(it)) : fis;
+    case 0xF8: case 0x27: return at_lba(it, 0x40, 0, SECTORS - 1);
     case 0xE7: case 0xEA: case 0xE0: case 0xE1: case 0xE2: case 0xE3: case 0xE6: return fis;
-    case 0xEF: return it->fis[3] == 3 && is_mode(it->fis[12]) ? fis : bad(4, 0);
+    case 0xEF: return it->fis[3] == 3 && is_mode(it->fis[12]) ? fis : bad(it, 4, 0);
     case 0xE5: fis.bytes[12] = power == STANDBY ? 0 : 0xFF; return fis;
     case 0x90: return with_signature(d2h(0x40, 0x40, 1, 0));
-    case 0xA1: return with_signature(bad(4, 0));
-    default: return bad(4, 0);
+    case 0xA1: return with_signature(bad(it, 4, 0));
+    default: return bad(it, 4, 0);
     }
 }
 
@@ -212,7 +221,7 @@ static void executes(uint32_t slot)
     const bool aborted = is_aborted(slot);
     it->there = false;
     if (aborted)
-        answers_alone(slot, bad(4, 0));
+        answers_alone(slot, bad(it, 4, 0));
     else if (it->kind == PAGE)
         delivers(slot);
     else if (it->kind == READ || it->kind == WRITE)

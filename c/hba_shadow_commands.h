@@ -137,6 +137,8 @@ static void asks(struct command *it, const uint8_t *fis)
         it->pages = code == 0xEC ? 1 : count;
         lays_pages(it);
     }
+    it->has_48_bits = it->kind != CONTROL && (it->queued || (it->kind == PAGE && code != 0xEC) || code == 0x24 || code == 0x25 || code == 0x27
+        || code == 0x34 || code == 0x35 || code == 0x42 || code == 0xEA);
     it->moved = it->kind == PAGE ? it->pages * AHCI_PAGE_BYTES : code == 0x40 || code == 0x42 ? 0 : (uint64_t)it->sectors * AHCI_SECTOR_BYTES;
 }
 

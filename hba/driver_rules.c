@@ -48,6 +48,7 @@ const struct driver_rule driver_rules[JUDGE_RULES] = {
     [AHCI_RULE_RESET_FLAGS] = {"ResetFlags", "10.4.1", VERDICT_BROKEN, "R and C are not 1 for the FIS that sets SRST, or are 1 for another"},
     [AHCI_RULE_RESERVED_FIS] = {"ReservedFis", "4.2.3", VERDICT_BROKEN, "reserved bits of a Register FIS - Host to Device are not 0"},
     [AHCI_RULE_RESERVED_ENTRY] = {"ReservedEntry", "4.2.3", VERDICT_BROKEN, "reserved bits of a PRDT entry are not 0"},
+    [AHCI_RULE_SLOT_ABOVE_LIST] = {"SlotAboveList", "3.1.1", VERDICT_BROKEN, "a bit of PxSACT or PxCI is set for a slot at or above CAP.NCS"},
     [JUDGE_UNALIGNED_ACCESS] = {"UnalignedAccess", "3", VERDICT_BROKEN, "an access is not aligned to its size"},
     [JUDGE_SMALL_ACCESS] = {"SmallAccess", "3", VERDICT_ODD, "a register is written in 1 or 2 bytes"},
     [JUDGE_NO_REGISTER] = {"NoRegister", "3", VERDICT_BROKEN, "a value other than 0 is written where no register is"},

@@ -26,6 +26,7 @@ FAULTS: Dict[str, Tuple[str, List[str]]] = {
     "mixed": ("MixedCommands", SLOW), "slot_again": ("SlotUsedAgain", SLOW), "active_slot_again": ("SlotUsedAgain", SLOW), "sact_after_ci": ("ActiveAfterIssue", SLOW),
     "log_not_read": ("LogNotRead", FAILS), "tag_above_depth": ("TagAboveDepth", ["--depth", "2"]), "wrong_tag": ("TagNotSlot", []),
     "queue_without_sncq": ("QueueWithoutCapability", NO_QUEUE), "queue_without_sncq_and_sact": ("QueueWithoutCapability", NO_QUEUE),
+    "slot_above_list": ("SlotAboveList", ["--cap", "ncs=8"]),
     # headers and FISes
     "short_fis": ("FisLength", []), "wrong_direction": ("WriteFlag", []), "header_reserved": ("ReservedHeader", []), "header_bit_11": ("ReservedHeader", []),
     "prefetch_of_queued": ("PrefetchWithQueue", []), "pmp_of_header": ("PortOfMultiplier", []), "pmp_of_fis": ("PortOfMultiplier", []), "bist": ("BistFlag", []),

@@ -234,3 +234,4 @@ class Rule(enum.IntEnum):
     RESET_FLAGS = 42
     RESERVED_FIS = 43
     RESERVED_ENTRY = 44
+    SLOT_ABOVE_LIST = 45

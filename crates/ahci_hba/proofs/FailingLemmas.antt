@@ -11,7 +11,7 @@ use Rattle.ahci_port.specs.PortView.{PortView}
 use Rattle.sata_fis.specs.Fields.{D2hFields}
 use Rattle.hba_command.specs.declared.entry.PrdEntry.{PrdEntry}
 use Rattle.hba_command.specs.declared.protocol.Protocol.{Protocol}
-use Rattle.ahci_hba.specs.Failing.{moved_before, read_failed, refused, sectors_of, vacated}
+use Rattle.ahci_hba.specs.Failing.{moved_before, read_failed, sectors_of, vacated}
 use Rattle.ahci_hba.specs.HbaView.{HbaView}
 
 pub flat_map_one_more : (f : ℕ → List ℕ) (a n : ℕ) → flat_map f (range_with_len a (n + 1)) ≡ flat_map f (range_with_len a n) ++ f (a + n)
@@ -28,18 +28,17 @@ not_none : (n : ℕ) → (n ≡ 0 → ⊥) → nat_eq n 0 ≡ false
 not_none zero h = absurd (h refl)
 not_none (suc n) h = eqb-suc-zero n
 
-moves_some : (h : HbaView) (slot : ℕ) (p : Protocol) (list : List PrdEntry) (first n error lba : ℕ) → (n ≡ 0 → ⊥)
-    → read_failed h slot p list first n error lba ≡ moved_before (vacated h slot) slot p list (sectors_of h.port first n) n (refused error lba)
-moves_some h slot p list first n error lba some = rw (not_none n some) refl
+moves_some : (h : HbaView) (slot : ℕ) (p : Protocol) (list : List PrdEntry) (first n : ℕ) (fis : D2hFields) → (n ≡ 0 → ⊥)
+    → read_failed h slot p list first n fis ≡ moved_before (vacated h slot) slot p list (sectors_of h.port first n) n fis
+moves_some h slot p list first n fis some = rw (not_none n some) refl
 
 -- some sectors move before the error
-pub reads_failed : (h taken new : HbaView) (slot : ℕ) (p : Protocol) (list listed : List PrdEntry) (bytes : List ℕ) (first n error lba : ℕ) (fis : D2hFields) → (n ≡ 0 → ⊥)
-    → taken ≡ vacated h slot → listed ≡ list → bytes ≡ sectors_of h.port first n → fis ≡ refused error lba → new ≡ moved_before taken slot p listed bytes n fis
-    → new ≡ read_failed h slot p list first n error lba
-reads_failed h taken new slot p list listed bytes first n error lba fis some was same read named made =
+pub reads_failed : (h taken new : HbaView) (slot : ℕ) (p : Protocol) (list listed : List PrdEntry) (bytes : List ℕ) (first n : ℕ) (fis : D2hFields) → (n ≡ 0 → ⊥)
+    → taken ≡ vacated h slot → listed ≡ list → bytes ≡ sectors_of h.port first n → new ≡ moved_before taken slot p listed bytes n fis
+    → new ≡ read_failed h slot p list first n fis
+reads_failed h taken new slot p list listed bytes first n fis some was same read made =
     made
     ∙ ap {A = HbaView} {B = HbaView} (λ v. moved_before v slot p listed bytes n fis) was
     ∙ ap (λ l. moved_before (vacated h slot) slot p l bytes n fis) same
     ∙ ap (λ b. moved_before (vacated h slot) slot p list b n fis) read
-    ∙ ap (λ f. moved_before (vacated h slot) slot p list (sectors_of h.port first n) n f) named
-    ∙ sym (moves_some h slot p list first n error lba some)
+    ∙ sym (moves_some h slot p list first n fis some)

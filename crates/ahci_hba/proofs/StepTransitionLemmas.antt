@@ -3,6 +3,7 @@ use Rattle.std.proofs.Common.{◌≡◌, ℕ, ◌*◌, ◌^◌, Bool, true, fals
 use Rattle.sata_fis.specs.Encoding.{d2h_bytes}
 use Rattle.sata_fis.specs.Fields.{D2hFields, QueuedFields}
 use Rattle.hba_command.specs.Action.{action_of}
+use Rattle.hba_command.specs.Addressing.{addressing_of}
 use Rattle.hba_command.specs.Pages.{controller_page, directory_page, not_queued_page}
 use Rattle.hba_command.specs.Power.{needs_medium}
 use Rattle.hba_command.specs.Span.{SpanFields}
@@ -102,7 +103,7 @@ answers_with h slot list bytes (Queue q) = completes h slot list bytes (if q.wri
 answers_with h slot list bytes (Sectors write span ByDma) = closes_or_reads h slot write list bytes (512 * span.sectors)
 answers_with h slot list bytes (Sectors write span ByPio) = none h.registers
 answers_with h slot list bytes (Page page p) = closes h slot 0 done
-answers_with h slot list bytes Flush = closes h slot 0 done
+answers_with h slot list bytes (Flush a) = closes h slot 0 done
 answers_with h slot list bytes (Reply r) = closes h slot 0 done
 answers_with h slot list bytes (Control reset) = closes h slot 0 done
 answers_with h slot list bytes Abort = closes h slot 0 done
@@ -156,18 +157,18 @@ moves_before : (h : HbaView) (slot : ℕ) (p : Protocol) (list : List PrdEntry) 
 moves_before h slot ByDma list bytes n fis = reads h slot list bytes (512 * n) fis
 moves_before h slot ByPio list bytes n fis = none h.registers
 
-reads_failing : (h : HbaView) (slot : ℕ) (p : Protocol) (list : List PrdEntry) (first n error lba : ℕ) → Takes h.registers (read_failed h slot p list first n error lba).registers
-reads_failing h slot p list first n error lba = by (nat_eq n 0)
+reads_failing : (h : HbaView) (slot : ℕ) (p : Protocol) (list : List PrdEntry) (first n : ℕ) (fis : D2hFields) → Takes h.registers (read_failed h slot p list first n fis).registers
+reads_failing h slot p list first n fis = by (nat_eq n 0)
   where
-    by : (b : Bool) → Takes h.registers (if b then concluded h slot (refused error lba) else moved_before (vacated h slot) slot p list (sectors_of h.port first n) n (refused error lba)).registers
-    by true = concludes h slot (refused error lba)
-    by false = moves_before (vacated h slot) slot p list (sectors_of h.port first n) n (refused error lba)
+    by : (b : Bool) → Takes h.registers (if b then concluded h slot fis else moved_before (vacated h slot) slot p list (sectors_of h.port first n) n fis).registers
+    by true = concludes h slot fis
+    by false = moves_before (vacated h slot) slot p list (sectors_of h.port first n) n fis
 
 fails_sectors : (h : HbaView) (slot : ℕ) (list : List PrdEntry) (write : Bool) (span : SpanFields) (p : Protocol) (error lba : ℕ)
     → Takes h.registers (sectors_failed h slot list write span p error lba).registers
-fails_sectors h slot list true span p error lba = concludes h slot (refused error span.lba)
+fails_sectors h slot list true span p error lba = concludes h slot (refused span.addressing error span.lba)
 fails_sectors h slot list false span p error lba =
-    reads_failing h slot p list span.lba (sectors_before h.port span.lba span.sectors lba) error lba
+    reads_failing h slot p list span.lba (sectors_before h.port span.lba span.sectors lba) (refused span.addressing error lba)
 
 gives_pages : (h : HbaView) (slot : ℕ) (p : Protocol) (list : List PrdEntry) (bytes : List ℕ) (n : ℕ) → Takes h.registers (pages_given h slot p list bytes n).registers
 gives_pages h slot ByPio list bytes n = none h.registers
@@ -186,7 +187,7 @@ performs slot (Page page.Identify p) list old new h =
     let page = controller_page (sectors_in old.port) old.depth in
     made_by old new (paged (record old { port = h.port }) slot ByPio list page) h.answered (gives_page (record old { port = h.port }) slot ByPio list page)
 performs slot (Page (page.Log log) p) list old new h = made_by old new (log_given old slot p list log) h (gives_log old slot p list log)
-performs slot Flush list old new h =
+performs slot (Flush a) list old new h =
     made_by old new (awake (concluded (record old { port = h.port }) slot done)) h.answered (concludes (record old { port = h.port }) slot done)
 performs slot (Reply r) list old new h = made_by old new (replied old slot r) h (concludes old slot (reply_fis old r))
 performs slot (Control reset) list old new h = absurd h
@@ -249,13 +250,13 @@ fails slot error lba (Some q) old new f =
 fails slot error lba None old new f = absurd f
 
 refuses_with : (h : HbaView) (slot : ℕ) (list : List PrdEntry) (a : Action) (error lba : ℕ) → Takes h.registers (refused_with h slot list a error lba).registers
-refuses_with h slot list (Queue q) error lba = concludes h slot (refused error lba)
+refuses_with h slot list (Queue q) error lba = concludes h slot (refused (addressing_of (Queue q)) error lba)
 refuses_with h slot list (Sectors write span p) error lba = fails_sectors h slot list write span p error lba
-refuses_with h slot list (Page page p) error lba = concludes h slot (refused error lba)
-refuses_with h slot list Flush error lba = concludes h slot (refused error lba)
-refuses_with h slot list (Reply r) error lba = concludes h slot (refused error lba)
-refuses_with h slot list (Control reset) error lba = concludes h slot (refused error lba)
-refuses_with h slot list Abort error lba = concludes h slot (refused error lba)
+refuses_with h slot list (Page page p) error lba = concludes h slot (refused (addressing_of (Page page p)) error lba)
+refuses_with h slot list (Flush a) error lba = concludes h slot (refused (addressing_of (Flush a)) error lba)
+refuses_with h slot list (Reply r) error lba = concludes h slot (refused (addressing_of (Reply r)) error lba)
+refuses_with h slot list (Control reset) error lba = concludes h slot (refused (addressing_of (Control reset)) error lba)
+refuses_with h slot list Abort error lba = concludes h slot (refused (addressing_of Abort) error lba)
 
 pub refuses : (h : HbaView) (slot error lba : ℕ) → Takes h.registers (refused_at h slot error lba).registers
 refuses h slot error lba =

@@ -1,9 +1,10 @@
 -- What the device does with a command that is not queued (ACS-3, by the commands' titles).
-use Rattle.std.specs.Prelude.{◌≡◌, ℕ, ◌-◌, ◌*◌, Bool, true, false, not, ◌&&◌, ◌||◌, max, List, Option, None, Some, if◌then◌else◌}
+use Rattle.std.specs.Prelude.{◌≡◌, ℕ, ◌-◌, ◌*◌, Bool, true, false, not, ◌&&◌, ◌||◌, max, min, List, Option, None, Some, if◌then◌else◌}
 use Rattle.std.specs.List.{list_any}
 use Rattle.ncq_journal.specs.Halted.{halted}
 use Rattle.sata_fis.specs.Fields.{D2hFields}
 use Rattle.hba_command.specs.Action.{action_of}
+use Rattle.hba_command.specs.Addressing.{addressed}
 use Rattle.hba_command.specs.IdentifyLog.{identify_log_pages}
 use Rattle.hba_command.specs.IdentifyPages.{IdentifyPagesFields}
 use Rattle.hba_command.specs.Pages.{controller_page, directory_page, not_queued_page}
@@ -11,6 +12,8 @@ use Rattle.hba_command.specs.Power.{power_count}
 use Rattle.hba_command.specs.Span.{SpanFields}
 use Rattle.hba_command.specs.declared.action.Action.{Action}
 use Rattle.hba_command.specs.declared.action.Action.TheVariants.{Queue, Sectors, Page, Flush, Reply as Replies, Control, Abort}
+use Rattle.hba_command.specs.declared.addressing.Addressing.{Addressing}
+use Rattle.hba_command.specs.declared.addressing.Addressing.TheVariants.{Bits28, Bits48}
 use Rattle.hba_command.specs.declared.entry.PrdEntry.{PrdEntry}
 use Rattle.hba_command.specs.declared.log.Log.{Log}
 use Rattle.hba_command.specs.declared.log.Log.TheVariants.{Directory, IdentifyData, QueuedError}
@@ -40,14 +43,19 @@ first_missing port span = max span.lba (sectors_in port)
 
 -- a read that moves nothing: the sectors are on the disk, or IDNF names the first one that is not
 abbrev pub verified : PortView → SpanFields → D2hFields
-verified port span = if is_on port span then done else d2h_fis 0x41 0x10 (first_missing port span) 0
+verified port span = if is_on port span then done else addressed span.addressing (d2h_fis 0x41 0x10 0 0) (first_missing port span)
+
+-- the LBA of the last sector, of 28 bits at most FFF_FFFFh (ACS-3, "READ NATIVE MAX ADDRESS")
+abbrev pub native_max : Addressing → PortView → ℕ
+native_max Bits28 port = min 0x0FFFFFFF (sectors_in port - 1)
+native_max Bits48 port = sectors_in port - 1
 
 -- the answer to a command that moves nothing
 abbrev pub reply_fis : HbaView → Reply → D2hFields
 reply_fis h reply.Done = done
 reply_fis h (reply.Entered mode) = done
 reply_fis h (reply.Verified span) = verified h.port span
-reply_fis h reply.NativeMax = d2h_fis 0x40 0 (sectors_in h.port - 1) 0
+reply_fis h (reply.NativeMax a) = addressed a done (native_max a h.port)
 reply_fis h reply.PowerMode = d2h_fis 0x40 0 0 (power_count h.power)
 reply_fis h reply.Diagnosed = signed 0x40 0x01
 reply_fis h reply.Packet = signed 0x41 0x04
@@ -115,7 +123,7 @@ Performs slot (Queue q) list old new = new ≡ concluded old slot aborted
 Performs slot (Sectors write span p) list old new = new ≡ awake (sectors_failed old slot list write span p 0x10 (first_missing old.port span))
 Performs slot (Page page.Identify p) list old new = Identifies slot list old new
 Performs slot (Page (page.Log log) p) list old new = new ≡ log_given old slot p list log
-Performs slot Flush list old new = Flushes slot old new
+Performs slot (Flush a) list old new = Flushes slot old new
 Performs slot (Replies r) list old new = new ≡ replied old slot r
 Performs slot (Control reset) list old new = ⊥
 Performs slot Abort list old new = new ≡ concluded old slot aborted
@@ -131,7 +139,7 @@ ExecutesAt slot a list old new = Executes (is_aborted old a) slot a list old new
 -- an allocation can be refused: for a page, for the journal that a flush stands in, and for the sectors of a read that are there
 abbrev pub MayLack : HbaView → Action → Type 0
 MayLack h (Page page p) = Unit {0}
-MayLack h Flush = LacksRoom h.port
+MayLack h (Flush a) = LacksRoom h.port
 MayLack h (Sectors write span p) = moves_some h.port write span (first_missing h.port span) ≡ true
 MayLack h other = ⊥
 

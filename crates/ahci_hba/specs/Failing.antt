@@ -6,9 +6,11 @@ use Rattle.ncq_journal.specs.Answer.{sectors_at}
 use Rattle.sata_fis.specs.Encoding.{d2h_bytes}
 use Rattle.sata_fis.specs.Fields.{D2hFields, QueuedFields}
 use Rattle.hba_command.specs.Action.{action_of}
+use Rattle.hba_command.specs.Addressing.{addressed, addressing_of}
 use Rattle.hba_command.specs.Span.{SpanFields}
 use Rattle.hba_command.specs.declared.action.Action.{Action}
 use Rattle.hba_command.specs.declared.action.Action.TheVariants.{Queue, Sectors, Page, Flush, Reply, Control, Abort}
+use Rattle.hba_command.specs.declared.addressing.Addressing.{Addressing}
 use Rattle.hba_command.specs.declared.entry.PrdEntry.{PrdEntry}
 use Rattle.hba_command.specs.declared.protocol.Protocol.{Protocol}
 use Rattle.hba_command.specs.declared.protocol.Protocol.TheVariants.{Pio, Dma}
@@ -35,9 +37,9 @@ abbrev pub concluded : HbaView → ℕ → D2hFields → HbaView
 concluded h slot fis =
     answering (vacated h slot) (only_after (received_put h.registers 0x40 (d2h_bytes fis))) (ending_of true (fis_ending slot fis))
 
--- an error at an LBA
-abbrev pub refused : ℕ → ℕ → D2hFields
-refused error lba = d2h_fis 0x41 error lba 0
+-- an error at an LBA, which the FIS names as the command names its own
+abbrev pub refused : Addressing → (error lba : ℕ) → D2hFields
+refused a error lba = addressed a (d2h_fis 0x41 error 0 0) lba
 
 -- how many sectors from an LBA on a read has moved before another one, at most so many: those that the disk has
 abbrev pub sectors_before : PortView → (first sectors lba : ℕ) → ℕ
@@ -61,25 +63,25 @@ moves_before port (Sectors write span p) lba = moves_some port write span lba
 moves_before port other lba = false
 
 -- a read that is not queued fails: with no sector before the LBA, the FIS comes alone
-abbrev pub read_failed : HbaView → ℕ → Protocol → List PrdEntry → (first n error lba : ℕ) → HbaView
-read_failed h slot p list first n error lba =
-    if nat_eq n 0 then concluded h slot (refused error lba)
-    else moved_before (vacated h slot) slot p list (sectors_of h.port first n) n (refused error lba)
+abbrev pub read_failed : HbaView → ℕ → Protocol → List PrdEntry → (first n : ℕ) → D2hFields → HbaView
+read_failed h slot p list first n fis =
+    if nat_eq n 0 then concluded h slot fis
+    else moved_before (vacated h slot) slot p list (sectors_of h.port first n) n fis
 
 abbrev pub sectors_failed : HbaView → ℕ → List PrdEntry → Bool → SpanFields → Protocol → (error lba : ℕ) → HbaView
 sectors_failed h slot list write span p error lba =
-    if write then concluded h slot (refused error span.lba)
-    else read_failed h slot p list span.lba (sectors_before h.port span.lba span.sectors lba) error lba
+    if write then concluded h slot (refused span.addressing error span.lba)
+    else read_failed h slot p list span.lba (sectors_before h.port span.lba span.sectors lba) (refused span.addressing error lba)
 
 -- the device fails a command that is not queued with an error at an LBA
 abbrev pub refused_with : HbaView → ℕ → List PrdEntry → Action → (error lba : ℕ) → HbaView
 refused_with h slot list (Sectors write span p) error lba = sectors_failed h slot list write span p error lba
-refused_with h slot list (Queue q) error lba = concluded h slot (refused error lba)
-refused_with h slot list (Page page p) error lba = concluded h slot (refused error lba)
-refused_with h slot list Flush error lba = concluded h slot (refused error lba)
-refused_with h slot list (Reply r) error lba = concluded h slot (refused error lba)
-refused_with h slot list (Control reset) error lba = concluded h slot (refused error lba)
-refused_with h slot list Abort error lba = concluded h slot (refused error lba)
+refused_with h slot list (Queue q) error lba = concluded h slot (refused (addressing_of (Queue q)) error lba)
+refused_with h slot list (Page page p) error lba = concluded h slot (refused (addressing_of (Page page p)) error lba)
+refused_with h slot list (Flush a) error lba = concluded h slot (refused (addressing_of (Flush a)) error lba)
+refused_with h slot list (Reply r) error lba = concluded h slot (refused (addressing_of (Reply r)) error lba)
+refused_with h slot list (Control reset) error lba = concluded h slot (refused (addressing_of (Control reset)) error lba)
+refused_with h slot list Abort error lba = concluded h slot (refused (addressing_of Abort) error lba)
 
 -- that of a slot, of which one that needs the medium makes the device Active
 abbrev pub refused_at : HbaView → ℕ → (error lba : ℕ) → HbaView
@@ -94,7 +96,7 @@ abbrev pub own_queued : Action → ℕ → Option QueuedFields
 own_queued (Queue q) lba = if owns q lba then Some q else None
 own_queued (Sectors write span p) lba = None
 own_queued (Page page p) lba = None
-own_queued Flush lba = None
+own_queued (Flush a) lba = None
 own_queued (Reply r) lba = None
 own_queued (Control reset) lba = None
 own_queued Abort lba = None

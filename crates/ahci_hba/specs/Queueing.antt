@@ -48,7 +48,7 @@ abbrev pub acts_alone : Action → Bool
 acts_alone (Queue q) = false
 acts_alone (Sectors write span p) = true
 acts_alone (Page page p) = true
-acts_alone Flush = true
+acts_alone (Flush a) = true
 acts_alone (Reply r) = true
 acts_alone (Control reset) = true
 acts_alone Abort = true
@@ -85,7 +85,7 @@ abbrev pub moves_sectors : HbaView → Action → Bool
 moves_sectors h (Queue q) = has_tag h q
 moves_sectors h (Sectors write span p) = is_on h.port span && not (list_any has_queued h.slots)
 moves_sectors h (Page page p) = false
-moves_sectors h Flush = false
+moves_sectors h (Flush a) = false
 moves_sectors h (Reply r) = false
 moves_sectors h (Control reset) = false
 moves_sectors h Abort = false
@@ -176,7 +176,7 @@ abbrev pub work_of_action : Action → List ℕ → Work
 work_of_action (Queue q) bytes = work_for q.write q.lba q.sectors bytes
 work_of_action (Sectors write span p) bytes = work_for write span.lba span.sectors bytes
 work_of_action (Page page p) bytes = Read 0 0
-work_of_action Flush bytes = Read 0 0
+work_of_action (Flush a) bytes = Read 0 0
 work_of_action (Reply r) bytes = Read 0 0
 work_of_action (Control reset) bytes = Read 0 0
 work_of_action Abort bytes = Read 0 0

@@ -5,6 +5,7 @@ pub mod IdentifyPages
 pub mod CommandFis
 pub mod Task
 pub mod Action
+pub mod Addressing
 pub mod Power
 pub mod Pages
 pub mod IdentifyLog

@@ -34,7 +34,7 @@ abbrev pub after_reply : Reply → Power → Power
 after_reply (reply.Entered mode) p = mode  -- IDLE, STANDBY, with IMMEDIATE or without, SLEEP
 after_reply (reply.Verified span) p = Active  -- READ VERIFY SECTOR(S), with EXT or without
 after_reply reply.Done p = p
-after_reply reply.NativeMax p = p
+after_reply (reply.NativeMax a) p = p
 after_reply reply.PowerMode p = p
 after_reply reply.Diagnosed p = p
 after_reply reply.Packet p = p
@@ -44,7 +44,7 @@ abbrev pub reply_needs_medium : Reply → Bool
 reply_needs_medium (reply.Entered mode) = false
 reply_needs_medium (reply.Verified span) = true
 reply_needs_medium reply.Done = false
-reply_needs_medium reply.NativeMax = false
+reply_needs_medium (reply.NativeMax a) = false
 reply_needs_medium reply.PowerMode = false
 reply_needs_medium reply.Diagnosed = false
 reply_needs_medium reply.Packet = false
@@ -53,7 +53,7 @@ abbrev pub needs_medium : Action → Bool
 needs_medium (action.Queue q) = true
 needs_medium (action.Sectors write span p) = true
 needs_medium (action.Page page p) = false
-needs_medium action.Flush = true
+needs_medium (action.Flush a) = true
 needs_medium (action.Reply r) = reply_needs_medium r
 needs_medium (action.Control reset) = false
 needs_medium action.Abort = false

@@ -4,6 +4,7 @@ use Rattle.sata_fis.specs.Command.{queued_in}
 use Rattle.sata_fis.specs.Fields.{H2dFields, QueuedFields}
 use Rattle.sata_fis.specs.Places.{bit}
 use Rattle.hba_command.specs.Span.{SpanFields}
+use Rattle.hba_command.specs.declared.addressing.Addressing.TheVariants.{Bits28, Bits48}
 use Rattle.hba_command.specs.declared.log.Log.TheVariants.{Directory, IdentifyData, QueuedError}
 use Rattle.hba_command.specs.declared.protocol.Protocol.{Protocol}
 use Rattle.hba_command.specs.declared.protocol.Protocol.TheVariants.{Pio, Dma}
@@ -16,11 +17,11 @@ counted most count = if count == 0 then most else count
 
 -- commands of 28 bits: LBA 27:24 are device 3:0, and the count has eight bits
 abbrev pub short_span : H2dFields → SpanFields
-short_span f = record { lba = f.lba % 2 ^ 24 + 2 ^ 24 * (f.device % 16); sectors = counted 256 (f.count % 256) }
+short_span f = record { lba = f.lba % 2 ^ 24 + 2 ^ 24 * (f.device % 16); sectors = counted 256 (f.count % 256); addressing = Bits28 }
 
 -- commands of 48 bits
 abbrev pub long_span : H2dFields → SpanFields
-long_span f = record { lba = f.lba; sectors = counted 65536 f.count }
+long_span f = record { lba = f.lba; sectors = counted 65536 f.count; addressing = Bits48 }
 
 -- the log is LBA 7:0, and the first page LBA 15:8 and 39:32
 abbrev pub log_of : H2dFields → ℕ
@@ -56,7 +57,7 @@ task_by code f =
     if code == 0x20 then Read (short_span f) Pio  -- READ SECTOR(S)
     else (if code == 0x24 then Read (long_span f) Pio  -- READ SECTOR(S) EXT
     else (if code == 0x25 then Read (long_span f) Dma  -- READ DMA EXT
-    else (if code == 0x27 || code == 0xF8 then NativeMax  -- READ NATIVE MAX ADDRESS EXT, READ NATIVE MAX ADDRESS
+    else (if code == 0x27 then NativeMax Bits48  -- READ NATIVE MAX ADDRESS EXT
     else (if code == 0x2F then log_task f Pio  -- READ LOG EXT
     else (if code == 0x30 then Write (short_span f) Pio  -- WRITE SECTOR(S)
     else (if code == 0x34 then Write (long_span f) Pio  -- WRITE SECTOR(S) EXT
@@ -72,10 +73,12 @@ task_by code f =
     else (if code == 0xE1 || code == 0xE3 then Idle  -- IDLE IMMEDIATE, IDLE
     else (if code == 0xE5 then PowerMode  -- CHECK POWER MODE
     else (if code == 0xE6 then Sleep  -- SLEEP
-    else (if code == 0xE7 || code == 0xEA then Flush  -- FLUSH CACHE, FLUSH CACHE EXT
+    else (if code == 0xE7 then Flush Bits28  -- FLUSH CACHE
+    else (if code == 0xEA then Flush Bits48  -- FLUSH CACHE EXT
     else (if code == 0xEC then Identify  -- IDENTIFY DEVICE
     else (if code == 0xEF && f.features % 256 == 0x03 && is_mode (f.count % 256) then Nothing  -- SET FEATURES, set transfer mode
-    else Unknown)))))))))))))))))))))
+    else (if code == 0xF8 then NativeMax Bits28  -- READ NATIVE MAX ADDRESS
+    else Unknown)))))))))))))))))))))))
 
 -- a queued command, else one that is not
 abbrev pub command_task : H2dFields → Option QueuedFields → Task

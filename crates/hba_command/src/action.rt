@@ -2,6 +2,7 @@ ghost use Rattle.std.specs.Prelude.{◌≡◌};
 ghost use Rattle.hba_command.specs.Action.{action_of, is_write, moved_by};
 ghost use Rattle.hba_command.specs.declared.action.Action.TheVariants.{Sectors};
 
+use crate::addressing::Addressing;
 use crate::page::{Page, pages_of};
 use crate::power::Power;
 use crate::protocol::Protocol;
@@ -24,7 +25,7 @@ pub enum Action {
     /// It sends a page.
     Page(Page, Protocol),
     /// It writes its cache.
-    Flush,
+    Flush(Addressing),
     /// It answers, and moves nothing.
     Reply(Reply),
     /// It takes the device control register, with SRST.
@@ -55,10 +56,10 @@ pub fn action_of(task: &Task) -> Action
         Task::Read(span, protocol) => sectors(false, span, *protocol),
         Task::Write(span, protocol) => sectors(true, span, *protocol),
         Task::Verify(span) => Action::Reply(Reply::Verified(*span)),
-        Task::Flush => Action::Flush,
+        Task::Flush(addressing) => Action::Flush(*addressing),
         Task::Identify => Action::Page(Page::Identify, Protocol::Pio),
         Task::ReadLog(log, protocol) => Action::Page(Page::Log(*log), *protocol),
-        Task::NativeMax => Action::Reply(Reply::NativeMax),
+        Task::NativeMax(addressing) => Action::Reply(Reply::NativeMax(*addressing)),
         Task::PowerMode => Action::Reply(Reply::PowerMode),
         Task::Idle => Action::Reply(Reply::Entered(Power::Idle)),
         Task::Standby => Action::Reply(Reply::Entered(Power::Standby)),
@@ -79,7 +80,7 @@ pub fn moved_by(action: &Action) -> u32
         Action::Queue(queued) => 512 * queued.sectors,
         Action::Sectors { span, .. } => 512 * span.sectors,
         Action::Page(page, _) => 512 * pages_of(page),
-        Action::Flush | Action::Reply(_) | Action::Control { .. } | Action::Abort => 0,
+        Action::Flush(_) | Action::Reply(_) | Action::Control { .. } | Action::Abort => 0,
     }
 }
 
@@ -90,7 +91,7 @@ pub fn is_write(action: &Action) -> bool
     match action {
         Action::Queue(queued) => queued.write,
         Action::Sectors { write, .. } => *write,
-        Action::Page(_, _) | Action::Flush | Action::Reply(_) | Action::Control { .. } => false,
+        Action::Page(_, _) | Action::Flush(_) | Action::Reply(_) | Action::Control { .. } => false,
         Action::Abort => false,
     }
 }

@@ -5,6 +5,7 @@
 #![tactic(auto)]
 
 mod action;
+mod addressing;
 mod entry;
 mod fis;
 mod header;
@@ -21,6 +22,7 @@ mod task;
 mod tasks;
 
 pub use action::{Action, action_of, is_write, moved_by};
+pub use addressing::{Addressing, addressed, addressing_of};
 pub use entry::PrdEntry;
 pub use fis::command_fis;
 pub use header::CommandHeader;

@@ -56,7 +56,7 @@ pub fn after_reply(reply: &Reply, power: Power) -> Power
     match reply {
         Reply::Entered(mode) => *mode,
         Reply::Verified(_) => Power::Active,
-        Reply::Done | Reply::NativeMax | Reply::PowerMode | Reply::Diagnosed | Reply::Packet =>
+        Reply::Done | Reply::NativeMax(_) | Reply::PowerMode | Reply::Diagnosed | Reply::Packet =>
             power,
     }
 }
@@ -67,7 +67,7 @@ fn reply_needs_medium(reply: &Reply) -> bool
 {
     match reply {
         Reply::Verified(_) => true,
-        Reply::Entered(_) | Reply::Done | Reply::NativeMax | Reply::PowerMode => false,
+        Reply::Entered(_) | Reply::Done | Reply::NativeMax(_) | Reply::PowerMode => false,
         Reply::Diagnosed | Reply::Packet => false,
     }
 }
@@ -77,7 +77,7 @@ pub fn needs_medium(action: &Action) -> bool
     ensures { result ≡ needs_medium action.now }
 {
     match action {
-        Action::Queue(_) | Action::Sectors { .. } | Action::Flush => true,
+        Action::Queue(_) | Action::Sectors { .. } | Action::Flush(_) => true,
         Action::Reply(reply) => reply_needs_medium(reply),
         Action::Page(_, _) | Action::Control { .. } | Action::Abort => false,
     }

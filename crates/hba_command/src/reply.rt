@@ -1,3 +1,4 @@
+use crate::addressing::Addressing;
 use crate::power::Power;
 use crate::span::Span;
 
@@ -9,7 +10,7 @@ pub enum Reply {
     /// The sectors are on the disk, or not.
     Verified(Span),
     /// The LBA of the last sector.
-    NativeMax,
+    NativeMax(Addressing),
     /// The count that tells the power mode.
     PowerMode,
     /// The command is done, and the device is in this power mode.

@@ -1,3 +1,4 @@
+use crate::addressing::Addressing;
 use std::marker::Model;
 
 /// Some sectors of the disk, one after the other: 1 to 65,536 of them, from an LBA below 2^48 on.
@@ -7,6 +8,8 @@ pub struct Span {
     pub lba: u64,
     /// How many sectors of 512 bytes.
     pub sectors: u32,
+    /// How the command named them.
+    pub addressing: Addressing,
 }
 
 impl Model for Span {

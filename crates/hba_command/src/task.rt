@@ -1,3 +1,4 @@
+use crate::addressing::Addressing;
 use crate::log::Log;
 use crate::protocol::Protocol;
 use crate::span::Span;
@@ -15,13 +16,13 @@ pub enum Task {
     /// READ VERIFY SECTOR(S), with EXT or without.
     Verify(Span),
     /// FLUSH CACHE, with EXT or without.
-    Flush,
+    Flush(Addressing),
     /// IDENTIFY DEVICE.
     Identify,
     /// READ LOG EXT and READ LOG DMA EXT, of one page that there is.
     ReadLog(Log, Protocol),
     /// READ NATIVE MAX ADDRESS, with EXT or without: the LBA of the last sector is answered.
-    NativeMax,
+    NativeMax(Addressing),
     /// CHECK POWER MODE: the count tells the power mode.
     PowerMode,
     /// IDLE, with IMMEDIATE or without.

@@ -4,6 +4,7 @@ ghost use Rattle.std.specs.Prelude.{◌≡◌, ◌%◌, ◌<◌, ◌^◌};
 ghost use Rattle.hba_command.specs.Task.{first_page, is_mode, log_task, long_span, pages_in, short_span, task_by, task_of};
 
 use crate::identify_pages::IdentifyPages;
+use crate::addressing::Addressing;
 use crate::log::Log;
 use crate::protocol::Protocol;
 use crate::span::Span;
@@ -20,6 +21,7 @@ fn short_span(h2d: &H2d) -> Span
     Span {
         lba: low + (high << 24),
         sectors: if sectors == 0 { 256 } else { sectors },
+        addressing: Addressing::Bits28,
     }
 }
 
@@ -31,6 +33,7 @@ fn long_span(h2d: &H2d) -> Span
     Span {
         lba: h2d.lba,
         sectors: if sectors == 0 { 65_536 } else { sectors },
+        addressing: Addressing::Bits48,
     }
 }
 
@@ -86,7 +89,7 @@ fn task_by(code: u8, h2d: &H2d) -> Task
         0x20 => Task::Read(short_span(h2d), Protocol::Pio), // READ SECTOR(S)
         0x24 => Task::Read(long_span(h2d), Protocol::Pio), // READ SECTOR(S) EXT
         0x25 => Task::Read(long_span(h2d), Protocol::Dma), // READ DMA EXT
-        0x27 | 0xF8 => Task::NativeMax, // READ NATIVE MAX ADDRESS EXT, READ NATIVE MAX ADDRESS
+        0x27 => Task::NativeMax(Addressing::Bits48), // READ NATIVE MAX ADDRESS EXT
         0x2F => log_task(h2d, Protocol::Pio), // READ LOG EXT
         0x30 => Task::Write(short_span(h2d), Protocol::Pio), // WRITE SECTOR(S)
         0x34 => Task::Write(long_span(h2d), Protocol::Pio), // WRITE SECTOR(S) EXT
@@ -102,9 +105,11 @@ fn task_by(code: u8, h2d: &H2d) -> Task
         0xE1 | 0xE3 => Task::Idle, // IDLE IMMEDIATE, IDLE
         0xE5 => Task::PowerMode, // CHECK POWER MODE
         0xE6 => Task::Sleep, // SLEEP
-        0xE7 | 0xEA => Task::Flush, // FLUSH CACHE, FLUSH CACHE EXT
+        0xE7 => Task::Flush(Addressing::Bits28), // FLUSH CACHE
+        0xEA => Task::Flush(Addressing::Bits48), // FLUSH CACHE EXT
         0xEC => Task::Identify, // IDENTIFY DEVICE
         0xEF if h2d.features % 256 == 0x03 && is_mode(h2d.count) => Task::Nothing, // SET FEATURES, set transfer mode
+        0xF8 => Task::NativeMax(Addressing::Bits28), // READ NATIVE MAX ADDRESS
         _ => Task::Unknown,
     }
 }

@@ -84,7 +84,7 @@ abbrev pub after_task : CommandHeader → Task → ReadingView
 after_task h t =
     if moved_by t == 0 then Whole t h.clears_busy [] []
     else if h.entries == 0 then after_list t h.clears_busy []
-    else Entries t h.clears_busy (unread h.table h.entries) (read_by t)
+    else Entries t h.clears_busy (unread h.table h.entries (moved_by t)) (read_by t)
 
 abbrev pub after_command : CommandHeader → Option H2dFields → ReadingView
 after_command h (Some f) = after_task h (task_of f)
@@ -92,7 +92,7 @@ after_command h None = Malformed
 
 -- some entries are read
 abbrev pub with_entries : TableView → List ℕ → TableView
-with_entries table bytes = record {
+with_entries table bytes = record table {
   address = wrapped (table.address + length bytes);
   left = table.left - next_entries table;
   list = table.list ++ entries_in (next_entries table) bytes;
@@ -127,9 +127,9 @@ abbrev pub allocates : ReadingView → List ℕ → Bool
 allocates (Command h) bytes = moves_data (command_fis bytes)
 allocates other bytes = false
 
--- what every stage of the reading keeps: there is room for all that a write's data need
+-- what every stage of the reading keeps: there is room for all that a write's data need, and the list is read as far as the command's data need it
 abbrev pub HasRoom : ReadingView → Type 0
-HasRoom (Entries t c table room) = room ≡ read_by t
+HasRoom (Entries t c table room) = (room ≡ read_by t) × (table.needed ≡ moved_by t)
 HasRoom other = Unit {0}
 
 -- nothing comes next

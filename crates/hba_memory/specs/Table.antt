@@ -10,6 +10,8 @@ pub record TableView : Type 0 where
   pub left : ℕ
   -- the entries before it
   pub list : List PrdEntry
+  -- how many bytes the command moves
+  pub needed : ℕ
 
 -- how many entries are read at a time (profile)
 abbrev pub most_entries : ℕ
@@ -26,6 +28,6 @@ entries_in n bytes = map (λ k. entry_at (take 16 (drop (16 * k) bytes))) (range
 abbrev pub wrapped : ℕ → ℕ
 wrapped n = n % 2 ^ 64
 
--- the table before its first entry was read
-abbrev pub unread : ℕ → ℕ → TableView
-unread table entries = record { address = wrapped (table + 0x80); left = entries; list = [] }
+-- the table before its first entry was read, of a command that moves so many bytes
+abbrev pub unread : (table entries needed : ℕ) → TableView
+unread table entries needed = record { address = wrapped (table + 0x80); left = entries; list = []; needed = needed }

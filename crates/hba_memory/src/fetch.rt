@@ -118,7 +118,7 @@ fn after_task<A: Allocator + Copy>(
     if header.entries == 0 {
         return Ok(after_list(task, header.clears_busy, Vec::new(alloc), room));
     }
-    let table = TableReader::new(alloc, header.table, header.entries)?;
+    let table = TableReader::new(alloc, header.table, header.entries, moved_by(&task))?;
     Ok(Reading::Entries(task, header.clears_busy, table, room))
 }
 
@@ -148,11 +148,13 @@ fn with_entries<A: Allocator + Copy>(
 ) -> Reading<A>
     requires length { length bytes.now ≡ 16 * next_entries table }
     requires room { room ≡ read_by task }
-    ensures { reading_of result ≡ after_entries task clears (with_entries table bytes.now) room }
+    requires needed { table.needed ≡ moved_by task }
+    ensures next { reading_of result ≡ after_entries task clears (with_entries table bytes.now) room }
+    ensures room { HasRoom (reading_of result) }
 {
     let mut table = table;
     table.supply(bytes);
-    if table.is_done() || !is_short(&task, table.list()) {
+    if table.is_done() || !table.is_short() {
         after_list(task, clears, table.into_list(), room)
     } else {
         Reading::Entries(task, clears, table, room)

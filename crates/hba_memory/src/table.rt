@@ -1,9 +1,11 @@
 //! A PRDT, read some entries at a time.
 
-ghost use Rattle.std.specs.Prelude.{◌≡◌, ◌≤◌, ◌<◌, ◌*◌, ◌+◌, ◌++◌, drop, length, take, vec_capacity, vec_len};
+ghost use Rattle.std.specs.Prelude.{◌≡◌, ◌≤◌, ◌<◌, ◌*◌, ◌+◌, ◌-◌, ◌++◌, drop, length, take, vec_capacity, vec_len};
 ghost use Rattle.hba_command.specs.PrdEntry.{entry_at};
+ghost use Rattle.hba_memory.specs.Runs.{total};
 ghost use Rattle.hba_memory.specs.Table.{entries_in};
 
+use crate::lengths::total;
 use hba_command::PrdEntry;
 use std::alloc::{AllocError, Allocator, Global};
 use std::marker::Model;
@@ -12,23 +14,26 @@ use std::marker::Model;
 pub const MAX_ENTRIES: u32 = 32;
 
 /// A PRDT that is read, some entries at a time (AHCI 1.3.1, section 4.2.3). Contracts see where the next entry is, how many are still to
-/// be read, and those that were.
+/// be read, those that were, and how many bytes the command moves; `missing` is how many of these the entries so far have no room for.
 #[derive(Drop)]
 pub struct TableReader<A: Allocator = Global> {
     address: u64,
     left: u32,
     list: Vec<PrdEntry, A>,
+    needed: u32,
+    missing: u32,
 }
 
 impl<A: Allocator> Model for TableReader<A> {
-    ghost use Rattle.std.specs.Prelude.{◌≤◌, ◌+◌, ◌<◌, vec_capacity, vec_len};
+    ghost use Rattle.std.specs.Prelude.{◌≡◌, ◌≤◌, ◌+◌, ◌-◌, ◌<◌, vec_capacity, vec_len};
+    ghost use Rattle.hba_memory.specs.Runs.{total};
     ghost use Rattle.hba_memory.specs.Table.{TableView};
 
     ghost Value = { TableView };
 
-    ghost view = { λ t. record { address = t.address; left = t.left; list = t.list.items } };
+    ghost view = { λ t. record { address = t.address; left = t.left; list = t.list.items; needed = t.needed } };
 
-    ghost invariant = { λ t. vec_len t.list + t.left ≤ vec_capacity t.list };
+    ghost invariant = { λ t. (vec_len t.list + t.left ≤ vec_capacity t.list) × (t.missing ≡ t.needed - total t.list.items) };
 }
 
 /// The entries that some bytes spell.
@@ -56,19 +61,29 @@ fn entry_in(bytes: &[u8], index: usize) -> PrdEntry
     PrdEntry::at(&entry)
 }
 
+/// How many of so many bytes some entries have no room for.
+fn missing_after(missing: u32, entries: &[PrdEntry]) -> u32
+    ensures { result ≡ missing - total entries.now }
+{
+    u128::from(missing).saturating_sub(total(entries)) as u32
+}
+
 impl<A: Allocator> TableReader<A> {
-    ghost use Rattle.std.specs.Prelude.{◌≡◌, ◌≤◌, ◌↔◌, ◌*◌, ◌+◌, ◌-◌, ◌++◌, length, IsTrue, IfOk};
+    ghost use Rattle.std.specs.Prelude.{◌≡◌, ◌≤◌, ◌↔◌, ◌*◌, ◌+◌, ◌-◌, ◌++◌, length, nat_lt, IsTrue, IfOk};
+    ghost use Rattle.hba_memory.specs.Runs.{total};
     ghost use Rattle.hba_memory.specs.Table.{entries_in, next_entries, unread, wrapped};
 
-    /// The PRDT of a command table with so many entries. All memory that they need is allocated here.
-    pub fn new(alloc: A, table: u64, entries: u16) -> Result<Self, AllocError>
-        ensures { IfOk result (λ t. t ≡ unread table entries) }
+    /// The PRDT of a command table with so many entries, of a command that moves so many bytes. All memory that they need is allocated here.
+    pub fn new(alloc: A, table: u64, entries: u16, needed: u32) -> Result<Self, AllocError>
+        ensures { IfOk result (λ t. t ≡ unread table entries needed) }
     {
         let list = Vec::with_capacity(alloc, usize::from(entries))?;
         Ok(TableReader {
             address: table.wrapping_add(0x80),
             left: u32::from(entries),
             list,
+            needed,
+            missing: needed,
         })
     }
 
@@ -99,18 +114,21 @@ impl<A: Allocator> TableReader<A> {
         ensures address { self.new.address ≡ wrapped (self.old.address + length bytes.now) }
         ensures left { self.new.left ≡ self.old.left - next_entries self.old }
         ensures list { self.new.list ≡ self.old.list ++ entries_in (next_entries self.old) bytes.now }
+        ensures needed { self.new.needed ≡ self.old.needed }
     {
         let count = self.left.min(MAX_ENTRIES);
+        let read = self.list.len();
         push_entries(&mut self.list, count as usize, bytes);
+        self.missing = missing_after(self.missing, &self.list[read..]);
         self.address = self.address.wrapping_add(bytes.len() as u64);
         self.left -= count;
     }
 
-    /// The entries that were read.
-    pub fn list(&self) -> &[PrdEntry]
-        ensures { result.now ≡ self.now.list }
+    /// Whether the entries that were read name fewer bytes than the command moves.
+    pub fn is_short(&self) -> bool
+        ensures { result ≡ nat_lt (total self.now.list) self.now.needed }
     {
-        &self.list
+        self.missing > 0
     }
 
     /// The entries that were read, handed over.

@@ -51,6 +51,7 @@ number_of rule.BistFlag = 41
 number_of rule.ResetFlags = 42
 number_of rule.ReservedFis = 43
 number_of rule.ReservedEntry = 44
+number_of rule.SlotAboveList = 45
 
 -- no rule has the number
 abbrev pub IsNoRule : ℕ → Type 0
@@ -102,6 +103,7 @@ name_of rule.BistFlag = codes "BistFlag"
 name_of rule.ResetFlags = codes "ResetFlags"
 name_of rule.ReservedFis = codes "ReservedFis"
 name_of rule.ReservedEntry = codes "ReservedEntry"
+name_of rule.SlotAboveList = codes "SlotAboveList"
 
 abbrev pub section_of : Rule → List ℕ
 section_of rule.StartWithoutReceiving = codes "10.3.1"
@@ -149,6 +151,7 @@ section_of rule.BistFlag = codes "4.2.2"
 section_of rule.ResetFlags = codes "10.4.1"
 section_of rule.ReservedFis = codes "4.2.3"
 section_of rule.ReservedEntry = codes "4.2.3"
+section_of rule.SlotAboveList = codes "3.1.1"
 
 -- the standard forbids all but these
 abbrev pub verdict_of : Rule → Verdict

@@ -1,6 +1,6 @@
 -- Which rules a word breaks that a driver writes to a register, as tables: a row for each rule of a register, whose conditions are on the
 -- registers as they are before the write, and on the word (AHCI 1.3.1, chapters 3, 5, 6 and 10).
-use Rattle.std.specs.Prelude.{ℕ, ◌*◌, ◌/◌, ◌%◌, ◌^◌, Bool, true, false, not, ◌&&◌, ◌||◌, nat_eq, nat_lt, bit_and, bit_or, List, [], ◌∷◌}
+use Rattle.std.specs.Prelude.{ℕ, ◌-◌, ◌*◌, ◌/◌, ◌%◌, ◌^◌, Bool, true, false, not, ◌&&◌, ◌||◌, nat_eq, nat_lt, bit_and, bit_or, List, [], ◌∷◌}
 use Rattle.hba_regs.specs.HbaState.{HbaState}
 use Rattle.hba_regs.specs.Reading.{word_at}
 use Rattle.hba_regs.specs.declared.register.Register.{Register}
@@ -80,6 +80,10 @@ lacks_power s word = not (has_state (word / 2 ^ 28) (word_at s Cap)) || (any_of 
 abbrev pub follows_issue : Condition
 follows_issue s word = exceeds (bit_and word (word_at s PxCi)) (word_at s PxSact)
 
+-- the word has a slot that the command list has not: the list has CAP.NCS of them
+abbrev pub is_above_list : Condition
+is_above_list s word = exceeds word (2 ^ s.port.capabilities.ncs - 1)
+
 -- the word enables what PxIS has and PxIE does not yet enable
 abbrev pub enables_old : Condition
 enables_old s word = exceeds (bit_and word (word_at s PxIs)) (word_at s PxIe)
@@ -156,6 +160,7 @@ active_row rule.QueueWithoutCapability = lacks Cap 0x40000000 ∷ writes 0xfffff
 active_row rule.SlotUsedAgain = repeats PxSact ∷ []
 active_row rule.ActiveAfterIssue = follows_issue ∷ []
 active_row rule.MixedCommands = mixes_active ∷ []
+active_row rule.SlotAboveList = is_above_list ∷ []
 active_row other = never ∷ []
 
 -- of PxCI
@@ -164,6 +169,7 @@ issue_row rule.CommandWhileStopped = lacks PxCmd 0x01 ∷ writes 0xffffffff ∷ 
 issue_row rule.CommandWhileHalted = is_halted ∷ writes 0xffffffff ∷ []
 issue_row rule.SlotUsedAgain = repeats PxCi ∷ []
 issue_row rule.MixedCommands = mixes_issued ∷ []
+issue_row rule.SlotAboveList = is_above_list ∷ []
 issue_row other = never ∷ []
 
 -- of PxIE, and of GHC, whose IE is bit 1

@@ -56,6 +56,7 @@ impl Rule {
             42 => Rule::ResetFlags,
             43 => Rule::ReservedFis,
             44 => Rule::ReservedEntry,
+            45 => Rule::SlotAboveList,
             _ => return None,
         })
     }

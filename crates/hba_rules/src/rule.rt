@@ -98,11 +98,13 @@ pub enum Rule {
     ReservedFis,
     /// Reserved bits of a PRDT entry are not 0 (section 4.2.3).
     ReservedEntry,
+    /// A bit of PxSACT or PxCI is set for a slot at or above CAP.NCS (section 3.1.1).
+    SlotAboveList,
 }
 
 impl Rule {
     /// How many rules there are. They are numbered from 0.
-    pub const COUNT: u32 = 45;
+    pub const COUNT: u32 = 46;
 
     /// The rule's number.
     pub fn number(self) -> u32
@@ -154,6 +156,7 @@ impl Rule {
             Rule::ResetFlags => 42,
             Rule::ReservedFis => 43,
             Rule::ReservedEntry => 44,
+            Rule::SlotAboveList => 45,
         }
     }
 
@@ -207,6 +210,7 @@ impl Rule {
             Rule::ResetFlags => "ResetFlags",
             Rule::ReservedFis => "ReservedFis",
             Rule::ReservedEntry => "ReservedEntry",
+            Rule::SlotAboveList => "SlotAboveList",
         }
     }
 
@@ -253,6 +257,7 @@ impl Rule {
             Rule::AreaUnaligned => "3.3.3",
             Rule::StartWithSerr | Rule::EnableOverStatus => "10.1.2",
             Rule::ResetFlags => "10.4.1",
+            Rule::SlotAboveList => "3.1.1",
         }
     }
 

@@ -3,10 +3,11 @@
 ghost use Rattle.std.specs.Prelude.{◌≡◌, [], ◌∷◌};
 ghost use Rattle.hba_regs.specs.Reading.{word_at};
 ghost use Rattle.hba_regs.specs.declared.register.Register.TheVariants.{PxCmd};
-ghost use Rattle.hba_rules.specs.Writes.{active_row, all, any_of, area_row, command_row, enable_row, exceeds, follows_issue, global_row, has_more_speed, has_state, high_area_row, high_list_row, interrupt_row, is_mixed, issue_row, lacks, lacks_power, link_row, list_row, mixes_active, mixes_issued, register_row, reserved_bits, reserved_state, write_breaks, writes};
+ghost use Rattle.hba_rules.specs.Writes.{active_row, all, any_of, area_row, command_row, enable_row, exceeds, follows_issue, global_row, has_more_speed, has_state, high_area_row, high_list_row, interrupt_row, is_above_list, is_mixed, issue_row, lacks, lacks_power, link_row, list_row, mixes_active, mixes_issued, register_row, reserved_bits, reserved_state, write_breaks, writes};
 
 use crate::rule::Rule;
 use hba_regs::{HbaRegs, Register};
+use word_bits::below;
 
 /// Whether a word that a driver is about to write to a register breaks a rule.
 pub fn write_breaks(rule: Rule, registers: &HbaRegs, register: Register, word: u32) -> bool
@@ -215,6 +216,7 @@ fn active_rule(rule: Rule, registers: &HbaRegs, word: u32) -> bool
         Rule::SlotUsedAgain => any_of(word, registers.word_at(Register::PxSact)),
         Rule::ActiveAfterIssue => follows_issue(registers, word),
         Rule::MixedCommands => mixes_active(registers, word),
+        Rule::SlotAboveList => is_above_list(registers, word),
         _ => false,
     }
 }
@@ -227,6 +229,13 @@ fn follows_issue(registers: &HbaRegs, word: u32) -> bool
         word & registers.word_at(Register::PxCi),
         registers.word_at(Register::PxSact),
     )
+}
+
+/// Whether a word has a slot that the command list has not.
+fn is_above_list(registers: &HbaRegs, word: u32) -> bool
+    ensures { result ≡ is_above_list registers.now word }
+{
+    exceeds(word, below(u32::from(registers.capabilities().ncs())))
 }
 
 /// Whether queued commands and others are outstanding together.
@@ -265,6 +274,7 @@ fn issue_rule(rule: Rule, registers: &HbaRegs, word: u32) -> bool
         Rule::CommandWhileHalted => registers.is_halted() && any_of(word, 0xffff_ffff),
         Rule::SlotUsedAgain => any_of(word, registers.word_at(Register::PxCi)),
         Rule::MixedCommands => mixes_issued(registers, word),
+        Rule::SlotAboveList => is_above_list(registers, word),
         _ => false,
     }
 }

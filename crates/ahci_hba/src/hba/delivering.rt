@@ -314,7 +314,7 @@ impl<A: Allocator + Copy> Hba<A> {
                     finish_of(*write),
                 )
             }
-            Action::Page(_, _) | Action::Flush | Action::Reply(_) | Action::Control { .. } => {
+            Action::Page(_, _) | Action::Flush(_) | Action::Reply(_) | Action::Control { .. } => {
                 self.close(slot, 0, done())
             }
             Action::Abort => self.close(slot, 0, done()),

@@ -4,7 +4,7 @@ ghost use Rattle.std.specs.Prelude.{◌≡◌, ◌-◌, ◌<◌, ◌^◌, true, 
 ghost use Rattle.ahci_hba.specs.Queueing.{command_at, list_in, task_in};
 ghost use Rattle.ahci_hba.specs.Stepping.{fault_if, is_answered, is_answered_at, may_execute};
 ghost use Rattle.ahci_port.specs.{Faults.{plain_refusal}, PortView.{sectors_in}, Steps.{LacksRoom}};
-ghost use Rattle.ahci_hba.specs.Executing.{Flushes, Identifies, IsExecuted, MayLack, MayLackAt, Performs, aborted, first_missing, is_aborted, is_alone_fetched, paged, reads_error_log, replied, reply_fis, signed, verified};
+ghost use Rattle.ahci_hba.specs.Executing.{Flushes, Identifies, IsExecuted, MayLack, MayLackAt, Performs, aborted, first_missing, is_aborted, is_alone_fetched, native_max, paged, reads_error_log, replied, reply_fis, signed, verified};
 
 use crate::command::Command;
 use crate::fault::HbaFault;
@@ -13,7 +13,8 @@ use crate::hba::delivering::{d2h_fis, done};
 use crate::hba::fetching::is_alone;
 use ahci_port::PlainFault;
 use hba_command::{
-    Action, Log, Page, Protocol, Reply, Span, Task, action_of, controller_page, power_count,
+    Action, Addressing, Log, Page, Protocol, Reply, Span, Task, action_of, addressed, controller_page,
+    power_count,
 };
 use hba_regs::Slot;
 use sata_fis::D2h;
@@ -49,16 +50,20 @@ impl<A: Allocator> Hba<A> {
         if self.is_on(span) {
             return done();
         }
-        d2h_fis(0x41, 0x10, self.first_missing(span), 0)
+        addressed(span.addressing, d2h_fis(0x41, 0x10, 0, 0), self.first_missing(span)) // IDNF
     }
 
-    /// The LBA of the last sector.
-    fn last_sector(&self) -> u64
-        ensures value { result ≡ sectors_in self.now.port - 1 }
+    /// The LBA of the last sector, of 28 bits at most FFF_FFFFh.
+    fn native_max(&self, addressing: Addressing) -> u64
+        ensures value { result ≡ native_max addressing self.now.port }
         ensures fits { result < 2 ^ 48 }
     {
         self.port.shape();
-        u64::from(self.port.sectors()) - 1
+        let last = u64::from(self.port.sectors()) - 1;
+        match addressing {
+            Addressing::Bits28 => last.min(0x0FFF_FFFF),
+            Addressing::Bits48 => last,
+        }
     }
 
     /// The answer to a command that moves nothing.
@@ -68,7 +73,9 @@ impl<A: Allocator> Hba<A> {
         match reply {
             Reply::Done | Reply::Entered(_) => done(),
             Reply::Verified(span) => self.verified(span),
-            Reply::NativeMax => d2h_fis(0x40, 0, self.last_sector(), 0),
+            Reply::NativeMax(addressing) => {
+                addressed(*addressing, done(), self.native_max(*addressing))
+            }
             Reply::PowerMode => d2h_fis(0x40, 0, 0, power_count(self.power)),
             Reply::Diagnosed => signed(0x40, 0x01), // the device has passed
             Reply::Packet => signed(0x41, 0x04),
@@ -112,7 +119,7 @@ impl<A: Allocator> Hba<A> {
         match action {
             Action::Queue(queued) => self.port.halted() || !self.has_tag(queued),
             Action::Sectors { span, .. } => self.is_aborted(action) || !self.is_on(span),
-            Action::Page(Page::Identify, _) | Action::Flush => {
+            Action::Page(Page::Identify, _) | Action::Flush(_) => {
                 self.is_aborted(action) || self.port.plain_fault().is_none()
             }
             Action::Page(Page::Log(Log::Directory | Log::IdentifyData(_)), _) => true,
@@ -237,7 +244,7 @@ impl<A: Allocator + Copy> Hba<A> {
             }
             Action::Page(Page::Identify, _) => self.identify(slot),
             Action::Page(Page::Log(log), protocol) => self.read_log(slot, log, *protocol),
-            Action::Flush => self.flush(slot),
+            Action::Flush(_) => self.flush(slot),
             Action::Reply(reply) => {
                 self.reply(slot, reply);
                 Ok(())

@@ -16,18 +16,18 @@ use crate::hba::answering::{DMA_SETUP, REGISTER, SET_BITS};
 use crate::hba::delivering::{d2h_fis, fis_ending, fits};
 use crate::last_fis::LastFis;
 use ahci_port::Port;
-use hba_command::{Action, PrdEntry, Protocol, Span};
+use hba_command::{Action, Addressing, PrdEntry, Protocol, Span, addressed, addressing_of};
 use hba_memory::{Blocks, Posting, Scatter, SmallPut};
 use hba_regs::Slot;
 use sata_fis::{D2h, DmaSetup, Fis, Queued};
 use std::alloc::{AllocError, Allocator};
 
-/// The FIS of an error at an LBA.
-fn refused(error: u8, lba: u64) -> D2h
+/// The FIS of an error at an LBA, which it names as the command names its own.
+fn refused(addressing: Addressing, error: u8, lba: u64) -> D2h
     requires { lba < 2 ^ 48 }
-    ensures { result ≡ refused error lba }
+    ensures { result ≡ refused addressing error lba }
 {
-    d2h_fis(0x41, error, lba, 0)
+    addressed(addressing, d2h_fis(0x41, error, 0, 0), lba)
 }
 
 /// How many sectors from an LBA on a read has moved before another one, at most so many: those that the disk has.
@@ -120,24 +120,22 @@ impl<A: Allocator + Copy> Hba<A> {
         protocol: Protocol,
         first: u64,
         sectors: u32,
-        error: u8,
-        lba: u64,
+        fis: D2h,
     ) -> Result<(), HbaFault>
         requires first { first < 2 ^ 48 }
-        requires lba { lba < 2 ^ 48 }
         requires sectors { sectors ≤ 65536 }
         requires there { sectors ≤ sectors_in self.old.port - first }
-        ensures ok { OnOk result (self.new ≡ read_failed self.old slot protocol (list_in (command_at self.old slot)) first sectors error lba) }
+        ensures ok { OnOk result (self.new ≡ read_failed self.old slot protocol (list_in (command_at self.old slot)) first sectors fis) }
         ensures err { IfErr result (λ e. (e ≡ HbaFault.OutOfMemory) × (self.new ≡ self.old)) }
         ensures lacking { OnErr result (0 < sectors) }
     {
         if sectors == 0 {
-            self.conclude(slot, refused(error, lba));
+            self.conclude(slot, fis);
             return Ok(());
         }
         let bytes = sectors_of(self.alloc, &self.port, first, sectors)?;
         let (_, list) = self.take_command(slot);
-        self.move_before(slot, protocol, list, bytes, sectors, refused(error, lba));
+        self.move_before(slot, protocol, list, bytes, sectors, fis);
         Ok(())
     }
 
@@ -157,11 +155,11 @@ impl<A: Allocator + Copy> Hba<A> {
         ensures lacking { OnErr result (moves_some self.old.port write span.now lba ≡ true) }
     {
         if write {
-            self.conclude(slot, refused(error, span.lba));
+            self.conclude(slot, refused(span.addressing, error, span.lba));
             return Ok(());
         }
         let sectors = sectors_before(&self.port, span.lba, span.sectors, lba);
-        self.fail_read(slot, protocol, span.lba, sectors, error, lba)
+        self.fail_read(slot, protocol, span.lba, sectors, refused(span.addressing, error, lba))
     }
 
     /// A command that is not queued fails, for a slot.
@@ -183,12 +181,12 @@ impl<A: Allocator + Copy> Hba<A> {
                 span,
                 protocol,
             } => self.fail_sectors(slot, *write, span, *protocol, error, lba),
-            Action::Queue(_) | Action::Page(_, _) | Action::Flush | Action::Reply(_) => {
-                self.conclude(slot, refused(error, lba));
+            Action::Queue(_) | Action::Page(_, _) | Action::Flush(_) | Action::Reply(_) => {
+                self.conclude(slot, refused(addressing_of(action), error, lba));
                 Ok(())
             }
             Action::Control { .. } | Action::Abort => {
-                self.conclude(slot, refused(error, lba));
+                self.conclude(slot, refused(addressing_of(action), error, lba));
                 Ok(())
             }
         }
@@ -306,7 +304,7 @@ pub(super) fn own_queued(action: &Action, lba: u64) -> Option<Queued>
         } else {
             None
         },
-        Action::Sectors { .. } | Action::Page(_, _) | Action::Flush | Action::Reply(_) => None,
+        Action::Sectors { .. } | Action::Page(_, _) | Action::Flush(_) | Action::Reply(_) => None,
         Action::Control { .. } | Action::Abort => None,
     }
 }

@@ -46,7 +46,7 @@ fn asked<A: Allocator + Copy>(alloc: A, task: &Task, bytes: Vec<u8, A>) -> (Op<A
         Action::Sectors { write, span, .. } => {
             asked_at(*write, span.lba, span.sectors, bytes, none)
         }
-        Action::Page(_, _) | Action::Flush | Action::Reply(_) | Action::Control { .. } => {
+        Action::Page(_, _) | Action::Flush(_) | Action::Reply(_) | Action::Control { .. } => {
             asked_at(false, 0, 0, bytes, none)
         }
         Action::Abort => asked_at(false, 0, 0, bytes, none),
@@ -118,7 +118,7 @@ impl<A: Allocator> Hba<A> {
         match action {
             Action::Queue(queued) => self.has_tag(queued),
             Action::Sectors { span, .. } => self.is_on(span) && !self.is_queueing(),
-            Action::Page(_, _) | Action::Flush | Action::Reply(_) | Action::Control { .. } => false,
+            Action::Page(_, _) | Action::Flush(_) | Action::Reply(_) | Action::Control { .. } => false,
             Action::Abort => false,
         }
     }
@@ -154,7 +154,7 @@ fn action_fault<A: Allocator>(
         Action::Sectors { write, span, .. } => {
             work_fault(port, slot, *write, span.lba, span.sectors, bytes)
         }
-        Action::Page(_, _) | Action::Flush | Action::Reply(_) | Action::Control { .. } => {
+        Action::Page(_, _) | Action::Flush(_) | Action::Reply(_) | Action::Control { .. } => {
             port.submit_fault(slot.number(), 0, 0)
         }
         Action::Abort => port.submit_fault(slot.number(), 0, 0),

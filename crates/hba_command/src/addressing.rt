@@ -1,0 +1,58 @@
+ghost use Rattle.std.specs.Prelude.{◌≡◌, ◌<◌, ◌^◌};
+ghost use Rattle.hba_command.specs.Addressing.{addressed, addressing_of, reply_addressing};
+
+use crate::action::Action;
+use crate::page::Page;
+use crate::reply::Reply;
+use sata_fis::D2h;
+
+/// How many bits the LBA of a command has (ACS-3, "28-bit and 48-bit commands"), by which its answer names an LBA too.
+#[derive(Clone, Copy, Debug, PartialEq, Eq)]
+pub enum Addressing {
+    /// LBA 27:24 are device 3:0, in the command FIS and in its answer.
+    Bits28,
+    /// LBA 47:0 are the six bytes of the FIS.
+    Bits48,
+}
+
+/// The FIS with an LBA, as the answer to a command of these bits names it.
+pub fn addressed(addressing: Addressing, fis: D2h, lba: u64) -> D2h
+    requires { lba < 2 ^ 48 }
+    ensures { result ≡ addressed addressing fis lba }
+{
+    match addressing {
+        Addressing::Bits28 => D2h {
+            lba: lba % (1 << 24),
+            device: (lba / (1 << 24) % 16) as u8,
+            ..fis
+        },
+        Addressing::Bits48 => D2h { lba, ..fis },
+    }
+}
+
+/// How many bits a reply's LBA has.
+fn reply_addressing(reply: &Reply) -> Addressing
+    ensures { result ≡ reply_addressing reply.now }
+{
+    match reply {
+        Reply::Verified(span) => span.addressing,
+        Reply::NativeMax(addressing) => *addressing,
+        Reply::Done | Reply::PowerMode | Reply::Entered(_) => Addressing::Bits28,
+        Reply::Diagnosed | Reply::Packet => Addressing::Bits28,
+    }
+}
+
+/// How many bits the LBA of a command has.
+pub fn addressing_of(action: &Action) -> Addressing
+    ensures { result ≡ addressing_of action.now }
+{
+    match action {
+        Action::Queue(_) => Addressing::Bits48,
+        Action::Sectors { span, .. } => span.addressing,
+        Action::Page(Page::Identify, _) => Addressing::Bits28,
+        Action::Page(Page::Log(_), _) => Addressing::Bits48,
+        Action::Flush(addressing) => *addressing,
+        Action::Reply(reply) => reply_addressing(reply),
+        Action::Control { .. } | Action::Abort => Addressing::Bits28,
+    }
+}
