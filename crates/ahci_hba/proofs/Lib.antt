@@ -1,4 +1,5 @@
 pub mod AnswerLemmas
+pub mod BitLemmas
 pub mod DeliveringLemmas
 pub mod DroppingLemmas
 pub mod ExecutingLemmas

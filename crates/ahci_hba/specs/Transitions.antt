@@ -1,10 +1,13 @@
 -- The transitions of the port's state machine that a call of the controller takes (AHCI 1.3.1, section 5.3). Nothing that the device does moves a register
 -- but by one of them.
-use Rattle.std.specs.Prelude.{◌≡◌, ℕ, Bool, List, [], ◌∷◌}
+use Rattle.std.specs.Prelude.{◌≡◌, ℕ, Bool, true, false, not, ◌&&◌, nat_eq, List, [], ◌∷◌}
+use Rattle.word_bits.specs.Places.{bits, has_place}
 use Rattle.hba_regs.specs.HbaState.{HbaPort, HbaState}
-use Rattle.hba_regs.specs.PortStates.{cfis_success, dr_overflow, err_fatal, p_reg_fis_post_to_mem, p_reg_fis_update, p_select_cmd, pio_entry, pio_update, reg_fis_entry, sdb_entry, stuck}
+use Rattle.hba_regs.specs.PortStates.{bsy_or_drq_of, cfis_success, dr_overflow, err_fatal, err_of, p_reg_fis_post_to_mem, p_reg_fis_update, p_select_cmd, pio_entry, pio_update, reg_fis_entry, sdb_entry, stuck}
 use Rattle.hba_regs.specs.Receiving.{after_srst_cleared, after_srst_set, moved}
 use Rattle.hba_regs.specs.declared.fatal.Fatal.{Fatal}
+use Rattle.hba_regs.specs.declared.soft_reset.SoftReset.{SoftReset}
+use Rattle.hba_regs.specs.declared.soft_reset.SoftReset.TheVariants.{Ending}
 
 pub data Transition : Type 0 where
   -- P:Idle to P:SelectCmd and P:FetchCmd
@@ -57,3 +60,25 @@ after_all (t ∷ rest) s = after_all rest (moved s (after t s.port))
 pub record Takes (old new : HbaState) : Type 0 where
   pub transitions : List Transition
   pub reached : new ≡ after_all transitions old
+
+-- a transition answers the command of a slot, for PxCI (section 3.3.14): the device clears BSY, DRQ and ERR for it, C is 1 in its header, or it is
+-- the second control FIS of a software reset, which the signature answers
+abbrev pub ends_well : (status : ℕ) → Bool
+ends_well status = not (err_of status) && not (bsy_or_drq_of status)
+
+abbrev pub ends_reset : SoftReset → ℕ → Bool
+ends_reset (Ending s) slot = nat_eq s slot
+ends_reset other slot = false
+
+abbrev pub answers_command : Transition → HbaPort → ℕ → Bool
+answers_command (CfisSuccess s c) p slot = c && nat_eq s slot
+answers_command (Stuck s c) p slot = c && nat_eq s slot
+answers_command (RegFisEntry status error i s) p slot = ends_well status && nat_eq s slot
+answers_command (PioUpdate e_status i s) p slot = ends_well e_status && nat_eq s slot
+answers_command RegFisUpdate p slot = ends_reset p.soft slot
+answers_command other p slot = false
+
+-- and that of a tag, for PxSACT (section 3.3.13): a Set Device Bits FIS names it
+abbrev pub answers_tag : Transition → ℕ → Bool
+answers_tag (SdbEntry status error i sactive) tag = has_place (bits sactive) tag
+answers_tag other tag = false

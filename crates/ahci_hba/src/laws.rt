@@ -1,6 +1,7 @@
 //! What follows from the contracts of `Hba`. The functions change nothing: each stands for its clauses.
-ghost use Rattle.std.specs.Prelude.{◌≡◌, ◌<◌, ℕ, List, Option, None, Some, true, false};
+ghost use Rattle.std.specs.Prelude.{◌≡◌, ◌<◌, ◌&&◌, ℕ, List, Option, None, Some, not, true, false};
 ghost use Rattle.std.specs.List.{list_any};
+ghost use Rattle.word_bits.specs.Places.{has_place};
 ghost use Rattle.hba_regs.specs.PortStates.{p_idle_selects};
 ghost use Rattle.hba_command.specs.declared.power.Power.TheVariants.{Sleep};
 ghost use Rattle.ncq_journal.specs.History.{History};
@@ -9,7 +10,7 @@ ghost use Rattle.ahci_hba.specs.Moving.{put_done, supplied, unmapped};
 ghost use Rattle.ahci_hba.specs.Queueing.{has_alone, is_idle, is_listening, waits};
 ghost use Rattle.ahci_hba.specs.Resetting.{signing};
 ghost use Rattle.ahci_hba.specs.Stepping.{IsTaken, answers, next_step};
-ghost use Rattle.ahci_hba.specs.Transitions.{Takes};
+ghost use Rattle.ahci_hba.specs.Transitions.{Takes, Transition, after, answers_command, answers_tag};
 ghost use Rattle.ahci_hba.specs.declared.step.Step.TheVariants as step;
 
 use crate::hba::Hba;
@@ -54,4 +55,13 @@ pub fn a_move_takes_transitions<A: Allocator>(hba: &Hba<A>)
 pub fn a_failure_takes_transitions<A: Allocator>(old: &Hba<A>, new: &Hba<A>, slot: Slot)
     ensures failed { (error lba : ℕ) → Fails slot error lba (own_in old.now slot lba) old.now new.now → Takes old.now.registers new.now.registers }
     ensures refused { (error lba : ℕ) → Takes old.now.registers (refused_at old.now slot error lba).registers }
+{}
+
+/// A command that was issued and is not answered is where its bits say so: whatever transition the device takes, a slot leaves PxCI exactly with the answer
+/// to its command, and a tag leaves PxSACT exactly with its own (sections 3.3.13 and 3.3.14).
+pub fn a_bit_goes_with_the_answer_to_its_command<A: Allocator>(hba: &Hba<A>)
+    ensures issued { (t : Transition) (slot : ℕ) → has_place (after t hba.now.registers.port).ci slot
+        ≡ (has_place hba.now.registers.port.ci slot && not (answers_command t hba.now.registers.port slot)) }
+    ensures active { (t : Transition) (slot : ℕ) → has_place (after t hba.now.registers.port).sact slot
+        ≡ (has_place hba.now.registers.port.sact slot && not (answers_tag t slot)) }
 {}

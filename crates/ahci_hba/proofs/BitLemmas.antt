@@ -1,0 +1,140 @@
+-- A slot leaves PxCI and PxSACT exactly with the answer to its command.
+use Rattle.std.proofs.Common.{◌≡◌, ℕ, Bool, true, false, not, ◌&&◌, List, nat_eq, bit_and, bit_or, if◌then◌else◌, refl, ap, sym, ◌∙◌, ⊎_elim}
+use Rattle.std.proofs.lemmas.Bool.Decides.{eqb_tells}
+use Rattle.word_bits.specs.Places.{bits, has_place, minus, without_place}
+use Rattle.word_bits.proofs.PlacesLemmas.{and_false, and_true, has_place-minus, has_place-without_other, has_place-without_same}
+use Rattle.hba_regs.specs.HbaState.{HbaPort}
+use Rattle.hba_regs.specs.PortStates.{bsy_or_drq_of, cfis_success, ended_by_signature, err_fatal_taskfile, err_of, pio_clear_ci, pio_set_intr, reg_fis_clear_ci, reg_fis_set_intr, sdb_set_intr}
+use Rattle.hba_regs.specs.Receiving.{after_srst_cleared}
+use Rattle.hba_regs.specs.declared.soft_reset.SoftReset.{SoftReset}
+use Rattle.hba_regs.specs.declared.soft_reset.SoftReset.TheVariants.{Off, Held, Ending}
+use Rattle.ahci_hba.specs.Transitions.{Transition, CfisSuccess, DrOverflow, ErrFatal, PioEntry, PioUpdate, RegFisEntry, RegFisPostToMem, RegFisUpdate, SdbEntry, SelectCmd, SrstCleared, SrstSet, Stuck, after, answers_command, answers_tag, ends_reset}
+
+leaves : (s : List Bool) (a i : ℕ) → has_place (without_place s a) i ≡ (has_place s i && not (nat_eq a i))
+leaves s a i =
+    ⊎_elim (λ e. ap (λ x. has_place (without_place s x) i) e.1 ∙ has_place-without_same s i ∙ sym (ap (λ b. has_place s i && not b) e.0 ∙ and_false (has_place s i)))
+    (λ e. has_place-without_other s a i (λ x. e.1 (sym x)) ∙ sym (ap (λ b. has_place s i && not b) e.0 ∙ and_true (has_place s i))) (eqb_tells a i)
+
+stays : (b : Bool) → b ≡ (b && not false)
+stays b = sym (and_true b)
+
+-- by C of its header
+sends : (p : HbaPort) (s slot : ℕ) (c : Bool) → has_place (cfis_success s c p).ci slot ≡ (has_place p.ci slot && not (c && nat_eq s slot))
+sends p s slot true = leaves p.ci s slot
+sends p s slot false = stays (has_place p.ci slot)
+
+registers : (p : HbaPort) (status error : ℕ) (i : Bool) (s slot : ℕ) → has_place (after (RegFisEntry status error i s) p).ci slot
+    ≡ (has_place p.ci slot && not (answers_command (RegFisEntry status error i s) p slot))
+registers p status error i s slot = by (err_of status) (bsy_or_drq_of status)
+  where
+    q : HbaPort
+    q = record p { sts = status; err = error }
+
+    by : (e b : Bool) → has_place (if e then err_fatal_taskfile (reg_fis_set_intr i q) else if b then reg_fis_set_intr i q else reg_fis_clear_ci i s q).ci slot
+        ≡ (has_place p.ci slot && not ((not e && not b) && nat_eq s slot))
+    by true b = stays (has_place p.ci slot)
+    by false true = stays (has_place p.ci slot)
+    by false false = leaves p.ci s slot
+
+moves_data : (p : HbaPort) (e_status : ℕ) (i : Bool) (s slot : ℕ) → has_place (after (PioUpdate e_status i s) p).ci slot
+    ≡ (has_place p.ci slot && not (answers_command (PioUpdate e_status i s) p slot))
+moves_data p e_status i s slot = by (err_of e_status) (bsy_or_drq_of e_status)
+  where
+    q : HbaPort
+    q = record p { sts = e_status }
+
+    by : (e b : Bool) → has_place (if e then err_fatal_taskfile (pio_set_intr i q) else if b then pio_set_intr i q else pio_clear_ci i s q).ci slot
+        ≡ (has_place p.ci slot && not ((not e && not b) && nat_eq s slot))
+    by true b = stays (has_place p.ci slot)
+    by false true = stays (has_place p.ci slot)
+    by false false = leaves p.ci s slot
+
+signs : (p : HbaPort) (soft : SoftReset) (slot : ℕ) → has_place (ended_by_signature soft p.ci) slot ≡ (has_place p.ci slot && not (ends_reset soft slot))
+signs p Off slot = stays (has_place p.ci slot)
+signs p Held slot = stays (has_place p.ci slot)
+signs p (Ending s) slot = leaves p.ci s slot
+
+sets_up : (p : HbaPort) (status error slot : ℕ) → (has_place (after (PioEntry status error) p).ci slot ≡ has_place p.ci slot) × (has_place (after (PioEntry status error) p).sact slot ≡ has_place p.sact slot)
+sets_up p status error slot = by (err_of status)
+  where
+    q : HbaPort
+    q = record p { sts = status; err = error }
+
+    by : (e : Bool) → (has_place (if e then err_fatal_taskfile q else q).ci slot ≡ has_place p.ci slot) × (has_place (if e then err_fatal_taskfile q else q).sact slot ≡ has_place p.sact slot)
+    by true = (refl, refl)
+    by false = (refl, refl)
+
+releases : (p : HbaPort) (s slot : ℕ) (soft : SoftReset)
+    → (has_place (after_srst_cleared p s soft).ci slot ≡ has_place p.ci slot) × (has_place (after_srst_cleared p s soft).sact slot ≡ has_place p.sact slot)
+releases p s slot Off = (refl, refl)
+releases p s slot Held = (refl, refl)
+releases p s slot (Ending x) = (refl, refl)
+
+sets_bits : (p : HbaPort) (status error : ℕ) (i : Bool) (sactive slot : ℕ) → (has_place (after (SdbEntry status error i sactive) p).ci slot ≡ has_place p.ci slot)
+    × (has_place (after (SdbEntry status error i sactive) p).sact slot ≡ (has_place p.sact slot && not (has_place (bits sactive) slot)))
+sets_bits p status error i sactive slot = by (err_of status)
+  where
+    q : HbaPort
+    q = record p { sts = bit_or (bit_and p.sts 0x88) (bit_and status 0x77); err = error; sact = minus p.sact (bits sactive) }
+
+    by : (e : Bool) → (has_place (if e then err_fatal_taskfile (sdb_set_intr i q) else sdb_set_intr i q).ci slot ≡ has_place p.ci slot)
+        × (has_place (if e then err_fatal_taskfile (sdb_set_intr i q) else sdb_set_intr i q).sact slot ≡ (has_place p.sact slot && not (has_place (bits sactive) slot)))
+    by true = (refl, has_place-minus p.sact (bits sactive) slot)
+    by false = (refl, has_place-minus p.sact (bits sactive) slot)
+
+pub issued : (t : Transition) (p : HbaPort) (slot : ℕ) → has_place (after t p).ci slot ≡ (has_place p.ci slot && not (answers_command t p slot))
+issued (SelectCmd s) p slot = stays (has_place p.ci slot)
+issued (CfisSuccess s c) p slot = sends p s slot c
+issued (Stuck s c) p slot = sends p s slot c
+issued (RegFisEntry status error i s) p slot = registers p status error i s slot
+issued (SdbEntry status error i sactive) p slot = (sets_bits p status error i sactive slot).0 ∙ stays (has_place p.ci slot)
+issued (PioEntry status error) p slot = (sets_up p status error slot).0 ∙ stays (has_place p.ci slot)
+issued (PioUpdate e_status i s) p slot = moves_data p e_status i s slot
+issued DrOverflow p slot = stays (has_place p.ci slot)
+issued (ErrFatal f) p slot = stays (has_place p.ci slot)
+issued RegFisUpdate p slot = signs p p.soft slot
+issued RegFisPostToMem p slot = stays (has_place p.ci slot)
+issued SrstSet p slot = stays (has_place p.ci slot)
+issued (SrstCleared s) p slot = (releases p s slot p.soft).0 ∙ stays (has_place p.ci slot)
+
+-- what stays in PxSACT
+keeps : (p : HbaPort) (s slot : ℕ) (c : Bool) → has_place (cfis_success s c p).sact slot ≡ has_place p.sact slot
+keeps p s slot true = refl
+keeps p s slot false = refl
+
+keeps_register : (p : HbaPort) (status error : ℕ) (i : Bool) (s slot : ℕ) → has_place (after (RegFisEntry status error i s) p).sact slot ≡ has_place p.sact slot
+keeps_register p status error i s slot = by (err_of status) (bsy_or_drq_of status)
+  where
+    q : HbaPort
+    q = record p { sts = status; err = error }
+
+    by : (e b : Bool) → has_place (if e then err_fatal_taskfile (reg_fis_set_intr i q) else if b then reg_fis_set_intr i q else reg_fis_clear_ci i s q).sact slot ≡ has_place p.sact slot
+    by true b = refl
+    by false true = refl
+    by false false = refl
+
+keeps_data : (p : HbaPort) (e_status : ℕ) (i : Bool) (s slot : ℕ) → has_place (after (PioUpdate e_status i s) p).sact slot ≡ has_place p.sact slot
+keeps_data p e_status i s slot = by (err_of e_status) (bsy_or_drq_of e_status)
+  where
+    q : HbaPort
+    q = record p { sts = e_status }
+
+    by : (e b : Bool) → has_place (if e then err_fatal_taskfile (pio_set_intr i q) else if b then pio_set_intr i q else pio_clear_ci i s q).sact slot ≡ has_place p.sact slot
+    by true b = refl
+    by false true = refl
+    by false false = refl
+
+pub active : (t : Transition) (p : HbaPort) (slot : ℕ) → has_place (after t p).sact slot ≡ (has_place p.sact slot && not (answers_tag t slot))
+active (SelectCmd s) p slot = stays (has_place p.sact slot)
+active (CfisSuccess s c) p slot = keeps p s slot c ∙ stays (has_place p.sact slot)
+active (Stuck s c) p slot = keeps p s slot c ∙ stays (has_place p.sact slot)
+active (RegFisEntry status error i s) p slot = keeps_register p status error i s slot ∙ stays (has_place p.sact slot)
+active (SdbEntry status error i sactive) p slot = (sets_bits p status error i sactive slot).1
+active (PioEntry status error) p slot = (sets_up p status error slot).1 ∙ stays (has_place p.sact slot)
+active (PioUpdate e_status i s) p slot = keeps_data p e_status i s slot ∙ stays (has_place p.sact slot)
+active DrOverflow p slot = stays (has_place p.sact slot)
+active (ErrFatal f) p slot = stays (has_place p.sact slot)
+active RegFisUpdate p slot = stays (has_place p.sact slot)
+active RegFisPostToMem p slot = stays (has_place p.sact slot)
+active SrstSet p slot = stays (has_place p.sact slot)
+active (SrstCleared s) p slot = (releases p s slot p.soft).1 ∙ stays (has_place p.sact slot)
