@@ -1,10 +1,13 @@
+mod answers;
 mod blocks;
 mod capabilities;
 mod commands;
 mod drivers;
 mod edk2;
+mod fatal;
 mod grub;
 mod guest;
+mod life;
 mod linux;
 mod linux_error;
 mod lists;

@@ -1,16 +1,14 @@
-//! Stories of PRDTs: long ones, addresses above 4 GiB, and what ends a command in a fatal error (AHCI 1.3.1, sections 4.2.3 and 6.1).
+//! Stories of PRDTs: long ones, and addresses above 4 GiB (AHCI 1.3.1, section 4.2.3).
 
 use crate::tests::guest::Stretch;
 use crate::tests::playing::Pieces::{Down, These, Up};
-use crate::tests::playing::Row::{
-    Does, Fills, Has, HasAll, Lays, Reads, ReadsBits, Sector, Signs, Takes, Writes,
-};
+use crate::tests::playing::Row::{Does, Fills, Has, HasAll, Lays, Reads, Sector, Signs, Writes};
 use crate::tests::playing::{Row, Story, plays};
 use crate::tests::registers::{
-    PX_CI, PX_CLB, PX_CLBU, PX_CMD, PX_FB, PX_FBU, PX_IS, PX_SACT, PX_SERR, PX_TFD,
+    PX_CI, PX_CLB, PX_CLBU, PX_CMD, PX_FB, PX_FBU, PX_IS, PX_SACT, PX_SERR,
 };
 use crate::tests::setting::{
-    COMRESET, DATA, LIST, MEMORY, ONE, OTHER, READ, READ_DMA, RESTART, SECTOR, START, TABLE, WRITE,
+    DATA, MEMORY, ONE, OTHER, READ, READ_DMA, RESTART, SECTOR, START, TABLE,
 };
 use std::test::Fail;
 
@@ -246,76 +244,6 @@ const SPARE: &[Row] = &[
     HasAll(DATA + 0x5F8, 0x208, 0xEE),
 ];
 
-/// A queued command that comes to nothing: its bits stay, and no byte moves.
-const COMES_TO_NOTHING: &[Row] = &[
-    Fills(DATA, 512, 0xAA),
-    Writes(PX_SACT, 2),
-    Writes(PX_CI, 2),
-    Does(1),
-    Reads(PX_SACT, 2),
-    Reads(PX_CI, 2),
-    Sector(3, 0),
-    HasAll(DATA, 512, 0xAA),
-    Does(1),
-    Reads(PX_SACT, 2),
-];
-
-/// A write whose list is too short: the port is stuck, with no bit of PxIS.
-const NO_ENTRIES: &[Row] = &[Lays(1, 5, OTHER, WRITE, SECTOR)];
-
-const STUCK: &[Row] = &[Reads(PX_IS, 0), ReadsBits(PX_TFD, 0x80, 0x80)];
-
-const WRONG_LENGTH: &[Row] = &[Lays(1, 0x0001_0004, OTHER, READ, SECTOR)];
-
-const PACKET: &[Row] = &[Lays(1, 0x0001_0025, OTHER, READ, SECTOR)];
-
-const NO_COMMAND: &[Row] = &[Lays(
-    1,
-    ONE,
-    OTHER,
-    [0x3480_6001, 0x0300_0040, 0, 0x0800_0000],
-    SECTOR,
-)];
-
-const INTERFACE: &[Row] = &[Reads(PX_IS, 0x0800_0000)];
-
-const NO_TABLE: &[Row] = &[Lays(1, ONE, 0x1_0000_2100, READ, SECTOR)];
-
-const NO_DATA: &[Row] = &[Lays(1, ONE, OTHER, WRITE, These(&[(0x1_0000, 512)]))];
-
-const HOST_BUS_FATAL: &[Row] = &[Reads(PX_IS, 0x2000_0000)];
-
-/// The first piece of a read is written, and the other one is no memory.
-const NO_PLACE: &[Row] = &[
-    Fills(DATA, 512, 0xAA),
-    Lays(
-        1,
-        0x0002_0005,
-        OTHER,
-        READ,
-        These(&[(DATA, 256), (0x1_0000, 256)]),
-    ),
-    Writes(PX_SACT, 2),
-    Writes(PX_CI, 2),
-    Does(1),
-    Reads(PX_SACT, 2),
-    Reads(PX_IS, 0x2000_0000),
-    HasAll(DATA + 256, 256, 0xAA),
-];
-
-/// A command that is done.
-pub const GOES_ON: &[Row] = &[
-    Reads(PX_SACT, 0),
-    Reads(PX_CI, 0),
-    Fills(DATA, 512, 0xAA),
-    Lays(0, ONE, TABLE, READ_DMA, SECTOR),
-    Writes(PX_CI, 1),
-    Does(0),
-    ReadsBits(PX_IS, 0x7F00_0001, 1),
-    HasAll(DATA, 512, 0),
-    Has(LIST + 4, &[0, 2, 0, 0]),
-];
-
 static LONG_LISTS: [Story; 4] = [
     Story {
         name: "a list has up to 168 entries",
@@ -353,53 +281,4 @@ fn long_lists_and_high_addresses_are_followed(rt: HostRuntime) -> Result<(), Fai
         plays(&rt, rt.alloc(), story)?;
     }
     Ok(())
-}
-
-/// Commands that end in a fatal error, one after the other.
-static FATAL: Story = Story {
-    name: "fatal errors",
-    sectors: 8,
-    depth: 32,
-    memory: MEMORY,
-    parts: &[
-        START,
-        NO_ENTRIES,
-        COMES_TO_NOTHING,
-        STUCK,
-        COMRESET,
-        GOES_ON,
-        RESTART,
-        WRONG_LENGTH,
-        COMES_TO_NOTHING,
-        INTERFACE,
-        RESTART,
-        PACKET,
-        COMES_TO_NOTHING,
-        INTERFACE,
-        RESTART,
-        NO_COMMAND,
-        COMES_TO_NOTHING,
-        INTERFACE,
-        RESTART,
-        GOES_ON,
-        RESTART,
-        NO_TABLE,
-        COMES_TO_NOTHING,
-        HOST_BUS_FATAL,
-        RESTART,
-        NO_DATA,
-        COMES_TO_NOTHING,
-        HOST_BUS_FATAL,
-        RESTART,
-        GOES_ON,
-        RESTART,
-        NO_PLACE,
-        RESTART,
-        GOES_ON,
-    ],
-};
-
-#[test]
-fn a_fatal_error_halts_the_port(rt: HostRuntime) -> Result<(), Fail> {
-    plays(&rt, rt.alloc(), &FATAL)
 }

@@ -1,6 +1,6 @@
 //! Stories of reads whose PRDT names fewer bytes than the device sends (AHCI 1.3.1, sections 3.3.5, OFS, 6.1.5 and 6.2.1).
 
-use crate::tests::lists::GOES_ON;
+use crate::tests::fatal::GOES_ON;
 use crate::tests::playing::Pieces::These;
 use crate::tests::playing::Row::{Does, Fills, Has, HasAll, Lays, Reads, ReadsBits, Writes};
 use crate::tests::playing::{Row, Story, plays};
