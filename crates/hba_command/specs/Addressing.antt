@@ -1,6 +1,6 @@
 -- How many bits the LBA of a command has (ACS-3, "28-bit and 48-bit commands"), and where a Register FIS - Device to Host names an LBA (Serial
 -- ATA, "Register FIS - Device to Host"): for a command of 28 bits LBA 27:24 are device 3:0, and the bytes of LBA 47:24 are 0.
-use Rattle.std.specs.Prelude.{ℕ, ◌*◌, ◌/◌, ◌%◌, ◌^◌}
+use Rattle.std.specs.Prelude.{ℕ, ◌/◌, ◌%◌, ◌^◌}
 use Rattle.sata_fis.specs.Fields.{D2hFields}
 use Rattle.hba_command.specs.declared.action.Action.{Action}
 use Rattle.hba_command.specs.declared.action.Action.TheVariants as action

@@ -3,8 +3,8 @@
 ghost use Rattle.std.specs.Prelude.{◌≡◌, ◌%◌, ◌<◌, ◌^◌};
 ghost use Rattle.hba_command.specs.Task.{first_page, is_mode, log_task, long_span, pages_in, short_span, task_by, task_of};
 
-use crate::identify_pages::IdentifyPages;
 use crate::addressing::Addressing;
+use crate::identify_pages::IdentifyPages;
 use crate::log::Log;
 use crate::protocol::Protocol;
 use crate::span::Span;

@@ -13,8 +13,8 @@ use crate::hba::delivering::{d2h_fis, done};
 use crate::hba::fetching::is_alone;
 use ahci_port::PlainFault;
 use hba_command::{
-    Action, Addressing, Log, Page, Protocol, Reply, Span, Task, action_of, addressed, controller_page,
-    power_count,
+    Action, Addressing, Log, Page, Protocol, Reply, Span, Task, action_of, addressed,
+    controller_page, power_count,
 };
 use hba_regs::Slot;
 use sata_fis::D2h;
@@ -50,7 +50,11 @@ impl<A: Allocator> Hba<A> {
         if self.is_on(span) {
             return done();
         }
-        addressed(span.addressing, d2h_fis(0x41, 0x10, 0, 0), self.first_missing(span)) // IDNF
+        addressed(
+            span.addressing,
+            d2h_fis(0x41, 0x10, 0, 0),
+            self.first_missing(span),
+        ) // IDNF
     }
 
     /// The LBA of the last sector, of 28 bits at most FFF_FFFFh.

@@ -159,7 +159,13 @@ impl<A: Allocator + Copy> Hba<A> {
             return Ok(());
         }
         let sectors = sectors_before(&self.port, span.lba, span.sectors, lba);
-        self.fail_read(slot, protocol, span.lba, sectors, refused(span.addressing, error, lba))
+        self.fail_read(
+            slot,
+            protocol,
+            span.lba,
+            sectors,
+            refused(span.addressing, error, lba),
+        )
     }
 
     /// A command that is not queued fails, for a slot.

@@ -118,7 +118,8 @@ impl<A: Allocator> Hba<A> {
         match action {
             Action::Queue(queued) => self.has_tag(queued),
             Action::Sectors { span, .. } => self.is_on(span) && !self.is_queueing(),
-            Action::Page(_, _) | Action::Flush(_) | Action::Reply(_) | Action::Control { .. } => false,
+            Action::Page(_, _) | Action::Flush(_) | Action::Reply(_) | Action::Control { .. } =>
+                false,
             Action::Abort => false,
         }
     }

@@ -164,7 +164,13 @@ const LBA: u64 = RECEIVED + 0x44;
 
 /// No disk of 8 sectors has LBA 5000001h. After a command of 28 bits, bits 27:24 are in the device field (Serial ATA, "Register FIS - Device to Host").
 const READ_FAR: &[Row] = &[
-    Lays(0, ONE, TABLE, [0x2780_C800, 0x0100_0045, 0, 0x0100_0000], SECTOR),
+    Lays(
+        0,
+        ONE,
+        TABLE,
+        [0x2780_C800, 0x0100_0045, 0, 0x0100_0000],
+        SECTOR,
+    ),
     Writes(PX_CI, 1),
     Does(0),
     Reads(PX_TFD, 0x1041),
@@ -186,7 +192,13 @@ const READ_FAR_EXT: &[Row] = &[
 ];
 
 const VERIFY_FAR: &[Row] = &[
-    Lays(0, NONE, TABLE, [0x2780_4000, 0x0100_0045, 0, 0x0100_0000], NO_PIECES),
+    Lays(
+        0,
+        NONE,
+        TABLE,
+        [0x2780_4000, 0x0100_0045, 0, 0x0100_0000],
+        NO_PIECES,
+    ),
     Writes(PX_CI, 1),
     Does(0),
     Reads(PX_TFD, 0x1041),

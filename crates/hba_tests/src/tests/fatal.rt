@@ -1,7 +1,9 @@
 //! Stories of what ends a command in a fatal error (AHCI 1.3.1, section 6.1).
 
 use crate::tests::playing::Pieces::These;
-use crate::tests::playing::Row::{Does, Fills, Has, HasAll, Lays, Reads, ReadsBits, Sector, Writes};
+use crate::tests::playing::Row::{
+    Does, Fills, Has, HasAll, Lays, Reads, ReadsBits, Sector, Writes,
+};
 use crate::tests::playing::{Row, Story, plays};
 use crate::tests::registers::{PX_CI, PX_IS, PX_SACT, PX_TFD};
 use crate::tests::setting::{
