@@ -6,7 +6,7 @@ import mmap
 import pickle
 import resource
 import tempfile
-from typing import Callable, Dict, Optional, Tuple
+from typing import Callable, Dict, List, Optional, Tuple
 
 import ahci
 from ahci import Command, Did, Entry, Event, Fis, FisType, Kind, Order, Outcome, Phase, Port, Register, Reply, Slot, Status, Stepped, TagSets, Written, Wrote
@@ -251,6 +251,30 @@ def copies() -> None:
         assert port.depth() == 4
 
 
+def exceptions() -> None:
+    """An exception is copied whole, so it comes through a pool of processes, and keeps no buffer of the caller's."""
+    one, other = ahci.Refused(Status.BAD_TAG, 3), ahci.OutOfMemory(4)
+    for made in (copy.copy(one), pickle.loads(pickle.dumps(one))):
+        assert (type(made), made.status, made.slot, str(made)) == (ahci.Refused, Status.BAD_TAG, 3, "BAD_TAG")
+    for lacks in (copy.copy(other), pickle.loads(pickle.dumps(other))):
+        assert (type(lacks), lacks.slot, str(lacks)) == (ahci.OutOfMemory, 4, "slot 4")
+    buffer = mmap.mmap(-1, 512)
+    kept: List[ahci.Refused] = []
+    with Port.zeros(8, 4) as port:
+        calls: Tuple[Callable[[], object], ...] = (
+            lambda: ahci.fis_decode(buffer), lambda: ahci.entry_breaks(ahci.Rule.ODD_ADDRESS, buffer), lambda: port.write(40, 0, buffer),
+            lambda: port.write_register(PX_CI, 1, buffer),
+        )
+        for call in calls:
+            try:
+                call()
+            except ahci.Refused as why:
+                kept.append(why)
+                continue
+            raise AssertionError("a wrong call was not refused")
+    buffer.close()  # a BufferError, if an exception has it
+
+
 def enums() -> None:
     """What was a bare number has its name, and is the number all the same."""
     with Port.zeros(8, 4) as port:
@@ -300,6 +324,6 @@ def memory() -> None:
     assert size_of_this() < before + (64 << 20)
 
 
-for part in (looks, failing_queue, registers, layers, wide_numbers, buffers, copies, enums, memory):
+for part in (looks, failing_queue, registers, layers, wide_numbers, buffers, copies, exceptions, enums, memory):
     part()
 print("the calls of ahci: as in docs/LAYOUTS.md and docs/PROGRAM.md")

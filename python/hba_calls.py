@@ -160,4 +160,9 @@ with Hba(bytes(512), depth=32, capabilities=few) as hba:
     hba.write(0x118, 0x0C000002)
     assert (hba.read(0x118), hba.read(0x128)) == (0x0C000006, 0x00000113)
 refused(ahci.Status.BAD_DEPTH, lambda: Hba(bytes(512), 33))
+with Hba(bytes(512), depth=32) as hba:  # PxFB is no memory: HBFS, and no second signature before the driver's next write
+    hba.write(PXFB, 0x100000)
+    hba.write(PXCMD, 0x10)
+    hba.run(bytearray(0x1000))
+    assert hba.read(PXIS) & 0x20000000 and hba.read(PXSIG) == 0xFFFFFFFF
 print("every call of a controller, and every refusal that it has")

@@ -130,16 +130,20 @@ class Hba(Owner):
             return True
 
     def run(self, memory: Memory) -> None:
-        """Does all that the controller can do now, the lowest slot first."""
+        """Does all that the controller can do now, the lowest slot first. If PxFB is no memory, the signature is sent once: it comes again after
+        the driver's next write of a register."""
         with self._lock:
+            signed = False
             while True:
                 look = self.look()
                 slot: Optional[int] = next((it for it, step in enumerate(look.next) if step), None)
                 if look.want:
                     self.move(memory)
-                elif look.sign:
+                elif look.sign and not signed:
                     self.sign()
+                    signed = True
                 elif slot is not None:
                     self.step(slot)
+                    signed = False
                 else:
                     return

@@ -84,7 +84,10 @@ def choose_tags(order: Order, tags: int, failing: int = 0, most: int = 32, draws
 
 def _broken(name: str, *arguments: object) -> bool:
     broken = u32()
-    call(name, *arguments, ctypes.byref(broken))
+    try:
+        call(name, *arguments, ctypes.byref(broken))
+    finally:
+        del arguments  # as in `call`
     return bool(broken.value)
 
 

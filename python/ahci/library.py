@@ -24,6 +24,9 @@ class Refused(Exception):
         self.slot = slot
         super().__init__(self.status.name)
 
+    def __reduce__(self) -> Tuple[Any, ...]:
+        return Refused, (int(self.status), self.slot)
+
 
 class OutOfMemory(MemoryError):
     """The library's allocation failed. `slot` is as that of `Refused`."""
@@ -31,6 +34,9 @@ class OutOfMemory(MemoryError):
     def __init__(self, slot: Optional[int] = None) -> None:
         self.slot = slot
         super().__init__(*(() if slot is None else (f"slot {slot}",)))
+
+    def __reduce__(self) -> Tuple[Any, ...]:
+        return OutOfMemory, (self.slot,)
 
 
 class PortPlace(ctypes.Structure):
@@ -173,7 +179,7 @@ CALLS: Dict[str, List[Any]] = {
     "version": [],
 }
 _loaded: Optional[ctypes.CDLL] = None
-_loading = threading.Lock()
+_loading = threading.RLock()  # a signal's handler may call while a call of its thread loads
 
 
 def library_file() -> str:
@@ -205,8 +211,10 @@ def done(status: int, slot: Optional[int] = None) -> None:
 
 
 def call(name: str, *arguments: object) -> None:
-    """A call that needs no port and no controller."""
-    done(getattr(loaded(), f"ahci_{name}")(*arguments))
+    """A call that needs no port and no controller. The frames of an exception keep no argument, so that a buffer of the caller's is free."""
+    status = getattr(loaded(), f"ahci_{name}")(*arguments)
+    del arguments
+    done(status)
 
 
 def fits(value: int, bits: int, name: str) -> int:
@@ -257,11 +265,16 @@ class Owner:
             return int(getattr(loaded(), f"ahci_{self._prefix}_{name}")(ctypes.byref(self._place), *arguments))
 
     def _call(self, name: str, *arguments: object) -> None:
-        done(self._status(name, *arguments))
+        """The frames of an exception keep no argument, so that a buffer of the caller's is free."""
+        status = self._status(name, *arguments)
+        del arguments
+        done(status)
 
     def _number(self, name: str, kind: Any, *arguments: object) -> int:
         found = kind()
-        self._call(name, *arguments, ctypes.byref(found))
+        status = self._status(name, *arguments, ctypes.byref(found))
+        del arguments
+        done(status)
         return int(found.value)
 
     def _copied(self, name: str, count: int, *arguments: object) -> bytes:

@@ -73,8 +73,7 @@ class Port(Owner):
 
     def write(self, tag: int, lba: int, data: Bytes) -> int:
         """Issues a write of whole sectors. Returns the request's number."""
-        payload, count = given(data)
-        return self._number("submit", u64, fits(tag, 32, "tag"), Kind.WRITE, fits(lba, 64, "lba"), count // 512, payload, count)
+        return self._number("submit", u64, fits(tag, 32, "tag"), Kind.WRITE, fits(lba, 64, "lba"), memoryview(data).nbytes // 512, *given(data))
 
     def _stepped(self, name: str, *arguments: object) -> Stepped:
         did = SteppedStruct()
