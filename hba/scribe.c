@@ -16,7 +16,7 @@ static void do_work(void *of) {
     struct scribe *scribe = of;
     struct record *record = &scribe->record;
     record_put(record, scribe->taken.bytes, scribe->taken.count, scribe->taken.entries);
-    if (scribe->lacks_memory && record->file >= 0)
+    if (scribe->ends && record->file >= 0)
         record_give_up(record, "there is no memory for the next entry");
     if (!scribe->begins_part)
         return;
@@ -46,7 +46,8 @@ uint8_t *scribe_put(struct scribe *scribe, struct record_entry entry, size_t byt
     if (!scribe->is_on)
         return NULL;
     if (!make_room(batch, sizeof entry + bytes)) {
-        scribe_give_up(scribe);
+        scribe->is_on = false;
+        scribe->lacks_memory = true;
         return NULL;
     }
     entry.time = record_now();
@@ -55,11 +56,6 @@ uint8_t *scribe_put(struct scribe *scribe, struct record_entry entry, size_t byt
     batch->count += sizeof entry + bytes;
     batch->entries++;
     return behind;
-}
-
-void scribe_give_up(struct scribe *scribe) {
-    scribe->is_on = false;
-    scribe->lacks_memory = true;
 }
 
 static bool has_more(const struct scribe *scribe) {
@@ -71,6 +67,7 @@ static void give(struct scribe *scribe) {
     struct batch other = scribe->taken;
     scribe->taken = scribe->filling;
     scribe->filling = (struct batch){.bytes = other.bytes, .room = other.room};
+    scribe->ends = scribe->lacks_memory;
     scribe->is_busy = true;
     worker_give(&scribe->worker);
 }
@@ -151,6 +148,7 @@ static void take_over(struct scribe *scribe) {
     free(scribe->taken.bytes);
     scribe->taken = scribe->filling;
     scribe->begins_part = false;
+    scribe->ends = scribe->lacks_memory;
     do_work(scribe);
     free(scribe->taken.bytes);
     copying_end(&scribe->part);

@@ -27,7 +27,8 @@ struct scribe {
     bool is_on;           /* there is a record, and it has not ended */
     bool is_copying;      /* the sectors are copied */
     bool begins_part;     /* the thread begins the next part once it has written what it was given */
-    bool lacks_memory;    /* for the next entry: the thread ends the record */
+    bool lacks_memory;    /* for the next entry, so that the record ends */
+    bool ends;            /* the thread ends the record once it has written what it was given */
     bool is_busy;         /* the thread was given something, and its end was not taken */
     bool waits;           /* the device waits for it */
     struct worker worker; /* there is none without a record */
@@ -39,9 +40,6 @@ int scribe_begin(struct scribe *scribe, const char *folder, uint64_t limit, cons
 /* Appends an entry, and gives it the time of now. The answer is where its `bytes` bytes belong that come behind it; NULL if the record has ended, also for
    lack of memory. */
 uint8_t *scribe_put(struct scribe *scribe, struct record_entry entry, size_t bytes);
-
-/* Ends the record, since there is no memory for the next entry. */
-void scribe_give_up(struct scribe *scribe);
 
 /* Gives the thread what there is, if it is idle and there is much, or if it `must` be written soon. */
 void scribe_hand_over(struct scribe *scribe, bool must);
