@@ -22,10 +22,16 @@ def stalled(room: str, millis: int) -> Dict[str, str]:
 
 
 def slow_record(room: str) -> str:
-    """Each write to the record takes a fifth of a second: registers are read meanwhile."""
-    folder = os.path.join(room, "record")
-    told = answered([STALLED, "run", "--transport", way_of(room), "--image", blank(room, 64), "--record", folder], 5, env=stalled(room, 200))
-    return f"{told}; {makes(folder, os.path.join(room, 'disk.img'), room)}"
+    """Each write to the record takes a second, and no register is read as late. What the machine lets an answer wait for a processor is not counted; its own host may
+    stop it, so there are three runs at most."""
+    longest = 0.0
+    for at in range(3):
+        folder = os.path.join(room, f"record{at}")
+        told = answered([STALLED, "run", "--transport", way_of(room), "--image", blank(room, 64), "--record", folder], 2, env=stalled(room, 1000))
+        longest = float(told.partition("the longest took ")[2].split()[0])
+        if longest < 500:
+            return f"{told}; {makes(folder, os.path.join(room, 'disk.img'), room)}"
+    raise Failed(f"a register was read after {longest} ms, while the record was written")
 
 
 def a_limit(room: str, binary: str = PROGRAM, millis: int = 0) -> str:
