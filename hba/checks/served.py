@@ -269,7 +269,7 @@ def wrong_messages(room: str) -> str:
         done = pace.ran([sys.executable, MESSAGES, server.path, str(seed), "20000"], 240, stdout=subprocess.PIPE, stderr=subprocess.STDOUT, text=True)
         expect(done.returncode == 0, f"seed {seed}: {done.stdout}{server.said()[-3000:]}")
         limit = pace.Limit(20)
-        while server.files() > before + 1:  # a write-back has an eventfd from the first one on
+        while server.files() > before + 2:  # a write-back has two eventfds from the first one on
             expect(not limit.has_passed(), f"{server.files()} files are open, and {before} were")
         server.end()
         strange = [line for line in server.said().splitlines() if not re.fullmatch(r"ahci-hba: the guest's program (ended in the middle of a message|sent a message of command .*)", line)]
