@@ -44,6 +44,7 @@ void device_starve(struct device *device) {
 /* The slots that can go on. */
 struct choice {
     uint32_t early;   /* with a step that answers nothing yet: it is taken at once, so that the queue is as deep as the driver makes it */
+    bool delivers;    /* one of them assembles an answer, which may take effect without a write to the guest's memory */
     uint32_t answers; /* with a step that answers the command */
     uint64_t soonest; /* when the first slow command can go on, or UINT64_MAX */
 };
@@ -71,6 +72,7 @@ static struct choice choice_of(const struct device *device) {
             choice.answers |= bit;
         else
             choice.early |= bit;
+        choice.delivers |= kind == AHCI_STEP_DELIVER;
     }
     bool goes_on = choice.early || choice.answers || choice.soonest != UINT64_MAX || device->stalled || device->flushing;
     if (!goes_on || !history_drains(device, sends))
@@ -94,6 +96,8 @@ static bool has_waited(struct device *device) {
 static bool choose(struct device *device, uint32_t *slot) {
     struct choice choice = choice_of(device);
     if (!choice.early && (!choice.answers || !has_waited(device)))
+        return false;
+    if (choice.delivers && !history_is_kept(&device->history))
         return false;
     device_must("ahci_choose_tag", ahci_choose_tag(device->settings->pick, choice.early ? choice.early : choice.answers, next_random(&device->random), slot));
     if (!choice.early)
@@ -122,8 +126,6 @@ static void take_step(struct device *device, uint32_t slot) {
     uint64_t entries = 0;
     if (is_answer(kind))
         judge_answer(&device->judge, slot);
-    if (kind == AHCI_STEP_DELIVER)
-        history_sync(&device->history); /* an answer may take effect without a write to the guest's memory */
     uint32_t status = ahci_hba_step(&device->hba, slot, &entries);
     if (status == AHCI_OUT_OF_MEMORY) {
         device_starve(device);
@@ -155,20 +157,37 @@ static void sign(struct device *device) {
     log_line("signature");
 }
 
+static bool copies(const struct device *device) {
+    return device->writeback.state == WRITEBACK_COPIES || history_copies(&device->history);
+}
+
+/* Copies sectors for a thread. */
+static void copy(struct device *device) {
+    if (device->writeback.state == WRITEBACK_COPIES)
+        writeback_copy(&device->writeback);
+    if (history_copies(&device->history))
+        history_copy(&device->history);
+}
+
+/* Whether no step can be taken before something else has come: a part of the guest's memory, or the record. */
+static bool is_held(const struct device *device) {
+    return memory_waits(device->memory) || history_copies(&device->history) || history_waits(&device->history);
+}
+
 void device_turn(struct device *device) {
     uint32_t slot;
     if (device_waits(device) != 0)
         return;
-    if (device->writeback.state == WRITEBACK_COPIES)
-        writeback_copy(&device->writeback);
-    if (memory_waits(device->memory))
+    copy(device);
+    if (is_held(device))
         return;
     if (device->wait == WAIT_MEMORY)
         device->wait = WAIT_NOTHING;
     if (!move(device))
         return;
     fate_decide(device);
-    history_settle(device);
+    if (!history_settle(device))
+        return;
     if (can_sign(device))
         sign(device);
     else if (choose(device, &slot))
@@ -179,9 +198,9 @@ void device_turn(struct device *device) {
 
 /* When the next step is due, in nanoseconds of CLOCK_MONOTONIC; UINT64_MAX if there is none. */
 static uint64_t next_due(const struct device *device) {
-    if (device->writeback.state == WRITEBACK_COPIES)
+    if (copies(device))
         return 0;
-    if (memory_waits(device->memory))
+    if (is_held(device))
         return UINT64_MAX;
     struct choice choice = choice_of(device);
     bool is_urgent = device->state.want != AHCI_WANT_NOTHING || can_sign(device) || choice.early;
@@ -272,7 +291,7 @@ void device_reset(struct device *device) {
     judge_power_on(&device->judge);
 }
 
-/* ---- the image ---- */
+/* ---- the image, and what threads do ---- */
 
 void device_save(struct device *device) {
     struct writeback *writeback = &device->writeback;
@@ -282,17 +301,27 @@ void device_save(struct device *device) {
         writeback_copy(writeback);
 }
 
-int device_event(const struct device *device) {
-    return device->writeback.ended;
-}
-
-void device_take_event(struct device *device) {
+/* Takes the end of a write-back: the flushes that wait for it go on. */
+static void take_written(struct device *device) {
     int failed;
     if (!writeback_take(&device->writeback, &failed))
         return;
     for (uint32_t slots = device->covered; slots; slots &= slots - 1)
         device->tasks[__builtin_ctz(slots)].kept = failed ? KEPT_NOT : KEPT;
     device->flushing = device->covered = 0;
+}
+
+unsigned device_watch(const struct device *device, struct pollfd *files) {
+    files[0] = (struct pollfd){.fd = device->writeback.worker.done, .events = POLLIN};
+    files[1] = (struct pollfd){.fd = history_event(&device->history), .events = POLLIN};
+    return DEVICE_FILES;
+}
+
+void device_take_events(struct device *device, const struct pollfd *files) {
+    if (files[0].revents)
+        take_written(device);
+    if (files[1].revents)
+        history_take_event(&device->history);
 }
 
 /* ---- the beginning and the end ---- */

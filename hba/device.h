@@ -13,6 +13,7 @@
 #include "writeback.h"
 
 #include <ahci.h>
+#include <poll.h>
 
 /* Why the device takes no step although there is one. */
 enum wait { WAIT_NOTHING, WAIT_DELAY, WAIT_MEMORY };
@@ -78,9 +79,10 @@ void device_reset(struct device *device);
 /* Writes the image back if a command has written, without waiting for it. */
 void device_save(struct device *device);
 
-/* A file that is readable once a write-back has ended, -1 if there is none; and takes that end: the flushes that wait for it go on. */
-int device_event(const struct device *device);
-void device_take_event(struct device *device);
+/* Files that are readable once a thread of the device has done something: how many; and takes what it has done. */
+#define DEVICE_FILES 2
+unsigned device_watch(const struct device *device, struct pollfd *files);
+void device_take_events(struct device *device, const struct pollfd *files);
 
 /* Takes the device's next step, if there is one that is due. */
 void device_turn(struct device *device);

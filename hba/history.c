@@ -4,30 +4,38 @@
 #include "log.h"
 
 #include <inttypes.h>
-#include <stdio.h>
-#include <stdlib.h>
+#include <string.h>
 
 #define ENTRY_BYTES 256 /* about what the journal's entries of one command take, without a write's bytes */
 
 /* ---- entries ---- */
 
-/* Records a write: its bytes are in memory of the history until they are written. */
-static void put_write(struct device *device, const ahci_entry *entry) {
+static void put_tag(struct history *history, enum record_kind kind, uint32_t tag) {
+    scribe_put(&history->scribe, (struct record_entry){.kind = (uint8_t)kind, .tag = (uint8_t)tag}, 0);
+}
+
+static void put_command(struct device *device, const ahci_entry *entry) {
     struct history *history = &device->history;
-    size_t count = (size_t)entry->sectors * AHCI_SECTOR_BYTES;
-    char why[80];
-    record_sync(&history->record); /* the bytes of the last write are in the same place */
-    if (count > history->room_bytes) {
-        uint8_t *room = realloc(history->room, count);
-        history->room = room ? room : history->room;
-        history->room_bytes = room ? count : history->room_bytes;
-    }
-    if (count <= history->room_bytes && ahci_hba_entry_bytes(&device->hba, history->seen, history->room, history->room_bytes) == AHCI_OK) {
-        record_command(&history->record, true, entry->tag, entry->lba, entry->sectors, false, history->room);
-        return;
-    }
-    snprintf(why, sizeof why, "there is no memory for a write of %" PRIu32 " sectors", entry->sectors);
-    record_give_up(&history->record, why);
+    const bool writes = entry->kind == AHCI_EVENT_WRITE;
+    const struct record_entry it = {.kind = writes ? RECORD_WRITE : RECORD_READ, .tag = (uint8_t)entry->tag, .count = entry->sectors, .lba = entry->lba};
+    size_t bytes = writes ? (size_t)entry->sectors * AHCI_SECTOR_BYTES : 0;
+    uint8_t *behind = scribe_put(&history->scribe, it, bytes);
+    if (writes && behind)
+        device_must("ahci_hba_entry_bytes", ahci_hba_entry_bytes(&device->hba, history->seen, behind, bytes));
+    history->owned |= UINT32_C(1) << entry->tag;
+}
+
+/* A command is served: its tag is behind the entry. */
+static void put_served(struct history *history, uint32_t tag) {
+    const struct record_entry it = {.kind = RECORD_SERVE, .count = 1};
+    uint8_t *behind = scribe_put(&history->scribe, it, RECORD_TAGS);
+    if (behind)
+        memcpy(behind, (uint8_t[RECORD_TAGS]){(uint8_t)tag}, RECORD_TAGS);
+}
+
+static void put_failed(struct history *history, const ahci_entry *entry) {
+    scribe_put(&history->scribe, (struct record_entry){.kind = RECORD_FAIL, .tag = (uint8_t)entry->tag, .flag = (uint8_t)entry->error, .lba = entry->lba}, 0);
+    history->failed_tag = entry->tag;
 }
 
 /* Records an entry of the journal. */
@@ -36,27 +44,20 @@ static void put_entry(struct device *device, const ahci_entry *entry) {
         [AHCI_EVENT_ACCEPT] = RECORD_ACCEPT, [AHCI_EVENT_RECOVER] = RECORD_RECOVER, [AHCI_EVENT_REISSUE] = RECORD_REISSUE, [AHCI_EVENT_COLLECT] = RECORD_COLLECT,
         [AHCI_EVENT_IDENTIFY] = RECORD_IDENTIFY, [AHCI_EVENT_FLUSH] = RECORD_FLUSH, [AHCI_EVENT_READ_LOG] = RECORD_READ_LOG};
     struct history *history = &device->history;
-    uint32_t bit = UINT32_C(1) << entry->tag;
-    uint8_t tag = (uint8_t)entry->tag;
     switch (entry->kind) {
     case AHCI_EVENT_READ:
-        record_command(&history->record, false, entry->tag, entry->lba, entry->sectors, false, NULL);
-        history->owned |= bit;
-        break;
     case AHCI_EVENT_WRITE:
-        put_write(device, entry);
-        history->owned |= bit;
+        put_command(device, entry);
         break;
     case AHCI_EVENT_COMPLETE:
-        record_served(&history->record, &tag, 1);
+        put_served(history, entry->tag);
         break;
     case AHCI_EVENT_FAIL:
-        record_failed(&history->record, entry->tag, (uint8_t)entry->error, entry->lba);
-        history->failed_tag = entry->tag;
+        put_failed(history, entry);
         break;
     default:
-        record_tag(&history->record, kinds[entry->kind], entry->tag);
-        history->owned &= ~(entry->kind == AHCI_EVENT_COLLECT ? bit : 0);
+        put_tag(history, kinds[entry->kind], entry->tag);
+        history->owned &= ~(entry->kind == AHCI_EVENT_COLLECT ? UINT32_C(1) << entry->tag : 0);
         break;
     }
 }
@@ -71,12 +72,12 @@ static uint64_t next_number(ahci_hba *hba) {
 static void put_end(struct device *device, bool has_recovered) {
     struct history *history = &device->history;
     if (has_recovered) {
-        record_tag(&history->record, RECORD_RECOVER, 0);
-        record_tag(&history->record, RECORD_COLLECT, history->failed_tag);
+        put_tag(history, RECORD_RECOVER, 0);
+        put_tag(history, RECORD_COLLECT, history->failed_tag);
         history->owned &= ~(UINT32_C(1) << history->failed_tag);
     }
     if (history->owned)
-        record_tag(&history->record, RECORD_RESET, 0);
+        put_tag(history, RECORD_RESET, 0);
     history->owned = 0;
     history->seen = next_number(&device->hba);
 }
@@ -84,18 +85,22 @@ static void put_end(struct device *device, bool has_recovered) {
 void history_follow(struct device *device, uint64_t entries, bool has_recovered) {
     struct history *history = &device->history;
     ahci_entry entry;
-    for (; history->record.file >= 0 && ahci_hba_entry(&device->hba, history->seen, &entry) == AHCI_OK; history->seen++)
+    for (; history->scribe.is_on && ahci_hba_entry(&device->hba, history->seen, &entry) == AHCI_OK; history->seen++)
         put_entry(device, &entry);
-    if (!entries)
-        return;
-    log_line("the queue's journal of %" PRIu64 " entries was handed out", entries);
-    history->bytes = 0;
-    put_end(device, has_recovered);
-    record_sync(&history->record);
+    if (entries) {
+        log_line("the queue's journal of %" PRIu64 " entries was handed out", entries);
+        history->bytes = 0;
+        put_end(device, has_recovered);
+    }
+    scribe_hand_over(&history->scribe, entries != 0);
 }
 
-void history_sync(struct history *history) {
-    record_sync(&history->record);
+bool history_is_kept(struct history *history) {
+    return scribe_is_kept(&history->scribe);
+}
+
+bool history_waits(const struct history *history) {
+    return history->scribe.waits;
 }
 
 /* ---- the journal's size ---- */
@@ -118,7 +123,7 @@ static bool is_large(const struct device *device) {
 /* Whether the record's part has no room for a command of some slots. */
 static bool is_full(const struct device *device, uint32_t slots) {
     for (; slots; slots &= slots - 1)
-        if (!record_has_room(&device->history.record, bytes_of(&device->tasks[__builtin_ctz(slots)].command)))
+        if (!scribe_has_room(&device->history.scribe, bytes_of(&device->tasks[__builtin_ctz(slots)].command)))
             return true;
     return false;
 }
@@ -142,21 +147,39 @@ static bool is_idle(struct device *device) {
 static void trim(struct device *device) {
     uint64_t entries = 0;
     device_must("ahci_hba_trim", ahci_hba_trim(&device->hba, &entries));
-    record_tag(&device->history.record, RECORD_TRIM, 0);
+    put_tag(&device->history, RECORD_TRIM, 0);
     device->history.bytes = 0;
 }
 
-void history_settle(struct device *device) {
+bool history_settle(struct device *device) {
+    struct scribe *scribe = &device->history.scribe;
     uint32_t sends = 0;
     for (uint32_t slot = 0; slot < AHCI_MOST_TAGS; slot++)
         sends |= (uint32_t)(device->state.next[slot] == AHCI_STEP_SEND) << slot;
     bool is_part_full = is_full(device, sends);
     if ((!is_large(device) && !is_part_full) || !is_idle(device))
-        return;
+        return true;
     if (is_large(device))
         trim(device);
-    if (is_part_full)
-        record_next_part(&device->history.record);
+    if (is_part_full && !scribe_next_part(scribe, &device->disk))
+        device_starve(device);
+    return !is_part_full;
+}
+
+bool history_copies(const struct history *history) {
+    return history->scribe.is_copying;
+}
+
+void history_copy(struct history *history) {
+    scribe_copy(&history->scribe);
+}
+
+int history_event(const struct history *history) {
+    return history->scribe.worker.done;
+}
+
+void history_take_event(struct history *history) {
+    scribe_take(&history->scribe);
 }
 
 /* ---- beginning and end ---- */
@@ -164,12 +187,9 @@ void history_settle(struct device *device) {
 int history_begin(struct device *device) {
     const struct settings *settings = device->settings;
     device->history = (struct history){.seen = next_number(&device->hba)};
-    return record_begin(&device->history.record, settings->record, settings->record_limit, &device->disk, AHCI_MOST_TAGS);
+    return scribe_begin(&device->history.scribe, settings->record, settings->record_limit, &device->disk, AHCI_MOST_TAGS);
 }
 
 int history_end(struct history *history) {
-    int status = record_end(&history->record);
-    free(history->room);
-    history->room = NULL;
-    return status;
+    return scribe_end(&history->scribe);
 }

@@ -3,23 +3,20 @@
 #ifndef AHCI_HBA_HISTORY_H
 #define AHCI_HBA_HISTORY_H
 
-#include "record.h"
+#include "scribe.h"
 
 #include <ahci.h>
 #include <stdbool.h>
-#include <stddef.h>
 #include <stdint.h>
 
 struct device;
 
 struct history {
-    struct record record;
+    struct scribe scribe;
     uint64_t seen;       /* the number of the journal's next entry that the record doesn't have */
     uint32_t owned;      /* tags that have a request by the entries so far, as bits */
     uint32_t failed_tag; /* whose command failed last */
     uint64_t bytes;      /* about how many the journal has */
-    uint8_t *room;       /* for the bytes of a write */
-    size_t room_bytes;
 };
 
 /* Begins the record. It returns 0, or -1 once it has printed why. */
@@ -35,11 +32,21 @@ void history_follow(struct device *device, uint64_t entries, bool has_recovered)
 /* Whether commands have to wait that are to be sent to the queue: `sends` are their slots. */
 bool history_drains(const struct device *device, uint32_t sends);
 
-/* Trims the journal, or begins the record's next part, if that is due and the queue has no request. */
-void history_settle(struct device *device);
+/* Trims the journal, or begins the record's next part, if that is due and the queue has no request. It returns false if the device takes no step before the
+   part has begun. */
+bool history_settle(struct device *device);
 
-/* Writes what the record has not written yet. */
-void history_sync(struct history *history);
+/* Whether the sectors are copied that the next part begins with; and copies some more. */
+bool history_copies(const struct history *history);
+void history_copy(struct history *history);
+
+/* Whether the record has all that the queue has done. If not, the device waits for it. */
+bool history_is_kept(struct history *history);
+bool history_waits(const struct history *history);
+
+/* A file that is readable once more of the record is written, -1 without a record; and takes that. */
+int history_event(const struct history *history);
+void history_take_event(struct history *history);
 
 /* Ends the record. It returns 0, or -1 if it ended before its time. */
 int history_end(struct history *history);

@@ -1,11 +1,11 @@
 #include "log.h"
 
 #include "say.h"
+#include "worker.h"
 
 #include <errno.h>
 #include <fcntl.h>
 #include <pthread.h>
-#include <signal.h>
 #include <stdarg.h>
 #include <stdio.h>
 #include <stdlib.h>
@@ -76,22 +76,12 @@ static void *write_lines(void *unused) {
     return unused;
 }
 
-/* Starts the thread, which takes no signals. */
-static int start(void) {
-    sigset_t all, before;
-    sigfillset(&all);
-    pthread_sigmask(SIG_SETMASK, &all, &before);
-    int failed = pthread_create(&thread, NULL, write_lines, NULL);
-    pthread_sigmask(SIG_SETMASK, &before, NULL);
-    return failed;
-}
-
 int log_begin(const char *path) {
     clock_gettime(CLOCK_MONOTONIC, &begun);
     if (!path)
         return 0;
     file = open(path, O_WRONLY | O_CREAT | O_TRUNC | O_CLOEXEC, 0666);
-    errno = file < 0 ? errno : start();
+    errno = file < 0 ? errno : thread_start(&thread, write_lines, NULL);
     if (file >= 0 && errno == 0)
         return 0;
     say_of("log", path, "%m");

@@ -96,22 +96,20 @@ static enum found work(struct pci *pci, const struct transport *transport) {
     return found;
 }
 
-/* Waits for the guest, the next step or the end of a write-back, and takes what comes. It doesn't wait if a message may be there already that the transport
+/* Waits for the guest, the next step or what a thread does, and takes what comes. It doesn't wait if a message may be there already that the transport
    has received. */
 static enum found wait_and_take(struct pci *pci, const struct transport *transport, bool has_more) {
     static const struct timespec at_once;
-    struct pollfd files[MOST_WATCHED + 1];
-    unsigned count = transport->watch(transport->it, files);
-    files[count] = (struct pollfd){.fd = device_event(pci->device), .events = POLLIN};
-    int ready = has_more ? ppoll(files, count + 1, &at_once, &waiting) : wait_for(pci, files, count + 1);
+    struct pollfd files[MOST_WATCHED + DEVICE_FILES];
+    const unsigned first = transport->watch(transport->it, files), count = first + device_watch(pci->device, files + first);
+    int ready = has_more ? ppoll(files, count, &at_once, &waiting) : wait_for(pci, files, count);
     if (ready < 0 && errno != EINTR) {
         say("the guest can't be waited for: %m");
         return FOUND_WRONG;
     }
     if (ready <= 0)
         return FOUND_NOTHING;
-    if (files[count].revents)
-        device_take_event(pci->device);
+    device_take_events(pci->device, files + first);
     return transport->serve(transport->it, files);
 }
 

@@ -71,7 +71,8 @@ static enum run move_out(struct device *device) {
     uint8_t *bytes = room_for(device, count);
     if (!bytes)
         return RUN_WITHOUT_ROOM;
-    history_sync(&device->history);
+    if (!history_is_kept(&device->history))
+        return RUN_LATER;
     device_must("ahci_hba_bytes", ahci_hba_bytes(&device->hba, bytes, count));
     enum moved moved = memory_move(device->memory, true, device->state.address, bytes, count);
     if (moved == MOVED_LATER)

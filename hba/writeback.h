@@ -3,10 +3,11 @@
 #ifndef AHCI_HBA_WRITEBACK_H
 #define AHCI_HBA_WRITEBACK_H
 
+#include "copying.h"
 #include "disk.h"
 #include "image.h"
+#include "worker.h"
 
-#include <pthread.h>
 #include <stdbool.h>
 #include <stdint.h>
 
@@ -20,13 +21,10 @@ struct writeback {
     enum writeback_state state;
     struct image *image;
     const struct disk *disk;
-    uint32_t copied;  /* sectors */
-    uint8_t *sectors; /* the copy; NULL until the first one */
+    struct copying copying;
     struct image taken; /* the image as the thread has it */
-    bool has_thread;
-    int failed;       /* an errno of the thread */
-    int ended;        /* an eventfd that is readable once the thread has ended; -1 before the first one */
-    pthread_t thread;
+    int failed;         /* an errno of the thread */
+    struct worker worker; /* there is none before the first write-back */
 };
 
 /* Prepares write-backs of an image, which has a path. Nothing is allocated before the first one. */
@@ -38,7 +36,7 @@ bool writeback_start(struct writeback *writeback);
 /* Copies some more sectors. */
 void writeback_copy(struct writeback *writeback);
 
-/* Takes the end of a write-back, which is there if `ended` is readable. It returns true then; *failed is 0 or an errno. */
+/* Takes the end of a write-back, which is there if the worker's `done` is readable. It returns true then; *failed is 0 or an errno. */
 bool writeback_take(struct writeback *writeback, int *failed);
 
 /* Waits for one that is written, and drops one that is copied. */

@@ -31,15 +31,14 @@ struct part_header {
 _Static_assert(sizeof(struct part_header) == HEADER && sizeof(struct record_entry) == 24, "the record's format");
 _Static_assert(__BYTE_ORDER__ == __ORDER_LITTLE_ENDIAN__, "the record's numbers have their low byte first");
 
-static uint64_t now(void) {
+uint64_t record_now(void) {
     struct timespec time;
     clock_gettime(CLOCK_REALTIME, &time);
     return (uint64_t)time.tv_sec * 1000000 + (uint64_t)time.tv_nsec / 1000;
 }
 
-/* The most bytes of a part. */
-static uint64_t part_bytes(const struct record *record) {
-    return record->limit ? record->limit / 2 : PART;
+uint64_t record_room(const struct record *record) {
+    return (record->limit ? record->limit / 2 : PART) - SPARE;
 }
 
 uint64_t record_least_limit(uint32_t sectors, uint32_t most_count) {
@@ -97,20 +96,31 @@ static void clear_group(struct record *record) {
     record->time = 0;
 }
 
-void record_sync(struct record *record) {
-    if (record->file >= 0 && record->group) {
-        if (write_pieces(record->file, record->piece, record->pieces)) {
-            int why = errno;
-            if (ftruncate(record->file, (off_t)record->bytes))
-                say_of("record", record->folder, "its last entry is cut: %m");
-            errno = why;
-            give_up(record, "it can't be written");
-        } else {
-            record->bytes += record->group_bytes;
-            record->entries += record->group;
-        }
+/* Writes whole entries, all of them or none. */
+static void write_entries(struct record *record, struct iovec *piece, unsigned pieces, uint64_t bytes, uint64_t entries) {
+    if (write_pieces(record->file, piece, pieces)) {
+        int why = errno;
+        if (ftruncate(record->file, (off_t)record->bytes))
+            say_of("record", record->folder, "its last entry is cut: %m");
+        errno = why;
+        give_up(record, "it can't be written");
+        return;
     }
+    record->bytes += bytes;
+    record->entries += entries;
+}
+
+void record_sync(struct record *record) {
+    if (record->file >= 0 && record->group)
+        write_entries(record, record->piece, record->pieces, record->group_bytes, record->group);
     clear_group(record);
+}
+
+void record_put(struct record *record, const uint8_t *bytes, size_t count, uint64_t entries) {
+    struct iovec piece = {.iov_base = (void *)(uintptr_t)bytes, .iov_len = count};
+    record_sync(record);
+    if (record->file >= 0 && entries)
+        write_entries(record, &piece, 1, count, entries);
 }
 
 static void add_piece(struct record *record, const void *bytes, size_t count) {
@@ -123,7 +133,7 @@ static struct record_entry *add(struct record *record, enum record_kind kind) {
     if (record->group == RECORD_GROUP)
         record_sync(record);
     if (!record->time)
-        record->time = now();
+        record->time = record_now();
     struct record_entry *entry = &record->at[record->group++];
     *entry = (struct record_entry){.kind = (uint8_t)kind, .time = record->time};
     add_piece(record, entry, sizeof *entry);
@@ -155,7 +165,7 @@ void record_served(struct record *record, const uint8_t *tags, uint32_t count) {
     entry->count = count;
     memset(copy, 0, MOST_SLOTS);
     memcpy(copy, tags, count);
-    add_piece(record, copy, (count + 7) / 8 * 8);
+    add_piece(record, copy, (count + RECORD_TAGS - 1) / RECORD_TAGS * RECORD_TAGS);
 }
 
 void record_failed(struct record *record, uint32_t tag, uint8_t error, uint64_t lba) {
@@ -168,12 +178,12 @@ void record_failed(struct record *record, uint32_t tag, uint8_t error, uint64_t 
 }
 
 bool record_has_room(const struct record *record, uint64_t bytes) {
-    return record->file < 0 || record->bytes + record->group_bytes + bytes + SPARE <= part_bytes(record);
+    return record->file < 0 || record->bytes + record->group_bytes + bytes <= record_room(record);
 }
 
 /* Writes a run of sectors of the snapshot. */
 static int put_run(struct record *record, uint64_t lba, uint32_t count, const uint8_t *bytes) {
-    struct record_entry entry = {.kind = RECORD_SECTORS, .count = count, .lba = lba, .time = now()};
+    struct record_entry entry = {.kind = RECORD_SECTORS, .count = count, .lba = lba, .time = record_now()};
     struct iovec pieces[] = {{.iov_base = &entry, .iov_len = sizeof entry}, {.iov_base = (void *)(uintptr_t)bytes, .iov_len = (size_t)count * SECTOR_BYTES}};
     if (!count)
         return 0;
@@ -204,7 +214,7 @@ static int put_snapshot(struct record *record) {
 /* Begins a part with its header and its snapshot. */
 static int begin_part(struct record *record) {
     char path[PATH_MAX];
-    struct part_header header = {.sectors = record->disk.sectors, .depth = record->depth, .first = record->entries, .time = now()};
+    struct part_header header = {.sectors = record->disk.sectors, .depth = record->depth, .first = record->entries, .time = record_now()};
     struct iovec piece = {.iov_base = &header, .iov_len = sizeof header};
     memcpy(header.magic, magic, sizeof magic);
     errno = ENAMETOOLONG;

@@ -41,6 +41,7 @@ struct record_entry {
     uint64_t time; /* microseconds since 1970 */
 };
 
+#define RECORD_TAGS 8    /* the tags behind an entry fill up as many bytes */
 #define RECORD_GROUP 512 /* entries that are written at once, at most */
 
 struct record {
@@ -62,6 +63,9 @@ struct record {
     uint8_t tags[RECORD_GROUP][MOST_SLOTS];
 };
 
+/* The time of an entry that happens now. */
+uint64_t record_now(void);
+
 /* The smallest limit for a disk of so many sectors whose commands have at most so many. */
 uint64_t record_least_limit(uint32_t sectors, uint32_t most_count);
 
@@ -70,6 +74,9 @@ int record_begin(struct record *record, const char *folder, uint64_t limit, cons
 
 /* Whether a command of so many bytes has room in the part. If not, the caller waits until every slot is free, and begins the next part. */
 bool record_has_room(const struct record *record, uint64_t bytes);
+
+/* The most bytes of a part with which no command is refused room. */
+uint64_t record_room(const struct record *record);
 void record_next_part(struct record *record);
 
 /* Append an entry to the group. A write's bytes stay the caller's, and stay as they are until record_sync. */
@@ -77,6 +84,9 @@ void record_command(struct record *record, bool writes, uint32_t tag, uint64_t l
 void record_tag(struct record *record, enum record_kind kind, uint32_t tag);
 void record_served(struct record *record, const uint8_t *tags, uint32_t count);
 void record_failed(struct record *record, uint32_t tag, uint8_t error, uint64_t lba);
+
+/* Writes entries that were put together elsewhere, with the bytes behind them, as the record has them: all of them, or none. */
+void record_put(struct record *record, const uint8_t *bytes, size_t count, uint64_t entries);
 
 /* Writes the group. If it can't be written, the record ends with the entry before the group, and the reason is printed once. */
 void record_sync(struct record *record);

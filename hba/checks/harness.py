@@ -11,7 +11,7 @@ import shutil
 import signal
 import subprocess
 import time
-from typing import Dict, List, Optional, Sequence
+from typing import Any, Dict, List, Optional, Sequence
 
 import images
 from images import program  # it knows where the shared checks are
@@ -24,6 +24,8 @@ HERE = os.path.dirname(os.path.dirname(os.path.realpath(__file__)))
 PROGRAM = os.path.join(HERE, "out", "ahci-hba")
 SANITIZED = PROGRAM + ".sanitized"
 STARVED = PROGRAM + ".starved"
+STALLED = PROGRAM + ".stalled"
+LATENCY = os.path.join(HERE, "checks", "latency")
 PLAYER = os.path.join(HERE, "out", "play")
 SECTOR = 512
 
@@ -211,6 +213,17 @@ class Guest:
                 code = int(line.split()[2][4:6], 16)
                 codes[code] = codes.get(code, 0) + 1
         return codes
+
+
+def answered(words: Sequence[str], flushes: int, **more: Any) -> str:
+    """Registers are read while the flushes of checks/latency are outstanding, and are answered meanwhile. What it has printed."""
+    done = pace.ran([*words, "--", LATENCY, str(flushes)], 120, stdout=subprocess.PIPE, stderr=subprocess.PIPE, text=True, **more)
+    expect(done.returncode == 0 and not done.stderr, f"status {done.returncode}: {done.stderr}{done.stdout}")
+    found = re.fullmatch(r"\d+ flushes, (\d+) reads while they were outstanding; .*\n", done.stdout)
+    if not found:
+        raise Failed(f"it printed {done.stdout}")
+    expect(int(found[1]) >= 20 * flushes, f"only {found[1]} reads were answered while flushes were outstanding")
+    return str(done.stdout).strip()
 
 
 def qemu(room: str, *more: str, memory: str = "512M") -> List[str]:

@@ -1,20 +1,18 @@
 """Checks that treat the program badly: wrong command lines, garbage from the guest, ends in the middle, and files that can't be written."""
 from __future__ import annotations
 
-import contextlib
 import os
 import re
 import signal
 import struct
 import subprocess
-from typing import List, Tuple
+from typing import Any, List, Tuple
 
 import images
 from harness import BROKE_A_RULE, HERE, PROGRAM, SANITIZED, SECTOR, STARVED, Guest, blank, contents, digest, environment, linux, makes, qemu, way_of
 from images import pattern
 import pace
-import playing
-from records import ACCEPT, FAIL, RESET, SERVE, WRITE, Record, bounds
+from records import ACCEPT, FAIL, RESET, SERVE, WRITE, Record
 from suite import Check, expect
 
 GARBAGE = os.path.join(HERE, "checks", "garbage")
@@ -254,9 +252,10 @@ def full(room: str) -> str:
     return "record and log"
 
 
-def written(room: str, options: List[str], words: List[str], status: int = 0, said: str = "") -> str:
+def written(room: str, options: List[str], words: List[str], status: int = 0, said: str = "", binary: str = PROGRAM, **more: Any) -> str:
     """Runs checks/writer, and returns what it printed."""
-    done = pace.ran([PROGRAM, "run", "--transport", way_of(room), *options, "--", WRITER, *words], 240, stdout=subprocess.PIPE, stderr=subprocess.PIPE, text=True, env=environment(room))
+    more = {"env": environment(room), **more}
+    done = pace.ran([binary, "run", "--transport", way_of(room), *options, "--", WRITER, *words], 240, stdout=subprocess.PIPE, stderr=subprocess.PIPE, text=True, **more)
     expect(done.returncode == status and done.stderr == said, f"{options} {words}: status {done.returncode}: {done.stderr}")
     return str(done.stdout)
 
@@ -303,43 +302,7 @@ def very_much_written(room: str) -> str:
     return much_written(room, 10240)
 
 
-def a_limit(room: str) -> str:
-    """--record-limit: the record never has more bytes, while the queue is full all the time, and what is left plays."""
-    folder, limit = os.path.join(room, "record"), 80 << 20
-    words = [PROGRAM, "run", "--transport", way_of(room), "--sectors", "8192", "--image", blank(room, 8192), "--record", folder, "--record-limit", "80M", "--pick", "random", "--", WRITER, "256", "64", "8192", "32", "-"]
-    largest, process = 0, subprocess.Popen(words, stdin=subprocess.DEVNULL, stdout=subprocess.DEVNULL, stderr=subprocess.PIPE, text=True)
-    while process.poll() is None:
-        largest = max(largest, size_of(folder))
-    _, said = process.communicate()
-    expect(process.returncode == 0 and not said, f"status {process.returncode}: {said}")
-    first, last, cut = bounds(Record(folder))
-    expect(limit // 2 < largest <= limit and 0 < first and not cut, f"{largest} bytes at most, entries {first} to {last}")
-    makes(folder, os.path.join(room, "disk.img"), room)
-    return f"{largest} bytes at most, entries {first} to {last} are left"
-
-
-def size_of(folder: str) -> int:
-    total = 0
-    with contextlib.suppress(FileNotFoundError):  # the folder, or a part, is not there yet or not any more
-        for name in os.listdir(folder):
-            total += os.stat(os.path.join(folder, name)).st_size
-    return total
-
-
-def answered_and_killed(room: str) -> str:
-    """kill -9: what the driver has its answer for is in the record."""
-    for at in range(1, 4):
-        folder = os.path.join(room, f"record{at}")
-        written(room, ["--sectors", "1024", "--record", folder], [str(at), "16", "1024", "8", "kill"], status=-9)
-        disk = playing.sectors_of(folder)
-        rounds = [struct.unpack_from("<I", disk, SECTOR * lba)[0] for lba in range(1024)]
-        last = (at << 20) // (16 * SECTOR * 8) - 1
-        expect(rounds.count(last) == 16 * 8, f"{rounds.count(last)} of 128 sectors of the last round are in the record")
-    return "three records have all that was answered"
-
-
 CHECKS = [Check(command_lines, title="Command lines"), Check(arguments, title="Arguments of QEMU"), Check(record, title="Record of Linux"), Check(garbage, title="Garbage"), Check(wrong_peer, title="A peer of the proxy that is wrong"),
           Check(refused_memory, title="Refused memory"), Check(failed_reads, title="Reads that fail"), Check(killed_guest, title="A killed guest"), Check(unkept, title="A flush that can't be kept"),
           Check(written_at_the_end, title="An image that is written at the end"), Check(full, title="Files that can't be written"), Check(rules, title="Rules"), Check(much_written, title="Much that is written"),
-          Check(very_much_written, title="10 GiB that are written", is_long=True), Check(a_limit, title="A limit of the record"),
-          Check(answered_and_killed, title="A kill after an answer")]
+          Check(very_much_written, title="10 GiB that are written", is_long=True)]

@@ -6,6 +6,7 @@ from typing import List
 import booting
 import images
 import judging
+import recording
 import rough
 import served
 from harness import by
@@ -15,7 +16,8 @@ from suite import Check, Skipped
 # these have no guest of QEMU, or a way of their own
 WITHOUT = ["Command lines", "Arguments of QEMU", "Files that can't be written", "User Mode Linux", "A peer of the proxy that is wrong"]
 # these have a driver of our own instead of a QEMU
-BARE = ["Garbage", "Reads that fail", "Rules", "Much that is written", "10 GiB that are written", "A limit of the record", "A kill after an answer", "The judge, faults of a driver",
+BARE = ["Garbage", "Reads that fail", "Rules", "Much that is written", "10 GiB that are written", "A limit of the record", "A limit of a slow record",
+        "A kill after an answer", "A kill after an answer, with a slow record", "A slow record", "A record without room", "The judge, faults of a driver",
         "The judge, drivers without a fault", "The judge, from a stretch on"]
 # these run by the proxy, too
 ALSO = ["SeaBIOS and a boot sector", "SeaBIOS and an error", "GRUB on BIOS", "U-Boot", "Linux, flushes and a kill", "Garbage", "A killed guest", "Rules", "Reads that fail", "A kill after an answer",
@@ -45,6 +47,6 @@ def ways_of(check: Check, has_new: bool) -> List[Check]:
 
 def checks() -> List[Check]:
     has_new = has_qemu(VFIO_USER)
-    both = [*rough.CHECKS, *booting.CHECKS, *judging.CHECKS]
+    both = [*rough.CHECKS, *recording.CHECKS, *booting.CHECKS, *judging.CHECKS]
     found = [it for check in both for it in ways_of(check, has_new)] + served.CHECKS
     return found if has_new else [Check(missing_qemu, title="A QEMU with vfio-user"), *found]
