@@ -47,6 +47,7 @@ class Library(Controller):
     def start(self) -> None:
         needed()
         self.ram = bytearray(2 * layout.MEMORY)
+        self.copies: Dict[layout.Part, bytes] = {}  # of the parts that are looked at, as long as nothing in them changes
 
     def stop(self) -> None:
         if self.hba:
@@ -81,14 +82,24 @@ class Library(Controller):
         return self.it.look().interrupt
 
     def get(self, address: int, length: int) -> bytes:
+        """A part that is looked at is copied again only if something in it was written."""
+        part = layout.Part(address, length)
+        if part in self.copies:
+            return self.copies[part]
         at = layout.place(address, length)
         assert at is not None
-        return bytes(self.ram[at : at + length])
+        found = bytes(memoryview(self.ram)[at : at + length])
+        if part in layout.PARTS:
+            self.copies[part] = found
+        return found
 
     def put(self, address: int, data: bytes) -> None:
         at = layout.place(address, len(data))
         assert at is not None
         self.ram[at : at + len(data)] = data
+        for part in layout.PARTS:
+            if part.base < address + len(data) and address < part.base + part.bytes:
+                self.copies.pop(part, None)
 
     def disk(self) -> bytes:
         """Only sectors of commands that may have written since are copied."""
@@ -141,7 +152,7 @@ class Library(Controller):
                     self.fises[self.fetching], self.fetching = data, -1
             self.it.supply(data)
         else:
-            self.ram[at : at + length] = self.it.bytes()
+            self.put(address, self.it.bytes())
             self.it.written()
 
     def sign(self) -> bool:
