@@ -1,6 +1,7 @@
 """`--alone`: programs on the model alone, without an emulator. What may not come is a crash, or a rule of alone.py that the model breaks."""
 import concurrent.futures
 import concurrent.futures.process
+import ctypes
 import itertools
 import multiprocessing
 import random
@@ -99,6 +100,11 @@ def all_played(programs: Iterable[Given], jobs: int) -> Iterator[Played]:
             raise EmulatorFault(f"the library has ended a process, at one of these programs: {there}") from why
 
 
+def sanitized() -> bool:
+    """Whether malloc and free are AddressSanitizer's."""
+    return hasattr(ctypes.CDLL(None), "__asan_report_error")
+
+
 def table(all_of: Iterable[Played]) -> Iterator[str]:
     """What is told: each rule that is broken, at once, and figures at the end."""
     begun, programs, operations, broken = time.monotonic(), 0, 0, 0
@@ -107,6 +113,6 @@ def table(all_of: Iterable[Played]) -> Iterator[str]:
         for one in it.broken:
             yield f"{one.program}, {one.operation}: the model breaks the rule: {one.rule} (AHCI 1.3.1, section {section_of(f'model: {one.rule}')})"
     seconds = time.monotonic() - begun
-    rows = (("programs on the model alone", f"{programs:,}"), ("operations", f"{operations:,}"), ("rules that the model breaks", f"{broken:,}"),
+    rows = (("programs on the model alone", f"{programs:,}"), ("operations", f"{operations:,}"), ("under AddressSanitizer", "yes" if sanitized() else "no"), ("rules that the model breaks", f"{broken:,}"),
             ("seconds", f"{seconds:.1f}"), ("operations a second", f"{operations / max(seconds, 0.001):,.0f}"))
     yield from ("| Alone | |", "|---|---|", *(f"| {name} | {value} |" for name, value in rows))

@@ -1,16 +1,19 @@
 """Recordings in a file: what is read is what was recorded, and a line that is none is named."""
+import contextlib
 import io
+import os
+import tempfile
 import unittest
 from typing import List, Tuple
 
-from controller import kept, layout
+from controller import cli, kept, layout
 from controller.generate import program
 from controller.look import UNSEEN
 from controller.program import Program
 from controller.recorder import Recording, record
 from controller.stand_in.hba import Hba
 from controller.text import TextFault
-from controller.vfio import spans
+from tests.common import needs_library
 
 
 def recorded(level: str, seeds: range, sees_disk: bool = True) -> List[Tuple[str, Program, Recording]]:
@@ -52,10 +55,25 @@ class Kept(unittest.TestCase):
                 list(kept.kept_in(io.StringIO(text + broken), "here"))
 
 
-class Spans(unittest.TestCase):
-    def test_all_sectors_are_written_but_those_that_fail(self) -> None:
-        sectors = [lba for first, count in spans() for lba in range(first, first + count)]
-        self.assertEqual([lba for lba in range(layout.SECTORS) if lba not in layout.BAD], sectors)
+@needs_library
+class Judged(unittest.TestCase):
+    def test_recordings_are_judged_as_their_emulator_is(self) -> None:
+        with tempfile.TemporaryDirectory() as room, contextlib.redirect_stdout(io.StringIO()) as said:
+            path = os.path.join(room, "kept")
+            fault = ["--controller", "--emulator", "stand-in", "--fault", "no_sdbs", "--seed", "1-20", "--quiet"]
+            self.assertEqual(0, cli.main([*fault, "--record", path]))
+            self.assertEqual(f"{path}: 20 programs\n", said.getvalue())
+            told = []
+            for words in ([*fault, "--go-on", "--json"], ["--controller", "--recorded", path, "--go-on", "--json"]):
+                said.truncate(said.seek(0))
+                self.assertEqual(1, cli.main(words))
+                told.append(said.getvalue())
+        self.assertEqual(told[0], told[1])
+
+    def test_what_cannot_be_with_recordings_is_refused(self) -> None:
+        for words in (["--recorded", "here", "--seed", "1"], ["--emulator", "vfio"], ["--function", "0000:00:1f.2", "--seed", "1"], ["--recorded", "/nowhere/here"]):
+            with contextlib.redirect_stderr(io.StringIO()) as said:
+                self.assertEqual(2, cli.main(["--controller", *words]), said.getvalue())
 
 
 if __name__ == "__main__":
