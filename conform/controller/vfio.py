@@ -18,10 +18,10 @@ OWN_AREA, OWN_TABLE, OWN_DATA = OWN + 0x400, OWN + 0x1000, OWN + 0x2000
 OWN_BYTES = 0x10000
 MOST = 64  # sectors of a command
 READ, WRITE = 0x25, 0x35  # READ DMA EXT, WRITE DMA EXT
-SECONDS = 10.0  # for a link, a command, a stop
+SECONDS = 60.0  # for a link, a command, a stop
 QUIET = 0.02  # with nothing changed, no command outstanding
 PATIENCE = 1.0  # the same while one is
-INTERRUPT = 2.0
+INTERRUPT = 10.0
 AE, HR, CAN_START, STARTED_BITS = 1 << 31, 1, 0x16, 0x17  # GHC; PxCMD: SUD, POD and FRE, and ST with them
 
 

@@ -4,9 +4,10 @@ import unittest
 
 from controller import cli
 from controller.campaign import Worker
+from controller.compare import word
 from controller.generate import program
 from controller.known import read_known
-from controller.rules import RULES, SECTIONS
+from controller.rules import RULES, SECTIONS, rules_of
 from controller.stand_in.faults import FAULTS
 from controller.stand_in.hba import Hba
 from tests.common import needs_library
@@ -24,6 +25,16 @@ class Rules(unittest.TestCase):
         from controller.server_faults import FAULTS as of_a_server
 
         self.assertEqual([], [it.name for it in [*FAULTS, *of_a_server] if it.rule not in SECTIONS])
+
+    def test_each_bit_has_the_first_rule_that_fits(self) -> None:
+        stop, ccs = "ST is cleared and PxCI, PxSACT and CCS are 0", "CCS is the slot of the command that was issued last"
+        sizes, enable = "an access writes the bytes that it has, and no others", "PxIE is what software writes"
+        for place, bits, facts, names in (
+            ("PxIS", 0x40000001, "", ["DHRS is set by a D2H Register FIS with I", "TFES is set by ERR in a status"]), ("PxCMD", 0x200, "stops", [stop]), ("PxCMD", 0x200, "starts", [ccs]),
+            ("PxIE", 0x100, "write PxIE, access of 1", [sizes]), ("PxIE", 0x100, "write PxIE", [enable]), ("PxTFD", 0x80, "model waits", ["BSY is 1 while a command is under way"]),
+            ("PxSACT", 2, "stops", [stop]), ("emulator: C is set and BSY is cleared", 1, "", ["C is set and BSY is cleared"]), ("CAP", 1, "", []),
+        ):
+            self.assertEqual(names, rules_of(word(place, 0, bits, bits), frozenset(facts.split(", "))), place)
 
     def test_a_rule_has_a_section(self) -> None:
         self.assertEqual([], [it.name for it in RULES if not it.section])
