@@ -73,7 +73,7 @@ def words() -> Words:
     made.add_argument("--without", metavar="NAME", help="leave this entry out of the list, so that it is told as a new difference")
     made.add_argument("--draft-list", metavar="FILE", help="go on past every difference, and write a first list of them to this file")
     made.add_argument("--shrink", action="store_true", help="print the smallest program that shows each new difference")
-    made.add_argument("--fault", metavar="NAME", help="plant this fault in the stand-in; `list` names them")
+    made.add_argument("--fault", metavar="NAME", help="plant this fault in the stand-in; `list` names them, and the rule that each breaks")
     made.add_argument("--jobs", metavar="N", type=int, default=1, help="processes (default: 1)")
     made.add_argument("--go-on", action="store_true", help="judge the programs after one with a new difference too")
     made.add_argument("--json", action="store_true", help="an object a program, a line each, in the place of text and table")
@@ -259,7 +259,7 @@ def chosen(asked: argparse.Namespace) -> int:
     check(asked)
     if asked.fault == "list":
         from .stand_in.faults import FAULTS
-        print("\n".join(f"{it.name:<36}{it.about}" for it in FAULTS))
+        print("\n".join(f"{it.name:<28}{it.about} Against: {report.cited(it.rule)}" for it in FAULTS))
         return 0
     if asked.print:
         from .text import text_of
