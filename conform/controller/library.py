@@ -96,7 +96,7 @@ class Library(Controller):
     def put(self, address: int, data: bytes) -> None:
         at = layout.place(address, len(data))
         assert at is not None
-        self.ram[at : at + len(data)] = data
+        memoryview(self.ram)[at : at + len(data)] = data
         for part in layout.PARTS:
             if part.base < address + len(data) and address < part.base + part.bytes:
                 self.copies.pop(part, None)

@@ -36,8 +36,8 @@ class Played(NamedTuple):
 
 
 def played(model: Library, given: Given) -> List[Broken]:
-    """One program. Both sides of each moment are the model, which serves queued commands in an order of its own each time."""
-    dice = random.Random(given.name)
+    """One program. Both sides of each moment are the model, which serves queued commands in an order of the program's own."""
+    order = random.Random(given.name).sample(range(32), 32)
     model.reset(layout.IMAGE)
     for part, data in zip(layout.PARTS, layout.FILLING):
         model.put(part.base, data)
@@ -45,7 +45,7 @@ def played(model: Library, given: Given) -> List[Broken]:
     it, found, before = Moment(look, look), [], set()  # type: Moment, List[Broken], Set[str]
     for index, op in enumerate(given.ops):
         it.take(op)
-        model.log, model.order = [], dice.sample(range(32), 32)
+        model.log, model.order = [], order
         answer = do(model, op)
         look = look_at(model, look, op, answer)
         it.see(look, look, model.log)

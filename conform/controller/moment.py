@@ -134,11 +134,18 @@ def state_facts(it: Moment) -> Set[str]:
         ("starts", after > before), ("stops", after < before), ("link down", it.model.reg(layout.PX_SSTS) & 15 != 3), ("signature", "sign" in it.log or signs(it.was, it.emulator) or signs(it.was_model, it.model)),
         ("unsigned", it.model.reg(layout.PX_SIG) == layout.ONES), ("old error", it.was.reg(layout.PX_TFD) & layout.ERR), ("resets", isinstance(it.op, Write) and written_to(it.op, layout.GHC) & 1),
         ("model fails", fails(it.was_model, it.model)), ("emulator fails", fails(it.was, it.emulator)),
-        ("model waits", it.model.reg(layout.PX_TFD) & (layout.BSY | layout.DRQ)),
+        ("model waits", it.model.reg(layout.PX_TFD) & (layout.BSY | layout.DRQ)), ("busy", is_busy(it)),
     ):
         if holds:
             found.add(name)
     return found
+
+
+def is_busy(it: Moment) -> bool:
+    """Whether BSY or DRQ was 1 on both sides before a command was issued, and the model takes none."""
+    assert it.was and it.was_model
+    before = it.was.reg(layout.PX_TFD) & it.was_model.reg(layout.PX_TFD) & (layout.BSY | layout.DRQ)
+    return bool(before and written_to(it.op, layout.PX_CI) and not any(step.startswith("fetch") for step in it.log))
 
 
 def fails(was: Look, now: Look) -> bool:

@@ -5,6 +5,7 @@ from . import alone, layout
 from .compare import Difference
 
 STOP = "ST is cleared and PxCI, PxSACT and CCS are 0"
+BUSY = "no command is taken while BSY or DRQ"
 FIS_PLACE = "a received FIS has its own place in the area"
 DATA = "data go where the PRDT says, and nowhere else"
 
@@ -32,6 +33,7 @@ SIZES = tuple(
 # The first rule that fits is the one that is named.
 RULES: Tuple[Rule, ...] = (
     *SIZES,
+    rule(BUSY, alone.RULES[BUSY].section, "PxCI, PxSACT, PxCMD, PxTFD, PxIS, PRDBC, data, disk, D2H Register FIS, PIO Setup FIS, DMA Setup FIS, Set Device Bits FIS", when="busy"),
     # resets
     rule("GHC.HR leaves PxCLB and PxFB", "10.4.3", "PxCLB, PxCLBU, PxFB, PxFBU", when="resets"),
     rule("GHC.HR resets all other registers", "10.4.3", "GHC, IS, PxIE, PxCMD, PxSCTL, PxSACT, PxCI", when="resets"),
