@@ -40,6 +40,7 @@ class Moment:
         self.held: Set[int] = set()  # slots whose requests stop in the disk
         self.left: Set[int] = set()  # those of them whose commands were dropped since
         self.queue_failed = False  # a queued command has failed, and log 10h was not read since
+        self.halted = self.halts = (False, False)  # the model, the emulator: a fatal error has come since ST was set; before this operation, and after it
         self.facts: FrozenSet[str] = frozenset(("power-on",))
         self.note_bases()
 
@@ -47,6 +48,7 @@ class Moment:
         """An operation that is about to be done."""
         self.index += 1
         self.op, self.was_model, self.was, self.log = op, self.model, self.emulator, []
+        self.halted = self.halts
         if isinstance(op, Command):
             self.commands.append(op)
             self.at[op.at] = op
@@ -59,6 +61,7 @@ class Moment:
     def see(self, model: Look, emulator: Look, log: List[str]) -> None:
         """What came of it."""
         self.model, self.emulator, self.log = model, emulator, log
+        self.halts = (halts(self.halted[0], model), halts(self.halted[1], emulator))
         self.note_bases()
         self.issued = [] if isinstance(self.op, Read) else self.find_issued()
         for it in self.issued:
@@ -139,6 +142,11 @@ def state_facts(it: Moment) -> Set[str]:
         if holds:
             found.add(name)
     return found
+
+
+def halts(before: bool, now: Look) -> bool:
+    """A fatal error stops a port until ST is cleared, also if its bit of PxIS is cleared before (section 6.2.2)."""
+    return bool(now.reg(layout.PX_CMD) & layout.ST) and (before or bool(now.reg(layout.PX_IS) & FATAL))
 
 
 def is_busy(it: Moment) -> bool:

@@ -261,6 +261,7 @@ class Qemu(Controller):
         self.held.add(slot)
 
     def go(self, slot: int) -> None:
+        self.written = layout.PX_CI  # what goes on may let another command begin
         if slot in self.held and self.slow:
             self.on_disk("aio_flush")
         elif slot in self.held:

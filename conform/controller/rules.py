@@ -4,6 +4,7 @@ from typing import FrozenSet, Iterator, List, NamedTuple, Tuple
 from . import alone, layout
 from .compare import Difference
 
+IS, LINE = "IS has the port while an enabled bit of PxIS is 1, and keeps it until it is cleared", "the interrupt line is IS and GHC.IE"
 STOP = "ST is cleared and PxCI, PxSACT and CCS are 0"
 BUSY = "no command is taken while BSY or DRQ"
 FIS_PLACE = "a received FIS has its own place in the area"
@@ -55,6 +56,8 @@ RULES: Tuple[Rule, ...] = (
     rule("a command that fails moves no sector from the failing one on", "ACS-3, LBA of first unrecoverable error", "data, disk", when="model fails"),
     rule("a command that fails moves no sector from the failing one on", "ACS-3, LBA of first unrecoverable error", "data, disk", when="bad sector"),
     # interrupts
+    rule(LINE, alone.RULES[LINE].section, "interrupt line"),
+    rule(IS, alone.RULES[IS].section, "IS"),
     rule("bits of PxIS are cleared by a 1 that is written, and set by events alone", "3.3.5", "PxIS", 0x7900000F | 0x30, "write PxIS"),
     rule("DHRS is set by a D2H Register FIS with I", "3.3.5", "PxIS", 0x1),
     rule("PSS is set after the data of a PIO Setup FIS with I", "3.3.5", "PxIS", 0x2),
