@@ -140,8 +140,18 @@ class NoTfes(Hba):
 class GoesOnAfterAnError(Hba):
     """An error stops nothing."""
 
+    tried = 0  # slots that are not taken again
+
     def fail_task(self) -> None:
         self.words[PX_IS] |= TFES
+
+    def take(self) -> bool:
+        kept = self.tried & self.words[PX_CI] if self.words[PX_CMD] & ST else 0
+        self.words[PX_CI] &= ~kept
+        took = super().take()
+        self.tried = kept | took << (self.words[PX_CMD] >> 8 & 31)
+        self.words[PX_CI] |= kept
+        return took
 
 
 class ErrorClearsIssued(Hba):

@@ -30,9 +30,9 @@ def _snake(name: str) -> str:
 
 _PLACES: Dict[Type[Hba], Tuple[str, ...]] = {
     StopKeepsActive: ("PxSACT",), StopKeepsIssued: ("PxCI",), StopKeepsSlot: ("PxCMD",), NoCurrentSlot: ("PxCMD",), LowestSlotFirst: ("PxCMD", "PxCI"),
-    TakenWhileBusy: ("emulator: no command is taken while BSY or DRQ", "the emulator dies", "PxCI", "PxTFD"), NoBusy: ("PxTFD", "the emulator dies"), CKeepsIssued: ("PxCI", "the emulator dies", "emulator: C is set and PxCI loses the slot"),
+    TakenWhileBusy: ("emulator: no command is taken while BSY or DRQ", "the emulator dies", "PxCI", "PxTFD"), NoBusy: ("PxTFD", "the emulator dies"), CKeepsIssued: ("PxCI", "emulator: C is set and PxCI loses the slot"),
     CKeepsBusy: ("PxTFD", "emulator: C is set and BSY is cleared"), LoneControlSigns: ("PxTFD", "PxSIG", "PxCI"), ErrorByteLost: ("PxTFD",), BitsFisTakesAll: ("PxSACT",),
-    ErrorClearsActive: ("PxSACT",), NoTfes: ("PxIS",), GoesOnAfterAnError: ("PxCI", "the emulator dies", "PxTFD", "PxSACT"), ErrorClearsIssued: ("PxCI",), NoSdbs: ("PxIS",), DhrsWithoutI: ("PxIS",),
+    ErrorClearsActive: ("PxSACT",), NoTfes: ("PxIS",), GoesOnAfterAnError: ("PxCMD", "PxCI", "PxTFD", "PxSACT"), ErrorClearsIssued: ("PxCI",), NoSdbs: ("PxIS",), DhrsWithoutI: ("PxIS",),
     NoPssOfWrites: ("PxIS",), PssAtOnce: ("PxIS",), StatusWrittenWhole: ("PxIS",), ErrorsStayWithStatus: ("PxSERR", "PxIS"), StatusFalls: ("IS",), StatusIgnoresEnable: ("IS",),
     LineIgnoresEnable: ("interrupt line",), LineFollowsPort: ("interrupt line",), ResetKeepsEnable: ("GHC",), ResetClearsBases: ("PxCLB", "PxFB"), ResetKeepsPortEnable: ("PxIE",),
     LinkSetsNoX: ("PxSERR", "PxIS"), LinkKeepsSignature: ("PxSIG",), OfflineIsPresent: ("PxSSTS",), SignatureWithoutStatus: ("PxTFD",), CountOfTheList: ("PRDBC",), NoCount: ("PRDBC",),
@@ -50,7 +50,7 @@ _RULES: Dict[Type[Hba], str] = {
     LowestSlotFirst: "commands are issued from the slot behind CCS on", TakenWhileBusy: "no command is taken while BSY or DRQ", NoBusy: "BSY is 1 while a command is under way",
     CKeepsIssued: "C is set and PxCI loses the slot", CKeepsBusy: "C is set and BSY is cleared", LoneControlSigns: "a software reset is SRST 1, then SRST 0", ErrorByteLost: _TASK,
     BitsFisTakesAll: "PxSACT keeps a tag until a Set Device Bits FIS names it", ErrorClearsActive: _SACT, NoTfes: "TFES is set by ERR in a status",
-    GoesOnAfterAnError: "after an error PxCI keeps its slots until ST is cleared", ErrorClearsIssued: "after an error PxCI keeps its slots until ST is cleared",
+    GoesOnAfterAnError: "after an error no command is issued until ST is cleared", ErrorClearsIssued: "after an error PxCI keeps its slots until ST is cleared",
     NoSdbs: "SDBS is set by a Set Device Bits FIS with I", DhrsWithoutI: "DHRS is set by a D2H Register FIS with I", NoPssOfWrites: _PSS, PssAtOnce: _PSS,
     StatusWrittenWhole: "bits of PxIS are cleared by a 1 that is written, and set by events alone", ErrorsStayWithStatus: "DIAG.X and DIAG.N are cleared by PxSERR alone",
     StatusFalls: _IS, StatusIgnoresEnable: _IS, LineIgnoresEnable: _LINE, LineFollowsPort: _LINE, ResetKeepsEnable: _RESET, ResetClearsBases: "GHC.HR leaves PxCLB and PxFB",
