@@ -1,5 +1,5 @@
 #!/usr/bin/env python3
-"""Sees what of bench/job_list.py, bench/replay.py and bench/gate_times can be seen with nothing run: lists, scripts and tables.
+"""Sees what of bench/campaign, bench/job_list.py, bench/replay.py and bench/gate_times can be seen with nothing run: lists, scripts and tables.
 
     bench/test_measures.py
 """
@@ -28,6 +28,36 @@ def loaded(name: str) -> types.ModuleType:
     found = importlib.util.module_from_spec(importlib.util.spec_from_loader(loader.name, loader))
     loader.exec_module(found)
     return found
+
+
+class Campaign(unittest.TestCase):
+    """A results folder of bench/campaign, of jobs of 20 seeds as --controller has them."""
+
+    def setUp(self) -> None:
+        self.room = tempfile.TemporaryDirectory()
+        self.addCleanup(self.room.cleanup)
+        self.made = loaded("campaign").Campaign(self.room.name, list(range(1, 46)), 20)
+        self.made.begin(False)
+
+    def write(self, name: str, lines: List[str]) -> None:
+        with open(os.path.join(self.room.name, name), "w", encoding="utf-8") as out:
+            out.writelines(lines)
+
+    def test_a_job_has_its_seeds(self) -> None:
+        self.assertEqual([list(range(1, 21)), list(range(21, 41)), list(range(41, 46))], [self.made.of_job(number) for number in (1, 2, 3)])
+
+    def test_a_job_is_done_with_all_its_seeds(self) -> None:
+        row = "{}\tok\t7\t" + "0" * 64 + "\n"
+        self.write("joblog", ["Seq\tHost\n", "2\t:\n", "1\t:\n", "3\t:"])
+        self.write("results", [row.format(seed) for seed in [*range(1, 21), *range(21, 40), *range(41, 46)]])
+        self.made.begin(True)
+        self.assertEqual(set(range(1, 21)), set(self.made.rows))
+        self.assertEqual(["Seq\tHost\n", "1\t:\n"], self.made.lines("joblog"))
+
+    def test_a_program_ends_by_its_places(self) -> None:
+        end_of = loaded("campaign").end_of
+        self.assertEqual("ok", end_of({"new": None}))
+        self.assertEqual("differs: PxCI, PxIS", end_of({"new": {"differences": [{"place": "PxIS"}, {"place": "PxCI"}, {"place": "PxIS"}]}}))
 
 
 class JobList(unittest.TestCase):

@@ -17,6 +17,7 @@ class Controller(ABC):
 
     title = "an emulator"  # how reports name it
     can_hold = False  # whether `hold` and `go` are there
+    sees_disk = True  # whether `disk` can be called at any moment; else it is called after the last look, and may change all that was seen
 
     @abstractmethod
     def start(self) -> None:

@@ -34,8 +34,9 @@ class Seen(NamedTuple):
 
     @property
     def free(self) -> bool:
-        """A command could be taken before the operation: neither BSY, DRQ nor an error."""
-        return not self.was.reg(layout.PX_TFD) & (layout.BSY | layout.DRQ | layout.ERR) and not self.was.reg(layout.PX_IS) & 0x79000000
+        """A command could be taken before the operation: neither BSY, DRQ nor an error, nor one that has halted the port."""
+        halted = self.it.halted[0 if self.now is self.it.model else 1]
+        return not halted and not self.was.reg(layout.PX_TFD) & (layout.BSY | layout.DRQ | layout.ERR) and not self.was.reg(layout.PX_IS) & 0x79000000
 
     def changed(self, low: int, high: int) -> bool:
         """Whether the memory between two addresses is another than before."""

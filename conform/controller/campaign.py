@@ -7,6 +7,7 @@ from typing import Any, Callable, Iterable, Iterator, NamedTuple, Optional, Tupl
 
 from judge.adapter import EmulatorFault
 
+from . import kept
 from .adapter import Controller
 from .compare import Difference
 from .judge import Found, Judged, judge
@@ -15,6 +16,7 @@ from .library import Library
 from .program import Hold, Program
 from .recorder import Recording, record
 from .shrink import shrunk
+from .text import TextFault
 
 MOST_SHRINKS = 300
 SURVIVES = "survives a reset"
@@ -142,3 +144,15 @@ def results(worker: Tuple[Callable[[], Controller], Known, bool], given: Iterabl
         pool.join()
 
 
+def recorded_results(path: str, known: Known) -> Iterator[Result]:
+    """The result of each program of a file of recordings. There is no emulator to try anything again on."""
+    model = Library()
+    model.start()
+    try:
+        with open(path, encoding="utf-8") as text:
+            for name, ops, recording in kept.kept_in(text, path):
+                yield Result(Given(name, ops), judge(model, known, ops, recording))
+    except OSError as why:
+        raise TextFault(f"{path} can't be read: {why.strerror}") from why
+    finally:
+        model.stop()

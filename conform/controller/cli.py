@@ -13,14 +13,16 @@ from judge.adapter import EmulatorFault
 from judge.cli import Stopped, Words, Wrong, seeds_in
 from judge.known import ListFault
 
-from . import play, report
+from . import kept, play, report
 from .adapter import Controller
-from .campaign import Given, Result, results
+from .campaign import Given, Result, recorded_results, results
 from .draft import Draft
 from .generate import LEVELS, program
 from .known import NOTHING, Known, read_known
+from .library import needed
 from .qemu import PROGRAM, Qemu, version_of
 from .text import TextFault, program_of
+from .vfio import Vfio
 
 FOLDER = os.path.dirname(os.path.abspath(__file__))
 BASE = os.path.join(FOLDER, "any_controller.json")
@@ -46,18 +48,24 @@ Examples:
   conform/ahci_conform --controller --play timeout.prog               on the emulator alone, without the model
   conform/ahci_conform --controller --seed 1-50 --known none --shrink the smallest program of each difference
   conform/ahci_conform --controller --emulator mine.py:Mine --seed 1-50 --draft-list mine.json
+  conform/ahci_conform --controller --emulator vfio --function 0000:03:00.0 --level clean --seed 1-50 --record here   needs no library
+  conform/ahci_conform --controller --recorded here                   the recordings of another machine
 """
 
 
 def words() -> Words:
     made = Words(prog="ahci_conform --controller", description=ABOUT, epilog=EXAMPLES, formatter_class=argparse.RawDescriptionHelpFormatter)
     made.add_argument("--controller", action="store_true", help=argparse.SUPPRESS)
-    made.add_argument("--emulator", metavar="NAME", default="qemu", help="qemu, stand-in, library, or FILE.py:CLASS (default: qemu)")
+    made.add_argument("--emulator", metavar="NAME", default="qemu", help="qemu, stand-in, library, vfio, or FILE.py:CLASS (default: qemu)")
+    made.add_argument("--function", metavar="NAME", help="with --emulator vfio: the PCI function, as 0000:03:00.0; what is on its disk is lost (conform/controller/HARDWARE.md)")
     made.add_argument("--qemu", metavar="PATH", help="QEMU's program (default: qemu-system-x86_64)")
     made.add_argument("--seed", metavar="A-B", help="judge the random programs of these seeds, as 7, 1-500 or 1-50,77")
     made.add_argument("--level", metavar="NAME", default="good", help="of the random programs: " + ", ".join(LEVELS) + " (default: good)")
     made.add_argument("--program", metavar="FILE", action="append", default=[], help="judge this program; - is standard input")
     made.add_argument("--play", metavar="FILE", help="play this program on the emulator alone, and tell what changes")
+    made.add_argument("--alone", action="store_true", help="play the programs on the model alone, without an emulator: no rule that is judged alone may be broken")
+    made.add_argument("--record", metavar="FILE", help="record the programs, and judge nothing: needs no library")
+    made.add_argument("--recorded", metavar="FILE", help="judge the recordings of this file")
     made.add_argument("--slow-disk", action="store_true", help="with --play on QEMU: what is held waits on a slow disk, not at a breakpoint")
     made.add_argument("--print", action="store_true", help="print the programs, and judge nothing")
     made.add_argument("--known", metavar="FILE", help="the list of known differences, or `none` (default: the emulator's own)")
@@ -65,7 +73,7 @@ def words() -> Words:
     made.add_argument("--without", metavar="NAME", help="leave this entry out of the list, so that it is told as a new difference")
     made.add_argument("--draft-list", metavar="FILE", help="go on past every difference, and write a first list of them to this file")
     made.add_argument("--shrink", action="store_true", help="print the smallest program that shows each new difference")
-    made.add_argument("--fault", metavar="NAME", help="plant this fault in the stand-in; `list` names them")
+    made.add_argument("--fault", metavar="NAME", help="plant this fault in the stand-in; `list` names them, and the rule that each breaks")
     made.add_argument("--jobs", metavar="N", type=int, default=1, help="processes (default: 1)")
     made.add_argument("--go-on", action="store_true", help="judge the programs after one with a new difference too")
     made.add_argument("--json", action="store_true", help="an object a program, a line each, in the place of text and table")
@@ -105,9 +113,11 @@ def emulator_of(asked: argparse.Namespace) -> Callable[[], Controller]:
         if found is None:
             raise Wrong(f"there is no fault '{asked.fault}': --fault list names them")
         return found
+    if asked.emulator == "vfio":
+        return functools.partial(Vfio, asked.function)
     path, colon, name = asked.emulator.rpartition(":")
     if not colon:
-        raise Wrong(f"there is no emulator '{asked.emulator}': qemu, stand-in, library, or FILE.py:CLASS")
+        raise Wrong(f"there is no emulator '{asked.emulator}': qemu, stand-in, library, vfio, or FILE.py:CLASS")
     return class_of(path, name)
 
 
@@ -134,7 +144,7 @@ def newest_list(qemu: str) -> str:
 
 
 def known_path(asked: argparse.Namespace) -> str:
-    return asked.known or (newest_list(asked.qemu or PROGRAM) if asked.emulator == "qemu" else "none")
+    return asked.known or (newest_list(asked.qemu or PROGRAM) if asked.emulator == "qemu" and not asked.recorded else "none")
 
 
 def known_for(asked: argparse.Namespace) -> Known:
@@ -174,14 +184,19 @@ def tell(asked: argparse.Namespace, result: Result) -> None:
         print("\n".join(report.new_text(result)), flush=True)
 
 
+def judged(asked: argparse.Namespace, known: Known) -> Iterator[Result]:
+    """What becomes of each program: of those of a file of recordings, or of those that an emulator plays."""
+    if asked.recorded:
+        return recorded_results(asked.recorded, known)
+    return results((emulator_of(asked), known, asked.shrink), programs_in(asked), 1 if asked.draft_list else asked.jobs)
+
+
 def run(asked: argparse.Namespace) -> int:
     """Judges all programs, and tells of each as it ends."""
-    if not asked.seed and not asked.program:
-        raise Wrong("--seed, --program or --play is missing (conform/ahci_conform --controller --help explains)")
     known, progress = known_for(asked), Progress(asked.quiet or asked.brief)
     draft = Draft(known) if asked.draft_list else None
     done: List[Result] = []
-    for result in results((emulator_of(asked), draft or known, asked.shrink), programs_in(asked), 1 if draft else asked.jobs):
+    for result in judged(asked, draft or known):
         done.append(result)
         tell(asked, result)
         progress.tell(done)
@@ -194,6 +209,26 @@ def run(asked: argparse.Namespace) -> int:
     elif not asked.json:
         print("\n".join(report.table(done, known, progress.seconds)))
     return 1 if any(it.judged.end == "new" for it in done) else 0
+
+
+def run_alone(asked: argparse.Namespace) -> int:
+    from . import lone
+    needed()
+    lines = []
+    for line in lone.table(lone.all_played(programs_in(asked), asked.jobs)):
+        print(line, flush=True)
+        lines.append(line)
+    return 0 if lines[0].startswith("|") else 1
+
+
+def write_recordings(asked: argparse.Namespace) -> int:
+    try:
+        with open(asked.record, "w", encoding="utf-8") as out:
+            count = kept.record_all(emulator_of(asked), programs_in(asked), out)
+    except OSError as why:
+        raise Wrong(f"{asked.record} can't be written: {why.strerror}") from why
+    print(f"{asked.record}: {count:,} programs")
+    return 0
 
 
 def write_draft(asked: argparse.Namespace, draft: Draft) -> int:
@@ -213,6 +248,10 @@ def check(asked: argparse.Namespace) -> None:
         raise Wrong("--jobs is a number from 1 on")
     if asked.fault and asked.emulator != "stand-in":
         raise Wrong("--fault is for --emulator stand-in alone")
+    if bool(asked.function) != (asked.emulator == "vfio"):
+        raise Wrong("--emulator vfio and --function need each other")
+    if asked.recorded and (asked.seed or asked.program or asked.shrink or asked.record):
+        raise Wrong("--recorded has its own programs, and no emulator: --seed, --program, --shrink and --record can't be with it")
 
 
 def chosen(asked: argparse.Namespace) -> int:
@@ -220,7 +259,7 @@ def chosen(asked: argparse.Namespace) -> int:
     check(asked)
     if asked.fault == "list":
         from .stand_in.faults import FAULTS
-        print("\n".join(f"{it.name:<36}{it.about}" for it in FAULTS))
+        print("\n".join(f"{it.name:<28}{it.about} Against: {report.cited(it.rule)}" for it in FAULTS))
         return 0
     if asked.print:
         from .text import text_of
@@ -237,6 +276,12 @@ def chosen(asked: argparse.Namespace) -> int:
     if asked.smallest:
         from .smallest import write_smallest
         return write_smallest(asked.smallest, known_for(asked), emulator_of(asked), programs_in(asked))
+    if not asked.seed and not asked.program and not asked.recorded:
+        raise Wrong("--seed, --program, --recorded or --play is missing (conform/ahci_conform --controller --help explains)")
+    if asked.record:
+        return write_recordings(asked)
+    if asked.alone:
+        return run_alone(asked)
     return run(asked)
 
 

@@ -7,6 +7,7 @@ from .breaks import Breaches
 from .compare import Difference, differences
 from .known import Known
 from .library import Library
+from .look import UNSEEN, Look
 from .moment import Moment, written_to
 from .partial import marked
 from .program import Go, Op, Program, Write
@@ -71,7 +72,8 @@ class Beside:
         if not self.recording.looks:
             self.die(None)
             return self.judged(None)
-        self.it = Moment(look_at(model, None, None, None), self.recording.looks[0])
+        first = look_at(model, None, None, None)
+        self.it = Moment(first, with_disk(self.recording.looks[0], first))
         self.compare()
         for index, op in enumerate(self.ops):
             if self.end:
@@ -97,7 +99,7 @@ class Beside:
             it.see(look, it.emulator, model.log)
             self.die(it)
             return
-        it.see(look, self.recording.looks[index + 1], model.log)
+        it.see(look, with_disk(self.recording.looks[index + 1], look), model.log)
         self.compare()
 
     def likely(self, index: int) -> Tuple[int, ...]:
@@ -138,6 +140,11 @@ class Beside:
             self.end = f"after {rule}" if rule and not is_of_the_model(left) else "new"
         elif ending:
             self.end = f"known {ending}"
+
+
+def with_disk(seen: Look, model: Look) -> Look:
+    """A disk that can't be seen is taken to be the model's, until it is seen."""
+    return seen if seen.disk != UNSEEN else seen._replace(disk=model.disk)
 
 
 def is_of_the_model(found: List[Found]) -> bool:

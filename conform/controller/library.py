@@ -1,4 +1,5 @@
 """The library's controller as one to be judged: its memory, and the order of its steps as the caller chooses it."""
+import ctypes
 import os
 import sys
 from typing import Dict, FrozenSet, List, Optional, Sequence, Set, Tuple
@@ -21,7 +22,8 @@ from ahci.library import loaded  # noqa: E402
 
 UNC = 0x40
 MOST_STEPS = 200_000
-DOUBLES = range(0, 0x28, 8)
+HOST_DOUBLES = -(-layout.HOST_BYTES // 8)
+DOUBLES = (*range(0, layout.HOST_BYTES, 8), *range(layout.PORT_BASE, layout.PORT_BASE + layout.PORT_BYTES, 8))
 REFUSABLE = ((Step.SEND, "dma"), (Step.SEND, "pio"), (Step.EXECUTE, "verify"))  # where a command that isn't queued meets a bad sector
 
 
@@ -47,6 +49,7 @@ class Library(Controller):
     def start(self) -> None:
         needed()
         self.ram = bytearray(2 * layout.MEMORY)
+        self.copies: Dict[layout.Part, bytes] = {}  # of the parts that are looked at, as long as nothing in them changes
 
     def stop(self) -> None:
         if self.hba:
@@ -81,14 +84,24 @@ class Library(Controller):
         return self.it.look().interrupt
 
     def get(self, address: int, length: int) -> bytes:
+        """A part that is looked at is copied again only if something in it was written."""
+        part = layout.Part(address, length)
+        if part in self.copies:
+            return self.copies[part]
         at = layout.place(address, length)
         assert at is not None
-        return bytes(self.ram[at : at + length])
+        found = bytes(memoryview(self.ram)[at : at + length])
+        if part in layout.PARTS:
+            self.copies[part] = found
+        return found
 
     def put(self, address: int, data: bytes) -> None:
         at = layout.place(address, len(data))
         assert at is not None
-        self.ram[at : at + len(data)] = data
+        memoryview(self.ram)[at : at + len(data)] = data
+        for part in layout.PARTS:
+            if part.base < address + len(data) and address < part.base + part.bytes:
+                self.copies.pop(part, None)
 
     def disk(self) -> bytes:
         """Only sectors of commands that may have written since are copied."""
@@ -109,9 +122,14 @@ class Library(Controller):
         self.held -= {slot}
 
     def registers(self) -> Tuple[bytes, bytes]:
-        read = self.it.read
-        host = b"".join(read(at, 8).to_bytes(8, "little") for at in DOUBLES) + read(0x28).to_bytes(4, "little")
-        return host, b"".join(read(layout.PORT_BASE + at, 8).to_bytes(8, "little") for at in range(0, layout.PORT_BYTES, 8))
+        """By the library's own call, without what the package does around each: a look is mostly this."""
+        read, place, word = loaded().ahci_hba_read, ctypes.byref(self.it._place), ctypes.c_uint64()
+        found = []
+        for at in DOUBLES:
+            if read(place, at, 8, ctypes.byref(word)):
+                raise EmulatorFault(f"the library refuses a read of 8 bytes at {at:03x}")
+            found.append(word.value.to_bytes(8, "little"))
+        return b"".join(found[:HOST_DOUBLES])[: layout.HOST_BYTES], b"".join(found[HOST_DOUBLES:])
 
     # ---- its steps ----
 
@@ -141,7 +159,7 @@ class Library(Controller):
                     self.fises[self.fetching], self.fetching = data, -1
             self.it.supply(data)
         else:
-            self.ram[at : at + length] = self.it.bytes()
+            self.put(address, self.it.bytes())
             self.it.written()
 
     def sign(self) -> bool:

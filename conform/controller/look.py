@@ -3,6 +3,8 @@ from typing import NamedTuple, Optional, Tuple
 
 from . import layout
 
+UNSEEN = b""  # a disk that can't be seen at this moment
+
 
 class Look(NamedTuple):
     """Registers, the interrupt line, the driver's memory, the disk; and what a read answered."""

@@ -40,6 +40,7 @@ class Moment:
         self.held: Set[int] = set()  # slots whose requests stop in the disk
         self.left: Set[int] = set()  # those of them whose commands were dropped since
         self.queue_failed = False  # a queued command has failed, and log 10h was not read since
+        self.halted = self.halts = (False, False)  # the model, the emulator: a fatal error has come since ST was set; before this operation, and after it
         self.facts: FrozenSet[str] = frozenset(("power-on",))
         self.note_bases()
 
@@ -47,6 +48,7 @@ class Moment:
         """An operation that is about to be done."""
         self.index += 1
         self.op, self.was_model, self.was, self.log = op, self.model, self.emulator, []
+        self.halted = self.halts
         if isinstance(op, Command):
             self.commands.append(op)
             self.at[op.at] = op
@@ -59,6 +61,7 @@ class Moment:
     def see(self, model: Look, emulator: Look, log: List[str]) -> None:
         """What came of it."""
         self.model, self.emulator, self.log = model, emulator, log
+        self.halts = (halts(self.halted[0], model), halts(self.halted[1], emulator))
         self.note_bases()
         self.issued = [] if isinstance(self.op, Read) else self.find_issued()
         for it in self.issued:
@@ -134,11 +137,23 @@ def state_facts(it: Moment) -> Set[str]:
         ("starts", after > before), ("stops", after < before), ("link down", it.model.reg(layout.PX_SSTS) & 15 != 3), ("signature", "sign" in it.log or signs(it.was, it.emulator) or signs(it.was_model, it.model)),
         ("unsigned", it.model.reg(layout.PX_SIG) == layout.ONES), ("old error", it.was.reg(layout.PX_TFD) & layout.ERR), ("resets", isinstance(it.op, Write) and written_to(it.op, layout.GHC) & 1),
         ("model fails", fails(it.was_model, it.model)), ("emulator fails", fails(it.was, it.emulator)),
-        ("model waits", it.model.reg(layout.PX_TFD) & (layout.BSY | layout.DRQ)),
+        ("model waits", it.model.reg(layout.PX_TFD) & (layout.BSY | layout.DRQ)), ("busy", is_busy(it)),
     ):
         if holds:
             found.add(name)
     return found
+
+
+def halts(before: bool, now: Look) -> bool:
+    """A fatal error stops a port until ST is cleared, also if its bit of PxIS is cleared before (section 6.2.2)."""
+    return bool(now.reg(layout.PX_CMD) & layout.ST) and (before or bool(now.reg(layout.PX_IS) & FATAL))
+
+
+def is_busy(it: Moment) -> bool:
+    """Whether BSY or DRQ was 1 on both sides before a command was issued, and the model takes none."""
+    assert it.was and it.was_model
+    before = it.was.reg(layout.PX_TFD) & it.was_model.reg(layout.PX_TFD) & (layout.BSY | layout.DRQ)
+    return bool(before and written_to(it.op, layout.PX_CI) and not any(step.startswith("fetch") for step in it.log))
 
 
 def fails(was: Look, now: Look) -> bool:

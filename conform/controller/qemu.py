@@ -37,6 +37,14 @@ def version_of(program: str) -> Tuple[int, ...]:
     return (int(found[1]), int(found[2])) if found else ()
 
 
+def blkdebug(path: str) -> str:
+    """A drive: the file below blkdebug, which fails the bad sectors and stops requests at breakpoints."""
+    words = [f"if=none,driver=raw,file.driver=blkdebug,file.image.driver=file,file.image.filename={path},werror=report,rerror=report"]
+    for at, (way, lba) in enumerate((way, lba) for way in ("read", "write") for lba in layout.BAD):
+        words.append("".join(f",file.inject-error.{at}.{name}={it}" for name, it in (("event", "none"), ("iotype", way), ("sector", lba), ("errno", 5))))
+    return "".join(words)
+
+
 class Socket:
     """A Unix socket to which QEMU connects, read line by line."""
 
@@ -121,18 +129,11 @@ class Qemu(Controller):
             file.truncate(size)
             return mmap.mmap(file.fileno(), size)
 
-    def drive(self) -> str:
-        """The file below blkdebug, which fails the bad sectors and stops requests at breakpoints."""
-        words = [f"id=d0,if=none,driver=raw,file.driver=blkdebug,file.image.driver=file,file.image.filename={self.path('disk')},werror=report,rerror=report{',throttling.iops-total=1' if self.slow else ''}"]
-        for at, (way, lba) in enumerate((way, lba) for way in ("read", "write") for lba in layout.BAD):
-            words.append("".join(f",file.inject-error.{at}.{name}={it}" for name, it in (("event", "none"), ("iotype", way), ("sector", lba), ("errno", 5))))
-        return "".join(words)
-
     def launch(self) -> None:
         command = [self.program, "-nodefaults", "-no-user-config", "-display", "none", "-accel", "tcg", "-S", "-qtest-log", os.devnull]
         command += ["-object", f"memory-backend-file,id=ram0,size={2 * layout.MEMORY},mem-path={self.path('ram')},share=on", "-m", "64M"]
         command += ["-machine", "q35,memory-backend=ram0,max-ram-below-4g=32M", "-qtest", f"unix:{self.path('qtest')}", "-qmp", f"unix:{self.path('qmp')}"]
-        command += ["-drive", self.drive(), "-device", "ide-hd,drive=d0,bus=ide.0"]
+        command += ["-drive", f"id=d0,{blkdebug(self.path('disk'))}{',throttling.iops-total=1' if self.slow else ''}", "-device", "ide-hd,drive=d0,bus=ide.0"]
         with open(self.path("err"), "wb") as err:
             try:
                 self.process = subprocess.Popen(command, stdin=subprocess.DEVNULL, stdout=err, stderr=err, preexec_fn=die_with_parent)
@@ -260,6 +261,7 @@ class Qemu(Controller):
         self.held.add(slot)
 
     def go(self, slot: int) -> None:
+        self.written = layout.PX_CI  # what goes on may let another command begin
         if slot in self.held and self.slow:
             self.on_disk("aio_flush")
         elif slot in self.held:

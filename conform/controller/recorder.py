@@ -3,7 +3,7 @@ from typing import List, NamedTuple, Optional
 
 from . import layout
 from .adapter import Controller, Died, part_of, put_in
-from .look import Look
+from .look import UNSEEN, Look
 from .program import Command, Go, Hold, Memory, Op, Program, Read, Write, put_command
 
 
@@ -38,7 +38,7 @@ def look_at(it: Controller, before: Optional[Look], op: Optional[Op], answer: Op
     else:
         host, port, line = before.host, before.port, before.line
     memory = tuple(part_of(it, part, before.memory[at] if before else None) for at, part in enumerate(layout.PARTS))
-    disk = it.disk()
+    disk = it.disk() if it.sees_disk else UNSEEN
     return Look(host, port, line, memory, before.disk if before and before.disk == disk else disk, answer)
 
 
@@ -52,6 +52,8 @@ def record(it: Controller, ops: Program) -> Recording:
         for op in ops:
             answer = do(it, op)
             looks.append(look_at(it, looks[-1], op, answer))
+        if not it.sees_disk:
+            looks[-1] = looks[-1]._replace(disk=it.disk())
     except Died as why:
         return Recording(looks, str(why))
     return Recording(looks)

@@ -1,14 +1,15 @@
 """What a person sees: a difference with the program around it, and the table at the end."""
-from typing import Any, Dict, Iterator, List, NamedTuple
+from typing import Any, Dict, FrozenSet, Iterator, List, NamedTuple
 
 from judge import layout as names
 
 from . import alone
 from .campaign import Result
 from .compare import Difference
-from .judge import Found
+from .judge import Found, Judged
 from .known import Known
 from .program import Program
+from .rules import SECTIONS as SECTIONS_OF_RULES, rules_of
 from .text import line_of, text_of
 
 AROUND = 8  # operations before a difference
@@ -43,13 +44,20 @@ def where(it: Difference) -> str:
     return f" at sector {it.at}" if it.place == "disk" else f" at {it.at:08x}h"
 
 
-def difference_lines(found: Found) -> List[str]:
+def cited(name: str) -> str:
+    """A rule with its section."""
+    section = SECTIONS_OF_RULES[name]
+    return f"{name} ({'section ' if section[0].isdigit() else ''}{section})"
+
+
+def difference_lines(found: Found, facts: FrozenSet[str]) -> List[str]:
     it = found.difference
     lines = [f"  {it.place}{where(it)}  (AHCI 1.3.1, section {section_of(it.place)})"]
     if it.place == "the emulator dies":
         return [*lines, *(f"    {fact}" for fact in it.facts)]
     if ": " in it.place:
         return [*lines, "    this side breaks the rule, whatever the other does"]
+    lines += [f"    rule      {cited(name)}" for name in rules_of(it, facts)]
     lines += [f"    expected  {value(it, it.expected)}", f"    got       {value(it, it.got)}"]
     bits = names.bits_of(it.place, int.from_bytes(it.mask, "big")) if it.place in names.REGISTERS else []
     lines += [f"    differs   {', '.join(bits)}"] if bits else [f"    differs   {it.mask[:32].hex(' ')}"]
@@ -73,7 +81,7 @@ def new_text(result: Result) -> List[str]:
     lines = [f"{result.given.name}, {op_text(ops, index)}", ""]
     new = [it for it in judged.new if it.index == index] or judged.new
     for found in new[:MOST_TOLD]:
-        lines += difference_lines(found)
+        lines += difference_lines(found, frozenset(judged.facts))
     lines += [f"  and {len(new) - MOST_TOLD} more places"] * (len(new) > MOST_TOLD)
     beside = sorted({name for it in judged.found if it.index == index and not it.is_new for name in it.names})
     lines += [f"  beside it, known: {', '.join(beside)}"] * bool(beside)
@@ -161,9 +169,10 @@ def new_rows(bad: List[Result]) -> List[str]:
     return ["", "| New difference | programs | first |", "|---|---|---|", *(f"| {places} | {rows[places].programs:,} | {rows[places].first} |" for places in shown)]
 
 
-def difference_json(ops: Program, found: Found) -> Dict[str, Any]:
+def difference_json(judged: Judged, found: Found) -> Dict[str, Any]:
     it = found.difference
-    return {"operation": found.index + 1, "place": it.place, "at": it.at, "expected": it.expected.hex(), "got": it.got.hex(), "differs": it.mask.hex(), "section": section_of(it.place),
+    rules = [{"name": name, "section": SECTIONS_OF_RULES[name]} for name in rules_of(it, frozenset(judged.facts))]
+    return {"operation": found.index + 1, "place": it.place, "at": it.at, "expected": it.expected.hex(), "got": it.got.hex(), "differs": it.mask.hex(), "section": section_of(it.place), "rules": rules,
             "facts": sorted(it.facts), "excused": {name: bits.hex() for name, bits in it.excused}}
 
 
@@ -173,7 +182,7 @@ def as_json(result: Result) -> Dict[str, Any]:
     new = None
     if judged.end == "new":
         index = judged.operations - 1
-        new = {"operation": index + 1, "text": op_text(ops, index), "facts": list(judged.facts), "model": list(judged.log), "differences": [difference_json(ops, it) for it in judged.new]}
+        new = {"operation": index + 1, "text": op_text(ops, index), "facts": list(judged.facts), "model": list(judged.log), "differences": [difference_json(judged, it) for it in judged.new]}
     names_: Dict[str, int] = {}
     for it in judged.found:
         for name in it.names:

@@ -110,7 +110,9 @@ def page_of(program: str, sectors: int, depth: int) -> bytes:
 def program_at(given: Optional[str], top: str) -> str:
     """The program to run: the one that was named, or the built one, or `./ahci`, which says that it runs unproved; installed, the one on the PATH."""
     built, here = os.path.join(top, "crates", "ahci", "out", "rlib", "ahci", "ahci"), os.path.join(top, "ahci")
-    return given or next((it for it in (built, here) if os.path.isfile(it)), "ahci")
+    if given:
+        return given
+    return next((it for it in (built, here) if os.path.isfile(it)), "ahci")
 
 
 def log_page(tag: int, error: int, lba: int) -> bytes:

@@ -136,7 +136,7 @@ class Options(unittest.TestCase):
             (["--emulator", "bochs", "--seed", "1"], 2, "there is no emulator 'bochs'"),
             (["--emulator", "stand-in", "--fault", "none", "--seed", "1"], 2, "there is no fault 'none'"),
             (["--qemu", "/no/qemu", "--known", "none", "--seed", "1"], 3, "there is no /no/qemu"),
-            ([], 2, "--seed, --program or --play is missing"),
+            ([], 2, "--seed, --program, --recorded or --play is missing"),
         ]
         for words, status, text in cases:
             found, out, err = said(*words)

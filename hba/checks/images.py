@@ -198,8 +198,8 @@ def module(path: str) -> bytes:
     return lzma.decompress(content) if path.endswith(".xz") else content
 
 
-def modules_of(folder: str) -> Dict[str, bytes]:
-    """The modules that the disk and a file system want, each after those that it uses."""
+def modules_of(folder: str, names: Sequence[str] = MODULES) -> Dict[str, bytes]:
+    """The modules that the disk and a file system want, or others, each after those that it uses."""
     paths = {os.path.basename(it).split(".ko")[0].replace("-", "_"): it for it in glob.glob(os.path.join(folder, "**/*.ko*"), recursive=True)}
     out: Dict[str, bytes] = {}
     seen = set()
@@ -215,7 +215,7 @@ def modules_of(folder: str) -> Dict[str, bytes]:
                     take(it.replace("-", "_"))
         out[name] = content
 
-    for name in MODULES:
+    for name in names:
         take(name)
     return out
 

@@ -73,10 +73,19 @@ class NoBusy(Hba):
 class CKeepsIssued(Hba):
     """C clears BSY, and PxCI keeps the slot."""
 
+    kept = 0  # slots that are not taken again
+
     def send(self, task: Task) -> None:
         super().send(task)
         if task.flags & 0x400:
-            self.words[PX_CI] |= 1 << task.slot
+            self.kept |= 1 << task.slot
+
+    def take(self) -> bool:
+        self.words[PX_CI] &= ~self.kept
+        took = super().take()
+        self.kept = self.kept if self.words[PX_CMD] & ST else 0
+        self.words[PX_CI] |= self.kept
+        return took
 
 
 class CKeepsBusy(Hba):
@@ -131,8 +140,18 @@ class NoTfes(Hba):
 class GoesOnAfterAnError(Hba):
     """An error stops nothing."""
 
+    tried = 0  # slots that are not taken again
+
     def fail_task(self) -> None:
         self.words[PX_IS] |= TFES
+
+    def take(self) -> bool:
+        kept = self.tried & self.words[PX_CI] if self.words[PX_CMD] & ST else 0
+        self.words[PX_CI] &= ~kept
+        took = super().take()
+        self.tried = kept | took << (self.words[PX_CMD] >> 8 & 31)
+        self.words[PX_CI] |= kept
+        return took
 
 
 class ErrorClearsIssued(Hba):
