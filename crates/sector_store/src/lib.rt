@@ -1,0 +1,9 @@
+//! What holds the sectors of a disk: as they are now, and as they were when they were last kept. `SectorStore` is what a
+//! disk needs of it; `Whole` holds every byte twice, and `Pages` the pages alone that were written.
+#![tactic(auto)]
+
+mod sector_store;
+mod whole;
+
+pub use sector_store::SectorStore;
+pub use whole::Whole;
