@@ -2,8 +2,18 @@
 //! disk needs of it; `Whole` holds every byte twice, and `Pages` the pages alone that were written.
 #![tactic(auto)]
 
+mod base;
+mod branch;
+mod changing;
+mod leaf;
+mod page;
+mod pages;
 mod sector_store;
+mod slot;
+mod table;
 mod whole;
 
+pub use base::{Base, Zeros};
+pub use pages::Pages;
 pub use sector_store::SectorStore;
 pub use whole::Whole;
