@@ -1,6 +1,6 @@
 -- What holds of the slots once one has changed.
 use Rattle.std.proofs.Common.{◌≡◌, ℕ, ◌+◌, ◌*◌, ◌/◌, ◌%◌, true, false, List, [], ◌∷◌, ◌++◌, length, Option, None, Some, ap, sym, ◌∙◌, arith, inl, inr, ◌⊎◌, cond, eqb, refl, subst}
-use Rattle.std.proofs.lemmas.Bool.{cases_eq, cond-true, cond-false, eq-eqb, ne_eqb, eqb-true, or_cases, or_left, or_right, true≢false}
+use Rattle.std.proofs.lemmas.Bool.{cases_eq, cond-true, cond-false, eq-eqb, ne_eqb, eqb-true, or_cases, or_left, or_right, true≢false, false_from_ne_true}
 use Rattle.std.specs.Option.{is_some}
 use Rattle.ncq_journal.specs.Image.{sector_at}
 use Rattle.sector_store.specs.Layers.{Layers, page_or, page_now, page_bytes, kept_layers, dropped_layers, IsSlotWritten}
@@ -108,16 +108,6 @@ touched_more number touched old new changes are = record {
   ];
 }
 
--- a page that was in the upper layer has changed there
-pub touched_same : (number : ℕ) (touched : List ℕ) (old new : ℕ → Option Layers) → ChangesAt number old new → is_written old number ≡ true → AreTouched old touched → AreTouched new touched
-touched_same number touched old new changes was are = record {
-  made = λ q is. changes-made number old new changes q (are.made q is);
-  written = λ q is. elim (cases_eq q number) [
-    | inl same ↦ are.written q (ap (λ i. is_written old i) same ∙ was)
-    | inr other ↦ are.written q (ap (λ o. is_some (layers_of o).upper) (sym (changes.others q other)) ∙ is)
-  ];
-}
-
 pub touched_grown : (touched : List ℕ) (old new : ℕ → Option Layers) → HasGrown old new → AreTouched old touched → AreTouched new touched
 touched_grown touched old new grown are = record {
   made = λ q is. grown.made q (are.made q is);
@@ -150,13 +140,16 @@ pub kept_dropped : (below : ℕ → List ℕ) (number : ℕ) (old new : ℕ → 
 kept_dropped below number old new changes is s =
     ap (λ o. sector_over o (below s) s) (changes-same (λ (l : Layers). l.lower) number old new changes is (s / 8))
 
--- with no number in the list, the sectors are those that are kept
-pub now_is_kept : (below : ℕ → List ℕ) (slots : ℕ → Option Layers) → AreTouched slots [] → (s : ℕ) → sector_now below slots s ≡ sector_kept below slots s
-now_is_kept below slots are s = ap (λ u. sector_over (page_or u (layers_of (slots (s / 8))).lower) (below s) s) (none_upper (layers_of (slots (s / 8))).upper (are.written (s / 8)))
-  where
-    none_upper : (u : Option (List ℕ)) → (is_some u ≡ true → false ≡ true) → u ≡ None
-    none_upper None h = refl
-    none_upper (Some p) h = absurd (true≢false (sym (h refl)))
+none_is : (u : Option (List ℕ)) → is_some u ≡ false → u ≡ None
+none_is None h = refl
+none_is (Some p) h = absurd (true≢false h)
+
+-- a sector whose page isn't in the list is the one that was kept
+pub untouched_same : (below : ℕ → List ℕ) (slots : ℕ → Option Layers) (touched : List ℕ) → AreTouched slots touched → (s : ℕ) → among touched (s / 8) ≡ false
+    → sector_now below slots s ≡ sector_kept below slots s
+untouched_same below slots touched are s apart =
+    let free : is_written slots (s / 8) ≡ false = false_from_ne_true (is_written slots (s / 8)) (λ is. true≢false (sym (are.written (s / 8) is) ∙ apart)) in
+    ap (λ u. sector_over (page_or u (layers_of (slots (s / 8))).lower) (below s) s) (none_is (layers_of (slots (s / 8))).upper free)
 
 some_bytes : (u : Option (List ℕ)) → is_some u ≡ true → u ≡ Some (page_bytes u)
 some_bytes None h = absurd (true≢false (sym h))
@@ -218,10 +211,6 @@ shows_on below a b c first then = record {
   stay = λ q is. then.stay q (first.stay q is);
 }
 
-none_is : (u : Option (List ℕ)) → is_some u ≡ false → u ≡ None
-none_is None h = refl
-none_is (Some p) h = absurd (true≢false h)
-
 -- a page was put over one that shows the same
 pub shows_put : (below : ℕ → List ℕ) (number : ℕ) (page : List ℕ) (old new : ℕ → Option Layers) → ChangesAt number old new → is_written old number ≡ false
     → layers_of (new number) ≡ record (layers_of (old number)) { upper = Some page } → IsPageOf (sector_kept below old) number page → ShowSame below old new
@@ -248,39 +237,11 @@ shows_put below number page old new changes free is eight = record {
         ∙ ap (λ u. sector_over (page_or u (layers_of (old number)).lower) (below s) s) (sym (none_is (layers_of (old number)).upper free))
         ∙ sym (ap (λ i. sector_over (page_now (layers_of (old i))) (below s) s) same)
 
--- a table with no pages
-pub whole_empty : (slots : ℕ → Option Layers) → IsEmpty slots → HasWholePages slots
-whole_empty slots empty = record {
-  upper = λ q p is. absurd (no_page p (ap (λ (l : Layers). l.upper) (sym (empty q)) ∙ is));
-  lower = λ q p is. absurd (no_page p (ap (λ (l : Layers). l.lower) (sym (empty q)) ∙ is));
-}
-  where
-    no_page : (p : List ℕ) → None ≡ Some p → ⊥
-    no_page p is = cc
-
-pub touched_empty : (slots : ℕ → Option Layers) → IsEmpty slots → AreTouched slots []
-touched_empty slots empty = record {
-  made = λ q is. absurd (true≢false (sym is));
-  written = λ q is. absurd (true≢false (sym is ∙ ap (λ (l : Layers). is_some l.upper) (empty q)));
-}
-
 pub now_empty : (below : ℕ → List ℕ) (slots : ℕ → Option Layers) → IsEmpty slots → (s : ℕ) → sector_now below slots s ≡ below s
 now_empty below slots empty s = ap (λ (l : Layers). sector_over (page_now l) (below s) s) (empty (s / 8))
 
 pub kept_empty : (below : ℕ → List ℕ) (slots : ℕ → Option Layers) → IsEmpty slots → (s : ℕ) → sector_kept below slots s ≡ below s
 kept_empty below slots empty s = ap (λ (l : Layers). sector_over l.lower (below s) s) (empty (s / 8))
-
--- every page is whole once a sector of one was written
-pub whole_written : (number place : ℕ) (sector : List ℕ) (old new : ℕ → Option Layers) → ChangesAt number old new → is_written old number ≡ true
-    → IsSlotWritten place sector (layers_of (old number)) (layers_of (new number)) → HasWholePages old → HasWholePages new
-whole_written number place sector old new changes was slot whole =
-    whole_changed number old new changes (λ p is. up p is) (λ p is. whole.lower number p (sym slot.lower ∙ is)) whole
-  where
-    up : (p : List ℕ) → (layers_of (new number)).upper ≡ Some p → length p ≡ 4096
-    up p is =
-        sym (ap (λ u. length (page_bytes u)) is)
-        ∙ slot.len
-        ∙ whole.upper number (page_bytes (layers_of (old number)).upper) (some_bytes (layers_of (old number)).upper was)
 
 -- every page is whole once one was put
 pub whole_put : (number : ℕ) (page : List ℕ) (old new : ℕ → Option Layers) → ChangesAt number old new → layers_of (new number) ≡ record (layers_of (old number)) { upper = Some page }

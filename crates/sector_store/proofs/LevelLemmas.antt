@@ -82,10 +82,6 @@ level_grown {C} slot_at span place parts old new inside is grown =
     elsewhere : (q : ℕ) → (q / span ≡ place → ⊥) → level_slot slot_at span (set parts place (Some new)) q ≡ level_slot slot_at span parts q
     elsewhere q other = ap (λ o. slot_within slot_at o (q % span)) (get_or-set_other {A = Option C} parts place (q / span) (Some new) None other)
 
--- nothing has grown
-pub has_grown-none : (slots : ℕ → Option Layers) → HasGrown slots slots
-has_grown-none slots = record { layers = λ q. refl; made = λ q was. was }
-
 -- a new part has no pages where there was none
 pub has_grown-new : (slots : ℕ → Option Layers) → IsEmpty slots → HasGrown no_slots slots
 has_grown-new slots empty = record { layers = empty; made = λ q was. absurd (true≢false (sym was)) }

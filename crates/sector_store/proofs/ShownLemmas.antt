@@ -1,6 +1,6 @@
 -- Sectors joined to an image.
-use Rattle.std.proofs.Common.{◌≡◌, ℕ, ◌+◌, ◌-◌, ◌*◌, ◌/◌, ◌%◌, ◌<◌, ◌≤◌, List, [], ◌++◌, length, take, drop, Option, None, Some, ap, sym, ◌∙◌, arith, inl, inr, cond, ◌&&◌, leb, ltb, eqb, false, refl, zero, suc, length-append, length-drop, length-take}
-use Rattle.std.proofs.lemmas.Bool.{cases_lt, cases_eq, cond-true, cond-false, and_from, and_left, and_right, le-leb, lt-leb, lt-ltb, le-ltb, eq-eqb, ne_eqb}
+use Rattle.std.proofs.Common.{◌≡◌, ℕ, ◌+◌, ◌-◌, ◌*◌, ◌/◌, ◌%◌, ◌<◌, ◌≤◌, List, [], ◌++◌, length, take, drop, Option, None, Some, ap, sym, ◌∙◌, arith, inl, inr, cond, ◌&&◌, leb, ltb, eqb, refl, zero, suc, length-append, length-drop, length-take}
+use Rattle.std.proofs.lemmas.Bool.{cases_lt, cases_eq, cond-true, cond-false, and_from, and_right, le-leb, lt-ltb, le-ltb, eq-eqb, ne_eqb}
 use Rattle.std.proofs.lemmas.List.{take_all, take_at, drop_all}
 use Rattle.std.proofs.Math.Seq.{drop-append-add}
 use Rattle.std.specs.List.{flat_map, range_with_len}
@@ -68,6 +68,14 @@ sector_at-joined f n s size l = sector_at-sectors f size n 0 s l ∙ ap f (let e
 sector_at-past : (xs : List ℕ) (s : ℕ) → length xs ≤ 512 * s → sector_at xs s ≡ []
 sector_at-past xs s past = ap (take 512) (drop_all (512 * s) xs past)
 
+-- where two images of one size have the same sector
+pub same_sector : (f g : ℕ → List ℕ) (n s : ℕ) → AreSectors f → AreSectors g → f s ≡ g s → sector_at (joined f n) s ≡ sector_at (joined g n) s
+same_sector f g n s size size' same =
+    elim (cases_lt s n) [
+      | inl inside ↦ sector_at-joined f n s size inside ∙ same ∙ sym (sector_at-joined g n s size' inside)
+      | inr past ↦ sector_at-past (joined f n) s (omega (arith, length-joined f n size)) ∙ sym (sector_at-past (joined g n) s (omega (arith, length-joined g n size')))
+    ]
+
 -- a buffer with so many sectors of an image is that part of the image
 pub read-joined : (f : ℕ → List ℕ) (n lba k : ℕ) (out : List ℕ) → AreSectors f → length out ≡ 512 * k → lba + k ≤ n
     → ((i : ℕ) → i < k → sector_at out i ≡ f (lba + i)) → out ≡ take (512 * k) (drop (512 * lba) (joined f n))
@@ -133,20 +141,6 @@ test_more lba k s other =
     elim (cases_lt s (lba + k)) [
       | inl below ↦ ap (λ b. leb lba s && b) (lt-ltb s (lba + k) below ∙ sym (lt-ltb s (lba + (k + 1)) (omega arith)))
       | inr above ↦ ap (λ b. leb lba s && b) (le-ltb s (lba + k) above ∙ sym (le-ltb s (lba + (k + 1)) (omega arith)))
-    ]
-
--- no sector is written
-pub written_none : (lba : ℕ) (bytes : List ℕ) (slots : ℕ → Option Layers) → AreWrittenAt lba 0 bytes slots slots
-written_none lba bytes slots = record {
-  now = λ below s. sym (cond-false (leb lba s && ltb s (lba + 0)) (sector_at bytes (s - lba)) (sector_now below slots s) (none s));
-  kept = λ below s. refl;
-  stay = λ q is. is;
-}
-  where
-    none : (s : ℕ) → (leb lba s && ltb s (lba + 0)) ≡ false
-    none s = elim (cases_lt s lba) [
-      | inl below ↦ and_left (leb lba s) (ltb s (lba + 0)) (lt-leb lba s below)
-      | inr from ↦ and_right (leb lba s) (ltb s (lba + 0)) (le-ltb s (lba + 0) (omega arith))
     ]
 
 -- one more sector is written

@@ -1,6 +1,8 @@
 -- The sectors that pages show over what a disk has below them.
 use Rattle.std.specs.Prelude.{◌≡◌, ℕ, ◌+◌, ◌-◌, ◌*◌, ◌/◌, ◌%◌, ◌<◌, ◌==◌, ◌||◌, ◌&&◌, nat_le, nat_lt, if◌then◌else◌, Bool, true, false, List, [], ◌∷◌, length, replicate, Option, None, Some, is_some}
 use Rattle.std.specs.List.{flat_map, range_with_len}
+use Rattle.std.proofs.Common.{ap, ◌∙◌, arith, inl, inr, drop, length-drop, length-take}
+use Rattle.std.proofs.lemmas.Bool.{cases_lt, cond-true, cond-false, lt-ltb, le-ltb}
 use Rattle.std.proofs.lemmas.List.{length-replicate}
 use Rattle.ncq_journal.specs.Image.{sector_at}
 use Rattle.sector_store.specs.Layers.{Layers, page_now}
@@ -13,6 +15,21 @@ zero_sector = replicate 512 0
 pub length-zero_sector : length zero_sector ≡ 512
 unfolding zero_sector
 length-zero_sector = length-replicate {A = ℕ} 512 0
+
+-- a sector of a buffer, or zeros past its last whole one
+abbrev pub buffer_sector : List ℕ → ℕ → List ℕ
+buffer_sector bytes lba = if nat_lt lba (length bytes / 512) then sector_at bytes lba else zero_sector
+
+pub length-buffer_sector : (bytes : List ℕ) (lba : ℕ) → length (buffer_sector bytes lba) ≡ 512
+length-buffer_sector bytes lba =
+    elim (cases_lt lba (length bytes / 512)) [
+      | inl inside ↦
+          let rest = length-drop (512 * lba) bytes in
+          ap length (cond-true (nat_lt lba (length bytes / 512)) (sector_at bytes lba) zero_sector (lt-ltb lba (length bytes / 512) inside))
+          ∙ length-take 512 (drop (512 * lba) bytes)
+          ∙ (omega arith)
+      | inr past ↦ ap length (cond-false (nat_lt lba (length bytes / 512)) (sector_at bytes lba) zero_sector (le-ltb lba (length bytes / 512) past)) ∙ length-zero_sector
+    ]
 
 -- a sector of its page, or from below if there is none
 abbrev pub sector_over : Option (List ℕ) → List ℕ → ℕ → List ℕ

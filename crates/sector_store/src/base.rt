@@ -1,7 +1,9 @@
 //! What a disk has below its pages.
 
 ghost use Rattle.std.specs.Prelude.{◌≡◌, ℕ, List, length};
-ghost use Rattle.sector_store.specs.Shown.{zero_sector, length-zero_sector};
+ghost use Rattle.sector_store.specs.Shown.{zero_sector, length-zero_sector, buffer_sector, length-buffer_sector};
+
+use ncq_journal::read_sectors;
 
 /// What is read where no page was written. It never changes.
 pub trait Base {
@@ -29,5 +31,35 @@ impl Base for Zeros {
     #[tactic(auto, unfolding(crate::specs::Shown::zero_sector))]
     fn read(&self, _lba: u64, out: &mut [u8]) {
         out.fill(0);
+    }
+}
+
+/// The whole sectors of a buffer, and zeros after them.
+#[derive(Clone, Copy)]
+pub struct Buffer<'a> {
+    bytes: &'a [u8],
+}
+
+impl<'a> Buffer<'a> {
+    /// A base of these bytes.
+    pub fn new(bytes: &'a [u8]) -> Self
+        ensures { (lba : ℕ) → ⟦<Buffer<'a> as Base>⟧.sector result lba ≡ buffer_sector bytes.now lba }
+    {
+        Buffer { bytes }
+    }
+}
+
+impl Base for Buffer<'_> {
+    ghost sector = { λ base lba. buffer_sector base.bytes.now lba };
+
+    ghost whole = { λ base lba. length-buffer_sector base.bytes.now lba };
+
+    #[tactic(auto, unfolding(crate::specs::Shown::zero_sector))]
+    fn read(&self, lba: u64, out: &mut [u8]) {
+        if lba < (self.bytes.len() / 512) as u64 {
+            read_sectors(self.bytes, lba, out);
+        } else {
+            out.fill(0);
+        }
     }
 }

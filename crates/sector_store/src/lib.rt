@@ -13,7 +13,7 @@ mod slot;
 mod table;
 mod whole;
 
-pub use base::{Base, Zeros};
+pub use base::{Base, Buffer, Zeros};
 pub use pages::Pages;
 pub use sector_store::SectorStore;
 pub use whole::Whole;
