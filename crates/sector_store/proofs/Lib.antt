@@ -1,0 +1,4 @@
+pub mod ChangeLemmas
+pub mod LevelLemmas
+pub mod SectorLemmas
+pub mod ShownLemmas

@@ -1,0 +1,4 @@
+pub mod Layers
+pub mod Reserved
+pub mod Shown
+pub mod Slots

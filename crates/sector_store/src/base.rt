@@ -1,0 +1,65 @@
+//! What a disk has below its pages.
+
+ghost use Rattle.std.specs.Prelude.{◌≡◌, ℕ, List, length};
+ghost use Rattle.sector_store.specs.Shown.{zero_sector, length-zero_sector, buffer_sector, length-buffer_sector};
+
+use ncq_journal::read_sectors;
+
+/// What is read where no page was written. It never changes.
+pub trait Base {
+    // the bytes of a sector
+    ghost sector: { Self → ℕ → List ℕ };
+
+    /// Reads a sector into 512 bytes.
+    fn read(&self, lba: u64, out: &mut [u8])
+        requires { length out.old ≡ 512 }
+        ensures { out.new ≡ sector self.now lba };
+
+    // every sector has 512 bytes
+    ghost whole: { (base : Self) (lba : ℕ) → length (sector base lba) ≡ 512 };
+}
+
+/// Zeros alone.
+#[derive(Clone, Copy)]
+pub struct Zeros;
+
+impl Base for Zeros {
+    ghost sector = { λ base lba. zero_sector };
+
+    ghost whole = { λ base lba. length-zero_sector };
+
+    #[tactic(auto, unfolding(crate::specs::Shown::zero_sector))]
+    fn read(&self, _lba: u64, out: &mut [u8]) {
+        out.fill(0);
+    }
+}
+
+/// The whole sectors of a buffer, and zeros after them.
+#[derive(Clone, Copy)]
+pub struct Buffer<'a> {
+    bytes: &'a [u8],
+}
+
+impl<'a> Buffer<'a> {
+    /// A base of these bytes.
+    pub fn new(bytes: &'a [u8]) -> Self
+        ensures { (lba : ℕ) → ⟦<Buffer<'a> as Base>⟧.sector result lba ≡ buffer_sector bytes.now lba }
+    {
+        Buffer { bytes }
+    }
+}
+
+impl Base for Buffer<'_> {
+    ghost sector = { λ base lba. buffer_sector base.bytes.now lba };
+
+    ghost whole = { λ base lba. length-buffer_sector base.bytes.now lba };
+
+    #[tactic(auto, unfolding(crate::specs::Shown::zero_sector))]
+    fn read(&self, lba: u64, out: &mut [u8]) {
+        if lba < (self.bytes.len() / 512) as u64 {
+            read_sectors(self.bytes, lba, out);
+        } else {
+            out.fill(0);
+        }
+    }
+}

@@ -1,0 +1,67 @@
+//! What a disk needs of what holds its sectors.
+
+ghost use Rattle.std.specs.Prelude.{◌≡◌, ℕ, ◌+◌, ◌*◌, ◌/◌, ◌<◌, ◌≤◌, Bool, List, length, take, drop, OnOk};
+ghost use Rattle.ncq_journal.specs.Image.{IsWrittenOver};
+ghost use Rattle.sector_store.specs.Reserved.{AreReserved, StayReserved};
+
+use std::alloc::AllocError;
+
+/// What holds the sectors of a disk, of 512 bytes each, twice: as they are now, and as they were when they were last kept.
+pub trait SectorStore {
+    // the bytes of all sectors as they are now, one sector after the other
+    ghost image: { Self → List ℕ };
+
+    // the bytes of all sectors when they were last kept
+    ghost starting: { Self → List ℕ };
+
+    // a sector can be written with no more memory
+    ghost is_reserved: { Self → ℕ → Bool };
+
+    /// How many sectors there are.
+    fn sectors(&self) -> u64
+        ensures image { length (image self.now) ≡ 512 * result }
+        ensures starting { length (starting self.now) ≡ 512 * result };
+
+    /// Reads whole sectors from `lba` on, as many as `out` has, as they are now.
+    fn read(&self, lba: u64, out: &mut [u8])
+        requires whole { length out.old ≡ 512 * (length out.old / 512) }
+        requires fits { 512 * lba + length out.old ≤ length (image self.now) }
+        ensures { out.new ≡ take (length out.old) (drop (512 * lba) (image self.now)) };
+
+    /// Reads whole sectors from `lba` on, as many as `out` has, as they were when they were last kept.
+    fn read_starting(&self, lba: u64, out: &mut [u8])
+        requires whole { length out.old ≡ 512 * (length out.old / 512) }
+        requires fits { 512 * lba + length out.old ≤ length (starting self.now) }
+        ensures { out.new ≡ take (length out.old) (drop (512 * lba) (starting self.now)) };
+
+    /// Takes the memory that writes of these sectors need until the next `keep` or `restore`.
+    ///
+    /// # Errors
+    /// If there is no memory. No sector changes then either, and what was reserved is.
+    fn reserve(&mut self, lba: u64, sectors: u64) -> Result<(), AllocError>
+        requires { 512 * (lba + sectors) ≤ length (image self.old) }
+        ensures ok { OnOk result (AreReserved (is_reserved self.new) lba sectors) }
+        ensures stay { StayReserved (is_reserved self.old) (is_reserved self.new) }
+        ensures image { image self.new ≡ image self.old }
+        ensures starting { starting self.new ≡ starting self.old };
+
+    /// Writes these bytes, whole sectors, over those from `lba` on. It takes no memory.
+    fn write(&mut self, lba: u64, bytes: &[u8])
+        requires whole { length bytes.now ≡ 512 * (length bytes.now / 512) }
+        requires fits { 512 * lba + length bytes.now ≤ length (image self.old) }
+        requires reserved { AreReserved (is_reserved self.old) lba (length bytes.now / 512) }
+        ensures written { IsWrittenOver lba bytes.now (image self.old) (image self.new) }
+        ensures len { length (image self.new) ≡ length (image self.old) }
+        ensures stay { StayReserved (is_reserved self.old) (is_reserved self.new) }
+        ensures starting { starting self.new ≡ starting self.old };
+
+    /// Keeps the sectors as they are now. It takes no memory, and what was reserved may no longer be.
+    fn keep(&mut self)
+        ensures image { image self.new ≡ image self.old }
+        ensures starting { starting self.new ≡ image self.old };
+
+    /// Makes the sectors what they were when they were last kept. It takes no memory, and what was reserved may no longer be.
+    fn restore(&mut self)
+        ensures image { image self.new ≡ starting self.old }
+        ensures starting { starting self.new ≡ starting self.old };
+}

@@ -1,0 +1,72 @@
+//! Every byte of a disk, twice.
+
+ghost use Rattle.std.specs.Prelude.{◌≡◌, ℕ, ◌+◌, ◌*◌, ◌/◌, ◌<◌, ◌≤◌, length, true, IfOk};
+
+use crate::sector_store::SectorStore;
+use ncq_journal::{read_sectors, write_sectors};
+use std::alloc::{AllocError, Allocator, Global};
+
+/// A disk's sectors in two buffers: as they are now, and as they were when they were last kept. Every sector is always
+/// reserved. `keep` and `restore` copy the whole disk.
+#[derive(Drop)]
+pub struct Whole<A: Allocator = Global> {
+    image: Vec<u8, A>,
+    starting: Vec<u8, A>,
+    ghost whole: { length image.items ≡ 512 * (length image.items / 512) },
+    ghost same_size: { length starting.items ≡ length image.items },
+}
+
+impl<A: Allocator> Whole<A> {
+    /// The sectors in this buffer, which are kept as they are.
+    ///
+    /// # Errors
+    /// If there is no memory for the copy.
+    pub fn new(alloc: A, image: Vec<u8, A>) -> Result<Self, AllocError>
+        requires { length image.items ≡ 512 * (length image.items / 512) }
+        ensures image { IfOk result (λ w. ⟦<Whole<A> as SectorStore>⟧.image w ≡ image.items) }
+        ensures starting { IfOk result (λ w. ⟦<Whole<A> as SectorStore>⟧.starting w ≡ image.items) }
+    {
+        let starting = Vec::from_slice(alloc, image.as_slice())?;
+        Ok(Whole { image, starting })
+    }
+}
+
+impl<A: Allocator> SectorStore for Whole<A> {
+    ghost image = { λ w. w.image.items };
+
+    ghost starting = { λ w. w.starting.items };
+
+    ghost is_reserved = { λ w s. true };
+
+    fn sectors(&self) -> u64 {
+        self.image.len() as u64 / 512
+    }
+
+    fn read(&self, lba: u64, out: &mut [u8]) {
+        read_sectors(self.image.as_slice(), lba, out);
+    }
+
+    fn read_starting(&self, lba: u64, out: &mut [u8]) {
+        read_sectors(self.starting.as_slice(), lba, out);
+    }
+
+    fn reserve(&mut self, _lba: u64, _sectors: u64) -> Result<(), AllocError> {
+        Ok(())
+    }
+
+    fn write(&mut self, lba: u64, bytes: &[u8]) {
+        write_sectors(self.image.as_mut_slice(), lba, bytes);
+    }
+
+    fn keep(&mut self) {
+        self.starting
+            .as_mut_slice()
+            .copy_from_slice(self.image.as_slice());
+    }
+
+    fn restore(&mut self) {
+        self.image
+            .as_mut_slice()
+            .copy_from_slice(self.starting.as_slice());
+    }
+}
