@@ -1,5 +1,5 @@
 -- The page that IDENTIFY DEVICE reads, word by word (ACS-3, "IDENTIFY DEVICE").
-use Rattle.std.specs.Prelude.{ℕ, ◌+◌, ◌-◌, ◌*◌, ◌/◌, ◌%◌, ◌^◌, Bool, ◌==◌, ◌&&◌, nat_le, if◌then◌else◌, List, [], ◌∷◌, map, slice_index_or, codes}
+use Rattle.std.specs.Prelude.{ℕ, ◌+◌, ◌-◌, ◌*◌, ◌/◌, ◌%◌, ◌^◌, Bool, ◌==◌, ◌&&◌, nat_le, min, if◌then◌else◌, List, [], ◌∷◌, map, slice_index_or, codes}
 use Rattle.std.specs.Int.{byte_at}
 use Rattle.std.specs.List.{flat_map, range_with_len}
 
@@ -19,6 +19,10 @@ text_word text i = 256 * character text (2 * i) + character text (2 * i + 1)
 abbrev pub number_word : ℕ → ℕ → ℕ
 number_word n i = n / 2 ^ (16 * i) % 2 ^ 16
 
+-- how many sectors 28-bit commands reach, of so many
+abbrev pub within_28_bits : ℕ → ℕ
+within_28_bits s = min s 0xFFFFFFF
+
 -- word w of the page of a disk of s sectors with d tags
 abbrev pub identify_word : ℕ → ℕ → ℕ → ℕ
 identify_word s d w =
@@ -26,7 +30,7 @@ identify_word s d w =
     else (if is_within 23 26 w then text_word (codes "1.0") (w - 23)  -- firmware revision
     else (if is_within 27 46 w then text_word (codes "SOFTWARE NCQ DISK") (w - 27)  -- model number
     else (if w == 49 then 0x0300  -- capabilities: DMA, LBA
-    else (if is_within 60 61 w then number_word s (w - 60)  -- sectors that 28-bit commands reach
+    else (if is_within 60 61 w then number_word (within_28_bits s) (w - 60)  -- sectors that 28-bit commands reach
     else (if w == 75 then d - 1  -- queue depth
     else (if w == 76 then 0x0106  -- Serial ATA capabilities: NCQ, Gen2, Gen1
     else (if w == 80 then 0x0400  -- major version: ACS-3

@@ -1,11 +1,12 @@
 -- How the disk ends a command: by moving its data between the image and the host's text, or by an error
 -- (Serial ATA, "DMA Setup FIS" and "Data FIS"; ACS-3, READ FPDMA QUEUED and WRITE FPDMA QUEUED).
-use Rattle.std.specs.Prelude.{◌≡◌, ℕ, ◌+◌, ◌*◌, Bool, true, false, ◌&&◌, nat_le, nat_lt, if◌then◌else◌, List, ◌++◌, length, take, drop, Option, None, Some, Result, Ok, Err, is_some, slice_set}
+use Rattle.std.specs.Prelude.{◌≡◌, ℕ, ◌+◌, ◌*◌, ◌≤◌, Bool, true, false, ◌&&◌, nat_le, nat_lt, if◌then◌else◌, List, ◌++◌, length, take, drop, Option, None, Some, Result, Ok, Err, is_some, slice_set}
 use Rattle.sata_fis.specs.Fields.{QueuedFields}
 use Rattle.ncq_core.specs.declared.serve_fault.ServeFault.{ServeFault}
 use Rattle.ncq_core.specs.declared.serve_fault.ServeFault.TheVariants.{Stopped, NotAccepted, OutsideCommand}
-use Rattle.ncq_core.specs.DiskState.{DiskState, command_of, is_stopped}
+use Rattle.ncq_core.specs.DiskState.{DiskState, command_of, is_reserved_in, is_stopped}
 use Rattle.ncq_journal.specs.Image.{IsWrittenOver}
+use Rattle.sector_store.specs.Reserved.{AreReserved}
 
 -- why a tag's command is not served: an error stands, or no command is outstanding at the tag
 abbrev pub serve_fault : DiskState → ℕ → Option ServeFault
@@ -59,6 +60,16 @@ MovesFor true q image image' text text' = IsWritten q image image' text text'
 abbrev pub HasMoved : QueuedFields → (image image' text text' : List ℕ) → Type 0
 HasMoved q image image' text text' = MovesFor q.write q image image' text text'
 
--- the disk with this image once a tag's command is completed
-abbrev pub served : DiskState → ℕ → List ℕ → DiskState
-served disk tag image = record disk { image = image; commands = slice_set disk.commands tag None }
+-- the memory that a command needs is there: the sectors of a write that is all on a disk of so many are reserved
+abbrev pub HasRoom : ℕ → List Bool → (write : Bool) → (lba sectors : ℕ) → Type 0
+HasRoom size reserved false lba sectors = Unit {0}
+HasRoom size reserved true lba sectors = lba + sectors ≤ size → AreReserved (is_reserved_in reserved) lba sectors
+
+-- the same, where a store may need more at all
+abbrev pub HasMemory : (never_asks : Bool) → ℕ → List Bool → QueuedFields → Type 0
+HasMemory true size reserved q = Unit {0}
+HasMemory false size reserved q = HasRoom size reserved q.write q.lba q.sectors
+
+-- the disk with this image, and these sectors reserved, once a tag's command is completed
+abbrev pub served : DiskState → ℕ → List ℕ → List Bool → DiskState
+served disk tag image reserved = record disk { image = image; reserved = reserved; commands = slice_set disk.commands tag None }

@@ -8,11 +8,13 @@ mod moving;
 mod serving;
 mod taking;
 
-ghost use Rattle.std.specs.Prelude.{◌≡◌, ◌/◌, ◌<◌, ◌≤◌, ◌^◌, None, Some, length, vec_capacity, IfOk, IfErr};
+ghost use Rattle.std.specs.Prelude.{◌≡◌, ◌+◌, ◌*◌, ◌/◌, ◌<◌, ◌≤◌, ◌^◌, None, Some, false, length, IfOk, IfErr, OnOk, OnErr};
 ghost use Rattle.word_bits.specs.Places.{bits};
 ghost use Rattle.ncq_journal.specs.Image.{sector_at};
-ghost use Rattle.ncq_core.specs.DiskState.{IsDisk, disk_sectors, command_of, outstanding, is_stopped, new_disk, new_fault, no_commands, most_depth, most_disk_sectors};
+ghost use Rattle.sector_store.specs.Reserved.{AreReserved, StayReserved};
+ghost use Rattle.ncq_core.specs.DiskState.{IsDisk, command_of, disk_over, disk_sectors, is_bad_depth, is_reserved_in, is_stopped, new_disk, new_fault, no_commands, outstanding, over_fault, reserved_of, size_fault};
 ghost use Rattle.ncq_core.specs.DiskFis.{completed_bytes, pio_bytes, flushed_bytes};
+ghost use Rattle.ncq_core.specs.Serving.{HasRoom};
 ghost use Rattle.ncq_core.specs.Verdict.{stopped_by};
 ghost use Rattle.ncq_core.specs.Identify.{identify_page};
 
@@ -21,26 +23,26 @@ pub use crate::disk::identify::identify_page;
 pub use crate::disk::log::log_page;
 use crate::disk::moving::DATA_FIS;
 use crate::disk_fault::DiskFault;
-use ncq_journal::read_sectors;
 use sata_fis::Queued;
-use std::alloc::{Allocator, Global};
+use sector_store::{SectorStore, Single, Whole};
+use std::alloc::{AllocError, Allocator};
 use std::marker::Model;
 use word_bits::with_bit;
 
 /// How many bytes a sector has (ACS-3, "Logical sector").
 pub const SECTOR: usize = 512;
 
-/// How many sectors a disk has at most.
+/// How many sectors a disk has at most whose image is in memory as a whole.
 pub const MAX_SECTORS: u32 = 131_072;
 
 /// How many slots a disk has at most.
 pub const MAX_DEPTH: u32 = 32;
 
-/// A queueing disk over an image in memory (ACS-3, "Native Command Queuing feature set"). Commands are taken by their
+/// A queueing disk over what holds its sectors (ACS-3, "Native Command Queuing feature set"). Commands are taken by their
 /// FISes, and served or failed in any order. Contracts see a `DiskState`, of which `IsDisk` holds.
 #[derive(Drop)]
-pub struct Disk<A: Allocator = Global> {
-    image: Vec<u8, A>,
+pub struct Disk<S: SectorStore = Single> {
+    store: S,
     depth: u32,
     commands: [Option<Queued>; 32],
     error: Option<DiskError>,
@@ -50,45 +52,100 @@ pub struct Disk<A: Allocator = Global> {
     room: [u8; DATA_FIS],
 }
 
-impl<A: Allocator> Model for Disk<A> {
-    ghost use Rattle.std.specs.Prelude.{◌≡◌, ◌/◌, length, vec_capacity};
-    ghost use Rattle.ncq_core.specs.DiskState.{DiskState, IsDisk};
+impl<S: SectorStore> Model for Disk<S> {
+    ghost use Rattle.std.specs.Prelude.{◌≡◌, ◌/◌, length};
+    ghost use Rattle.ncq_core.specs.DiskState.{DiskState, IsDisk, reserved_of};
     ghost use Rattle.ncq_core.specs.Identify.{identify_page};
 
     ghost Value = { DiskState };
 
-    ghost view = { λ d. record { image = d.image.items; held = vec_capacity d.image; depth = d.depth; commands = d.commands; error = d.error } };
+    ghost view = { λ d. record { image = S.image d.store; starting = S.starting d.store; reserved = reserved_of (S.is_reserved d.store) (length (S.image d.store) / 512); depth = d.depth; commands = d.commands; error = d.error } };
 
-    ghost invariant = { λ d. IsDisk (record { image = d.image.items; held = vec_capacity d.image; depth = d.depth; commands = d.commands; error = d.error })
-        × (d.page ≡ identify_page (length d.image.items / 512) d.depth) };
+    ghost invariant = { λ d. IsDisk (record { image = S.image d.store; starting = S.starting d.store; reserved = reserved_of (S.is_reserved d.store) (length (S.image d.store) / 512); depth = d.depth; commands = d.commands; error = d.error })
+        × (d.page ≡ identify_page (length (S.image d.store) / 512) d.depth) };
 }
 
-impl<A: Allocator> Disk<A> {
+/// Whether there is no disk of so many tags.
+fn is_bad_depth(depth: u32) -> bool
+    ensures { result ≡ is_bad_depth depth }
+{
+    depth == 0 || depth > MAX_DEPTH
+}
+
+/// Why no disk is made of an image of so many bytes, with so many tags: `BadSize` where the image is not 1 to 131,072 whole sectors of
+/// 512 bytes, `BadDepth` where the depth is not 1 to 32.
+pub fn size_fault(bytes: usize, depth: u32) -> Option<DiskFault>
+    ensures { result ≡ size_fault bytes depth }
+{
+    if bytes == 0 || bytes % SECTOR != 0 || bytes / SECTOR > MAX_SECTORS as usize {
+        return Some(DiskFault::BadSize);
+    }
+    if is_bad_depth(depth) {
+        return Some(DiskFault::BadDepth);
+    }
+    None
+}
+
+impl<A: Allocator> Disk<Single<A>> {
     /// A disk over this image, with nothing outstanding and no error. It takes no memory.
     ///
     /// # Errors
     /// `BadSize` where the image is not 1 to 131,072 whole sectors of 512 bytes, `BadDepth` where the depth is not 1 to 32.
     pub fn new(image: Vec<u8, A>, depth: u32) -> Result<Self, DiskFault>
-        ensures ok { IfOk result (λ d. (new_fault image.items depth ≡ None) × (d ≡ new_disk image.items (vec_capacity image) depth)) }
+        ensures ok { IfOk result (λ d. (new_fault image.items depth ≡ None) × (d ≡ new_disk image.items depth)) }
         ensures err { IfErr result (λ e. new_fault image.items depth ≡ Some e) }
     {
-        let len = image.len();
-        if len == 0 || len % SECTOR != 0 || len / SECTOR > MAX_SECTORS as usize {
+        match size_fault(image.len(), depth) {
+            Some(fault) => Err(fault),
+            None => Disk::over(Single::new(image), depth),
+        }
+    }
+
+    /// The sectors as they are now, one after the other.
+    pub fn image(&self) -> &[u8]
+        ensures { result.now ≡ self.now.image }
+    {
+        self.store.bytes()
+    }
+}
+
+impl<A: Allocator> Disk<Whole<A>> {
+    /// The sectors as they were when they were last kept, one after the other.
+    pub fn starting_image(&self) -> &[u8]
+        ensures { result.now ≡ self.now.starting }
+    {
+        self.store.starting_bytes()
+    }
+}
+
+impl<S: SectorStore + Drop> Disk<S> {
+    /// A disk over a store, with nothing outstanding and no error. It takes no memory.
+    ///
+    /// # Errors
+    /// `BadSize` where the store has no sectors or more than 2^32 - 1, `BadDepth` where the depth is not 1 to 32.
+    pub fn over(store: S, depth: u32) -> Result<Self, DiskFault>
+        ensures ok { IfOk result (λ d. (over_fault (length (S.image store) / 512) depth ≡ None) × (d ≡ disk_over (S.image store) (S.starting store) (reserved_of (S.is_reserved store) (length (S.image store) / 512)) depth)) }
+        ensures err { IfErr result (λ e. over_fault (length (S.image store) / 512) depth ≡ Some e) }
+    {
+        let sectors = store.sectors();
+        if sectors == 0 || sectors > u64::from(u32::MAX) {
             return Err(DiskFault::BadSize);
         }
-        if depth == 0 || depth > MAX_DEPTH {
+        if is_bad_depth(depth) {
             return Err(DiskFault::BadDepth);
         }
         Ok(Disk {
-            image,
+            store,
             depth,
             commands: no_commands(),
             error: None,
-            page: page_over(len, depth),
+            page: identify_page(sectors as u32, depth),
             room: [0; DATA_FIS],
         })
     }
+}
 
+impl<S: SectorStore> Disk<S> {
     /// Whether an error stands. `read_log` ends it.
     pub fn stopped(&self) -> bool
         ensures { result ≡ is_stopped self.now }
@@ -101,7 +158,7 @@ impl<A: Allocator> Disk<A> {
         ensures sectors { result ≡ disk_sectors self.now }
         ensures disk { IsDisk self.now }
     {
-        (self.image.len() / SECTOR) as u32
+        self.store.sectors() as u32
     }
 
     /// How many tags there are.
@@ -126,20 +183,60 @@ impl<A: Allocator> Disk<A> {
         word
     }
 
-    /// The sectors as they are now, one after the other.
-    pub fn image(&self) -> &[u8]
-        ensures { result.now ≡ self.now.image }
-    {
-        self.image.as_slice()
-    }
-
     /// Copies a sector, whose LBA is below `sectors`, into 512 bytes.
     pub fn copy(&self, lba: u64, out: &mut [u8])
         requires sector { lba < disk_sectors self.now }
         requires room { length out.old ≡ 512 }
         ensures { out.new ≡ sector_at self.now.image lba }
     {
-        read_sectors(self.image.as_slice(), lba, out);
+        self.store.read(lba, out);
+    }
+
+    /// Copies a sector, whose LBA is below `sectors`, as it was when it was last kept, into 512 bytes.
+    pub fn copy_starting(&self, lba: u64, out: &mut [u8])
+        requires sector { 512 * (lba + 1) ≤ length self.now.starting }
+        requires room { length out.old ≡ 512 }
+        ensures { out.new ≡ sector_at self.now.starting lba }
+    {
+        self.store.read_starting(lba, out);
+    }
+
+    /// Takes the memory that serving a command needs: none unless it is a write, all of whose sectors are on the disk.
+    ///
+    /// # Errors
+    /// If there is no memory. Nothing but what is reserved has changed then.
+    pub fn reserve(&mut self, command: &Queued) -> Result<(), AllocError>
+        ensures ok { OnOk result (HasRoom (disk_sectors self.old) self.new.reserved command.now.write command.now.lba command.now.sectors) }
+        ensures lacking { OnErr result (S.never_asks ≡ false) }
+        ensures stay { StayReserved (is_reserved_in self.old.reserved) (is_reserved_in self.new.reserved) }
+        ensures state { self.new ≡ record self.old { reserved = self.new.reserved } }
+    {
+        if command.write && !self.is_past_end(command) {
+            self.reserve_run(command.lba, u64::from(command.sectors))?;
+        }
+        Ok(())
+    }
+
+    /// Takes the memory that a write of these sectors needs.
+    #[tactic(auto, using(crate::proofs::DiskLemmas::is_disk_moved, crate::proofs::ReservedLemmas::listed_reserved, crate::proofs::ReservedLemmas::listed_stay))]
+    fn reserve_run(&mut self, lba: u64, sectors: u64) -> Result<(), AllocError>
+        requires { lba + sectors ≤ disk_sectors self.old }
+        ensures ok { OnOk result (AreReserved (is_reserved_in self.new.reserved) lba sectors) }
+        ensures lacking { OnErr result (S.never_asks ≡ false) }
+        ensures stay { StayReserved (is_reserved_in self.old.reserved) (is_reserved_in self.new.reserved) }
+        ensures state { self.new ≡ record self.old { reserved = self.new.reserved } }
+    {
+        self.store.reserve(lba, sectors)?;
+        Ok(())
+    }
+
+    /// Keeps the sectors as they are now. It takes no memory, and what was reserved may no longer be.
+    #[tactic(auto, using(crate::proofs::DiskLemmas::is_disk_moved))]
+    pub fn keep(&mut self)
+        requires { length self.old.starting ≡ length self.old.image }
+        ensures { self.new ≡ record self.old { starting = self.old.image; reserved = self.new.reserved } }
+    {
+        self.store.keep();
     }
 
     /// The page that IDENTIFY DEVICE reads (ACS-3, "IDENTIFY DEVICE").
@@ -198,16 +295,6 @@ impl Disk {
     {
         answers::flushed()
     }
-}
-
-/// The page that IDENTIFY DEVICE reads of a disk over so many bytes.
-fn page_over(len: usize, depth: u32) -> [u8; 512]
-    requires size { len / 512 ≤ most_disk_sectors }
-    requires deep { 1 ≤ depth }
-    requires shallow { depth ≤ most_depth }
-    ensures { result ≡ identify_page (len / 512) depth }
-{
-    identify_page((len / SECTOR) as u32, depth)
 }
 
 /// No command at any of the 32 tags.

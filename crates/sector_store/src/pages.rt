@@ -5,7 +5,7 @@ mod reading;
 mod reserving;
 mod writing;
 
-ghost use Rattle.std.specs.Prelude.{◌≡◌, ℕ, ◌*◌, ◌/◌, ◌≤◌, false, IfOk};
+ghost use Rattle.std.specs.Prelude.{◌≡◌, ℕ, ◌*◌, ◌/◌, ◌≤◌, false, refl, IfOk};
 ghost use Rattle.ncq_journal.specs.Image.{sector_at};
 ghost use Rattle.sector_store.specs.Slots.{slot_at, table_span};
 ghost use Rattle.sector_store.specs.Shown.{HasWholePages, AreTouched, among, joined, sector_now, sector_kept, is_writable};
@@ -68,6 +68,10 @@ impl<B: Base, A: Allocator + Copy> SectorStore for Pages<B, A> {
     ghost starting = { λ p. joined (sector_kept (B.sector p.base) (slot_at p.table)) p.sectors };
 
     ghost is_reserved = { λ p s. is_writable (slot_at p.table) s };
+
+    ghost never_asks = { false };
+
+    ghost none_lacks = { λ p s. refl };
 
     fn sectors(&self) -> u64 {
         self.sectors

@@ -1,26 +1,28 @@
 //! What a disk needs of what holds its sectors.
 
-ghost use Rattle.std.specs.Prelude.{◌≡◌, ℕ, ◌+◌, ◌*◌, ◌/◌, ◌<◌, ◌≤◌, Bool, List, length, take, drop, OnOk};
+ghost use Rattle.std.specs.Prelude.{◌≡◌, ℕ, ◌+◌, ◌*◌, ◌/◌, ◌<◌, ◌≤◌, Bool, false, not, ◌&&◌, List, length, take, drop, OnOk, OnErr};
 ghost use Rattle.ncq_journal.specs.Image.{IsWrittenOver};
 ghost use Rattle.sector_store.specs.Reserved.{AreReserved, StayReserved};
 
 use std::alloc::AllocError;
 
-/// What holds the sectors of a disk, of 512 bytes each, twice: as they are now, and as they were when they were last kept.
+/// What holds the sectors of a disk, of 512 bytes each, as they are now, and mostly also as they were when they were last kept.
 pub trait SectorStore {
     // the bytes of all sectors as they are now, one sector after the other
     ghost image: { Self → List ℕ };
 
-    // the bytes of all sectors when they were last kept
+    // the bytes of all sectors when they were last kept; none if the store keeps no sector
     ghost starting: { Self → List ℕ };
 
     // a sector can be written with no more memory
     ghost is_reserved: { Self → ℕ → Bool };
 
+    // no sector of any such store needs more memory
+    ghost never_asks: { Bool };
+
     /// How many sectors there are.
     fn sectors(&self) -> u64
-        ensures image { length (image self.now) ≡ 512 * result }
-        ensures starting { length (starting self.now) ≡ 512 * result };
+        ensures { length (image self.now) ≡ 512 * result };
 
     /// Reads whole sectors from `lba` on, as many as `out` has, as they are now.
     fn read(&self, lba: u64, out: &mut [u8])
@@ -41,6 +43,7 @@ pub trait SectorStore {
     fn reserve(&mut self, lba: u64, sectors: u64) -> Result<(), AllocError>
         requires { 512 * (lba + sectors) ≤ length (image self.old) }
         ensures ok { OnOk result (AreReserved (is_reserved self.new) lba sectors) }
+        ensures lacking { OnErr result (never_asks ≡ false) }
         ensures stay { StayReserved (is_reserved self.old) (is_reserved self.new) }
         ensures image { image self.new ≡ image self.old }
         ensures starting { starting self.new ≡ starting self.old };
@@ -57,11 +60,16 @@ pub trait SectorStore {
 
     /// Keeps the sectors as they are now. It takes no memory, and what was reserved may no longer be.
     fn keep(&mut self)
+        requires { length (starting self.old) ≡ length (image self.old) }
         ensures image { image self.new ≡ image self.old }
         ensures starting { starting self.new ≡ image self.old };
 
     /// Makes the sectors what they were when they were last kept. It takes no memory, and what was reserved may no longer be.
     fn restore(&mut self)
+        requires { length (starting self.old) ≡ length (image self.old) }
         ensures image { image self.new ≡ starting self.old }
         ensures starting { starting self.new ≡ starting self.old };
+
+    // a store that needs no memory has reserved every sector
+    ghost none_lacks: { (store : Self) (lba : ℕ) → (never_asks && not (is_reserved store lba)) ≡ false };
 }

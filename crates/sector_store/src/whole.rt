@@ -1,6 +1,6 @@
 //! Every byte of a disk, twice.
 
-ghost use Rattle.std.specs.Prelude.{◌≡◌, ℕ, ◌+◌, ◌*◌, ◌/◌, ◌<◌, ◌≤◌, length, true, IfOk};
+ghost use Rattle.std.specs.Prelude.{◌≡◌, ℕ, ◌+◌, ◌*◌, ◌/◌, ◌<◌, ◌≤◌, length, true, refl, IfOk};
 
 use crate::sector_store::SectorStore;
 use ncq_journal::{read_sectors, write_sectors};
@@ -29,6 +29,13 @@ impl<A: Allocator> Whole<A> {
         let starting = Vec::from_slice(alloc, image.as_slice())?;
         Ok(Whole { image, starting })
     }
+
+    /// The bytes of all sectors when they were last kept.
+    pub fn starting_bytes(&self) -> &[u8]
+        ensures { result.now ≡ ⟦<Whole<A> as SectorStore>⟧.starting self.now }
+    {
+        self.starting.as_slice()
+    }
 }
 
 impl<A: Allocator> SectorStore for Whole<A> {
@@ -37,6 +44,10 @@ impl<A: Allocator> SectorStore for Whole<A> {
     ghost starting = { λ w. w.starting.items };
 
     ghost is_reserved = { λ w s. true };
+
+    ghost never_asks = { true };
+
+    ghost none_lacks = { λ w s. refl };
 
     fn sectors(&self) -> u64 {
         self.image.len() as u64 / 512

@@ -3,6 +3,9 @@
 ghost use Rattle.std.specs.Prelude.{◌≡◌, ◌<◌, ◌≤◌};
 ghost use Rattle.ncq_core.specs.Identify.{text_word, number_word, identify_word, identify_page};
 
+/// The most sectors that words 60 and 61 tell (ACS-3, "IDENTIFY DEVICE", words 60 and 61).
+const MOST_28_BITS: u32 = 0x0FFF_FFFF;
+
 /// Word `number` of a text, which spaces follow. The first of its two characters is the high byte.
 fn text_word(text: &[u8], number: usize) -> u16
     requires { number < 256 }
@@ -33,7 +36,7 @@ fn identify_word(sectors: u32, depth: u32, number: usize) -> u16
         23..=26 => text_word(b"1.0", number - 23), // firmware revision
         27..=46 => text_word(b"SOFTWARE NCQ DISK", number - 27), // model number
         49 => 0x0300, // capabilities: DMA, LBA
-        60..=61 => number_word(u64::from(sectors), number - 60), // sectors that 28-bit commands reach
+        60..=61 => number_word(u64::from(sectors.min(MOST_28_BITS)), number - 60), // sectors that 28-bit commands reach
         75 => (depth - 1) as u16, // queue depth
         76 => 0x0106, // Serial ATA capabilities: NCQ, Gen2, Gen1
         80 => 0x0400, // major version: ACS-3

@@ -1,11 +1,12 @@
 //! How the disk ends a command that is outstanding: by serving it, or by an error, which a page of the log tells.
 
 ghost use Rattle.std.specs.Prelude.{◌≡◌, ◌+◌, ◌<◌, ◌≤◌, slice_set, None, Some, Err, length, IfOk, IfErr, IfSome, IsOk, OnOk, OnErr, IsSome, IsSomeAnd, MatchOption};
-ghost use Rattle.ncq_core.specs.DiskState.{IsDisk, IsOutstanding, command_of, disk_sectors};
+ghost use Rattle.ncq_core.specs.DiskState.{IsDisk, IsOutstanding, command_of, disk_sectors, is_reserved_in};
 ghost use Rattle.ncq_core.specs.DiskFis.{setup_bytes, failed_bytes};
 ghost use Rattle.ncq_core.specs.Verdict.{stopped_by};
 ghost use Rattle.ncq_core.specs.Log.{log_page};
-ghost use Rattle.ncq_core.specs.Serving.{HasMoved, answered, byte_count, fail_fault, covers_sector, serve_fault, served};
+ghost use Rattle.sector_store.specs.Reserved.{StayReserved};
+ghost use Rattle.ncq_core.specs.Serving.{HasMemory, HasMoved, answered, byte_count, fail_fault, covers_sector, serve_fault, served};
 ghost use Rattle.ncq_core.specs.Traffic.{moved_by, passed_for};
 
 use crate::disk::Disk;
@@ -16,7 +17,7 @@ use crate::disk::moving::move_data;
 use crate::host::Host;
 use crate::serve_fault::ServeFault;
 use sata_fis::Queued;
-use std::alloc::Allocator;
+use sector_store::SectorStore;
 
 /// Whether the sector is one that the command reads or writes.
 fn covers_sector(command: &Queued, lba: u64) -> bool
@@ -25,18 +26,20 @@ fn covers_sector(command: &Queued, lba: u64) -> bool
     command.lba <= lba && lba - command.lba < u64::from(command.sectors)
 }
 
-impl<A: Allocator> Disk<A> {
+impl<S: SectorStore> Disk<S> {
     /// Serves the command outstanding at a tag: one DMA Setup, then its data, in Data FISes with 8,192 bytes of payload and the rest; each of
     /// a write after a DMA Activate. A read puts its sectors at the beginning of
-    /// the host's text; a write makes its sectors the first bytes of that text. Which Set Device Bits FIS tells that it is
+    /// the host's text; a write makes its sectors the first bytes of that text. A store that may need memory for a write has it reserved. Which Set Device Bits FIS tells that it is
     /// completed, alone or with others, `completed` says.
     ///
     /// # Errors
     /// `Stopped` where an error stands, `NotAccepted` where nothing is outstanding at the tag.
     pub fn serve<H: Host>(&mut self, tag: u8, host: &mut H) -> Result<(), ServeFault>
-        requires { IfSome (command_of self.old tag) (λ q. byte_count q ≤ length (H.text host.old)) }
+        requires room { IfSome (command_of self.old tag) (λ q. byte_count q ≤ length (H.text host.old)) }
+        requires reserved { IfSome (command_of self.old tag) (HasMemory S.never_asks (disk_sectors self.old) self.old.reserved) }
         ensures answer { MatchOption (serve_fault self.old tag) (IsOk result) (λ f. result ≡ Err f) }
-        ensures state { OnOk result (self.new ≡ served self.old tag self.new.image) }
+        ensures state { OnOk result (self.new ≡ served self.old tag self.new.image self.new.reserved) }
+        ensures stay { OnOk result (StayReserved (is_reserved_in self.old.reserved) (is_reserved_in self.new.reserved)) }
         ensures data { OnOk result (IsSomeAnd (command_of self.old tag) (λ q. HasMoved q self.old.image self.new.image (H.text host.old) (H.text host.new))) }
         ensures setup { OnOk result (IsSomeAnd (command_of self.old tag) (λ q. H.last_setup host.new ≡ setup_bytes q)) }
         ensures offset { OnOk result (IsSomeAnd (command_of self.old tag) (λ q. H.offset host.new ≡ byte_count q)) }
@@ -98,19 +101,21 @@ impl<A: Allocator> Disk<A> {
     }
 
     /// Moves the sectors of a command between the image and the host. Nothing else of the disk changes.
-    #[tactic(auto, using(crate::proofs::DiskLemmas::is_disk_moved))]
+    #[tactic(auto, using(crate::proofs::DiskLemmas::is_disk_moved, crate::proofs::ReservedLemmas::listed_stay, crate::proofs::ReservedLemmas::may_move))]
     fn move_sectors<H: Host>(&mut self, command: &Queued, host: &mut H)
         requires sectors { command.now.lba + command.now.sectors ≤ disk_sectors self.old }
+        requires reserved { HasMemory S.never_asks (disk_sectors self.old) self.old.reserved command.now }
         requires start { H.offset host.old ≡ 0 }
         requires room { byte_count command.now ≤ length (H.text host.old) }
-        ensures state { self.new ≡ record self.old { image = self.new.image } }
+        ensures state { self.new ≡ record self.old { image = self.new.image; reserved = self.new.reserved } }
+        ensures stay { StayReserved (is_reserved_in self.old.reserved) (is_reserved_in self.new.reserved) }
         ensures data { HasMoved command.now self.old.image self.new.image (H.text host.old) (H.text host.new) }
         ensures offset { H.offset host.new ≡ byte_count command.now }
         ensures setup { H.last_setup host.new ≡ H.last_setup host.old }
         ensures saw { H.saw host.old (moved_by command.now.write (byte_count command.now)) host.new }
         ensures others { H.keeps host.old host.new }
     {
-        move_data(host, &mut self.room, command, self.image.as_mut_slice());
+        move_data(host, &mut self.room, command, &mut self.store);
     }
 
     /// Ends the command at a tag. The others stay.

@@ -8,7 +8,7 @@ use crate::disk::answers::{IDNF, aborted, accepted, not_found};
 use crate::taken::Taken;
 use ncq_journal::Plain;
 use sata_fis::{Fis, H2d, Queued, decode, queued};
-use std::alloc::Allocator;
+use sector_store::SectorStore;
 
 /// IDENTIFY DEVICE (ACS-3).
 const IDENTIFY: u8 = 0xEC;
@@ -36,7 +36,7 @@ fn is_read_log(command: &H2d) -> bool
     command.command == READ_LOG && command.lba == ERROR_LOG && command.count == 1
 }
 
-impl<A: Allocator> Disk<A> {
+impl<S: SectorStore> Disk<S> {
     /// Takes the bytes of a command, by the first case that applies: an error stands, they carry no command, a queued
     /// one, or another one.
     pub fn take(&mut self, h2d: &[u8]) -> Taken
@@ -132,7 +132,7 @@ impl<A: Allocator> Disk<A> {
     }
 
     /// Whether some of a command's sectors are not on the disk.
-    fn is_past_end(&self, command: &Queued) -> bool
+    pub(super) fn is_past_end(&self, command: &Queued) -> bool
         ensures { result ≡ is_past_end self.now command.now }
     {
         command.lba + u64::from(command.sectors) > u64::from(self.sectors())

@@ -1,16 +1,10 @@
 use Rattle.sector_store.specs.Slots.{slot_at}
-use Rattle.sector_store.specs.Shown.{sector_now, sector_kept}
-use Rattle.sector_store.proofs.ShownLemmas.{length-joined, are_sectors_now, are_sectors_kept}
+use Rattle.sector_store.specs.Shown.{sector_now}
+use Rattle.sector_store.proofs.ShownLemmas.{length-joined, are_sectors_now}
 use Rattle.sector_store.proofs.pages.PagesSectorStore.sectors.Goals as goal
 
-pub returns-clause-image : goal.returns-clause-image
-returns-clause-image g c =
+pub returns : goal.returns
+returns g c =
     let below = g.B.Base.sector c.args.self.now.base in
     let slots = slot_at c.args.self.now.table in
     length-joined (sector_now below slots) c.args.self.now.sectors (are_sectors_now below slots (g.met.B.Base.whole c.args.self.now.base) c.args.self.now.whole)
-
-pub returns-clause-starting : goal.returns-clause-starting
-returns-clause-starting g c =
-    let below = g.B.Base.sector c.args.self.now.base in
-    let slots = slot_at c.args.self.now.table in
-    length-joined (sector_kept below slots) c.args.self.now.sectors (are_sectors_kept below slots (g.met.B.Base.whole c.args.self.now.base) c.args.self.now.whole)
