@@ -14,7 +14,7 @@ use Rattle.ncq_journal.specs.Request.{Request, request}
 use Rattle.ncq_core.specs.Verdict as verdict
 use Rattle.ncq_journal.proofs.OwedLemmas.{owed_moves}
 use Rattle.ncq_journal.proofs.PhaseLemmas.{below_depth}
-use Rattle.ahci_port.specs.Keeping.{Keeps, Holds, HasSlot, HasHeader, slot_at}
+use Rattle.ahci_port.specs.Keeping.{Keeps, Holds, HasSlot, HasHeader, HasSectors, slot_at}
 use Rattle.ahci_port.specs.Slots.{SlotState, outstanding_in}
 use Rattle.ahci_port.specs.Standing.{last_failure}
 use Rattle.ahci_port.specs.Registers as registers
@@ -72,6 +72,8 @@ keeps_accept starting disk regs slots headers past free left tag slot k issued r
           ∙ sym (ap (λ b. outstanding_in b (Some (record slot { phase = Accepted }))) calm);
       other_commands = λ u apart. ap (λ t. get_or (set disk.commands t (Some q)) u None) its_tag ∙ get_or-set_other disk.commands tag u (Some q) None apart
           ∙ k.commands u ∙ ap (λ b. outstanding_in b (slot_at slots u)) (sym still);
+      stay = λ i is. is;
+      own_room = subst (HasSectors (length starting / 512) disk.reserved) here (k.reserved tag);
     })
     (headers_stay headers tag (Some (record slot { phase = Accepted })) k.shape.header_count (subst (HasHeader headers tag) here (k.listed tag)))
     (tracks_accept disk.depth past regs tag k.tracks (let d = k.shape.shallow in omega arith) issued)

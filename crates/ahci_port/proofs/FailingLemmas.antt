@@ -15,7 +15,7 @@ use Rattle.ncq_journal.specs.Tags.{in_device}
 use Rattle.ncq_core.specs.Verdict.{stopped_by}
 use Rattle.ncq_journal.proofs.OwedLemmas.{owed_moves}
 use Rattle.ncq_journal.proofs.PhaseLemmas.{below_depth}
-use Rattle.ahci_port.specs.Keeping.{Keeps, Holds, HasSlot, HasHeader, slot_at}
+use Rattle.ahci_port.specs.Keeping.{Keeps, Holds, HasSlot, HasHeader, HasSectors, slot_at}
 use Rattle.ahci_port.specs.Moves.{failed_slot}
 use Rattle.ahci_port.specs.Slots.{SlotState, outstanding_in}
 use Rattle.ahci_port.specs.Tracking.{Tracks}
@@ -91,6 +91,8 @@ keeps_fail starting disk regs moved slots headers past free left tag error lba s
       error_is = sym (ap (λ b. cond b (Some (record { tag = tag; error = error; lba = lba })) None) stops);
       own_command = no_command tag ∙ sym (ap (λ b. outstanding_in b (Some (failed_slot slot (length past) error lba))) stops ∙ none_outstanding (Some (failed_slot slot (length past) error lba)));
       other_commands = λ u apart. no_command u ∙ sym (ap (λ b. outstanding_in b (slot_at slots u)) stops ∙ none_outstanding (slot_at slots u));
+      stay = λ i is. is;
+      own_room = subst (HasSectors (length starting / 512) disk.reserved) here (k.reserved tag);
     })
     (headers_stay headers tag (Some (failed_slot slot (length past) error lba)) k.shape.header_count (subst (HasHeader headers tag) here (k.listed tag)))
     tracks

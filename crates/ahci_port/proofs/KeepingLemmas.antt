@@ -1,10 +1,12 @@
 -- A port keeps what it keeps at each entry of one tag.
-use Rattle.std.proofs.Common.{◌≡◌, ◌≢◌, ℕ, ◌/◌, ◌<◌, ◌≤◌, false, List, [], ◌∷◌, length, set, get_or, sym, subst, ◌∙◌, Option, None, Some, arith, inl, inr}
+use Rattle.std.proofs.Common.{◌≡◌, ◌≢◌, ℕ, ◌/◌, ◌<◌, ◌≤◌, Bool, true, false, List, [], ◌∷◌, length, set, get_or, sym, subst, ◌∙◌, Option, None, Some, arith, inl, inr}
 use Rattle.std.proofs.lemmas.Bool.{cases_eq}
 use Rattle.std.proofs.lemmas.List.{length-set, get_or-set_same, get_or-set_other}
 use Rattle.ahci_regs.specs.PortState.{PortState}
 use Rattle.ahci_table.specs.Command.{op}
-use Rattle.ncq_core.specs.DiskState.{DiskState, command_of}
+use Rattle.sector_store.specs.Reserved.{StayReserved}
+use Rattle.ncq_core.specs.DiskState.{DiskState, command_of, is_reserved_in}
+use Rattle.ncq_core.specs.Serving.{HasRoom}
 use Rattle.ncq_journal.specs.Entry.{Entry}
 use Rattle.ncq_journal.specs.Halted.{halted}
 use Rattle.ncq_journal.specs.Image.{sector_at}
@@ -13,7 +15,7 @@ use Rattle.ncq_journal.specs.Owed.{owed}
 use Rattle.ncq_journal.specs.Phase.{phase}
 use Rattle.ncq_journal.specs.Request.{request}
 use Rattle.ncq_journal.specs.Sector.{sector}
-use Rattle.ahci_port.specs.Keeping.{Keeps, HasSlot, HasHeader, slot_at}
+use Rattle.ahci_port.specs.Keeping.{Keeps, HasSlot, HasHeader, HasSectors, slot_at}
 use Rattle.ahci_port.specs.Slots.{SlotState, outstanding_in}
 use Rattle.ahci_port.specs.Standing.{standing}
 use Rattle.ahci_port.specs.Tracking.{Tracks}
@@ -48,6 +50,17 @@ pub record DiskAfter (starting : List ℕ) (disk after : DiskState) (slots : Lis
   pub error_is : after.error ≡ standing (entry ∷ past)
   pub own_command : command_of after tag ≡ outstanding_in (halted (entry ∷ past)) s
   pub other_commands : (u : ℕ) → u ≢ tag → command_of after u ≡ outstanding_in (halted (entry ∷ past)) (slot_at slots u)
+  pub stay : StayReserved (is_reserved_in disk.reserved) (is_reserved_in after.reserved)
+  pub own_room : HasSectors (length starting / 512) after.reserved s
+
+-- what is reserved for a slot stays so
+room_stays : (size : ℕ) (old new : List Bool) (write : Bool) (lba sectors : ℕ) → StayReserved (is_reserved_in old) (is_reserved_in new) → HasRoom size old write lba sectors → HasRoom size new write lba sectors
+room_stays size old new false lba sectors stay h = tt
+room_stays size old new true lba sectors stay h = λ fits s from below. stay s (h fits s from below)
+
+pub sectors_stay : (size : ℕ) (old new : List Bool) (s : Option SlotState) → StayReserved (is_reserved_in old) (is_reserved_in new) → HasSectors size old s → HasSectors size new s
+sectors_stay size old new None stay h = tt
+sectors_stay size old new (Some slot) stay h = room_stays size old new slot.is_write slot.lba slot.sectors stay h
 
 -- what the command list is after an entry
 pub record HeadersAfter (headers after : List (List ℕ)) (tag : ℕ) (s : Option SlotState) : Type 0 where
@@ -76,6 +89,7 @@ keeps_step starting disk after registers moved slots headers listed past free le
       error_is = d.error_is;
       each = each;
       listed = lists;
+      reserved = reserves;
       room = room;
     }
   where
@@ -101,4 +115,10 @@ keeps_step starting disk after registers moved slots headers listed past free le
     lists u = elim (cases_eq u tag) [
       | inl same ↦ rw (same, there) h.own_header
       | inr other ↦ rw (apart u other) (header_stays headers listed u (slot_at slots u) (h.other_headers u other) (k.listed u))
+    ]
+
+    reserves : (u : ℕ) → HasSectors (length starting / 512) after.reserved (slot_at (set slots tag s) u)
+    reserves u = elim (cases_eq u tag) [
+      | inl same ↦ rw (same, there) d.own_room
+      | inr other ↦ rw (apart u other) (sectors_stay (length starting / 512) disk.reserved after.reserved (slot_at slots u) d.stay (k.reserved u))
     ]

@@ -1,8 +1,8 @@
 -- What the port's fields say of its journal.
-use Rattle.std.proofs.Common.{◌≡◌, ◌≢◌, ℕ, ◌/◌, ◌<◌, ◌≤◌, Bool, true, false, cond, List, [], ◌∷◌, length, map, replicate, ap, sym, refl, subst, ◌∙◌, Option, None, Some, is_some, IsSomeAnd, arith, inl, inr, zero, suc}
+use Rattle.std.proofs.Common.{◌≡◌, ◌≢◌, ℕ, ◌/◌, ◌%◌, ◌<◌, ◌≤◌, Bool, true, false, cond, ◌||◌, List, [], ◌∷◌, length, map, replicate, ap, sym, refl, subst, ◌∙◌, Option, None, Some, is_some, IsSomeAnd, arith, inl, inr, zero, suc}
 use Rattle.std.specs.Option.{option_map, option_or}
-use Rattle.std.specs.Prelude.{Ok, nat_lt}
-use Rattle.std.proofs.lemmas.Bool.{cases_lt, true≢false}
+use Rattle.std.specs.Prelude.{Ok, nat_eq, nat_lt}
+use Rattle.std.proofs.lemmas.Bool.{cases_lt, eqb-false, le-ltb, ltb-false, ne_eqb, or_parts, true≢false}
 use Rattle.std.proofs.Math.ListN.{get_or-map}
 use Rattle.std.proofs.lemmas.Option.{same_Some}
 use Rattle.std.proofs.lemmas.List.{get_or-replicate, get_or_past, length-replicate, length-map}
@@ -10,7 +10,7 @@ use Rattle.ahci_regs.specs.PortState.{PortState}
 use Rattle.ahci_table.specs.Command.{op}
 use Rattle.ncq_journal.specs.declared.phase.Phase.{Phase}
 use Rattle.ncq_journal.specs.declared.phase.Phase.TheVariants.{Free}
-use Rattle.ncq_core.specs.DiskState.{DiskState, DiskError, IsDisk, is_stopped, new_disk, new_fault, no_commands, outstanding}
+use Rattle.ncq_core.specs.DiskState.{DiskState, DiskError, IsDisk, disk_over, is_bad_depth, is_stopped, most_disk_sectors, most_sectors, new_fault, over_fault, size_fault, no_commands, outstanding}
 use Rattle.ncq_core.specs.declared.disk_fault.DiskFault.{DiskFault}
 use Rattle.ncq_core.specs.declared.disk_fault.DiskFault.TheVariants as disk_fault
 use Rattle.ncq_journal.specs.Entry.{Entry, Issue}
@@ -83,7 +83,7 @@ stopped_here starting disk regs slots headers past free k = ap is_some k.error_i
 pub keeps_registers : (starting : List ℕ) (disk : DiskState) (regs moved : PortState) (slots : List (Option SlotState)) (headers : List (List ℕ)) (past : List Entry) (free : ℕ)
     → Keeps starting disk regs slots headers past free → Tracks disk.depth past moved → Keeps starting disk moved slots headers past free
 keeps_registers starting disk regs moved slots headers past free k tracks =
-    record { shape = k.shape; lawful = k.lawful; tracks = tracks; sectors = k.sectors; commands = k.commands; error_is = k.error_is; each = k.each; listed = k.listed; room = k.room }
+    record { shape = k.shape; lawful = k.lawful; tracks = tracks; sectors = k.sectors; commands = k.commands; error_is = k.error_is; each = k.each; listed = k.listed; reserved = k.reserved; room = k.room }
 
 pub keeps_acknowledge : (starting : List ℕ) (disk : DiskState) (regs : PortState) (slots : List (Option SlotState)) (headers : List (List ℕ)) (past : List Entry) (free mask : ℕ)
     → Keeps starting disk regs slots headers past free → Keeps starting disk (acknowledged regs mask) slots headers past free
@@ -116,9 +116,9 @@ resumed x image depth first made low = by (new_fault image depth) (nat_lt most_f
     by (Some f) b h e = absurd (cc)
 
 -- a new port
-pub keeps_new : (image : List ℕ) (held depth : ℕ) (headers : List (List ℕ)) → IsDisk (new_disk image held depth) → length headers ≡ 32
-    → Keeps image (new_disk image held depth) (started depth) (replicate depth None) headers [] 0
-keeps_new image held depth headers d count = record {
+pub keeps_new : (image : List ℕ) (reserved : List Bool) (depth : ℕ) (headers : List (List ℕ)) → IsDisk (disk_over image image reserved depth) → length headers ≡ 32
+    → Keeps image (disk_over image image reserved depth) (started depth) (replicate depth None) headers [] 0
+keeps_new image reserved depth headers d count = record {
   shape = record {
     whole = d.whole;
     few = d.most;
@@ -136,13 +136,14 @@ keeps_new image held depth headers d count = record {
   error_is = sym (ap (λ b. cond b (last_failure []) None) calm_at_first);
   each = λ u. rw (vacant depth u) refl;
   listed = λ u. rw (vacant depth u) tt;
+  reserved = λ u. rw (vacant depth u) tt;
   room = nothing_owed;
 }
 
 -- nothing is outstanding in a new disk
-none_in_device : (image : List ℕ) (held depth : ℕ) → outstanding (new_disk image held depth) ≡ no_places
-none_in_device image held depth =
-    same_sets (outstanding (new_disk image held depth)) no_places (length-map no_commands is_some ∙ no_count ∙ sym length-no_places)
+none_in_device : (image : List ℕ) (reserved : List Bool) (depth : ℕ) → outstanding (disk_over image image reserved depth) ≡ no_places
+none_in_device image reserved depth =
+    same_sets (outstanding (disk_over image image reserved depth)) no_places (length-map no_commands is_some ∙ no_count ∙ sym length-no_places)
     (λ i h. get_or-map is_some no_commands i None ∙ ap is_some (no_command i) ∙ sym (has_place-no_places i))
 
 no_windows : (n : ℕ) → map window_in (replicate n None) ≡ replicate n None
@@ -159,9 +160,29 @@ same_journal j first past room held f p r h =
     ∙ ap (λ n. let k : History = record { first = first; past = past; room = room; held = n } in k) h
 
 -- what callers see of it
-pub view_new : (first : ℕ) (image : List ℕ) (held depth : ℕ) (journal : History) → journal ≡ record { first = first; past = []; room = 0; held = 0 }
-    → view_of image (new_disk image held depth) (started depth) nothing_sent (replicate 256 0) (replicate depth None) journal ≡ port_from first image depth
-view_new first image held depth journal empty =
-    ap (λ j. view_of image (new_disk image held depth) (started depth) nothing_sent (replicate 256 0) (replicate depth None) j) empty
-    ∙ ap (λ d. record (port_from first image depth) { device = d; windows = map window_in (replicate depth None) }) (none_in_device image held depth)
+pub view_new : (first : ℕ) (image : List ℕ) (reserved : List Bool) (depth : ℕ) (journal : History) → journal ≡ record { first = first; past = []; room = 0; held = 0 }
+    → view_of image (disk_over image image reserved depth) (started depth) nothing_sent (replicate 256 0) (replicate depth None) journal ≡ port_from first image depth
+view_new first image reserved depth journal empty =
+    ap (λ j. view_of image (disk_over image image reserved depth) (started depth) nothing_sent (replicate 256 0) (replicate depth None) j) empty
+    ∙ ap (λ d. record (port_from first image depth) { device = d; windows = map window_in (replicate depth None) }) (none_in_device image reserved depth)
     ∙ ap (λ w. record (port_from first image depth) { windows = w }) (no_windows depth)
+
+-- where an image in memory makes a disk, so does a store with it
+pub over_may : (bytes depth : ℕ) → size_fault bytes depth ≡ None → over_fault (bytes / 512) depth ≡ None
+over_may bytes depth none = by (nat_eq bytes 0 || nat_lt 0 (bytes % 512) || nat_lt most_disk_sectors (bytes / 512)) (is_bad_depth depth) refl refl none
+  where
+    sized : (nat_eq bytes 0 || nat_lt 0 (bytes % 512) || nat_lt most_disk_sectors (bytes / 512)) ≡ false → (nat_eq (bytes / 512) 0 || nat_lt most_sectors (bytes / 512)) ≡ false
+    sized fine =
+        let outer = or_parts (nat_eq bytes 0 || nat_lt 0 (bytes % 512)) (nat_lt most_disk_sectors (bytes / 512)) fine in
+        let inner = or_parts (nat_eq bytes 0) (nat_lt 0 (bytes % 512)) outer.0 in
+        let whole : bytes % 512 ≤ 0 = ltb-false 0 (bytes % 512) inner.1 in
+        let few : bytes / 512 ≤ 131072 = ltb-false 131072 (bytes / 512) outer.1 in
+        let some : nat_eq (bytes / 512) 0 ≡ false = ne_eqb (bytes / 512) 0 (λ e. eqb-false bytes 0 inner.0 (omega arith)) in
+        let most : nat_lt most_sectors (bytes / 512) ≡ false = le-ltb 4294967295 (bytes / 512) (omega arith) in
+        ap (λ b. b || nat_lt most_sectors (bytes / 512)) some ∙ most
+
+    by : (a b : Bool) → (nat_eq bytes 0 || nat_lt 0 (bytes % 512) || nat_lt most_disk_sectors (bytes / 512)) ≡ a → is_bad_depth depth ≡ b
+        → cond a (Some disk_fault.BadSize) (cond b (Some disk_fault.BadDepth) None) ≡ None → over_fault (bytes / 512) depth ≡ None
+    by true b p q h = absurd (cc)
+    by false true p q h = absurd (cc)
+    by false false p q h = ap (λ c. cond c (Some disk_fault.BadSize) (cond (is_bad_depth depth) (Some disk_fault.BadDepth) None)) (sized p) ∙ ap (λ c. cond c (Some disk_fault.BadDepth) None) q

@@ -1,5 +1,5 @@
 -- A port keeps what it keeps when it recovers.
-use Rattle.std.proofs.Common.{◌≡◌, ◌≢◌, ℕ, ◌/◌, ◌≤◌, true, false, ◌&&◌, cond, List, ◌∷◌, length, map, ap, sym, refl, ◌∙◌, Option, None, Some, arith}
+use Rattle.std.proofs.Common.{◌≡◌, ◌≢◌, ℕ, ◌/◌, ◌≤◌, Bool, true, false, ◌&&◌, cond, List, ◌∷◌, length, map, ap, sym, refl, ◌∙◌, Option, None, Some, arith}
 use Rattle.std.specs.Option.{option_map}
 use Rattle.std.proofs.lemmas.List.{length-map}
 use Rattle.std.proofs.Math.ListN.{get_or-map}
@@ -16,7 +16,7 @@ use Rattle.ncq_journal.specs.Tags.{in_device}
 use Rattle.ncq_journal.proofs.HaltedLemmas.{halted_at}
 use Rattle.ncq_journal.proofs.OwedLemmas.{owed_is_few}
 use Rattle.ncq_journal.proofs.PhaseLemmas.{below_depth}
-use Rattle.ahci_port.specs.Keeping.{Keeps, HasSlot, HasHeader, slot_at}
+use Rattle.ahci_port.specs.Keeping.{Keeps, HasSlot, HasHeader, HasSectors, slot_at}
 use Rattle.ahci_port.specs.Moves.{recovered_slot}
 use Rattle.ahci_port.specs.Registers as registers
 use Rattle.ahci_port.specs.Slots.{SlotState, outstanding_in}
@@ -58,6 +58,10 @@ header_recovers : (headers : List (List ℕ)) (u : ℕ) (s : Option SlotState) �
 header_recovers headers u None h = h
 header_recovers headers u (Some slot) h = h
 
+sectors_recover : (size : ℕ) (reserved : List Bool) (s : Option SlotState) → HasSectors size reserved s → HasSectors size reserved (option_map recovered_slot s)
+sectors_recover size reserved None h = h
+sectors_recover size reserved (Some slot) h = h
+
 -- a failed tag stops the port
 pub stopped_by_tag : (s d : ℕ) (past : List Entry) (tag : ℕ) → d ≤ 32 → IsLawful s d past → is_failed (phase past tag) ≡ true → halted past ≡ true
 stopped_by_tag s d past tag few lawful bad = halted_at past tag (let b = below_depth s d past tag (phase past tag) lawful refl (failed_taken (phase past tag) bad) in omega arith) bad
@@ -77,6 +81,7 @@ keeps_recover starting disk regs slots headers past free left tag k bad room =
       error_is = sym (ap (λ b. cond b (last_failure past) None) (halted_recover past tag));
       each = λ u. rw (there u) (slot_recovers starting past tag u (slot_at slots u) (k.each u));
       listed = λ u. rw (there u) (header_recovers headers u (slot_at slots u) (k.listed u));
+      reserved = λ u. rw (there u) (sectors_recover (length starting / 512) disk.reserved (slot_at slots u) (k.reserved u));
       room = (let few = owed_is_few (Recover tag ∷ past) in omega arith);
     }
   where

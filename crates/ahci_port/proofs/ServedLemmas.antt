@@ -1,5 +1,5 @@
 -- What a tag has whose command is served.
-use Rattle.std.proofs.Common.{◌≡◌, ℕ, ◌*◌, ◌<◌, Bool, true, false, not, ◌&&◌, cond, List, length, ap, sym, refl, ◌∙◌, subst, Option, None, Some, is_some, arith}
+use Rattle.std.proofs.Common.{◌≡◌, ℕ, ◌*◌, ◌/◌, ◌<◌, Bool, true, false, not, ◌&&◌, cond, List, length, ap, sym, refl, ◌∙◌, subst, Option, None, Some, is_some, arith}
 use Rattle.ahci_regs.specs.PortState.{PortState}
 use Rattle.ahci_table.specs.Command.{op, queued_of}
 use Rattle.ahci_table.specs.Fit.{IsFit}
@@ -15,10 +15,10 @@ use Rattle.ncq_core.specs.DiskState.{DiskState, command_of}
 use Rattle.ncq_journal.specs.Entry.{Entry, Complete}
 use Rattle.ncq_journal.specs.Halted.{halted}
 use Rattle.ncq_journal.specs.Phase.{phase}
-use Rattle.ncq_core.specs.Serving.{serve_fault, HasMoved, MovesFor, IsRead}
+use Rattle.ncq_core.specs.Serving.{serve_fault, HasCommandRoom, HasMoved, HasRoom, MovesFor, IsRead}
 use Rattle.ncq_journal.specs.Tags.{in_device}
 use Rattle.ncq_journal.proofs.OwedLemmas.{owed_moves}
-use Rattle.ahci_port.specs.Keeping.{Keeps}
+use Rattle.ahci_port.specs.Keeping.{HasSectors, Holds, Keeps}
 use Rattle.ahci_port.specs.Memory.{IsKept}
 use Rattle.ahci_port.specs.Moves.{MovedWindow}
 use Rattle.ahci_port.specs.Steps.{MovesData}
@@ -27,7 +27,7 @@ use Rattle.ahci_port.specs.Standing.{last_failure}
 use Rattle.ahci_port.proofs.MemoryLemmas.{fit_sized, moved_window, kept_scattered}
 use Rattle.ahci_port.proofs.OwningLemmas.{Owned, owned}
 use Rattle.ahci_port.proofs.ServingLemmas.{read_text}
-use Rattle.ahci_port.proofs.WorkLemmas.{op_read, op_write}
+use Rattle.ahci_port.proofs.WorkLemmas.{op_direction, op_lba, op_read, op_sectors, op_write}
 
 pub record Serving (starting : List ℕ) (disk : DiskState) (past : List Entry) (slots : List (Option SlotState)) (free tag : ℕ) : Type 0 where
   pub accepted : phase past tag ≡ Accepted
@@ -35,7 +35,20 @@ pub record Serving (starting : List ℕ) (disk : DiskState) (past : List Entry) 
   pub owner : Owned starting past slots tag
   pub there : command_of disk tag ≡ Some (queued_of owner.slot.window)
   pub served_now : serve_fault disk tag ≡ None
+  pub memory : HasCommandRoom disk (queued_of owner.slot.window)
   pub room : 0 < free
+
+-- the command has the memory that its slot has
+room_of_command : {past : List Entry} {tag : ℕ} (starting : List ℕ) (disk : DiskState) (slot : SlotState) → length disk.image ≡ length starting → Holds starting past tag slot
+    → HasSectors (length starting / 512) disk.reserved (Some slot) → HasCommandRoom disk (queued_of slot.window)
+room_of_command starting disk slot size holds room =
+    let w = slot.window in
+    let q = queued_of w in
+    let r = disk.reserved in
+    let whole = subst (λ n. HasRoom (n / 512) r slot.is_write slot.lba slot.sectors) (sym size) room in
+    let direction = subst (λ b. HasRoom (length disk.image / 512) r b slot.lba slot.sectors) (holds.is_of.0 ∙ op_direction w) whole in
+    let lba = subst (λ n. HasRoom (length disk.image / 512) r q.write n slot.sectors) (holds.is_of.1 ∙ op_lba w) direction in
+    subst (λ n. HasRoom (length disk.image / 512) r q.write q.lba n) (holds.is_of.2 ∙ op_sectors w (fit_sized w holds.fit)) lba
 
 pub serving : (starting : List ℕ) (disk : DiskState) (regs : PortState) (slots : List (Option SlotState)) (headers : List (List ℕ)) (past : List Entry) (free tag : ℕ)
     → Keeps starting disk regs slots headers past free → phase past tag ≡ Accepted → halted past ≡ false → Serving starting disk past slots free tag
@@ -55,6 +68,7 @@ serving starting disk regs slots headers past free tag k accepted running =
       there = there;
       served_now = ap (λ e. cond (is_some e) (Some serve_fault.Stopped) (cond (is_some (command_of disk tag)) None (Some serve_fault.NotAccepted))) calm
           ∙ ap (λ x. cond (is_some x) None (Some serve_fault.NotAccepted)) there;
+      memory = room_of_command starting disk o.slot k.shape.same_size o.holds (subst (HasSectors (length starting / 512) disk.reserved) o.here (k.reserved tag));
       room = (let r = k.room in omega arith);
     }
 

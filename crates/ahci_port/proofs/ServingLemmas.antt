@@ -8,7 +8,8 @@ use Rattle.ahci_table.specs.Window.{WindowState}
 use Rattle.ncq_journal.specs.declared.outcome.Outcome.TheVariants as outcome
 use Rattle.ncq_journal.specs.declared.phase.Phase.TheVariants.{Accepted, Done}
 use Rattle.ncq_journal.specs.Answer.{completes, sectors_at}
-use Rattle.ncq_core.specs.DiskState.{DiskState}
+use Rattle.sector_store.specs.Reserved.{StayReserved}
+use Rattle.ncq_core.specs.DiskState.{DiskState, is_reserved_in}
 use Rattle.ncq_journal.specs.Entry.{Entry, Complete}
 use Rattle.ncq_journal.specs.Halted.{halted}
 use Rattle.ncq_journal.specs.Image.{sector_at, covers, IsWrittenOver}
@@ -24,7 +25,7 @@ use Rattle.ncq_journal.proofs.PhaseLemmas.{below_depth}
 use Rattle.sata_fis.specs.Command.{asked_by}
 use Rattle.sata_fis.specs.Fields.{QueuedFields}
 use Rattle.sata_fis.specs.Layout.{h2d_at}
-use Rattle.ahci_port.specs.Keeping.{Keeps, Holds, HasSlot, HasHeader, IsOf, slot_at}
+use Rattle.ahci_port.specs.Keeping.{Keeps, Holds, HasSlot, HasHeader, HasSectors, IsOf, slot_at}
 use Rattle.ahci_port.specs.Slots.{SlotState, outstanding_in, answer_in, bytes_in}
 use Rattle.ahci_port.specs.Standing.{last_failure}
 use Rattle.ahci_port.specs.Moves.{MovedWindow, served_slot, outcome_of}
@@ -32,7 +33,7 @@ use Rattle.ahci_regs.specs.Receiving.{after_bits}
 use Rattle.ahci_port.proofs.AnswerLemmas.{apart_answers}
 use Rattle.ahci_port.proofs.FailureLemmas.{halted_same}
 use Rattle.ahci_port.proofs.IssuingLemmas.{headers_stay}
-use Rattle.ahci_port.proofs.KeepingLemmas.{keeps_step}
+use Rattle.ahci_port.proofs.KeepingLemmas.{keeps_step, sectors_stay}
 use Rattle.ahci_port.proofs.RegisterLemmas.{tracks_complete}
 use Rattle.ahci_port.proofs.SetLemmas.{own, other}
 use Rattle.ahci_port.proofs.WorkLemmas.{IsSized, op_read, op_write, op_direction}
@@ -101,11 +102,11 @@ size_stays q image image' text text' moved = by q.write refl
 
 -- an accepted command is served
 pub keeps_serve : (starting : List ℕ) (disk : DiskState) (regs : PortState) (slots : List (Option SlotState)) (headers : List (List ℕ))
-    (past : List Entry) (free left tag : ℕ) (slot : SlotState) (image : List ℕ) (w : WindowState)
-    → Keeps starting disk regs slots headers past free → phase past tag ≡ Accepted → halted past ≡ false → slot_at slots tag ≡ Some slot → IsSized slot.window
+    (past : List Entry) (free left tag : ℕ) (slot : SlotState) (image : List ℕ) (reserved : List Bool) (w : WindowState)
+    → Keeps starting disk regs slots headers past free → StayReserved (is_reserved_in disk.reserved) (is_reserved_in reserved) → phase past tag ≡ Accepted → halted past ≡ false → slot_at slots tag ≡ Some slot → IsSized slot.window
     → HasMoved (queued_of slot.window) disk.image image (text slot.window) (text w) → MovedWindow slot.window w → left + 1 ≡ free
-    → Keeps starting (served disk tag image) (after_bits regs 0x40 0 true (2 ^ tag)) (set slots tag (Some (served_slot slot (length past) w))) headers (Complete tag ∷ past) left
-keeps_serve starting disk regs slots headers past free left tag slot image w k accepted running here sized moved window room =
+    → Keeps starting (served disk tag image reserved) (after_bits regs 0x40 0 true (2 ^ tag)) (set slots tag (Some (served_slot slot (length past) w))) headers (Complete tag ∷ past) left
+keeps_serve starting disk regs slots headers past free left tag slot image reserved w k stay accepted running here sized moved window room =
     let below = below_depth _ disk.depth past tag Accepted k.lawful accepted (λ e. absurd (cc)) in
     let own_slot : Holds starting past tag slot = subst (HasSlot starting past tag) here (k.each tag) in
     let allowed : IsAllowed (length starting / 512) disk.depth past (Complete tag) = (accepted, running) in
@@ -115,7 +116,7 @@ keeps_serve starting disk regs slots headers past free left tag slot image w k a
     let direction = own_slot.is_of.0 ∙ op_direction slot.window in
     let slot' = served_slot slot (length past) w in
     let still = halted_same past (Complete tag) tag (ap is_failed accepted) (ap is_failed (own tag Done (phase past tag))) (λ u apart. other tag u Done (phase past u) apart) in
-    keeps_step starting disk (served disk tag image) regs (after_bits regs 0x40 0 true (2 ^ tag)) slots headers headers past free left tag (Complete tag) (Some slot') k below allowed
+    keeps_step starting disk (served disk tag image reserved) regs (after_bits regs 0x40 0 true (2 ^ tag)) slots headers headers past free left tag (Complete tag) (Some slot') k below allowed
     (λ u apart. record { phase_same = other tag u Done (phase past u) apart; request_same = refl; unanswered = apart_answers tag u apart })
     (record {
       phase_is = own tag Done (phase past tag);
@@ -135,6 +136,8 @@ keeps_serve starting disk regs slots headers past free left tag slot image w k a
       error_is = k.error_is ∙ sym (ap (λ b. cond b (last_failure past) None) still);
       own_command = get_or-set_same disk.commands tag None None (let c = k.shape.command_count in let d = k.shape.shallow in omega arith);
       other_commands = λ u apart. get_or-set_other disk.commands tag u None None apart ∙ k.commands u ∙ ap (λ b. outstanding_in b (slot_at slots u)) (sym still);
+      stay = stay;
+      own_room = sectors_stay (length starting / 512) disk.reserved reserved (Some slot) stay (subst (HasSectors (length starting / 512) disk.reserved) here (k.reserved tag));
     })
     (headers_stay headers tag (Some slot') k.shape.header_count (subst (HasHeader headers tag) here (k.listed tag) ∙ sym window.header_same))
     (tracks_complete disk.depth past regs tag k.tracks (let d = k.shape.shallow in omega arith) accepted)

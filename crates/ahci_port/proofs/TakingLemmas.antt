@@ -76,7 +76,7 @@ pub record Taking (starting : List ℕ) (disk : DiskState) (past : List Entry) (
   pub its_tag : (queued_of slot.window).tag ≡ tag
   pub room : 0 < free
 
-lba_max : (a s : ℕ) → a < 2 ^ 48 → s ≤ 131072 → max a s < 2 ^ 48
+lba_max : (a s : ℕ) → a < 2 ^ 48 → s ≤ 4294967295 → max a s < 2 ^ 48
 lba_max a s low few = omega arith
 
 taking : (starting : List ℕ) (disk : DiskState) (regs : PortState) (slots : List (Option SlotState)) (headers : List (List ℕ)) (past : List Entry) (free tag : ℕ)

@@ -57,9 +57,9 @@ same_sact past free =
 same_ci : (past : List Entry) → AllFree past → ci past ≡ ci []
 same_ci past free = places_none (λ t. in_ci (phase past t)) (λ t low. ap in_ci (free t)) ∙ sym (places_none (λ t. in_ci (phase [] t)) (λ t low. refl))
 
-pub keeps_trim : (starting : List ℕ) (disk : DiskState) (regs : PortState) (slots : List (Option SlotState)) (headers : List (List ℕ)) (past : List Entry) (free : ℕ)
-    → Keeps starting disk regs slots headers past free → ((tag : ℕ) → slot_at slots tag ≡ None) → Keeps disk.image disk regs slots headers [] 0
-keeps_trim starting disk regs slots headers past free k none = record {
+pub keeps_trim : (starting : List ℕ) (disk : DiskState) (regs : PortState) (slots : List (Option SlotState)) (headers : List (List ℕ)) (past : List Entry) (free : ℕ) (reserved : List Bool)
+    → Keeps starting disk regs slots headers past free → ((tag : ℕ) → slot_at slots tag ≡ None) → Keeps disk.image (record disk { starting = disk.image; reserved = reserved }) regs slots headers [] 0
+keeps_trim starting disk regs slots headers past free reserved k none = record {
   shape = rw k.shape.same_size (rw k.shape.same_size at k.shape);
   lawful = tt;
   tracks = record {
@@ -74,6 +74,7 @@ keeps_trim starting disk regs slots headers past free k none = record {
   error_is = k.error_is ∙ ap (λ b. cond b (last_failure past) None) calm ∙ sym (ap (λ b. cond b (last_failure []) None) calm_at_first);
   each = λ u. rw (none u) refl;
   listed = λ u. rw (none u) tt;
+  reserved = λ u. rw (none u) tt;
   room = nothing_owed;
 }
   where

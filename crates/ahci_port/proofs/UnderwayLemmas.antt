@@ -134,14 +134,14 @@ underway_next s count disk disk' slots found slot' area area' journal journal' m
 
     keeps : Keeps s.starting disk' (completed s.registers (take (count + 1) s.tags)) (set slots tag next) s.headers journal'.past journal'.room
     keeps =
-        let kept_all = keeps_serve s.starting disk (completed s.registers (take count s.tags)) slots s.headers journal.past journal.room journal'.room tag slot disk'.image slot'.window
-        u.keeps t.accepted t.running t.owner.here (fit_sized slot.window t.owner.holds.fit) c.data_moved
+        let kept_all = keeps_serve s.starting disk (completed s.registers (take count s.tags)) slots s.headers journal.past journal.room journal'.room tag slot disk'.image disk'.reserved slot'.window
+        u.keeps c.stay t.accepted t.running t.owner.here (fit_sized slot.window t.owner.holds.fit) c.data_moved
         (moved_window (queued_of slot.window) slot.window slot'.window disk.image disk'.image refl t.owner.holds.fit c.fit c.kept c.data_moved)
         c.room_is in
         rw (c.past_is, ← regs_are)
         (subst (λ d. Keeps s.starting d (after_bits (completed s.registers (take count s.tags)) 0x40 0 true (2 ^ tag)) (set slots tag next) s.headers (Complete tag ∷ journal.past) journal'.room)
         (sym c.disk_is)
-        (subst (λ n. Keeps s.starting (served disk tag disk'.image) (after_bits (completed s.registers (take count s.tags)) 0x40 0 true (2 ^ tag)) (set slots tag n) s.headers
+        (subst (λ n. Keeps s.starting (served disk tag disk'.image disk'.reserved) (after_bits (completed s.registers (take count s.tags)) 0x40 0 true (2 ^ tag)) (set slots tag n) s.headers
         (Complete tag ∷ journal.past) journal'.room) (sym next_is) kept_all))
 
     -- the slot had not been served before

@@ -1,11 +1,12 @@
 -- What a port keeps: its slots, disk, registers and journal in step.
-use Rattle.std.specs.Prelude.{◌≡◌, ◌≢◌, ℕ, ◌*◌, ◌/◌, ◌≤◌, List, [], length, Option, None, Some, slice_index_or}
+use Rattle.std.specs.Prelude.{◌≡◌, ◌≢◌, ℕ, ◌*◌, ◌/◌, ◌≤◌, Bool, List, [], length, Option, None, Some, slice_index_or}
 use Rattle.ahci_regs.specs.PortState.{PortState}
 use Rattle.ahci_table.specs.Command.{op}
 use Rattle.ahci_table.specs.Fit.{IsFit}
 use Rattle.ncq_journal.specs.declared.phase.Phase.TheVariants.{Free}
 use Rattle.ncq_journal.specs.Answer.{answer}
-use Rattle.ncq_core.specs.DiskState.{DiskState, command_of, most_depth, most_disk_sectors}
+use Rattle.ncq_core.specs.DiskState.{DiskState, command_of, most_depth, most_sectors}
+use Rattle.ncq_core.specs.Serving.{HasRoom}
 use Rattle.ncq_journal.specs.Entry.{Entry}
 use Rattle.ncq_journal.specs.Halted.{halted}
 use Rattle.ncq_journal.specs.Image.{sector_at, is_write}
@@ -43,6 +44,11 @@ abbrev pub HasHeader : List (List ℕ) → ℕ → Option SlotState → Type 0
 HasHeader headers tag None = Unit {0}
 HasHeader headers tag (Some slot) = slice_index_or headers tag [] ≡ slot.window.header
 
+-- the sectors that an owned slot's write needs are reserved, on a disk of so many
+abbrev pub HasSectors : ℕ → List Bool → Option SlotState → Type 0
+HasSectors size reserved None = Unit {0}
+HasSectors size reserved (Some slot) = HasRoom size reserved slot.is_write slot.lba slot.sectors
+
 -- the slot of a tag
 abbrev pub slot_at : List (Option SlotState) → ℕ → Option SlotState
 slot_at slots tag = slice_index_or slots tag None
@@ -50,7 +56,7 @@ slot_at slots tag = slice_index_or slots tag None
 -- the sizes of a port's parts: the starting image and the disk's, tags, commands, slots and headers
 pub record IsShaped (size image depth commands slots headers : ℕ) : Type 0 where
   pub whole : size ≡ 512 * (size / 512)
-  pub few : size / 512 ≤ most_disk_sectors
+  pub few : size / 512 ≤ most_sectors
   pub some_slot : 1 ≤ depth
   pub shallow : depth ≤ most_depth
   pub same_size : image ≡ size
@@ -67,4 +73,5 @@ pub record Keeps (starting : List ℕ) (disk : DiskState) (registers : PortState
   pub error_is : disk.error ≡ standing past
   pub each : (tag : ℕ) → HasSlot starting past tag (slot_at slots tag)
   pub listed : (tag : ℕ) → HasHeader headers tag (slot_at slots tag)
+  pub reserved : (tag : ℕ) → HasSectors (length starting / 512) disk.reserved (slot_at slots tag)
   pub room : owed past ≤ free

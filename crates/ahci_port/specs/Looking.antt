@@ -1,6 +1,6 @@
 -- What a driver asks a port of: which tags wait for what, and how much a tag's request reads.
 use Rattle.std.specs.Prelude.{◌≡◌, ℕ, ◌*◌, ◌≤◌, Bool, if◌then◌else◌, List, length, Option, None, Some}
-use Rattle.ncq_core.specs.DiskState.{most_depth, most_disk_sectors}
+use Rattle.ncq_core.specs.DiskState.{most_depth, most_sectors}
 use Rattle.ncq_journal.specs.Entry.{Entry}
 use Rattle.ncq_journal.specs.Phase.{phase}
 use Rattle.ncq_journal.specs.Request.{Request, request}
@@ -44,5 +44,5 @@ pub record HasShape (port : PortView) : Type 0 where
   pub windows : length port.windows ≡ port.depth
   pub whole : length port.starting ≡ 512 * sectors_in port
   pub least : 1 ≤ sectors_in port
-  pub few : sectors_in port ≤ most_disk_sectors
+  pub few : sectors_in port ≤ most_sectors
   pub size : length port.image ≡ length port.starting

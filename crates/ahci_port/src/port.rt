@@ -11,9 +11,9 @@ mod submitting;
 mod trimming;
 mod writing;
 
-ghost use Rattle.std.specs.Prelude.{◌≡◌, ◌<◌, ◌≤◌, None, length, replicate, IfOk};
+ghost use Rattle.std.specs.Prelude.{◌≡◌, ◌/◌, ◌<◌, ◌≤◌, None, length, replicate, IfOk};
 ghost use Rattle.ahci_regs.specs.Reading.{read_of};
-ghost use Rattle.ncq_core.specs.DiskState.{new_fault, new_disk, IsDisk};
+ghost use Rattle.ncq_core.specs.DiskState.{disk_over, new_fault, over_fault, IsDisk};
 ghost use Rattle.ncq_journal.specs.{Halted.{halted}, Image.{sector_at}, Numbering.{number_of}, Owed.{owed}, Phase.{phase}, Sector.{sector}};
 ghost use Rattle.ahci_port.specs.{Faults.{AnswersOr, most_first, resume_fault_of, resume_refusal}, Headline.{Headline}, PortView.{sectors_in, new_port, owner_of, port_from}, Registers.{acknowledged}};
 
@@ -22,8 +22,9 @@ use crate::slot::{Slot, phase_in, place_in};
 use crate::software::{started, write};
 use crate::unqueued::UnqueuedTable;
 use ahci_regs::{PortRegs, RegFault, Register};
-use ncq_core::{Disk, DiskFault};
-use ncq_journal::{Journal, Phase, read_sectors};
+use ncq_core::{Disk, DiskFault, size_fault};
+use ncq_journal::{Journal, Phase};
+use sector_store::{SectorStore, Whole};
 use std::alloc::{AllocError, Allocator, Global};
 use std::marker::Model;
 
@@ -36,10 +37,9 @@ pub const MOST_FIRST: u64 = 1 << 63;
 /// One AHCI port: its registers, command list, received FIS area and slots, the queueing disk behind it, and the journal of
 /// what it has done. Contracts see a `PortView`, of which `headline` holds.
 #[derive(Drop)]
-pub struct Port<A: Allocator = Global> {
+pub struct Port<A: Allocator = Global, S: SectorStore = Whole<A>> {
     alloc: A,
-    starting: Vec<u8, A>,
-    disk: Disk<A>,
+    disk: Disk<S>,
     registers: PortRegs,
     area: [u8; 256],
     headers: [[u8; 32]; 32],
@@ -48,16 +48,16 @@ pub struct Port<A: Allocator = Global> {
     journal: Journal<A>,
 }
 
-impl<A: Allocator> Model for Port<A> {
+impl<A: Allocator, S: SectorStore> Model for Port<A, S> {
     ghost use Rattle.ahci_port.specs.PortView.{PortView};
     ghost use Rattle.ahci_port.specs.Keeping.{Keeps};
     ghost use Rattle.ahci_port.specs.Slots.{view_of};
 
     ghost Value = { PortView };
 
-    ghost view = { λ p. view_of p.starting.items p.disk p.registers p.unqueued.sent p.area p.slots.items p.journal };
+    ghost view = { λ p. view_of p.disk.starting p.disk p.registers p.unqueued.sent p.area p.slots.items p.journal };
 
-    ghost invariant = { λ p. Keeps p.starting.items p.disk p.registers p.slots.items p.headers p.journal.past p.journal.room };
+    ghost invariant = { λ p. Keeps p.disk.starting p.disk p.registers p.slots.items p.headers p.journal.past p.journal.room };
 }
 
 /// The fault of a port that goes on, where no disk was made.
@@ -128,9 +128,9 @@ impl<A: Allocator + Clone> Port<A> {
         ensures fault { AnswersOr result (resume_refusal image.items depth first) ResumeFault.OutOfMemory }
     {
         if first > MOST_FIRST {
-            return match Disk::new(image, depth) {
-                Ok(_) => Err(ResumeFault::BadFirst),
-                Err(fault) => Err(resume_fault(fault)),
+            return match size_fault(image.len(), depth) {
+                Some(fault) => Err(resume_fault(fault)),
+                None => Err(ResumeFault::BadFirst),
             };
         }
         match Self::begin(alloc, image, depth, first) {
@@ -145,34 +145,55 @@ impl<A: Allocator + Clone> Port<A> {
         ensures ok { IfOk result (λ p. p ≡ port_from first image.items depth) }
         ensures fault { AnswersOr result (new_fault image.items depth) DiskFault.OutOfMemory }
     {
-        let starting = Self::copy_of(&alloc, image.as_slice());
-        let disk = Disk::new(image, depth)?;
-        let starting = starting?;
+        if let Some(fault) = size_fault(image.len(), depth) {
+            return Err(fault);
+        }
+        let store = Whole::new(alloc.clone()?, image)?;
+        Self::over_from(alloc, store, depth, first)
+    }
+}
+
+impl<A: Allocator + Clone, S: SectorStore + Drop> Port<A, S> {
+    /// A port over a store, with `depth` slots, which is started and has done nothing. The store keeps its sectors as they are now.
+    ///
+    /// # Errors
+    /// `BadSize` where the store has no sectors or more than 2^32 - 1, `BadDepth` where the depth is not 1 to 32; else `OutOfMemory`
+    /// where a growth was refused.
+    pub fn over(alloc: A, store: S, depth: u32) -> Result<Self, DiskFault>
+        requires { length (S.starting store) ≡ length (S.image store) }
+        ensures ok { IfOk result (λ p. p ≡ new_port (S.image store) depth) }
+        ensures fault { AnswersOr result (over_fault (length (S.image store) / 512) depth) DiskFault.OutOfMemory }
+    {
+        Self::over_from(alloc, store, depth, 0)
+    }
+
+    /// A port over a store, whose journal's first entry has this number.
+    fn over_from(alloc: A, store: S, depth: u32, first: u64) -> Result<Self, DiskFault>
+        requires kept { length (S.starting store) ≡ length (S.image store) }
+        requires first { first ≤ most_first }
+        ensures ok { IfOk result (λ p. p ≡ port_from first (S.image store) depth) }
+        ensures fault { AnswersOr result (over_fault (length (S.image store) / 512) depth) DiskFault.OutOfMemory }
+    {
+        let mut disk = Disk::over(store, depth)?;
+        disk.keep();
         let depth = disk.depth();
-        match Self::over(alloc, starting, disk, depth, first) {
+        match Self::made_of(alloc, disk, depth, first) {
             Ok(port) => Ok(port),
             Err(refused) => Err(refused.into()),
         }
     }
 
-    /// The port of a new disk over this image.
-    fn over(
-        alloc: A,
-        starting: Vec<u8, A>,
-        disk: Disk<A>,
-        depth: u32,
-        first: u64,
-    ) -> Result<Self, AllocError>
-        requires new { disk ≡ new_disk starting.items disk.held depth }
-        requires disk { IsDisk (new_disk starting.items disk.held depth) }
+    /// The port of a new disk that has kept its image.
+    fn made_of(alloc: A, disk: Disk<S>, depth: u32, first: u64) -> Result<Self, AllocError>
+        requires new { disk ≡ disk_over disk.image disk.image disk.reserved depth }
+        requires disk { IsDisk (disk_over disk.image disk.image disk.reserved depth) }
         requires first { first ≤ most_first }
-        ensures { IfOk result (λ p. p ≡ port_from first starting.items depth) }
+        ensures { IfOk result (λ p. p ≡ port_from first disk.image depth) }
     {
         let slots = free_slots(alloc.clone()?, depth)?;
         let journal = Journal::starting_at(alloc.clone()?, first);
         Ok(Port {
             alloc,
-            starting,
             disk,
             registers: started(depth),
             area: empty_area(),
@@ -182,16 +203,18 @@ impl<A: Allocator + Clone> Port<A> {
             journal,
         })
     }
+}
 
-    /// A copy of an image.
-    fn copy_of(alloc: &A, image: &[u8]) -> Result<Vec<u8, A>, AllocError>
-        ensures { IfOk result (λ v. v.items ≡ image.now) }
+impl<A: Allocator + Clone, S: SectorStore> Port<A, S> {
+    /// A copy of some bytes.
+    fn copy_of(alloc: &A, bytes: &[u8]) -> Result<Vec<u8, A>, AllocError>
+        ensures { IfOk result (λ v. v.items ≡ bytes.now) }
     {
-        Vec::from_slice(alloc.clone()?, image)
+        Vec::from_slice(alloc.clone()?, bytes)
     }
 }
 
-impl<A: Allocator> Port<A> {
+impl<A: Allocator, S: SectorStore> Port<A, S> {
     /// The phase of a tag, by its slot.
     pub fn phase(&self, tag: u8) -> Phase
         ensures { result ≡ phase self.now.past tag }
@@ -281,6 +304,6 @@ impl<A: Allocator> Port<A> {
         requires len { length out.old ≡ 512 }
         ensures { out.new ≡ sector_at self.now.starting lba }
     {
-        read_sectors(self.starting.as_slice(), lba, out);
+        self.disk.copy_starting(lba, out);
     }
 }

@@ -3,7 +3,8 @@
 ghost use Rattle.std.specs.{Prelude.{◌≡◌, length, map, replicate, IsSome, None, Some, is_some}, List.{list_any}, Option.{option_copied, option_map}};
 ghost use Rattle.ahci_table.specs.{Command.{cfis, op, queued_of}, Fit.{IsFit}, Prdt.{pieces}, Text.{text}};
 ghost use Rattle.ncq_journal.specs.Lawful.{IsProper};
-ghost use Rattle.ncq_core.specs.{DiskFis.{setup_bytes}, DiskState.{command_of}, Serving.{HasMoved, serve_fault, served}};
+ghost use Rattle.ncq_core.specs.{DiskFis.{setup_bytes}, DiskState.{command_of, is_reserved_in}, Serving.{HasCommandRoom, HasMoved, serve_fault, served}};
+ghost use Rattle.sector_store.specs.Reserved.{StayReserved};
 ghost use Rattle.ahci_port.specs.{
   Memory.{IsKept},
   Keeping.{slot_at},
@@ -16,6 +17,7 @@ use crate::memory::Memory;
 use ahci_table::{Command, Window};
 use ncq_core::Disk;
 use ncq_journal::{Outcome, Phase};
+use sector_store::SectorStore;
 use std::alloc::{Allocator, Global};
 use std::marker::Model;
 
@@ -105,11 +107,19 @@ impl<A: Allocator> Slot<A> {
     }
 
     /// The disk serves the command, over the window's memory, and completes it at an entry. The DMA Setup FIS is answered.
-    pub(crate) fn serve(&mut self, disk: &mut Disk<A>, tag: u8, entry: u64) -> [u8; 28]
+    #[tactic(auto, using(ncq_core::proofs::ReservedLemmas::memory_at))]
+    pub(crate) fn serve<S: SectorStore>(
+        &mut self,
+        disk: &mut Disk<S>,
+        tag: u8,
+        entry: u64,
+    ) -> [u8; 28]
         requires fit { IsFit self.old.window }
         requires there { command_of disk.old tag ≡ Some (queued_of self.old.window) }
         requires running { serve_fault disk.old tag ≡ None }
-        ensures state { disk.new ≡ served disk.old tag disk.new.image }
+        requires memory { HasCommandRoom disk.old (queued_of self.old.window) }
+        ensures state { disk.new ≡ served disk.old tag disk.new.image disk.new.reserved }
+        ensures stay { StayReserved (is_reserved_in disk.old.reserved) (is_reserved_in disk.new.reserved) }
         ensures data { HasMoved (queued_of self.old.window) disk.old.image disk.new.image (text self.old.window) (text self.new.window) }
         ensures fit { IsFit self.new.window }
         ensures kept { IsKept self.old.window self.new.window }

@@ -13,7 +13,7 @@ use crate::software::write;
 use ahci_regs::{PortRegs, Register};
 use ncq_core::Disk;
 use ncq_journal::Plain;
-use std::alloc::Allocator;
+use sector_store::SectorStore;
 
 /// How many entries the command's PRDT has: a page is one piece, and a flush has no data.
 fn entries_for(plain: Plain) -> u8
@@ -67,12 +67,12 @@ fn sent_for(plain: Plain) -> Sent
 /// Sends a command by slot 0: header and command table are put where the device finds them, and PxCI[0] is set. The device lets
 /// the command through, by which nothing of the disk changes: so its bytes, which are known here, are not read again.
 #[tactic(auto, using(crate::proofs::CarryingLemmas::passes_through, crate::proofs::CarryingLemmas::state_stays))]
-fn send<A: Allocator>(
+fn send<S: SectorStore>(
     plain: Plain,
     header: &mut [u8; 32],
     table: &mut UnqueuedTable,
     registers: &mut PortRegs,
-    disk: &Disk<A>,
+    disk: &Disk<S>,
 )
     requires { Passes plain disk.now }
     ensures taken { (verdict disk.now (cfis_for plain)).answer ≡ taken.Plain plain }
@@ -87,12 +87,12 @@ fn send<A: Allocator>(
 }
 
 /// Receives what the device answers to a command that it has taken: a page by PIO, or the end of a flush.
-fn receive<A: Allocator>(
+fn receive<S: SectorStore>(
     plain: Plain,
     table: &mut UnqueuedTable,
     registers: &mut PortRegs,
     area: &mut [u8; 256],
-    disk: &mut Disk<A>,
+    disk: &mut Disk<S>,
 )
     requires { Passes plain disk.old }
     ensures page { HasRead plain disk.old table.new.page }
@@ -118,13 +118,13 @@ fn receive<A: Allocator>(
 
 /// Carries a command out by slot 0: it is sent, and what the device answers is received. The header of the window that stands
 /// in slot 0 is put aside meanwhile.
-pub(crate) fn carry_out<A: Allocator>(
+pub(crate) fn carry_out<S: SectorStore>(
     plain: Plain,
     headers: &mut [[u8; 32]; 32],
     table: &mut UnqueuedTable,
     registers: &mut PortRegs,
     area: &mut [u8; 256],
-    disk: &mut Disk<A>,
+    disk: &mut Disk<S>,
 )
     requires { Passes plain disk.old }
     ensures page { HasRead plain disk.old table.new.page }

@@ -4,7 +4,7 @@ use Rattle.std.specs.Prelude.{◌≡◌, ℕ, ◌+◌, ◌*◌, ◌≤◌, Bool,
 use Rattle.sata_fis.specs.Fields.{QueuedFields}
 use Rattle.ncq_core.specs.declared.serve_fault.ServeFault.{ServeFault}
 use Rattle.ncq_core.specs.declared.serve_fault.ServeFault.TheVariants.{Stopped, NotAccepted, OutsideCommand}
-use Rattle.ncq_core.specs.DiskState.{DiskState, command_of, is_reserved_in, is_stopped}
+use Rattle.ncq_core.specs.DiskState.{DiskState, command_of, disk_sectors, is_reserved_in, is_stopped}
 use Rattle.ncq_journal.specs.Image.{IsWrittenOver}
 use Rattle.sector_store.specs.Reserved.{AreReserved}
 
@@ -69,6 +69,10 @@ HasRoom size reserved true lba sectors = lba + sectors ≤ size → AreReserved 
 abbrev pub HasMemory : (never_asks : Bool) → ℕ → List Bool → QueuedFields → Type 0
 HasMemory true size reserved q = Unit {0}
 HasMemory false size reserved q = HasRoom size reserved q.write q.lba q.sectors
+
+-- the disk has the memory that this command needs
+abbrev pub HasCommandRoom : DiskState → QueuedFields → Type 0
+HasCommandRoom disk q = HasRoom (disk_sectors disk) disk.reserved q.write q.lba q.sectors
 
 -- the disk with this image, and these sectors reserved, once a tag's command is completed
 abbrev pub served : DiskState → ℕ → List ℕ → List Bool → DiskState

@@ -10,9 +10,10 @@ use crate::reply::Reply;
 use crate::software::issue;
 use ahci_table::Window;
 use ncq_journal::{Event, Phase};
+use sector_store::SectorStore;
 use std::alloc::Allocator;
 
-impl<A: Allocator> Port<A> {
+impl<A: Allocator, S: SectorStore> Port<A, S> {
     /// Takes the answer of request `number` of a tag and frees the slot. The window is the slot's; for a finished read its
     /// text is the sectors, as they were at the entry that answered it. It takes no memory.
     ///

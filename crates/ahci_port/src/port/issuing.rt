@@ -12,6 +12,7 @@ use crate::software::issue;
 use ahci_table::{Command, Piece, TableFault, Window};
 use ncq_journal::{Bytes, Event, Op, Phase};
 use sata_fis::Queued;
+use sector_store::SectorStore;
 use std::alloc::{AllocError, Allocator};
 
 /// The port's fault where the rule of a window is broken.
@@ -51,7 +52,7 @@ fn op_of<A: Allocator + Clone>(
     })
 }
 
-impl<A: Allocator> Port<A> {
+impl<A: Allocator, S: SectorStore> Port<A, S> {
     /// Why the port takes no window of this tag, whatever the window holds: `Halted`, `NoSuchTag`, `SlotOwned`.
     pub fn early_fault(&self, tag: u8) -> Option<IssueFault>
         ensures { result ≡ early_refusal self.now tag }
@@ -88,7 +89,7 @@ impl<A: Allocator> Port<A> {
     }
 }
 
-impl<A: Allocator + Clone> Port<A> {
+impl<A: Allocator + Clone, S: SectorStore> Port<A, S> {
     /// Issues the command of a window (AHCI 1.3.1, "Building a Command"): its header goes into the command list, the window
     /// into its slot, and the tag's bit is set in PxSACT, then in PxCI. The answer is the request's number, that of
     /// its Issue entry. Room for every later entry that the request needs without an error is reserved here.
@@ -101,7 +102,7 @@ impl<A: Allocator + Clone> Port<A> {
         ensures issued { OnOk result (IsIssued window self.old self.new) }
         ensures taken { OnOk result (MayTake self.old window.tag × IsFit window) }
         ensures fault { IfErr result (λ e. RefusesIssue self.old window e.1) }
-        ensures lacking { IfErr result (λ e. e.1 ≡ IssueFault.OutOfMemory → is_write (op window) ≡ false → LacksRoom self.old) }
+        ensures lacking { IfErr result (λ e. e.1 ≡ IssueFault.OutOfMemory → is_write (op window) ≡ false → S.never_asks ≡ true → LacksRoom self.old) }
         ensures err { IfErr result (λ e. (e.0 ≡ window) × (self.new ≡ self.old)) }
     {
         let command = match self.command_of(&window) {
@@ -129,7 +130,7 @@ impl<A: Allocator + Clone> Port<A> {
         ensures issued { OnOk result (IsIssued window self.old self.new) }
         ensures taken { OnOk result (MayTake self.old window.tag × IsFit window) }
         ensures fault { IfErr result (λ e. RefusesIssue self.old window e.1) }
-        ensures lacking { IfErr result (λ e. e.1 ≡ IssueFault.OutOfMemory → LacksRoom self.old) }
+        ensures lacking { IfErr result (λ e. e.1 ≡ IssueFault.OutOfMemory → S.never_asks ≡ true → LacksRoom self.old) }
         ensures err { IfErr result (λ e. (e.0 ≡ window) × (self.new ≡ self.old)) }
     {
         match self.command_of(&window) {
@@ -154,7 +155,7 @@ impl<A: Allocator + Clone> Port<A> {
         ensures number { IfOk result (λ n. n ≡ next_number self.old) }
         ensures issued { OnOk result (IsIssued window self.old self.new) }
         ensures fault { IfErr result (λ e. e.1 ≡ IssueFault.OutOfMemory) }
-        ensures lacking { OnErr result (LacksRoom self.old) }
+        ensures lacking { OnErr result (S.never_asks ≡ true → LacksRoom self.old) }
         ensures err { IfErr result (λ e. (e.0 ≡ window) × (self.new ≡ self.old)) }
     {
         match self.enter(window, command, asked) {
@@ -181,10 +182,14 @@ impl<A: Allocator + Clone> Port<A> {
         requires asked { work_of asked ≡ op window }
         ensures number { IfOk result (λ n. n ≡ next_number self.old) }
         ensures issued { OnOk result (IsIssued window self.old self.new) }
-        ensures lacking { OnErr result (LacksRoom self.old) }
+        ensures lacking { OnErr result (S.never_asks ≡ true → LacksRoom self.old) }
         ensures err { IfErr result (λ e. (e.0 ≡ window) × (e.1 ≡ asked) × (self.new ≡ self.old)) }
     {
         let tag = window.tag();
+        match self.disk.reserve(&command.queued) {
+            Ok(()) => {}
+            Err(refused) => return Err((window, asked, refused)),
+        }
         match self.journal.reserve(ROOM) {
             Ok(()) => {}
             Err(refused) => return Err((window, asked, refused)),

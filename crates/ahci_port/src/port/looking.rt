@@ -11,10 +11,11 @@ use crate::slot::{read_in, window_in};
 use crate::tag_sets::TagSets;
 use ahci_table::Window;
 use ncq_journal::Phase;
+use sector_store::SectorStore;
 use std::alloc::Allocator;
 use word_bits::with_bit;
 
-impl<A: Allocator> Port<A> {
+impl<A: Allocator, S: SectorStore> Port<A, S> {
     /// Which tags wait for what, in one look at the slots.
     #[tactic(auto, using(ncq_journal::proofs::SetLemmas::among_none, ncq_journal::proofs::SetLemmas::among_with, ncq_journal::proofs::SetLemmas::among_without, ncq_journal::proofs::SetLemmas::among_all))]
     pub fn tag_sets(&self) -> TagSets
@@ -76,13 +77,6 @@ impl<A: Allocator> Port<A> {
         window_in(&self.slots, tag)
     }
 
-    /// The sectors as they were when the port was made, last trimmed or last reset, one after the other.
-    pub fn starting_image(&self) -> &[u8]
-        ensures { result.now ≡ self.now.starting }
-    {
-        self.starting.as_slice()
-    }
-
     /// What slot 0 sent last that was not queued: zeros before the first such command.
     pub fn sent(&self) -> &Sent
         ensures { result.now ≡ self.now.sent }
@@ -90,7 +84,7 @@ impl<A: Allocator> Port<A> {
         &self.unqueued.sent
     }
 
-    /// Shows what every port has: 1 to 32 slots and 1 to 131,072 sectors, all whole. It does nothing.
+    /// Shows what every port has: 1 to 32 slots and 1 to 2^32 - 1 sectors, all whole. It does nothing.
     pub fn shape(&self)
         ensures { HasShape self.now }
     {
@@ -105,5 +99,14 @@ impl<A: Allocator> Port<A> {
         ensures room { owed self.now.past ≤ self.now.room }
     {
         let _depth = self.disk.depth();
+    }
+}
+
+impl<A: Allocator> Port<A> {
+    /// The sectors as they were when the port was made, last trimmed or last reset, one after the other.
+    pub fn starting_image(&self) -> &[u8]
+        ensures { result.now ≡ self.now.starting }
+    {
+        self.disk.starting_image()
     }
 }

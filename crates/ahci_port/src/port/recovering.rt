@@ -12,9 +12,10 @@ use crate::slot::recover_slots;
 use crate::software::restart;
 use crate::unqueued::carry_out;
 use ncq_journal::{Event, Plain};
+use sector_store::SectorStore;
 use std::alloc::Allocator;
 
-impl<A: Allocator> Port<A> {
+impl<A: Allocator, S: SectorStore> Port<A, S> {
     /// Recovers from a failure: the port is stopped and started, and the page that READ LOG EXT reads tells the failed tag,
     /// which is the answer. The failed request is done, and every other command that was issued or accepted is held.
     ///

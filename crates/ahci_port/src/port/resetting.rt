@@ -10,6 +10,7 @@ use crate::software::started;
 use crate::unqueued::UnqueuedTable;
 use ahci_regs::PortRegs;
 use ncq_journal::Journal;
+use sector_store::SectorStore;
 use std::alloc::Allocator;
 
 /// Starts the port again, over memory into which nothing has come: the received FIS area, the command list and slot 0's table.
@@ -33,11 +34,11 @@ fn begin_again(
     *unqueued = UnqueuedTable::new();
 }
 
-impl<A: Allocator + Copy> Port<A> {
+impl<A: Allocator + Copy, S: SectorStore> Port<A, S> {
     /// Resets the port and its device, and starts it again: every request is dropped, whatever its phase, and the port is as a new
     /// one over the image as it is now. A command that was not completed has changed no sector. The journal is handed out, and the
     /// next entry has the number that it would have had, so no number of a dropped request comes again. It takes no memory: the
-    /// image is copied in place, the memory of the dropped requests is freed, and the journal's goes out with it.
+    /// store keeps the image in place, the memory of the dropped requests is freed, and the journal's goes out with it.
     ///
     /// # Errors
     /// `Spent` if the next number is over 2^63.
@@ -53,9 +54,7 @@ impl<A: Allocator + Copy> Port<A> {
             return Err(fault);
         }
         self.disk.reset();
-        self.starting
-            .as_mut_slice()
-            .copy_from_slice(self.disk.image());
+        self.disk.keep();
         begin_again(
             &mut self.registers,
             &mut self.area,
@@ -68,7 +67,7 @@ impl<A: Allocator + Copy> Port<A> {
     }
 }
 
-impl<A: Allocator> Port<A> {
+impl<A: Allocator, S: SectorStore> Port<A, S> {
     /// Why the port is not reset.
     fn reset_fault(&self) -> Option<ResetFault>
         ensures { result ≡ reset_refusal self.now }

@@ -3,7 +3,7 @@
 
 ghost use Rattle.std.specs.Prelude.{◌≡◌, ℕ, ◌<◌, IfOk, None, OnErr, Some, length, slice_index};
 ghost use Rattle.ahci_table.specs.{Command.{queued_of}, Fit.{IsFit}};
-ghost use Rattle.ncq_core.specs.{DiskState.{command_of}, Serving.{serve_fault}};
+ghost use Rattle.ncq_core.specs.{DiskState.{command_of}, Serving.{HasCommandRoom, serve_fault}};
 ghost use Rattle.ahci_port.specs.{Faults.{Answers, are_accepted, is_bad_list, names_twice, step_refusal}, Registers.{word_of_tags}, Serving.{CompletesOne}, Steps.{IsStepped}};
 
 use crate::fault::StepFault;
@@ -15,6 +15,7 @@ use arrayvec::ArrayVec;
 use ncq_core::Disk;
 use ncq_core::laws::the_disks_answers_are_these_bytes;
 use ncq_journal::{Event, Journal, Phase};
+use sector_store::SectorStore;
 use std::alloc::Allocator;
 use word_bits::place;
 
@@ -51,8 +52,8 @@ fn word_of_tags(tags: &[u8]) -> u32
 
 /// The disk serves the command of one tag, over its window's memory: its DMA Setup FIS is received, its data move, and its
 /// Complete is appended. The registers hear of it later.
-fn complete<A: Allocator>(
-    disk: &mut Disk<A>,
+fn complete<A: Allocator, S: SectorStore>(
+    disk: &mut Disk<S>,
     slot: &mut Slot<A>,
     area: &mut [u8; 256],
     journal: &mut Journal<A>,
@@ -61,6 +62,7 @@ fn complete<A: Allocator>(
     requires fit { IsFit slot.old.window }
     requires there { command_of disk.old tag ≡ Some (queued_of slot.old.window) }
     requires running { serve_fault disk.old tag ≡ None }
+    requires memory { HasCommandRoom disk.old (queued_of slot.old.window) }
     requires room { 0 < journal.old.room }
     ensures { CompletesOne tag disk.old disk.new slot.old slot.new area.old area.new journal.old journal.new }
 {
@@ -70,7 +72,7 @@ fn complete<A: Allocator>(
     journal.push_reserved(Event::Complete(tag));
 }
 
-impl<A: Allocator> Port<A> {
+impl<A: Allocator, S: SectorStore> Port<A, S> {
     /// The device serves the commands of some tags, in the list's order, and completes them by one FIS.
     pub(super) fn serve(&mut self, tags: &ArrayVec<u8, 32>) -> Result<Stepped, StepFault>
         ensures ok { IfOk result (λ done. IsStepped (DeviceStep.Serve tags.now) self.old self.new done) }

@@ -10,6 +10,7 @@ use crate::step::{DeviceStep, Stepped};
 use ncq_core::laws::the_disks_answers_are_these_bytes;
 use ncq_core::{ServeFault, Taken};
 use ncq_journal::{Event, Phase};
+use sector_store::SectorStore;
 use std::alloc::Allocator;
 use word_bits::place;
 
@@ -24,7 +25,7 @@ fn step_fault(fault: ServeFault) -> StepFault
     }
 }
 
-impl<A: Allocator> Port<A> {
+impl<A: Allocator, S: SectorStore> Port<A, S> {
     /// Lets the device take a step with a tag's command, or serve those of a list of tags, and answers the number of its
     /// entry. It takes no memory. A command that passes the last sector is refused when it is accepted, with error 10h and
     /// the first of its sectors that the disk lacks, which is answered as `Failed`. The commands of a list are served in its

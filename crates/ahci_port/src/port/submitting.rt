@@ -8,9 +8,10 @@ use crate::fault::{IssueFault, SubmitFault};
 use crate::port::Port;
 use ahci_table::Window;
 use ncq_journal::{LBA_LIMIT, MAX_COUNT, Op};
+use sector_store::SectorStore;
 use std::alloc::{AllocError, Allocator};
 
-impl<A: Allocator> Port<A> {
+impl<A: Allocator, S: SectorStore> Port<A, S> {
     /// Why a command of so many sectors from an LBA on would not be submitted for a tag, memory aside. All of it can be known
     /// before there are data: a refused command needs none.
     pub fn submit_fault(&self, tag: u8, lba: u64, sectors: u64) -> Option<SubmitFault>
@@ -39,7 +40,7 @@ impl<A: Allocator> Port<A> {
     }
 }
 
-impl<A: Allocator + Clone> Port<A> {
+impl<A: Allocator + Clone, S: SectorStore> Port<A, S> {
     /// Submits a command: its window is laid out over the default pieces and issued as by `issue`, and the command goes into the
     /// journal as it is. The answer is the request's number.
     ///

@@ -8,10 +8,11 @@ use crate::fault::TrimFault;
 use crate::port::{MOST_FIRST, Port};
 use crate::slot::is_any_owned;
 use ncq_journal::Journal;
+use sector_store::SectorStore;
 use std::alloc::Allocator;
 
-impl<A: Allocator + Copy> Port<A> {
-    /// Hands the journal out where every slot is free. The image becomes the starting image, which is copied, and the port
+impl<A: Allocator + Copy, S: SectorStore> Port<A, S> {
+    /// Hands the journal out where every slot is free. The image becomes the starting image, as the store keeps it, and the port
     /// goes on with an empty journal, whose first entry has the number that the next one would have had. Registers, received
     /// FIS area and disk stay. It takes no memory: the journal's own goes out with it, so the next call that appends an entry of
     /// its own asks for more.
@@ -29,14 +30,12 @@ impl<A: Allocator + Copy> Port<A> {
         if let Some(fault) = self.trim_fault() {
             return Err(fault);
         }
-        self.starting
-            .as_mut_slice()
-            .copy_from_slice(self.disk.image());
+        self.disk.keep();
         Ok(self.journal.hand_out())
     }
 }
 
-impl<A: Allocator> Port<A> {
+impl<A: Allocator, S: SectorStore> Port<A, S> {
     /// Why the journal is not handed out.
     fn trim_fault(&self) -> Option<TrimFault>
         ensures { result ≡ trim_refusal self.now }

@@ -17,6 +17,7 @@ use crate::written::Written;
 use ahci_regs::{RegFault, Register};
 use ahci_table::Window;
 use ncq_journal::Phase;
+use sector_store::SectorStore;
 use std::alloc::Allocator;
 use word_bits::{below, is_set};
 
@@ -74,7 +75,7 @@ fn bytes_from(windows: &[u8], tag: u8) -> &[u8]
     &windows[first..first + share]
 }
 
-impl<A: Allocator + Clone> Port<A> {
+impl<A: Allocator + Clone, S: SectorStore> Port<A, S> {
     /// Takes a word that software writes to the register at an offset, in bytes from the beginning of the HBA's registers. A
     /// bit of PxSACT, then of PxCI, issues the command of that slot: its header stands in `list`, the 1,024 bytes at PxCLB,
     /// and its window in `windows`, of which each slot has a 32nd part, slot 0 the first. A held command is issued again, as
@@ -229,7 +230,7 @@ impl<A: Allocator + Clone> Port<A> {
     }
 }
 
-impl<A: Allocator> Port<A> {
+impl<A: Allocator, S: SectorStore> Port<A, S> {
     /// The word that a driver reads of the register at an offset, between its writes: PxSACT has what is announced, and after
     /// ST went off the port shows itself stopped (AHCI 1.3.1, section 3.3.7). `Unaligned` and `NoSuchRegister` as `register`
     /// has them.

@@ -21,7 +21,7 @@ index_mut-requires g c =
 
 -- the slot that the call has found
 found : (g : _) (c : In-Some-index_mut g)
-    → Taking c.self.inside.starting.items c.self.inside.disk c.self.inside.journal.past c.self.inside.slots.items c.self.inside.journal.room c.args.tag c.in-Some-index_mut.slot
+    → Taking c.self.inside.disk.starting c.self.inside.disk c.self.inside.journal.past c.self.inside.slots.items c.self.inside.journal.room c.args.tag c.in-Some-index_mut.slot
 found g c = taking_now _ _ _ _ _ _ _ c.args.tag c.args.self.now _ _ c.self.invariant (ap (λ p. p.past) c.self.view_is) (sym c.accept_fault.ensures ∙ c.in_default.is)
     c.index_mut.ensures.value c.in-Some-index_mut.is
 
@@ -34,8 +34,8 @@ unreachable-requires-in-Plain g c = queues (found g (goal.at.unreachable-require
 
 -- the disk has accepted the command
 accepted : (g : _) (c : In-Accepted g)
-    → Taking c.self.inside.starting.items c.self.inside.disk c.self.inside.journal.past c.self.inside.slots.items c.self.inside.journal.room c.args.tag c.in-Some-index_mut.slot
-    → Accepts c.self.inside.disk (length c.self.inside.starting.items / 512) c.in-Some-index_mut.slot.window c.in-Accepted.fis c.take.new.self
+    → Taking c.self.inside.disk.starting c.self.inside.disk c.self.inside.journal.past c.self.inside.slots.items c.self.inside.journal.room c.args.tag c.in-Some-index_mut.slot
+    → Accepts c.self.inside.disk (length c.self.inside.disk.starting / 512) c.in-Some-index_mut.slot.window c.in-Accepted.fis c.take.new.self
 accepted g c t = accepts t c.cfis.result.now c.in-Accepted.fis c.take.new.self c.the_disks_answers_are_these_bytes.ensures.spell c.cfis.ensures
     (sym c.take.ensures.answer ∙ c.in-Accepted.is) c.take.ensures.state
 
@@ -51,7 +51,7 @@ pub push_reserved-requires : goal.push_reserved-requires
 push_reserved-requires g c = (found g (goal.at.push_reserved-requires g c).In-Some-index_mut).room
 
 acceptance : (g : _) (c : After-push_reserved g)
-    → Accepts c.self.inside.disk (length c.self.inside.starting.items / 512) c.in-Some-index_mut.slot.window c.in-Accepted.fis c.take.new.self
+    → Accepts c.self.inside.disk (length c.self.inside.disk.starting / 512) c.in-Some-index_mut.slot.window c.in-Accepted.fis c.take.new.self
 acceptance g c = let at = goal.at.invariant_of-self g c in accepted g at.In-Accepted (found g at.In-Some-index_mut)
 
 moved : (g : _) (c : After-push_reserved g) → c.receive_register.new.registers ≡ registers.accepted c.self.inside.registers c.args.tag
@@ -64,7 +64,7 @@ invariant_of-self g c =
     let t = found g (goal.at.invariant_of-self g c).In-Some-index_mut in
     let a = acceptance g c in
     rw (moved g c, c.push_reserved.ensures.past, a.state_is, c.accept.ensures)
-    (keeps_accept i.starting.items i.disk i.registers i.slots.items i.headers i.journal.past i.journal.room c.push_reserved.new.self.room c.args.tag
+    (keeps_accept i.disk.starting i.disk i.registers i.slots.items i.headers i.journal.past i.journal.room c.push_reserved.new.self.room c.args.tag
     c.in-Some-index_mut.slot c.self.invariant t.issued t.running t.here t.its_tag a.within c.push_reserved.ensures.room)
 
 pub returns-in-Accepted-clause-ok : goal.returns-in-Accepted-clause-ok
@@ -78,7 +78,7 @@ returns-in-Accepted-clause-ok g c =
     (record {
       answer_is = ap (λ n. Accepted n) c.end-number.ensures;
       appended = record {
-        starting_same = refl;
+        starting_same = ap (λ d. d.starting) a.state_is;
         image_same = ap (λ d. d.image) a.state_is;
         first_same = c.push_reserved.ensures.first;
         depth_same = ap (λ d. d.depth) a.state_is;
@@ -93,8 +93,8 @@ returns-in-Accepted-clause-ok g c =
 
 -- the disk has refused it
 refused : (g : _) (c : In-Refused g)
-    → Taking c.self.inside.starting.items c.self.inside.disk c.self.inside.journal.past c.self.inside.slots.items c.self.inside.journal.room c.args.tag c.in-Some-index_mut.slot
-    → Refuses c.self.inside.disk (length c.self.inside.starting.items / 512) c.args.tag c.in-Some-index_mut.slot.window c.in-Refused.fis c.take.new.self
+    → Taking c.self.inside.disk.starting c.self.inside.disk c.self.inside.journal.past c.self.inside.slots.items c.self.inside.journal.room c.args.tag c.in-Some-index_mut.slot
+    → Refuses c.self.inside.disk (length c.self.inside.disk.starting / 512) c.args.tag c.in-Some-index_mut.slot.window c.in-Refused.fis c.take.new.self
 refused g c t = refuses t c.cfis.result.now c.in-Refused.fis c.take.new.self c.the_disks_answers_are_these_bytes.ensures.spell c.cfis.ensures
     (sym c.take.ensures.answer ∙ c.in-Refused.is) c.take.ensures.state
 
@@ -107,12 +107,12 @@ pub push_reserved-requires-in-Refused : goal.push_reserved-requires-in-Refused
 push_reserved-requires-in-Refused g c = (found g (goal.at.push_reserved-requires-in-Refused g c).In-Some-index_mut).room
 
 refusal : (g : _) (c : After-push_reserved-in-Refused g)
-    → Refuses c.self.inside.disk (length c.self.inside.starting.items / 512) c.args.tag c.in-Some-index_mut.slot.window c.in-Refused.fis c.take.new.self
+    → Refuses c.self.inside.disk (length c.self.inside.disk.starting / 512) c.args.tag c.in-Some-index_mut.slot.window c.in-Refused.fis c.take.new.self
 refusal g c = let at = goal.at.invariant_of-self-in-Refused g c in refused g at.In-Refused (found g at.In-Some-index_mut)
 
 -- the first sector that the disk lacks
 abbrev lba : (g : _) (c : After-push_reserved-in-Refused g) → ℕ
-lba g c = max (lba_of (op c.in-Some-index_mut.slot.window)) (length c.self.inside.starting.items / 512)
+lba g c = max (lba_of (op c.in-Some-index_mut.slot.window)) (length c.self.inside.disk.starting / 512)
 
 -- the answer, the slot, the entry and the registers then
 says : (g : _) (c : After-push_reserved-in-Refused g) → (c.answer.inside.error ≡ 0x10) × (c.answer.inside.lba ≡ lba g c)
@@ -142,7 +142,7 @@ invariant_of-self-in-Refused g c =
     let t = found g (goal.at.invariant_of-self-in-Refused g c).In-Some-index_mut in
     let r = refusal g c in
     rw (regs g c, pasts g c, r.state_is, slot g c)
-    (keeps_refuse i.starting.items i.disk i.registers i.slots.items i.headers i.journal.past i.journal.room c.push_reserved-in-Refused.new.self.room c.args.tag
+    (keeps_refuse i.disk.starting i.disk i.registers i.slots.items i.headers i.journal.past i.journal.room c.push_reserved-in-Refused.new.self.room c.args.tag
     c.in-Some-index_mut.slot c.self.invariant t r.passes c.push_reserved-in-Refused.ensures.room (lba g c) refl)
 
 pub returns-in-Refused-clause-ok : goal.returns-in-Refused-clause-ok
@@ -156,7 +156,7 @@ returns-in-Refused-clause-ok g c =
     (record {
       answer_is = ap (λ n. Failed n) c.end-number.ensures;
       appended = record {
-        starting_same = refl;
+        starting_same = ap (λ d. d.starting) r.state_is;
         image_same = ap (λ d. d.image) r.state_is;
         first_same = c.push_reserved-in-Refused.ensures.first;
         depth_same = ap (λ d. d.depth) r.state_is;

@@ -34,7 +34,7 @@ answer-window-requires g c =
     ended_there c.unwrap-slot.result (ap (λ s. is_some (answer_in s)) (sym same) ∙ f.answered)
 
 -- what stands once the slot is taken: the request's slot
-taken : (g : _) (c : After-answer-window g) → Collected c.self.inside.starting.items c.self.inside.journal.past c.self.inside.slots.items c.self.inside.journal.room c.args.self.now.first c.args.tag c.args.number
+taken : (g : _) (c : After-answer-window g) → Collected c.self.inside.disk.starting c.self.inside.journal.past c.self.inside.slots.items c.self.inside.journal.room c.args.self.now.first c.args.tag c.args.number
 taken g c = collecting _ _ _ _ _ _ _ c.args.tag c.args.number c.args.self.now c.self.invariant (ap (λ p. p.past) c.self.view_is) (sym c.collect_fault.ensures ∙ c.in_default.is)
 
 same : (g : _) (c : After-answer-window g) → (taken g c).slot ≡ c.unwrap-slot.result
@@ -49,14 +49,14 @@ pub number_at-entry-requires : goal.number_at-entry-requires
 number_at-entry-requires g c =
     let at = (goal.at.number_at-entry-requires g c).After-answer-window in
     let f = taken g at in
-    ended_within c.self.inside.starting.items c.self.inside.journal.past f.slot c.answer-window.result.0 f.answer_is (ended g at)
+    ended_within c.self.inside.disk.starting c.self.inside.journal.past f.slot c.answer-window.result.0 f.answer_is (ended g at)
 
 pub invariant_of-self : goal.invariant_of-self
 invariant_of-self g c =
     let i = c.self.inside in
     let f = collecting _ _ _ _ _ _ _ c.args.tag c.args.number c.args.self.now c.self.invariant (ap (λ p. p.past) c.self.view_is) (sym c.collect_fault.ensures ∙ c.in_default.is) in
     rw (c.take.ensures.after, c.push_reserved.ensures.past)
-    (keeps_collect i.starting.items i.disk i.registers i.slots.items i.headers i.journal.past i.journal.room
+    (keeps_collect i.disk.starting i.disk i.registers i.slots.items i.headers i.journal.past i.journal.room
     c.push_reserved.new.self.room c.args.tag f.slot c.self.invariant f.done f.here c.push_reserved.ensures.room)
 
 pub returns-clause-ok : goal.returns-clause-ok
@@ -77,7 +77,7 @@ returns-clause-reply g c =
     let f = taken g at in
     let first = ap (λ p. p.first) (sym c.self.view_is) in
     rw (← c.self.view_is)
-    (answer_given i.starting.items i.journal.past i.journal.first c.args.number c.number_at-entry.result f.slot c.answer-window.result.0 c.answer-window.result.1
+    (answer_given i.disk.starting i.journal.past i.journal.first c.args.number c.number_at-entry.result f.slot c.answer-window.result.0 c.answer-window.result.1
     (f.number_is ∙ ap (λ n. number_of n f.slot.place) first) f.answer_is (ended g at) (c.answer-window.ensures.window ∙ ap (λ s. s.window) (sym (same g at))) c.number_at-entry.ensures)
 
 pub returns-clause-window : goal.returns-clause-window

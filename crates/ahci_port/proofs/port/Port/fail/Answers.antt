@@ -41,7 +41,7 @@ said : (g : _) (c : goal.After-push_reserved g) → (fail_fault c.self.inside.di
 said g c = answered_ok (fail_fault c.self.inside.disk c.args.tag c.args.at) (failed_bytes c.args.error) c.in-Ok.bits c.in-Ok.ensures.answer
 
 here : (g : _) (c : goal.After-push_reserved g)
-    → MayFailNow c.self.inside.starting.items c.self.inside.disk.depth c.self.inside.journal.past c.self.inside.slots.items c.self.inside.journal.room
+    → MayFailNow c.self.inside.disk.starting c.self.inside.disk.depth c.self.inside.journal.past c.self.inside.slots.items c.self.inside.journal.room
     c.args.tag c.args.error c.args.at
 here g c = may_fail _ _ _ _ _ _ _ c.args.tag c.args.error c.args.at c.self.invariant (said g c).0
 
@@ -61,7 +61,7 @@ invariant_of-self-2 g c =
     let m = here g c in
     let busy : is_busy (phase i.journal.past c.args.tag) ≡ true = ap is_busy m.accepted in
     rw (regs g c, c.push_reserved.ensures.past, c.in-Ok.ensures.state, slot g c)
-    (keeps_fail i.starting.items i.disk i.registers
+    (keeps_fail i.disk.starting i.disk i.registers
     (failed i.registers c.args.error) i.slots.items i.headers i.journal.past i.journal.room c.push_reserved.new.self.room c.args.tag c.args.error c.args.at m.owner.slot
     c.self.invariant busy m.owner.here m.allowed (tracks_fail i.disk.depth i.journal.past i.registers c.args.tag c.args.error c.args.at c.self.invariant.tracks busy)
     c.push_reserved.ensures.room)
@@ -74,7 +74,7 @@ returns-clause-ok g c =
     (record {
       answer_is = ap (λ n. Failed n) c.end-number.ensures;
       appended = record {
-        starting_same = refl;
+        starting_same = ap (λ d. d.starting) c.in-Ok.ensures.state;
         image_same = ap (λ d. d.image) c.in-Ok.ensures.state;
         first_same = c.push_reserved.ensures.first;
         depth_same = ap (λ d. d.depth) c.in-Ok.ensures.state;

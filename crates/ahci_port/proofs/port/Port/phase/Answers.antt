@@ -6,4 +6,4 @@ use Rattle.ahci_port.proofs.port.Port.phase.Goals as goal
 
 pub returns : goal.returns
 returns g c = rw (← c.self.view_is) (c.phase_in.ensures ∙ ap (λ xs. phase_in (slot_at xs c.args.tag)) c.deref.ensures.value
-    ∙ phase_here c.self.inside.starting.items c.self.inside.journal.past c.args.tag (slot_at c.self.inside.slots.items c.args.tag) (c.self.invariant.each c.args.tag))
+    ∙ phase_here c.self.inside.disk.starting c.self.inside.journal.past c.args.tag (slot_at c.self.inside.slots.items c.args.tag) (c.self.invariant.each c.args.tag))

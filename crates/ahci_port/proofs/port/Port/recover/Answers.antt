@@ -46,7 +46,7 @@ pub invariant_of-self-2 : goal.invariant_of-self-2
 invariant_of-self-2 g c =
     let i = c.self.inside in
     rw (c.carry_out.ensures.headers, c.carry_out.ensures.disk, regs g c, slots g c, c.push_reserved.ensures.past, c.in_ok-reserve.ensures.past)
-    (keeps_recover i.starting.items i.disk i.registers i.slots.items i.headers i.journal.past i.journal.room c.push_reserved.new.self.room
+    (keeps_recover i.disk.starting i.disk i.registers i.slots.items i.headers i.journal.past i.journal.room c.push_reserved.new.self.room
     (get_or c.page.result.now 0 0 % 32) c.self.invariant (bad g c) (let a = c.in_ok-reserve.ensures.room in let b = c.push_reserved.ensures.room in omega arith))
 
 pub returns-clause-recovered : goal.returns-clause-recovered
@@ -55,7 +55,7 @@ returns-clause-recovered g c =
     rw (← c.self.view_is)
     (record {
       appended = record {
-        starting_same = refl;
+        starting_same = ap (λ d. d.starting) c.carry_out.ensures.disk;
         image_same = ap (λ d. d.image) c.carry_out.ensures.disk;
         first_same = c.push_reserved.ensures.first ∙ c.in_ok-reserve.ensures.first;
         depth_same = ap (λ d. d.depth) c.carry_out.ensures.disk;

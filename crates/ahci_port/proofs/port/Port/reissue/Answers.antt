@@ -21,7 +21,7 @@ invariant_of-self g c =
     let same = owner_is r.owner _ _ c.index_mut.ensures.value c.in-Some-index_mut.is in
     let slot = c.reissue.ensures ∙ ap reissued_slot (sym same) in
     rw (slot, c.issue.ensures, c.push_reserved.ensures.past)
-    (keeps_reissue i.starting.items i.disk i.registers i.slots.items i.headers i.journal.past i.journal.room c.push_reserved.new.self.room
+    (keeps_reissue i.disk.starting i.disk i.registers i.slots.items i.headers i.journal.past i.journal.room c.push_reserved.new.self.room
     c.args.tag r.owner.slot c.self.invariant r.held r.running r.owner.here c.push_reserved.ensures.room)
 
 pub returns-clause-ok : goal.returns-clause-ok

@@ -4,7 +4,9 @@ use Rattle.ahci_regs.specs.Receiving.{after_bits}
 use Rattle.ahci_table.specs.Command.{queued_of}
 use Rattle.ahci_table.specs.Fit.{IsFit}
 use Rattle.ncq_core.specs.DiskFis.{completed_bytes}
+use Rattle.ncq_core.specs.Serving.{HasCommandRoom}
 use Rattle.sata_fis.specs.Layout.{set_bits_at}
+use Rattle.ahci_port.specs.Keeping.{Keeps}
 use Rattle.ahci_port.specs.PortView.{bits_place, next_number, put_at}
 use Rattle.ahci_port.specs.Registers.{completed, word_of_tags}
 use Rattle.ahci_port.specs.Serving.{CompletesOne}
@@ -42,11 +44,11 @@ tag_is : (g : _) (c : After-deref g) → slice_index c.deref.result.now c.loop-i
 tag_is g c = ap (λ l. slice_index l c.loop-index.index) c.deref.ensures.0
 
 next : (g : _) (c : After-deref g)
-    → Serving c.self.inside.starting.items c.loop-index.self-inside.disk c.loop-index.self-inside.journal.past c.loop-index.self-inside.slots.items c.loop-index.self-inside.journal.room
+    → Serving c.self.inside.disk.starting c.loop-index.self-inside.disk c.loop-index.self-inside.journal.past c.loop-index.self-inside.slots.items c.loop-index.self-inside.journal.room
     (slice_index c.deref.result.now c.loop-index.index)
 next g c =
     let i = c.loop-index.self-inside in
-    subst (λ t. Serving c.self.inside.starting.items i.disk i.journal.past i.slots.items i.journal.room t) (sym (tag_is g c))
+    subst (λ t. Serving c.self.inside.disk.starting i.disk i.journal.past i.slots.items i.journal.room t) (sym (tag_is g c))
     (next_serving _ c.loop-index.index i.disk i.slots.items i.area i.journal.past i.journal.room c.loop-index.invariant.served (low g c))
 
 pub index_mut-requires : goal.index_mut-requires
@@ -65,6 +67,11 @@ complete-requires-clause-there g c =
 pub complete-requires-clause-running : goal.complete-requires-clause-running
 complete-requires-clause-running g c = (next g (goal.at.complete-requires-clause-running g c).After-deref).served_now
 
+pub complete-requires-clause-memory : goal.complete-requires-clause-memory
+complete-requires-clause-memory g c =
+    let t = next g (goal.at.complete-requires-clause-memory g c).After-deref in
+    subst (λ s. HasCommandRoom c.loop-index.self-inside.disk (queued_of s.window)) (owner_is t.owner _ _ c.index_mut.ensures.value c.in-Some-index_mut.is) t.memory
+
 pub complete-requires-clause-room : goal.complete-requires-clause-room
 complete-requires-clause-room g c = (next g (goal.at.complete-requires-clause-room g c).After-deref).room
 
@@ -81,7 +88,7 @@ loop-index-preserved g c =
     record {
       served = rw same (underway_next _ c.loop-index.index i.disk c.complete.new.disk i.slots.items c.in-Some-index_mut.slot c.complete.new.slot i.area c.complete.new.area i.journal
           c.complete.new.journal (may g (goal.at.loop-index-preserved g c).After-len-index-end) u less found one);
-      starting_same = c.loop-index.invariant.starting_same;
+      starting_same = ap (λ d. d.starting) one.disk_is ∙ c.loop-index.invariant.starting_same;
       first_same = c.complete.ensures.first_same ∙ c.loop-index.invariant.first_same;
       room_is = (let a = c.complete.ensures.room_is in let b = c.loop-index.invariant.room_is in omega arith);
       held_same = c.complete.ensures.held_same ∙ c.loop-index.invariant.held_same;
@@ -98,7 +105,7 @@ over g c = let t = c.loop-index-test.false in let e = c.loop-index.auto.index-en
 
 abbrev start : (g : _) → After-deref-2 g → Start
 start g c = record {
-  starting = c.self.inside.starting.items;
+  starting = c.self.inside.disk.starting;
   registers = c.self.inside.registers;
   slots = c.self.inside.slots.items;
   headers = c.self.inside.headers;
@@ -140,7 +147,7 @@ invariant_of-self g c =
     let i = c.loop-index.self-inside in
     let inv = c.loop-index.invariant in
     let served = all g at.After-deref-2 in
-    rw (regs g at.After-len, inv.starting_same, inv.headers_same) (keeps_all _ i.disk i.slots.items i.area i.journal.past i.journal.room served)
+    rw (regs g at.After-len, inv.headers_same) (subst (λ xs. Keeps xs i.disk (completed c.self.inside.registers c.args.tags.now.items) i.slots.items c.self.inside.headers i.journal.past i.journal.room) (sym inv.starting_same) (keeps_all _ i.disk i.slots.items i.area i.journal.past i.journal.room served))
 
 pub returns-clause-ok : goal.returns-clause-ok
 returns-clause-ok g c =
@@ -149,14 +156,14 @@ returns-clause-ok g c =
     let i = c.loop-index.self-inside in
     let inv = c.loop-index.invariant in
     let tags = c.args.tags.now.items in
-    let old = view_of o.starting.items o.disk o.registers o.unqueued.sent o.area o.slots.items o.journal in
-    let new = view_of i.starting.items i.disk c.receive_bits.new.registers i.unqueued.sent c.receive_bits.new.area i.slots.items i.journal in
+    let old = view_of o.disk.starting o.disk o.registers o.unqueued.sent o.area o.slots.items o.journal in
+    let new = view_of i.disk.starting i.disk c.receive_bits.new.registers i.unqueued.sent c.receive_bits.new.area i.slots.items i.journal in
     let served = all g at.After-deref-2 in
     rw (← c.self.view_is)
     (record {
       answer_is = ap (λ n. Completed n c.len.result) c.end-first.ensures ∙ ap (Completed (next_number old)) c.len.ensures.value;
       appended = record {
-        starting_same = ap (λ v. v.items) inv.starting_same;
+        starting_same = inv.starting_same;
         first_same = inv.first_same;
         depth_same = served.depth_same;
         past_is = past_all _ i.disk i.slots.items i.area i.journal.past i.journal.room served;

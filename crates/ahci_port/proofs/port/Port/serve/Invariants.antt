@@ -7,7 +7,7 @@ abbrev pub invariant-loop-index : goal.invariant-loop-index
 invariant-loop-index g l = record {
   served : Underway
       (record {
-        starting = l.initial.self-inside.starting.items;
+        starting = l.initial.self-inside.disk.starting;
         registers = l.initial.self-inside.registers;
         slots = l.initial.self-inside.slots.items;
         headers = l.initial.self-inside.headers;
@@ -17,7 +17,7 @@ invariant-loop-index g l = record {
         tags = l.initial.tags.items;
       })
       l.index l.self-inside.disk l.self-inside.slots.items l.self-inside.area l.self-inside.journal.past l.self-inside.journal.room;
-  starting_same : l.self-inside.starting ≡ l.initial.self-inside.starting;
+  starting_same : l.self-inside.disk.starting ≡ l.initial.self-inside.disk.starting;
   first_same : l.self-inside.journal.first ≡ l.initial.self-inside.journal.first;
   room_is : l.self-inside.journal.room + l.index ≡ l.initial.self-inside.journal.room;
   held_same : l.self-inside.journal.held ≡ l.initial.self-inside.journal.held;

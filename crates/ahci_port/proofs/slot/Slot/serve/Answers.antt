@@ -5,8 +5,8 @@ use Rattle.ncq_core.specs.Serving.{byte_count}
 use Rattle.ahci_port.proofs.MemoryLemmas.{fit_sized}
 use Rattle.ahci_port.proofs.slot.Slot.serve.Goals as goal
 
-pub serve-requires : goal.serve-requires
-serve-requires g c =
+pub serve-requires-clause-room : goal.serve-requires-clause-room
+serve-requires-clause-room g c =
     let sized = fit_sized c.args.self.now.window c.requires.fit in
     let same : length (text c.self.inside.memory.window) ≡ length (text c.args.self.now.window) = ap (λ s. length (text s.window)) c.self.view_is in
     subst (λ o. IfSome o (λ q. byte_count q ≤ length (text c.self.inside.memory.window))) (sym c.requires.there) (omega arith)
