@@ -17,18 +17,19 @@ mod transferring;
 mod trimming;
 mod writing;
 
-ghost use Rattle.std.specs.Prelude.{◌≡◌, ◌≤◌, None, IfOk, OnOk, replicate};
+ghost use Rattle.std.specs.Prelude.{◌≡◌, ◌/◌, ◌≤◌, None, IfErr, IfOk, length, replicate};
 ghost use Rattle.hba_regs.specs.Accessing.{read_of};
 ghost use Rattle.hba_regs.specs.Interrupts.{interrupt};
-ghost use Rattle.ncq_core.specs.DiskState.{new_fault};
+ghost use Rattle.ncq_core.specs.DiskState.{new_fault, over_fault};
 ghost use Rattle.ahci_port.specs.{Faults.{AnswersOr}, Headline.{Headline}, PortView.{new_port}};
-ghost use Rattle.ahci_hba.specs.States.{hba_with, new_hba};
+ghost use Rattle.ahci_hba.specs.States.{hba_with, new_hba, port_depth};
 
 use crate::command::Listed;
 use crate::work::Work;
 use ahci_port::{DiskFault, Port};
 use hba_command::Power;
 use hba_regs::{AccessSize, Capabilities, HbaRegs};
+use sector_store::{SectorStore, Whole};
 use std::alloc::{AllocError, Allocator, Global};
 use std::marker::Model;
 
@@ -37,17 +38,17 @@ pub(crate) const SLOTS: u32 = 32;
 
 /// An AHCI controller with one port, and the model's port with its disk and journal behind it. Contracts see an `HbaView`.
 #[derive(Drop)]
-pub struct Hba<A: Allocator = Global> {
+pub struct Hba<A: Allocator = Global, S: SectorStore = Whole<A>> {
     alloc: A,
     registers: HbaRegs,
-    port: Port<A>,
+    port: Port<A, S>,
     depth: u32,
     power: Power,
     slots: Vec<Option<Listed<A>>, A>,
     work: Work<A>,
 }
 
-impl<A: Allocator> Model for Hba<A> {
+impl<A: Allocator, S: SectorStore> Model for Hba<A, S> {
     ghost use Rattle.std.specs.Prelude.{◌≡◌, ◌≤◌, length};
     ghost use Rattle.ahci_hba.specs.HbaView.{HbaView, work_of};
     ghost use Rattle.ahci_hba.specs.States.{IsSound};
@@ -59,21 +60,15 @@ impl<A: Allocator> Model for Hba<A> {
     ghost invariant = { λ h. IsSound h.port h.depth h.slots.items (work_of h.work) };
 }
 
-/// The port of a disk with this image, which has a tag for each slot, whatever queue depth is told.
-fn port_for<A: Allocator + Copy>(
-    alloc: A,
-    image: Vec<u8, A>,
-    depth: u32,
-) -> Result<Port<A>, DiskFault>
-    ensures some { OnOk result (1 ≤ depth) }
-    ensures most { OnOk result (depth ≤ 32) }
-    ensures port { IfOk result (λ p. p ≡ new_port image.items 32) }
-    ensures fault { AnswersOr result (new_fault image.items depth) DiskFault.OutOfMemory }
+/// How many tags the port has of a disk that tells this queue depth: one for each slot, or the depth itself where it is none.
+fn port_depth(depth: u32) -> u32
+    ensures { result ≡ port_depth depth }
 {
     if depth == 0 || depth > SLOTS {
-        return Port::new(alloc, image, depth);
+        depth
+    } else {
+        SLOTS
     }
-    Port::new(alloc, image, SLOTS)
 }
 
 /// As many empty slots as the command list has.
@@ -114,7 +109,44 @@ impl<A: Allocator + Copy> Hba<A> {
         ensures ok { IfOk result (λ h. h ≡ hba_with image.items depth capabilities) }
         ensures fault { AnswersOr result (new_fault image.items depth) DiskFault.OutOfMemory }
     {
-        let port = port_for(alloc, image, depth)?;
+        let port = Port::new(alloc, image, port_depth(depth))?;
+        Hba::before(alloc, port, depth, capabilities)
+    }
+}
+
+impl<A: Allocator + Copy, S: SectorStore + Drop> Hba<A, S> {
+    /// A controller after power-on that can do this, in front of a disk over a store. The store keeps its sectors as they are now.
+    ///
+    /// # Errors
+    /// `BadSize` if the store has no sectors or more than 2^32 - 1, `BadDepth` if the depth is not 1 to 32; else `OutOfMemory` if an allocation
+    /// failed.
+    pub fn over(
+        alloc: A,
+        store: S,
+        depth: u32,
+        capabilities: Capabilities,
+    ) -> Result<Self, DiskFault>
+        requires { length (S.starting store) ≡ length (S.image store) }
+        ensures ok { IfOk result (λ h. h ≡ hba_with (S.image store) depth capabilities) }
+        ensures fault { AnswersOr result (over_fault (length (S.image store) / 512) depth) DiskFault.OutOfMemory }
+    {
+        let port = Port::over(alloc, store, port_depth(depth))?;
+        Hba::before(alloc, port, depth, capabilities)
+    }
+
+    /// A controller after power-on before a new port.
+    fn before(
+        alloc: A,
+        port: Port<A, S>,
+        depth: u32,
+        capabilities: Capabilities,
+    ) -> Result<Self, DiskFault>
+        requires some { 1 ≤ depth }
+        requires most { depth ≤ 32 }
+        requires port { port ≡ new_port port.image 32 }
+        ensures ok { IfOk result (λ h. h ≡ hba_with port.image depth capabilities) }
+        ensures err { IfErr result (λ e. e ≡ DiskFault.OutOfMemory) }
+    {
         let slots = empty_slots(alloc)?;
         Ok(Hba {
             alloc,
@@ -128,7 +160,7 @@ impl<A: Allocator + Copy> Hba<A> {
     }
 }
 
-impl<A: Allocator> Hba<A> {
+impl<A: Allocator, S: SectorStore> Hba<A, S> {
     /// What a driver reads at an offset of the controller's registers, as `HbaRegs::read` has it.
     pub fn read(&self, offset: u32, size: AccessSize) -> u64
         ensures { result ≡ read_of self.now.registers offset size }

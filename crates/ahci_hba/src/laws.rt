@@ -16,35 +16,36 @@ ghost use Rattle.ahci_hba.specs.declared.step.Step.TheVariants as step;
 use crate::hba::Hba;
 use crate::step::Step;
 use hba_regs::Slot;
+use sector_store::SectorStore;
 use std::alloc::Allocator;
 
 /// No command is stranded: while the port is in P:Idle with BSY and DRQ 0, and the device isn't busy with a command that is not queued, a slot
 /// that waits means that the command of some slot can be fetched (AHCI 1.3.1, section 5.3.2).
-pub fn no_command_is_stranded<A: Allocator>(hba: &Hba<A>)
+pub fn no_command_is_stranded<A: Allocator, S: SectorStore>(hba: &Hba<A, S>)
     ensures { is_listening hba.now ≡ true → p_idle_selects hba.now.registers.port ≡ true → list_any has_alone hba.now.slots ≡ false
         → (slot : ℕ) → slot < 32 → waits hba.now slot ≡ true
         → (next : ℕ) × (next < 32) × (next_step hba.now next ≡ Some step.Fetch) }
 {}
 
 /// A device in Sleep answers no command: while nothing is written, a command is read at most, and a control FIS is taken (ACS-3, "SLEEP").
-pub fn a_device_in_sleep_answers_no_command<A: Allocator>(hba: &Hba<A>)
+pub fn a_device_in_sleep_answers_no_command<A: Allocator, S: SectorStore>(hba: &Hba<A, S>)
     requires { hba.now.power ≡ Sleep }
     ensures { is_idle hba.now.work ≡ true → (slot : ℕ) → answers (next_step hba.now slot) ≡ false }
 {}
 
 /// In ERR:WaitForClear no slot has a step (section 5.3, "Error Recovery").
-pub fn a_halted_port_takes_no_step<A: Allocator>(hba: &Hba<A>)
+pub fn a_halted_port_takes_no_step<A: Allocator, S: SectorStore>(hba: &Hba<A, S>)
     requires { hba.now.registers.port.halted ≡ true }
     ensures { (slot : ℕ) → next_step hba.now slot ≡ None }
 {}
 
 /// The device moves registers by the transitions of section 5.3 and by nothing else, whatever step it takes.
-pub fn a_step_takes_transitions<A: Allocator>(old: &Hba<A>, new: &Hba<A>, slot: Slot, step: Step)
+pub fn a_step_takes_transitions<A: Allocator, S: SectorStore>(old: &Hba<A, S>, new: &Hba<A, S>, slot: Slot, step: Step)
     ensures { (journal : Option History) → IsTaken step slot old.now new.now journal → Takes old.now.registers new.now.registers }
 {}
 
 /// The same while it reads and writes the driver's memory.
-pub fn a_move_takes_transitions<A: Allocator>(hba: &Hba<A>)
+pub fn a_move_takes_transitions<A: Allocator, S: SectorStore>(hba: &Hba<A, S>)
     ensures read { (bytes : List ℕ) → Takes hba.now.registers (supplied hba.now hba.now.work bytes).registers }
     ensures written { Takes hba.now.registers (put_done hba.now hba.now.work).registers }
     ensures unmapped { Takes hba.now.registers (unmapped hba.now hba.now.work).registers }
@@ -52,14 +53,14 @@ pub fn a_move_takes_transitions<A: Allocator>(hba: &Hba<A>)
 {}
 
 /// The same where it fails a command.
-pub fn a_failure_takes_transitions<A: Allocator>(old: &Hba<A>, new: &Hba<A>, slot: Slot)
+pub fn a_failure_takes_transitions<A: Allocator, S: SectorStore>(old: &Hba<A, S>, new: &Hba<A, S>, slot: Slot)
     ensures failed { (error lba : ℕ) → Fails slot error lba (own_in old.now slot lba) old.now new.now → Takes old.now.registers new.now.registers }
     ensures refused { (error lba : ℕ) → Takes old.now.registers (refused_at old.now slot error lba).registers }
 {}
 
 /// A command that was issued and is not answered is where its bits say so: whatever transition the device takes, a slot leaves PxCI exactly with the answer
 /// to its command, and a tag leaves PxSACT exactly with its own (sections 3.3.13 and 3.3.14).
-pub fn a_bit_goes_with_the_answer_to_its_command<A: Allocator>(hba: &Hba<A>)
+pub fn a_bit_goes_with_the_answer_to_its_command<A: Allocator, S: SectorStore>(hba: &Hba<A, S>)
     ensures issued { (t : Transition) (slot : ℕ) → has_place (after t hba.now.registers.port).ci slot
         ≡ (has_place hba.now.registers.port.ci slot && not (answers_command t hba.now.registers.port slot)) }
     ensures active { (t : Transition) (slot : ℕ) → has_place (after t hba.now.registers.port).sact slot

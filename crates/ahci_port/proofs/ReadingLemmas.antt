@@ -10,7 +10,7 @@ use Rattle.ahci_regs.specs.PortState.{PortState}
 use Rattle.ahci_table.specs.Command.{op}
 use Rattle.ncq_journal.specs.declared.phase.Phase.{Phase}
 use Rattle.ncq_journal.specs.declared.phase.Phase.TheVariants.{Free}
-use Rattle.ncq_core.specs.DiskState.{DiskState, DiskError, IsDisk, disk_over, is_bad_depth, is_stopped, most_disk_sectors, most_sectors, new_fault, over_fault, size_fault, no_commands, outstanding}
+use Rattle.ncq_core.specs.DiskState.{DiskState, DiskError, IsDisk, disk_over, is_bad_depth, is_stopped, most_disk_sectors, most_sectors, over_fault, size_fault, no_commands, outstanding}
 use Rattle.ncq_core.specs.declared.disk_fault.DiskFault.{DiskFault}
 use Rattle.ncq_core.specs.declared.disk_fault.DiskFault.TheVariants as disk_fault
 use Rattle.ncq_journal.specs.Entry.{Entry, Issue}
@@ -25,7 +25,7 @@ use Rattle.ncq_journal.proofs.HaltedLemmas.{not_halted}
 use Rattle.ncq_journal.proofs.TagLemmas.{sum_le}
 use Rattle.word_bits.specs.Places.{no_places}
 use Rattle.word_bits.proofs.PlacesLemmas.{length-no_places, has_place-no_places, same_sets}
-use Rattle.ahci_port.specs.Faults.{AnswersOr, most_first, resume_fault_of, resume_refusal}
+use Rattle.ahci_port.specs.Faults.{AnswersOr, first_refusal, most_first, resume_fault_of}
 use Rattle.ahci_port.specs.declared.fault.ResumeFault.TheVariants as resume
 use Rattle.ahci_port.specs.Keeping.{Keeps, HasSlot, slot_at}
 use Rattle.ahci_port.specs.PortView.{is_free, port_from}
@@ -105,9 +105,9 @@ pub nothing_owed : owed [] ≤ 0
 nothing_owed = sum_le (λ tag. owed_in (phase [] tag)) 0 (λ tag. omega arith)
 
 -- a port that goes on is made where a disk is
-pub resumed : {T : Type 0} (x : T) (image : List ℕ) (depth first : ℕ) → AnswersOr {T = T} (Ok x) (new_fault image depth) disk_fault.OutOfMemory → nat_lt most_first first ≡ false
-    → AnswersOr {T = T} (Ok x) (resume_refusal image depth first) resume.OutOfMemory
-resumed x image depth first made low = by (new_fault image depth) (nat_lt most_first first) made low
+pub resumed : {T : Type 0} (x : T) (fault : Option DiskFault) (first : ℕ) → AnswersOr {T = T} (Ok x) fault disk_fault.OutOfMemory → nat_lt most_first first ≡ false
+    → AnswersOr {T = T} (Ok x) (first_refusal fault first) resume.OutOfMemory
+resumed x fault first made low = by fault (nat_lt most_first first) made low
   where
     by : (o : Option DiskFault) (b : Bool) → AnswersOr (Ok x) o disk_fault.OutOfMemory → b ≡ false
         → AnswersOr (Ok x) (option_or (option_map resume_fault_of o) (cond b (Some resume.BadFirst) None)) resume.OutOfMemory

@@ -6,7 +6,7 @@ use Rattle.std.specs.Option.{option_map, option_or}
 use Rattle.ahci_table.specs.declared.fault.TableFault.TheVariants as table
 use Rattle.ahci_table.specs.Fit.{IsFit, Breaks}
 use Rattle.ahci_table.specs.Window.{WindowState}
-use Rattle.ncq_core.specs.DiskState.{new_fault}
+use Rattle.ncq_core.specs.DiskState.{new_fault, over_fault}
 use Rattle.ncq_core.specs.declared.disk_fault.DiskFault.{DiskFault}
 use Rattle.ncq_core.specs.declared.disk_fault.DiskFault.TheVariants as disk
 use Rattle.ncq_journal.specs.declared.phase.Phase.{Phase}
@@ -137,9 +137,15 @@ resume_fault_of disk.BadSize = resume.BadSize
 resume_fault_of disk.BadDepth = resume.BadDepth
 resume_fault_of disk.OutOfMemory = resume.OutOfMemory
 
+abbrev pub first_refusal : Option DiskFault → ℕ → Option ResumeFault
+first_refusal fault first = option_or (option_map resume_fault_of fault) (if nat_lt most_first first then Some resume.BadFirst else None)
+
 abbrev pub resume_refusal : List ℕ → ℕ → ℕ → Option ResumeFault
-resume_refusal image depth first =
-    option_or (option_map resume_fault_of (new_fault image depth)) (if nat_lt most_first first then Some resume.BadFirst else None)
+resume_refusal image depth first = first_refusal (new_fault image depth) first
+
+-- why no port is made over a store of so many sectors, want of memory aside
+abbrev pub over_refusal : ℕ → ℕ → ℕ → Option ResumeFault
+over_refusal sectors depth first = first_refusal (over_fault sectors depth) first
 
 -- no slot is owned
 abbrev pub is_vacant : PortView → Bool

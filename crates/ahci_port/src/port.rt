@@ -15,14 +15,14 @@ ghost use Rattle.std.specs.Prelude.{◌≡◌, ◌/◌, ◌<◌, ◌≤◌, None
 ghost use Rattle.ahci_regs.specs.Reading.{read_of};
 ghost use Rattle.ncq_core.specs.DiskState.{disk_over, new_fault, over_fault, IsDisk};
 ghost use Rattle.ncq_journal.specs.{Halted.{halted}, Image.{sector_at}, Numbering.{number_of}, Owed.{owed}, Phase.{phase}, Sector.{sector}};
-ghost use Rattle.ahci_port.specs.{Faults.{AnswersOr, most_first, resume_fault_of, resume_refusal}, Headline.{Headline}, PortView.{sectors_in, new_port, owner_of, port_from}, Registers.{acknowledged}};
+ghost use Rattle.ahci_port.specs.{Faults.{AnswersOr, most_first, over_refusal, resume_fault_of, resume_refusal}, Headline.{Headline}, PortView.{sectors_in, new_port, owner_of, port_from}, Registers.{acknowledged}};
 
 use crate::fault::ResumeFault;
 use crate::slot::{Slot, phase_in, place_in};
 use crate::software::{started, write};
 use crate::unqueued::UnqueuedTable;
 use ahci_regs::{PortRegs, RegFault, Register};
-use ncq_core::{Disk, DiskFault, size_fault};
+use ncq_core::{Disk, DiskFault, over_fault, size_fault};
 use ncq_journal::{Journal, Phase};
 use sector_store::{SectorStore, Whole};
 use std::alloc::{AllocError, Allocator, Global};
@@ -165,6 +165,27 @@ impl<A: Allocator + Clone, S: SectorStore + Drop> Port<A, S> {
         ensures fault { AnswersOr result (over_fault (length (S.image store) / 512) depth) DiskFault.OutOfMemory }
     {
         Self::over_from(alloc, store, depth, 0)
+    }
+
+    /// A port as `over` makes it, whose journal goes on from another one: its first entry has the number `first`.
+    ///
+    /// # Errors
+    /// `BadSize` and `BadDepth` as for `over`, then `BadFirst` where `first` is over 2^63; else `OutOfMemory` where a growth was refused.
+    pub fn resume_over(alloc: A, store: S, depth: u32, first: u64) -> Result<Self, ResumeFault>
+        requires { length (S.starting store) ≡ length (S.image store) }
+        ensures ok { IfOk result (λ p. p ≡ port_from first (S.image store) depth) }
+        ensures fault { AnswersOr result (over_refusal (length (S.image store) / 512) depth first) ResumeFault.OutOfMemory }
+    {
+        if first > MOST_FIRST {
+            return match over_fault(store.sectors(), depth) {
+                Some(fault) => Err(resume_fault(fault)),
+                None => Err(ResumeFault::BadFirst),
+            };
+        }
+        match Self::over_from(alloc, store, depth, first) {
+            Ok(port) => Ok(port),
+            Err(fault) => Err(resume_fault(fault)),
+        }
     }
 
     /// A port over a store, whose journal's first entry has this number.

@@ -86,6 +86,20 @@ pub fn size_fault(bytes: usize, depth: u32) -> Option<DiskFault>
     None
 }
 
+/// Why no disk is made over a store of so many sectors, with so many tags: `BadSize` where it has none or more than 2^32 - 1, `BadDepth`
+/// where the depth is not 1 to 32.
+pub fn over_fault(sectors: u64, depth: u32) -> Option<DiskFault>
+    ensures { result ≡ over_fault sectors depth }
+{
+    if sectors == 0 || sectors > u64::from(u32::MAX) {
+        return Some(DiskFault::BadSize);
+    }
+    if is_bad_depth(depth) {
+        return Some(DiskFault::BadDepth);
+    }
+    None
+}
+
 impl<A: Allocator> Disk<Single<A>> {
     /// A disk over this image, with nothing outstanding and no error. It takes no memory.
     ///
@@ -128,11 +142,8 @@ impl<S: SectorStore + Drop> Disk<S> {
         ensures err { IfErr result (λ e. over_fault (length (S.image store) / 512) depth ≡ Some e) }
     {
         let sectors = store.sectors();
-        if sectors == 0 || sectors > u64::from(u32::MAX) {
-            return Err(DiskFault::BadSize);
-        }
-        if is_bad_depth(depth) {
-            return Err(DiskFault::BadDepth);
+        if let Some(fault) = over_fault(sectors, depth) {
+            return Err(fault);
         }
         Ok(Disk {
             store,

@@ -12,6 +12,7 @@ use crate::transfer::Transfer;
 use crate::work::Work;
 use arrayvec::ArrayVec;
 use hba_memory::{Posting, Scatter, SmallPut};
+use sector_store::SectorStore;
 use std::alloc::Allocator;
 
 /// Where FISes are in the received FIS area (AHCI 1.3.1, section 4.2.1).
@@ -23,7 +24,7 @@ pub(super) const REGISTER: u8 = 0x40;
 
 pub(super) const SET_BITS: u8 = 0x58;
 
-impl<A: Allocator> Hba<A> {
+impl<A: Allocator, S: SectorStore> Hba<A, S> {
     /// The FIS of so many bytes at a place of the port's received FIS area, for the driver's; none while FRE is 0.
     pub(super) fn fis_put(&self, place: u8, length: usize) -> Option<SmallPut>
         requires short { length ≤ 28 }
@@ -58,7 +59,7 @@ impl<A: Allocator> Hba<A> {
     }
 }
 
-impl<A: Allocator> Hba<A> {
+impl<A: Allocator, S: SectorStore> Hba<A, S> {
     /// Begins to write a block of a transfer, which goes on so; one with nothing to write has moved at once.
     pub(super) fn block(&mut self, posting: Posting<A>, transfer: Transfer<A>)
         ensures { self.new ≡ blocking self.old posting transfer }
@@ -72,7 +73,7 @@ impl<A: Allocator> Hba<A> {
     }
 }
 
-impl<A: Allocator + Copy> Hba<A> {
+impl<A: Allocator + Copy, S: SectorStore> Hba<A, S> {
     /// An answer of one FIS alone.
     pub(super) fn only_after(&self, fis: Option<SmallPut>) -> Posting<A>
         ensures { result ≡ only_after (listed fis) }

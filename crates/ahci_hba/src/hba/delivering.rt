@@ -21,6 +21,7 @@ use hba_command::{Action, PrdEntry, Protocol, Task, action_of};
 use hba_memory::{Blocks, Posting, Scatter, SmallPut, is_write, total};
 use hba_regs::Slot;
 use sata_fis::{D2h, Fis, PioSetup};
+use sector_store::SectorStore;
 use std::alloc::{AllocError, Allocator};
 use std::mem;
 
@@ -112,7 +113,7 @@ fn bytes_for<A: Allocator + Copy>(
     window.text(alloc)
 }
 
-impl<A: Allocator> Hba<A> {
+impl<A: Allocator, S: SectorStore> Hba<A, S> {
     /// These bytes, for a place of the driver's received FIS area; none while FRE is 0.
     pub(super) fn received_put(&self, place: u8, bytes: ArrayVec<u8, 28>) -> Option<SmallPut>
         ensures { listed result ≡ received_put self.now.registers place bytes.items }
@@ -239,7 +240,7 @@ impl<A: Allocator> Hba<A> {
     }
 }
 
-impl<A: Allocator + Copy> Hba<A> {
+impl<A: Allocator + Copy, S: SectorStore> Hba<A, S> {
     /// The end of a command whose data have moved: PRDBC, and a D2H Register FIS.
     pub(super) fn close(&mut self, slot: Slot, moved: u32, fis: D2h)
         ensures { self.new ≡ closing self.old slot moved fis }

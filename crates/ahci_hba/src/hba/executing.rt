@@ -18,6 +18,7 @@ use hba_command::{
 };
 use hba_regs::Slot;
 use sata_fis::D2h;
+use sector_store::SectorStore;
 use std::alloc::Allocator;
 
 /// A command is aborted.
@@ -34,7 +35,7 @@ fn signed(status: u8, error: u8) -> D2h
     d2h_fis(status, error, 1, 1)
 }
 
-impl<A: Allocator> Hba<A> {
+impl<A: Allocator, S: SectorStore> Hba<A, S> {
     /// The first sector that is not on the disk, of some that aren't all.
     fn first_missing(&self, span: &Span) -> u64
         ensures value { result ≡ first_missing self.now.port span.now }
@@ -94,7 +95,7 @@ fn reads_error_log(action: &Action) -> bool
     matches!(action, Action::Page(Page::Log(Log::QueuedError), _))
 }
 
-impl<A: Allocator> Hba<A> {
+impl<A: Allocator, S: SectorStore> Hba<A, S> {
     /// Why the device aborts a command that is not queued: queued ones are outstanding, or one has failed and its log is not read yet, but for a command
     /// that reads it.
     fn is_aborted(&self, action: &Action) -> bool
@@ -170,7 +171,7 @@ impl<A: Allocator> Hba<A> {
     }
 }
 
-impl<A: Allocator + Copy> Hba<A> {
+impl<A: Allocator + Copy, S: SectorStore> Hba<A, S> {
     /// A page goes to the driver for the command of a slot; the slot is empty.
     pub(super) fn give_page(&mut self, slot: Slot, protocol: Protocol, page: Vec<u8, A>)
         ensures { self.new ≡ paged self.old slot protocol (list_in (command_at self.old slot)) page.items }

@@ -20,6 +20,7 @@ use hba_command::{Action, Addressing, PrdEntry, Protocol, Span, addressed, addre
 use hba_memory::{Blocks, Posting, Scatter, SmallPut};
 use hba_regs::Slot;
 use sata_fis::{D2h, DmaSetup, Fis, Queued};
+use sector_store::SectorStore;
 use std::alloc::{AllocError, Allocator};
 
 /// The FIS of an error at an LBA, which it names as the command names its own.
@@ -31,7 +32,7 @@ fn refused(addressing: Addressing, error: u8, lba: u64) -> D2h
 }
 
 /// How many sectors from an LBA on a read has moved before another one, at most so many: those that the disk has.
-fn sectors_before<A: Allocator>(port: &Port<A>, first: u64, sectors: u32, lba: u64) -> u32
+fn sectors_before<A: Allocator, S: SectorStore>(port: &Port<A, S>, first: u64, sectors: u32, lba: u64) -> u32
     ensures value { result ≡ sectors_before port.now first sectors lba }
     ensures most { result ≤ sectors }
     ensures there { result ≤ sectors_in port.now - first }
@@ -41,7 +42,7 @@ fn sectors_before<A: Allocator>(port: &Port<A>, first: u64, sectors: u32, lba: u
 }
 
 /// How many sectors of a queued command have moved before it fails at an LBA.
-fn moved_sectors<A: Allocator>(port: &Port<A>, queued: &Queued, lba: u64) -> u32
+fn moved_sectors<A: Allocator, S: SectorStore>(port: &Port<A, S>, queued: &Queued, lba: u64) -> u32
     ensures value { result ≡ moved_sectors port.now queued.now lba }
     ensures there { result ≤ sectors_in port.now - queued.now.lba }
     ensures most { result ≤ 65536 }
@@ -54,9 +55,9 @@ fn moved_sectors<A: Allocator>(port: &Port<A>, queued: &Queued, lba: u64) -> u32
 
 /// Some sectors as the image has them now.
 #[tactic(auto, using(crate::proofs::FailingLemmas::one_sector_more))]
-fn sectors_of<A: Allocator + Copy>(
+fn sectors_of<A: Allocator + Copy, S: SectorStore>(
     alloc: A,
-    port: &Port<A>,
+    port: &Port<A, S>,
     first: u64,
     sectors: u32,
 ) -> Result<Vec<u8, A>, AllocError>
@@ -73,7 +74,7 @@ fn sectors_of<A: Allocator + Copy>(
     Ok(bytes)
 }
 
-impl<A: Allocator + Copy> Hba<A> {
+impl<A: Allocator + Copy, S: SectorStore> Hba<A, S> {
     /// Empties a slot.
     pub(super) fn vacate(&mut self, slot: Slot)
         ensures { self.new ≡ vacated self.old slot }
@@ -199,7 +200,7 @@ impl<A: Allocator + Copy> Hba<A> {
     }
 }
 
-impl<A: Allocator> Hba<A> {
+impl<A: Allocator, S: SectorStore> Hba<A, S> {
     /// The DMA Setup FIS of a queued command of a slot, which is its tag.
     fn queue_setup_put(&self, slot: Slot, queued: &Queued) -> Option<SmallPut>
         ensures { listed result ≡ received_put self.now.registers 0x00 (setup_bytes (record queued.now { tag = slot })) }
@@ -216,7 +217,7 @@ impl<A: Allocator> Hba<A> {
     }
 }
 
-impl<A: Allocator + Copy> Hba<A> {
+impl<A: Allocator + Copy, S: SectorStore> Hba<A, S> {
     /// What the answer to a queued command that fails writes, with the sectors that have moved.
     fn failed_posting(
         &self,

@@ -12,6 +12,7 @@ use crate::work::Work;
 use hba_command::{Action, Task, action_of};
 use hba_memory::Fetch;
 use hba_regs::{Slot, SoftReset};
+use sector_store::SectorStore;
 use std::alloc::Allocator;
 use word_bits::is_set;
 
@@ -79,7 +80,7 @@ fn distance(ncs: u8, first: u8, slot: u8) -> u32
     (u32::from(slot) + ncs).saturating_sub(u32::from(first)) % ncs
 }
 
-impl<A: Allocator> Hba<A> {
+impl<A: Allocator, S: SectorStore> Hba<A, S> {
     /// Whether the port processes its command list: ST is 1, nothing has failed, and the link is up.
     pub(super) fn is_running(&self) -> bool
         ensures { result ≡ is_running self.now.registers.port }

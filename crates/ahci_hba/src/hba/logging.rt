@@ -13,6 +13,7 @@ use hba_command::{
 };
 use hba_memory::Blocks;
 use hba_regs::Slot;
+use sector_store::SectorStore;
 use std::alloc::{AllocError, Allocator};
 
 /// Some pages of log 30h, one after the other.
@@ -35,7 +36,7 @@ fn identify_log_pages<A: Allocator + Copy>(
     Ok(bytes)
 }
 
-impl<A: Allocator + Copy> Hba<A> {
+impl<A: Allocator + Copy, S: SectorStore> Hba<A, S> {
     /// One page goes to the driver for the command of a slot; the slot is empty.
     fn read_page(
         &mut self,

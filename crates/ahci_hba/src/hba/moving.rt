@@ -13,6 +13,7 @@ use crate::want::Want;
 use crate::work::Work;
 use hba_memory::{Fetch, Reading};
 use hba_regs::{Fatal, HbaRegs, Slot};
+use sector_store::SectorStore;
 use std::alloc::{AllocError, Allocator};
 use std::mem;
 
@@ -73,7 +74,7 @@ pub(super) fn end_block<A: Allocator>(registers: &mut HbaRegs, transfer: &Transf
     registers.end_pio(0xC0, transfer.has_interrupt(), transfer.slot()); // BSY and DRDY
 }
 
-impl<A: Allocator> Hba<A> {
+impl<A: Allocator, S: SectorStore> Hba<A, S> {
     /// What the controller does next with the driver's memory.
     pub fn want(&self) -> Want
         ensures { result ≡ want_of self.now.work }
@@ -160,7 +161,7 @@ impl<A: Allocator> Hba<A> {
     }
 }
 
-impl<A: Allocator + Copy> Hba<A> {
+impl<A: Allocator + Copy, S: SectorStore> Hba<A, S> {
     /// Takes the bytes that it reads. Memory for a command's list and a write's data is allocated here, once its FIS is known.
     ///
     /// # Errors
@@ -190,7 +191,7 @@ impl<A: Allocator + Copy> Hba<A> {
     }
 }
 
-impl<A: Allocator> Hba<A> {
+impl<A: Allocator, S: SectorStore> Hba<A, S> {
     /// The controller does something else with the driver's memory.
     pub(super) fn turn_to(&mut self, work: Work<A>)
         requires { IsSoundWork (work_of work) }

@@ -7,6 +7,7 @@ ghost use Rattle.ahci_hba.specs.Powering.{awake, in_mode, power_after, turned, w
 use crate::hba::Hba;
 use hba_command::{Action, Power, Reply, after_reply, after_reset, is_awake, needs_medium};
 use hba_regs::Consequence;
+use sector_store::SectorStore;
 use std::alloc::Allocator;
 
 /// The mode behind a driver's write.
@@ -19,7 +20,7 @@ fn power_after(consequence: Consequence, power: Power) -> Power
     }
 }
 
-impl<A: Allocator> Hba<A> {
+impl<A: Allocator, S: SectorStore> Hba<A, S> {
     /// The disk's power mode.
     pub fn power(&self) -> Power
         ensures { result ≡ self.now.power }

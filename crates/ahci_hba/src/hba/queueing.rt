@@ -18,6 +18,7 @@ use crate::work::Work;
 use ahci_port::{DeviceStep, Phase, Stepped};
 use hba_command::{PrdEntry, Task, action_of};
 use hba_regs::Slot;
+use sector_store::SectorStore;
 use std::alloc::Allocator;
 
 /// What the answer to an acceptance says to the registers.
@@ -47,7 +48,7 @@ fn is_taken(stepped: Stepped) -> bool
     matches!(stepped, Stepped::Accepted(_))
 }
 
-impl<A: Allocator> Hba<A> {
+impl<A: Allocator, S: SectorStore> Hba<A, S> {
     /// Whether the command of a slot is with the port and waits for the device; after a failure none does.
     fn is_waiting(&self, slot: Slot) -> bool
         ensures { result ≡ is_waiting self.now slot }
@@ -81,7 +82,7 @@ impl<A: Allocator> Hba<A> {
     }
 }
 
-impl<A: Allocator + Copy> Hba<A> {
+impl<A: Allocator + Copy, S: SectorStore> Hba<A, S> {
     /// Takes the command out of a slot, and leaves it empty; what it asks and its PRDT are the answer.
     pub(super) fn take_command(&mut self, slot: Slot) -> (Task, Vec<PrdEntry, A>)
         ensures task { result.0 ≡ task_in (command_at self.old slot) }

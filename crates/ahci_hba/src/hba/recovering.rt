@@ -14,6 +14,7 @@ use ahci_port::{Journal, Outcome, Port, RecoverFault, Reply};
 use hba_command::{Action, Log, Page, Protocol, action_of, not_queued_page};
 use hba_regs::Slot;
 use ncq_core::{LBA_LIMIT, log_page};
+use sector_store::SectorStore;
 use std::alloc::Allocator;
 
 /// The page of the failed command of a tag.
@@ -42,7 +43,7 @@ fn error_log_of(action: &Action) -> Option<Protocol>
     }
 }
 
-impl<A: Allocator> Hba<A> {
+impl<A: Allocator, S: SectorStore> Hba<A, S> {
     /// How the command of a slot reads the log of failed queued commands; nothing if it doesn't.
     pub fn error_log_in(&self, slot: Slot) -> Option<Protocol>
         ensures { result ≡ error_log_in (command_at self.now slot) }
@@ -69,7 +70,7 @@ impl<A: Allocator> Hba<A> {
 }
 
 /// A halted port recovers, and the failed request is collected: its tag and its reply.
-fn recover<A: Allocator>(port: &mut Port<A>) -> Result<(u8, Reply), HbaFault>
+fn recover<A: Allocator, S: SectorStore>(port: &mut Port<A, S>) -> Result<(u8, Reply), HbaFault>
     requires { halted port.old.past ≡ true }
     ensures ok { IfOk result (λ r. CollectsFailed r.0 r.1 port.old port.new) }
     ensures fault { IfErr result (λ e. e ≡ HbaFault.OutOfMemory) }
@@ -90,7 +91,7 @@ fn recover<A: Allocator>(port: &mut Port<A>) -> Result<(u8, Reply), HbaFault>
     Ok((tag, reply))
 }
 
-impl<A: Allocator + Copy> Hba<A> {
+impl<A: Allocator + Copy, S: SectorStore> Hba<A, S> {
     /// The device answers a command of a slot that reads the log of failed queued commands, after one has failed: the port recovers,
     /// the failed request is collected, what was held is dropped, and the page goes to the driver. The port is reset after that, and the
     /// journal that it hands out is the answer.

@@ -19,6 +19,7 @@ use ahci_port::Journal;
 use hba_command::{Action, action_of};
 use hba_regs::{Consequence, Slot, SoftReset};
 use sata_fis::{D2h, Fis};
+use sector_store::SectorStore;
 use std::alloc::Allocator;
 
 /// The FIS with the signature of a disk (Serial ATA, "Signature").
@@ -45,7 +46,7 @@ fn control_of(action: &Action) -> Option<bool>
     }
 }
 
-impl<A: Allocator> Hba<A> {
+impl<A: Allocator, S: SectorStore> Hba<A, S> {
     /// Whether the FIS of the device's signature can be taken, or posted, and nothing is read or written just now.
     pub fn may_sign(&self) -> bool
         ensures { result ≡ may_sign self.now }
@@ -97,7 +98,7 @@ impl<A: Allocator> Hba<A> {
     }
 }
 
-impl<A: Allocator + Copy> Hba<A> {
+impl<A: Allocator + Copy, S: SectorStore> Hba<A, S> {
     /// The FIS of the device's signature is taken: PxSIG and PxTFD have it once it is written. While FRE is 0 it isn't written, and a later
     /// call writes it, once FRE is 1 (AHCI 1.3.1, sections 3.3.7, FRE, and 5.3.2).
     ///

@@ -15,6 +15,7 @@ use hba_command::{Action, PrdEntry, Span, Task, action_of};
 use hba_regs::Slot;
 use ncq_core::SECTOR;
 use sata_fis::Queued;
+use sector_store::SectorStore;
 use std::alloc::Allocator;
 
 /// What a command asks of the disk, with the bytes of a write, and the bytes that are left.
@@ -64,8 +65,8 @@ fn put_back<A: Allocator>(op: Op<A>, left: Vec<u8, A>) -> Vec<u8, A>
 }
 
 /// Why a port would not take a write of these bytes for a slot, memory aside.
-fn write_fault<A: Allocator>(
-    port: &Port<A>,
+fn write_fault<A: Allocator, S: SectorStore>(
+    port: &Port<A, S>,
     slot: Slot,
     lba: u64,
     bytes: &[u8],
@@ -79,8 +80,8 @@ fn write_fault<A: Allocator>(
 }
 
 /// The same of a read, or of a write of these bytes.
-fn work_fault<A: Allocator>(
-    port: &Port<A>,
+fn work_fault<A: Allocator, S: SectorStore>(
+    port: &Port<A, S>,
     slot: Slot,
     write: bool,
     lba: u64,
@@ -95,7 +96,7 @@ fn work_fault<A: Allocator>(
     port.submit_fault(slot.number(), lba, u64::from(sectors))
 }
 
-impl<A: Allocator> Hba<A> {
+impl<A: Allocator, S: SectorStore> Hba<A, S> {
     /// Whether sectors are on the disk.
     pub(super) fn is_on(&self, span: &Span) -> bool
         ensures { result ≡ is_on self.now.port span.now }
@@ -140,8 +141,8 @@ impl<A: Allocator> Hba<A> {
 }
 
 /// Why a port would not take what a command asks for a slot, memory aside.
-fn action_fault<A: Allocator>(
-    port: &Port<A>,
+fn action_fault<A: Allocator, S: SectorStore>(
+    port: &Port<A, S>,
     slot: Slot,
     action: &Action,
     bytes: &[u8],
@@ -162,7 +163,7 @@ fn action_fault<A: Allocator>(
     }
 }
 
-impl<A: Allocator> Hba<A> {
+impl<A: Allocator, S: SectorStore> Hba<A, S> {
     /// Why the port would not take the command of a slot, memory aside.
     fn submit_fault(&self, slot: Slot) -> Option<SubmitFault>
         ensures { result ≡ op_refusal self.now.port slot (work_at (command_at self.now slot)) }
@@ -186,7 +187,7 @@ impl<A: Allocator> Hba<A> {
     }
 }
 
-impl<A: Allocator + Copy> Hba<A> {
+impl<A: Allocator + Copy, S: SectorStore> Hba<A, S> {
     /// Sends a command that the port takes to it for a slot; if an allocation fails, it is in its slot again.
     fn send_command(
         &mut self,

@@ -9,9 +9,10 @@ use crate::step::Step;
 use crate::work::Work;
 use ahci_port::Journal;
 use hba_regs::Slot;
+use sector_store::SectorStore;
 use std::alloc::Allocator;
 
-impl<A: Allocator> Hba<A> {
+impl<A: Allocator, S: SectorStore> Hba<A, S> {
     /// Whether the port has done the command of a slot, and its answer is to be put together; or the next block of its transfer by PIO.
     fn delivers_for(&self, slot: Slot) -> bool
         ensures { result ≡ delivers_for self.now.work slot }
@@ -67,7 +68,7 @@ impl<A: Allocator> Hba<A> {
     }
 }
 
-impl<A: Allocator + Copy> Hba<A> {
+impl<A: Allocator + Copy, S: SectorStore> Hba<A, S> {
     /// Takes the next step with the command of a slot: that of `next`. The answer is the journal that is handed out if the step
     /// resets the port.
     ///

@@ -11,10 +11,11 @@ use crate::last_fis::LastFis;
 use crate::transfer::Transfer;
 use crate::work::Work;
 use hba_memory::{Posting, Scatter};
+use sector_store::SectorStore;
 use std::alloc::{AllocError, Allocator};
 use std::mem;
 
-impl<A: Allocator> Hba<A> {
+impl<A: Allocator, S: SectorStore> Hba<A, S> {
     /// What a block to the driver writes: a PIO Setup FIS, the block, and PRDBC with the bytes so far.
     fn block_posting(&self, transfer: &Transfer<A>, content: Scatter<A>, e_status: u8) -> Posting<A>
         requires { content ≡ block_puts transfer.now.rest }
@@ -69,7 +70,7 @@ fn block_content<A: Allocator + Copy>(
     transfer.rest().block(alloc)
 }
 
-impl<A: Allocator + Copy> Hba<A> {
+impl<A: Allocator + Copy, S: SectorStore> Hba<A, S> {
     /// An answer of a PIO Setup FIS alone, for a block to the device.
     fn out_posting(&self, i: bool) -> Posting<A>
         ensures { result ≡ only_before (setup_put self.now.registers false i 0xC0) }

@@ -7,9 +7,10 @@ ghost use Rattle.ahci_hba.specs.Trimming.{trimmed_hba};
 
 use crate::hba::Hba;
 use ahci_port::{Journal, TrimFault};
+use sector_store::SectorStore;
 use std::alloc::Allocator;
 
-impl<A: Allocator + Copy> Hba<A> {
+impl<A: Allocator + Copy, S: SectorStore> Hba<A, S> {
     /// Hands out the port's journal if the port has no request, as `Port::trim` does: the image becomes the port's starting image, and the
     /// next entry has the number that it would have had. Nothing else changes, so a driver can't notice. A command that is read and not
     /// sent, or an answer that is still to be written, doesn't prevent it.

@@ -11,6 +11,7 @@ use crate::hba::fetching::is_sent;
 use crate::work::Work;
 use ahci_port::{Journal, Port};
 use hba_regs::{AccessSize, Consequence};
+use sector_store::SectorStore;
 use std::alloc::Allocator;
 use std::mem;
 
@@ -23,7 +24,7 @@ fn clear<A: Allocator>(slots: &mut [Option<Listed<A>>])
     }
 }
 
-impl<A: Allocator> Hba<A> {
+impl<A: Allocator, S: SectorStore> Hba<A, S> {
     /// Whether the port has the command of some slot.
     fn has_sent(&self) -> bool
         ensures { result ≡ list_any is_sent self.now.slots }
@@ -72,7 +73,7 @@ impl<A: Allocator> Hba<A> {
 }
 
 /// Resets a port, unless its numbers are used up; its journal is the answer.
-pub(super) fn reset<A: Allocator + Copy>(port: &mut Port<A>) -> Option<Journal<A>>
+pub(super) fn reset<A: Allocator + Copy, S: SectorStore>(port: &mut Port<A, S>) -> Option<Journal<A>>
     ensures journal { result ≡ handed_out (not (is_spent port.old)) port.old }
     ensures port { port.new ≡ port_after (not (is_spent port.old)) port.old }
 {
@@ -82,7 +83,7 @@ pub(super) fn reset<A: Allocator + Copy>(port: &mut Port<A>) -> Option<Journal<A
     }
 }
 
-impl<A: Allocator + Copy> Hba<A> {
+impl<A: Allocator + Copy, S: SectorStore> Hba<A, S> {
     /// Resets the port if requests are dropped there.
     pub(super) fn reset_port(&mut self, consequence: Consequence) -> Option<Journal<A>>
         ensures journal { result ≡ handed_out (is_reset consequence self.old) self.old.port }
