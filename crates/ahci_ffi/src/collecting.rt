@@ -11,12 +11,13 @@ use ahci_port::{Outcome, Port, Reply};
 use ahci_table::Window;
 use ncq_journal::Phase;
 use port_refusal::Refusal;
+use sector_store::SectorStore;
 use std::alloc::Allocator;
 
 /// Takes the answer of a request and frees its slot. What a read has read stands at the beginning of `out` then. It takes no
 /// memory, and a buffer that is too small is told before anything changes.
-pub fn collect<A: Allocator>(
-    port: &mut Port<A>,
+pub fn collect<A: Allocator, S: SectorStore>(
+    port: &mut Port<A, S>,
     tag: u32,
     number: u64,
     reply: &mut FlatReply,
@@ -36,7 +37,7 @@ pub fn collect<A: Allocator>(
 }
 
 /// Takes an answer that nothing stands against.
-fn taken<A: Allocator>(port: &mut Port<A>, tag: u8, number: u64, out: &mut [u8]) -> FlatReply
+fn taken<A: Allocator, S: SectorStore>(port: &mut Port<A, S>, tag: u8, number: u64, out: &mut [u8]) -> FlatReply
     requires tag { tag < 32 }
     requires free { slot_refusal port.old tag number (length out.old) ≡ None }
     ensures { HasCollected tag number port.old port.new result out.old out.new }
@@ -51,7 +52,7 @@ fn taken<A: Allocator>(port: &mut Port<A>, tag: u8, number: u64, out: &mut [u8])
 }
 
 /// Why the request of a tag below 32 is not collected into a buffer with so much room.
-fn refusal<A: Allocator>(port: &Port<A>, tag: u8, number: u64, room: usize) -> Option<Status>
+fn refusal<A: Allocator, S: SectorStore>(port: &Port<A, S>, tag: u8, number: u64, room: usize) -> Option<Status>
     ensures { result ≡ slot_refusal port.now tag number room }
 {
     match port.owner(tag) {

@@ -8,10 +8,11 @@ use crate::flat::FlatEntry;
 use crate::status::Status;
 use ahci_port::Port;
 use ncq_journal::{Event, Op, Plain};
+use sector_store::SectorStore;
 use std::alloc::Allocator;
 
 /// The entry of a number.
-pub fn entry<A: Allocator>(port: &Port<A>, number: u64, entry: &mut FlatEntry) -> Status
+pub fn entry<A: Allocator, S: SectorStore>(port: &Port<A, S>, number: u64, entry: &mut FlatEntry) -> Status
     ensures { AnswersEntry (entry_numbered port.now.first port.now.past number) result entry.old entry.new }
 {
     match port.journal().get(number) {
@@ -24,7 +25,7 @@ pub fn entry<A: Allocator>(port: &Port<A>, number: u64, entry: &mut FlatEntry) -
 }
 
 /// Copies the bytes of the write that the entry of a number has issued to the beginning of `out`.
-pub fn entry_bytes<A: Allocator>(port: &Port<A>, number: u64, out: &mut [u8]) -> Status
+pub fn entry_bytes<A: Allocator, S: SectorStore>(port: &Port<A, S>, number: u64, out: &mut [u8]) -> Status
     ensures { AnswersBytes (written_by (entry_numbered port.now.first port.now.past number)) result out.old out.new }
 {
     match port.journal().get(number) {

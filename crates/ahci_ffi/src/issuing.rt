@@ -11,12 +11,13 @@ use ahci_table::Window;
 use ncq_core::SECTOR;
 use ncq_journal::{Bytes, Op};
 use port_refusal::Refusal;
+use sector_store::SectorStore;
 use std::alloc::{AllocError, Allocator};
 
 /// Issues the command of a window: its header, and the memory from the tag's base on. `number` is the request's then. The port's
 /// own reasons are tested before the memory is copied.
-pub fn issue<A: Allocator + Copy>(
-    port: &mut Port<A>,
+pub fn issue<A: Allocator + Copy, S: SectorStore>(
+    port: &mut Port<A, S>,
     alloc: A,
     tag: u32,
     header: &[u8],
@@ -40,8 +41,8 @@ pub fn issue<A: Allocator + Copy>(
 
 /// Issues a read or a write of whole sectors, in a window over the default pieces. `number` is the request's then. All that can be
 /// wrong is looked at before memory is asked for.
-pub fn submit<A: Allocator + Copy>(
-    port: &mut Port<A>,
+pub fn submit<A: Allocator + Copy, S: SectorStore>(
+    port: &mut Port<A, S>,
     alloc: A,
     tag: u32,
     kind: u32,
@@ -107,7 +108,7 @@ fn asked<A: Allocator>(
 }
 
 /// Hands a window to the port.
-fn hand_in<A: Allocator + Copy>(port: &mut Port<A>, window: Window<A>, number: &mut u64) -> Status
+fn hand_in<A: Allocator + Copy, S: SectorStore>(port: &mut Port<A, S>, window: Window<A>, number: &mut u64) -> Status
     ensures { AnswersWindow window result port.old port.new number.old number.new }
 {
     match port.issue(window) {

@@ -11,10 +11,11 @@ use crate::status::Status;
 use ahci_port::Port;
 use ncq_journal::Phase;
 use port_refusal::Refusal;
+use sector_store::SectorStore;
 use std::alloc::Allocator;
 
 /// How many slots there are.
-pub fn depth<A: Allocator>(port: &Port<A>, depth: &mut u32) -> Status
+pub fn depth<A: Allocator, S: SectorStore>(port: &Port<A, S>, depth: &mut u32) -> Status
     ensures done { result ≡ Status.Done }
     ensures depth { depth.new ≡ port.now.depth }
 {
@@ -23,7 +24,7 @@ pub fn depth<A: Allocator>(port: &Port<A>, depth: &mut u32) -> Status
 }
 
 /// How many sectors the disk has.
-pub fn sectors<A: Allocator>(port: &Port<A>, sectors: &mut u32) -> Status
+pub fn sectors<A: Allocator, S: SectorStore>(port: &Port<A, S>, sectors: &mut u32) -> Status
     ensures done { result ≡ Status.Done }
     ensures sectors { sectors.new ≡ sectors_in port.now }
 {
@@ -32,7 +33,7 @@ pub fn sectors<A: Allocator>(port: &Port<A>, sectors: &mut u32) -> Status
 }
 
 /// Reads the register at an offset.
-pub fn register<A: Allocator>(port: &Port<A>, offset: u32, word: &mut u32) -> Status
+pub fn register<A: Allocator, S: SectorStore>(port: &Port<A, S>, offset: u32, word: &mut u32) -> Status
     ensures { AnswersRegister (read_of port.now.registers offset) result word.old word.new }
 {
     match port.register(offset) {
@@ -45,7 +46,7 @@ pub fn register<A: Allocator>(port: &Port<A>, offset: u32, word: &mut u32) -> St
 }
 
 /// Copies the received FIS area.
-pub fn received<A: Allocator>(port: &Port<A>, out: &mut [u8]) -> Status
+pub fn received<A: Allocator, S: SectorStore>(port: &Port<A, S>, out: &mut [u8]) -> Status
     ensures { Told result (received_refusal (length out.old)) (out.new ≡ port.now.area) (out.new ≡ out.old) }
 {
     if out.len() != 256 {
@@ -56,7 +57,7 @@ pub fn received<A: Allocator>(port: &Port<A>, out: &mut [u8]) -> Status
 }
 
 /// Copies a sector as it is now.
-pub fn copy<A: Allocator>(port: &Port<A>, lba: u64, out: &mut [u8]) -> Status
+pub fn copy<A: Allocator, S: SectorStore>(port: &Port<A, S>, lba: u64, out: &mut [u8]) -> Status
     ensures { Told result (copy_refusal port.now lba (length out.old)) (out.new ≡ sector port.now.starting port.now.past lba) (out.new ≡ out.old) }
 {
     if out.len() != 512 {
@@ -70,7 +71,7 @@ pub fn copy<A: Allocator>(port: &Port<A>, lba: u64, out: &mut [u8]) -> Status
 }
 
 /// Which tags wait for what.
-pub fn tag_sets<A: Allocator>(port: &Port<A>, sets: &mut FlatSets) -> Status
+pub fn tag_sets<A: Allocator, S: SectorStore>(port: &Port<A, S>, sets: &mut FlatSets) -> Status
     ensures done { result ≡ Status.Done }
     ensures sets { IsSets port.now sets.new }
 {
@@ -84,7 +85,7 @@ pub fn tag_sets<A: Allocator>(port: &Port<A>, sets: &mut FlatSets) -> Status
 }
 
 /// One slot.
-pub fn slot<A: Allocator>(port: &Port<A>, tag: u32, slot: &mut FlatSlot) -> Status
+pub fn slot<A: Allocator, S: SectorStore>(port: &Port<A, S>, tag: u32, slot: &mut FlatSlot) -> Status
     ensures { Told result (with_tag tag None) (slot.new ≡ flat_slot port.now tag) (slot.new ≡ slot.old) }
 {
     if tag >= 32 {
@@ -95,7 +96,7 @@ pub fn slot<A: Allocator>(port: &Port<A>, tag: u32, slot: &mut FlatSlot) -> Stat
 }
 
 /// The slot of a tag, as a struct.
-pub(crate) fn slot_of<A: Allocator>(port: &Port<A>, tag: u8) -> FlatSlot
+pub(crate) fn slot_of<A: Allocator, S: SectorStore>(port: &Port<A, S>, tag: u8) -> FlatSlot
     ensures { result ≡ flat_slot port.now tag }
 {
     let owner = port.owner(tag);

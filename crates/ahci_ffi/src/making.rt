@@ -8,16 +8,17 @@ use crate::status::Status;
 use ahci_port::{MOST_FIRST, Port, ResumeFault};
 use ncq_core::{MAX_DEPTH, MAX_SECTORS, SECTOR};
 use port_refusal::Refusal;
+use sector_store::SectorStore;
 use std::alloc::{AllocError, Allocator};
 
 /// A port over a copy of an image, whose journal's first entry has the number `first`. Size, depth and number are looked at
 /// before memory is asked for.
-pub fn make<A: Allocator + Copy>(
+pub fn make<A: Allocator + Copy, S: SectorStore>(
     alloc: A,
     image: &[u8],
     depth: u32,
     first: u64,
-) -> Result<Box<Port<A>, A>, Status>
+) -> Result<Box<Port<A, S>, A>, Status>
     ensures { Makes (size_refusal (length image.now) depth first) result (λ box. box.value ≡ port_from first image.now depth) }
 {
     if let Some(refusal) = size_refusal(image.len(), depth, first) {
@@ -28,11 +29,11 @@ pub fn make<A: Allocator + Copy>(
 }
 
 /// A port over a disk of zeros.
-pub fn make_zeros<A: Allocator + Copy>(
+pub fn make_zeros<A: Allocator + Copy, S: SectorStore>(
     alloc: A,
     sectors: u32,
     depth: u32,
-) -> Result<Box<Port<A>, A>, Status>
+) -> Result<Box<Port<A, S>, A>, Status>
     ensures { Makes (size_refusal (512 * sectors) depth 0) result (λ box. box.value ≡ port_from 0 (replicate (512 * sectors) 0) depth) }
 {
     let size = SECTOR * sectors as usize;
@@ -60,12 +61,12 @@ pub fn size_refusal(bytes: usize, depth: u32, first: u64) -> Option<Status>
 }
 
 /// A port over this image, in a box of its own.
-fn boxed<A: Allocator + Copy>(
+fn boxed<A: Allocator + Copy, S: SectorStore>(
     alloc: A,
     image: Vec<u8, A>,
     depth: u32,
     first: u64,
-) -> Result<Box<Port<A>, A>, Status>
+) -> Result<Box<Port<A, S>, A>, Status>
     requires { size_refusal (length image.items) depth first ≡ None }
     ensures { Makes None result (λ box. box.value ≡ port_from first image.items depth) }
 {

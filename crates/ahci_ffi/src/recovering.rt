@@ -6,10 +6,11 @@ ghost use Rattle.ahci_ffi.specs.Calls.{AnswersFlush, AnswersIdentify, AnswersRec
 
 use crate::status::Status;
 use ahci_port::Port;
+use sector_store::SectorStore;
 use std::alloc::Allocator;
 
 /// Recovers from a failure: `tag` is the one whose command had failed then.
-pub fn recover<A: Allocator>(port: &mut Port<A>, tag: &mut u32) -> Status
+pub fn recover<A: Allocator, S: SectorStore>(port: &mut Port<A, S>, tag: &mut u32) -> Status
     ensures { AnswersRecover result port.old port.new tag.old tag.new }
 {
     match port.recover() {
@@ -22,7 +23,7 @@ pub fn recover<A: Allocator>(port: &mut Port<A>, tag: &mut u32) -> Status
 }
 
 /// Issues a held command again.
-pub fn reissue<A: Allocator>(port: &mut Port<A>, tag: u32) -> Status
+pub fn reissue<A: Allocator, S: SectorStore>(port: &mut Port<A, S>, tag: u32) -> Status
     ensures { AnswersReissue tag result port.old port.new }
 {
     if tag >= 32 {
@@ -35,7 +36,7 @@ pub fn reissue<A: Allocator>(port: &mut Port<A>, tag: u32) -> Status
 }
 
 /// Sends IDENTIFY DEVICE, and copies its page.
-pub fn identify<A: Allocator>(port: &mut Port<A>, out: &mut [u8]) -> Status
+pub fn identify<A: Allocator, S: SectorStore>(port: &mut Port<A, S>, out: &mut [u8]) -> Status
     ensures { AnswersIdentify result port.old port.new out.old out.new }
 {
     if out.len() != 512 {
@@ -51,7 +52,7 @@ pub fn identify<A: Allocator>(port: &mut Port<A>, out: &mut [u8]) -> Status
 }
 
 /// Sends FLUSH CACHE EXT.
-pub fn flush<A: Allocator>(port: &mut Port<A>) -> Status
+pub fn flush<A: Allocator, S: SectorStore>(port: &mut Port<A, S>) -> Status
     ensures { AnswersFlush result port.old port.new }
 {
     match port.flush() {
@@ -61,7 +62,7 @@ pub fn flush<A: Allocator>(port: &mut Port<A>) -> Status
 }
 
 /// Software acknowledges interrupts.
-pub fn acknowledge<A: Allocator>(port: &mut Port<A>, mask: u32) -> Status
+pub fn acknowledge<A: Allocator, S: SectorStore>(port: &mut Port<A, S>, mask: u32) -> Status
     ensures done { result ≡ Status.Done }
     ensures port { port.new ≡ record port.old { registers = acknowledged port.old.registers mask } }
 {
@@ -70,7 +71,7 @@ pub fn acknowledge<A: Allocator>(port: &mut Port<A>, mask: u32) -> Status
 }
 
 /// Throws the journal away, with its memory: `entries` is how many it had.
-pub fn trim<A: Allocator + Copy>(port: &mut Port<A>, entries: &mut u64) -> Status
+pub fn trim<A: Allocator + Copy, S: SectorStore>(port: &mut Port<A, S>, entries: &mut u64) -> Status
     ensures { AnswersTrim result port.old port.new entries.old entries.new }
 {
     match port.trim() {

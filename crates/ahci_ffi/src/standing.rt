@@ -11,10 +11,11 @@ use crate::looking::phase_number;
 use crate::status::Status;
 use ahci_port::Port;
 use ahci_regs::Register;
+use sector_store::SectorStore;
 use std::alloc::Allocator;
 
 /// All that can be seen of a port at once.
-pub fn state<A: Allocator>(port: &Port<A>, state: &mut FlatState) -> Status
+pub fn state<A: Allocator, S: SectorStore>(port: &Port<A, S>, state: &mut FlatState) -> Status
     ensures done { result ≡ Status.Done }
     ensures state { IsState port.now state.new }
 {
@@ -23,7 +24,7 @@ pub fn state<A: Allocator>(port: &Port<A>, state: &mut FlatState) -> Status
 }
 
 /// The same as a struct.
-fn state_of<A: Allocator>(port: &Port<A>) -> FlatState
+fn state_of<A: Allocator, S: SectorStore>(port: &Port<A, S>) -> FlatState
     ensures { IsState port.now result }
 {
     let sets = port.tag_sets();
@@ -61,7 +62,7 @@ fn state_of<A: Allocator>(port: &Port<A>) -> FlatState
 }
 
 /// The word of a register.
-fn word<A: Allocator>(port: &Port<A>, register: Register) -> u32
+fn word<A: Allocator, S: SectorStore>(port: &Port<A, S>, register: Register) -> u32
     ensures { result ≡ word_at port.now.registers register }
 {
     match port.register(register.offset()) {
@@ -72,7 +73,7 @@ fn word<A: Allocator>(port: &Port<A>, register: Register) -> u32
 }
 
 /// By tag, the number of the request that owns the slot, and 0 for a free one.
-fn numbers_of<A: Allocator>(port: &Port<A>) -> [u64; 32]
+fn numbers_of<A: Allocator, S: SectorStore>(port: &Port<A, S>) -> [u64; 32]
     ensures { (tag : ℕ) → tag < 32 → slice_index_or result tag 0 ≡ unwrap_or (owner_of port.now tag) 0 }
 {
     let mut numbers = [0; 32];
@@ -83,7 +84,7 @@ fn numbers_of<A: Allocator>(port: &Port<A>) -> [u64; 32]
 }
 
 /// By tag, the number of the phase.
-fn phases_of<A: Allocator>(port: &Port<A>) -> [u8; 32]
+fn phases_of<A: Allocator, S: SectorStore>(port: &Port<A, S>) -> [u8; 32]
     ensures { (tag : ℕ) → tag < 32 → slice_index_or result tag 0 ≡ phase_number (phase port.now.past tag) }
 {
     let mut phases = [0; 32];

@@ -8,13 +8,14 @@ use crate::flat::FlatStep;
 use crate::status::Status;
 use ahci_port::{DeviceStep, Port, Stepped};
 use arrayvec::ArrayVec;
+use sector_store::SectorStore;
 use std::alloc::Allocator;
 
 /// How many tags there are.
 const MOST_TAGS: usize = 32;
 
 /// The device takes a tag's command, or fails it where it passes the last sector.
-pub fn accept<A: Allocator>(port: &mut Port<A>, tag: u32, done: &mut FlatStep) -> Status
+pub fn accept<A: Allocator, S: SectorStore>(port: &mut Port<A, S>, tag: u32, done: &mut FlatStep) -> Status
     ensures { AnswersAccept tag result port.old port.new done.old done.new }
 {
     if tag >= 32 {
@@ -24,7 +25,7 @@ pub fn accept<A: Allocator>(port: &mut Port<A>, tag: u32, done: &mut FlatStep) -
 }
 
 /// The device serves the commands of some tags, in the list's order.
-pub fn serve<A: Allocator>(port: &mut Port<A>, tags: &[u8], done: &mut FlatStep) -> Status
+pub fn serve<A: Allocator, S: SectorStore>(port: &mut Port<A, S>, tags: &[u8], done: &mut FlatStep) -> Status
     ensures { AnswersServe tags.now result port.old port.new done.old done.new }
 {
     if tags.len() > MOST_TAGS {
@@ -44,8 +45,8 @@ fn listed(tags: &[u8]) -> ArrayVec<u8, 32>
 }
 
 /// The device fails a tag's accepted command, with an error byte at one of its sectors.
-pub fn fail<A: Allocator>(
-    port: &mut Port<A>,
+pub fn fail<A: Allocator, S: SectorStore>(
+    port: &mut Port<A, S>,
     tag: u32,
     error: u8,
     lba: u64,
@@ -69,7 +70,7 @@ pub fn fail<A: Allocator>(
 }
 
 /// The device takes a step.
-fn step<A: Allocator>(port: &mut Port<A>, step: DeviceStep, done: &mut FlatStep) -> Status
+fn step<A: Allocator, S: SectorStore>(port: &mut Port<A, S>, step: DeviceStep, done: &mut FlatStep) -> Status
     ensures { Told result (refused of_step (step_refusal port.old step)) (HasStepped step port.old port.new done.new)
         (Same port.old port.new done.old done.new) }
 {

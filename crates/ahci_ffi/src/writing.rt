@@ -8,13 +8,14 @@ ghost use Rattle.ahci_ffi.specs.{Done.{AnswersRegister}, Writing.{AnswersWord, A
 use crate::flat::FlatWritten;
 use crate::status::Status;
 use ahci_port::{Pending, Port, WriteFault, Written};
+use sector_store::SectorStore;
 use std::alloc::Allocator;
 
 /// Takes a word that a driver writes to the register at an offset. A newly set bit of PxCI issues the command of that slot: its
 /// header stands in `list`, and its window in a 32nd part of `windows`. `done` tells what the write did, and of a command that
 /// was not issued its slot.
-pub fn write_register<A: Allocator + Clone>(
-    port: &mut Port<A>,
+pub fn write_register<A: Allocator + Clone, S: SectorStore>(
+    port: &mut Port<A, S>,
     pending: &mut Pending,
     offset: u32,
     word: u32,
@@ -31,8 +32,8 @@ pub fn write_register<A: Allocator + Clone>(
 }
 
 /// The same of a command list of the right length.
-fn write_word<A: Allocator + Clone>(
-    port: &mut Port<A>,
+fn write_word<A: Allocator + Clone, S: SectorStore>(
+    port: &mut Port<A, S>,
     pending: &mut Pending,
     offset: u32,
     word: u32,
@@ -81,8 +82,8 @@ fn flat_refused(fault: WriteFault, before: FlatWritten) -> FlatWritten
 }
 
 /// Reads the register at an offset, as a driver finds it between its writes.
-pub fn read_register<A: Allocator>(
-    port: &Port<A>,
+pub fn read_register<A: Allocator, S: SectorStore>(
+    port: &Port<A, S>,
     pending: &Pending,
     offset: u32,
     word: &mut u32,

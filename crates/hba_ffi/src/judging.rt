@@ -9,14 +9,15 @@ use hba_command::{Task, command_fis, task_of};
 use hba_regs::Register;
 use hba_rules::Rule;
 use port_refusal::Refusal;
+use sector_store::SectorStore;
 use std::alloc::Allocator;
 
 /// How many slots there are.
 const SLOTS: u32 = 32;
 
 /// Whether a word that a driver is about to write at an offset breaks the rule of a number.
-pub fn write_breaks<A: Allocator>(
-    hba: &Hba<A>,
+pub fn write_breaks<A: Allocator, S: SectorStore>(
+    hba: &Hba<A, S>,
     rule: u32,
     offset: u32,
     word: u32,
@@ -31,8 +32,8 @@ pub fn write_breaks<A: Allocator>(
 }
 
 /// The same of a rule.
-fn on_write<A: Allocator>(
-    hba: &Hba<A>,
+fn on_write<A: Allocator, S: SectorStore>(
+    hba: &Hba<A, S>,
     rule: Rule,
     offset: u32,
     word: u32,

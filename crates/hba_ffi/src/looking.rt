@@ -9,10 +9,11 @@ ghost use Rattle.hba_ffi.specs.Looking.{IsLook, length_moved, step_number, want_
 use crate::flat::FlatHba;
 use ahci_ffi::{FlatEntry, FlatState, Status};
 use ahci_hba::{Hba, Slot, Step, Want};
+use sector_store::SectorStore;
 use std::alloc::Allocator;
 
 /// What the controller does next.
-pub fn look<A: Allocator>(hba: &Hba<A>, look: &mut FlatHba) -> Status
+pub fn look<A: Allocator, S: SectorStore>(hba: &Hba<A, S>, look: &mut FlatHba) -> Status
     ensures done { result ≡ Status.Done }
     ensures look { IsLook hba.now look.new }
 {
@@ -29,7 +30,7 @@ pub fn look<A: Allocator>(hba: &Hba<A>, look: &mut FlatHba) -> Status
 }
 
 /// How many bytes are read or written next.
-fn length_moved<A: Allocator>(hba: &Hba<A>) -> u64
+fn length_moved<A: Allocator, S: SectorStore>(hba: &Hba<A, S>) -> u64
     ensures { result ≡ length_moved hba.now.work }
 {
     match hba.want() {
@@ -68,7 +69,7 @@ fn step_number(step: Option<Step>) -> u8
 }
 
 /// By slot, the number of the next step with its command.
-fn next_steps<A: Allocator>(hba: &Hba<A>) -> [u8; 32]
+fn next_steps<A: Allocator, S: SectorStore>(hba: &Hba<A, S>) -> [u8; 32]
     ensures { (slot : ℕ) → slot < 32 → slice_index_or result slot 0 ≡ step_number (next_step hba.now slot) }
 {
     let mut steps = [0; 32];
@@ -82,28 +83,28 @@ fn next_steps<A: Allocator>(hba: &Hba<A>) -> [u8; 32]
 }
 
 /// Copies a sector as it is now.
-pub fn copy<A: Allocator>(hba: &Hba<A>, lba: u64, out: &mut [u8]) -> Status
+pub fn copy<A: Allocator, S: SectorStore>(hba: &Hba<A, S>, lba: u64, out: &mut [u8]) -> Status
     ensures { Told result (copy_refusal hba.now.port lba (length out.old)) (out.new ≡ sector hba.now.port.starting hba.now.port.past lba) (out.new ≡ out.old) }
 {
     ahci_ffi::copy(hba.port(), lba, out)
 }
 
 /// The entry of a number of the journal.
-pub fn entry<A: Allocator>(hba: &Hba<A>, number: u64, entry: &mut FlatEntry) -> Status
+pub fn entry<A: Allocator, S: SectorStore>(hba: &Hba<A, S>, number: u64, entry: &mut FlatEntry) -> Status
     ensures { AnswersEntry (entry_numbered hba.now.port.first hba.now.port.past number) result entry.old entry.new }
 {
     ahci_ffi::entry(hba.port(), number, entry)
 }
 
 /// Copies the bytes of the write that the entry of a number has issued.
-pub fn entry_bytes<A: Allocator>(hba: &Hba<A>, number: u64, out: &mut [u8]) -> Status
+pub fn entry_bytes<A: Allocator, S: SectorStore>(hba: &Hba<A, S>, number: u64, out: &mut [u8]) -> Status
     ensures { AnswersBytes (written_by (entry_numbered hba.now.port.first hba.now.port.past number)) result out.old out.new }
 {
     ahci_ffi::entry_bytes(hba.port(), number, out)
 }
 
 /// All that can be seen of the queue behind the controller.
-pub fn port<A: Allocator>(hba: &Hba<A>, state: &mut FlatState) -> Status
+pub fn port<A: Allocator, S: SectorStore>(hba: &Hba<A, S>, state: &mut FlatState) -> Status
     ensures done { result ≡ Status.Done }
     ensures state { IsState hba.now.port state.new }
 {

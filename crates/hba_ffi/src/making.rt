@@ -12,14 +12,15 @@ use ahci_hba::Hba;
 use hba_regs::Capabilities;
 use ncq_core::DiskFault;
 use port_refusal::Refusal;
+use sector_store::SectorStore;
 use std::alloc::{AllocError, Allocator};
 
 /// A controller after power-on, in front of a disk with a copy of an image. Size and depth are looked at before memory is asked for.
-pub fn make<A: Allocator + Copy>(
+pub fn make<A: Allocator + Copy, S: SectorStore>(
     alloc: A,
     image: &[u8],
     depth: u32,
-) -> Result<Box<Hba<A>, A>, Status>
+) -> Result<Box<Hba<A, S>, A>, Status>
     ensures { Makes (size_refusal (length image.now) depth 0) result (λ box. box.value ≡ new_hba image.now depth) }
 {
     if let Some(refusal) = size_refusal(image.len(), depth, 0) {
@@ -29,12 +30,12 @@ pub fn make<A: Allocator + Copy>(
 }
 
 /// The same with these capabilities.
-pub fn make_with<A: Allocator + Copy>(
+pub fn make_with<A: Allocator + Copy, S: SectorStore>(
     alloc: A,
     image: &[u8],
     depth: u32,
     capabilities: &FlatCapabilities,
-) -> Result<Box<Hba<A>, A>, Status>
+) -> Result<Box<Hba<A, S>, A>, Status>
     ensures { Makes (making_refusal (length image.now) depth capabilities.now) result
         (λ box. box.value ≡ hba_with image.now depth (capabilities_for capabilities.now)) }
 {
@@ -48,12 +49,12 @@ pub fn make_with<A: Allocator + Copy>(
 }
 
 /// The same of a size and a depth that nothing is wrong with.
-fn boxed<A: Allocator + Copy>(
+fn boxed<A: Allocator + Copy, S: SectorStore>(
     alloc: A,
     image: &[u8],
     depth: u32,
     capabilities: Capabilities,
-) -> Result<Box<Hba<A>, A>, Status>
+) -> Result<Box<Hba<A, S>, A>, Status>
     requires { size_refusal (length image.now) depth 0 ≡ None }
     ensures { Makes None result (λ box. box.value ≡ hba_with image.now depth capabilities) }
 {

@@ -6,10 +6,11 @@ ghost use Rattle.hba_ffi.specs.Calls.{AnswersBytes, AnswersSupply};
 
 use ahci_ffi::Status;
 use ahci_hba::Hba;
+use sector_store::SectorStore;
 use std::alloc::Allocator;
 
 /// Supplies the bytes that the controller reads.
-pub fn supply<A: Allocator + Copy>(hba: &mut Hba<A>, bytes: &[u8]) -> Status
+pub fn supply<A: Allocator + Copy, S: SectorStore>(hba: &mut Hba<A, S>, bytes: &[u8]) -> Status
     ensures { AnswersSupply bytes.now result hba.old hba.new }
 {
     if bytes.len() != hba.read_length() {
@@ -22,7 +23,7 @@ pub fn supply<A: Allocator + Copy>(hba: &mut Hba<A>, bytes: &[u8]) -> Status
 }
 
 /// Copies the bytes that the controller writes.
-pub fn bytes<A: Allocator>(hba: &Hba<A>, out: &mut [u8]) -> Status
+pub fn bytes<A: Allocator, S: SectorStore>(hba: &Hba<A, S>, out: &mut [u8]) -> Status
     ensures { AnswersBytes result hba.now out.old out.new }
 {
     let bytes = hba.bytes();
@@ -34,7 +35,7 @@ pub fn bytes<A: Allocator>(hba: &Hba<A>, out: &mut [u8]) -> Status
 }
 
 /// The bytes that the controller writes are written.
-pub fn written<A: Allocator>(hba: &mut Hba<A>) -> Status
+pub fn written<A: Allocator, S: SectorStore>(hba: &mut Hba<A, S>) -> Status
     ensures done { result ≡ Status.Done }
     ensures state { hba.new ≡ put_done hba.old hba.old.work }
 {
@@ -43,7 +44,7 @@ pub fn written<A: Allocator>(hba: &mut Hba<A>) -> Status
 }
 
 /// The address that the controller reads or writes is no memory.
-pub fn unmapped<A: Allocator>(hba: &mut Hba<A>) -> Status
+pub fn unmapped<A: Allocator, S: SectorStore>(hba: &mut Hba<A, S>) -> Status
     ensures done { result ≡ Status.Done }
     ensures state { hba.new ≡ unmapped hba.old hba.old.work }
 {

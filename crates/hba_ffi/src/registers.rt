@@ -6,10 +6,11 @@ ghost use Rattle.hba_ffi.specs.Calls.{AnswersRead, AnswersWrite, entries_in};
 use ahci_ffi::Status;
 use ahci_hba::{AccessSize, Hba};
 use ahci_port::Journal;
+use sector_store::SectorStore;
 use std::alloc::Allocator;
 
 /// What a driver reads at an offset, in so many bytes.
-pub fn read<A: Allocator>(hba: &Hba<A>, offset: u32, bytes: u32, value: &mut u64) -> Status
+pub fn read<A: Allocator, S: SectorStore>(hba: &Hba<A, S>, offset: u32, bytes: u32, value: &mut u64) -> Status
     ensures { AnswersRead offset bytes result hba.now value.old value.new }
 {
     match AccessSize::of(bytes) {
@@ -23,8 +24,8 @@ pub fn read<A: Allocator>(hba: &Hba<A>, offset: u32, bytes: u32, value: &mut u64
 
 /// Takes what a driver writes at an offset, in so many bytes. `entries` is how many entries the journal has that is handed out, if the
 /// write resets the port.
-pub fn write<A: Allocator + Copy>(
-    hba: &mut Hba<A>,
+pub fn write<A: Allocator + Copy, S: SectorStore>(
+    hba: &mut Hba<A, S>,
     offset: u32,
     bytes: u32,
     value: u64,

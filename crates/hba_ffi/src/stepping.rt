@@ -8,11 +8,12 @@ use ahci_ffi::Status;
 use ahci_hba::{Hba, HbaFault, Slot};
 use ncq_core::LBA_LIMIT;
 use port_refusal::Refusal;
+use sector_store::SectorStore;
 use std::alloc::Allocator;
 
 /// Takes the next step with the command of a slot. `entries` is how many entries the journal has that is handed out, if the step resets
 /// the port.
-pub fn step<A: Allocator + Copy>(hba: &mut Hba<A>, slot: u32, entries: &mut u64) -> Status
+pub fn step<A: Allocator + Copy, S: SectorStore>(hba: &mut Hba<A, S>, slot: u32, entries: &mut u64) -> Status
     ensures { AnswersStep slot result hba.old hba.new entries.old entries.new }
 {
     let Some(slot) = Slot::of(slot) else {
@@ -29,7 +30,7 @@ pub fn step<A: Allocator + Copy>(hba: &mut Hba<A>, slot: u32, entries: &mut u64)
 }
 
 /// The device fails a queued command that it has taken, with an error byte at one of its sectors.
-pub fn fail<A: Allocator + Copy>(hba: &mut Hba<A>, slot: u32, error: u8, lba: u64) -> Status
+pub fn fail<A: Allocator + Copy, S: SectorStore>(hba: &mut Hba<A, S>, slot: u32, error: u8, lba: u64) -> Status
     ensures { AnswersFail slot error lba result hba.old hba.new }
 {
     let Some(slot) = Slot::of(slot) else {
@@ -43,7 +44,7 @@ pub fn fail<A: Allocator + Copy>(hba: &mut Hba<A>, slot: u32, error: u8, lba: u6
 }
 
 /// The device fails a command that is read and not queued, with an error byte at an LBA.
-pub fn refuse<A: Allocator + Copy>(hba: &mut Hba<A>, slot: u32, error: u8, lba: u64) -> Status
+pub fn refuse<A: Allocator + Copy, S: SectorStore>(hba: &mut Hba<A, S>, slot: u32, error: u8, lba: u64) -> Status
     ensures { AnswersRefuse slot error lba result hba.old hba.new }
 {
     let Some(slot) = Slot::of(slot) else {
@@ -60,7 +61,7 @@ pub fn refuse<A: Allocator + Copy>(hba: &mut Hba<A>, slot: u32, error: u8, lba: 
 }
 
 /// The device sends its signature.
-pub fn sign<A: Allocator + Copy>(hba: &mut Hba<A>) -> Status
+pub fn sign<A: Allocator + Copy, S: SectorStore>(hba: &mut Hba<A, S>) -> Status
     ensures { AnswersSign result hba.old hba.new }
 {
     match hba.sign() {

@@ -8,10 +8,11 @@ mod moving;
 mod serving;
 mod taking;
 
-ghost use Rattle.std.specs.Prelude.{◌≡◌, ◌+◌, ◌*◌, ◌/◌, ◌<◌, ◌≤◌, ◌^◌, None, Some, false, length, IfOk, IfErr, OnOk, OnErr};
+ghost use Rattle.std.specs.Prelude.{◌≡◌, ◌+◌, ◌*◌, ◌/◌, ◌<◌, ◌≤◌, ◌^◌, None, Some, false, length, IfOk, IfErr, IfSome, OnOk, OnErr};
+ghost use Rattle.std.specs.Option.{option_copied};
 ghost use Rattle.word_bits.specs.Places.{bits};
 ghost use Rattle.ncq_journal.specs.Image.{sector_at};
-ghost use Rattle.sector_store.specs.Reserved.{AreReserved, StayReserved};
+ghost use Rattle.sector_store.specs.{Reserved.{AreReserved, StayReserved}, Shown.{ChangesAmong}};
 ghost use Rattle.ncq_core.specs.DiskState.{IsDisk, command_of, disk_over, disk_sectors, is_bad_depth, is_reserved_in, is_stopped, new_disk, new_fault, no_commands, outstanding, over_fault, reserved_of, size_fault};
 ghost use Rattle.ncq_core.specs.DiskFis.{completed_bytes, pio_bytes, flushed_bytes};
 ghost use Rattle.ncq_core.specs.Serving.{HasRoom};
@@ -24,7 +25,7 @@ pub use crate::disk::log::log_page;
 use crate::disk::moving::DATA_FIS;
 use crate::disk_fault::DiskFault;
 use sata_fis::Queued;
-use sector_store::{SectorStore, Single, Whole};
+use sector_store::{SectorStore, Sectors, Single, Whole};
 use std::alloc::{AllocError, Allocator};
 use std::marker::Model;
 use word_bits::with_bit;
@@ -129,6 +130,15 @@ impl<A: Allocator> Disk<Whole<A>> {
         ensures { result.now ≡ self.now.starting }
     {
         self.store.starting_bytes()
+    }
+}
+
+impl<A: Allocator + Copy> Disk<Sectors<A>> {
+    /// The numbers of the pages of eight sectors that may have changed since they were last kept; nothing if that isn't known.
+    pub fn touched(&self) -> Option<&[u32]>
+        ensures { IfSome (option_copied result) (λ touched. ChangesAmong touched self.now.image self.now.starting) }
+    {
+        self.store.touched()
     }
 }
 

@@ -32,9 +32,9 @@ flat_map-same f g a b (suc n) same =
         ap f left ∙ same (k + 1) (omega arith) ∙ ap g right
 
 -- the same sectors make the same image
-pub joined-same : (f g : ℕ → List ℕ) (n : ℕ) → ((s : ℕ) → f s ≡ g s) → joined f n ≡ joined g n
+pub joined_same : (f g : ℕ → List ℕ) (n : ℕ) → ((s : ℕ) → f s ≡ g s) → joined f n ≡ joined g n
 unfolding joined
-joined-same f g n same = flat_map-same f g 0 0 n (λ k l. same (0 + k))
+joined_same f g n same = flat_map-same f g 0 0 n (λ k l. same (0 + k))
 
 length-sectors : (f : ℕ → List ℕ) → AreSectors f → (a n : ℕ) → length (flat_map f (range_with_len a n)) ≡ 512 * n
 length-sectors f size a zero = refl

@@ -71,6 +71,10 @@ pub record AreTouched (slots : ℕ → Option Layers) (touched : List ℕ) : Typ
   pub made : (q : ℕ) → among touched q ≡ true → is_some (slots q) ≡ true
   pub written : (q : ℕ) → is_written slots q ≡ true → among touched q ≡ true
 
+-- each sector that isn't in one of these pages is the one that was kept
+abbrev pub ChangesAmong : List ℕ → List ℕ → List ℕ → Type 0
+ChangesAmong touched image starting = (s : ℕ) → among touched (s / 8) ≡ false → sector_at image s ≡ sector_at starting s
+
 -- no slot but one has changed, which is made
 pub record ChangesAt (number : ℕ) (old new : ℕ → Option Layers) : Type 0 where
   pub others : (q : ℕ) → (q ≡ number → ⊥) → new q ≡ old q

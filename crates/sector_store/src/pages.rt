@@ -5,10 +5,9 @@ mod reading;
 mod reserving;
 mod writing;
 
-ghost use Rattle.std.specs.Prelude.{◌≡◌, ℕ, ◌*◌, ◌/◌, ◌≤◌, false, refl, IfOk};
-ghost use Rattle.ncq_journal.specs.Image.{sector_at};
+ghost use Rattle.std.specs.Prelude.{◌≡◌, ℕ, ◌*◌, ◌≤◌, false, refl, IfOk};
 ghost use Rattle.sector_store.specs.Slots.{slot_at, table_span};
-ghost use Rattle.sector_store.specs.Shown.{HasWholePages, AreTouched, among, joined, sector_now, sector_kept, is_writable};
+ghost use Rattle.sector_store.specs.Shown.{AreTouched, ChangesAmong, HasWholePages, joined, sector_now, sector_kept, is_writable};
 
 use crate::base::{Base, Zeros};
 use crate::sector_store::SectorStore;
@@ -56,7 +55,7 @@ impl<B: Base, A: Allocator + Copy> Pages<B, A> {
     /// The numbers of the pages that were reserved since the last `keep` or `restore`. The sectors of every other page are
     /// those that were kept.
     pub fn touched(&self) -> &[u32]
-        ensures { (s : ℕ) → among result.now (s / 8) ≡ false → sector_at (⟦<Pages<B, A> as SectorStore>⟧.image self.now) s ≡ sector_at (⟦<Pages<B, A> as SectorStore>⟧.starting self.now) s }
+        ensures { ChangesAmong result.now (⟦<Pages<B, A> as SectorStore>⟧.image self.now) (⟦<Pages<B, A> as SectorStore>⟧.starting self.now) }
     {
         self.touched.as_slice()
     }

@@ -1,7 +1,9 @@
 //! A store whose kind is chosen when it is made.
 
-ghost use Rattle.std.specs.Prelude.{◌≡◌, ℕ, ◌+◌, ◌*◌, ◌/◌, ◌<◌, ◌≤◌, length, false, refl};
+ghost use Rattle.std.specs.Prelude.{◌≡◌, ℕ, ◌+◌, ◌*◌, ◌/◌, ◌<◌, ◌≤◌, length, false, refl, IfOk, IfSome};
+ghost use Rattle.std.specs.Option.{option_copied};
 ghost use Rattle.sector_store.specs.Reserved.{AreReserved};
+ghost use Rattle.sector_store.specs.Shown.{ChangesAmong, buffer_sector, joined};
 ghost use Rattle.sector_store.specs.declared.sectors.Sectors.TheVariants as the;
 
 use crate::base::Buffer;
@@ -15,6 +17,45 @@ use std::alloc::{AllocError, Allocator, Global};
 pub enum Sectors<A: Allocator = Global> {
     Whole(Whole<A>),
     Pages(Pages<Buffer<'static>, A>),
+}
+
+impl<A: Allocator + Copy> Sectors<A> {
+    /// The sectors in this buffer, which are kept as they are.
+    ///
+    /// # Errors
+    /// If there is no memory for the copy.
+    pub fn whole(alloc: A, image: Vec<u8, A>) -> Result<Self, AllocError>
+        requires { length image.items ≡ 512 * (length image.items / 512) }
+        ensures image { IfOk result (λ s. ⟦<Sectors<A> as SectorStore>⟧.image s ≡ image.items) }
+        ensures starting { IfOk result (λ s. ⟦<Sectors<A> as SectorStore>⟧.starting s ≡ image.items) }
+    {
+        Ok(Sectors::Whole(Whole::new(alloc, image)?))
+    }
+
+    /// So many sectors over these bytes and zeros after them, of which none is written. What is written takes memory.
+    ///
+    /// # Errors
+    /// If there is no memory.
+    #[tactic(auto, using(crate::proofs::ShownLemmas::joined_same))]
+    pub fn over(alloc: A, base: &'static [u8], sectors: u64) -> Result<Self, AllocError>
+        requires { sectors ≤ 4294967296 }
+        ensures image { IfOk result (λ s. ⟦<Sectors<A> as SectorStore>⟧.image s ≡ joined (buffer_sector base.now) sectors) }
+        ensures starting { IfOk result (λ s. ⟦<Sectors<A> as SectorStore>⟧.starting s ≡ joined (buffer_sector base.now) sectors) }
+    {
+        Ok(Sectors::Pages(Pages::new(alloc, Buffer::new(base), sectors)?))
+    }
+}
+
+impl<A: Allocator + Copy> Sectors<A> {
+    /// The numbers of the pages of eight sectors that may have changed since they were last kept; nothing if that isn't known.
+    pub fn touched(&self) -> Option<&[u32]>
+        ensures { IfSome (option_copied result) (λ touched. ChangesAmong touched (⟦<Sectors<A> as SectorStore>⟧.image self.now) (⟦<Sectors<A> as SectorStore>⟧.starting self.now)) }
+    {
+        match self {
+            Sectors::Whole(_) => None,
+            Sectors::Pages(store) => Some(store.touched()),
+        }
+    }
 }
 
 impl<A: Allocator + Copy> SectorStore for Sectors<A> {

@@ -1,6 +1,7 @@
 //! What a driver asks a port of. None of these calls takes memory.
 
-ghost use Rattle.std.specs.{Prelude.{◌≡◌, ◌≤◌}, Option.{option_copied}};
+ghost use Rattle.std.specs.{Prelude.{◌≡◌, ◌≤◌, IfSome}, Option.{option_copied}};
+ghost use Rattle.sector_store.specs.Shown.{ChangesAmong};
 ghost use Rattle.word_bits.specs.Places.{bits};
 ghost use Rattle.ncq_journal.specs.Owed.{owed};
 ghost use Rattle.ahci_port.specs.{Headline.{Headline}, Looking.{issued_tags, accepted_tags, held_tags, read_length, HasShape}, PortView.{window_at}};
@@ -11,7 +12,7 @@ use crate::slot::{read_in, window_in};
 use crate::tag_sets::TagSets;
 use ahci_table::Window;
 use ncq_journal::Phase;
-use sector_store::SectorStore;
+use sector_store::{SectorStore, Sectors};
 use std::alloc::Allocator;
 use word_bits::with_bit;
 
@@ -108,5 +109,15 @@ impl<A: Allocator> Port<A> {
         ensures { result.now ≡ self.now.starting }
     {
         self.disk.starting_image()
+    }
+}
+
+impl<A: Allocator + Copy> Port<A, Sectors<A>> {
+    /// The numbers of the pages of eight sectors that may have changed since the port was made, last trimmed or last reset; nothing if
+    /// that isn't known.
+    pub fn touched(&self) -> Option<&[u32]>
+        ensures { IfSome (option_copied result) (λ touched. ChangesAmong touched self.now.image self.now.starting) }
+    {
+        self.disk.touched()
     }
 }
