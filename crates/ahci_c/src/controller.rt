@@ -3,10 +3,11 @@
 
 ghost use Rattle.std.specs.Prelude.{◌≡◌, length, ⊤};
 ghost use Rattle.ahci_ffi.specs.Making.{size_refusal};
+ghost use Rattle.sector_store.specs.Shown.{buffer_sector, joined};
 ghost use Rattle.ahci_hba.specs.{Moving.{put_done, unmapped}, States.{hba_with, new_hba}};
 ghost use Rattle.hba_ffi.specs.{
   Calls.{AnswersBytes, AnswersRead, AnswersSupply, AnswersWrite},
-  Capable.{capabilities_for, making_refusal},
+  Capable.{capabilities_for, making_refusal, over_making_refusal},
   Looking.{IsLook},
   Over.{Changes, Empties, Fills, Reads},
   PlaceView.{view_of},
@@ -43,6 +44,26 @@ pub extern "C" fn ahci_hba_new_with(
         return Status::PortThere.code();
     }
     hba.fill(hba_ffi::make_with(heap, image, depth, capabilities))
+}
+
+/// The same in front of a disk of so many sectors, which are those of `base`, and zeros after them, until they are written. The bytes of `base`
+/// never change and live as long as the controller.
+#[unsafe(no_mangle)]
+pub extern "C" fn ahci_hba_over(
+    hba: &mut HbaPlace,
+    heap: Global,
+    base: &'static [u8],
+    sectors: u32,
+    depth: u32,
+    capabilities: &FlatCapabilities,
+) -> u32
+    ensures { Fills result (view_of hba.old) (view_of hba.new) (over_making_refusal sectors depth capabilities.now)
+        (hba_with (joined (buffer_sector base.now) sectors) depth (capabilities_for capabilities.now)) }
+{
+    if hba.is_full() {
+        return Status::PortThere.code();
+    }
+    hba.fill(hba_ffi::make_over(heap, base, sectors, depth, capabilities))
 }
 
 /// Frees a controller, and leaves its place empty.

@@ -2,7 +2,8 @@
 
 ghost use Rattle.std.specs.Prelude.{◌*◌, length, replicate};
 ghost use Rattle.ahci_port.specs.PortView.{port_from};
-ghost use Rattle.ahci_ffi.specs.{Making.{size_refusal}, Over.{Empties, Fills}, PlaceView.{view_of}};
+ghost use Rattle.sector_store.specs.Shown.{buffer_sector, joined};
+ghost use Rattle.ahci_ffi.specs.{Making.{over_refusal, size_refusal}, Over.{Empties, Fills}, PlaceView.{view_of}};
 
 use ahci_ffi::{Place, Status};
 use std::alloc::Global;
@@ -49,6 +50,25 @@ pub extern "C" fn ahci_port_resume(
         return Status::PortThere.code();
     }
     port.fill(ahci_ffi::make(heap, image, depth, first))
+}
+
+/// Makes a port over a disk of so many sectors, in an empty place: its sectors are those of `base`, and zeros after them, until they are
+/// written. The journal's first entry has the number `first`. The bytes of `base` never change and live as long as the port.
+#[unsafe(no_mangle)]
+pub extern "C" fn ahci_port_over(
+    port: &mut Place,
+    heap: Global,
+    base: &'static [u8],
+    sectors: u32,
+    depth: u32,
+    first: u64,
+) -> u32
+    ensures { Fills result (view_of port.old) (view_of port.new) (over_refusal sectors depth first) (port_from first (joined (buffer_sector base.now) sectors) depth) }
+{
+    if port.is_full() {
+        return Status::PortThere.code();
+    }
+    port.fill(ahci_ffi::make_over(heap, base, sectors, depth, first))
 }
 
 /// Frees a port, and leaves its place empty.

@@ -40,12 +40,13 @@ use mir.Syntax.{impl, tnil}
 use Rattle.std_heap.specs.contracts.GlobalAllocator.TheImpl.{ghosts, dict}
 use Rattle.std_heap.proofs.Global.TheLaws as heap
 use Rattle.ahci_port.proofs.port.Port.TheLaws as port
-use Rattle.ahci_ffi.specs.Held.{heap_port}
+use Rattle.sector_store.proofs.sectors.Sectors.TheLaws as sectors
+use Rattle.ahci_ffi.specs.Held.{heap_port, heap_sectors, heap_store}
 
 -- the box of a port
 abbrev pub PortBox : Bx
 PortBox = record {
   row = heap_port;
-  laws = port.the_row_laws heap_row ghosts heap.the_row_laws;
+  laws = port.the_row_laws heap_row heap_sectors ghosts heap_store heap.the_row_laws (sectors.the_row_laws heap_row ghosts heap.the_row_laws);
   al = record { row = heap_row; laws = heap.the_row_laws; g = ghosts; d = dict; drops = impl [] tnil dnil };
 }

@@ -37,7 +37,12 @@ pub fn collect<A: Allocator, S: SectorStore>(
 }
 
 /// Takes an answer that nothing stands against.
-fn taken<A: Allocator, S: SectorStore>(port: &mut Port<A, S>, tag: u8, number: u64, out: &mut [u8]) -> FlatReply
+fn taken<A: Allocator, S: SectorStore>(
+    port: &mut Port<A, S>,
+    tag: u8,
+    number: u64,
+    out: &mut [u8],
+) -> FlatReply
     requires tag { tag < 32 }
     requires free { slot_refusal port.old tag number (length out.old) ≡ None }
     ensures { HasCollected tag number port.old port.new result out.old out.new }
@@ -52,7 +57,12 @@ fn taken<A: Allocator, S: SectorStore>(port: &mut Port<A, S>, tag: u8, number: u
 }
 
 /// Why the request of a tag below 32 is not collected into a buffer with so much room.
-fn refusal<A: Allocator, S: SectorStore>(port: &Port<A, S>, tag: u8, number: u64, room: usize) -> Option<Status>
+fn refusal<A: Allocator, S: SectorStore>(
+    port: &Port<A, S>,
+    tag: u8,
+    number: u64,
+    room: usize,
+) -> Option<Status>
     ensures { result ≡ slot_refusal port.now tag number room }
 {
     match port.owner(tag) {

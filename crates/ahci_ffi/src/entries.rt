@@ -12,7 +12,11 @@ use sector_store::SectorStore;
 use std::alloc::Allocator;
 
 /// The entry of a number.
-pub fn entry<A: Allocator, S: SectorStore>(port: &Port<A, S>, number: u64, entry: &mut FlatEntry) -> Status
+pub fn entry<A: Allocator, S: SectorStore>(
+    port: &Port<A, S>,
+    number: u64,
+    entry: &mut FlatEntry,
+) -> Status
     ensures { AnswersEntry (entry_numbered port.now.first port.now.past number) result entry.old entry.new }
 {
     match port.journal().get(number) {
@@ -25,7 +29,11 @@ pub fn entry<A: Allocator, S: SectorStore>(port: &Port<A, S>, number: u64, entry
 }
 
 /// Copies the bytes of the write that the entry of a number has issued to the beginning of `out`.
-pub fn entry_bytes<A: Allocator, S: SectorStore>(port: &Port<A, S>, number: u64, out: &mut [u8]) -> Status
+pub fn entry_bytes<A: Allocator, S: SectorStore>(
+    port: &Port<A, S>,
+    number: u64,
+    out: &mut [u8],
+) -> Status
     ensures { AnswersBytes (written_by (entry_numbered port.now.first port.now.past number)) result out.old out.new }
 {
     match port.journal().get(number) {

@@ -4,9 +4,13 @@ ghost use Rattle.ahci_ffi.specs.Held.{port_coded, owned_port};
 
 use crate::bare::Bare;
 use ahci_port::Port;
+use sector_store::Sectors;
 use std::alloc::Global;
 use std::marker::Model;
 use std::ptr::null_mut;
+
+/// The port that C has: over all bytes of its disk, or over the pages that were written.
+pub type CPort = Port<Global, Sectors>;
 
 /// What C keeps of a port: the bare address of its box, or null and nothing. It owns what the box owns.
 #[repr(C)]
@@ -34,7 +38,7 @@ impl Held {
     }
 
     /// A port.
-    pub(crate) fn keep(bare: Bare<Port, Global>) -> Held
+    pub(crate) fn keep(bare: Bare<CPort, Global>) -> Held
         ensures { result.port ≡ Some bare.value }
     {
         let Bare { typed, heap } = bare;
@@ -43,12 +47,12 @@ impl Held {
     }
 
     /// The port that is held.
-    pub(crate) fn give(self) -> Bare<Port, Global>
+    pub(crate) fn give(self) -> Bare<CPort, Global>
         requires { IsSome self.port }
         ensures { self.port ≡ Some result.value }
     {
         let Held { address, heap } = self;
-        let typed = address as *mut Port;
+        let typed = address as *mut CPort;
         Bare { typed, heap }
     }
 }

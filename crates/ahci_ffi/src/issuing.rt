@@ -108,7 +108,11 @@ fn asked<A: Allocator>(
 }
 
 /// Hands a window to the port.
-fn hand_in<A: Allocator + Copy, S: SectorStore>(port: &mut Port<A, S>, window: Window<A>, number: &mut u64) -> Status
+fn hand_in<A: Allocator + Copy, S: SectorStore>(
+    port: &mut Port<A, S>,
+    window: Window<A>,
+    number: &mut u64,
+) -> Status
     ensures { AnswersWindow window result port.old port.new number.old number.new }
 {
     match port.issue(window) {

@@ -33,7 +33,11 @@ pub fn sectors<A: Allocator, S: SectorStore>(port: &Port<A, S>, sectors: &mut u3
 }
 
 /// Reads the register at an offset.
-pub fn register<A: Allocator, S: SectorStore>(port: &Port<A, S>, offset: u32, word: &mut u32) -> Status
+pub fn register<A: Allocator, S: SectorStore>(
+    port: &Port<A, S>,
+    offset: u32,
+    word: &mut u32,
+) -> Status
     ensures { AnswersRegister (read_of port.now.registers offset) result word.old word.new }
 {
     match port.register(offset) {
@@ -85,7 +89,11 @@ pub fn tag_sets<A: Allocator, S: SectorStore>(port: &Port<A, S>, sets: &mut Flat
 }
 
 /// One slot.
-pub fn slot<A: Allocator, S: SectorStore>(port: &Port<A, S>, tag: u32, slot: &mut FlatSlot) -> Status
+pub fn slot<A: Allocator, S: SectorStore>(
+    port: &Port<A, S>,
+    tag: u32,
+    slot: &mut FlatSlot,
+) -> Status
     ensures { Told result (with_tag tag None) (slot.new ≡ flat_slot port.now tag) (slot.new ≡ slot.old) }
 {
     if tag >= 32 {

@@ -3,9 +3,9 @@
 ghost use Rattle.std.specs.Prelude.{◌≡◌, is_some};
 
 use crate::bare::Bare;
-use crate::held::Held;
+use crate::held::{CPort, Held};
 use crate::status::Status;
-use ahci_port::{Pending, Port};
+use ahci_port::Pending;
 use std::alloc::Global;
 use std::mem::replace;
 
@@ -50,7 +50,7 @@ impl Place {
 
     /// Takes the port out.
     #[tactic(auto, unfolding(crate::specs::PlaceView::view_of))]
-    pub fn take(&mut self, heap: Global) -> Option<Box<Port>>
+    pub fn take(&mut self, heap: Global) -> Option<Box<CPort>>
         ensures taken { option_map (λ b. b.value) result ≡ (view_of self.old).port }
         ensures left { view_of self.new ≡ record (view_of self.old) { port = None } }
     {
@@ -77,7 +77,7 @@ impl Place {
     }
 
     /// Puts a port back after a call on it, and answers the call's number.
-    pub fn back(&mut self, port: Box<Port>, answer: Status) -> u32
+    pub fn back(&mut self, port: Box<CPort>, answer: Status) -> u32
         ensures place { view_of self.new ≡ record (view_of self.old) { port = Some port.value } }
         ensures headline { Headline port.value }
         ensures number { result ≡ code_of answer }
@@ -87,7 +87,7 @@ impl Place {
     }
 
     /// The same after a call that takes the place of register writes: once it is done, nothing is half written.
-    pub fn back_anew(&mut self, port: Box<Port>, answer: Status) -> u32
+    pub fn back_anew(&mut self, port: Box<CPort>, answer: Status) -> u32
         ensures place { view_of self.new ≡ record { port = Some port.value; pending = left_pending answer (view_of self.old).pending } }
         ensures headline { Headline port.value }
         ensures number { result ≡ code_of answer }
@@ -101,7 +101,7 @@ impl Place {
 
     /// The same after a call that leaves this half written.
     #[tactic(auto, unfolding(crate::specs::PlaceView::view_of))]
-    pub fn back_with(&mut self, port: Box<Port>, pending: Pending, answer: Status) -> u32
+    pub fn back_with(&mut self, port: Box<CPort>, pending: Pending, answer: Status) -> u32
         ensures place { view_of self.new ≡ record { port = Some port.value; pending = pending } }
         ensures headline { Headline port.value }
         ensures number { result ≡ code_of answer }
@@ -117,7 +117,7 @@ impl Place {
     }
 
     /// Puts a port that was made into an empty place, or answers why none was made.
-    pub fn fill(&mut self, made: Result<Box<Port>, Status>) -> u32
+    pub fn fill(&mut self, made: Result<Box<CPort>, Status>) -> u32
         ensures { IsFilled result (view_of self.old) (view_of self.new) made }
     {
         match made {

@@ -15,7 +15,11 @@ use std::alloc::Allocator;
 const MOST_TAGS: usize = 32;
 
 /// The device takes a tag's command, or fails it where it passes the last sector.
-pub fn accept<A: Allocator, S: SectorStore>(port: &mut Port<A, S>, tag: u32, done: &mut FlatStep) -> Status
+pub fn accept<A: Allocator, S: SectorStore>(
+    port: &mut Port<A, S>,
+    tag: u32,
+    done: &mut FlatStep,
+) -> Status
     ensures { AnswersAccept tag result port.old port.new done.old done.new }
 {
     if tag >= 32 {
@@ -25,7 +29,11 @@ pub fn accept<A: Allocator, S: SectorStore>(port: &mut Port<A, S>, tag: u32, don
 }
 
 /// The device serves the commands of some tags, in the list's order.
-pub fn serve<A: Allocator, S: SectorStore>(port: &mut Port<A, S>, tags: &[u8], done: &mut FlatStep) -> Status
+pub fn serve<A: Allocator, S: SectorStore>(
+    port: &mut Port<A, S>,
+    tags: &[u8],
+    done: &mut FlatStep,
+) -> Status
     ensures { AnswersServe tags.now result port.old port.new done.old done.new }
 {
     if tags.len() > MOST_TAGS {
@@ -70,7 +78,11 @@ pub fn fail<A: Allocator, S: SectorStore>(
 }
 
 /// The device takes a step.
-fn step<A: Allocator, S: SectorStore>(port: &mut Port<A, S>, step: DeviceStep, done: &mut FlatStep) -> Status
+fn step<A: Allocator, S: SectorStore>(
+    port: &mut Port<A, S>,
+    step: DeviceStep,
+    done: &mut FlatStep,
+) -> Status
     ensures { Told result (refused of_step (step_refusal port.old step)) (HasStepped step port.old port.new done.new)
         (Same port.old port.new done.old done.new) }
 {

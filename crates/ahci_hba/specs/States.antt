@@ -1,5 +1,5 @@
 -- The first state of a controller, and what every state keeps.
-use Rattle.std.specs.Prelude.{◌≡◌, ◌≤◌, ℕ, ◌||◌, nat_eq, nat_lt, if◌then◌else◌, false, List, Option, None, length, replicate}
+use Rattle.std.specs.Prelude.{◌≡◌, ◌≤◌, ℕ, false, List, Option, None, length, replicate}
 use Rattle.hba_command.specs.declared.power.Power.TheVariants.{Active}
 use Rattle.hba_regs.specs.CapFields.{CapFields, usual}
 use Rattle.hba_regs.specs.HbaState.{power_on}
@@ -8,10 +8,6 @@ use Rattle.ahci_table.specs.Fit.{IsFit}
 use Rattle.hba_memory.specs.Posting.{is_none, remaining}
 use Rattle.hba_memory.specs.Reading.{is_over}
 use Rattle.ahci_hba.specs.HbaView.{CommandView, HbaView, WorkView, Idle, Fetching, Served, Pio, Block, Posting}
-
--- how many tags the port has of a disk that tells this queue depth: one for each slot, or the depth itself where it is none
-abbrev pub port_depth : ℕ → ℕ
-port_depth depth = if nat_eq depth 0 || nat_lt 32 depth then depth else 32
 
 -- a controller after power-on that can do this, in front of a disk with this image
 abbrev pub hba_with : List ℕ → ℕ → CapFields → HbaView

@@ -17,12 +17,12 @@ mod transferring;
 mod trimming;
 mod writing;
 
-ghost use Rattle.std.specs.Prelude.{◌≡◌, ◌/◌, ◌≤◌, None, IfErr, IfOk, length, replicate};
+ghost use Rattle.std.specs.Prelude.{◌≡◌, ◌/◌, ◌≤◌, None, IfErr, IfOk, OnOk, length, replicate};
 ghost use Rattle.hba_regs.specs.Accessing.{read_of};
 ghost use Rattle.hba_regs.specs.Interrupts.{interrupt};
 ghost use Rattle.ncq_core.specs.DiskState.{new_fault, over_fault};
 ghost use Rattle.ahci_port.specs.{Faults.{AnswersOr}, Headline.{Headline}, PortView.{new_port}};
-ghost use Rattle.ahci_hba.specs.States.{hba_with, new_hba, port_depth};
+ghost use Rattle.ahci_hba.specs.States.{hba_with, new_hba};
 
 use crate::command::Listed;
 use crate::work::Work;
@@ -60,15 +60,39 @@ impl<A: Allocator, S: SectorStore> Model for Hba<A, S> {
     ghost invariant = { λ h. IsSound h.port h.depth h.slots.items (work_of h.work) };
 }
 
-/// How many tags the port has of a disk that tells this queue depth: one for each slot, or the depth itself where it is none.
-fn port_depth(depth: u32) -> u32
-    ensures { result ≡ port_depth depth }
+/// The port of a disk with this image, which has a tag for each slot, whatever queue depth is told.
+fn port_for<A: Allocator + Copy>(
+    alloc: A,
+    image: Vec<u8, A>,
+    depth: u32,
+) -> Result<Port<A>, DiskFault>
+    ensures some { OnOk result (1 ≤ depth) }
+    ensures most { OnOk result (depth ≤ 32) }
+    ensures port { IfOk result (λ p. p ≡ new_port image.items 32) }
+    ensures fault { AnswersOr result (new_fault image.items depth) DiskFault.OutOfMemory }
 {
     if depth == 0 || depth > SLOTS {
-        depth
-    } else {
-        SLOTS
+        return Port::new(alloc, image, depth);
     }
+    Port::new(alloc, image, SLOTS)
+}
+
+/// The same of a disk over a store.
+fn port_over<A: Allocator + Copy, S: SectorStore + Drop>(
+    alloc: A,
+    store: S,
+    depth: u32,
+) -> Result<Port<A, S>, DiskFault>
+    requires { length (S.starting store) ≡ length (S.image store) }
+    ensures some { OnOk result (1 ≤ depth) }
+    ensures most { OnOk result (depth ≤ 32) }
+    ensures port { IfOk result (λ p. p ≡ new_port (S.image store) 32) }
+    ensures fault { AnswersOr result (over_fault (length (S.image store) / 512) depth) DiskFault.OutOfMemory }
+{
+    if depth == 0 || depth > SLOTS {
+        return Port::over(alloc, store, depth);
+    }
+    Port::over(alloc, store, SLOTS)
 }
 
 /// As many empty slots as the command list has.
@@ -109,7 +133,7 @@ impl<A: Allocator + Copy> Hba<A> {
         ensures ok { IfOk result (λ h. h ≡ hba_with image.items depth capabilities) }
         ensures fault { AnswersOr result (new_fault image.items depth) DiskFault.OutOfMemory }
     {
-        let port = Port::new(alloc, image, port_depth(depth))?;
+        let port = port_for(alloc, image, depth)?;
         Hba::before(alloc, port, depth, capabilities)
     }
 }
@@ -130,7 +154,7 @@ impl<A: Allocator + Copy, S: SectorStore + Drop> Hba<A, S> {
         ensures ok { IfOk result (λ h. h ≡ hba_with (S.image store) depth capabilities) }
         ensures fault { AnswersOr result (over_fault (length (S.image store) / 512) depth) DiskFault.OutOfMemory }
     {
-        let port = Port::over(alloc, store, port_depth(depth))?;
+        let port = port_over(alloc, store, depth)?;
         Hba::before(alloc, port, depth, capabilities)
     }
 
@@ -191,7 +215,7 @@ impl<A: Allocator, S: SectorStore> Hba<A, S> {
 
     /// The port behind the registers. The headline holds of it: its image is the starting image with the journal's completed writes,
     /// those of commands that are not queued among them.
-    pub fn port(&self) -> &Port<A>
+    pub fn port(&self) -> &Port<A, S>
         ensures port { result.now ≡ self.now.port }
         ensures headline { Headline self.now.port }
     {

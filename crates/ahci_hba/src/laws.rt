@@ -40,7 +40,12 @@ pub fn a_halted_port_takes_no_step<A: Allocator, S: SectorStore>(hba: &Hba<A, S>
 {}
 
 /// The device moves registers by the transitions of section 5.3 and by nothing else, whatever step it takes.
-pub fn a_step_takes_transitions<A: Allocator, S: SectorStore>(old: &Hba<A, S>, new: &Hba<A, S>, slot: Slot, step: Step)
+pub fn a_step_takes_transitions<A: Allocator, S: SectorStore>(
+    old: &Hba<A, S>,
+    new: &Hba<A, S>,
+    slot: Slot,
+    step: Step,
+)
     ensures { (journal : Option History) → IsTaken step slot old.now new.now journal → Takes old.now.registers new.now.registers }
 {}
 
@@ -53,7 +58,11 @@ pub fn a_move_takes_transitions<A: Allocator, S: SectorStore>(hba: &Hba<A, S>)
 {}
 
 /// The same where it fails a command.
-pub fn a_failure_takes_transitions<A: Allocator, S: SectorStore>(old: &Hba<A, S>, new: &Hba<A, S>, slot: Slot)
+pub fn a_failure_takes_transitions<A: Allocator, S: SectorStore>(
+    old: &Hba<A, S>,
+    new: &Hba<A, S>,
+    slot: Slot,
+)
     ensures failed { (error lba : ℕ) → Fails slot error lba (own_in old.now slot lba) old.now new.now → Takes old.now.registers new.now.registers }
     ensures refused { (error lba : ℕ) → Takes old.now.registers (refused_at old.now slot error lba).registers }
 {}

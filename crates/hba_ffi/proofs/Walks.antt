@@ -4,12 +4,14 @@ use mir.Syntax.{dnil, impl, tnil}
 use Rattle.std_heap.specs.contracts.GlobalAllocator.TheImpl.{ghosts, dict}
 use Rattle.std_heap.proofs.Global.TheLaws as heap
 use Rattle.ahci_hba.proofs.hba.Hba.TheLaws as hba
+use Rattle.sector_store.proofs.sectors.Sectors.TheLaws as sectors
+use Rattle.ahci_ffi.specs.Held.{heap_sectors, heap_store}
 use Rattle.hba_ffi.specs.Held.{heap_hba}
 
 -- the box of a controller
 abbrev pub HbaBox : Bx
 HbaBox = record {
   row = heap_hba;
-  laws = hba.the_row_laws heap_row ghosts heap.the_row_laws;
+  laws = hba.the_row_laws heap_row heap_sectors ghosts heap_store heap.the_row_laws (sectors.the_row_laws heap_row ghosts heap.the_row_laws);
   al = record { row = heap_row; laws = heap.the_row_laws; g = ghosts; d = dict; drops = impl [] tnil dnil };
 }

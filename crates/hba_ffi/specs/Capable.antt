@@ -2,7 +2,7 @@
 use Rattle.std.specs.Prelude.{ℕ, Bool, not, nat_eq, Option, None, Some, unwrap_or}
 use Rattle.std.specs.Option.{option_map, option_and_then}
 use Rattle.hba_regs.specs.CapFields.{CapFields, usual, with_iss, with_ncs}
-use Rattle.ahci_ffi.specs.Making.{size_refusal}
+use Rattle.ahci_ffi.specs.Making.{over_refusal, size_refusal}
 use Rattle.ahci_ffi.specs.declared.status.Status.{Status}
 use Rattle.ahci_ffi.specs.declared.status.Status.TheVariants as status
 use Rattle.hba_ffi.specs.declared.flat.FlatCapabilities.{FlatCapabilities}
@@ -35,6 +35,10 @@ or_kind None (Some c) = None
 
 abbrev pub making_refusal : (bytes depth : ℕ) → FlatCapabilities → Option Status
 making_refusal bytes depth f = or_kind (size_refusal bytes depth 0) (capabilities_of f)
+
+-- the same over a base
+abbrev pub over_making_refusal : (sectors depth : ℕ) → FlatCapabilities → Option Status
+over_making_refusal sectors depth f = or_kind (over_refusal sectors depth 0) (capabilities_of f)
 
 -- the capabilities that it has
 abbrev pub capabilities_for : FlatCapabilities → CapFields

@@ -4,9 +4,13 @@ ghost use Rattle.hba_ffi.specs.Held.{hba_coded, owned_hba};
 
 use ahci_ffi::Bare;
 use ahci_hba::Hba;
+use sector_store::Sectors;
 use std::alloc::Global;
 use std::marker::Model;
 use std::ptr::null_mut;
+
+/// The controller that C has: over all bytes of its disk, or over the pages that were written.
+pub type CHba = Hba<Global, Sectors>;
 
 /// What C keeps of a controller: the bare address of its box, or null and nothing. It owns what the box owns.
 #[repr(C)]
@@ -31,7 +35,7 @@ impl HeldHba {
     }
 
     /// A controller.
-    pub(crate) fn keep(bare: Bare<Hba, Global>) -> HeldHba
+    pub(crate) fn keep(bare: Bare<CHba, Global>) -> HeldHba
         ensures { result.hba ≡ Some bare.value }
     {
         let Bare { typed, heap } = bare;
@@ -40,12 +44,12 @@ impl HeldHba {
     }
 
     /// The controller that is held.
-    pub(crate) fn give(self) -> Bare<Hba, Global>
+    pub(crate) fn give(self) -> Bare<CHba, Global>
         requires { IsSome self.hba }
         ensures { self.hba ≡ Some result.value }
     {
         let HeldHba { address, heap } = self;
-        let typed = address as *mut Hba;
+        let typed = address as *mut CHba;
         Bare { typed, heap }
     }
 }

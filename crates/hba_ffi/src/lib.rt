@@ -17,7 +17,7 @@ pub use flat::{FlatCapabilities, FlatHba};
 pub use held::HeldHba;
 pub use judging::{command_breaks, entry_breaks, length_breaks, write_breaks};
 pub use looking::{copy, entry, entry_bytes, look, port};
-pub use making::{make, make_with};
+pub use making::{make, make_over, make_with};
 pub use moving::{bytes, supply, unmapped, written};
 pub use place::HbaPlace;
 pub use registers::{read, write};

@@ -90,14 +90,22 @@ pub fn copy<A: Allocator, S: SectorStore>(hba: &Hba<A, S>, lba: u64, out: &mut [
 }
 
 /// The entry of a number of the journal.
-pub fn entry<A: Allocator, S: SectorStore>(hba: &Hba<A, S>, number: u64, entry: &mut FlatEntry) -> Status
+pub fn entry<A: Allocator, S: SectorStore>(
+    hba: &Hba<A, S>,
+    number: u64,
+    entry: &mut FlatEntry,
+) -> Status
     ensures { AnswersEntry (entry_numbered hba.now.port.first hba.now.port.past number) result entry.old entry.new }
 {
     ahci_ffi::entry(hba.port(), number, entry)
 }
 
 /// Copies the bytes of the write that the entry of a number has issued.
-pub fn entry_bytes<A: Allocator, S: SectorStore>(hba: &Hba<A, S>, number: u64, out: &mut [u8]) -> Status
+pub fn entry_bytes<A: Allocator, S: SectorStore>(
+    hba: &Hba<A, S>,
+    number: u64,
+    out: &mut [u8],
+) -> Status
     ensures { AnswersBytes (written_by (entry_numbered hba.now.port.first hba.now.port.past number)) result out.old out.new }
 {
     ahci_ffi::entry_bytes(hba.port(), number, out)

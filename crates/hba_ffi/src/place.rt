@@ -2,9 +2,8 @@
 
 ghost use Rattle.std.specs.Prelude.{◌≡◌, is_some};
 
-use crate::held::HeldHba;
+use crate::held::{CHba, HeldHba};
 use ahci_ffi::{Bare, Status};
-use ahci_hba::Hba;
 use std::alloc::Global;
 use std::mem::replace;
 
@@ -46,7 +45,7 @@ impl HbaPlace {
 
     /// Takes the controller out.
     #[tactic(auto, unfolding(crate::specs::PlaceView::view_of))]
-    pub fn take(&mut self, heap: Global) -> Option<Box<Hba>>
+    pub fn take(&mut self, heap: Global) -> Option<Box<CHba>>
         ensures taken { option_map (λ b. b.value) result ≡ view_of self.old }
         ensures left { view_of self.new ≡ None }
     {
@@ -61,7 +60,7 @@ impl HbaPlace {
 
     /// Puts a controller back after a call on it, and answers the call's number.
     #[tactic(auto, unfolding(crate::specs::PlaceView::view_of))]
-    pub fn back(&mut self, hba: Box<Hba>, answer: Status) -> u32
+    pub fn back(&mut self, hba: Box<CHba>, answer: Status) -> u32
         ensures place { view_of self.new ≡ Some hba.value }
         ensures headline { Headline hba.value.port }
         ensures number { result ≡ code_of answer }
@@ -75,7 +74,7 @@ impl HbaPlace {
     }
 
     /// Puts a controller that was made into an empty place, or answers why none was made.
-    pub fn fill(&mut self, made: Result<Box<Hba>, Status>) -> u32
+    pub fn fill(&mut self, made: Result<Box<CHba>, Status>) -> u32
         ensures { IsFilled result (view_of self.old) (view_of self.new) made }
     {
         match made {

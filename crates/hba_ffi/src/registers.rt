@@ -10,7 +10,12 @@ use sector_store::SectorStore;
 use std::alloc::Allocator;
 
 /// What a driver reads at an offset, in so many bytes.
-pub fn read<A: Allocator, S: SectorStore>(hba: &Hba<A, S>, offset: u32, bytes: u32, value: &mut u64) -> Status
+pub fn read<A: Allocator, S: SectorStore>(
+    hba: &Hba<A, S>,
+    offset: u32,
+    bytes: u32,
+    value: &mut u64,
+) -> Status
     ensures { AnswersRead offset bytes result hba.now value.old value.new }
 {
     match AccessSize::of(bytes) {

@@ -13,7 +13,11 @@ use std::alloc::Allocator;
 
 /// Takes the next step with the command of a slot. `entries` is how many entries the journal has that is handed out, if the step resets
 /// the port.
-pub fn step<A: Allocator + Copy, S: SectorStore>(hba: &mut Hba<A, S>, slot: u32, entries: &mut u64) -> Status
+pub fn step<A: Allocator + Copy, S: SectorStore>(
+    hba: &mut Hba<A, S>,
+    slot: u32,
+    entries: &mut u64,
+) -> Status
     ensures { AnswersStep slot result hba.old hba.new entries.old entries.new }
 {
     let Some(slot) = Slot::of(slot) else {
@@ -30,7 +34,12 @@ pub fn step<A: Allocator + Copy, S: SectorStore>(hba: &mut Hba<A, S>, slot: u32,
 }
 
 /// The device fails a queued command that it has taken, with an error byte at one of its sectors.
-pub fn fail<A: Allocator + Copy, S: SectorStore>(hba: &mut Hba<A, S>, slot: u32, error: u8, lba: u64) -> Status
+pub fn fail<A: Allocator + Copy, S: SectorStore>(
+    hba: &mut Hba<A, S>,
+    slot: u32,
+    error: u8,
+    lba: u64,
+) -> Status
     ensures { AnswersFail slot error lba result hba.old hba.new }
 {
     let Some(slot) = Slot::of(slot) else {
@@ -44,7 +53,12 @@ pub fn fail<A: Allocator + Copy, S: SectorStore>(hba: &mut Hba<A, S>, slot: u32,
 }
 
 /// The device fails a command that is read and not queued, with an error byte at an LBA.
-pub fn refuse<A: Allocator + Copy, S: SectorStore>(hba: &mut Hba<A, S>, slot: u32, error: u8, lba: u64) -> Status
+pub fn refuse<A: Allocator + Copy, S: SectorStore>(
+    hba: &mut Hba<A, S>,
+    slot: u32,
+    error: u8,
+    lba: u64,
+) -> Status
     ensures { AnswersRefuse slot error lba result hba.old hba.new }
 {
     let Some(slot) = Slot::of(slot) else {

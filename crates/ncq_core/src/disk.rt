@@ -133,7 +133,7 @@ impl<A: Allocator> Disk<Whole<A>> {
     }
 }
 
-impl<A: Allocator + Copy> Disk<Sectors<A>> {
+impl<A: Allocator> Disk<Sectors<A>> {
     /// The numbers of the pages of eight sectors that may have changed since they were last kept; nothing if that isn't known.
     pub fn touched(&self) -> Option<&[u32]>
         ensures { IfSome (option_copied result) (λ touched. ChangesAmong touched self.now.image self.now.starting) }

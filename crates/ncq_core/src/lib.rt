@@ -9,7 +9,9 @@ pub mod laws;
 mod serve_fault;
 mod taken;
 
-pub use disk::{Disk, MAX_DEPTH, MAX_SECTORS, SECTOR, identify_page, log_page, over_fault, size_fault};
+pub use disk::{
+    Disk, MAX_DEPTH, MAX_SECTORS, SECTOR, identify_page, log_page, over_fault, size_fault,
+};
 pub use disk_fault::DiskFault;
 pub use host::Host;
 pub use ncq_journal::{

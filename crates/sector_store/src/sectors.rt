@@ -12,14 +12,16 @@ use crate::sector_store::SectorStore;
 use crate::whole::Whole;
 use std::alloc::{AllocError, Allocator, Global};
 
-/// What holds a disk's sectors: all of them, or the pages that were written over bytes that never change.
+/// What holds a disk's sectors: all of them, or the pages that were written over bytes that never change. Pages are in the process's heap.
 #[derive(Drop)]
 pub enum Sectors<A: Allocator = Global> {
+    /// Every byte twice.
     Whole(Whole<A>),
-    Pages(Pages<Buffer<'static>, A>),
+    /// The pages that were written, and bytes below them.
+    Pages(Pages<Buffer<'static>, Global>),
 }
 
-impl<A: Allocator + Copy> Sectors<A> {
+impl<A: Allocator> Sectors<A> {
     /// The sectors in this buffer, which are kept as they are.
     ///
     /// # Errors
@@ -37,16 +39,16 @@ impl<A: Allocator + Copy> Sectors<A> {
     /// # Errors
     /// If there is no memory.
     #[tactic(auto, using(crate::proofs::ShownLemmas::joined_same))]
-    pub fn over(alloc: A, base: &'static [u8], sectors: u64) -> Result<Self, AllocError>
+    pub fn over(heap: Global, base: &'static [u8], sectors: u64) -> Result<Self, AllocError>
         requires { sectors ≤ 4294967296 }
         ensures image { IfOk result (λ s. ⟦<Sectors<A> as SectorStore>⟧.image s ≡ joined (buffer_sector base.now) sectors) }
         ensures starting { IfOk result (λ s. ⟦<Sectors<A> as SectorStore>⟧.starting s ≡ joined (buffer_sector base.now) sectors) }
     {
-        Ok(Sectors::Pages(Pages::new(alloc, Buffer::new(base), sectors)?))
+        Ok(Sectors::Pages(Pages::new(heap, Buffer::new(base), sectors)?))
     }
 }
 
-impl<A: Allocator + Copy> Sectors<A> {
+impl<A: Allocator> Sectors<A> {
     /// The numbers of the pages of eight sectors that may have changed since they were last kept; nothing if that isn't known.
     pub fn touched(&self) -> Option<&[u32]>
         ensures { IfSome (option_copied result) (λ touched. ChangesAmong touched (⟦<Sectors<A> as SectorStore>⟧.image self.now) (⟦<Sectors<A> as SectorStore>⟧.starting self.now)) }
@@ -58,12 +60,12 @@ impl<A: Allocator + Copy> Sectors<A> {
     }
 }
 
-impl<A: Allocator + Copy> SectorStore for Sectors<A> {
-    ghost image = { λ s. elim s [ the.Whole w ↦ ⟦<Whole<A> as SectorStore>⟧.image w | the.Pages p ↦ ⟦<Pages<Buffer<'static>, A> as SectorStore>⟧.image p ] };
+impl<A: Allocator> SectorStore for Sectors<A> {
+    ghost image = { λ s. elim s [ the.Whole w ↦ ⟦<Whole<A> as SectorStore>⟧.image w | the.Pages p ↦ ⟦<Pages<Buffer<'static>, Global> as SectorStore>⟧.image p ] };
 
-    ghost starting = { λ s. elim s [ the.Whole w ↦ ⟦<Whole<A> as SectorStore>⟧.starting w | the.Pages p ↦ ⟦<Pages<Buffer<'static>, A> as SectorStore>⟧.starting p ] };
+    ghost starting = { λ s. elim s [ the.Whole w ↦ ⟦<Whole<A> as SectorStore>⟧.starting w | the.Pages p ↦ ⟦<Pages<Buffer<'static>, Global> as SectorStore>⟧.starting p ] };
 
-    ghost is_reserved = { λ s. elim s [ the.Whole w ↦ ⟦<Whole<A> as SectorStore>⟧.is_reserved w | the.Pages p ↦ ⟦<Pages<Buffer<'static>, A> as SectorStore>⟧.is_reserved p ] };
+    ghost is_reserved = { λ s. elim s [ the.Whole w ↦ ⟦<Whole<A> as SectorStore>⟧.is_reserved w | the.Pages p ↦ ⟦<Pages<Buffer<'static>, Global> as SectorStore>⟧.is_reserved p ] };
 
     ghost never_asks = { false };
 

@@ -1,3 +1,5 @@
+ghost use Rattle.std.specs.Prelude.{◌≡◌, length};
+
 use refusing_allocator::{Refusals, Refusing};
 use sector_store::{Pages, SectorStore, Whole, Zeros};
 use std::alloc::Global;
@@ -22,13 +24,9 @@ const BEFORE: [u8; 1024] = [0; 1024];
 const FIRST: u64 = 6;
 
 /// Asserts what two sectors are, as they are now and as they were kept.
-fn shows<S: SectorStore>(
-    rt: &impl Abort,
-    store: &S,
-    lba: u64,
-    now: &[u8; 1024],
-    kept: &[u8; 1024],
-) {
+fn shows<S: SectorStore>(rt: &impl Abort, store: &S, lba: u64, now: &[u8; 1024], kept: &[u8; 1024])
+    requires { length (S.starting store.now) ≡ length (S.image store.now) }
+{
     let mut read = [0; 1024];
     let count = store.sectors();
     assert!(rt; lba < count && count - lba >= 2);
@@ -39,12 +37,9 @@ fn shows<S: SectorStore>(
 }
 
 /// Writes two sectors and goes back, then writes and keeps them. Only the reservations take memory.
-fn lives<S: SectorStore>(
-    rt: &impl Abort,
-    heap: &Heap,
-    store: &mut S,
-    lba: u64,
-) -> Result<(), Fail> {
+fn lives<S: SectorStore>(rt: &impl Abort, heap: &Heap, store: &mut S, lba: u64) -> Result<(), Fail>
+    requires { length (S.starting store.old) ≡ length (S.image store.old) }
+{
     let count = store.sectors();
     assert!(rt; lba < count && count - lba >= 2);
     store.reserve(lba, 2)?;

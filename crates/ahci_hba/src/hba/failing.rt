@@ -32,7 +32,12 @@ fn refused(addressing: Addressing, error: u8, lba: u64) -> D2h
 }
 
 /// How many sectors from an LBA on a read has moved before another one, at most so many: those that the disk has.
-fn sectors_before<A: Allocator, S: SectorStore>(port: &Port<A, S>, first: u64, sectors: u32, lba: u64) -> u32
+fn sectors_before<A: Allocator, S: SectorStore>(
+    port: &Port<A, S>,
+    first: u64,
+    sectors: u32,
+    lba: u64,
+) -> u32
     ensures value { result ≡ sectors_before port.now first sectors lba }
     ensures most { result ≤ sectors }
     ensures there { result ≤ sectors_in port.now - first }

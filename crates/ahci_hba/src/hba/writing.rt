@@ -73,7 +73,9 @@ impl<A: Allocator, S: SectorStore> Hba<A, S> {
 }
 
 /// Resets a port, unless its numbers are used up; its journal is the answer.
-pub(super) fn reset<A: Allocator + Copy, S: SectorStore>(port: &mut Port<A, S>) -> Option<Journal<A>>
+pub(super) fn reset<A: Allocator + Copy, S: SectorStore>(
+    port: &mut Port<A, S>,
+) -> Option<Journal<A>>
     ensures journal { result ≡ handed_out (not (is_spent port.old)) port.old }
     ensures port { port.new ≡ port_after (not (is_spent port.old)) port.old }
 {

@@ -112,7 +112,7 @@ impl<A: Allocator> Port<A> {
     }
 }
 
-impl<A: Allocator + Copy> Port<A, Sectors<A>> {
+impl<A: Allocator> Port<A, Sectors<A>> {
     /// The numbers of the pages of eight sectors that may have changed since the port was made, last trimmed or last reset; nothing if
     /// that isn't known.
     pub fn touched(&self) -> Option<&[u32]>

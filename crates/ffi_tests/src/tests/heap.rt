@@ -2,11 +2,15 @@
 use ahci_ffi::{FlatState, Status, make_zeros, state};
 use ahci_port::Port;
 use refusing_allocator::{Refusals, Refusing};
+use sector_store::Sectors;
 use std::alloc::Global;
 use std::test::Fail;
 
 /// What the calls that are tried take their memory from.
 pub type Heap = Refusing<Global>;
+
+/// A port in that memory.
+pub type HeapPort<'a> = Port<&'a Heap, Sectors<&'a Heap>>;
 
 /// How many sectors the disk of a port has.
 pub const SECTORS: u32 = 8;
@@ -20,7 +24,7 @@ pub fn refuse_from(heap: &Heap, growth: u64) {
 }
 
 /// A port over zeros.
-pub fn port_of<'a>(heap: &'a Heap) -> Result<Box<Port<&'a Heap>, &'a Heap>, Fail> {
+pub fn port_of<'a>(heap: &'a Heap) -> Result<Box<HeapPort<'a>, &'a Heap>, Fail> {
     match make_zeros(heap, SECTORS, DEPTH) {
         Ok(port) => Ok(port),
         Err(_) => Err(Fail::new("no port")),
@@ -28,7 +32,7 @@ pub fn port_of<'a>(heap: &'a Heap) -> Result<Box<Port<&'a Heap>, &'a Heap>, Fail
 }
 
 /// All that can be seen of a port.
-pub fn look_at(port: &Port<&Heap>) -> FlatState {
+pub fn look_at(port: &HeapPort<'_>) -> FlatState {
     let mut seen = nothing_seen();
     let Status::Done = state(port, &mut seen) else {
         return nothing_seen();

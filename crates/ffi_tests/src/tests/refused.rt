@@ -1,12 +1,12 @@
 //! The calls that may want memory: what they answer where it is refused, and that the port is as it was then; and those that
 //! take none, over an allocator that has none left; and which of these give some back.
 use crate::tests::guest::{HEADER, list, window, windows};
-use crate::tests::heap::{Heap, look_at, port_of, refuse_from};
+use crate::tests::heap::{Heap, HeapPort, look_at, port_of, refuse_from};
 use ahci_ffi::{
     FlatCommand, FlatReply, FlatStep, FlatWritten, Status, accept, collect, entry_bytes, fail,
     flush, identify, issue, recover, serve, submit, trim, window_check, write_register,
 };
-use ahci_port::{Pending, Port};
+use ahci_port::Pending;
 use port_refusal::Refusal;
 use refusing_allocator::{Refusals, Refusing};
 use std::alloc::Global;
@@ -38,18 +38,18 @@ static CALLS: [(Call, u64); 7] = [
 ];
 
 /// A read or a write of sector 3 by tag 1.
-fn submits<'a>(heap: &'a Heap, port: &mut Port<&'a Heap>, kind: u32) -> Status {
+fn submits<'a>(heap: &'a Heap, port: &mut HeapPort<'a>, kind: u32) -> Status {
     let mut number = 0;
     submit(port, heap, 1, kind, 3, 1, &[0xAB; 512], &mut number)
 }
 
 /// The window of tag 1.
-fn issues<'a>(heap: &'a Heap, port: &mut Port<&'a Heap>) -> Status {
+fn issues<'a>(heap: &'a Heap, port: &mut HeapPort<'a>) -> Status {
     issue(port, heap, 1, &HEADER, &window(), &mut 0)
 }
 
 /// A driver's write of a register, where the bit of tag 1 is announced or ST is off.
-fn writes(port: &mut Port<&Heap>, stopped: bool, offset: u32, word: u32) -> (Status, u32) {
+fn writes(port: &mut HeapPort<'_>, stopped: bool, offset: u32, word: u32) -> (Status, u32) {
     let mut pending = Pending { sact: 2, stopped };
     let mut done = FlatWritten {
         did: 9,
@@ -69,7 +69,7 @@ fn writes(port: &mut Port<&Heap>, stopped: bool, offset: u32, word: u32) -> (Sta
 }
 
 /// A write of PxCI. Where it is refused, the slot is told.
-fn commands(port: &mut Port<&Heap>) -> Status {
+fn commands(port: &mut HeapPort<'_>) -> Status {
     match writes(port, false, 0x138, 2) {
         (Status::Refused(Refusal::OutOfMemory), 1) => Status::Refused(Refusal::OutOfMemory),
         (Status::Done, _) => Status::Done,
@@ -85,7 +85,7 @@ fn checks(heap: &Heap) -> Status {
     }
 }
 
-fn goes<'a>(heap: &'a Heap, port: &mut Port<&'a Heap>, call: Call) -> Status {
+fn goes<'a>(heap: &'a Heap, port: &mut HeapPort<'a>, call: Call) -> Status {
     match call {
         Call::Read => submits(heap, port, 0),
         Call::Write => submits(heap, port, 1),
@@ -134,7 +134,7 @@ fn a_port_refused_memory_is_as_it_was_and_goes_on_with_memory(rt: HostRuntime) -
 }
 
 /// Accepts, serves and collects tag 1's write, which is request 0, and looks at its bytes.
-fn runs(port: &mut Port<&Heap>, out: &mut [u8; 512]) -> [Status; 5] {
+fn runs(port: &mut HeapPort<'_>, out: &mut [u8; 512]) -> [Status; 5] {
     let mut done = FlatStep::default();
     let mut reply = FlatReply::default();
     [
@@ -191,7 +191,7 @@ fn a_collected_window_and_a_trimmed_journal_give_their_memory_back(
 }
 
 /// A port whose tag 1 has failed, with three entries.
-fn halted<'a>(heap: &'a Heap, port: &mut Port<&'a Heap>) -> [Status; 3] {
+fn halted<'a>(heap: &'a Heap, port: &mut HeapPort<'a>) -> [Status; 3] {
     let mut done = FlatStep::default();
     [
         submits(heap, port, 0),
@@ -201,7 +201,7 @@ fn halted<'a>(heap: &'a Heap, port: &mut Port<&'a Heap>) -> [Status; 3] {
 }
 
 /// Recovers by the call, or by a driver's start of the port: the answer, and the tag that is told.
-fn recovers(port: &mut Port<&Heap>, is_driver: bool) -> (Status, u32) {
+fn recovers(port: &mut HeapPort<'_>, is_driver: bool) -> (Status, u32) {
     if is_driver {
         return writes(port, true, 0x118, 0x11);
     }

@@ -1,7 +1,6 @@
 //! What can be seen of a port on which a write of sector 3 was issued by tag 1.
-use crate::tests::heap::{Heap, SECTORS, look_at, port_of};
+use crate::tests::heap::{Heap, HeapPort, SECTORS, look_at, port_of};
 use ahci_ffi::{FlatEntry, Status, entry, entry_bytes, submit};
-use ahci_port::Port;
 use refusing_allocator::Refusing;
 use std::test::Fail;
 
@@ -15,12 +14,12 @@ const NOTHING: FlatEntry = FlatEntry {
 };
 
 /// The entry of a number, and what the call answers.
-fn entry_of(port: &Port<&Heap>, number: u64) -> (Status, FlatEntry) {
+fn entry_of(port: &HeapPort<'_>, number: u64) -> (Status, FlatEntry) {
     let mut found = NOTHING;
     (entry(port, number, &mut found), found)
 }
 
-fn issue_a_write<'a>(heap: &'a Heap, port: &mut Port<&'a Heap>) -> (Status, u64) {
+fn issue_a_write<'a>(heap: &'a Heap, port: &mut HeapPort<'a>) -> (Status, u64) {
     let mut number = 9;
     let answer = submit(port, heap, 1, 1, 3, 1, &[0xAB; 512], &mut number);
     (answer, number)

@@ -112,7 +112,13 @@ fn read_data<H: Host, S: SectorStore>(
     let mut sent = 0;
     while sent < bytes {
         let end = bytes.min(sent + MOST_PAYLOAD);
-        deliver_one(host, room, store, command.lba + (sent / 512) as u64, end - sent);
+        deliver_one(
+            host,
+            room,
+            store,
+            command.lba + (sent / 512) as u64,
+            end - sent,
+        );
         sent = end;
     }
 }
@@ -141,7 +147,13 @@ fn write_data<H: Host, S: SectorStore>(
     let mut filled = 0;
     while filled < bytes {
         let end = bytes.min(filled + MOST_PAYLOAD);
-        fetch_one(host, room, store, command.lba + (filled / 512) as u64, end - filled);
+        fetch_one(
+            host,
+            room,
+            store,
+            command.lba + (filled / 512) as u64,
+            end - filled,
+        );
         filled = end;
     }
 }

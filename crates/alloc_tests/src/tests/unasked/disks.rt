@@ -4,6 +4,7 @@ use crate::tests::heap::{Heap, refuse_from};
 use ncq_core::{Disk, ServeFault, Taken};
 use ncq_journal::Plain;
 use refusing_allocator::Refusing;
+use sector_store::Single;
 use std::process::Abort;
 use std::test::Fail;
 
@@ -117,7 +118,7 @@ static ROWS: [(Call, Said, u32, bool); 20] = [
 ];
 
 /// Sends a command that is not queued; a log that is granted is read.
-fn sends(disk: &mut Disk<&Heap>, code: u8) -> Said {
+fn sends(disk: &mut Disk<Single<&Heap>>, code: u8) -> Said {
     if code != 0x2F {
         return Said::Taken(disk.take(&command(code, 0, 0, 0)));
     }
@@ -128,7 +129,7 @@ fn sends(disk: &mut Disk<&Heap>, code: u8) -> Said {
     Said::Taken(taken)
 }
 
-fn goes(disk: &mut Disk<&Heap>, call: Call) -> Said {
+fn goes(disk: &mut Disk<Single<&Heap>>, call: Call) -> Said {
     match call {
         Call::Queue(code, tag, lba) => Said::Taken(disk.take(&command(code, 1, lba, tag % 32 * 8))),
         Call::Identify => sends(disk, 0xEC),
@@ -143,7 +144,7 @@ fn goes(disk: &mut Disk<&Heap>, call: Call) -> Said {
 }
 
 /// The first bytes of a sector and of the identify page.
-fn shown(disk: &Disk<&Heap>) -> (u8, u8, u32, u32) {
+fn shown(disk: &Disk<Single<&Heap>>) -> (u8, u8, u32, u32) {
     let mut sector = [0; 512];
     if disk.sectors() == 8 {
         disk.copy(7, &mut sector);

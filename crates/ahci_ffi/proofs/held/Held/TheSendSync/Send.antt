@@ -15,11 +15,12 @@ use Rattle.std_heap.proofs.Global.TheSendSync as heap
 use Rattle.std_heap.specs.contracts.Global as Heap
 use Rattle.std_heap.specs.contracts.GlobalAllocator.TheImpl.{ghosts}
 use Rattle.ahci_port.proofs.port.Port.TheSendSync as port
-use Rattle.ahci_ffi.specs.Held.{heap_port, owned_port}
+use Rattle.sector_store.proofs.sectors.Sectors.TheSendSync as sectors
+use Rattle.ahci_ffi.specs.Held.{heap_port, heap_sectors, heap_store, owned_port}
 use Rattle.ahci_ffi.specs.contracts.held.Held.{the_row, the_type}
 
 port_goes : IsSend heap_port
-port_goes = port.the_send Heap.the_row ghosts heap.the_send crossing.frees
+port_goes = port.the_send Heap.the_row heap_sectors ghosts heap_store heap.the_send (sectors.the_send Heap.the_row ghosts heap.the_send crossing.frees) crossing.frees
 
 -- a port at an address names no thread
 port_lies : (address : Ptr) (view : heap_port.Denot) → Keyless (lies_at heap_port full_share address view)
