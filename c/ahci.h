@@ -602,7 +602,7 @@ uint32_t ahci_hba_write(ahci_hba *hba, uint32_t offset, uint32_t bytes, uint64_t
 
 /* Power-on of a controller that is there: its PCI function is reset (FLR, VFIO_DEVICE_RESET), the machine is, or the function has lost its power, as
    by hot unplug, and may be another guest's next. It is as ahci_hba_new_with makes it with the same capabilities and depth, over the disk as it is;
-   GHC.HR leaves PxCLB and PxFB, and the disk's power mode. Doesn't allocate. */
+   GHC.HR leaves PxCLB and PxFB, and doesn't make the disk Active. Doesn't allocate. */
 uint32_t ahci_hba_power_on(ahci_hba *hba, uint64_t *entries);
 
 /* What the controller does next. Doesn't allocate. */
