@@ -578,7 +578,7 @@ uint32_t ahci_port_state(ahci_port *port, ahci_state *state);
    the caller copies. A device's turn: while `want` is not AHCI_WANT_NOTHING, move bytes; then choose a slot whose `next` is not
    AHCI_STEP_NONE and take its step. Each byte of the memory is read at most once for a command, and may be anything.
 
-   A reset, cleared ST, COMRESET or a recovery drops all commands. If the disk's queue had requests then, its journal is
+   Power-on, a reset, cleared ST, COMRESET or a recovery drops all commands. If the disk's queue had requests then, its journal is
    discarded: *entries is how many entries it had, else 0. The new journal continues with the next number over the disk as it is. At any
    other time the journal only grows, until ahci_hba_trim. */
 
@@ -599,6 +599,11 @@ uint32_t ahci_hba_read(ahci_hba *hba, uint32_t offset, uint32_t bytes, uint64_t 
 
 /* Takes what a driver writes there. AHCI_WRONG_LENGTH for any other size. */
 uint32_t ahci_hba_write(ahci_hba *hba, uint32_t offset, uint32_t bytes, uint64_t value, uint64_t *entries);
+
+/* Power-on of a controller that is there: its PCI function is reset (FLR, VFIO_DEVICE_RESET), the machine is, or the function has lost its power, as
+   by hot unplug, and may be another guest's next. It is as ahci_hba_new_with makes it with the same capabilities and depth, over the disk as it is;
+   GHC.HR leaves PxCLB and PxFB, and doesn't make the disk Active. Doesn't allocate. */
+uint32_t ahci_hba_power_on(ahci_hba *hba, uint64_t *entries);
 
 /* What the controller does next. Doesn't allocate. */
 uint32_t ahci_hba_look(ahci_hba *hba, ahci_hba_state *state);

@@ -318,6 +318,21 @@ static void reset(void)
         write(AHCI_REG_PXSCTL, 0x300);
 }
 
+/* Power-on, one time of four, so that runs get on: only a queue with requests hands its journal out. */
+static void power_cycle(void)
+{
+    uint64_t entries = 77;
+    const bool busy = is_busy();
+    if (byte() % 4)
+        return;
+    CHECK(ahci_hba_power_on(&hba, &entries) == AHCI_OK && (entries != 0) == busy);
+    power_on();
+    follow(entries);
+    compare();
+    if (byte() % 8)
+        start();
+}
+
 /* A write anywhere, of any size. Few of them reset the HBA. */
 static void write_any(void)
 {
@@ -380,7 +395,8 @@ int LLVMFuzzerTestOneInput(const uint8_t *bytes, size_t count);
 int LLVMFuzzerTestOneInput(const uint8_t *bytes, size_t count)
 {
     static void (*const calls[])(void) = { command, command, command, command, step_any, step_any, step_any, step_any, step_any, step_any, step_any, step_any, move_all, move_all,
-        move_all, move_all, move_all, move_one, move_one, step_this, fail, refuse, sign, sign, restart_if_halted, restart_if_halted, restart, reset, write_any, read_any, trim, scribble, pause };
+        move_all, move_all, move_all, move_one, move_one, step_this, fail, refuse, sign, sign, restart_if_halted, restart_if_halted, restart, reset, power_cycle, write_any, read_any,
+        trim, scribble, pause };
     uint8_t sector[AHCI_SECTOR_BYTES];
     input = bytes;
     left = count;

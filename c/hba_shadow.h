@@ -173,8 +173,8 @@ static void spin(bool sud)
     reg.sud = sud;
 }
 
-/* As after power-on, but PxCLB, PxCLBU, PxFB and PxFBU stay (section 10.4.3). */
-static void power_on(void)
+/* A reset of the HBA: as after power-on, but PxCLB, PxCLBU, PxFB and PxFBU stay (section 10.4.3), and so does a power mode other than Sleep. */
+static void reset_hba(void)
 {
     go_down();
     reg.is = reg.ie = reg.serr = reg.sctl = reg.lights = reg.ccs = reg.first = 0;
@@ -185,11 +185,17 @@ static void power_on(void)
         come_up();
 }
 
+static void power_on(void)
+{
+    reset_hba();
+    reg.clb = reg.clbu = reg.fb = reg.fbu = 0;
+    power = ACTIVE;
+}
+
 /* A new controller, over sectors of which no two are alike. */
 static void begin(void)
 {
     memset(&reg, 0, sizeof reg);
-    power = ACTIVE;
     power_on();
     memset(low, 0, sizeof low);
     memset(high, 0, sizeof high);
@@ -337,7 +343,7 @@ static void takes(uint32_t offset, uint32_t value)
     case AHCI_REG_GHC:
         reg.enabled = value >> 1 & 1;
         if (value & 1)
-            power_on();
+            reset_hba();
         break;
     case AHCI_REG_IS: reg.pending = reg.pending && !(value & 1); break;
     case AHCI_REG_PXCLB: reg.clb = reg.on ? reg.clb : value & ~0x3FFu; break;

@@ -223,7 +223,7 @@ static int made(void)
     return lacking;
 }
 
-/* A controller whose journal is trimmed. */
+/* A controller whose journal is trimmed, and that is powered on again. */
 static int controlled(void)
 {
     ahci_hba hba = AHCI_HBA_EMPTY;
@@ -232,6 +232,7 @@ static int controlled(void)
     int lacking = 0;
     TRY(&none, image, ahci_hba_new(&hba, image, sizeof image, 32));
     NONE(ahci_hba_trim(&hba, &entries));
+    NONE(ahci_hba_power_on(&hba, &entries));
     NONE(ahci_hba_free(&hba));
     return lacking;
 }

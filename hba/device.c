@@ -256,16 +256,8 @@ static void forget_dropped(struct device *device) {
     device->covered &= outstanding;
 }
 
-/* Writes to a register: what the controller does, and what follows from it. */
-static void put(struct device *device, uint32_t offset, uint32_t bytes, uint64_t value) {
-    const bool is_slow = device->slow.reads != 0;
-    uint64_t entries = 0;
-    uint32_t command = is_slow ? word_at(device, AHCI_REG_PXCMD) : 0;
-    uint32_t status = ahci_hba_write(&device->hba, offset, bytes, value, &entries);
-    if (status != AHCI_OK)
-        log_line("a write of %" PRIu32 " bytes at %03" PRIx32 " was refused: status %" PRIu32, bytes, offset, status);
-    if (is_slow)
-        slow_write(&device->slow, offset, bytes, value, command, word_at(device, AHCI_REG_PXCMD));
+/* What follows from a write to a register or from power-on, which may have dropped commands: `entries` says whether the journal was handed out. */
+static void follow(struct device *device, uint64_t entries) {
     device->stuck = 0;
     forget_dropped(device);
     device->mute = false;
@@ -274,8 +266,16 @@ static void put(struct device *device, uint32_t offset, uint32_t bytes, uint64_t
 }
 
 void device_write(struct device *device, uint32_t offset, uint32_t bytes, uint64_t value) {
+    const bool is_slow = device->slow.reads != 0;
+    uint64_t entries = 0;
     judge_write(&device->judge, &device->hba, offset, bytes, value);
-    put(device, offset, bytes, value);
+    uint32_t command = is_slow ? word_at(device, AHCI_REG_PXCMD) : 0;
+    uint32_t status = ahci_hba_write(&device->hba, offset, bytes, value, &entries);
+    if (status != AHCI_OK)
+        log_line("a write of %" PRIu32 " bytes at %03" PRIx32 " was refused: status %" PRIu32, bytes, offset, status);
+    if (is_slow)
+        slow_write(&device->slow, offset, bytes, value, command, word_at(device, AHCI_REG_PXCMD));
+    follow(device, entries);
 }
 
 void device_master(struct device *device, bool is_master) {
@@ -283,11 +283,10 @@ void device_master(struct device *device, bool is_master) {
 }
 
 void device_reset(struct device *device) {
-    static const uint32_t bases[] = {AHCI_REG_PXCLB, AHCI_REG_PXCLBU, AHCI_REG_PXFB, AHCI_REG_PXFBU};
-    put(device, AHCI_REG_GHC, 4, AHCI_GHC_HR);
-    for (unsigned i = 0; i < sizeof bases / sizeof *bases; i++) /* a reset by GHC.HR keeps them */
-        put(device, bases[i], 4, 0);
+    uint64_t entries = 0;
+    device_must("ahci_hba_power_on", ahci_hba_power_on(&device->hba, &entries));
     slow_reset(&device->slow);
+    follow(device, entries);
     judge_power_on(&device->judge);
 }
 

@@ -73,7 +73,7 @@ void device_write(struct device *device, uint32_t offset, uint32_t bytes, uint64
 /* The driver makes the function a bus master, or none. */
 void device_master(struct device *device, bool is_master);
 
-/* The PCI function is reset: the controller is as after power-on, bases and all, and the disk keeps its sectors. */
+/* The PCI function is reset, or taken out: the controller is as after power-on, bases and all, and the disk keeps its sectors. */
 void device_reset(struct device *device);
 
 /* Writes the image back if a command has written, without waiting for it. */

@@ -144,6 +144,17 @@ with Hba(bytes(SECTORS * 512), depth=32) as hba:
     hba.write(0x04, 0x80000001)
     assert (hba.read(PXCMD), hba.read(PXSIG)) == (6, 0xFFFFFFFF)
 
+    # and leaves the bases; power-on clears them, and drops what is outstanding
+    hba.write(PXCLB, LIST)
+    hba.write(PXCMD, 0x10)
+    hba.run(memory)
+    hba.write(PXCMD, 0x11)
+    issue(hba, 3, True)
+    until(hba, memory, 3, Step.SERVE)
+    assert (hba.read(PXFB), hba.read(PXSACT)) == (RECEIVED, 8) and hba.power_on() == 2
+    assert [hba.read(at) for at in (PXCLB, PXFB, PXCMD, PXTFD, PXSIG, PXSERR, PXSACT)] == [0, 0, 6, 0x80, 0xFFFFFFFF, 0x04050000, 0]
+    assert hba.look().want == Want.NOTHING and not any(hba.look().next) and hba.copy(5) == b"\xAA" * 512 and hba.power_on() == 0
+
 header, fis = struct.pack("<HHIQ16x", 5, 1, 0, TABLES), queued(0x60, 2, 5).ljust(20, b"\0")
 assert command_breaks(Rule.TAG_NOT_SLOT, 3, True, header, fis) and not command_breaks(Rule.TAG_NOT_SLOT, 2, True, header, fis)
 assert command_breaks(Rule.QUEUE_WITHOUT_ACTIVE, 2, False, header, fis)

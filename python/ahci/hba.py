@@ -49,6 +49,11 @@ class Hba(Owner):
         """Whether a word that a driver is about to write at an offset breaks a rule."""
         return bool(self._number("write_breaks", u32, rule, fits(offset, 32, "offset"), fits(word, 32, "word")))
 
+    def power_on(self) -> int:
+        """Power-on, as by a reset of the machine or of the PCI function: as a new controller with the same capabilities, over the disk as it is. Returns
+        what `write` does."""
+        return self._number("power_on", u64)
+
     def look(self) -> Look:
         """What the controller does next."""
         found = LookStruct()

@@ -145,6 +145,7 @@ _HBA: Dict[str, List[Any]] = {
     "free": [],
     "read": [u32, u32, to(u64)],
     "write": [u32, u32, u64, to(u64)],
+    "power_on": [to(u64)],
     "look": [to(LookStruct)],
     "supply": [_text, size],
     "bytes": [_text, size],

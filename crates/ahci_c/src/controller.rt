@@ -6,7 +6,7 @@ ghost use Rattle.ahci_ffi.specs.Making.{size_refusal};
 ghost use Rattle.sector_store.specs.Shown.{buffer_sector, joined};
 ghost use Rattle.ahci_hba.specs.{Moving.{put_done, unmapped}, States.{hba_with, new_hba}};
 ghost use Rattle.hba_ffi.specs.{
-  Calls.{AnswersBytes, AnswersRead, AnswersSupply, AnswersWrite},
+  Calls.{AnswersBytes, AnswersPowerOn, AnswersRead, AnswersSupply, AnswersWrite},
   Capable.{capabilities_for, making_refusal, over_making_refusal},
   Looking.{IsLook},
   Over.{Changes, Empties, Fills, Reads},
@@ -107,6 +107,15 @@ pub extern "C" fn ahci_hba_write(
         heap,
         |held| hba_ffi::write(&mut held, offset, bytes, value, entries)
     )
+}
+
+/// Power-on.
+#[unsafe(no_mangle)]
+pub extern "C" fn ahci_hba_power_on(hba: &mut HbaPlace, heap: Global, entries: &mut u64) -> u32
+    ensures { Changes result (view_of hba.old) (view_of hba.new) (entries.new ≡ entries.old)
+        (λ answer old new. AnswersPowerOn answer old new entries.new) }
+{
+    over!(hba, heap, |held| hba_ffi::power_on(&mut held, entries))
 }
 
 /// What the controller does next.

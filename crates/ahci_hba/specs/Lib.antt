@@ -5,6 +5,7 @@ pub mod States
 pub mod Moving
 pub mod Queueing
 pub mod Dropping
+pub mod PoweringOn
 pub mod Delivering
 pub mod Failing
 pub mod Executing

@@ -8,6 +8,7 @@ mod fetching;
 mod logging;
 mod moving;
 mod powering;
+mod powering_on;
 mod queueing;
 mod recovering;
 mod resetting;

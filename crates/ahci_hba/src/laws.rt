@@ -7,6 +7,7 @@ ghost use Rattle.hba_command.specs.declared.power.Power.TheVariants.{Sleep};
 ghost use Rattle.ncq_journal.specs.History.{History};
 ghost use Rattle.ahci_hba.specs.Failing.{Fails, own_in, refused_at};
 ghost use Rattle.ahci_hba.specs.Moving.{put_done, supplied, unmapped};
+ghost use Rattle.ahci_hba.specs.PoweringOn.{powered_on};
 ghost use Rattle.ahci_hba.specs.Queueing.{has_alone, is_idle, is_listening, waits};
 ghost use Rattle.ahci_hba.specs.Resetting.{signing};
 ghost use Rattle.ahci_hba.specs.Stepping.{IsTaken, answers, next_step};
@@ -39,7 +40,13 @@ pub fn a_halted_port_takes_no_step<A: Allocator, S: SectorStore>(hba: &Hba<A, S>
     ensures { (slot : ℕ) → next_step hba.now slot ≡ None }
 {}
 
-/// The device moves registers by the transitions of section 5.3 and by nothing else, whatever step it takes.
+/// After power-on no slot has a step, whatever commands there were.
+pub fn no_slot_has_a_step_after_power_on<A: Allocator, S: SectorStore>(hba: &Hba<A, S>)
+    ensures { (slot : ℕ) → next_step (powered_on hba.now) slot ≡ None }
+{}
+
+/// The device moves registers by the transitions of section 5.3 and by nothing else, whatever step it takes. `Hba::write` and
+/// `Hba::power_on` are no moves of the device: `state` of each names the registers that it leaves.
 pub fn a_step_takes_transitions<A: Allocator, S: SectorStore>(
     old: &Hba<A, S>,
     new: &Hba<A, S>,
@@ -67,8 +74,8 @@ pub fn a_failure_takes_transitions<A: Allocator, S: SectorStore>(
     ensures refused { (error lba : ℕ) → Takes old.now.registers (refused_at old.now slot error lba).registers }
 {}
 
-/// A command that was issued and is not answered is where its bits say so: whatever transition the device takes, a slot leaves PxCI exactly with the answer
-/// to its command, and a tag leaves PxSACT exactly with its own (sections 3.3.13 and 3.3.14).
+/// Whatever transition the device takes, a slot is in PxCI after it exactly if it was there before and the transition doesn't answer its command,
+/// and a tag is in PxSACT exactly if it was there and the transition doesn't answer it (sections 3.3.13 and 3.3.14).
 pub fn a_bit_goes_with_the_answer_to_its_command<A: Allocator, S: SectorStore>(hba: &Hba<A, S>)
     ensures issued { (t : Transition) (slot : ℕ) → has_place (after t hba.now.registers.port).ci slot
         ≡ (has_place hba.now.registers.port.ci slot && not (answers_command t hba.now.registers.port slot)) }

@@ -13,6 +13,7 @@ use Rattle.ahci_hba.specs.Dropping.{journal_out, written}
 use Rattle.ahci_hba.specs.Failing.{Fails, own_in, refused_at}
 use Rattle.ahci_hba.specs.HbaView.{HbaView}
 use Rattle.ahci_hba.specs.Moving.{put_next, run_read, supplied}
+use Rattle.ahci_hba.specs.PoweringOn.{power_on_journal, powered_on}
 use Rattle.ahci_hba.specs.Resetting.{may_sign, signing}
 use Rattle.ahci_hba.specs.Stepping.{IsTaken, may_fail, may_refuse, next_step}
 use Rattle.ahci_hba.specs.Trimming.{trimmed_hba}
@@ -40,6 +41,14 @@ pub record HasWritten (offset : ℕ) (size : AccessSize) (value : ℕ) (old new 
 abbrev pub AnswersWrite : (offset bytes value : ℕ) → Status → (old new : HbaView) → (before after : ℕ) → Type 0
 AnswersWrite offset bytes value answer old new before after =
     OfSize (size_of bytes) answer (λ size. HasWritten offset size value old new after) ((new ≡ old) × (after ≡ before))
+
+-- power-on, and the journal that is handed out if it resets the port
+pub record HasPoweredOn (old new : HbaView) (entries : ℕ) : Type 0 where
+  pub state : new ≡ powered_on old
+  pub counted : entries ≡ entries_in (power_on_journal old)
+
+abbrev pub AnswersPowerOn : Status → (old new : HbaView) → (entries : ℕ) → Type 0
+AnswersPowerOn answer old new entries = (answer ≡ status.Done) × HasPoweredOn old new entries
 
 abbrev pub AnswersSupply : List ℕ → Status → (old new : HbaView) → Type 0
 AnswersSupply bytes answer old new =

@@ -20,6 +20,6 @@ pub use looking::{copy, entry, entry_bytes, look, port};
 pub use making::{make, make_over, make_with};
 pub use moving::{bytes, supply, unmapped, written};
 pub use place::HbaPlace;
-pub use registers::{read, write};
+pub use registers::{power_on, read, write};
 pub use stepping::{fail, refuse, sign, step};
 pub use trimming::trim;

@@ -1,7 +1,7 @@
-//! A driver's accesses to the registers.
+//! A driver's accesses to the registers, and power-on.
 
 ghost use Rattle.std.specs.Prelude.{◌≡◌};
-ghost use Rattle.hba_ffi.specs.Calls.{AnswersRead, AnswersWrite, entries_in};
+ghost use Rattle.hba_ffi.specs.Calls.{AnswersPowerOn, AnswersRead, AnswersWrite, entries_in};
 
 use ahci_ffi::Status;
 use ahci_hba::{AccessSize, Hba};
@@ -45,6 +45,17 @@ pub fn write<A: Allocator + Copy, S: SectorStore>(
         }
         None => Status::WrongLength,
     }
+}
+
+/// Power-on. `entries` is how many entries the journal has that is handed out, if the port is reset.
+pub fn power_on<A: Allocator + Copy, S: SectorStore>(
+    hba: &mut Hba<A, S>,
+    entries: &mut u64,
+) -> Status
+    ensures { AnswersPowerOn result hba.old hba.new entries.new }
+{
+    *entries = entries_in(&hba.power_on());
+    Status::Done
 }
 
 /// How many entries the journal has that was handed out.

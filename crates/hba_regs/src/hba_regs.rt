@@ -59,6 +59,14 @@ impl HbaRegs {
         }
     }
 
+    /// Power-on of an HBA that can do the same: each register has its reset value (chapter 3), the bases too, which a reset of the HBA
+    /// leaves (section 10.4.3), and software has to initialize it anew (section 10.1).
+    pub fn power_on(&mut self)
+        ensures { self.new ≡ power_on self.old.port.capabilities }
+    {
+        *self = HbaRegs::with_capabilities(self.port.capabilities());
+    }
+
     /// What a read answers, in the bytes of the size from the lowest on (AHCI 1.3.1, sections 3.1 and 3.3). The offset is in
     /// bytes from the beginning of the HBA's registers. Reserved offsets and registers that this model has not answer 0, as
     /// does an offset that isn't a multiple of the size.

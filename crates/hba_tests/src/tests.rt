@@ -14,6 +14,7 @@ mod lists;
 mod logs;
 mod playing;
 mod power;
+mod powering_on;
 mod refusals;
 mod registers;
 mod resets;

@@ -286,6 +286,11 @@ impl Player {
         }
     }
 
+    /// Powers the controller on again: how many entries the journal had, if it is handed out.
+    pub fn power_on(&mut self) -> Option<u64> {
+        self.hba.power_on().map(|journal| journal.len())
+    }
+
     /// The numbers of the journal's first entry and of the next one.
     pub fn numbers(&self) -> (u64, u64) {
         let journal = self.hba.port().journal();
