@@ -9,7 +9,7 @@ use Rattle.std.specs.Coded.{coded_option}
 use Rattle.std.specs.Box.Ownership.{box_owns}
 use Rattle.std.specs.Global.{Global}
 use Rattle.std_heap.specs.contracts.Global as heap
-use Rattle.std_heap.specs.contracts.GlobalAllocator.TheImpl.{ghosts, dict}
+use Rattle.std_heap.specs.contracts.GlobalAllocator.TheImpl.{ghosts}
 use Rattle.sector_store.specs.declared.sector_store.SectorStore.{Ghosts}
 use Rattle.sector_store.specs.contracts.sectors.Sectors as sectors
 use Rattle.sector_store.specs.contracts.sectors.SectorsSectorStore.TheImpl as store
@@ -25,7 +25,7 @@ heap_sectors = sectors.the_row heap.the_row ghosts
 
 -- what they are to contracts
 abbrev pub heap_store : Ghosts heap_sectors.Denot
-heap_store = store.ghosts heap.the_row ghosts dict
+heap_store = store.ghosts heap.the_row ghosts store.no_dict store.no_dict
 
 -- the type of a port there
 abbrev pub heap_port : RattleType

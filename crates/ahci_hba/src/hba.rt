@@ -135,7 +135,7 @@ impl<A: Allocator + Copy> Hba<A> {
         ensures fault { AnswersOr result (new_fault image.items depth) DiskFault.OutOfMemory }
     {
         let port = port_for(alloc, image, depth)?;
-        Hba::before(alloc, port, depth, capabilities)
+        Hba::assembled(alloc, port, depth, capabilities)
     }
 }
 
@@ -156,11 +156,11 @@ impl<A: Allocator + Copy, S: SectorStore + Drop> Hba<A, S> {
         ensures fault { AnswersOr result (over_fault (length (S.image store) / 512) depth) DiskFault.OutOfMemory }
     {
         let port = port_over(alloc, store, depth)?;
-        Hba::before(alloc, port, depth, capabilities)
+        Hba::assembled(alloc, port, depth, capabilities)
     }
 
     /// A controller after power-on before a new port.
-    fn before(
+    fn assembled(
         alloc: A,
         port: Port<A, S>,
         depth: u32,

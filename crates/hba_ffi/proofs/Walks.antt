@@ -1,5 +1,5 @@
 -- What the walks over a bare box share, and the box of a controller on the C library's heap.
-pub use Rattle.ahci_ffi.proofs.Walks.{refl, ap, List, [], ◌∷◌, ◌++◌, proved_at, id⊢, ftrue, fsep, Val, vnull, vstruct, has_ty, WT, WpFn, fact, tables, raw, ‵, prop, ◌⊛◌, ◌$◌, ◌∵◌, !, qed, drop, move, use1, split, join, fsplit, fjoin, fpack, feq_i, regoal, rewrite, suffices, done, whole, sub, agg, stop, fld, lit, no_more, and_then, of_opd, returns, enter, alloc_all, pass_all, free_all, look_at, get, get_in, sets, RattleType, Valss, yes, plain, layout, null_ptr, heard, nothing, within, shape, fields, to, says, Stays, stay_dropped, walk_of, ends_at, Goes-dropped, handle_tells, D, B, Bx, word, box_typed, box_out, box_in, heap_row}
+pub use Rattle.ahci_ffi.proofs.Walks.{refl, ap, List, [], ◌∷◌, ◌++◌, proved_at, id⊢, ftrue, fsep, Val, vnull, vstruct, has_ty, WT, WpFn, fact, tables, raw, ‵, prop, ◌⊛◌, ◌$◌, ◌∵◌, !, qed, drop, move, use1, split, join, fsplit, fjoin, fpack, feq_i, regoal, rewrite, suffices, done, whole, sub, agg, stop, fld, lit, no_more, and_then, of_opd, returns, enter, alloc_all, pass_all, free_all, look_at, get, get_in, sets, RattleType, Valss, yes, no, plain, layout, null_ptr, heard, nothing, within, shape, fields, to, says, Stays, stay_dropped, walk_of, ends_at, Goes-dropped, handle_tells, D, B, Bx, word, box_typed, box_out, box_in, heap_row}
 use mir.Syntax.{dnil, impl, tnil}
 use Rattle.std_heap.specs.contracts.GlobalAllocator.TheImpl.{ghosts, dict}
 use Rattle.std_heap.proofs.Global.TheLaws as heap

@@ -1,5 +1,5 @@
 -- `keep` moves both fields, and what they own goes with them.
-use Rattle.ahci_ffi.proofs.Walks.{refl, List, [], ◌∷◌, ◌++◌, proved_at, id⊢, ftrue, fsep, Val, WpFn, tables, ‵, prop, ◌⊛◌, ◌$◌, ◌∵◌, !, qed, drop, move, use1, split, join, fsplit, fjoin, regoal, suffices, done, whole, sub, agg, stop, fld, no_more, and_then, of_opd, returns, enter, alloc_all, pass_all, free_all, look_at, get, get_in, sets, RattleType, yes, plain, nothing, says, Stays, stay_dropped, walk_of, ends_at, Goes-dropped, D, B, word, box_typed, box_out, box_in, PortBox}
+use Rattle.ahci_ffi.proofs.Walks.{refl, List, [], ◌∷◌, ◌++◌, proved_at, id⊢, ftrue, fsep, Val, WpFn, tables, ‵, prop, ◌⊛◌, ◌$◌, ◌∵◌, !, qed, drop, move, use1, split, join, fsplit, fjoin, regoal, suffices, done, whole, sub, agg, stop, fld, no_more, and_then, of_opd, returns, enter, alloc_all, pass_all, free_all, look_at, get, get_in, sets, RattleType, no, plain, nothing, says, Stays, stay_dropped, walk_of, ends_at, Goes-dropped, D, B, word, box_typed, box_out, box_in, PortBox}
 use Rattle.std.specs.Prelude.{Some}
 use Rattle.ahci_ffi.specs.contracts.bare.Bare as bare
 use Rattle.ahci_ffi.specs.contracts.held.Held as held
@@ -15,14 +15,14 @@ abbrev Apart : RattleType
 Apart = bare.the_row heap_port Heap.the_row ghosts
 
 abbrev spent : Stays f.ended.signature.params f.ended.kept
-spent = (stay_dropped (plain (λ _. Apart)) yes, tt)
+spent = (stay_dropped (plain (λ _. Apart)) no, tt)
 
 pub keep_spec : {M : Type 1} → statement M
 keep_spec 𝓤 𝓛 𝓜 𝓡 wired =
     let c = f.clauses 𝓛 𝓜.mem 𝓡.returns in
     let W = walk_of 𝓛 f.ended spent c in
     let 𝓣 = tables 𝓤 𝓛.H 𝓜 𝓡 𝓡.env in
-    proved_at 𝓛 f.ended spent c 𝓜 𝓡 (Goes-dropped 𝓛 0 (plain (λ _. Apart)) yes (λ κs x l. refl), tt)
+    proved_at 𝓛 f.ended spent c 𝓜 𝓡 (Goes-dropped 𝓛 0 (plain (λ _. Apart)) no (λ κs x l. refl), tt)
     name code.function (code.unfolded 𝓤 𝓛.H 𝓜 𝓡 wired)
     (λ y are.
     let from = y.0.3.0 in
