@@ -466,13 +466,20 @@ uint32_t ahci_port_new_zeros(ahci_port *port, uint32_t sectors, uint32_t depth);
    AHCI_BAD_FIRST after AHCI_BAD_DEPTH. */
 uint32_t ahci_port_resume(ahci_port *port, const uint8_t *image, size_t image_bytes, uint32_t depth, uint64_t first);
 
+/* Makes a port over a disk of `sectors`, 1 to 2^32 - 1, in an empty place. Until it is written, a sector is that of `base`, or zeros past the last
+   whole sector of `base`, whose bytes don't change and are there as long as the port: those of a mapped file, say, or one byte for a disk of zeros. Memory is
+   taken for the pages of 4,096 bytes that are written, when such a write is issued (AHCI_OUT_OF_MEMORY), and a trim takes time for the pages that were
+   written since the last one. The journal's first entry has the number `first`, at most 2^63.
+   AHCI_PORT_THERE, AHCI_BAD_SIZE if `sectors` is 0, AHCI_BAD_DEPTH, AHCI_BAD_FIRST, AHCI_OUT_OF_MEMORY. */
+uint32_t ahci_port_over(ahci_port *port, const uint8_t *base, size_t base_bytes, uint32_t sectors, uint32_t depth, uint64_t first);
+
 /* Frees a port, and leaves its place empty. AHCI_NO_PORT, as every call from here to ahci_port_state. */
 uint32_t ahci_port_free(ahci_port *port);
 
 /* How many slots there are, 1 to 32. */
 uint32_t ahci_port_depth(ahci_port *port, uint32_t *depth);
 
-/* How many sectors the disk has, 1 to 131,072. */
+/* How many sectors the disk has, 1 to 2^32 - 1. */
 uint32_t ahci_port_sectors(ahci_port *port, uint32_t *sectors);
 
 /* Reads the register at an offset from the HBA's base, in bytes (sections 3.1 and 3.3); those of port 0 begin at 100h.
@@ -589,6 +596,10 @@ uint32_t ahci_hba_new(ahci_hba *hba, const uint8_t *image, size_t image_bytes, u
 /* The same with these capabilities. AHCI_PORT_THERE, AHCI_BAD_SIZE, AHCI_BAD_DEPTH, AHCI_BAD_KIND if `ncs` is not 1 to 32 or `iss` is not 1
    to 3, AHCI_OUT_OF_MEMORY. */
 uint32_t ahci_hba_new_with(ahci_hba *hba, const uint8_t *image, size_t image_bytes, uint32_t depth, const ahci_hba_capabilities *capabilities);
+
+/* The same in front of a disk over a base, as ahci_port_over has it. AHCI_PORT_THERE, AHCI_BAD_SIZE if `sectors` is 0, AHCI_BAD_DEPTH,
+   AHCI_BAD_KIND, AHCI_OUT_OF_MEMORY. A command that writes lacks memory where the device takes it (AHCI_OUT_OF_MEMORY of ahci_hba_step). */
+uint32_t ahci_hba_over(ahci_hba *hba, const uint8_t *base, size_t base_bytes, uint32_t sectors, uint32_t depth, const ahci_hba_capabilities *capabilities);
 
 /* Frees a controller, and leaves its place empty. AHCI_NO_PORT, as every call from here to ahci_hba_port. */
 uint32_t ahci_hba_free(ahci_hba *hba);

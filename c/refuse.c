@@ -223,6 +223,32 @@ static int made(void)
     return lacking;
 }
 
+/* A disk of nearly 2 TiB, whose write of two sectors needs pages in two parts of a table: all that it lacks, it lacks when it is issued. */
+static int over_a_base(void)
+{
+    enum { ACROSS = 4096 - 1 };
+    static uint8_t two[1024], back[1024];
+    ahci_port port = AHCI_PORT_EMPTY;
+    ahci_stepped done;
+    ahci_reply reply;
+    uint64_t number = 99, entries;
+    int lacking = 0;
+    memset(two, 0xA7, sizeof two);
+    TRY(&port, image, ahci_port_over(&port, image, sizeof image, UINT32_MAX, 4, 5));
+    TRY(&port, number, ahci_port_submit(&port, 0, AHCI_WRITE, ACROSS, 2, two, sizeof two, &number));
+    NONE(ahci_port_accept(&port, 0, &done));
+    NONE(ahci_port_serve(&port, (uint8_t[]){ 0 }, 1, &done));
+    NONE(ahci_port_collect(&port, 0, number, &reply, two, 0));
+    NONE(ahci_port_copy(&port, ACROSS, back, 512));
+    NONE(ahci_port_copy(&port, ACROSS + 1, back + 512, 512));
+    if (memcmp(two, back, sizeof two) != 0)
+        wrong("ahci_port_copy", "a sector has lost its bytes");
+    NONE(ahci_port_trim(&port, &entries));
+    NONE(ahci_port_copy(&port, UINT32_MAX - 1, back, 512));
+    NONE(ahci_port_free(&port));
+    return lacking;
+}
+
 /* A controller whose journal is trimmed, and that is powered on again. */
 static int controlled(void)
 {
@@ -257,7 +283,7 @@ static int story(void)
 {
     ahci_port port = AHCI_PORT_EMPTY;
     uint64_t number = 99, entries;
-    int lacking = made() + alone() + controlled() + after_some_entries();
+    int lacking = made() + over_a_base() + alone() + controlled() + after_some_entries();
     TRY(&port, image, ahci_port_new(&port, image, sizeof image, 32));
     TRY(&port, number, ahci_port_submit(&port, 0, AHCI_WRITE, 3, 1, data, sizeof data, &number));
     looks(&port);

@@ -3,6 +3,7 @@
 import array
 import copy
 import mmap
+import os
 import pickle
 import resource
 import tempfile
@@ -237,6 +238,33 @@ def buffers() -> None:
                 raise AssertionError(f"{none!r} was taken for bytes")
 
 
+def over_a_base() -> None:
+    """A disk of nearly 2 TiB over a mapped file: what is written is in memory, and the file stays."""
+    most, gibibyte = (1 << 32) - 1, 1 << 30
+    with tempfile.TemporaryFile() as file:
+        file.truncate(gibibyte)
+        file.seek(512 * 3)
+        file.write(b"\x11" * 512)
+        file.flush()
+        before = size_of_this()
+        with mmap.mmap(file.fileno(), gibibyte, access=mmap.ACCESS_COPY) as mapped:
+            with Port.over(mapped, most, 32, first=7) as port:
+                assert port.sectors() == most and port.copy(3) == b"\x11" * 512 and port.copy(most - 1) == bytes(512)
+                assert port.identify()[120:124] == b"\xff\xff\xff\x0f" and port.identify()[200:208] == b"\xff\xff\xff\xff\0\0\0\0"
+                for tag, lba in enumerate((3, most - 1)):
+                    number = port.write(tag, lba, b"\x22" * 512)
+                    port.accept(tag)
+                    port.serve([tag])
+                    assert port.collect(tag, number)[0].outcome is Outcome.WRITE
+                assert port.trim() > 0 and port.copy(3) == port.copy(most - 1) == b"\x22" * 512 and port.copy(4) == bytes(512)
+                assert size_of_this() < before + gibibyte + (16 << 20)
+            with ahci.Hba.over(mapped, most, 32) as hba:
+                assert hba.copy(3) == b"\x11" * 512 and hba.copy(most - 1) == bytes(512)
+        assert os.pread(file.fileno(), 512, 512 * 3) == b"\x11" * 512
+    refused(Status.BAD_SIZE, lambda: Port.over(b"", 0, 32))
+    refused(Status.BAD_FIRST, lambda: Port.over(b"", 1, 32, 1 << 63 | 1))
+
+
 def copies() -> None:
     """A port is not copied: two objects would free it twice."""
     with Port.zeros(8, 4) as port:
@@ -324,6 +352,6 @@ def memory() -> None:
     assert size_of_this() < before + (64 << 20)
 
 
-for part in (looks, failing_queue, registers, layers, wide_numbers, buffers, copies, exceptions, enums, memory):
+for part in (looks, failing_queue, registers, layers, wide_numbers, buffers, over_a_base, copies, exceptions, enums, memory):
     part()
 print("the calls of ahci: as in docs/LAYOUTS.md and docs/PROGRAM.md")

@@ -34,6 +34,16 @@ class Hba(Owner):
         words = CapabilitiesStruct(*(fits(it, 32, name) for name, it in zip(capabilities._fields, capabilities)))
         self._call("new_with", *given(image), fits(depth, 32, "depth"), ctypes.byref(words))
 
+    @classmethod
+    def over(cls, base: Bytes, sectors: int, depth: int, capabilities: Capabilities = Capabilities()) -> "Hba":
+        """In front of a disk over a base, as `Port.over` has it."""
+        made = cls.__new__(cls)
+        Owner.__init__(made, HbaPlace())
+        where, count = made._base = given(base)
+        words = CapabilitiesStruct(*(fits(it, 32, name) for name, it in zip(capabilities._fields, capabilities)))
+        made._call("over", where, count, fits(sectors, 32, "sectors"), fits(depth, 32, "depth"), ctypes.byref(words))
+        return made
+
     def __enter__(self) -> "Hba":
         return self
 

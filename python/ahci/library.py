@@ -113,6 +113,7 @@ _PORT: Dict[str, List[Any]] = {
     "new": [_text, size, u32],
     "new_zeros": [u32, u32],
     "resume": [_text, size, u32, u64],
+    "over": [_text, size, u32, u32, u64],
     "free": [],
     "depth": [to(u32)],
     "sectors": [to(u32)],
@@ -142,6 +143,7 @@ _PORT: Dict[str, List[Any]] = {
 _HBA: Dict[str, List[Any]] = {
     "new": [_text, size, u32],
     "new_with": [_text, size, u32, to(CapabilitiesStruct)],
+    "over": [_text, size, u32, u32, to(CapabilitiesStruct)],
     "free": [],
     "read": [u32, u32, to(u64)],
     "write": [u32, u32, u64, to(u64)],
@@ -256,6 +258,7 @@ class Owner:
 
     _prefix = ""
     _place: Any = None
+    _base: Any = None  # the bytes that a disk is over
 
     def __init__(self, place: Any) -> None:
         self._lock = threading.RLock()
@@ -302,6 +305,7 @@ class Owner:
         with self._lock:
             if self._place.full:
                 self._call("free")
+            self._base = None
 
     def __enter__(self) -> Any:
         return self

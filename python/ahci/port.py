@@ -27,6 +27,16 @@ class Port(Owner):
         made._call("new_zeros", fits(sectors, 32, "sectors"), fits(depth, 32, "depth"))
         return made
 
+    @classmethod
+    def over(cls, base: Bytes, sectors: int, depth: int, first: int = 0) -> "Port":
+        """Over a disk of 1 to 2^32 - 1 sectors, which are those of `base`, and zeros past its last whole one, until they are written. Bytes in writable
+        memory, as those of a file that is mapped with `mmap.ACCESS_COPY`, are not copied, and may not change as long as the port is there."""
+        made = cls.__new__(cls)
+        Owner.__init__(made, PortPlace())
+        where, count = made._base = given(base)
+        made._call("over", where, count, fits(sectors, 32, "sectors"), fits(depth, 32, "depth"), fits(first, 64, "first"))
+        return made
+
     def __enter__(self) -> "Port":
         return self
 
