@@ -53,7 +53,6 @@ pub fn make_with<A: Allocator + Copy>(
 
 /// The same in front of a disk of so many sectors, which are those of these bytes, and zeros after them, until they are written. The bytes
 /// never change. Memory is taken for the pages that are written.
-#[tactic(auto, using(ahci_ffi::proofs::MakingLemmas::base_fits))]
 pub fn make_over(
     heap: Global,
     base: &'static [u8],
