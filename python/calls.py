@@ -11,6 +11,7 @@ from typing import Callable, Dict, List, Optional, Tuple
 
 import ahci
 from ahci import Command, Did, Entry, Event, Fis, FisType, Kind, Order, Outcome, Phase, Port, Register, Reply, Slot, Status, Stepped, TagSets, Written, Wrote
+from ahci.hba import Hba
 
 FREE, ISSUED, ACCEPTED, BROKEN, HELD, DONE = Phase.FREE, Phase.ISSUED, Phase.ACCEPTED, Phase.BROKEN, Phase.HELD, Phase.DONE
 PX_CMD, PX_SACT, PX_CI = Register.PXCMD, Register.PXSACT, Register.PXCI
@@ -258,7 +259,7 @@ def over_a_base() -> None:
                     assert port.collect(tag, number)[0].outcome is Outcome.WRITE
                 assert port.trim() > 0 and port.copy(3) == port.copy(most - 1) == b"\x22" * 512 and port.copy(4) == bytes(512)
                 assert size_of_this() < before + gibibyte + (16 << 20)
-            with ahci.Hba.over(mapped, most, 32) as hba:
+            with Hba.over(mapped, most, 32) as hba:
                 assert hba.copy(3) == b"\x11" * 512 and hba.copy(most - 1) == bytes(512)
         assert os.pread(file.fileno(), 512, 512 * 3) == b"\x11" * 512
     refused(Status.BAD_SIZE, lambda: Port.over(b"", 0, 32))
