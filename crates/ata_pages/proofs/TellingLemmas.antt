@@ -5,7 +5,7 @@ use Rattle.std.specs.List.{flat_map, list_all, range_with_len}
 use Rattle.std.specs.Prelude.{slice_index}
 use Rattle.std.proofs.lemmas.Bool.Decides.{nat_tests}
 use Rattle.std.proofs.lemmas.Nat.{from_le_bytes-to_le_bytes_8}
-use Rattle.ncq_core.specs.Identify.{character, identify_page, identify_word, is_within, number_word, text_word, word_bytes}
+use Rattle.ncq_core.specs.Identify.{character, identify_page, identify_word, is_within, number_word, text_word, within_28_bits, word_bytes}
 use Rattle.ncq_core.specs.Log.{log_page}
 use Rattle.ata_pages.specs.IdentifyText.{word_of}
 use Rattle.ata_pages.specs.Telling.{TellsError, TellsWords}
@@ -63,7 +63,7 @@ small_word s d n shallow =
     (either (is_within 23 26 n) _ _ (small_text (codes "1.0") (n - 23) refl)
     (either (is_within 27 46 n) _ _ (small_text (codes "SOFTWARE NCQ DISK") (n - 27) refl)
     (either (n == 49) 0x0300 _ (omega arith)
-    (either (is_within 60 61 n) _ _ (small_number s (n - 60))
+    (either (is_within 60 61 n) _ _ (small_number (within_28_bits s) (n - 60))
     (either (n == 75) (d - 1) _ (omega arith)
     (either (n == 76) 0x0106 _ (omega arith)
     (either (n == 80) 0x0400 _ (omega arith)
