@@ -20,7 +20,7 @@ pub enum IssueFault {
     WrongTag,
     /// The PRDT is none that the port takes.
     BadList,
-    /// Room for a write's bytes or for the request's entries was refused.
+    /// Room for a write's bytes, for the pages that they go to, or for the request's entries was refused.
     OutOfMemory,
 }
 
@@ -42,8 +42,8 @@ pub enum SubmitFault {
     BadCount,
     /// The LBA doesn't fit 48 bits.
     BadLba,
-    /// The port did not issue it: `Halted`, `NoSuchTag`, `SlotOwned`, or `OutOfMemory` where room for the window or for the
-    /// request's entries was refused.
+    /// The port did not issue it: `Halted`, `NoSuchTag`, `SlotOwned`, or `OutOfMemory` where room for the window, for the pages
+    /// that a write goes to, or for the request's entries was refused.
     Issue(IssueFault),
 }
 

@@ -7,7 +7,7 @@ use std::fmt::{Display, Formatter, Write};
 /// Why no disk was made. The cases are tested in this order.
 #[derive(Clone, Copy, Debug, PartialEq, Eq)]
 pub enum DiskFault {
-    /// The image is not 1 to 131,072 whole sectors of 512 bytes.
+    /// The image is not 1 to 131,072 whole sectors of 512 bytes, or the store has no sectors or more than 2^32 - 1.
     BadSize,
     /// The depth is not 1 to 32.
     BadDepth,

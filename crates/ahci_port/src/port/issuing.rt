@@ -92,11 +92,13 @@ impl<A: Allocator, S: SectorStore> Port<A, S> {
 impl<A: Allocator + Clone, S: SectorStore> Port<A, S> {
     /// Issues the command of a window (AHCI 1.3.1, "Building a Command"): its header goes into the command list, the window
     /// into its slot, and the tag's bit is set in PxSACT, then in PxCI. The answer is the request's number, that of
-    /// its Issue entry. Room for every later entry that the request needs without an error is reserved here.
+    /// its Issue entry. Room for every later entry that the request needs without an error is reserved here, and in the store the
+    /// pages that a write goes to.
     ///
     /// # Errors
     /// `Halted`, `NoSuchTag` where the tag is not below the depth, `SlotOwned`, the first rule that the window breaks, and
-    /// `OutOfMemory` if a write's bytes or room for the request's entries could not be allocated; the window comes back as it was.
+    /// `OutOfMemory` if a write's bytes, the pages that they go to, or room for the request's entries could not be allocated; the
+    /// window comes back as it was.
     pub fn issue(&mut self, window: Window<A>) -> Result<u64, (Window<A>, IssueFault)>
         ensures number { IfOk result (λ n. n ≡ next_number self.old) }
         ensures issued { OnOk result (IsIssued window self.old self.new) }
@@ -119,7 +121,7 @@ impl<A: Allocator + Clone, S: SectorStore> Port<A, S> {
     /// of a write no byte is copied.
     ///
     /// # Errors
-    /// Those of `issue`, but that only room for entries can be lacking; the window comes back as it was.
+    /// Those of `issue`, but that only pages or room for entries can be lacking; the window comes back as it was.
     pub fn issue_asked(
         &mut self,
         window: Window<A>,

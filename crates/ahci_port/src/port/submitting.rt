@@ -46,7 +46,7 @@ impl<A: Allocator + Clone, S: SectorStore> Port<A, S> {
     ///
     /// # Errors
     /// `BadCount`, `BadLba`, and then those of an issue: `Halted`, `NoSuchTag`, `SlotOwned`, and `OutOfMemory` where room for the
-    /// window or for the request's entries was refused. The command comes back as it was.
+    /// window, for the pages that a write goes to, or for the request's entries was refused. The command comes back as it was.
     pub fn submit(&mut self, tag: u8, op: Op<A>) -> Result<u64, (Op<A>, SubmitFault)>
         ensures number { IfOk result (λ n. n ≡ next_number self.old) }
         ensures submitted { OnOk result (IsSubmitted tag (work_of op) self.old self.new) }
