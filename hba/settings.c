@@ -230,7 +230,7 @@ static int look_at_command(const struct settings *settings) {
 static int settle(struct settings *settings) {
     if (look_at_command(settings))
         return -1;
-    if (image_settle(&settings->image, &settings->sectors) || look_at_pairs(settings))
+    if (image_settle(&settings->image, &settings->sectors, AHCI_MOST_SECTORS) || look_at_pairs(settings))
         return -1;
     if (settings->most_journal == 0) {
         uint64_t usual = JOURNAL_DISKS * (uint64_t)settings->sectors * AHCI_SECTOR_BYTES;

@@ -36,10 +36,10 @@ void image_end(struct image *image) {
     image->path = NULL;
 }
 
-int image_settle(const struct image *image, uint32_t *sectors) {
+int image_settle(const struct image *image, uint32_t *sectors, uint32_t most) {
     uint64_t there = image->path ? (image->bytes + SECTOR_BYTES - 1) / SECTOR_BYTES : MOST_SECTORS, wanted = *sectors ? *sectors : there;
-    if (wanted == 0 || wanted > MOST_SECTORS || (image->path && there > wanted)) {
-        say_of("image", image->path, "the image has %" PRIu64 " sectors, and the disk 1 to %" PRIu32, there, *sectors ? *sectors : MOST_SECTORS);
+    if (wanted == 0 || wanted > most || (image->path && there > wanted)) {
+        say_of("image", image->path, "the image has %" PRIu64 " sectors, and the disk 1 to %" PRIu32, there, *sectors ? *sectors : most);
         return -1;
     }
     *sectors = (uint32_t)wanted;
@@ -65,7 +65,7 @@ static bool new_path(const char *image, char *path) {
     return snprintf(path, PATH_MAX, "%s.new", image) < PATH_MAX;
 }
 
-static int look_for_new(const struct image *image) {
+int image_look_for_new(const struct image *image) {
     char path[PATH_MAX];
     struct stat found;
     if (!new_path(image->path, path)) {
@@ -79,8 +79,18 @@ static int look_for_new(const struct image *image) {
     return -1;
 }
 
+/* Sectors of the image may be in the journal of a block device that was killed (mapped.h). */
+static int look_for_journal(const struct image *image) {
+    char path[PATH_MAX];
+    struct stat found;
+    if (snprintf(path, PATH_MAX, "%s.journal", image->path) >= PATH_MAX || lstat(path, &found))
+        return 0;
+    say_of("image", image->path, "%s is left by a block device that was killed, and may have sectors of the image: serve it by the block device once, or remove %s", path, path);
+    return -1;
+}
+
 uint8_t *image_read(const struct image *image, uint32_t sectors) {
-    if (image->path && look_for_new(image))
+    if (image->path && (image_look_for_new(image) || look_for_journal(image)))
         return NULL;
     uint8_t *bytes = calloc(sectors, SECTOR_BYTES);
     if (!bytes)
@@ -143,8 +153,7 @@ static int take_over(const char *image, int file) {
     return fchmod(file, old.st_mode & 07777);
 }
 
-/* Makes sure that the rename is on the disk: without it a power failure could bring the old image back. */
-static void sync_folder(const char *path) {
+void image_sync_folder(const char *path) {
     char folder[PATH_MAX];
     const char *slash = strrchr(path, '/');
     snprintf(folder, sizeof folder, "%.*s", slash && slash != path ? (int)(slash - path) : 1, slash ? path : ".");
@@ -189,6 +198,6 @@ int image_write(struct image *image, const struct disk *disk) {
     if (write_new(image, disk, path, &lba) || rename(path, image->path))
         return say_failed(image, disk, path, lba, errno);
     image->is_changed = image->has_new = false;
-    sync_folder(image->path);
+    image_sync_folder(image->path);
     return 0;
 }

@@ -17,16 +17,22 @@ struct image {
 /* Finds the image, which has to be a regular file. All calls return 0, or -1 once they have printed why, if nothing else is said. */
 int image_find(struct image *image, const char *file);
 
-/* Settles how many sectors the disk has: as many as were asked for, or as the image has, or the most that there can be, if *sectors is 0. */
-int image_settle(const struct image *image, uint32_t *sectors);
+/* Settles how many sectors the disk has, `most` at most: as many as were asked for; if *sectors is 0, as the image has, or MOST_SECTORS. */
+int image_settle(const struct image *image, uint32_t *sectors, uint32_t most);
 
-/* All sectors of the disk: those of the image, and zeros after them. The caller frees them. NULL if the image can't be read, or if FILE.new is
+/* All sectors of the disk: those of the image, and zeros after them. The caller frees them. NULL if the image can't be read, or if FILE.new or FILE.journal is
    there: it may have sectors that are nowhere else. */
 uint8_t *image_read(const struct image *image, uint32_t sectors);
 
 /* Writes the disk's sectors to FILE.new, which gets the owner and the mode of FILE and then takes its place; nothing is done if no command has
    written. It returns 0, or an errno: FILE is as it was then, and FILE.new stays. */
 int image_write(struct image *image, const struct disk *disk);
+
+/* -1 once it has printed that FILE.new is there. */
+int image_look_for_new(const struct image *image);
+
+/* Makes sure that what was done to names in the folder of a path is on the disk: without it a power failure could take it back. */
+void image_sync_folder(const char *path);
 
 void image_end(struct image *image);
 

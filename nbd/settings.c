@@ -14,8 +14,9 @@
 #include <nbdkit-plugin.h>
 
 const char settings_help[] =
-    "sectors=N            sectors of 512 bytes, 1 to 131072 (default: those of the image, or 131072)\n"
-    "image=FILE           the sectors at the start; they are written back to it\n"
+    "sectors=N            sectors of 512 bytes, 1 to 4294967295 (default: those of the image, or 131072)\n"
+    "size=BYTES           the same in bytes, such as 100G or 1T\n"
+    "image=FILE           the sectors at the start; those that are written are written back to it\n"
     "sync=end|flush       when: at the end, or also at each flush (default end)\n"
     "depth=N              slots of the port, 1 to 32 (default 32)\n"
     "pick=low|high|all|random   the tag that the device goes on with (default low)\n"
@@ -30,20 +31,24 @@ const char settings_help[] =
     "slow=WHERE:MICROSECONDS[+JITTER][:COUNT][,CONDITION]...  commands that take so long (default\n"
     "                     COUNT: ever). May be given up to 64 times\n"
     "most-journal=BYTES   size of the port's journal at which it is trimmed (default: 4 times the disk's\n"
-    "                     size, and at least 4M)\n"
-    "record=FOLDER        a record of all that happens; host/stretch turns any part of it into a script\n"
+    "                     size, at least 4M and at most 256M)\n"
+    "record=FOLDER        a record of all that happens; host/stretch turns any part of it into a script.\n"
+    "                     The disk has 131072 sectors at most then\n"
     "record-limit=BYTES   the oldest half of the record is dropped so that it has no more bytes. BYTES may\n"
     "                     have a unit: 512K, 64M, 1G";
 
-#define LEAST_JOURNAL (UINT64_C(4) << 20) /* the default of a small disk */
-#define JOURNAL_DISKS 4                   /* that of others, in disks: a trim takes as long as copying the disk */
+#define LEAST_JOURNAL (UINT64_C(4) << 20)  /* the default of a small disk */
+#define MOST_JOURNAL (UINT64_C(256) << 20) /* and of a large one */
+#define JOURNAL_DISKS 4                    /* that of others, in disks */
+#define LARGEST UINT32_MAX                 /* disk, in sectors */
 
 void settings_begin(struct settings *settings) {
     *settings = (struct settings){.depth = AHCI_MOST_TAGS, .seed = 1, .failures.kind = RULE_FAIL, .slow.kind = RULE_SLOW};
+    mapped_begin(&settings->mapped);
 }
 
 void settings_end(struct settings *settings) {
-    image_end(&settings->image);
+    mapped_end(&settings->mapped);
     free(settings->record);
 }
 
@@ -63,6 +68,18 @@ static int take_sync(const char *text, enum sync *sync) {
     return wrong;
 }
 
+/* A size in bytes, of whole sectors. */
+static int take_size(const char *text, uint32_t *sectors) {
+    uint64_t bytes = 0;
+    const char *end = take_bytes(text, &bytes);
+    if (!end || *end || !bytes || bytes % AHCI_SECTOR_BYTES || bytes / AHCI_SECTOR_BYTES > LARGEST) {
+        say_expected("size", text, "whole sectors of 512 bytes, at most %" PRIu64 " bytes in all, such as 2097152, 64M, 100G or 1T", (uint64_t)LARGEST * AHCI_SECTOR_BYTES);
+        return -1;
+    }
+    *sectors = (uint32_t)(bytes / AHCI_SECTOR_BYTES);
+    return 0;
+}
+
 static int take_path(const char *text, char **path) {
     *path = nbdkit_absolute_path(text);
     return *path ? 0 : -1;
@@ -70,7 +87,9 @@ static int take_path(const char *text, char **path) {
 
 static int take_one(struct settings *settings, const char *key, const char *value) {
     if (!strcmp(key, "sectors"))
-        return option_small(key, value, 1, AHCI_MOST_SECTORS, &settings->sectors);
+        return option_small(key, value, 1, LARGEST, &settings->sectors);
+    if (!strcmp(key, "size"))
+        return take_size(value, &settings->sectors);
     if (!strcmp(key, "depth"))
         return option_small(key, value, 1, AHCI_MOST_TAGS, &settings->depth);
     if (!strcmp(key, "pick"))
@@ -84,7 +103,7 @@ static int take_one(struct settings *settings, const char *key, const char *valu
     if (!strcmp(key, "most-journal"))
         return option_bytes(key, value, &settings->most_journal);
     if (!strcmp(key, "image"))
-        return image_find(&settings->image, value);
+        return image_find(&settings->mapped.image, value);
     if (!strcmp(key, "sync"))
         return take_sync(value, &settings->sync);
     if (!strcmp(key, "record"))
@@ -93,7 +112,7 @@ static int take_one(struct settings *settings, const char *key, const char *valu
 }
 
 int settings_take(struct settings *settings, const char *key, const char *value) {
-    static const char *const keys[] = {"sectors", "depth", "pick", "seed", "together", "delay", "most-journal", "image", "sync", "record", "record-limit"};
+    static const char *const keys[] = {"sectors", "size", "depth", "pick", "seed", "together", "delay", "most-journal", "image", "sync", "record", "record-limit"};
     if (!strcmp(key, "fail"))
         return rules_take(&settings->failures, value);
     if (!strcmp(key, "slow"))
@@ -103,6 +122,10 @@ int settings_take(struct settings *settings, const char *key, const char *value)
             continue;
         if (settings->given >> at & 1) {
             say_of(key, value, "%s= is given twice", key);
+            return -1;
+        }
+        if (at < 2 && settings->sectors) {
+            say_of(key, value, "sectors= and size= are given, and both say how large the disk is");
             return -1;
         }
         settings->given |= UINT32_C(1) << at;
@@ -115,8 +138,10 @@ int settings_take(struct settings *settings, const char *key, const char *value)
 /* Parameters that mean nothing without another one, or that are too small beside it. */
 static int look_at_pairs(const struct settings *settings) {
     uint64_t least = record_least_limit(settings->sectors, WINDOW_SECTORS);
-    if (settings->sync == SYNC_FLUSH && !settings->image.path)
+    if (settings->sync == SYNC_FLUSH && !settings->mapped.image.path)
         say_of("sync", "flush", "there is no image= to write");
+    else if (settings->record && settings->sectors > AHCI_MOST_SECTORS)
+        say_of("record", settings->record, "the disk has %" PRIu32 " sectors, and one with a record %d at most, since no script has a larger disk", settings->sectors, AHCI_MOST_SECTORS);
     else if (settings->record_limit && !settings->record)
         say("record-limit: there is no record=");
     else if (settings->record_limit && settings->record_limit < least)
@@ -127,13 +152,13 @@ static int look_at_pairs(const struct settings *settings) {
 }
 
 int settings_complete(struct settings *settings) {
-    if (image_settle(&settings->image, &settings->sectors) || look_at_pairs(settings))
+    if (mapped_open(&settings->mapped) || image_settle(&settings->mapped.image, &settings->sectors, LARGEST) || look_at_pairs(settings))
         return -1;
     if (settings->together == 0)
         settings->together = settings->pick == PICK_ALL ? AHCI_MOST_TAGS : 1;
     if (settings->most_journal == 0) {
         uint64_t usual = JOURNAL_DISKS * (uint64_t)settings->sectors * AHCI_SECTOR_BYTES;
-        settings->most_journal = usual < LEAST_JOURNAL ? LEAST_JOURNAL : usual;
+        settings->most_journal = usual < LEAST_JOURNAL ? LEAST_JOURNAL : usual > MOST_JOURNAL ? MOST_JOURNAL : usual;
     }
     return rules_complete(&settings->failures, settings->sectors) || rules_complete(&settings->slow, settings->sectors) ? -1 : 0;
 }
