@@ -19,7 +19,7 @@ struct header {
 };
 
 static uint64_t pages_at(uint64_t runs) {
-    return (sizeof(struct header) + runs * sizeof(struct run) + PAGE_BYTES - 1) / PAGE_BYTES * PAGE_BYTES;
+    return (sizeof(struct header) + runs * sizeof(struct page_run) + PAGE_BYTES - 1) / PAGE_BYTES * PAGE_BYTES;
 }
 
 static uint64_t sum_at(const struct journal *journal) {
@@ -106,8 +106,8 @@ static void put_header(struct writer *to, const struct journal *journal, const s
     memcpy(at, &header, sizeof header);
     memcpy(at, magic, sizeof magic);
     for (size_t i = 0; i < changed->count; i++)
-        memcpy(room_for(to, sizeof(struct run)), &changed->runs[i], sizeof(struct run));
-    size_t rest = (size_t)(pages_at(journal->runs) - sizeof header - journal->runs * sizeof(struct run));
+        memcpy(room_for(to, sizeof(struct page_run)), &changed->runs[i], sizeof(struct page_run));
+    size_t rest = (size_t)(pages_at(journal->runs) - sizeof header - journal->runs * sizeof(struct page_run));
     memset(room_for(to, rest), 0, rest);
 }
 
@@ -220,7 +220,7 @@ static int put_into(int image, const uint8_t *bytes, size_t count, uint64_t at) 
 }
 
 /* Copies a run, whose pages are at *from in the journal. The last page of an image may be cut short. */
-static int copy_run(const struct journal *journal, int image, struct run run, uint64_t *from) {
+static int copy_run(const struct journal *journal, int image, struct page_run run, uint64_t *from) {
     uint8_t bytes[CHUNK];
     uint64_t at = (uint64_t)run.first * PAGE_BYTES, end = at + (uint64_t)run.count * PAGE_BYTES;
     for (; at < end; at += CHUNK) {
@@ -236,7 +236,7 @@ static int copy_run(const struct journal *journal, int image, struct run run, ui
 }
 
 static int copy_runs(const struct journal *journal, int image) {
-    struct run runs[RUNS];
+    struct page_run runs[RUNS];
     uint64_t from = pages_at(journal->runs);
     for (uint64_t at = 0; at < journal->runs; at += RUNS) {
         size_t count = journal->runs - at < RUNS ? (size_t)(journal->runs - at) : RUNS;

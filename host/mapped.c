@@ -8,6 +8,7 @@
 #include <inttypes.h>
 #include <limits.h>
 #include <stdio.h>
+#include <stdlib.h>
 #include <string.h>
 #include <sys/file.h>
 #include <sys/mman.h>
@@ -151,6 +152,15 @@ int mapped_map(struct mapped *mapped) {
     if (image->bytes % SECTOR_BYTES)
         say_of("image", image->path, "%" PRIu64 " bytes are no whole sectors; the last one is filled up with zeros", image->bytes);
     return 0;
+}
+
+uint8_t *mapped_copy(const struct mapped *mapped, uint32_t sectors) {
+    uint8_t *bytes = calloc(sectors, SECTOR_BYTES);
+    if (!bytes)
+        say("there is no memory for a disk of %" PRIu32 " sectors", sectors);
+    else if (mapped->length)
+        memcpy(bytes, mapped->bytes, mapped->length);
+    return bytes;
 }
 
 /* ---- writing back ---- */

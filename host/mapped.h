@@ -1,5 +1,5 @@
-/* An image that a disk is made over: the file is mapped, never read whole, and the pages that were written are written back into it, under a journal. So
-   a kill at any moment leaves the sectors of the last write-back or of the one before it. */
+/* The image of a disk: the file is mapped, and the pages that were written are written back into it, under a journal. A large disk is made over the mapping, so that
+   the file is never read whole. A kill at any moment leaves the sectors of the last write-back or of the one before it. */
 #ifndef AHCI_HOST_MAPPED_H
 #define AHCI_HOST_MAPPED_H
 
@@ -29,6 +29,9 @@ int mapped_open(struct mapped *mapped);
 
 /* Maps the image. */
 int mapped_map(struct mapped *mapped);
+
+/* All sectors of a small disk: those of the image, and zeros after them. The caller frees them. NULL once it has printed that there is no memory. */
+uint8_t *mapped_copy(const struct mapped *mapped, uint32_t sectors);
 
 /* Makes room for so many calls of mapped_wrote. It returns false if there is no memory. */
 bool mapped_reserve(struct mapped *mapped, size_t writes);

@@ -4,12 +4,12 @@
 
 #define LEAST_ROOM 64 /* runs */
 
-static uint32_t end_of(const struct run *run) {
+static uint32_t end_of(const struct page_run *run) {
     return run->first + run->count;
 }
 
 /* Takes a run into another one that it overlaps or touches. It returns false if it does neither. */
-static bool is_joined(struct run *to, struct run it) {
+static bool is_joined(struct page_run *to, struct page_run it) {
     if (it.first > end_of(to) || to->first > end_of(&it))
         return false;
     uint32_t end = end_of(to) > end_of(&it) ? end_of(to) : end_of(&it);
@@ -19,7 +19,7 @@ static bool is_joined(struct run *to, struct run it) {
 }
 
 static int by_first(const void *a, const void *b) {
-    uint32_t left = ((const struct run *)a)->first, right = ((const struct run *)b)->first;
+    uint32_t left = ((const struct page_run *)a)->first, right = ((const struct page_run *)b)->first;
     return (left > right) - (left < right);
 }
 
@@ -47,7 +47,7 @@ bool pages_reserve(struct pages *pages, size_t more) {
         wanted = LEAST_ROOM;
     if (wanted <= pages->room)
         return true;
-    struct run *grown = realloc(pages->runs, wanted * sizeof *grown);
+    struct page_run *grown = realloc(pages->runs, wanted * sizeof *grown);
     if (!grown)
         return pages->room - pages->count >= more;
     pages->runs = grown;
@@ -57,9 +57,14 @@ bool pages_reserve(struct pages *pages, size_t more) {
 
 void pages_add(struct pages *pages, uint32_t lba, uint32_t sectors) {
     uint32_t first = lba / PAGE_SECTORS, last = (uint32_t)(((uint64_t)lba + sectors - 1) / PAGE_SECTORS);
-    const struct run it = {.first = first, .count = last - first + 1};
+    const struct page_run it = {.first = first, .count = last - first + 1};
     if (!pages->count || !is_joined(&pages->runs[pages->count - 1], it))
         pages->runs[pages->count++] = it;
+}
+
+void pages_append(struct pages *pages, const struct pages *others) {
+    for (size_t at = 0; at < others->count; at++)
+        pages->runs[pages->count++] = others->runs[at];
 }
 
 void pages_clear(struct pages *pages) {

@@ -11,12 +11,12 @@
 #define PAGE_SECTORS 8
 #define PAGE_BYTES (PAGE_SECTORS * SECTOR_BYTES)
 
-struct run {
+struct page_run {
     uint32_t first, count; /* pages */
 };
 
 struct pages {
-    struct run *runs; /* in the order of the writes, until pages_settle */
+    struct page_run *runs; /* in the order of the writes, until pages_settle */
     size_t count, room;
 };
 
@@ -25,6 +25,9 @@ bool pages_reserve(struct pages *pages, size_t more);
 
 /* Adds the pages of some sectors, at least one. Room was made. */
 void pages_add(struct pages *pages, uint32_t lba, uint32_t sectors);
+
+/* Adds the runs of others. Room was made for as many calls of pages_add. */
+void pages_append(struct pages *pages, const struct pages *others);
 
 /* Sorts the runs, and merges those that overlap or touch. It returns how many pages they have. */
 uint64_t pages_settle(struct pages *pages);

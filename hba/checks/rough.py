@@ -214,19 +214,19 @@ def killed_guest(room: str) -> str:
 
 
 def unkept(room: str) -> str:
-    """If the image can't be written at a flush, the flush fails, and Linux says so to who asked for it. FILE.new of somebody else is not touched, and
-    no later server starts beside it."""
+    """If the image can't be written at a flush, the flush fails, and Linux says so to who asked for it. A file of somebody else in the
+    journal's place is not touched, and no later server starts beside it."""
     image = blank(room, 2048)
-    before, new = contents(image), f"{image}.new"
+    before, new = contents(image), f"{image}.journal.new"
     guest = Guest(room, ["--image", image], linux(room, "keep"))
     guest.wait_for(".", 60)
     with open(new, "w", encoding="ascii") as file:
         file.write("kept")
-    guest.end(240, status=1, said=f"(ahci-hba: --image {re.escape(image)}: it can't be written back: {re.escape(new)}: File exists; it is as it was\n)+")
+    guest.end(240, status=1, said=f"(ahci-hba: --image {re.escape(image)}: it can't be written back: {re.escape(new)}: File exists; [0-9]+ pages have changed, and it is as it was\n)+")
     expect(guest.told()["flush"] == "wrong", "Linux takes the write for kept")
     expect(contents(image) == before and contents(new) == b"kept", "the image has changed though it could not be written, or what was beside it")
     done = program("run", "--image", image, "--", "true")
-    expect(done.returncode == 1 and f"{new} is left by a server" in done.stderr, f"it starts beside {new}: {done.stderr}")
+    expect(done.returncode == 1 and f"{new} is in the way" in done.stderr, f"it starts beside {new}: {done.stderr}")
     return "Linux sees the error"
 
 

@@ -11,7 +11,7 @@ import time
 from typing import List, Tuple
 
 import pace
-from image_checks import MIB, contents, limited, made, small_room
+from files import MIB, contents, limited, made, small_room
 from probe import PROBE, SECONDS, Probe, probed
 from suite import Check, Failed, expect
 
@@ -60,7 +60,7 @@ def runs(_: str) -> str:
 
 def sizes_of_mapped(room: str) -> str:
     """The disk has as many sectors as were asked for, or as the image has; a last sector that is cut short is filled with zeros; the file grows to the
-    disk's size at the first write-back; more sectors than the disk has, and none, are refused."""
+    disk's size at the first write-back; more sectors than the disk has, none, and files that are no image are refused."""
     image = os.path.join(room, "disk")
     data = made(image, 300_000)
     found = probed(["mapped", image, "0"], ["show 585", line((0, 1, 0x77))])
@@ -77,7 +77,9 @@ def sizes_of_mapped(room: str) -> str:
             file.truncate(size)
         found = probed(["mapped", image, str(sectors)], [], status=1)
         expect(found == [f"said --image {image}: {says}"], f"{found}")
-    return "6 images"
+    for path, says in ((f"{room}/none", "No such file or directory"), (room, "this is no regular file"), ("/dev/null", "this is no regular file")):
+        expect(probed(["mapped", path, "0"], [], status=1) == [f"said --image {path}: {says}"], path)
+    return "9 images"
 
 
 def in_place(room: str) -> str:
@@ -137,13 +139,11 @@ def left(image: str, data: bytes, byte: int) -> bytes:
 
 def a_left_journal(room: str) -> str:
     """A whole journal is applied at the start. One that is cut off anywhere, or has a wrong byte anywhere, is removed instead. One of an image of another
-    size is refused, and stays; so it is refused by the controller's program."""
+    size is refused, and stays."""
     image = os.path.join(room, "disk")
     data = made(image, 2 * MIB)
     wanted = left(image, data, 5)
     half, journal = contents(image), contents(f"{image}.journal")
-    refused = probed(["image", image, "0"], [], status=1)
-    expect(len(refused) == 1 and f"{image}.journal is left by a block device" in refused[0], f"{refused}")
     draw = random.Random(8)
     torn = [journal[:at] for at in (0, 1, 7, 8, 63, 64, 65, 4096, len(journal) - 9, len(journal) - 1)] + [journal + b"\0", bytes(len(journal))]
     for at in (8, 20, 30, 38, 64, 70, 4096, 8000, len(journal) - 1, *(draw.randrange(64, len(journal)) for _ in range(20))):

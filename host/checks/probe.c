@@ -3,12 +3,10 @@
      probe numbers                      lines "KIND TEXT": what the parser of that kind makes of it
      probe rules KIND SECTORS RULE..    lines "LBA COUNT r|w NUMBER MICROSECONDS": which rule applies to that command
      probe draws SEED COUNT             numbers of the generator
-     probe image FILE SECTORS           lines "write LBA BYTE", "save", "show LBA"; it is saved at the end
      probe pages                        lines "add LBA COUNT", "settle"
      probe mapped FILE SECTORS          lines "fill LBA COUNT BYTE", "save", "show LBA"; it is saved at the end
      probe record FOLDER LIMIT SECTORS  lines of the record, see `record_line` */
 #include "generator.h"
-#include "image.h"
 #include "mapped.h"
 #include "options.h"
 #include "record.h"
@@ -109,31 +107,6 @@ static int draws(char **words) {
 
 /* ---- the image ---- */
 
-static int try_image(char **words) {
-    static struct image image;
-    char line[256];
-    uint32_t sectors = (uint32_t)strtoul(words[1], NULL, 10), lba, byte;
-    if (image_find(&image, words[0]) || image_settle(&image, &sectors, MOST_SECTORS) || !(bytes = image_read(&image, sectors)))
-        return 1;
-    disk = (struct disk){.sectors = sectors, .copy = copy};
-    printf("disk %" PRIu32 "\n", sectors);
-    while (line_of(line, sizeof line)) {
-        if (sscanf(line, "write %" SCNu32 " %" SCNx32, &lba, &byte) == 2) {
-            memset(bytes + (size_t)lba * SECTOR_BYTES, (int)byte, SECTOR_BYTES);
-            image.is_changed = true;
-        } else if (sscanf(line, "show %" SCNu32, &lba) == 1)
-            printf("%02x\n", bytes[(size_t)lba * SECTOR_BYTES]);
-        else
-            printf("saved %d\n", image_write(&image, &disk));
-    }
-    int why = image_write(&image, &disk);
-    image_end(&image);
-    free(bytes);
-    return why ? 2 : 0;
-}
-
-/* ---- the image that is mapped ---- */
-
 static int try_pages(void) {
     static struct pages pages;
     char line[256];
@@ -175,11 +148,9 @@ static int try_mapped(char **words) {
         mapped_end(&mapped);
         return 1;
     }
-    bytes = calloc(sectors, SECTOR_BYTES);
+    bytes = mapped_copy(&mapped, sectors);
     if (!bytes)
         return 1;
-    if (mapped.length)
-        memcpy(bytes, mapped.bytes, mapped.length);
     disk = (struct disk){.sectors = sectors, .copy = copy};
     printf("disk %" PRIu32 "\n", sectors);
     while (line_of(line, sizeof line))
@@ -289,8 +260,6 @@ int main(int count, char **words) {
         return try_rules(words + 2);
     if (count == 4 && !strcmp(what, "draws"))
         return draws(words + 2);
-    if (count == 4 && !strcmp(what, "image"))
-        return try_image(words + 2);
     if (!strcmp(what, "pages"))
         return try_pages();
     if (count == 4 && !strcmp(what, "mapped"))
