@@ -80,16 +80,23 @@ static int take_size(const char *text, uint32_t *sectors) {
     return 0;
 }
 
+/* sectors= or size=. */
+static int take_sectors(const char *key, const char *value, uint32_t *sectors) {
+    if (*sectors) {
+        say_of(key, value, "sectors= and size= are given, and both say how large the disk is");
+        return -1;
+    }
+    return strcmp(key, "size") ? option_small(key, value, 1, LARGEST, sectors) : take_size(value, sectors);
+}
+
 static int take_path(const char *text, char **path) {
     *path = nbdkit_absolute_path(text);
     return *path ? 0 : -1;
 }
 
 static int take_one(struct settings *settings, const char *key, const char *value) {
-    if (!strcmp(key, "sectors"))
-        return option_small(key, value, 1, LARGEST, &settings->sectors);
-    if (!strcmp(key, "size"))
-        return take_size(value, &settings->sectors);
+    if (!strcmp(key, "sectors") || !strcmp(key, "size"))
+        return take_sectors(key, value, &settings->sectors);
     if (!strcmp(key, "depth"))
         return option_small(key, value, 1, AHCI_MOST_TAGS, &settings->depth);
     if (!strcmp(key, "pick"))
@@ -122,10 +129,6 @@ int settings_take(struct settings *settings, const char *key, const char *value)
             continue;
         if (settings->given >> at & 1) {
             say_of(key, value, "%s= is given twice", key);
-            return -1;
-        }
-        if (at < 2 && settings->sectors) {
-            say_of(key, value, "sectors= and size= are given, and both say how large the disk is");
             return -1;
         }
         settings->given |= UINT32_C(1) << at;
