@@ -153,16 +153,18 @@ static int take_over(const char *image, int file) {
     return fchmod(file, old.st_mode & 07777);
 }
 
-void image_sync_folder(const char *path) {
+int image_sync_folder(const char *path) {
     char folder[PATH_MAX];
     const char *slash = strrchr(path, '/');
     snprintf(folder, sizeof folder, "%.*s", slash && slash != path ? (int)(slash - path) : 1, slash ? path : ".");
     int file = open(folder, O_RDONLY | O_DIRECTORY | O_CLOEXEC);
     if (file < 0)
-        return;
-    if (fsync(file))
-        say("%s: %m", folder);
+        return 0;
+    int why = fsync(file) && errno != EINVAL ? errno : 0;
+    if (why)
+        say("%s: %s", folder, strerror(why));
     close(file);
+    return why;
 }
 
 /* Writes FILE.new. One that an earlier write-back has not left is somebody else's, and is not overwritten. */

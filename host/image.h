@@ -31,8 +31,9 @@ int image_write(struct image *image, const struct disk *disk);
 /* -1 once it has printed that FILE.new is there. */
 int image_look_for_new(const struct image *image);
 
-/* Makes sure that what was done to names in the folder of a path is on the disk: without it a power failure could take it back. */
-void image_sync_folder(const char *path);
+/* Makes sure that what was done to names in the folder of a path is on the disk: without it a power failure could take it back. It returns 0, or an errno
+   once it has printed it; a folder that may not be read, or whose file system doesn't do that, is no error. */
+int image_sync_folder(const char *path);
 
 void image_end(struct image *image);
 
