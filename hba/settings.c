@@ -79,7 +79,7 @@ static const char help[] =
     "      --version                Writes the version\n"
     "\n"
     "Status: 0 if the guest's program ended with 0 and all was written; 1 if it did not, or if the image, the record or the log\n"
-    "could not be written; 2 if the command line is wrong; 3 if all went well but the driver broke a rule that the standard has.\n";
+    "could not be written; 2 if the command line is wrong, or the image can't be served; 3 if all went well but the driver broke a rule that the standard has.\n";
 
 #define MOST_HOLD 1000000u /* microseconds */
 #define MOST_SLOW_READS 1000000
@@ -209,8 +209,6 @@ static int take_option(struct settings *settings, const char *word, const char *
 /* Options that mean nothing without another one, or that are too small beside it. */
 static int look_at_pairs(const struct settings *settings) {
     uint64_t least = record_least_limit(settings->sectors, AHCI_MOST_COUNT);
-    if (record_suits(settings->record, settings->sectors))
-        return -1;
     if (settings->record_limit && !settings->record)
         say("--record-limit: there is no --record");
     else if (settings->record_limit && settings->record_limit < least)
@@ -237,7 +235,7 @@ static int look_at_command(const struct settings *settings) {
 static int settle(struct settings *settings) {
     if (look_at_command(settings))
         return -1;
-    if (mapped_open(&settings->mapped) || image_settle(&settings->mapped.image, &settings->sectors, LARGEST_DISK) || look_at_pairs(settings))
+    if (mapped_open(&settings->mapped) || image_settle(&settings->mapped.image, &settings->sectors, LARGEST_DISK) || record_suits(settings->record, settings->sectors) || look_at_pairs(settings))
         return -1;
     if (settings->most_journal == 0)
         settings->most_journal = usual_journal(settings->sectors);

@@ -57,14 +57,16 @@ int image_look_for_new(const struct image *image) {
     return -1;
 }
 
-void image_sync_folder(const char *path) {
+int image_sync_folder(const char *path) {
     char folder[PATH_MAX];
     const char *slash = strrchr(path, '/');
     snprintf(folder, sizeof folder, "%.*s", slash && slash != path ? (int)(slash - path) : 1, slash ? path : ".");
     int file = open(folder, O_RDONLY | O_DIRECTORY | O_CLOEXEC);
     if (file < 0)
-        return;
-    if (fsync(file))
-        say("%s: %m", folder);
+        return 0;
+    int why = fsync(file) && errno != EINVAL ? errno : 0;
+    if (why)
+        say("%s: %s", folder, strerror(why));
     close(file);
+    return why;
 }

@@ -20,8 +20,9 @@ int image_settle(const struct image *image, uint32_t *sectors, uint32_t most);
 /* -1 once it has printed that FILE.new is there: it may have sectors that are nowhere else. */
 int image_look_for_new(const struct image *image);
 
-/* Makes sure that what was done to names in the folder of a path is on the disk: without it a power failure could take it back. */
-void image_sync_folder(const char *path);
+/* Makes sure that what was done to names in the folder of a path is on the disk: without it a power failure could take it back. It returns 0, or an errno
+   once it has printed it; a folder that may not be read, or whose file system doesn't do that, is no error. */
+int image_sync_folder(const char *path);
 
 void image_end(struct image *image);
 

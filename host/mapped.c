@@ -210,9 +210,9 @@ static int write_journal(struct mapped *mapped, const struct disk *disk, const s
     snprintf(of, sizeof of, "%s: ", names->next);
     if (why)
         return say_unwritten(mapped, pages, of, why);
-    image_sync_folder(mapped->image.path);
     mapped->has_journal = true;
-    return 0;
+    why = image_sync_folder(mapped->image.path);
+    return why ? say_left(mapped, pages, names->journal, strerror(why)) : 0;
 }
 
 /* Writes the journal's pages into the image, and removes the journal. */
@@ -251,9 +251,8 @@ int mapped_write(struct mapped *mapped, const struct disk *disk) {
         return EIO;
     }
     int why = write_journal(mapped, disk, &names, &journal, pages);
-    if (why)
-        return why;
-    why = write_pages(mapped, &names, &journal);
+    if (!why)
+        why = write_pages(mapped, &names, &journal);
     journal_close(&journal);
     return why;
 }

@@ -283,10 +283,9 @@ static uint32_t make_whole(ahci_port *port, const struct settings *settings) {
     size_t size = (size_t)settings->sectors * AHCI_SECTOR_BYTES;
     if (!mapped->length)
         return ahci_port_new_zeros(port, settings->sectors, settings->depth);
-    uint8_t *bytes = calloc(1, size);
+    uint8_t *bytes = mapped_copy(mapped, settings->sectors);
     if (!bytes)
         return AHCI_OUT_OF_MEMORY;
-    memcpy(bytes, mapped->bytes, mapped->length);
     uint32_t status = ahci_port_new(port, bytes, size, settings->depth);
     free(bytes);
     return status;

@@ -37,10 +37,6 @@ const char settings_help[] =
     "record-limit=BYTES   the oldest half of the record is dropped so that it has no more bytes. BYTES may\n"
     "                     have a unit: 512K, 64M, 1G";
 
-#define LEAST_JOURNAL (UINT64_C(4) << 20)  /* the default of a small disk */
-#define MOST_JOURNAL (UINT64_C(256) << 20) /* and of a large one */
-#define JOURNAL_DISKS 4                    /* that of others, in disks */
-#define LARGEST UINT32_MAX                 /* disk, in sectors */
 
 void settings_begin(struct settings *settings) {
     *settings = (struct settings){.depth = AHCI_MOST_TAGS, .seed = 1, .failures.kind = RULE_FAIL, .slow.kind = RULE_SLOW};
@@ -68,16 +64,13 @@ static int take_sync(const char *text, enum sync *sync) {
     return wrong;
 }
 
-/* A size in bytes, of whole sectors. */
-static int take_size(const char *text, uint32_t *sectors) {
-    uint64_t bytes = 0;
-    const char *end = take_bytes(text, &bytes);
-    if (!end || *end || !bytes || bytes % AHCI_SECTOR_BYTES || bytes / AHCI_SECTOR_BYTES > LARGEST) {
-        say_expected("size", text, "whole sectors of 512 bytes, at most %" PRIu64 " bytes in all, such as 2097152, 64M, 100G or 1T", (uint64_t)LARGEST * AHCI_SECTOR_BYTES);
+/* sectors= or size=. */
+static int take_sectors(const char *key, const char *value, uint32_t *sectors) {
+    if (*sectors) {
+        say_of(key, value, "sectors= and size= are given, and both say how large the disk is");
         return -1;
     }
-    *sectors = (uint32_t)(bytes / AHCI_SECTOR_BYTES);
-    return 0;
+    return strcmp(key, "size") ? option_small(key, value, 1, LARGEST_DISK, sectors) : option_size(key, value, sectors);
 }
 
 static int take_path(const char *text, char **path) {
@@ -86,10 +79,8 @@ static int take_path(const char *text, char **path) {
 }
 
 static int take_one(struct settings *settings, const char *key, const char *value) {
-    if (!strcmp(key, "sectors"))
-        return option_small(key, value, 1, LARGEST, &settings->sectors);
-    if (!strcmp(key, "size"))
-        return take_size(value, &settings->sectors);
+    if (!strcmp(key, "sectors") || !strcmp(key, "size"))
+        return take_sectors(key, value, &settings->sectors);
     if (!strcmp(key, "depth"))
         return option_small(key, value, 1, AHCI_MOST_TAGS, &settings->depth);
     if (!strcmp(key, "pick"))
@@ -124,10 +115,6 @@ int settings_take(struct settings *settings, const char *key, const char *value)
             say_of(key, value, "%s= is given twice", key);
             return -1;
         }
-        if (at < 2 && settings->sectors) {
-            say_of(key, value, "sectors= and size= are given, and both say how large the disk is");
-            return -1;
-        }
         settings->given |= UINT32_C(1) << at;
         return take_one(settings, key, value);
     }
@@ -140,8 +127,6 @@ static int look_at_pairs(const struct settings *settings) {
     uint64_t least = record_least_limit(settings->sectors, WINDOW_SECTORS);
     if (settings->sync == SYNC_FLUSH && !settings->mapped.image.path)
         say_of("sync", "flush", "there is no image= to write");
-    else if (settings->record && settings->sectors > AHCI_MOST_SECTORS)
-        say_of("record", settings->record, "the disk has %" PRIu32 " sectors, and one with a record %d at most, since no script has a larger disk", settings->sectors, AHCI_MOST_SECTORS);
     else if (settings->record_limit && !settings->record)
         say("record-limit: there is no record=");
     else if (settings->record_limit && settings->record_limit < least)
@@ -152,14 +137,12 @@ static int look_at_pairs(const struct settings *settings) {
 }
 
 int settings_complete(struct settings *settings) {
-    if (mapped_open(&settings->mapped) || image_settle(&settings->mapped.image, &settings->sectors, LARGEST) || look_at_pairs(settings))
+    if (mapped_open(&settings->mapped) || image_settle(&settings->mapped.image, &settings->sectors, LARGEST_DISK) || record_suits(settings->record, settings->sectors) || look_at_pairs(settings))
         return -1;
     if (settings->together == 0)
         settings->together = settings->pick == PICK_ALL ? AHCI_MOST_TAGS : 1;
-    if (settings->most_journal == 0) {
-        uint64_t usual = JOURNAL_DISKS * (uint64_t)settings->sectors * AHCI_SECTOR_BYTES;
-        settings->most_journal = usual < LEAST_JOURNAL ? LEAST_JOURNAL : usual > MOST_JOURNAL ? MOST_JOURNAL : usual;
-    }
+    if (settings->most_journal == 0)
+        settings->most_journal = usual_journal(settings->sectors);
     return rules_complete(&settings->failures, settings->sectors) || rules_complete(&settings->slow, settings->sectors) ? -1 : 0;
 }
 

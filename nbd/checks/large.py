@@ -2,9 +2,11 @@
 from __future__ import annotations
 
 import os
+import re
+import resource
 import time
 
-from harness import MIB, Check, Failed, counted, fio, must_be_clean, ran, serving, told
+from harness import MIB, PLUGIN, Check, Failed, Server, counted, fio, must_be_clean, ran, serving, told, tool
 from systems import fused
 
 GIB = 1 << 30
@@ -52,6 +54,30 @@ def both_ends(room: str) -> str:
     return told(server)
 
 
+def no_memory(room: str) -> str:
+    """A write for whose pages there is no memory fails, and is not stored in part; others go on, and what is stored is read."""
+    server = Server(room, PLUGIN, ["size=1T", "most-journal=4M"])
+    try:
+        with open(f"/proc/{server.process.pid}/status", encoding="ascii") as text:
+            size = next(int(it.split()[1]) * 1024 for it in text if it.startswith("VmSize:"))
+        most = size + 32 * 8 * MIB + 200 * MIB  # with the stacks of nbdkit's threads
+        resource.prlimit(server.process.pid, resource.RLIMIT_AS, (most, most))
+        words = [word for at in range(600) for word in ("-c", f"write -P {at % 255 + 1} {at}G 1M")]
+        said = tool(["qemu-io", "-f", "raw", *words, server.uri]).stdout
+        stored = [int(it) >> 30 for it in re.findall(r"wrote 1048576/1048576 bytes at offset (\d+)", said)]
+        if "Cannot allocate memory" not in said or not 20 < len(stored) < 600:
+            raise Failed(f"{len(stored)} writes were done: {said[-500:]}")
+        words = [word for at in range(600) for word in ("-c", f"read -P {at % 255 + 1 if at in stored else 0} {at}G 1M")]
+        said = tool(["qemu-io", "-f", "raw", *words, server.uri]).stdout
+        if said.count("read 1048576/1048576") != 600 or "Pattern verification failed" in said:
+            raise Failed(f"{said.count('read 1048576/1048576')} reads were done, and what was stored is not what is read")
+    finally:
+        server.stop()
+    if server.process.returncode:
+        raise Failed(f"status {server.process.returncode}: {server.said()}")
+    return f"{len(stored)} of 600 MiB were stored; {told(server)}"
+
+
 def flat(room: str) -> str:
     """The same work on disks of 64 MiB to 1 TiB over sparse images, with sixteen trims and flushes of 4 MiB: its times are printed, and its memory doesn't grow with the disk."""
     times, memory = [], []
@@ -73,4 +99,4 @@ def flat(room: str) -> str:
     return "; ".join(times)
 
 
-CHECKS = [Check(a_terabyte, ["fio", "mkfs.ext4", "e2fsck", "nbdfuse"]), Check(both_ends, ["qemu-io"]), Check(flat, ["qemu-io"])]
+CHECKS = [Check(a_terabyte, ["fio", "mkfs.ext4", "e2fsck", "nbdfuse"]), Check(both_ends, ["qemu-io"]), Check(no_memory, ["qemu-io"]), Check(flat, ["qemu-io"])]
