@@ -2,7 +2,6 @@
 
 #include "fate.h"
 #include "generator.h"
-#include "image.h"
 #include "log.h"
 #include "moving.h"
 #include "say.h"
@@ -118,12 +117,16 @@ static void note_step(struct device *device, uint32_t slot, uint8_t kind) {
         judge_fetch(&device->judge, slot);
     }
     if (kind == AHCI_STEP_SERVE && task->command.writes)
-        device->settings->image.is_changed = true;
+        mapped_wrote(&device->settings->mapped, (uint32_t)task->command.lba, task->command.sectors);
 }
 
 static void take_step(struct device *device, uint32_t slot) {
     uint8_t kind = device->state.next[slot];
     uint64_t entries = 0;
+    if (kind == AHCI_STEP_SERVE && !writeback_reserve(&device->writeback)) {
+        device_starve(device);
+        return;
+    }
     if (is_answer(kind))
         judge_answer(&device->judge, slot);
     uint32_t status = ahci_hba_step(&device->hba, slot, &entries);
@@ -292,9 +295,13 @@ void device_reset(struct device *device) {
 
 /* ---- the image, and what threads do ---- */
 
+bool device_can_save(struct device *device) {
+    return !device->is_over || history_trim(device);
+}
+
 void device_save(struct device *device) {
     struct writeback *writeback = &device->writeback;
-    if (!device->settings->image.path || !device->settings->image.is_changed || writeback->state != WRITEBACK_NONE || !writeback_start(writeback))
+    if (!mapped_is_changed(&device->settings->mapped) || writeback->state != WRITEBACK_NONE || !device_can_save(device) || !writeback_start(writeback))
         return;
     while (writeback->state == WRITEBACK_COPIES)
         writeback_copy(writeback);
@@ -329,14 +336,28 @@ static void copy_sector(void *hba, uint32_t lba, uint8_t *sector) {
     device_must("ahci_hba_copy", ahci_hba_copy(hba, lba, sector, AHCI_SECTOR_BYTES));
 }
 
-static int make(struct device *device) {
-    const struct settings *settings = device->settings;
-    uint8_t *bytes = image_read(&settings->image, settings->sectors);
+static uint32_t make_over(ahci_hba *hba, const struct settings *settings) {
+    static const uint8_t zero;
+    const struct mapped *mapped = &settings->mapped;
+    return ahci_hba_over(hba, mapped->length ? mapped->bytes : &zero, mapped->length, settings->sectors, settings->depth, &settings->capabilities);
+}
+
+static uint32_t make_whole(ahci_hba *hba, const struct settings *settings) {
+    uint8_t *bytes = mapped_copy(&settings->mapped, settings->sectors);
     if (!bytes)
-        return -1;
-    const size_t size = (size_t)settings->sectors * AHCI_SECTOR_BYTES;
-    uint32_t status = ahci_hba_new_with(&device->hba, bytes, size, settings->depth, &settings->capabilities);
+        return AHCI_OUT_OF_MEMORY;
+    uint32_t status = ahci_hba_new_with(hba, bytes, (size_t)settings->sectors * AHCI_SECTOR_BYTES, settings->depth, &settings->capabilities);
     free(bytes);
+    return status;
+}
+
+/* A small disk is in memory, since writes are faster there; the others are over the image. */
+static int make(struct device *device) {
+    struct settings *settings = device->settings;
+    if (mapped_map(&settings->mapped))
+        return -1;
+    device->is_over = settings->sectors > AHCI_MOST_SECTORS;
+    uint32_t status = device->is_over ? make_over(&device->hba, settings) : make_whole(&device->hba, settings);
     if (status == AHCI_OK)
         return 0;
     say("the controller can't be made: status %" PRIu32 " of ahci.h", status);
@@ -354,14 +375,14 @@ int device_begin(struct device *device, struct settings *settings, struct memory
         return -1;
     }
     judge_begin(&device->judge, settings, memory);
-    writeback_begin(&device->writeback, &settings->image, &device->disk);
+    writeback_begin(&device->writeback, &settings->mapped, &device->disk);
     device_look(device);
     return 0;
 }
 
 int device_end(struct device *device, int *broken) {
     writeback_end(&device->writeback);
-    int failed = image_write(&device->settings->image, &device->disk) ? -1 : 0;
+    int failed = mapped_write(&device->settings->mapped, &device->disk) ? -1 : 0;
     if (history_end(&device->history))
         failed = -1;
     *broken = judge_end(&device->judge);

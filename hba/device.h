@@ -37,6 +37,7 @@ struct device {
     ahci_hba hba;
     ahci_hba_state state;  /* what the controller does next */
     struct disk disk;      /* its sectors, for the image and the record */
+    bool is_over;          /* the disk is over the image, and not in memory as a whole */
     struct history history;
     struct judge judge;
     struct slow slow;
@@ -97,6 +98,10 @@ uint64_t device_now(void);
 
 /* Ends the program after a status that can't come: it and the library disagree. */
 void device_must(const char *call, uint32_t status);
+
+/* Makes sure that the library reads no page from the image that was written since the start, so that the pages can be written back into it: a disk over an
+   image keeps them once the queue's journal is trimmed. It returns false if the queue has a request. */
+bool device_can_save(struct device *device);
 
 /* Looks at what the controller does next. */
 void device_look(struct device *device);

@@ -88,11 +88,13 @@ static bool fails_by_rule(struct device *device, uint32_t slot) {
 /* Begins a write-back for a flush, or writes by itself if there is no memory for that. It returns false if the flush can go on. */
 static bool begin_write(struct device *device, uint32_t slot) {
     log_flush();
+    if (!device_can_save(device))
+        return false; /* the device aborts it, since a queued command is outstanding */
     if (writeback_start(&device->writeback)) {
         device->flushing = device->covered = UINT32_C(1) << slot;
         return true;
     }
-    if (!image_write(&device->settings->image, &device->disk))
+    if (!mapped_write(&device->settings->mapped, &device->disk))
         return false;
     aborts(device, slot); /* without memory it is written again first, which may succeed */
     return true;
@@ -102,7 +104,7 @@ static bool begin_write(struct device *device, uint32_t slot) {
 static bool wait_for_write(struct device *device, uint32_t slot) {
     uint32_t bit = UINT32_C(1) << slot;
     device->flushing |= bit;
-    if (!device->settings->image.is_changed)
+    if (!mapped_is_changed(&device->settings->mapped))
         device->covered |= bit;
     return true;
 }
@@ -112,7 +114,7 @@ static bool wait_for_write(struct device *device, uint32_t slot) {
 static bool holds_flush(struct device *device, uint32_t slot) {
     const struct settings *settings = device->settings;
     const struct task *task = &device->tasks[slot];
-    if (settings->sync != SYNC_FLUSH || !settings->image.path || device->state.next[slot] != AHCI_STEP_EXECUTE || !task->command.flushes || task->kept == KEPT)
+    if (settings->sync != SYNC_FLUSH || device->state.next[slot] != AHCI_STEP_EXECUTE || !task->command.flushes || task->kept == KEPT)
         return false;
     if (task->kept == KEPT_NOT) {
         aborts(device, slot);
@@ -120,7 +122,7 @@ static bool holds_flush(struct device *device, uint32_t slot) {
     }
     if (device->writeback.state != WRITEBACK_NONE)
         return wait_for_write(device, slot);
-    return settings->image.is_changed && begin_write(device, slot);
+    return mapped_is_changed(&settings->mapped) && begin_write(device, slot);
 }
 
 /* Aborts a command that reads the log of a failed queued one, if --refuse-log says so. */

@@ -144,11 +144,15 @@ static bool is_idle(struct device *device) {
     return true;
 }
 
-static void trim(struct device *device) {
+bool history_trim(struct device *device) {
     uint64_t entries = 0;
-    device_must("ahci_hba_trim", ahci_hba_trim(&device->hba, &entries));
+    uint32_t status = ahci_hba_trim(&device->hba, &entries);
+    if (status == AHCI_BUSY)
+        return false;
+    device_must("ahci_hba_trim", status);
     put_tag(&device->history, RECORD_TRIM, 0);
     device->history.bytes = 0;
+    return true;
 }
 
 bool history_settle(struct device *device) {
@@ -160,7 +164,7 @@ bool history_settle(struct device *device) {
     if ((!is_large(device) && !is_part_full) || !is_idle(device))
         return true;
     if (is_large(device))
-        trim(device);
+        history_trim(device);
     if (is_part_full && !scribe_next_part(scribe, &device->disk))
         device_starve(device);
     return !is_part_full;

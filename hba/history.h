@@ -32,6 +32,9 @@ void history_follow(struct device *device, uint64_t entries, bool has_recovered)
 /* Whether commands have to wait that are to be sent to the queue: `sends` are their slots. */
 bool history_drains(const struct device *device, uint32_t sends);
 
+/* Trims the journal. It returns false if the queue has a request. */
+bool history_trim(struct device *device);
+
 /* Trims the journal, or begins the record's next part, if that is due and the queue has no request. It returns false if the device takes no step before the
    part has begun. */
 bool history_settle(struct device *device);

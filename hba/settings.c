@@ -33,8 +33,9 @@ static const char help[] =
     "                               By vfio-user an interrupt message waits so long at most, so that a driver takes several answers by one;\n"
     "                               it is sent before if the device is idle, and no command came for GAP microseconds, or COUNT\n"
     "                               came (default 2000:300:16; 0, no wait, with --judge and without vfio-user)\n"
-    "      --sectors N              The disk's sectors of 512 bytes, 1 to 131072 (default: those of the image, or 131072)\n"
-    "      --image FILE             The sectors at the start. They are written back to FILE\n"
+    "      --sectors N              The disk's sectors of 512 bytes, 1 to 4294967295 (default: those of the image, or 131072)\n"
+    "      --size BYTES             The same in bytes, such as 2G or 1T\n"
+    "      --image FILE             The sectors at the start. Those that are written are written back to FILE\n"
     "      --sync WHEN              When the image is written back: at each flush of the guest, before that is answered, and at the\n"
     "                               end (flush), or only then (end) (default flush)\n"
     "      --depth N                The queue depth that IDENTIFY DEVICE reports, 1 to 32 (default 32). Queued commands whose tag is\n"
@@ -62,10 +63,10 @@ static const char help[] =
     "      --delay MICROSECONDS[+JITTER]\n"
     "                               The device waits so long before it answers a command, and up to JITTER more (default 0)\n"
     "      --record FOLDER          A record of all that the disk's queue does; ahci-stretch turns any part of it into a script of\n"
-    "                               `ahci replay`\n"
+    "                               `ahci replay`. The disk has 131072 sectors at most then\n"
     "      --record-limit BYTES     The oldest half of the record is dropped so that it has no more bytes\n"
-    "      --most-journal BYTES     The size of the queue's journal at which it is trimmed (default: 4 times the disk's size, and\n"
-    "                               at least 4M). BYTES may have a unit: 512K, 64M, 1G\n"
+    "      --most-journal BYTES     The size of the queue's journal at which it is trimmed (default: 4 times the disk's size, at\n"
+    "                               least 4M and at most 256M). BYTES may have a unit: 512K, 64M, 1G\n"
     "      --log FILE               A line for each access of the guest\n"
     "      --judge                  Writes which rules of AHCI 1.3.1 the guest's driver breaks to standard error, as it breaks them,\n"
     "                               and a table at the end\n"
@@ -78,12 +79,10 @@ static const char help[] =
     "      --version                Writes the version\n"
     "\n"
     "Status: 0 if the guest's program ended with 0 and all was written; 1 if it did not, or if the image, the record or the log\n"
-    "could not be written; 2 if the command line is wrong; 3 if all went well but the driver broke a rule that the standard has.\n";
+    "could not be written; 2 if the command line is wrong, or the image can't be served; 3 if all went well but the driver broke a rule that the standard has.\n";
 
 #define MOST_HOLD 1000000u /* microseconds */
-#define LEAST_JOURNAL (UINT64_C(4) << 20) /* the default of a small disk */
 #define MOST_SLOW_READS 1000000
-#define JOURNAL_DISKS 4                   /* that of others, in disks: a trim takes as long as copying the disk */
 
 static int take_pick(const char *text, ahci_order *pick) {
     static const char *const words[] = {[AHCI_ORDER_LOWEST] = "low", [AHCI_ORDER_HIGHEST] = "high", [AHCI_ORDER_DRAWN] = "random", NULL};
@@ -141,7 +140,9 @@ static int take_path(const char *name, const char *text, const char **path) {
 
 static int take_one(struct settings *settings, const char *name, const char *value) {
     if (!strcmp(name, "sectors"))
-        return option_small(name, value, 1, AHCI_MOST_SECTORS, &settings->sectors);
+        return option_small(name, value, 1, LARGEST_DISK, &settings->sectors);
+    if (!strcmp(name, "size"))
+        return option_size(name, value, &settings->sectors);
     if (!strcmp(name, "depth"))
         return option_small(name, value, 1, AHCI_MOST_TAGS, &settings->depth);
     if (!strcmp(name, "cap"))
@@ -159,7 +160,7 @@ static int take_one(struct settings *settings, const char *name, const char *val
     if (!strcmp(name, "delay"))
         return option_delay(name, value, &settings->delay);
     if (!strcmp(name, "image"))
-        return image_find(&settings->image, value);
+        return image_find(&settings->mapped.image, value);
     if (!strcmp(name, "sync"))
         return take_sync(value, &settings->sync);
     if (!strcmp(name, "most-journal"))
@@ -181,7 +182,7 @@ static int take_one(struct settings *settings, const char *name, const char *val
 /* Takes one option with its value. */
 static int take_option(struct settings *settings, const char *word, const char *value) {
     static const char *const names[] = {"sectors", "depth", "cap", "pick", "seed", "delay", "image", "sync", "most-journal", "record", "record-limit", "log",
-                                        "judge-from", "slow-bits", "json", "transport", "socket", "hold"};
+                                        "judge-from", "slow-bits", "json", "transport", "socket", "hold", "size"};
     struct rules *rules[] = {&settings->failures, &settings->slow, &settings->stalls};
     const char *name = word + 2;
     for (unsigned at = 0; at < sizeof rules / sizeof *rules; at++)
@@ -192,6 +193,10 @@ static int take_option(struct settings *settings, const char *word, const char *
             continue;
         if (settings->given >> at & 1) {
             say_of(name, value, "%s is given twice", word);
+            return -1;
+        }
+        if (settings->sectors && (!strcmp(name, "size") || !strcmp(name, "sectors"))) {
+            say_of(name, value, "--sectors and --size are given, and both say how large the disk is");
             return -1;
         }
         settings->given |= UINT32_C(1) << at;
@@ -230,12 +235,10 @@ static int look_at_command(const struct settings *settings) {
 static int settle(struct settings *settings) {
     if (look_at_command(settings))
         return -1;
-    if (image_settle(&settings->image, &settings->sectors) || look_at_pairs(settings))
+    if (mapped_open(&settings->mapped) || image_settle(&settings->mapped.image, &settings->sectors, LARGEST_DISK) || record_suits(settings->record, settings->sectors) || look_at_pairs(settings))
         return -1;
-    if (settings->most_journal == 0) {
-        uint64_t usual = JOURNAL_DISKS * (uint64_t)settings->sectors * AHCI_SECTOR_BYTES;
-        settings->most_journal = usual < LEAST_JOURNAL ? LEAST_JOURNAL : usual;
-    }
+    if (settings->most_journal == 0)
+        settings->most_journal = usual_journal(settings->sectors);
     bool fits = !rules_complete(&settings->failures, settings->sectors) && !rules_complete(&settings->slow, settings->sectors) &&
                 !rules_complete(&settings->stalls, settings->sectors);
     return fits ? 0 : -1;
@@ -284,6 +287,7 @@ static enum asked write_version(void) {
 
 enum asked settings_read(struct settings *settings, int count, char **words) {
     *settings = (struct settings){.hold = {.longest = 2000, .gap = 300, .most = 16}, .depth = AHCI_MOST_TAGS, .capabilities = AHCI_HBA_USUAL, .seed = 1, .judge_from = 1, .sync = SYNC_FLUSH, .failures.kind = RULE_FAIL, .slow.kind = RULE_SLOW, .stalls.kind = RULE_STALL};
+    mapped_begin(&settings->mapped);
     const char *first = count > 1 ? words[1] : "";
     if (is_help(first) || (count > 2 && is_help(words[2]))) {
         fputs(help, stdout);
@@ -304,5 +308,5 @@ enum asked settings_read(struct settings *settings, int count, char **words) {
 }
 
 void settings_end(struct settings *settings) {
-    image_end(&settings->image);
+    mapped_end(&settings->mapped);
 }

@@ -3,7 +3,7 @@
 #define AHCI_HBA_SETTINGS_H
 
 #include "hold.h"
-#include "image.h"
+#include "mapped.h"
 #include "numbers.h"
 #include "rules.h"
 
@@ -26,7 +26,7 @@ struct settings {
     const char *socket; /* where it is served by vfio-user, or NULL for a folder of its own */
     struct hold_settings hold;
     bool has_hold;      /* it was given */
-    uint32_t sectors; /* 1 to 131,072 */
+    uint32_t sectors; /* 1 to 2^32 - 1 */
     uint32_t depth;   /* 1 to 32: the queue depth of IDENTIFY DEVICE */
     ahci_hba_capabilities capabilities; /* of the controller */
     ahci_order pick;  /* which of the commands that the device has taken it goes on with */
@@ -34,7 +34,7 @@ struct settings {
     struct delay delay; /* before the device answers a command */
     struct rules failures, slow, stalls;
     bool refuse_log;    /* the log of a failed queued command can't be read */
-    struct image image; /* a file with the disk's sectors */
+    struct mapped mapped; /* a file with the disk's sectors */
     enum sync sync;
     uint64_t most_journal; /* bytes of the journal after which it is trimmed */
     const char *record;    /* a folder for the record, or NULL */

@@ -1,61 +1,74 @@
 #include "writeback.h"
 
-void writeback_begin(struct writeback *writeback, struct image *image, const struct disk *disk) {
-    *writeback = (struct writeback){.image = image, .disk = disk, .worker = worker_none()};
+void writeback_begin(struct writeback *writeback, struct mapped *mapped, const struct disk *disk) {
+    *writeback = (struct writeback){.mapped = mapped, .disk = disk, .worker = worker_none()};
 }
 
 /* ---- the thread ---- */
 
 static void write_copy(void *of) {
     struct writeback *writeback = of;
-    const struct disk disk = copying_disk(&writeback->copying);
-    writeback->failed = image_write(&writeback->taken, &disk);
+    const struct disk disk = page_copy_disk(&writeback->copy);
+    writeback->failed = mapped_write(&writeback->taken, &disk);
 }
 
 /* ---- the device's side ---- */
 
-static void hand_over(struct writeback *writeback) {
-    writeback->taken = *writeback->image;
-    writeback->taken.is_changed = true;
-    writeback->state = WRITEBACK_WRITES;
-    worker_give(&writeback->worker);
+bool writeback_reserve(const struct writeback *writeback) {
+    return mapped_reserve(writeback->mapped, 1 + (writeback->state == WRITEBACK_NONE ? 0 : writeback->runs));
 }
 
-static void take_over(struct writeback *writeback) {
+/* Pages that are written from here on may be in the copy, and belong to the next write-back. */
+static void take_pages(struct writeback *writeback) {
+    writeback->taken = *writeback->mapped;
+    writeback->mapped->changed = writeback->spare;
+    writeback->spare = (struct pages){0};
+    writeback->runs = writeback->taken.changed.count;
+    writeback->state = WRITEBACK_COPIES;
+}
+
+/* Gives back what the thread had; pages that are not written back are changed again. */
+static void give_back(struct writeback *writeback, bool is_written) {
+    struct mapped *mapped = writeback->mapped;
+    mapped->has_journal = writeback->taken.has_journal;
+    mapped->image.bytes = writeback->taken.image.bytes;
+    writeback->spare = writeback->taken.changed;
+    if (!is_written)
+        pages_append(&mapped->changed, &writeback->spare);
+    pages_clear(&writeback->spare);
+    page_copy_end(&writeback->copy);
     writeback->state = WRITEBACK_NONE;
-    writeback->image->has_new = writeback->taken.has_new;
-    writeback->image->is_changed |= writeback->failed != 0;
 }
 
 bool writeback_start(struct writeback *writeback) {
+    struct mapped *mapped = writeback->mapped;
+    uint64_t pages = pages_settle(&mapped->changed);
     if (!writeback->worker.is_there && worker_start(&writeback->worker, write_copy, writeback))
         return false;
-    if (!copying_begin(&writeback->copying, writeback->disk))
+    if (!pages_reserve(&writeback->spare, mapped->changed.count) || !page_copy_begin(&writeback->copy, writeback->disk, &writeback->taken.changed, pages))
         return false;
-    writeback->image->is_changed = false; /* what is written from here on may be in the copy, and belongs to the next one */
-    writeback->state = WRITEBACK_COPIES;
+    take_pages(writeback);
     return true;
 }
 
 void writeback_copy(struct writeback *writeback) {
-    if (copying_go_on(&writeback->copying))
-        hand_over(writeback);
+    if (!page_copy_go_on(&writeback->copy))
+        return;
+    writeback->state = WRITEBACK_WRITES;
+    worker_give(&writeback->worker);
 }
 
 bool writeback_take(struct writeback *writeback, int *failed) {
     if (!worker_take(&writeback->worker))
         return false;
-    take_over(writeback);
     *failed = writeback->failed;
+    give_back(writeback, !*failed);
     return true;
 }
 
 void writeback_end(struct writeback *writeback) {
     worker_end(&writeback->worker);
-    if (writeback->state == WRITEBACK_WRITES)
-        take_over(writeback);
-    if (writeback->state == WRITEBACK_COPIES)
-        writeback->image->is_changed = true;
-    writeback->state = WRITEBACK_NONE;
-    copying_end(&writeback->copying);
+    if (writeback->state != WRITEBACK_NONE)
+        give_back(writeback, writeback->state == WRITEBACK_WRITES && !writeback->failed);
+    pages_free(&writeback->spare);
 }

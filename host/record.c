@@ -41,6 +41,13 @@ uint64_t record_room(const struct record *record) {
     return (record->limit ? record->limit / 2 : PART) - SPARE;
 }
 
+int record_suits(const char *folder, uint32_t sectors) {
+    if (!folder || sectors <= MOST_SECTORS)
+        return 0;
+    say_of("record", folder, "the disk has %" PRIu32 " sectors, and one with a record %d at most, since no script has a larger disk", sectors, MOST_SECTORS);
+    return -1;
+}
+
 uint64_t record_least_limit(uint32_t sectors, uint32_t most_count) {
     return 2 * (((uint64_t)sectors + most_count) * SECTOR_BYTES + 2 * SPARE);
 }

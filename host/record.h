@@ -66,6 +66,9 @@ struct record {
 /* The time of an entry that happens now. */
 uint64_t record_now(void);
 
+/* Whether a disk of so many sectors can have a record: 0, or -1 once it has printed that it is too large. With no folder each can. */
+int record_suits(const char *folder, uint32_t sectors);
+
 /* The smallest limit for a disk of so many sectors whose commands have at most so many. */
 uint64_t record_least_limit(uint32_t sectors, uint32_t most_count);
 

@@ -126,7 +126,8 @@ static void issue(struct driver *driver, struct request *it) {
     uint32_t tag = (uint32_t)__builtin_ctz(~driver->owned);
     struct command *command = &driver->commands[tag];
     *command = (struct command){.request = it};
-    uint32_t status = issue_by(driver, tag, it, &command->number);
+    bool has_room = it->kind == REQUEST_READ || mapped_reserve(&driver->settings->mapped, AHCI_MOST_TAGS); /* for all that are outstanding */
+    uint32_t status = has_room ? issue_by(driver, tag, it, &command->number) : AHCI_OUT_OF_MEMORY;
     if (status == AHCI_OUT_OF_MEMORY) {
         answer(driver, it, ENOMEM);
         return;
@@ -153,9 +154,29 @@ static uint64_t bytes_of(const struct request *it) {
     return it->kind == REQUEST_WRITE ? (uint64_t)it->sectors * AHCI_SECTOR_BYTES : 0;
 }
 
+/* Every slot is free: writes the image back. A port over the image is trimmed before: it keeps each page that was written, and reads none of them from the image
+   again. */
+static int write_back(struct driver *driver) {
+    if (!mapped_is_changed(&driver->settings->mapped))
+        return 0;
+    if (driver->is_over)
+        trim(driver);
+    return mapped_write(&driver->settings->mapped, &driver->disk);
+}
+
 /* With sync=flush what a flush or a write with FUA covers is in the image before it is answered. */
 static int made_safe(struct driver *driver) {
-    return driver->settings->sync == SYNC_FLUSH ? image_write(&driver->settings->image, &driver->disk) : 0;
+    return driver->settings->sync == SYNC_FLUSH ? write_back(driver) : 0;
+}
+
+/* One write-back is for all writes with FUA that are done. */
+static void make_all_safe(struct driver *driver) {
+    int why = made_safe(driver);
+    while (driver->unsafe) {
+        struct request *it = driver->unsafe;
+        driver->unsafe = it->next;
+        answer(driver, it, why);
+    }
 }
 
 static void flush(struct driver *driver, struct request *it) {
@@ -180,7 +201,7 @@ static void settle(struct driver *driver) {
 
 /* Whether the next command waits until every slot is free. */
 static bool must_wait(const struct driver *driver) {
-    return driver->first->kind == REQUEST_FLUSH || driver->journal >= driver->settings->most_journal || !record_has_room(&driver->record, bytes_of(driver->first));
+    return driver->unsafe || driver->first->kind == REQUEST_FLUSH || driver->journal >= driver->settings->most_journal || !record_has_room(&driver->record, bytes_of(driver->first));
 }
 
 void driver_issue(struct driver *driver) {
@@ -209,8 +230,14 @@ void driver_collect(struct driver *driver, uint32_t tag) {
     driver->owned &= ~bit_of(tag);
     driver->accepted &= ~bit_of(tag);
     if (reply.outcome == AHCI_DID_WRITE)
-        driver->settings->image.is_changed = true;
-    answer(driver, it, reply.outcome == AHCI_DID_FAIL ? EIO : it->fua ? made_safe(driver) : 0);
+        mapped_wrote(&driver->settings->mapped, (uint32_t)it->lba, it->sectors);
+    if (it->fua && reply.outcome == AHCI_DID_WRITE && driver->settings->sync == SYNC_FLUSH) {
+        it->next = driver->unsafe;
+        driver->unsafe = it;
+    } else
+        answer(driver, it, reply.outcome == AHCI_DID_FAIL ? EIO : 0);
+    if (!driver->owned && driver->unsafe)
+        make_all_safe(driver);
 }
 
 /* Recovery needs some memory, and nothing else can go on before it. */
@@ -250,17 +277,30 @@ static void copy_sector(void *port, uint32_t lba, uint8_t *sector) {
     driver_must("ahci_port_copy", ahci_port_copy(port, lba, sector, AHCI_SECTOR_BYTES));
 }
 
-/* Makes the port over the image, or over zeros if there is none. */
-static int make_port(ahci_port *port, const struct settings *settings) {
-    uint8_t *bytes = NULL;
-    uint32_t status;
-    if (settings->image.path && !(bytes = image_read(&settings->image, settings->sectors)))
-        return -1;
-    if (bytes)
-        status = ahci_port_new(port, bytes, (size_t)settings->sectors * AHCI_SECTOR_BYTES, settings->depth);
-    else
-        status = ahci_port_new_zeros(port, settings->sectors, settings->depth);
+/* Makes a port that has the whole disk in memory. */
+static uint32_t make_whole(ahci_port *port, const struct settings *settings) {
+    const struct mapped *mapped = &settings->mapped;
+    size_t size = (size_t)settings->sectors * AHCI_SECTOR_BYTES;
+    if (!mapped->length)
+        return ahci_port_new_zeros(port, settings->sectors, settings->depth);
+    uint8_t *bytes = mapped_copy(mapped, settings->sectors);
+    if (!bytes)
+        return AHCI_OUT_OF_MEMORY;
+    uint32_t status = ahci_port_new(port, bytes, size, settings->depth);
     free(bytes);
+    return status;
+}
+
+/* Makes the port with the sectors of the image, or with zeros if there is none. A small disk is in memory, since writes are faster there; the others are over
+   the image. */
+static int make_port(struct driver *driver, struct settings *settings) {
+    static const uint8_t zero;
+    struct mapped *mapped = &settings->mapped;
+    if (mapped_map(mapped))
+        return -1;
+    driver->is_over = settings->sectors > AHCI_MOST_SECTORS;
+    uint32_t status = driver->is_over ? ahci_port_over(&driver->port, mapped->length ? mapped->bytes : &zero, mapped->length, settings->sectors, settings->depth, 0)
+                                      : make_whole(&driver->port, settings);
     if (status == AHCI_OK)
         return 0;
     say("the port can't be made: status %" PRIu32 " of ahci.h", status);
@@ -272,13 +312,13 @@ int driver_begin(struct driver *driver, struct settings *settings) {
     driver->last = &driver->first;
     driver->disk = (struct disk){.it = &driver->port, .sectors = settings->sectors, .copy = copy_sector};
     gate_begin(&driver->gate);
-    if (make_port(&driver->port, settings))
+    if (make_port(driver, settings))
         return -1;
     return record_begin(&driver->record, settings->record, settings->record_limit, &driver->disk, settings->depth);
 }
 
 int driver_end(struct driver *driver) {
-    int why = image_write(&driver->settings->image, &driver->disk);
+    int why = write_back(driver);
     record_end(&driver->record);
     ahci_port_free(&driver->port);
     gate_end(&driver->gate);

@@ -37,10 +37,12 @@ struct driver {
     bool has_thread; /* the device has a thread of its own, which is the player for good */
     /* the player's */
     ahci_port port;
+    bool is_over;     /* the port is over the image, or over zeros: its disk is not in memory as a whole */
     struct disk disk; /* the port's sectors, for the image and the record */
     struct record record;
     struct settings *settings;
     struct request *first, **last; /* those that wait for a slot, the oldest first */
+    struct request *unsafe;        /* writes with FUA that are done, and wait until they are in the image */
     struct request *answered;      /* those that have an outcome, and are not told yet */
     struct command commands[AHCI_MOST_TAGS];
     uint32_t owned;    /* tags with a request, as bits */

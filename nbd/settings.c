@@ -14,8 +14,9 @@
 #include <nbdkit-plugin.h>
 
 const char settings_help[] =
-    "sectors=N            sectors of 512 bytes, 1 to 131072 (default: those of the image, or 131072)\n"
-    "image=FILE           the sectors at the start; they are written back to it\n"
+    "sectors=N            sectors of 512 bytes, 1 to 4294967295 (default: those of the image, or 131072)\n"
+    "size=BYTES           the same in bytes, such as 100G or 1T\n"
+    "image=FILE           the sectors at the start; those that are written are written back to it\n"
     "sync=end|flush       when: at the end, or also at each flush (default end)\n"
     "depth=N              slots of the port, 1 to 32 (default 32)\n"
     "pick=low|high|all|random   the tag that the device goes on with (default low)\n"
@@ -30,20 +31,20 @@ const char settings_help[] =
     "slow=WHERE:MICROSECONDS[+JITTER][:COUNT][,CONDITION]...  commands that take so long (default\n"
     "                     COUNT: ever). May be given up to 64 times\n"
     "most-journal=BYTES   size of the port's journal at which it is trimmed (default: 4 times the disk's\n"
-    "                     size, and at least 4M)\n"
-    "record=FOLDER        a record of all that happens; host/stretch turns any part of it into a script\n"
+    "                     size, at least 4M and at most 256M)\n"
+    "record=FOLDER        a record of all that happens; host/stretch turns any part of it into a script.\n"
+    "                     The disk has 131072 sectors at most then\n"
     "record-limit=BYTES   the oldest half of the record is dropped so that it has no more bytes. BYTES may\n"
     "                     have a unit: 512K, 64M, 1G";
 
-#define LEAST_JOURNAL (UINT64_C(4) << 20) /* the default of a small disk */
-#define JOURNAL_DISKS 4                   /* that of others, in disks: a trim takes as long as copying the disk */
 
 void settings_begin(struct settings *settings) {
     *settings = (struct settings){.depth = AHCI_MOST_TAGS, .seed = 1, .failures.kind = RULE_FAIL, .slow.kind = RULE_SLOW};
+    mapped_begin(&settings->mapped);
 }
 
 void settings_end(struct settings *settings) {
-    image_end(&settings->image);
+    mapped_end(&settings->mapped);
     free(settings->record);
 }
 
@@ -63,14 +64,23 @@ static int take_sync(const char *text, enum sync *sync) {
     return wrong;
 }
 
+/* sectors= or size=. */
+static int take_sectors(const char *key, const char *value, uint32_t *sectors) {
+    if (*sectors) {
+        say_of(key, value, "sectors= and size= are given, and both say how large the disk is");
+        return -1;
+    }
+    return strcmp(key, "size") ? option_small(key, value, 1, LARGEST_DISK, sectors) : option_size(key, value, sectors);
+}
+
 static int take_path(const char *text, char **path) {
     *path = nbdkit_absolute_path(text);
     return *path ? 0 : -1;
 }
 
 static int take_one(struct settings *settings, const char *key, const char *value) {
-    if (!strcmp(key, "sectors"))
-        return option_small(key, value, 1, AHCI_MOST_SECTORS, &settings->sectors);
+    if (!strcmp(key, "sectors") || !strcmp(key, "size"))
+        return take_sectors(key, value, &settings->sectors);
     if (!strcmp(key, "depth"))
         return option_small(key, value, 1, AHCI_MOST_TAGS, &settings->depth);
     if (!strcmp(key, "pick"))
@@ -84,7 +94,7 @@ static int take_one(struct settings *settings, const char *key, const char *valu
     if (!strcmp(key, "most-journal"))
         return option_bytes(key, value, &settings->most_journal);
     if (!strcmp(key, "image"))
-        return image_find(&settings->image, value);
+        return image_find(&settings->mapped.image, value);
     if (!strcmp(key, "sync"))
         return take_sync(value, &settings->sync);
     if (!strcmp(key, "record"))
@@ -93,7 +103,7 @@ static int take_one(struct settings *settings, const char *key, const char *valu
 }
 
 int settings_take(struct settings *settings, const char *key, const char *value) {
-    static const char *const keys[] = {"sectors", "depth", "pick", "seed", "together", "delay", "most-journal", "image", "sync", "record", "record-limit"};
+    static const char *const keys[] = {"sectors", "size", "depth", "pick", "seed", "together", "delay", "most-journal", "image", "sync", "record", "record-limit"};
     if (!strcmp(key, "fail"))
         return rules_take(&settings->failures, value);
     if (!strcmp(key, "slow"))
@@ -115,7 +125,7 @@ int settings_take(struct settings *settings, const char *key, const char *value)
 /* Parameters that mean nothing without another one, or that are too small beside it. */
 static int look_at_pairs(const struct settings *settings) {
     uint64_t least = record_least_limit(settings->sectors, WINDOW_SECTORS);
-    if (settings->sync == SYNC_FLUSH && !settings->image.path)
+    if (settings->sync == SYNC_FLUSH && !settings->mapped.image.path)
         say_of("sync", "flush", "there is no image= to write");
     else if (settings->record_limit && !settings->record)
         say("record-limit: there is no record=");
@@ -127,14 +137,12 @@ static int look_at_pairs(const struct settings *settings) {
 }
 
 int settings_complete(struct settings *settings) {
-    if (image_settle(&settings->image, &settings->sectors) || look_at_pairs(settings))
+    if (mapped_open(&settings->mapped) || image_settle(&settings->mapped.image, &settings->sectors, LARGEST_DISK) || record_suits(settings->record, settings->sectors) || look_at_pairs(settings))
         return -1;
     if (settings->together == 0)
         settings->together = settings->pick == PICK_ALL ? AHCI_MOST_TAGS : 1;
-    if (settings->most_journal == 0) {
-        uint64_t usual = JOURNAL_DISKS * (uint64_t)settings->sectors * AHCI_SECTOR_BYTES;
-        settings->most_journal = usual < LEAST_JOURNAL ? LEAST_JOURNAL : usual;
-    }
+    if (settings->most_journal == 0)
+        settings->most_journal = usual_journal(settings->sectors);
     return rules_complete(&settings->failures, settings->sectors) || rules_complete(&settings->slow, settings->sectors) ? -1 : 0;
 }
 

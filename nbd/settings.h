@@ -2,7 +2,7 @@
 #ifndef AHCI_NBD_SETTINGS_H
 #define AHCI_NBD_SETTINGS_H
 
-#include "image.h"
+#include "mapped.h"
 #include "rules.h"
 
 #include <stdbool.h>
@@ -15,14 +15,14 @@ enum pick { PICK_LOW, PICK_HIGH, PICK_ALL, PICK_RANDOM };
 enum sync { SYNC_END, SYNC_FLUSH };
 
 struct settings {
-    uint32_t sectors; /* 1 to 131,072; 0 until it is known */
+    uint32_t sectors; /* 1 to 2^32 - 1; 0 until it is known */
     uint32_t depth;   /* 1 to 32 */
     enum pick pick;
     uint64_t seed;     /* of PICK_RANDOM */
     uint32_t together; /* 1 to 32: tags that one Set Device Bits FIS completes at most */
     struct delay delay; /* before each step of the device */
     uint64_t most_journal; /* bytes of the journal after which it is trimmed */
-    struct image image;    /* the file with the disk's sectors */
+    struct mapped mapped;  /* the file with the disk's sectors */
     enum sync sync;
     char *record;          /* a folder for the record, or NULL */
     uint64_t record_limit; /* its bytes at most; 0: no limit */

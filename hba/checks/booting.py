@@ -141,16 +141,21 @@ def files_right(room: str, guest: Guest, image: str, data: bytes) -> None:
 
 
 def linux_files(room: str, memory: str = "512M", options: Sequence[str] = (), machine: Sequence[str] = (), said: str = "", depth: str = "32",
-                more: Sequence[str] = (), folder: str = "kernel") -> str:
+                more: Sequence[str] = (), folder: str = "kernel", sectors: int = 131072) -> str:
     """Linux makes ext4, writes files, mounts it again and reads them. `more` is what it says that others don't."""
-    data, image = pattern(8 << 20, "files"), blank(room, 131072)
-    guest = Guest(room, ["--image", image, *options], [*linux(room, "files", data, memory, folder), *machine], recorded=image)
+    data, image = pattern(8 << 20, "files"), blank(room, sectors)
+    guest = Guest(room, ["--image", image, *options], [*linux(room, "files", data, memory, folder), *machine], recorded=image if sectors <= 131072 else "")
     guest.end(240, said=said)
     guest.log_is_usual()
     guest.linux_is_usual(more)
     files_right(room, guest, image, data)
     expect(guest.told()["depth"] == depth, f"the queue's depth is not {depth}")
     return counted(guest.codes())
+
+
+def linux_large(room: str) -> str:
+    """The same on a disk that is over the image: what Linux flushes is written in place, page by page."""
+    return linux_files(room, sectors=300_000)
 
 
 def linux_alone(room: str) -> str:
@@ -460,7 +465,7 @@ def user_mode_linux(room: str) -> str:
 
 CHECKS = [Check(sector, title="SeaBIOS and a boot sector"), Check(sector_error, title="SeaBIOS and an error"), Check(grub_bios, title="GRUB on BIOS"), Check(grub_uefi, title="GRUB on UEFI"), Check(uboot, title="U-Boot"),
           Check(boot_bios, title="GRUB boots Linux on BIOS"), Check(boot_uefi, title="GRUB boots Linux on UEFI"), Check(linux_files, title="Linux, files"),
-          Check(linux_alone, title="Linux, without firmware's driver"), Check(linux_shallow, title="Linux, a short queue"),
+          Check(linux_large, title="Linux, a larger disk"), Check(linux_alone, title="Linux, without firmware's driver"), Check(linux_shallow, title="Linux, a short queue"),
           Check(linux_high, title="Linux, memory above 4 GiB"), Check(linux_small, title="Linux, few capabilities"), Check(linux_staggered, title="Linux, staggered spin-up"), Check(linux_queue, title="Linux, queue", is_long=True), Check(linux_error, title="Linux, an error in the queue"),
           Check(linux_lasting, title="Linux, a lasting error"), Check(linux_merged, title="Linux, merged requests over a failing sector"), Check(linux_refused_log, title="Linux, a log that is refused"),
           Check(linux_stalled, title="Linux, a command without an answer"), Check(linux_two, title="Linux, two processors", is_long=True),

@@ -10,7 +10,7 @@ from typing import Dict
 
 import playing
 from harness import PROGRAM, SECTOR, STALLED, answered, blank, environment, makes, way_of
-from image_checks import limited
+from files import limited
 from records import Record, bounds
 from rough import WRITER, written
 from suite import Check, Failed, expect

@@ -93,8 +93,11 @@ def command_lines(room: str) -> str:
         (["run", "--hold", "1000001", *run], '--hold: expected MICROSECONDS[:GAP[:COUNT]], each a decimal number up to 1000000, got "1000001"'),
         (["run"], "expected a command after `--`"),
         (["run", "--"], "expected a command after `--`"),
-        (["run", "--sectors", "0", *run], f'--sectors: {number} 1 to 131072, got "0"'),
-        (["run", "--sectors=8x", *run], f'--sectors: {number} 1 to 131072, got "8x"'),
+        (["run", "--sectors", "0", *run], f'--sectors: {number} 1 to 4294967295, got "0"'),
+        (["run", "--sectors=8x", *run], f'--sectors: {number} 1 to 4294967295, got "8x"'),
+        (["run", "--size", "2T", *run], '--size: expected whole sectors of 512 bytes, at most 2199023255040 bytes in all, such as 2097152, 64M, 100G or 1T, got "2T"'),
+        ([*small, "--size", "4096", *run], "--size 4096: --sectors and --size are given, and both say how large the disk is"),
+        (["run", "--size", "65M", "--record", f"{room}/record", *run], f"--record {room}/record: the disk has 133120 sectors, and one with a record 131072 at most, since no script has a larger disk"),
         (["run", "--depth", "33", *run], f'--depth: {number} 1 to 32, got "33"'),
         (["run", "--cap", "sss=1,ncs=33", *run], '--cap sss=1,ncs=33: ncs: expected a decimal number from 1 to 32, got "33"'),
         (["run", "--cap", "iss=4", *run], '--cap iss=4: iss: expected a decimal number from 1 to 3, got "4"'),
@@ -214,19 +217,19 @@ def killed_guest(room: str) -> str:
 
 
 def unkept(room: str) -> str:
-    """If the image can't be written at a flush, the flush fails, and Linux says so to who asked for it. FILE.new of somebody else is not touched, and
-    no later server starts beside it."""
+    """If the image can't be written at a flush, the flush fails, and Linux says so to who asked for it. A file of somebody else in the
+    journal's place is not touched, and no later server starts beside it."""
     image = blank(room, 2048)
-    before, new = contents(image), f"{image}.new"
+    before, new = contents(image), f"{image}.journal.new"
     guest = Guest(room, ["--image", image], linux(room, "keep"))
     guest.wait_for(".", 60)
     with open(new, "w", encoding="ascii") as file:
         file.write("kept")
-    guest.end(240, status=1, said=f"(ahci-hba: --image {re.escape(image)}: it can't be written back: {re.escape(new)}: File exists; it is as it was\n)+")
+    guest.end(240, status=1, said=f"(ahci-hba: --image {re.escape(image)}: it can't be written back: {re.escape(new)}: File exists; [0-9]+ pages have changed, and it is as it was\n)+")
     expect(guest.told()["flush"] == "wrong", "Linux takes the write for kept")
     expect(contents(image) == before and contents(new) == b"kept", "the image has changed though it could not be written, or what was beside it")
     done = program("run", "--image", image, "--", "true")
-    expect(done.returncode == 1 and f"{new} is left by a server" in done.stderr, f"it starts beside {new}: {done.stderr}")
+    expect(done.returncode == 2 and f"{new} is in the way" in done.stderr, f"it starts beside {new}: {done.stderr}")
     return "Linux sees the error"
 
 
@@ -302,7 +305,24 @@ def very_much_written(room: str) -> str:
     return much_written(room, 10240)
 
 
+def large(room: str) -> str:
+    """A disk of 2 TiB over a sparse image: its last 64 MiB are written in place, and memory is that of what was written."""
+    image, first, size = os.path.join(room, "disk.img"), (1 << 32) - 1 - 131072, (1 << 32) - 1
+    with open(image, "wb") as file:
+        file.truncate(size * SECTOR)
+    said = written(room, ["--image", image], ["64", "1024", "131072", "16", str(first)])
+    with open(image, "rb") as file:
+        file.seek(first * SECTOR)
+        for at in range(8):
+            command = b"".join(struct.pack("<II", at, mark).ljust(SECTOR, b"\0") for mark in range(0, 1024 * SECTOR, SECTOR))
+            expect(file.read(16 * len(command)) == 16 * command, f"the image has not what round {at} wrote")
+        expect(not file.read(), "the image has grown")
+    blocks, memory = os.stat(image).st_blocks * 512 >> 20, int(said.split()[2])
+    expect(blocks <= 65 and memory < 256, f"{blocks} MiB of the image, {memory} MiB of memory")
+    return f"{blocks} MiB of the image, {memory} MiB of memory"
+
+
 CHECKS = [Check(command_lines, title="Command lines"), Check(arguments, title="Arguments of QEMU"), Check(record, title="Record of Linux"), Check(garbage, title="Garbage"), Check(wrong_peer, title="A peer of the proxy that is wrong"),
           Check(refused_memory, title="Refused memory"), Check(failed_reads, title="Reads that fail"), Check(killed_guest, title="A killed guest"), Check(unkept, title="A flush that can't be kept"),
-          Check(written_at_the_end, title="An image that is written at the end"), Check(full, title="Files that can't be written"), Check(rules, title="Rules"), Check(much_written, title="Much that is written"),
+          Check(written_at_the_end, title="An image that is written at the end"), Check(full, title="Files that can't be written"), Check(rules, title="Rules"), Check(much_written, title="Much that is written"), Check(large, title="A disk of 2 TiB"),
           Check(very_much_written, title="10 GiB that are written", is_long=True)]

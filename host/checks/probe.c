@@ -3,10 +3,11 @@
      probe numbers                      lines "KIND TEXT": what the parser of that kind makes of it
      probe rules KIND SECTORS RULE..    lines "LBA COUNT r|w NUMBER MICROSECONDS": which rule applies to that command
      probe draws SEED COUNT             numbers of the generator
-     probe image FILE SECTORS           lines "write LBA BYTE", "save", "show LBA"; it is saved at the end
+     probe pages                        lines "add LBA COUNT", "settle"
+     probe mapped FILE SECTORS          lines "fill LBA COUNT BYTE", "save", "show LBA"; it is saved at the end
      probe record FOLDER LIMIT SECTORS  lines of the record, see `record_line` */
 #include "generator.h"
-#include "image.h"
+#include "mapped.h"
 #include "options.h"
 #include "record.h"
 #include "rules.h"
@@ -106,25 +107,56 @@ static int draws(char **words) {
 
 /* ---- the image ---- */
 
-static int try_image(char **words) {
-    static struct image image;
+static int try_pages(void) {
+    static struct pages pages;
     char line[256];
-    uint32_t sectors = (uint32_t)strtoul(words[1], NULL, 10), lba, byte;
-    if (image_find(&image, words[0]) || image_settle(&image, &sectors) || !(bytes = image_read(&image, sectors)))
+    uint32_t lba, count;
+    while (line_of(line, sizeof line)) {
+        if (sscanf(line, "add %" SCNu32 " %" SCNu32, &lba, &count) == 2) {
+            if (!pages_reserve(&pages, 1))
+                return 1;
+            pages_add(&pages, lba, count);
+            continue;
+        }
+        printf("%" PRIu64 " of %zu", pages_settle(&pages), pages.room);
+        for (size_t at = 0; at < pages.count; at++)
+            printf(" %" PRIu32 "+%" PRIu32, pages.runs[at].first, pages.runs[at].count);
+        puts("");
+    }
+    pages_free(&pages);
+    return 0;
+}
+
+static struct mapped mapped;
+
+static void mapped_line(const char *line) {
+    uint32_t lba, count, byte;
+    if (sscanf(line, "fill %" SCNu32 " %" SCNu32 " %" SCNx32, &lba, &count, &byte) == 3 && mapped_reserve(&mapped, 1)) {
+        memset(bytes + (size_t)lba * SECTOR_BYTES, (int)byte, (size_t)count * SECTOR_BYTES);
+        mapped_wrote(&mapped, lba, count);
+    } else if (sscanf(line, "show %" SCNu32, &lba) == 1)
+        printf("%02x\n", bytes[(size_t)lba * SECTOR_BYTES]);
+    else
+        printf("saved %d\n", mapped_write(&mapped, &disk));
+}
+
+static int try_mapped(char **words) {
+    char line[256];
+    uint32_t sectors = (uint32_t)strtoul(words[1], NULL, 10);
+    mapped_begin(&mapped);
+    if (image_find(&mapped.image, words[0]) || mapped_open(&mapped) || image_settle(&mapped.image, &sectors, UINT32_MAX) || mapped_map(&mapped)) {
+        mapped_end(&mapped);
+        return 1;
+    }
+    bytes = mapped_copy(&mapped, sectors);
+    if (!bytes)
         return 1;
     disk = (struct disk){.sectors = sectors, .copy = copy};
     printf("disk %" PRIu32 "\n", sectors);
-    while (line_of(line, sizeof line)) {
-        if (sscanf(line, "write %" SCNu32 " %" SCNx32, &lba, &byte) == 2) {
-            memset(bytes + (size_t)lba * SECTOR_BYTES, (int)byte, SECTOR_BYTES);
-            image.is_changed = true;
-        } else if (sscanf(line, "show %" SCNu32, &lba) == 1)
-            printf("%02x\n", bytes[(size_t)lba * SECTOR_BYTES]);
-        else
-            printf("saved %d\n", image_write(&image, &disk));
-    }
-    int why = image_write(&image, &disk);
-    image_end(&image);
+    while (line_of(line, sizeof line))
+        mapped_line(line);
+    int why = mapped_write(&mapped, &disk);
+    mapped_end(&mapped);
     free(bytes);
     return why ? 2 : 0;
 }
@@ -228,8 +260,10 @@ int main(int count, char **words) {
         return try_rules(words + 2);
     if (count == 4 && !strcmp(what, "draws"))
         return draws(words + 2);
-    if (count == 4 && !strcmp(what, "image"))
-        return try_image(words + 2);
+    if (!strcmp(what, "pages"))
+        return try_pages();
+    if (count == 4 && !strcmp(what, "mapped"))
+        return try_mapped(words + 2);
     if (count == 5 && !strcmp(what, "record"))
         return try_record(words + 2);
     return 9;

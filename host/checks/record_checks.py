@@ -8,7 +8,7 @@ import subprocess
 import time
 from typing import Any, Dict, List, Set, Tuple
 
-from image_checks import limited, small_room
+from files import limited, small_room
 from playing import STRETCH, replayed, scripted, sectors_of, stretch
 from probe import PLAYER, SECTOR, Probe
 from records import ACCEPT, COLLECT, FLUSH, IDENTIFY, READ, READ_LOG, RECOVER, REISSUE, RESET, TRIM, WRITE, Record, bounds

@@ -69,6 +69,11 @@ class Server:
         with open(f"/proc/{self.process.pid}/statm", encoding="ascii") as text:
             return int(text.read().split()[1]) * os.sysconf("SC_PAGE_SIZE")
 
+    def own_memory(self) -> int:
+        """How much of that is no page of a file, in bytes."""
+        with open(f"/proc/{self.process.pid}/status", encoding="ascii") as text:
+            return next(int(it.split()[1]) * 1024 for it in text if it.startswith("RssAnon:"))
+
     def stop(self, how: signal.Signals = signal.SIGTERM) -> str:
         """Ends it, and returns all that it printed."""
         if self.process.poll() is None:

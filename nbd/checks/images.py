@@ -7,7 +7,7 @@ import random
 import signal
 import subprocess
 import time
-from typing import Iterator
+from typing import Dict, Iterator, List
 
 from harness import MIB, PLUGIN, Check, Failed, Server, Skipped, fio, must_be_clean, out, ran, serving, told, tool
 import pace
@@ -39,7 +39,7 @@ def an_image(room: str) -> str:
     commands = int(told(server).partition(" ")[0])
     with serving(room, f"image={image}") as server:
         ran(["qemu-io", "-f", "raw", "-c", "read 0 512", server.uri])
-    if int(told(server).partition(" ")[0]) != 1 or os.path.exists(f"{image}.new"):
+    if int(told(server).partition(" ")[0]) != 1 or sorted(os.listdir(room)) != ["back", "disk", "log"]:
         raise Failed(f"one command was issued, and the port counts others: {told(server)}")
     return f"{commands} commands"
 
@@ -75,8 +75,10 @@ def no_space_at_a_flush(room: str) -> str:
     with small_room(room, "5m") as place:
         image, filler = os.path.join(place, "disk"), os.path.join(place, "filler")
         data = made(image, 2 * MIB)
-        made(filler, 2 * MIB)
-        with serving(room, f"image={image}", "sync=flush", says="it can't be written back: No space left on device") as server:
+        with contextlib.suppress(OSError), open(filler, "wb", buffering=0) as file:
+            while True:
+                file.write(bytes(4096))
+        with serving(room, f"image={image}", "sync=flush", says="it can't be written back: .*No space left on device") as server:
             first = tool(["qemu-io", "-t", "writeback", "-f", "raw", "-c", "write -P 3 0 512", "-c", "flush", server.uri])
             if first.returncode != 1 or contents(image) != data:
                 raise Failed(f"the flush was to fail, and has status {first.returncode}")
@@ -118,16 +120,60 @@ def wait_for(path: str, wanted: bytes) -> None:
 
 
 def sync_of_many(room: str) -> str:
-    """sync=flush with a job that flushes all the time, and reads back what the image has."""
+    """sync=flush with a job that flushes all the time, and reads back what the image has: with a disk in memory, and with one over the image."""
     image = os.path.join(room, "disk")
-    made(image, 4 * MIB)
-    with serving(room, f"image={image}", "sync=flush", "pick=random") as server:
-        must_be_clean(fio(server, "sync", "--rw=randwrite", "--bs=4k", "--iodepth=32", "--size=4m", "--fsync=16", "--verify=crc32c", "--do_verify=1", "--randseed=2"))
-        ran(["qemu-io", "-t", "writeback", "-f", "raw", "-c", "flush", server.uri])
-        if out(server, os.path.join(room, "back")) != contents(image):
-            raise Failed("the image is not what the client reads")
+    for sectors in (8192, 131073):
+        data = made(image, 4 * MIB)
+        with serving(room, f"image={image}", f"sectors={sectors}", "sync=flush", "pick=random") as server:
+            must_be_clean(fio(server, "sync", "--rw=randwrite", "--bssplit=4k/80:512/10:9k/10", "--iodepth=32", "--offset=100k", "--size=3m", "--fsync=16", "--verify=crc32c", "--do_verify=1", "--randseed=2"))
+            ran(["qemu-io", "-t", "writeback", "-f", "raw", "-c", "flush", server.uri])
+            found = out(server, os.path.join(room, "back"))
+            if found != contents(image) or len(found) != 512 * sectors or found[:100 << 10] != data[:100 << 10]:
+                raise Failed("the image is not what the client reads")
     return told(server)
 
 
+def killed_while_flushing(room: str) -> str:
+    """kill -9 at random moments while a client writes and flushes: after a start the image has all that the last flush covers, or all of the one that was
+    on its way, and nothing between the two."""
+    image, draw, counts = os.path.join(room, "disk"), random.Random(31), {"old": 0, "new": 0, "applied": 0}
+    places = [at * 3 * MIB + 77 * 512 * at for at in range(20)]
+    made(image, 0)
+    for at in range(30):
+        if at in (0, 10):
+            os.truncate(image, 64 * MIB + 512 * at)  # a disk that is in memory, and one that is over the image
+        given = ["together=4", "pick=random"] if at % 2 else []
+        server = Server(room, PLUGIN, [f"image={image}", "sync=flush", *given])
+        words = [word for generation in range(1, 200) for place in places for word in ("-c", f"write -P {generation} {place} 64k", *(("-c", "flush") if place == places[-1] else ()))]
+        client = subprocess.Popen(["stdbuf", "-oL", "qemu-io", "-t", "writeback", "-f", "raw", *words, server.uri], stdin=subprocess.DEVNULL, stdout=subprocess.PIPE, stderr=subprocess.DEVNULL, text=True)
+        assert client.stdout
+        wait, lines = draw.randrange(1, 7), 2 * len(places)  # a flush is done once a line of the next write is there
+        for _ in range(lines * wait + draw.choice((draw.randrange(1, lines), lines, lines))):
+            client.stdout.readline()
+        time.sleep(draw.random() * 0.02)
+        server.stop(signal.SIGKILL)
+        more = client.communicate()[0].count("wrote ")
+        counts[what_is_left(room, image, places, wait, more, counts)] += 1
+    return ", ".join(f"{count} {what}" for what, count in counts.items())
+
+
+def what_is_left(room: str, image: str, places: List[int], flushed: int, writes: int, counts: Dict[str, int]) -> str:
+    """Starts a server on the image of a killed one, and looks at the generation that the image has: one that is flushed, or the next one."""
+    server = Server(room, PLUGIN, [f"image={image}"])
+    said = server.stop()
+    counts["applied"] += "they are in the image now" in said
+    data = contents(image)
+    found = {bytes(data[at:at + 65536]) for at in places}
+    generation = data[places[0]]
+    if server.process.returncode or found != {bytes((generation,)) * 65536} or os.path.exists(f"{image}.journal"):
+        raise Failed(f"the image has sectors of {len(found)} kinds, after {flushed} flushes and {writes} writes more: {said}")
+    if any(data[places[0] + 65536:places[1]]) or len(data) not in (64 * MIB, 64 * MIB + 5120):
+        raise Failed("other sectors were written")
+    last = flushed + 1 + (writes + len(places) - 1) // len(places)
+    if not flushed <= generation <= last:
+        raise Failed(f"the image is that of flush {generation}, and {flushed} to {last} were done or on their way")
+    return "old" if generation == flushed else "new"
+
+
 CHECKS = [Check(an_image, ["qemu-io", "nbdcopy"]), Check(image_with_a_failing_sector, ["qemu-io", "nbdcopy"]), Check(no_space_at_a_flush, ["qemu-io", "mount"]),
-          Check(flushed_and_killed, ["qemu-io"]), Check(sync_of_many, ["fio", "qemu-io", "nbdcopy"])]
+          Check(flushed_and_killed, ["qemu-io"]), Check(killed_while_flushing, ["qemu-io", "stdbuf"]), Check(sync_of_many, ["fio", "qemu-io", "nbdcopy"])]

@@ -18,10 +18,10 @@ import pace
 
 
 @contextlib.contextmanager
-def looped(room: str, server: Server) -> Iterator[str]:
-    """The disk as a loop device, by nbdfuse."""
-    if os.geteuid() != 0 or not os.path.exists("/dev/fuse") or not os.path.exists("/dev/loop-control"):
-        raise Skipped("a file system is mounted by root alone, with /dev/fuse and loop devices")
+def fused(room: str, server: Server) -> Iterator[str]:
+    """The disk as a file, by nbdfuse."""
+    if os.geteuid() != 0 or not os.path.exists("/dev/fuse"):
+        raise Skipped("nbdfuse needs root and /dev/fuse")
     place = os.path.join(room, "fuse")
     os.mkdir(place)
     process = subprocess.Popen(["nbdfuse", place + "/disk", server.uri], stdin=subprocess.DEVNULL, stdout=subprocess.DEVNULL, stderr=subprocess.DEVNULL)
@@ -31,16 +31,26 @@ def looped(room: str, server: Server) -> Iterator[str]:
             if process.poll() is not None or limit.has_passed():
                 raise Failed("nbdfuse did not start")
             time.sleep(0.05)
-        device = ran(["losetup", "--find", "--show", place + "/disk"]).strip()
-        try:
-            yield device
-        finally:
-            ran(["losetup", "--detach", device])
+        yield place + "/disk"
     finally:
         with contextlib.suppress(Failed):
             ran(["umount", place])
         process.terminate()
         process.wait()
+        os.rmdir(place)
+
+
+@contextlib.contextmanager
+def looped(room: str, server: Server) -> Iterator[str]:
+    """The disk as a loop device, by nbdfuse."""
+    if not os.path.exists("/dev/loop-control"):
+        raise Skipped("a file system is mounted by root alone, with /dev/fuse and loop devices")
+    with fused(room, server) as path:
+        device = ran(["losetup", "--find", "--show", path]).strip()
+        try:
+            yield device
+        finally:
+            ran(["losetup", "--detach", device])
 
 
 @contextlib.contextmanager

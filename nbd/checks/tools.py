@@ -17,7 +17,9 @@ def wrong_words(room: str) -> str:
         file.truncate(1025)
     number, size = "expected a decimal number from", "expected a number of bytes from 1 on"
     wrong = [
-        *((f"{key}={value}", f'{key}: {number}') for key, value in (("sectors", "0"), ("sectors", "131073"), ("depth", "33"), ("together", "0"), ("seed", "x"))),
+        *((f"{key}={value}", f'{key}: {number}') for key, value in (("sectors", "0"), ("sectors", "4294967296"), ("depth", "33"), ("together", "0"), ("seed", "x"))),
+        *((f"size={value}", f'size: expected whole sectors of 512 bytes, at most 2199023255040 bytes in all, such as 2097152, 64M, 100G or 1T, got "{value}"')
+          for value in ("0", "513", "2T", "1TB")),
         *((f"{key}={value}", f'{key}: {size}, such as 4096, 512K, 64M or 1G, got "{value}"') for key, value in (("most-journal", "0"), ("record-limit", "64MB"))),
         ("delay=1+", 'delay: expected MICROSECONDS or MICROSECONDS+JITTER, each a decimal number up to 10000000, got "1+"'),
         ("pick=some", 'pick: expected low, high, all or random, got "some"'), ("sync=never", 'sync: expected end or flush, got "never"'),
@@ -27,7 +29,8 @@ def wrong_words(room: str) -> str:
         ("record=/nowhere/record", "No such file"), (f"record={image}", "Not a directory"), ("sync=flush", "there is no image="), ("record-limit=1", "there is no record="),
     ]
     several = [([f"image={image}", "sectors=2"], "the image has 3 sectors"), (["fail=1:40"] * 65, "64 times at most"), (["sectors=8", "fail=8:40"], "the disk has 8 sectors"),
-               (["sectors=8", "sectors=8"], "sectors= is given twice"), (["pick=low", "pick=high"], "pick= is given twice"),
+               (["sectors=8", "sectors=8"], "sectors= is given twice"), (["sectors=8", "size=4K"], "both say how large the disk is"), (["size=4K", "sectors=8"], "both say how large the disk is"),
+               (["size=2199023255040", "fail=4294967295:40"], "the disk has 4294967295 sectors"), ([f"record={room}/record", "sectors=131073"], "one with a record 131072 at most, since no script has a larger disk"), (["pick=low", "pick=high"], "pick= is given twice"),
                ([f"record={room}/record", "record-limit=1K"], "at least")]
     for words, told_of in [*(([word], text) for word, text in wrong), *several]:
         done = tool(["nbdkit", "-f", "-U", os.path.join(room, "socket"), PLUGIN, *words, "--run", "true"])

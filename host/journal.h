@@ -1,0 +1,40 @@
+/* The journal of an image: the pages of a write-back, in a file of their own, which is whole on the disk before the first of them is written into the
+   image. A journal that is whole can be written into the image as often as one likes; one that is not is of no use.
+
+   The file has a header, the runs of pages, the pages of 4,096 bytes from the next multiple of 4,096 on, and a sum of all that. Numbers are those of
+   the machine. */
+#ifndef AHCI_HOST_JOURNAL_H
+#define AHCI_HOST_JOURNAL_H
+
+#include "disk.h"
+#include "pages.h"
+
+#include <stdint.h>
+
+enum journal_state {
+    JOURNAL_NONE,   /* there is no file */
+    JOURNAL_WHOLE,
+    JOURNAL_TORN,   /* it was not written to its end */
+    JOURNAL_STRANGE /* it is another file */
+};
+
+struct journal {
+    int file;        /* -1: none */
+    uint64_t before; /* bytes that the image had when the journal was written */
+    uint64_t after;  /* those that it has once the pages are in it */
+    uint64_t runs, pages;
+};
+
+/* Makes a journal at a path, where no file of another kind is, and waits until the disk has it. The runs are settled, and have so many pages. All calls return 0
+   or an errno. */
+int journal_write(struct journal *journal, const char *path, const struct disk *disk, const struct pages *changed, uint64_t pages, uint64_t before);
+
+/* Opens the journal at a path, and reads all of it: *state is what it is. */
+int journal_open(struct journal *journal, const char *path, enum journal_state *state);
+
+/* Writes the pages of a whole journal into the image, and waits until the disk has them. Runs of zeros become holes. */
+int journal_apply(const struct journal *journal, int image);
+
+void journal_close(struct journal *journal);
+
+#endif
