@@ -6,8 +6,9 @@ import subprocess
 from typing import List
 
 import images
+from harness import Guest, qemu, told_by, way_of
+from images import program
 import pace
-from harness import Guest, program, qemu, told_by, way_of
 from suite import Check, Skipped, expect
 
 ROOT = os.path.join(images.OUT, "debian")
