@@ -28,7 +28,7 @@ use Rattle.word_bits.proofs.PlacesLemmas.{length-no_places, has_place-no_places,
 use Rattle.ahci_port.specs.Faults.{AnswersOr, first_refusal, most_first, resume_fault_of}
 use Rattle.ahci_port.specs.declared.fault.ResumeFault.TheVariants as resume
 use Rattle.ahci_port.specs.Keeping.{Keeps, HasSlot, slot_at}
-use Rattle.ahci_port.specs.PortView.{is_free, port_from}
+use Rattle.ahci_port.specs.PortView.{is_free, port_over}
 use Rattle.ahci_port.specs.Registers.{acknowledged, started}
 use Rattle.ahci_port.specs.Unqueued.{nothing_sent}
 use Rattle.ahci_port.specs.Slots.{SlotState, phase_in, outstanding_in, view_of, window_in}
@@ -116,9 +116,9 @@ resumed x fault first made low = by fault (nat_lt most_first first) made low
     by (Some f) b h e = absurd (cc)
 
 -- a new port
-pub keeps_new : (image : List ℕ) (reserved : List Bool) (depth : ℕ) (headers : List (List ℕ)) → IsDisk (disk_over image image reserved depth) → length headers ≡ 32
-    → Keeps image (disk_over image image reserved depth) (started depth) (replicate depth None) headers [] 0
-keeps_new image reserved depth headers d count = record {
+pub keeps_new : (image : List ℕ) (grows : Bool) (reserved : List Bool) (depth : ℕ) (headers : List (List ℕ)) → IsDisk (disk_over image image grows reserved depth) → length headers ≡ 32
+    → Keeps image (disk_over image image grows reserved depth) (started depth) (replicate depth None) headers [] 0
+keeps_new image grows reserved depth headers d count = record {
   shape = record {
     whole = d.whole;
     few = d.most;
@@ -141,9 +141,9 @@ keeps_new image reserved depth headers d count = record {
 }
 
 -- nothing is outstanding in a new disk
-none_in_device : (image : List ℕ) (reserved : List Bool) (depth : ℕ) → outstanding (disk_over image image reserved depth) ≡ no_places
-none_in_device image reserved depth =
-    same_sets (outstanding (disk_over image image reserved depth)) no_places (length-map no_commands is_some ∙ no_count ∙ sym length-no_places)
+none_in_device : (image : List ℕ) (grows : Bool) (reserved : List Bool) (depth : ℕ) → outstanding (disk_over image image grows reserved depth) ≡ no_places
+none_in_device image grows reserved depth =
+    same_sets (outstanding (disk_over image image grows reserved depth)) no_places (length-map no_commands is_some ∙ no_count ∙ sym length-no_places)
     (λ i h. get_or-map is_some no_commands i None ∙ ap is_some (no_command i) ∙ sym (has_place-no_places i))
 
 no_windows : (n : ℕ) → map window_in (replicate n None) ≡ replicate n None
@@ -160,12 +160,12 @@ same_journal j first past room held f p r h =
     ∙ ap (λ n. let k : History = record { first = first; past = past; room = room; held = n } in k) h
 
 -- what callers see of it
-pub view_new : (first : ℕ) (image : List ℕ) (reserved : List Bool) (depth : ℕ) (journal : History) → journal ≡ record { first = first; past = []; room = 0; held = 0 }
-    → view_of image (disk_over image image reserved depth) (started depth) nothing_sent (replicate 256 0) (replicate depth None) journal ≡ port_from first image depth
-view_new first image reserved depth journal empty =
-    ap (λ j. view_of image (disk_over image image reserved depth) (started depth) nothing_sent (replicate 256 0) (replicate depth None) j) empty
-    ∙ ap (λ d. record (port_from first image depth) { device = d; windows = map window_in (replicate depth None) }) (none_in_device image reserved depth)
-    ∙ ap (λ w. record (port_from first image depth) { windows = w }) (no_windows depth)
+pub view_new : (first : ℕ) (image : List ℕ) (grows : Bool) (reserved : List Bool) (depth : ℕ) (journal : History) → journal ≡ record { first = first; past = []; room = 0; held = 0 }
+    → view_of image (disk_over image image grows reserved depth) (started depth) nothing_sent (replicate 256 0) (replicate depth None) journal ≡ port_over grows first image depth
+view_new first image grows reserved depth journal empty =
+    ap (λ j. view_of image (disk_over image image grows reserved depth) (started depth) nothing_sent (replicate 256 0) (replicate depth None) j) empty
+    ∙ ap (λ d. record (port_over grows first image depth) { device = d; windows = map window_in (replicate depth None) }) (none_in_device image grows reserved depth)
+    ∙ ap (λ w. record (port_over grows first image depth) { windows = w }) (no_windows depth)
 
 -- where an image in memory makes a disk, so does a store with it
 pub over_may : (bytes depth : ℕ) → size_fault bytes depth ≡ None → over_fault (bytes / 512) depth ≡ None

@@ -10,7 +10,7 @@ use Rattle.ncq_journal.specs.Sector.{sector}
 use Rattle.ncq_journal.proofs.CutLemmas.{answer_following, answer_stays}
 use Rattle.ncq_journal.proofs.NumberLemmas.{place_from}
 use Rattle.ncq_journal.proofs.PartLemmas.{sector_following}
-use Rattle.ahci_port.specs.PortView.{PortView, next_number, port_from}
+use Rattle.ahci_port.specs.PortView.{PortView, next_number, port_over}
 use Rattle.ahci_port.specs.Steps.{Follows}
 
 -- the slots once the first i are free
@@ -70,7 +70,7 @@ earlier_answer first starting later past (Some place) a e = by (answer starting 
     by (Some b) own = ap (option_map (answer_numbered first)) (answer_stays starting later past place b own) ∙ sym (ap (option_map (answer_numbered first)) own) ∙ e
 
 -- what comes later follows what the port did, whose sectors are those of its journal
-pub follows : (old : PortView) → ((s : ℕ) → sector_at old.image s ≡ sector old.starting old.past s) → Follows old (port_from (next_number old) old.image old.depth)
+pub follows : (old : PortView) → ((s : ℕ) → sector_at old.image s ≡ sector old.starting old.past s) → Follows old (port_over old.grows (next_number old) old.image old.depth)
 follows old cut = record {
   sectors = λ later h s. sym (sector_following _ _ old.starting old.image later old.past h cut s);
   answers = λ later h number from. later_answer old.first old.starting old.image later old.past number from (λ place. answer_following _ _ old.starting old.image later old.past place h cut);

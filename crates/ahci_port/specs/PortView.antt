@@ -21,6 +21,8 @@ pub record PortView : Type 0 where
   -- the bytes of the disk's sectors when the journal began, and as they are now
   pub starting : List ℕ
   pub image : List ℕ
+  -- a write may need more memory for its sectors
+  pub grows : Bool
   -- how many slots the port has
   pub depth : ℕ
   -- what the port has done since then, the newest entry first, and the number of the oldest one
@@ -77,11 +79,12 @@ is_free p = false
 abbrev pub next_number : PortView → ℕ
 next_number port = number_of port.first (length port.past)
 
--- a port over an image that has done nothing yet, and numbers its entries from this one
-abbrev pub port_from : ℕ → List ℕ → ℕ → PortView
-port_from first image depth = record {
+-- a port over a store with this image that has done nothing yet, and numbers its entries from this one
+abbrev pub port_over : (grows : Bool) → ℕ → List ℕ → ℕ → PortView
+port_over grows first image depth = record {
   starting = image;
   image = image;
+  grows = grows;
   depth = depth;
   past = [];
   first = first;
@@ -95,7 +98,11 @@ port_from first image depth = record {
   error = None;
 }
 
--- a new port over an image
+-- the same over an image that is all in memory
+abbrev pub port_from : ℕ → List ℕ → ℕ → PortView
+port_from = port_over false
+
+-- a new port over such an image
 abbrev pub new_port : List ℕ → ℕ → PortView
 new_port image depth = port_from 0 image depth
 

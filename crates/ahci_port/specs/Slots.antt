@@ -61,6 +61,7 @@ abbrev pub view_of : List ℕ → DiskState → PortState → Sent → List ℕ 
 view_of starting disk registers sent area slots journal = record {
   starting = starting;
   image = disk.image;
+  grows = disk.grows;
   depth = disk.depth;
   past = journal.past;
   first = journal.first;

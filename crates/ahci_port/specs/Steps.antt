@@ -1,7 +1,7 @@
 -- What each call of the port does, where it is taken: one entry is appended to the journal, or a Complete for each tag that
 -- is served; the registers move by the writes and FISes of the call, and its FISes stand at their places in the received
 -- FIS area.
-use Rattle.std.specs.Prelude.{◌≡◌, ◌≢◌, ℕ, ◌+◌, ◌<◌, ◌≤◌, max, Bool, true, false, nat_lt, List, [], ◌∷◌, ◌++◌, length, take, Option, None, Some, IsSomeAnd, slice_index, slice_set}
+use Rattle.std.specs.Prelude.{◌≡◌, ◌≢◌, ℕ, ◌+◌, ◌<◌, ◌≤◌, max, Bool, true, false, ◌&&◌, nat_lt, List, [], ◌∷◌, ◌++◌, length, take, Option, None, Some, IsSomeAnd, slice_index, slice_set}
 use Rattle.std.specs.List.{fold}
 use Rattle.std.specs.Option.{option_and_then, option_map}
 use Rattle.ahci_table.specs.Build.{IsBuilt}
@@ -14,7 +14,7 @@ use Rattle.ncq_journal.specs.declared.plain.Plain.TheVariants as plain
 use Rattle.ncq_journal.specs.Answer.{Answer, answer, sectors_at}
 use Rattle.ncq_core.specs.DiskFis.{accepted_bytes, not_found_bytes, pio_bytes, setup_bytes, completed_bytes, failed_bytes}
 use Rattle.ncq_journal.specs.Entry.{Entry, Issue, Accept, Complete, Fail, Recover, Reissue, Collect, Unqueued}
-use Rattle.ncq_journal.specs.Image.{sector_at}
+use Rattle.ncq_journal.specs.Image.{is_write, sector_at}
 use Rattle.ncq_journal.specs.Lawful.{IsLawful, end_of}
 use Rattle.ncq_journal.specs.Numbering.{answer_numbered, place_of}
 use Rattle.ncq_journal.specs.Request.{request}
@@ -37,6 +37,7 @@ pub record Appends (old new : PortView) (entry : Entry) : Type 0 where
   pub image_same : new.image ≡ old.image
   pub first_same : new.first ≡ old.first
   pub depth_same : new.depth ≡ old.depth
+  pub grows_same : new.grows ≡ old.grows
   pub past_is : new.past ≡ entry ∷ old.past
   pub sent_is : new.sent ≡ sent_by entry old.sent
 
@@ -53,6 +54,11 @@ call_room = 129
 -- less memory is held than the port's entries and those of one more call need: only then can such a call lack memory
 abbrev pub LacksRoom : PortView → Type 0
 LacksRoom port = port.held < length port.past + call_room
+
+-- only then can the issue of a command lack memory, but for the bytes of a write that are copied: entries are too few, or it writes to a
+-- store that grows
+abbrev pub MayLack : PortView → Work → Type 0
+MayLack port work = ((is_write work && port.grows) ≡ false) → LacksRoom port
 
 -- an entry is appended once there is room for so many. Memory is asked for only where less is held than they need
 pub record ReservesRoom (old new : PortView) : Type 0 where
@@ -121,6 +127,7 @@ pub record CompletesAll (tags : List ℕ) (old new : PortView) : Type 0 where
   pub starting_same : new.starting ≡ old.starting
   pub first_same : new.first ≡ old.first
   pub depth_same : new.depth ≡ old.depth
+  pub grows_same : new.grows ≡ old.grows
   pub past_is : new.past ≡ completes old.past tags
   pub sent_same : new.sent ≡ old.sent
 

@@ -15,7 +15,7 @@ ghost use Rattle.std.specs.Prelude.{◌≡◌, ◌/◌, ◌<◌, ◌≤◌, None
 ghost use Rattle.ahci_regs.specs.Reading.{read_of};
 ghost use Rattle.ncq_core.specs.DiskState.{disk_over, new_fault, over_fault, IsDisk};
 ghost use Rattle.ncq_journal.specs.{Halted.{halted}, Image.{sector_at}, Numbering.{number_of}, Owed.{owed}, Phase.{phase}, Sector.{sector}};
-ghost use Rattle.ahci_port.specs.{Faults.{AnswersOr, most_first, over_refusal, resume_fault_of, resume_refusal}, Headline.{Headline}, PortView.{sectors_in, new_port, owner_of, port_from}, Registers.{acknowledged}};
+ghost use Rattle.ahci_port.specs.{Faults.{AnswersOr, most_first, over_refusal, resume_fault_of, resume_refusal}, Headline.{Headline}, PortView.{sectors_in, new_port, owner_of, port_from, port_over}, Registers.{acknowledged}};
 
 use crate::fault::ResumeFault;
 use crate::slot::{Slot, phase_in, place_in};
@@ -161,7 +161,7 @@ impl<A: Allocator + Clone, S: SectorStore + Drop> Port<A, S> {
     /// where a growth was refused.
     pub fn over(alloc: A, store: S, depth: u32) -> Result<Self, DiskFault>
         requires { length (S.starting store) ≡ length (S.image store) }
-        ensures ok { IfOk result (λ p. p ≡ new_port (S.image store) depth) }
+        ensures ok { IfOk result (λ p. p ≡ port_over (S.grows store) 0 (S.image store) depth) }
         ensures fault { AnswersOr result (over_fault (length (S.image store) / 512) depth) DiskFault.OutOfMemory }
     {
         Self::over_from(alloc, store, depth, 0)
@@ -173,7 +173,7 @@ impl<A: Allocator + Clone, S: SectorStore + Drop> Port<A, S> {
     /// `BadSize` and `BadDepth` as for `over`, then `BadFirst` where `first` is over 2^63; else `OutOfMemory` where a growth was refused.
     pub fn resume_over(alloc: A, store: S, depth: u32, first: u64) -> Result<Self, ResumeFault>
         requires { length (S.starting store) ≡ length (S.image store) }
-        ensures ok { IfOk result (λ p. p ≡ port_from first (S.image store) depth) }
+        ensures ok { IfOk result (λ p. p ≡ port_over (S.grows store) first (S.image store) depth) }
         ensures fault { AnswersOr result (over_refusal (length (S.image store) / 512) depth first) ResumeFault.OutOfMemory }
     {
         if first > MOST_FIRST {
@@ -192,7 +192,7 @@ impl<A: Allocator + Clone, S: SectorStore + Drop> Port<A, S> {
     fn over_from(alloc: A, store: S, depth: u32, first: u64) -> Result<Self, DiskFault>
         requires kept { length (S.starting store) ≡ length (S.image store) }
         requires first { first ≤ most_first }
-        ensures ok { IfOk result (λ p. p ≡ port_from first (S.image store) depth) }
+        ensures ok { IfOk result (λ p. p ≡ port_over (S.grows store) first (S.image store) depth) }
         ensures fault { AnswersOr result (over_fault (length (S.image store) / 512) depth) DiskFault.OutOfMemory }
     {
         let mut disk = Disk::over(store, depth)?;
@@ -206,10 +206,10 @@ impl<A: Allocator + Clone, S: SectorStore + Drop> Port<A, S> {
 
     /// The port of a new disk that has kept its image.
     fn made_of(alloc: A, disk: Disk<S>, depth: u32, first: u64) -> Result<Self, AllocError>
-        requires new { disk ≡ disk_over disk.image disk.image disk.reserved depth }
-        requires disk { IsDisk (disk_over disk.image disk.image disk.reserved depth) }
+        requires new { disk ≡ disk_over disk.image disk.image disk.grows disk.reserved depth }
+        requires disk { IsDisk (disk_over disk.image disk.image disk.grows disk.reserved depth) }
         requires first { first ≤ most_first }
-        ensures { IfOk result (λ p. p ≡ port_from first disk.image depth) }
+        ensures { IfOk result (λ p. p ≡ port_over disk.grows first disk.image depth) }
     {
         let slots = free_slots(alloc.clone()?, depth)?;
         let journal = Journal::starting_at(alloc.clone()?, first);

@@ -28,27 +28,27 @@ none_outstanding : (disk : DiskState) (commands : List (Option QueuedFields)) �
 none_outstanding disk commands none tag q found =
     let is : None ≡ Some q = sym (command_of-no_commands tag) ∙ ap (λ c. get_or c tag None) (sym none) ∙ found in absurd (cc)
 
-pub is_disk_new : (image starting : List ℕ) (reserved : List Bool) (depth : ℕ) (none : List (Option QueuedFields)) → none ≡ no_commands
+pub is_disk_new : (image starting : List ℕ) (grows : Bool) (reserved : List Bool) (depth : ℕ) (none : List (Option QueuedFields)) → none ≡ no_commands
     → length image ≡ 512 * (length image / 512) → 1 ≤ length image / 512 → length image / 512 ≤ 4294967295 → 1 ≤ depth → depth ≤ 32
-    → IsDisk (record { image = image; starting = starting; reserved = reserved; depth = depth; commands = none; error = None })
-is_disk_new image starting reserved depth none empty whole least most deep shallow = record {
+    → IsDisk (record { image = image; starting = starting; grows = grows; reserved = reserved; depth = depth; commands = none; error = None })
+is_disk_new image starting grows reserved depth none empty whole least most deep shallow = record {
   whole = whole;
   least = least;
   most = most;
   deep = deep;
   shallow = shallow;
   count = ap length empty ∙ length-no_commands;
-  each = none_outstanding (record { image = image; starting = starting; reserved = reserved; depth = depth; commands = none; error = None }) none empty;
+  each = none_outstanding (record { image = image; starting = starting; grows = grows; reserved = reserved; depth = depth; commands = none; error = None }) none empty;
   stands = λ e is. absurd (cc);
 }
 
 -- an error stands, and no command is left
-pub is_disk_stopped : (image starting : List ℕ) (reserved : List Bool) (depth : ℕ) (commands none : List (Option QueuedFields)) (error : Option DiskError) (tag code lba : ℕ)
-    → IsDisk (record { image = image; starting = starting; reserved = reserved; depth = depth; commands = commands; error = error }) → none ≡ no_commands
-    → tag < 32 → code < 256 → lba < 2 ^ 48 → IsDisk (record { image = image; starting = starting; reserved = reserved; depth = depth; commands = none; error = Some (record { tag = tag; error = code; lba = lba }) })
-is_disk_stopped image starting reserved depth commands none error tag code lba d empty low byte far =
+pub is_disk_stopped : (image starting : List ℕ) (grows : Bool) (reserved : List Bool) (depth : ℕ) (commands none : List (Option QueuedFields)) (error : Option DiskError) (tag code lba : ℕ)
+    → IsDisk (record { image = image; starting = starting; grows = grows; reserved = reserved; depth = depth; commands = commands; error = error }) → none ≡ no_commands
+    → tag < 32 → code < 256 → lba < 2 ^ 48 → IsDisk (record { image = image; starting = starting; grows = grows; reserved = reserved; depth = depth; commands = none; error = Some (record { tag = tag; error = code; lba = lba }) })
+is_disk_stopped image starting grows reserved depth commands none error tag code lba d empty low byte far =
     let e : DiskError = record { tag = tag; error = code; lba = lba } in
-    let after : DiskState = record { image = image; starting = starting; reserved = reserved; depth = depth; commands = none; error = Some e } in
+    let after : DiskState = record { image = image; starting = starting; grows = grows; reserved = reserved; depth = depth; commands = none; error = Some e } in
     record {
       whole = d.whole;
       least = d.least;
@@ -61,16 +61,16 @@ is_disk_stopped image starting reserved depth commands none error tag code lba d
     }
 
 -- nothing is outstanding after a reset
-pub is_disk_reset : (image starting : List ℕ) (reserved : List Bool) (depth : ℕ) (commands none : List (Option QueuedFields)) (error : Option DiskError)
-    → IsDisk (record { image = image; starting = starting; reserved = reserved; depth = depth; commands = commands; error = error }) → none ≡ no_commands
-    → IsDisk (record { image = image; starting = starting; reserved = reserved; depth = depth; commands = none; error = None })
-is_disk_reset image starting reserved depth commands none error d empty = is_disk_new image starting reserved depth none empty d.whole d.least d.most d.deep d.shallow
+pub is_disk_reset : (image starting : List ℕ) (grows : Bool) (reserved : List Bool) (depth : ℕ) (commands none : List (Option QueuedFields)) (error : Option DiskError)
+    → IsDisk (record { image = image; starting = starting; grows = grows; reserved = reserved; depth = depth; commands = commands; error = error }) → none ≡ no_commands
+    → IsDisk (record { image = image; starting = starting; grows = grows; reserved = reserved; depth = depth; commands = none; error = None })
+is_disk_reset image starting grows reserved depth commands none error d empty = is_disk_new image starting grows reserved depth none empty d.whole d.least d.most d.deep d.shallow
 
 -- another image of the same size is there, other sectors are kept, or others are reserved
-pub is_disk_moved : (image image' starting starting' : List ℕ) (reserved reserved' : List Bool) (depth : ℕ) (commands : List (Option QueuedFields)) (error : Option DiskError)
-    → IsDisk (record { image = image; starting = starting; reserved = reserved; depth = depth; commands = commands; error = error }) → length image' ≡ length image
-    → IsDisk (record { image = image'; starting = starting'; reserved = reserved'; depth = depth; commands = commands; error = error })
-is_disk_moved image image' starting starting' reserved reserved' depth commands error d size = record {
+pub is_disk_moved : (image image' starting starting' : List ℕ) (grows grows' : Bool) (reserved reserved' : List Bool) (depth : ℕ) (commands : List (Option QueuedFields)) (error : Option DiskError)
+    → IsDisk (record { image = image; starting = starting; grows = grows; reserved = reserved; depth = depth; commands = commands; error = error }) → length image' ≡ length image
+    → IsDisk (record { image = image'; starting = starting'; grows = grows'; reserved = reserved'; depth = depth; commands = commands; error = error })
+is_disk_moved image image' starting starting' grows grows' reserved reserved' depth commands error d size = record {
   whole = size ∙ d.whole ∙ ap (λ n. 512 * (n / 512)) (sym size);
   least = omega (arith, d.least);
   most = omega (arith, d.most);
@@ -82,10 +82,10 @@ is_disk_moved image image' starting starting' reserved reserved' depth commands 
 }
 
 -- one command has ended
-pub is_disk_freed : (image starting : List ℕ) (reserved : List Bool) (depth tag : ℕ) (commands : List (Option QueuedFields)) (error : Option DiskError)
-    → IsDisk (record { image = image; starting = starting; reserved = reserved; depth = depth; commands = commands; error = error })
-    → IsDisk (record { image = image; starting = starting; reserved = reserved; depth = depth; commands = set commands tag None; error = error })
-is_disk_freed image starting reserved depth tag commands error d = record {
+pub is_disk_freed : (image starting : List ℕ) (grows : Bool) (reserved : List Bool) (depth tag : ℕ) (commands : List (Option QueuedFields)) (error : Option DiskError)
+    → IsDisk (record { image = image; starting = starting; grows = grows; reserved = reserved; depth = depth; commands = commands; error = error })
+    → IsDisk (record { image = image; starting = starting; grows = grows; reserved = reserved; depth = depth; commands = set commands tag None; error = error })
+is_disk_freed image starting grows reserved depth tag commands error d = record {
   whole = d.whole;
   least = d.least;
   most = d.most;

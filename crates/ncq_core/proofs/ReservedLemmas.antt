@@ -1,5 +1,5 @@
 -- Which sectors are reserved, as a store says and as a disk lists it.
-use Rattle.std.proofs.Common.{◌≡◌, ℕ, ◌+◌, ◌<◌, ◌≤◌, Bool, true, false, not, ◌&&◌, List, Option, None, Some, sym, subst, refl, ◌∙◌, arith, inl, inr, map}
+use Rattle.std.proofs.Common.{◌≡◌, ℕ, ◌+◌, ◌<◌, ◌≤◌, Bool, true, false, ◌||◌, List, Option, None, Some, sym, subst, refl, ◌∙◌, arith, inl, inr, map}
 use Rattle.std.specs.Option.{IfSome}
 use Rattle.std.proofs.lemmas.Bool.{cases_lt}
 use Rattle.std.proofs.lemmas.Option.{same_Some}
@@ -41,18 +41,14 @@ listed_stay f g n m same stay s is = elim (cases_lt s n) [
 pub all_reserved : (f g : ℕ → Bool) (lba count : ℕ) → StayReserved f g → AreReserved f lba count → AreReserved g lba count
 all_reserved f g lba count stay all s from below = stay s (all s from below)
 
--- a store has the memory that a command needs, if it needs none at all or its sectors are listed
-pub may_move : (never_asks : Bool) (f : ℕ → Bool) (n : ℕ) (q : QueuedFields) → ((s : ℕ) → (never_asks && not (f s)) ≡ false) → q.lba + q.sectors ≤ n → HasMemory never_asks n (reserved_of f n) q
+-- a store has the memory that a command needs, if it never grows or its sectors are listed
+pub may_move : (grows : Bool) (f : ℕ → Bool) (n : ℕ) (q : QueuedFields) → ((s : ℕ) → (grows || f s) ≡ true) → q.lba + q.sectors ≤ n → HasMemory grows n (reserved_of f n) q
     → q.write ≡ true → AreReserved f q.lba q.sectors
-may_move true f n q none fits has write = λ s from below. is_true (f s) (none s)
-  where
-    is_true : (b : Bool) → (true && not b) ≡ false → b ≡ true
-    is_true true e = refl
-    is_true false e = absurd (cc)
-may_move false f n q none fits has write = λ s from below. unlisted f n s (subst (λ b. HasRoom n (reserved_of f n) b q.lba q.sectors) write has fits s from below)
+may_move false f n q none fits has write = λ s from below. none s
+may_move true f n q none fits has write = λ s from below. unlisted f n s (subst (λ b. HasRoom n (reserved_of f n) b q.lba q.sectors) write has fits s from below)
 
 -- the memory is there for the command at a tag
-pub memory_at : (never_asks : Bool) (n : ℕ) (reserved : List Bool) (o : Option QueuedFields) (q : QueuedFields) → o ≡ Some q → HasRoom n reserved q.write q.lba q.sectors → IfSome o (HasMemory never_asks n reserved)
-memory_at never_asks n reserved None q is room = absurd (cc)
-memory_at true n reserved (Some p) q is room = tt
-memory_at false n reserved (Some p) q is room = subst (λ (x : QueuedFields). HasRoom n reserved x.write x.lba x.sectors) (sym (same_Some p q is)) room
+pub memory_at : (grows : Bool) (n : ℕ) (reserved : List Bool) (o : Option QueuedFields) (q : QueuedFields) → o ≡ Some q → HasRoom n reserved q.write q.lba q.sectors → IfSome o (HasMemory grows n reserved)
+memory_at grows n reserved None q is room = absurd (cc)
+memory_at false n reserved (Some p) q is room = tt
+memory_at true n reserved (Some p) q is room = subst (λ (x : QueuedFields). HasRoom n reserved x.write x.lba x.sectors) (sym (same_Some p q is)) room

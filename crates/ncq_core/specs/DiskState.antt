@@ -11,11 +11,12 @@ use Rattle.ncq_core.specs.declared.disk_fault.DiskFault.TheVariants.{BadSize, Ba
 abbrev pub DiskError : Type 0
 DiskError = Inside
 
--- the bytes of all sectors as they are now, those that the store kept (none if it keeps none), whether each sector can be written with no
--- more memory, how many tags there are, the command outstanding at each of 32 tags, and the error
+-- the bytes of all sectors as they are now, those that the store kept (none if it keeps none), whether a write may need more memory,
+-- whether each sector can be written with none, how many tags there are, the command outstanding at each of 32 tags, and the error
 pub record DiskState : Type 0 where
   pub image : List ℕ
   pub starting : List ℕ
+  pub grows : Bool
   pub reserved : List Bool
   pub depth : ℕ
   pub commands : List (Option QueuedFields)
@@ -49,14 +50,14 @@ is_stopped disk = is_some disk.error
 unfoldable pub no_commands : List (Option QueuedFields)
 no_commands = replicate 32 None
 
--- a disk on which nothing has happened yet, over a store with this image, what it kept and what it has reserved
-abbrev pub disk_over : List ℕ → List ℕ → List Bool → ℕ → DiskState
-disk_over image starting reserved depth =
-    record { image = image; starting = starting; reserved = reserved; depth = depth; commands = no_commands; error = None }
+-- a disk on which nothing has happened yet, over a store with this image, what it kept, whether it grows and what it has reserved
+abbrev pub disk_over : List ℕ → List ℕ → Bool → List Bool → ℕ → DiskState
+disk_over image starting grows reserved depth =
+    record { image = image; starting = starting; grows = grows; reserved = reserved; depth = depth; commands = no_commands; error = None }
 
 -- a disk on which nothing has happened yet, over an image in memory, of which none is kept
 abbrev pub new_disk : List ℕ → ℕ → DiskState
-new_disk image depth = disk_over image [] (reserved_of (λ lba. true) (length image / 512)) depth
+new_disk image depth = disk_over image [] false (reserved_of (λ lba. true) (length image / 512)) depth
 
 -- the most sectors of a disk: their number is 32 bits wide
 abbrev pub most_sectors : ℕ

@@ -65,10 +65,10 @@ abbrev pub HasRoom : ℕ → List Bool → (write : Bool) → (lba sectors : ℕ
 HasRoom size reserved false lba sectors = Unit {0}
 HasRoom size reserved true lba sectors = lba + sectors ≤ size → AreReserved (is_reserved_in reserved) lba sectors
 
--- the same, where a store may need more at all
-abbrev pub HasMemory : (never_asks : Bool) → ℕ → List Bool → QueuedFields → Type 0
-HasMemory true size reserved q = Unit {0}
-HasMemory false size reserved q = HasRoom size reserved q.write q.lba q.sectors
+-- the same, where a write may need more at all
+abbrev pub HasMemory : (grows : Bool) → ℕ → List Bool → QueuedFields → Type 0
+HasMemory false size reserved q = Unit {0}
+HasMemory true size reserved q = HasRoom size reserved q.write q.lba q.sectors
 
 -- the disk has the memory that this command needs
 abbrev pub HasCommandRoom : DiskState → QueuedFields → Type 0

@@ -8,7 +8,7 @@ mod moving;
 mod serving;
 mod taking;
 
-ghost use Rattle.std.specs.Prelude.{◌≡◌, ◌+◌, ◌*◌, ◌/◌, ◌<◌, ◌≤◌, ◌^◌, None, Some, false, length, IfOk, IfErr, IfSome, OnOk, OnErr};
+ghost use Rattle.std.specs.Prelude.{◌≡◌, ◌+◌, ◌*◌, ◌/◌, ◌<◌, ◌≤◌, ◌^◌, None, Some, false, true, length, IfOk, IfErr, IfSome, OnOk, OnErr};
 ghost use Rattle.std.specs.Option.{option_copied};
 ghost use Rattle.word_bits.specs.Places.{bits};
 ghost use Rattle.ncq_journal.specs.Image.{sector_at};
@@ -60,9 +60,9 @@ impl<S: SectorStore> Model for Disk<S> {
 
     ghost Value = { DiskState };
 
-    ghost view = { λ d. record { image = S.image d.store; starting = S.starting d.store; reserved = reserved_of (S.is_reserved d.store) (length (S.image d.store) / 512); depth = d.depth; commands = d.commands; error = d.error } };
+    ghost view = { λ d. record { image = S.image d.store; starting = S.starting d.store; grows = S.grows d.store; reserved = reserved_of (S.is_reserved d.store) (length (S.image d.store) / 512); depth = d.depth; commands = d.commands; error = d.error } };
 
-    ghost invariant = { λ d. IsDisk (record { image = S.image d.store; starting = S.starting d.store; reserved = reserved_of (S.is_reserved d.store) (length (S.image d.store) / 512); depth = d.depth; commands = d.commands; error = d.error })
+    ghost invariant = { λ d. IsDisk (record { image = S.image d.store; starting = S.starting d.store; grows = S.grows d.store; reserved = reserved_of (S.is_reserved d.store) (length (S.image d.store) / 512); depth = d.depth; commands = d.commands; error = d.error })
         × (d.page ≡ identify_page (length (S.image d.store) / 512) d.depth) };
 }
 
@@ -148,7 +148,7 @@ impl<S: SectorStore + Drop> Disk<S> {
     /// # Errors
     /// `BadSize` where the store has no sectors or more than 2^32 - 1, `BadDepth` where the depth is not 1 to 32.
     pub fn over(store: S, depth: u32) -> Result<Self, DiskFault>
-        ensures ok { IfOk result (λ d. (over_fault (length (S.image store) / 512) depth ≡ None) × (d ≡ disk_over (S.image store) (S.starting store) (reserved_of (S.is_reserved store) (length (S.image store) / 512)) depth)) }
+        ensures ok { IfOk result (λ d. (over_fault (length (S.image store) / 512) depth ≡ None) × (d ≡ disk_over (S.image store) (S.starting store) (S.grows store) (reserved_of (S.is_reserved store) (length (S.image store) / 512)) depth)) }
         ensures err { IfErr result (λ e. over_fault (length (S.image store) / 512) depth ≡ Some e) }
     {
         let sectors = store.sectors();
@@ -225,10 +225,10 @@ impl<S: SectorStore> Disk<S> {
     /// Takes the memory that serving a command needs: none unless it is a write, all of whose sectors are on the disk.
     ///
     /// # Errors
-    /// If there is no memory. Nothing but what is reserved has changed then.
+    /// If there is no memory, which only a write lacks, to a store that grows. Nothing but what is reserved has changed then.
     pub fn reserve(&mut self, command: &Queued) -> Result<(), AllocError>
         ensures ok { OnOk result (HasRoom (disk_sectors self.old) self.new.reserved command.now.write command.now.lba command.now.sectors) }
-        ensures lacking { OnErr result (S.never_asks ≡ false) }
+        ensures lacking { OnErr result ((command.now.write ≡ true) × (self.old.grows ≡ true)) }
         ensures stay { StayReserved (is_reserved_in self.old.reserved) (is_reserved_in self.new.reserved) }
         ensures state { self.new ≡ record self.old { reserved = self.new.reserved } }
     {
@@ -243,7 +243,7 @@ impl<S: SectorStore> Disk<S> {
     fn reserve_run(&mut self, lba: u64, sectors: u64) -> Result<(), AllocError>
         requires { lba + sectors ≤ disk_sectors self.old }
         ensures ok { OnOk result (AreReserved (is_reserved_in self.new.reserved) lba sectors) }
-        ensures lacking { OnErr result (S.never_asks ≡ false) }
+        ensures lacking { OnErr result (self.old.grows ≡ true) }
         ensures stay { StayReserved (is_reserved_in self.old.reserved) (is_reserved_in self.new.reserved) }
         ensures state { self.new ≡ record self.old { reserved = self.new.reserved } }
     {

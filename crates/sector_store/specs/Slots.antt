@@ -8,21 +8,21 @@ abbrev pub slot_within : {C : Type 0} → (C → ℕ → Option Layers) → Opti
 slot_within part_slot None q = None
 slot_within part_slot (Some part) q = part_slot part q
 
--- a slot of a leaf of 512 slots
+-- a slot of a leaf of 16 slots
 abbrev pub leaf_slot : List Layers → ℕ → Option Layers
 leaf_slot leaf q = slice_get leaf q
 
--- a slot of a branch of 1,024 leaves
+-- a slot of a branch of 2,048 leaves
 abbrev pub branch_slot : List (Option (List Layers)) → ℕ → Option Layers
-branch_slot branch q = slot_within leaf_slot (slice_index_or branch (q / 512) None) (q % 512)
+branch_slot branch q = slot_within leaf_slot (slice_index_or branch (q / 16) None) (q % 16)
 
 -- a slot of a table of branches
 unfoldable pub slot_at : List (Option (List (Option (List Layers)))) → ℕ → Option Layers
-slot_at table q = slot_within branch_slot (slice_index_or table (q / 524288) None) (q % 524288)
+slot_at table q = slot_within branch_slot (slice_index_or table (q / 32768) None) (q % 32768)
 
 -- for how many page numbers a table has room
 unfoldable pub table_span : List (Option (List (Option (List Layers)))) → ℕ
-table_span table = 524288 * length table
+table_span table = 32768 * length table
 
 -- the layers of a slot, no pages if the slot isn't made
 abbrev pub layers_of : Option Layers → Layers

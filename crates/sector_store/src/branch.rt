@@ -1,4 +1,4 @@
-//! The middle level of a table: 1,024 leaves, each made when it is first needed.
+//! The middle level of a table: 2,048 leaves, each made when it is first needed.
 
 ghost use Rattle.std.specs.Prelude.{◌≡◌, ◌<◌, true, Some, is_some, IfOk, OnOk};
 ghost use Rattle.std.specs.Option.{option_copied};
@@ -10,12 +10,12 @@ use std::alloc::{AllocError, Allocator};
 use std::marker::Model;
 
 /// How many leaves a branch has.
-const LEAVES: usize = 1024;
+const LEAVES: usize = 2048;
 
 /// How many slots a branch has.
-pub const BRANCH: usize = 524_288;
+pub const BRANCH: usize = 32_768;
 
-/// 1,024 leaves or places for them. Contracts see the list of the leaves.
+/// 2,048 leaves or places for them. Contracts see the list of the leaves.
 #[derive(Drop)]
 pub struct Branch<A: Allocator> {
     leaves: Vec<Option<Leaf<A>>, A>,
@@ -29,7 +29,7 @@ impl<A: Allocator> Model for Branch<A> {
 
     ghost view = { λ b. b.leaves.items };
 
-    ghost invariant = { λ b. length b.leaves.items ≡ 1024 };
+    ghost invariant = { λ b. length b.leaves.items ≡ 2048 };
 }
 
 impl<A: Allocator> Branch<A> {
@@ -63,7 +63,7 @@ impl<A: Allocator> Branch<A> {
     /// # Errors
     /// If there is no memory.
     pub fn make(&mut self, alloc: A, place: usize) -> Result<(), AllocError>
-        requires { place < 524288 }
+        requires { place < 32768 }
         ensures made { OnOk result (is_some (branch_slot self.new place) ≡ true) }
         ensures grown { HasGrown (branch_slot self.old) (branch_slot self.new) }
     {

@@ -1,4 +1,4 @@
-//! The lowest level of a table: 512 slots.
+//! The lowest level of a table: 16 slots.
 
 ghost use Rattle.std.specs.Prelude.{◌≡◌, ◌<◌, true, Some, is_some, IfOk};
 ghost use Rattle.std.specs.Option.{option_copied};
@@ -10,9 +10,9 @@ use std::marker::Model;
 use std::mem::replace;
 
 /// How many slots a leaf has.
-pub const LEAF: usize = 512;
+pub const LEAF: usize = 16;
 
-/// 512 slots. Contracts see the list of their layers.
+/// 16 slots, since a page that is written far from all others needs a leaf of its own. Contracts see the list of their layers.
 #[derive(Drop)]
 pub struct Leaf<A: Allocator> {
     slots: Vec<Slot<A>, A>,
@@ -26,7 +26,7 @@ impl<A: Allocator> Model for Leaf<A> {
 
     ghost view = { λ l. l.slots.items };
 
-    ghost invariant = { λ l. length l.slots.items ≡ 512 };
+    ghost invariant = { λ l. length l.slots.items ≡ 16 };
 }
 
 impl<A: Allocator> Leaf<A> {
@@ -48,7 +48,7 @@ impl<A: Allocator> Leaf<A> {
     /// The slot at a place.
     pub fn slot(&self, place: usize) -> Option<&Slot<A>>
         ensures slot { option_copied result ≡ leaf_slot self.now place }
-        ensures made { place < 512 → is_some (leaf_slot self.now place) ≡ true }
+        ensures made { place < 16 → is_some (leaf_slot self.now place) ≡ true }
     {
         self.slots.get(place)
     }

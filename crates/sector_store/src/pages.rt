@@ -5,7 +5,7 @@ mod reading;
 mod reserving;
 mod writing;
 
-ghost use Rattle.std.specs.Prelude.{◌≡◌, ℕ, ◌*◌, ◌≤◌, false, refl, IfOk};
+ghost use Rattle.std.specs.Prelude.{◌≡◌, ℕ, ◌*◌, ◌≤◌, true, refl, IfOk};
 ghost use Rattle.sector_store.specs.Slots.{slot_at, table_span};
 ghost use Rattle.sector_store.specs.Shown.{AreTouched, ChangesAmong, HasWholePages, joined, sector_now, sector_kept, is_writable};
 
@@ -68,7 +68,7 @@ impl<B: Base, A: Allocator + Copy> SectorStore for Pages<B, A> {
 
     ghost is_reserved = { λ p s. is_writable (slot_at p.table) s };
 
-    ghost never_asks = { false };
+    ghost grows = { λ p. true };
 
     ghost none_lacks = { λ p s. refl };
 

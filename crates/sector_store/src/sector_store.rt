@@ -1,6 +1,6 @@
 //! What a disk needs of what holds its sectors.
 
-ghost use Rattle.std.specs.Prelude.{◌≡◌, ℕ, ◌+◌, ◌*◌, ◌/◌, ◌<◌, ◌≤◌, Bool, false, not, ◌&&◌, List, length, take, drop, OnOk, OnErr};
+ghost use Rattle.std.specs.Prelude.{◌≡◌, ℕ, ◌+◌, ◌*◌, ◌/◌, ◌<◌, ◌≤◌, Bool, true, ◌||◌, List, length, take, drop, OnOk, OnErr};
 ghost use Rattle.ncq_journal.specs.Image.{IsWrittenOver};
 ghost use Rattle.sector_store.specs.Reserved.{AreReserved, StayReserved};
 
@@ -17,8 +17,8 @@ pub trait SectorStore {
     // a sector can be written with no more memory
     ghost is_reserved: { Self → ℕ → Bool };
 
-    // no sector of any such store needs more memory
-    ghost never_asks: { Bool };
+    // a write may need more memory
+    ghost grows: { Self → Bool };
 
     /// How many sectors there are.
     fn sectors(&self) -> u64
@@ -39,11 +39,12 @@ pub trait SectorStore {
     /// Takes the memory that writes of these sectors need until the next `keep` or `restore`.
     ///
     /// # Errors
-    /// If there is no memory. No sector changes then either, and what was reserved is.
+    /// If there is no memory, which only a store lacks that grows. No sector changes then either, and what was reserved is.
     fn reserve(&mut self, lba: u64, sectors: u64) -> Result<(), AllocError>
         requires { 512 * (lba + sectors) ≤ length (image self.old) }
         ensures ok { OnOk result (AreReserved (is_reserved self.new) lba sectors) }
-        ensures lacking { OnErr result (never_asks ≡ false) }
+        ensures lacking { OnErr result (grows self.old ≡ true) }
+        ensures kind { grows self.new ≡ grows self.old }
         ensures stay { StayReserved (is_reserved self.old) (is_reserved self.new) }
         ensures image { image self.new ≡ image self.old }
         ensures starting { starting self.new ≡ starting self.old };
@@ -54,6 +55,7 @@ pub trait SectorStore {
         requires fits { 512 * lba + length bytes.now ≤ length (image self.old) }
         requires reserved { AreReserved (is_reserved self.old) lba (length bytes.now / 512) }
         ensures written { IsWrittenOver lba bytes.now (image self.old) (image self.new) }
+        ensures kind { grows self.new ≡ grows self.old }
         ensures len { length (image self.new) ≡ length (image self.old) }
         ensures stay { StayReserved (is_reserved self.old) (is_reserved self.new) }
         ensures starting { starting self.new ≡ starting self.old };
@@ -61,15 +63,17 @@ pub trait SectorStore {
     /// Keeps the sectors as they are now. It takes no memory, and what was reserved may no longer be.
     fn keep(&mut self)
         requires { length (starting self.old) ≡ length (image self.old) }
+        ensures kind { grows self.new ≡ grows self.old }
         ensures image { image self.new ≡ image self.old }
         ensures starting { starting self.new ≡ image self.old };
 
     /// Makes the sectors what they were when they were last kept. It takes no memory, and what was reserved may no longer be.
     fn restore(&mut self)
         requires { length (starting self.old) ≡ length (image self.old) }
+        ensures kind { grows self.new ≡ grows self.old }
         ensures image { image self.new ≡ starting self.old }
         ensures starting { starting self.new ≡ starting self.old };
 
-    // a store that needs no memory has reserved every sector
-    ghost none_lacks: { (store : Self) (lba : ℕ) → (never_asks && not (is_reserved store lba)) ≡ false };
+    // a store that doesn't grow has reserved every sector
+    ghost none_lacks: { (store : Self) (lba : ℕ) → (grows store || is_reserved store lba) ≡ true };
 }

@@ -1,6 +1,6 @@
 //! A store whose kind is chosen when it is made.
 
-ghost use Rattle.std.specs.Prelude.{◌≡◌, ℕ, ◌+◌, ◌*◌, ◌/◌, ◌<◌, ◌≤◌, length, false, refl, IfOk, IfSome};
+ghost use Rattle.std.specs.Prelude.{◌≡◌, ℕ, ◌+◌, ◌*◌, ◌/◌, ◌<◌, ◌≤◌, ◌||◌, Bool, length, false, true, refl, is_some, IfOk, IfSome};
 ghost use Rattle.std.specs.Option.{option_copied};
 ghost use Rattle.sector_store.specs.Reserved.{AreReserved};
 ghost use Rattle.sector_store.specs.Shown.{ChangesAmong, buffer_sector, joined};
@@ -30,6 +30,7 @@ impl<A: Allocator> Sectors<A> {
         requires { length image.items ≡ 512 * (length image.items / 512) }
         ensures image { IfOk result (λ s. ⟦<Sectors<A> as SectorStore>⟧.image s ≡ image.items) }
         ensures starting { IfOk result (λ s. ⟦<Sectors<A> as SectorStore>⟧.starting s ≡ image.items) }
+        ensures kind { IfOk result (λ s. ⟦<Sectors<A> as SectorStore>⟧.grows s ≡ false) }
     {
         Ok(Sectors::Whole(Whole::new(alloc, image)?))
     }
@@ -43,15 +44,18 @@ impl<A: Allocator> Sectors<A> {
         requires { sectors ≤ 4294967296 }
         ensures image { IfOk result (λ s. ⟦<Sectors<A> as SectorStore>⟧.image s ≡ joined (buffer_sector base.now) sectors) }
         ensures starting { IfOk result (λ s. ⟦<Sectors<A> as SectorStore>⟧.starting s ≡ joined (buffer_sector base.now) sectors) }
+        ensures kind { IfOk result (λ s. ⟦<Sectors<A> as SectorStore>⟧.grows s ≡ true) }
     {
         Ok(Sectors::Pages(Pages::new(heap, Buffer::new(base), sectors)?))
     }
 }
 
 impl<A: Allocator> Sectors<A> {
-    /// The numbers of the pages of eight sectors that may have changed since they were last kept; nothing if that isn't known.
+    /// The numbers of the pages of eight sectors that may have changed since they were last kept; nothing if all bytes are in memory,
+    /// since that isn't known then.
     pub fn touched(&self) -> Option<&[u32]>
-        ensures { IfSome (option_copied result) (λ touched. ChangesAmong touched (⟦<Sectors<A> as SectorStore>⟧.image self.now) (⟦<Sectors<A> as SectorStore>⟧.starting self.now)) }
+        ensures known { is_some (option_copied result) ≡ ⟦<Sectors<A> as SectorStore>⟧.grows self.now }
+        ensures pages { IfSome (option_copied result) (λ touched. ChangesAmong touched (⟦<Sectors<A> as SectorStore>⟧.image self.now) (⟦<Sectors<A> as SectorStore>⟧.starting self.now)) }
     {
         match self {
             Sectors::Whole(_) => None,
@@ -67,9 +71,9 @@ impl<A: Allocator> SectorStore for Sectors<A> {
 
     ghost is_reserved = { λ s. elim s [ the.Whole w ↦ ⟦<Whole<A> as SectorStore>⟧.is_reserved w | the.Pages p ↦ ⟦<Pages<Buffer<'static>, Global> as SectorStore>⟧.is_reserved p ] };
 
-    ghost never_asks = { false };
+    ghost grows = { λ s. elim s [ the.Whole w ↦ false | the.Pages p ↦ true ] };
 
-    ghost none_lacks = { λ s lba. refl };
+    ghost none_lacks = { λ s lba. elim s as (λ k. ((elim k as (λ x. Bool) [ the.Whole w ↦ false | the.Pages p ↦ true ]) || (elim k as (λ x. ℕ → Bool) [ the.Whole w ↦ ⟦<Whole<A> as SectorStore>⟧.is_reserved w | the.Pages p ↦ ⟦<Pages<Buffer<'static>, Global> as SectorStore>⟧.is_reserved p ]) lba) ≡ true) [ the.Whole w ↦ refl | the.Pages p ↦ refl ] };
 
     fn sectors(&self) -> u64 {
         match self {

@@ -1,6 +1,6 @@
 //! Every byte of a disk, once.
 
-ghost use Rattle.std.specs.Prelude.{◌≡◌, ℕ, ◌+◌, ◌*◌, ◌/◌, ◌<◌, ◌≤◌, length, [], true, refl};
+ghost use Rattle.std.specs.Prelude.{◌≡◌, ℕ, ◌+◌, ◌*◌, ◌/◌, ◌<◌, ◌≤◌, length, [], false, true, refl};
 
 use crate::sector_store::SectorStore;
 use ncq_journal::{read_sectors, write_sectors};
@@ -38,7 +38,7 @@ impl<A: Allocator> SectorStore for Single<A> {
 
     ghost is_reserved = { λ s lba. true };
 
-    ghost never_asks = { true };
+    ghost grows = { λ s. false };
 
     ghost none_lacks = { λ s lba. refl };
 

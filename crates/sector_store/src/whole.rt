@@ -1,6 +1,6 @@
 //! Every byte of a disk, twice.
 
-ghost use Rattle.std.specs.Prelude.{◌≡◌, ℕ, ◌+◌, ◌*◌, ◌/◌, ◌<◌, ◌≤◌, length, true, refl, IfOk};
+ghost use Rattle.std.specs.Prelude.{◌≡◌, ℕ, ◌+◌, ◌*◌, ◌/◌, ◌<◌, ◌≤◌, length, false, true, refl, IfOk};
 
 use crate::sector_store::SectorStore;
 use ncq_journal::{read_sectors, write_sectors};
@@ -45,7 +45,7 @@ impl<A: Allocator> SectorStore for Whole<A> {
 
     ghost is_reserved = { λ w s. true };
 
-    ghost never_asks = { true };
+    ghost grows = { λ w. false };
 
     ghost none_lacks = { λ w s. refl };
 

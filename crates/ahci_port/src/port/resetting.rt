@@ -1,7 +1,7 @@
 //! How the port is reset (AHCI 1.3.1, section 10.4; section 3.3.7, ST of PxCMD).
 
 ghost use Rattle.std.specs.Prelude.{◌≡◌, ◌≤◌, length, replicate, IfOk, OnErr, OnOk};
-ghost use Rattle.ahci_port.specs.{Faults.{Answers, reset_refusal}, PortView.{journal_in, next_number, port_from}, Registers.{started}, Steps.{Follows, KeepsCompleted}, Unqueued.{nothing_sent}};
+ghost use Rattle.ahci_port.specs.{Faults.{Answers, reset_refusal}, PortView.{journal_in, next_number, port_over}, Registers.{started}, Steps.{Follows, KeepsCompleted}, Unqueued.{nothing_sent}};
 
 use crate::fault::ResetFault;
 use crate::port::{MOST_FIRST, Port, empty_area, no_headers};
@@ -44,7 +44,7 @@ impl<A: Allocator + Copy, S: SectorStore> Port<A, S> {
     /// `Spent` if the next number is over 2^63.
     pub fn reset(&mut self) -> Result<Journal<A>, ResetFault>
         ensures journal { IfOk result (λ j. j ≡ journal_in self.old) }
-        ensures reset { OnOk result (self.new ≡ port_from (next_number self.old) self.old.image self.old.depth) }
+        ensures reset { OnOk result (self.new ≡ port_over self.old.grows (next_number self.old) self.old.image self.old.depth) }
         ensures dropped { OnOk result (KeepsCompleted self.old self.new) }
         ensures goes_on { OnOk result (Follows self.old self.new) }
         ensures fault { Answers result (reset_refusal self.old) }

@@ -73,6 +73,7 @@ fn fetch_one<H: Host, S: SectorStore>(
     ensures written { IsWrittenOver lba (slice_range (H.text host.old) (H.offset host.old) (H.offset host.old + bytes)) (S.image store.old) (S.image store.new) }
     ensures len { length (S.image store.new) ≡ length (S.image store.old) }
     ensures stay { StayReserved (S.is_reserved store.old) (S.is_reserved store.new) }
+    ensures kind { S.grows store.new ≡ S.grows store.old }
     ensures starting { S.starting store.new ≡ S.starting store.old }
     ensures text { H.text host.new ≡ H.text host.old }
     ensures offset { H.offset host.new ≡ H.offset host.old + bytes }
@@ -137,6 +138,7 @@ fn write_data<H: Host, S: SectorStore>(
     requires room { byte_count command.now ≤ length (H.text host.old) }
     ensures data { IsWritten command.now (S.image store.old) (S.image store.new) (H.text host.old) (H.text host.new) }
     ensures stay { StayReserved (S.is_reserved store.old) (S.is_reserved store.new) }
+    ensures kind { S.grows store.new ≡ S.grows store.old }
     ensures starting { S.starting store.new ≡ S.starting store.old }
     ensures offset { H.offset host.new ≡ byte_count command.now }
     ensures setup { H.last_setup host.new ≡ H.last_setup host.old }
@@ -171,6 +173,7 @@ pub(super) fn move_data<H: Host, S: SectorStore>(
     requires room { byte_count command.now ≤ length (H.text host.old) }
     ensures data { HasMoved command.now (S.image store.old) (S.image store.new) (H.text host.old) (H.text host.new) }
     ensures stay { StayReserved (S.is_reserved store.old) (S.is_reserved store.new) }
+    ensures kind { S.grows store.new ≡ S.grows store.old }
     ensures starting { S.starting store.new ≡ S.starting store.old }
     ensures offset { H.offset host.new ≡ byte_count command.now }
     ensures setup { H.last_setup host.new ≡ H.last_setup host.old }

@@ -82,6 +82,7 @@ returns-in-Accepted-clause-ok g c =
         image_same = ap (λ d. d.image) a.state_is;
         first_same = c.push_reserved.ensures.first;
         depth_same = ap (λ d. d.depth) a.state_is;
+        grows_same = ap (λ d. d.grows) a.state_is;
         past_is = c.push_reserved.ensures.past;
         sent_is = refl;
       };
@@ -160,6 +161,7 @@ returns-in-Refused-clause-ok g c =
         image_same = ap (λ d. d.image) r.state_is;
         first_same = c.push_reserved-in-Refused.ensures.first;
         depth_same = ap (λ d. d.depth) r.state_is;
+        grows_same = ap (λ d. d.grows) r.state_is;
         past_is = pasts g c;
         sent_is = refl;
       };

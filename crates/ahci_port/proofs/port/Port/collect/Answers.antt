@@ -63,7 +63,7 @@ pub returns-clause-ok : goal.returns-clause-ok
 returns-clause-ok g c =
     rw (← c.self.view_is, c.take.ensures.after)
     (record {
-      appended = record { starting_same = refl; image_same = refl; first_same = c.push_reserved.ensures.first; depth_same = refl; past_is = c.push_reserved.ensures.past; sent_is = refl };
+      appended = record { starting_same = refl; image_same = refl; first_same = c.push_reserved.ensures.first; depth_same = refl; grows_same = refl; past_is = c.push_reserved.ensures.past; sent_is = refl };
       room = record { room_is = c.push_reserved.ensures.room; held_same = c.push_reserved.ensures.held };
       registers_same = refl;
       area_same = refl;

@@ -61,6 +61,7 @@ returns-clause-issued g c =
         image_same = ap (λ d. d.image) c.reserve.ensures.state;
         first_same = c.push_reserved.ensures.first ∙ c.in-Ok-reserve.ensures.first;
         depth_same = ap (λ d. d.depth) c.reserve.ensures.state;
+        grows_same = ap (λ d. d.grows) c.reserve.ensures.state;
         past_is = c.push_reserved.ensures.past ∙ ap (λ t. Issue t (work_of c.args.asked) ∷ c.reserve-2.new.self.past) c.tag-tag.ensures.value
             ∙ ap (λ x. Issue c.args.window.tag x ∷ c.reserve-2.new.self.past) c.requires.asked ∙ ap (λ p. Issue c.args.window.tag (op c.args.window) ∷ p) c.in-Ok-reserve.ensures.past;
         sent_is = refl;

@@ -78,6 +78,7 @@ returns-clause-ok g c =
         image_same = ap (λ d. d.image) c.in-Ok.ensures.state;
         first_same = c.push_reserved.ensures.first;
         depth_same = ap (λ d. d.depth) c.in-Ok.ensures.state;
+        grows_same = ap (λ d. d.grows) c.in-Ok.ensures.state;
         past_is = c.push_reserved.ensures.past;
         sent_is = refl;
       };

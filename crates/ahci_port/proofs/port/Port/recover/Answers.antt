@@ -59,6 +59,7 @@ returns-clause-recovered g c =
         image_same = ap (λ d. d.image) c.carry_out.ensures.disk;
         first_same = c.push_reserved.ensures.first ∙ c.in_ok-reserve.ensures.first;
         depth_same = ap (λ d. d.depth) c.carry_out.ensures.disk;
+        grows_same = ap (λ d. d.grows) c.carry_out.ensures.disk;
         past_is = c.push_reserved.ensures.past ∙ ap (λ p. Recover (get_or c.page.result.now 0 0 % 32) ∷ p) c.in_ok-reserve.ensures.past;
         sent_is = c.carry_out.ensures.sent;
       };

@@ -32,7 +32,7 @@ returns-clause-ok g c =
     let slot = c.reissue.ensures ∙ ap reissued_slot (sym same) in
     rw (← c.self.view_is, slot)
     (record {
-      appended = record { starting_same = refl; image_same = refl; first_same = c.push_reserved.ensures.first; depth_same = refl; past_is = c.push_reserved.ensures.past; sent_is = refl };
+      appended = record { starting_same = refl; image_same = refl; first_same = c.push_reserved.ensures.first; depth_same = refl; grows_same = refl; past_is = c.push_reserved.ensures.past; sent_is = refl };
       room = record { room_is = c.push_reserved.ensures.room; held_same = c.push_reserved.ensures.held };
       registers_are = c.issue.ensures;
       area_same = refl;

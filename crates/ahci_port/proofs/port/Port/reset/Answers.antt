@@ -13,7 +13,7 @@ use Rattle.ahci_port.proofs.port.Port.reset.Goals.{After-hand_out}
 
 -- what stands once the journal is handed out: the disk has kept its image, the registers are those of a new port, and no slot is
 -- owned
-disk : (g : _) (c : After-hand_out g) → c.keep.new.self ≡ disk_over c.self.inside.disk.image c.self.inside.disk.image c.keep.new.self.reserved c.self.inside.disk.depth
+disk : (g : _) (c : After-hand_out g) → c.keep.new.self ≡ disk_over c.self.inside.disk.image c.self.inside.disk.image c.self.inside.disk.grows c.keep.new.self.reserved c.self.inside.disk.depth
 disk g c = c.keep.ensures ∙ ap (λ (d : DiskState). let e : DiskState = record d { starting = d.image; reserved = c.keep.new.self.reserved } in e) c.reset.ensures
 
 regs : (g : _) (c : After-hand_out g) → c.begin_again.new.registers ≡ started c.self.inside.disk.depth
@@ -35,14 +35,14 @@ pub invariant_of-self : goal.invariant_of-self
 invariant_of-self g c =
     let d = c.self.inside.disk in
     rw (disk g c, slots g c, regs g c, c.hand_out.ensures.past, c.hand_out.ensures.room)
-    (keeps_new d.image c.keep.new.self.reserved d.depth c.begin_again.new.headers (subst IsDisk (disk g c) c.depth.ensures.disk) c.begin_again.ensures.headers)
+    (keeps_new d.image d.grows c.keep.new.self.reserved d.depth c.begin_again.new.headers (subst IsDisk (disk g c) c.depth.ensures.disk) c.begin_again.ensures.headers)
 
 pub returns-clause-reset : goal.returns-clause-reset
 returns-clause-reset g c =
     let d = c.self.inside.disk in
     let j = c.hand_out.ensures in
     rw (← c.self.view_is, disk g c, slots g c, regs g c, c.begin_again.ensures.area, c.begin_again.ensures.sent)
-    (view_new _ d.image c.keep.new.self.reserved d.depth c.hand_out.new.self (same_journal _ _ _ _ _ j.first j.past j.room j.held))
+    (view_new _ d.image d.grows c.keep.new.self.reserved d.depth c.hand_out.new.self (same_journal _ _ _ _ _ j.first j.past j.room j.held))
 
 pub returns-clause-dropped : goal.returns-clause-dropped
 returns-clause-dropped g c = rw (← c.self.view_is, disk g c) c.self.invariant.sectors

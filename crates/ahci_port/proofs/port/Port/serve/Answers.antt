@@ -27,6 +27,7 @@ pub loop-index-init : goal.loop-index-init
 loop-index-init g c = record {
   served = underway_first _ c.self.inside.disk c.self.inside.journal.room c.self.invariant refl (may g (goal.at.loop-index-init g c).After-len-index-end);
   starting_same = refl;
+  grows_same = refl;
   first_same = refl;
   room_is = omega arith;
   held_same = refl;
@@ -89,6 +90,7 @@ loop-index-preserved g c =
       served = rw same (underway_next _ c.loop-index.index i.disk c.complete.new.disk i.slots.items c.in-Some-index_mut.slot c.complete.new.slot i.area c.complete.new.area i.journal
           c.complete.new.journal (may g (goal.at.loop-index-preserved g c).After-len-index-end) u less found one);
       starting_same = ap (λ d. d.starting) one.disk_is ∙ c.loop-index.invariant.starting_same;
+      grows_same = ap (λ d. d.grows) one.disk_is ∙ c.loop-index.invariant.grows_same;
       first_same = c.complete.ensures.first_same ∙ c.loop-index.invariant.first_same;
       room_is = (let a = c.complete.ensures.room_is in let b = c.loop-index.invariant.room_is in omega arith);
       held_same = c.complete.ensures.held_same ∙ c.loop-index.invariant.held_same;
@@ -166,6 +168,7 @@ returns-clause-ok g c =
         starting_same = inv.starting_same;
         first_same = inv.first_same;
         depth_same = served.depth_same;
+        grows_same = inv.grows_same;
         past_is = past_all _ i.disk i.slots.items i.area i.journal.past i.journal.room served;
         sent_same = ap (λ q. q.sent) inv.unqueued_same;
       };

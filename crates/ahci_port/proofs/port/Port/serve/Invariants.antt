@@ -18,6 +18,7 @@ invariant-loop-index g l = record {
       })
       l.index l.self-inside.disk l.self-inside.slots.items l.self-inside.area l.self-inside.journal.past l.self-inside.journal.room;
   starting_same : l.self-inside.disk.starting ≡ l.initial.self-inside.disk.starting;
+  grows_same : l.self-inside.disk.grows ≡ l.initial.self-inside.disk.grows;
   first_same : l.self-inside.journal.first ≡ l.initial.self-inside.journal.first;
   room_is : l.self-inside.journal.room + l.index ≡ l.initial.self-inside.journal.room;
   held_same : l.self-inside.journal.held ≡ l.initial.self-inside.journal.held;

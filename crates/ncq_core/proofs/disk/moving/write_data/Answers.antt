@@ -31,6 +31,7 @@ loop-filled-preserved g c =
           (subst (λ (k : QueuedFields). IsWrittenOver (k.lba + done / 512) come (image c.loop-filled.store) (image c.fetch_one.new.store)) c.command.view_is c.fetch_one.ensures.written);
       size = c.fetch_one.ensures.len ∙ before.size;
       stay = λ s is. c.fetch_one.ensures.stay s (before.stay s is);
+      kind = c.fetch_one.ensures.kind ∙ before.kind;
       starting = c.fetch_one.ensures.starting ∙ before.starting;
       setup = c.fetch_one.ensures.setup ∙ before.setup;
       aligned = λ less. (omega arith);

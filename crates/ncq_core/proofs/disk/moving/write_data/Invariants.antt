@@ -14,6 +14,7 @@ invariant-loop-filled g l = record {
   written : IsWrittenOver l.command.lba (take l.filled (g.H.Host.text l.fn.host)) (g.S.SectorStore.image l.fn.store) (g.S.SectorStore.image l.store);
   size : length (g.S.SectorStore.image l.store) ≡ length (g.S.SectorStore.image l.fn.store);
   stay : StayReserved (g.S.SectorStore.is_reserved l.fn.store) (g.S.SectorStore.is_reserved l.store);
+  kind : g.S.SectorStore.grows l.store ≡ g.S.SectorStore.grows l.fn.store;
   starting : g.S.SectorStore.starting l.store ≡ g.S.SectorStore.starting l.fn.store;
   setup : g.H.Host.last_setup l.host ≡ g.H.Host.last_setup l.fn.host;
   aligned : l.filled < l.bytes → l.filled % 8192 ≡ 0;
