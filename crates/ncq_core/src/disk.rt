@@ -8,7 +8,7 @@ mod moving;
 mod serving;
 mod taking;
 
-ghost use Rattle.std.specs.Prelude.{◌≡◌, ◌+◌, ◌*◌, ◌/◌, ◌<◌, ◌≤◌, ◌^◌, None, Some, false, true, length, IfOk, IfErr, IfSome, OnOk, OnErr};
+ghost use Rattle.std.specs.Prelude.{◌≡◌, ◌+◌, ◌*◌, ◌/◌, ◌<◌, ◌≤◌, ◌^◌, None, Some, false, true, length, is_some, IfOk, IfErr, IfSome, OnOk, OnErr};
 ghost use Rattle.std.specs.Option.{option_copied};
 ghost use Rattle.word_bits.specs.Places.{bits};
 ghost use Rattle.ncq_journal.specs.Image.{sector_at};
@@ -134,9 +134,11 @@ impl<A: Allocator> Disk<Whole<A>> {
 }
 
 impl<A: Allocator> Disk<Sectors<A>> {
-    /// The numbers of the pages of eight sectors that may have changed since they were last kept; nothing if that isn't known.
+    /// The numbers of the pages of eight sectors that may have changed since they were last kept; nothing if the store doesn't grow, since
+    /// that isn't known then.
     pub fn touched(&self) -> Option<&[u32]>
-        ensures { IfSome (option_copied result) (λ touched. ChangesAmong touched self.now.image self.now.starting) }
+        ensures known { is_some (option_copied result) ≡ self.now.grows }
+        ensures pages { IfSome (option_copied result) (λ touched. ChangesAmong touched self.now.image self.now.starting) }
     {
         self.store.touched()
     }

@@ -1,6 +1,6 @@
 //! What a driver asks a port of. None of these calls takes memory.
 
-ghost use Rattle.std.specs.{Prelude.{◌≡◌, ◌≤◌, IfSome}, Option.{option_copied}};
+ghost use Rattle.std.specs.{Prelude.{◌≡◌, ◌≤◌, is_some, IfSome}, Option.{option_copied}};
 ghost use Rattle.sector_store.specs.Shown.{ChangesAmong};
 ghost use Rattle.word_bits.specs.Places.{bits};
 ghost use Rattle.ncq_journal.specs.Owed.{owed};
@@ -116,7 +116,8 @@ impl<A: Allocator> Port<A, Sectors<A>> {
     /// The numbers of the pages of eight sectors that may have changed since the port was made, last trimmed or last reset; nothing if
     /// that isn't known.
     pub fn touched(&self) -> Option<&[u32]>
-        ensures { IfSome (option_copied result) (λ touched. ChangesAmong touched self.now.image self.now.starting) }
+        ensures known { is_some (option_copied result) ≡ self.now.grows }
+        ensures pages { IfSome (option_copied result) (λ touched. ChangesAmong touched self.now.image self.now.starting) }
     {
         self.disk.touched()
     }

@@ -1,8 +1,7 @@
-use Rattle.std.proofs.Common.{◌≡◌, ◌+◌, ◌-◌, ◌*◌, ◌/◌, ◌%◌, ◌++◌, ◌∷◌, [], false, length, take, drop, ap, subst, ◌∙◌, arith, length-take, length-drop}
+use Rattle.std.proofs.Common.{◌≡◌, ◌+◌, ◌-◌, ◌*◌, ◌/◌, ◌%◌, length, take, drop, ap, subst, ◌∙◌, arith, length-take, length-drop}
 use Rattle.std.specs.List.{replace_range}
 use Rattle.sata_fis.specs.Fields.{QueuedFields}
 use Rattle.ncq_core.specs.Serving.{byte_count, bytes_at}
-use Rattle.ncq_core.specs.Traffic.{Data, moved_by}
 use Rattle.ncq_core.proofs.MovingLemmas.{delivered_more, next_part}
 use Rattle.ncq_core.proofs.TrafficLemmas.{sent_more}
 use Rattle.ncq_core.proofs.disk.moving.read_data.Goals as goal

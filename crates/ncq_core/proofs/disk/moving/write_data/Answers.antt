@@ -1,8 +1,7 @@
-use Rattle.std.proofs.Common.{◌≡◌, ◌+◌, ◌-◌, ◌*◌, ◌/◌, ◌%◌, ◌++◌, ◌∷◌, [], true, length, take, drop, ap, subst, ◌∙◌, arith}
+use Rattle.std.proofs.Common.{◌≡◌, ◌+◌, ◌-◌, ◌/◌, ◌%◌, take, drop, ap, subst, ◌∙◌, arith}
 use Rattle.std.specs.List.{slice_range}
 use Rattle.sata_fis.specs.Fields.{QueuedFields}
 use Rattle.ncq_journal.specs.Image.{IsWrittenOver}
-use Rattle.ncq_core.specs.Traffic.{Activate, moved_by}
 use Rattle.ncq_core.proofs.MovingLemmas.{over_more}
 use Rattle.ncq_core.proofs.TrafficLemmas.{fetched_on}
 use Rattle.ncq_core.proofs.disk.moving.write_data.Goals as goal
