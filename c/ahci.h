@@ -565,6 +565,11 @@ uint32_t ahci_port_slot(ahci_port *port, uint32_t tag, ahci_slot *slot);
 /* Copies a sector as it is now. AHCI_WRONG_LENGTH if out_bytes is not 512, AHCI_NO_SUCH_SECTOR. */
 uint32_t ahci_port_copy(ahci_port *port, uint64_t lba, uint8_t *out, size_t out_bytes);
 
+/* Copies the numbers of the pages that may have changed since the port was made or last trimmed to the beginning of `pages`, which has
+   room for `count`; *touched is how many there are. Page n has sectors 8n to 8n + 7, and no sector of any other page has changed. It is for a disk of
+   ahci_port_over: AHCI_BAD_KIND if all of the disk is in memory. AHCI_BUFFER_TOO_SMALL; *touched says how many numbers need room then. */
+uint32_t ahci_port_touched(ahci_port *port, uint32_t *pages, size_t count, uint64_t *touched);
+
 /* Discards the journal and its memory if every slot is free: *entries is how many entries it had. Numbers keep counting.
    AHCI_BUSY, AHCI_SPENT. */
 uint32_t ahci_port_trim(ahci_port *port, uint64_t *entries);
@@ -659,6 +664,10 @@ uint32_t ahci_hba_trim(ahci_hba *hba, uint64_t *entries);
 
 /* Copies a sector of the disk as it is now. AHCI_WRONG_LENGTH if out_bytes is not 512, AHCI_NO_SUCH_SECTOR. */
 uint32_t ahci_hba_copy(ahci_hba *hba, uint64_t lba, uint8_t *out, size_t out_bytes);
+
+/* Copies the numbers of the pages that may have changed since the journal began, as ahci_port_touched has it.
+   AHCI_BAD_KIND, AHCI_BUFFER_TOO_SMALL. */
+uint32_t ahci_hba_touched(ahci_hba *hba, uint32_t *pages, size_t count, uint64_t *touched);
 
 /* An entry of the disk's journal, and the bytes of the write that it issued: as ahci_port_entry and ahci_port_entry_bytes. When
    commands are dropped their journal is discarded, and its entries can't be read any more; the two that AHCI_STEP_RECOVER adds, a

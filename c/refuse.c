@@ -231,7 +231,8 @@ static int over_a_base(void)
     ahci_port port = AHCI_PORT_EMPTY;
     ahci_stepped done;
     ahci_reply reply;
-    uint64_t number = 99, entries;
+    uint64_t number = 99, entries, touched;
+    uint32_t pages[2];
     int lacking = 0;
     memset(two, 0xA7, sizeof two);
     TRY(&port, image, ahci_port_over(&port, image, sizeof image, UINT32_MAX, 4, 5));
@@ -243,7 +244,15 @@ static int over_a_base(void)
     NONE(ahci_port_copy(&port, ACROSS + 1, back + 512, 512));
     if (memcmp(two, back, sizeof two) != 0)
         wrong("ahci_port_copy", "a sector has lost its bytes");
+    if (ahci_port_touched(&port, pages, 1, &touched) != AHCI_BUFFER_TOO_SMALL || touched != 2)
+        wrong("ahci_port_touched", "two numbers have room where one has");
+    NONE(ahci_port_touched(&port, pages, 2, &touched));
+    if (touched != 2 || pages[0] != ACROSS / 8 || pages[1] != ACROSS / 8 + 1)
+        wrong("ahci_port_touched", "a page that was written isn't named");
     NONE(ahci_port_trim(&port, &entries));
+    NONE(ahci_port_touched(&port, pages, 0, &touched));
+    if (touched != 0)
+        wrong("ahci_port_touched", "a page is named after a trim");
     NONE(ahci_port_copy(&port, UINT32_MAX - 1, back, 512));
     NONE(ahci_port_free(&port));
     return lacking;

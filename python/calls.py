@@ -257,11 +257,14 @@ def over_a_base() -> None:
                     port.accept(tag)
                     port.serve([tag])
                     assert port.collect(tag, number)[0].outcome is Outcome.WRITE
-                assert port.trim() > 0 and port.copy(3) == port.copy(most - 1) == b"\x22" * 512 and port.copy(4) == bytes(512)
+                assert port.touched() == [0, (most - 1) // 8]
+                assert port.trim() > 0 and port.touched() == [] and port.copy(3) == port.copy(most - 1) == b"\x22" * 512 and port.copy(4) == bytes(512)
                 assert size_of_this() < before + gibibyte + (16 << 20)
             with Hba.over(mapped, most, 32) as hba:
-                assert hba.copy(3) == b"\x11" * 512 and hba.copy(most - 1) == bytes(512)
+                assert hba.copy(3) == b"\x11" * 512 and hba.copy(most - 1) == bytes(512) and hba.touched() == []
         assert os.pread(file.fileno(), 512, 512 * 3) == b"\x11" * 512
+    with Port.zeros(8, 1) as port:
+        refused(Status.BAD_KIND, port.touched)
     refused(Status.BAD_SIZE, lambda: Port.over(b"", 0, 32))
     refused(Status.BAD_FIRST, lambda: Port.over(b"", 1, 32, 1 << 63 | 1))
 

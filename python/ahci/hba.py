@@ -116,6 +116,10 @@ class Hba(Owner):
         """The 512 bytes of a sector as it is now."""
         return self._copied("copy", 512, fits(lba, 64, "lba"))
 
+    def touched(self) -> List[int]:
+        """The pages of eight sectors that may have changed since the journal began, as `Port.touched` has them."""
+        return self._touched()
+
     def entry(self, number: int) -> Entry:
         """The entry of the disk's journal with this number."""
         return self._entry(number)

@@ -135,6 +135,7 @@ _PORT: Dict[str, List[Any]] = {
     "tag_sets": [to(SetsStruct)],
     "slot": [u32, to(SlotStruct)],
     "copy": [u64, _text, size],
+    "touched": [to(u32), size, to(u64)],
     "trim": [to(u64)],
     "entry": [u64, to(EntryStruct)],
     "entry_bytes": [u64, _text, size],
@@ -159,6 +160,7 @@ _HBA: Dict[str, List[Any]] = {
     "sign": [],
     "trim": [to(u64)],
     "copy": [u64, _text, size],
+    "touched": [to(u32), size, to(u64)],
     "entry": [u64, to(EntryStruct)],
     "entry_bytes": [u64, _text, size],
     "port": [to(StateStruct)],
@@ -285,6 +287,18 @@ class Owner:
         out = ctypes.create_string_buffer(count)
         self._call(name, *arguments, out, count)
         return out.raw
+
+    def _touched(self) -> List[int]:
+        """With room for as many numbers as the call says that there are."""
+        with self._lock:
+            found, room = u64(), 0
+            while True:
+                pages = (u32 * max(1, room))()
+                status = self._status("touched", pages, room, ctypes.byref(found))
+                if status != Status.BUFFER_TOO_SMALL:
+                    done(status)
+                    return list(pages[: found.value])
+                room = found.value
 
     def _entry(self, number: int) -> Entry:
         found = EntryStruct()

@@ -2,7 +2,7 @@
 from __future__ import annotations
 
 import ctypes
-from typing import Sequence, Tuple
+from typing import List, Sequence, Tuple
 
 from .library import Bytes, Owner, PortPlace, ReplyStruct, SetsStruct, SlotStruct, SteppedStruct, WrittenStruct, done, fits, given, u32, u64
 from .names import Did, Kind, Outcome, Phase, Wrote
@@ -141,6 +141,11 @@ class Port(Owner):
     def copy(self, lba: int) -> bytes:
         """The 512 bytes of a sector as it is now."""
         return self._copied("copy", 512, fits(lba, 64, "lba"))
+
+    def touched(self) -> List[int]:
+        """The pages of eight sectors that may have changed since the port was made or last trimmed, for a disk over a base: page n has
+        sectors 8n to 8n + 7, and no sector of any other page has changed."""
+        return self._touched()
 
     def trim(self) -> int:
         """Discards the journal if every slot is free. Returns how many entries it had."""

@@ -3,7 +3,7 @@
 
 ghost use Rattle.std.specs.Prelude.{◌≡◌, length, ⊤};
 ghost use Rattle.ncq_journal.specs.{Numbering.{entry_numbered}, Sector.{sector}};
-ghost use Rattle.ahci_ffi.specs.{Refusals.{copy_refusal}, Seen.{AnswersBytes, AnswersEntry, IsState, written_by}, Told.{Told}};
+ghost use Rattle.ahci_ffi.specs.{Refusals.{copy_refusal}, Seen.{AnswersBytes, AnswersEntry, AnswersTouched, IsState, written_by}, Told.{Told}};
 ghost use Rattle.hba_ffi.specs.{
   Calls.{AnswersFail, AnswersRefuse, AnswersSign, AnswersStep, AnswersTrim},
   Over.{Changes, Reads},
@@ -84,6 +84,20 @@ pub extern "C" fn ahci_hba_copy(hba: &mut HbaPlace, heap: Global, lba: u64, out:
         (λ answer h. Told answer (copy_refusal h.port lba (length out.old)) (out.new ≡ sector h.port.starting h.port.past lba) (out.new ≡ out.old)) }
 {
     over!(hba, heap, |held| hba_ffi::copy(&held, lba, out))
+}
+
+/// Copies the numbers of the pages of eight sectors that may have changed since the journal began.
+#[unsafe(no_mangle)]
+pub extern "C" fn ahci_hba_touched(
+    hba: &mut HbaPlace,
+    heap: Global,
+    pages: &mut [u32],
+    touched: &mut u64,
+) -> u32
+    ensures { Reads result (view_of hba.old) (view_of hba.new) ((pages.new ≡ pages.old) × (touched.new ≡ touched.old))
+        (λ answer h. AnswersTouched h.port answer touched.new pages.old pages.new) }
+{
+    over!(hba, heap, |held| hba_ffi::touched(&held, pages, touched))
 }
 
 /// The entry of a number of the journal.

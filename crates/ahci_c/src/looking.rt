@@ -9,7 +9,7 @@ ghost use Rattle.ahci_ffi.specs.{
   Over.{Reads},
   PlaceView.{view_of},
   Refusals.{copy_refusal, received_refusal, with_tag},
-  Seen.{AnswersBytes, AnswersEntry, IsState, written_by},
+  Seen.{AnswersBytes, AnswersEntry, AnswersTouched, IsState, written_by},
   Told.{Told},
 };
 
@@ -73,6 +73,20 @@ pub extern "C" fn ahci_port_copy(port: &mut Place, heap: Global, lba: u64, out: 
         (λ answer port. Told answer (copy_refusal port lba (length out.old)) (out.new ≡ sector port.starting port.past lba) (out.new ≡ out.old)) }
 {
     over!(port, heap, |held| ahci_ffi::copy(&held, lba, out))
+}
+
+/// Copies the numbers of the pages of eight sectors that may have changed since the journal began.
+#[unsafe(no_mangle)]
+pub extern "C" fn ahci_port_touched(
+    port: &mut Place,
+    heap: Global,
+    pages: &mut [u32],
+    touched: &mut u64,
+) -> u32
+    ensures { Reads result (view_of port.old) (view_of port.new) ((pages.new ≡ pages.old) × (touched.new ≡ touched.old))
+        (λ answer port. AnswersTouched port answer touched.new pages.old pages.new) }
+{
+    over!(port, heap, |held| ahci_ffi::touched(&held, pages, touched))
 }
 
 /// The entry of a number of the journal.

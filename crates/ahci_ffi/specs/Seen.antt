@@ -1,5 +1,5 @@
--- What can be seen of a port: the entries of its journal, and all of its state at once.
-use Rattle.std.specs.Prelude.{◌≡◌, ◌<◌, ℕ, if◌then◌else◌, List, length, nat_lt, slice_index_or, Option, None, Some}
+-- What can be seen of a port: the entries of its journal, the pages that may have changed since it began, and all of its state at once.
+use Rattle.std.specs.Prelude.{◌≡◌, ◌×◌, ◌<◌, ℕ, not, if◌then◌else◌, List, length, take, nat_lt, slice_index_or, false, Option, None, Some}
 use Rattle.std.specs.Option.{unwrap_or}
 use Rattle.word_bits.specs.Places.{bits}
 use Rattle.ahci_port.specs.Looking.{accepted_tags, held_tags, issued_tags}
@@ -10,6 +10,7 @@ use Rattle.ncq_journal.specs.Entry.{Entry, Issue}
 use Rattle.ncq_journal.specs.Halted.{halted}
 use Rattle.ncq_journal.specs.Phase.{phase}
 use Rattle.ncq_journal.specs.Work.{Write}
+use Rattle.sector_store.specs.Shown.{ChangesAmong}
 use Rattle.ahci_ffi.specs.Flat.{begun_with, flat_entry, number_if, phase_number}
 use Rattle.ahci_ffi.specs.Told.{Told}
 use Rattle.ahci_ffi.specs.declared.flat.FlatEntry.{FlatEntry}
@@ -32,6 +33,19 @@ abbrev pub AnswersBytes : Option (List ℕ) → Status → (before after : List 
 AnswersBytes None answer before after = (answer ≡ status.NoSuchEntry) × (after ≡ before)
 AnswersBytes (Some bytes) answer before after =
     Told answer (if nat_lt (length before) (length bytes) then Some status.BufferTooSmall else None) (after ≡ begun_with bytes before) (after ≡ before)
+
+-- why no numbers of pages are copied: the disk is in memory as a whole, so they aren't known, or the buffer has no room for so many
+abbrev pub touched_refusal : PortView → ℕ → ℕ → Option Status
+touched_refusal port room count =
+    if not port.grows then Some status.BadKind
+    else if nat_lt room count then Some status.BufferTooSmall
+    else None
+
+-- so many numbers of pages of eight sectors begin the buffer, and each sector of any other page is the one with which the journal began
+abbrev pub AnswersTouched : PortView → Status → (count : ℕ) → (before after : List ℕ) → Type 0
+AnswersTouched port answer count before after =
+    Told answer (touched_refusal port (length before) count) (ChangesAmong (take count after) port.image port.starting) (after ≡ before)
+    × (port.grows ≡ false → count ≡ 0)
 
 -- all that can be seen at once
 pub record IsState (port : PortView) (state : FlatState) : Type 0 where

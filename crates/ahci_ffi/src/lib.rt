@@ -36,7 +36,7 @@ pub use held::Held;
 pub use issuing::{issue, submit};
 pub use judging::journal_check;
 pub use laws::{entries_are_judged_as_their_journal, entries_name_their_events};
-pub use looking::{copy, depth, received, register, sectors, slot, tag_sets};
+pub use looking::{copy, depth, received, register, sectors, slot, tag_sets, touched};
 pub use making::{make, make_over, make_zeros, over_refusal, size_refusal};
 pub use naming::status_text;
 pub use pages::{identify_page, log_page};

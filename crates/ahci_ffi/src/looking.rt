@@ -4,14 +4,14 @@ ghost use Rattle.std.specs.{Prelude.{◌≡◌, length, None}, Option.{unwrap_or
 ghost use Rattle.ahci_port.specs.PortView.{sectors_in};
 ghost use Rattle.ahci_regs.specs.Reading.{read_of};
 ghost use Rattle.ncq_journal.specs.Sector.{sector};
-ghost use Rattle.ahci_ffi.specs.{Done.{AnswersRegister, IsSets}, Flat.{flat_slot, phase_number}, Refusals.{copy_refusal, received_refusal, with_tag}, Told.{Told}};
+ghost use Rattle.ahci_ffi.specs.{Done.{AnswersRegister, IsSets}, Flat.{flat_slot, phase_number}, Refusals.{copy_refusal, received_refusal, with_tag}, Seen.{AnswersTouched}, Told.{Told}};
 
 use crate::flat::{FlatSets, FlatSlot};
 use crate::status::Status;
 use ahci_port::Port;
 use ncq_journal::Phase;
 use port_refusal::Refusal;
-use sector_store::SectorStore;
+use sector_store::{SectorStore, Sectors};
 use std::alloc::Allocator;
 
 /// How many slots there are.
@@ -71,6 +71,27 @@ pub fn copy<A: Allocator, S: SectorStore>(port: &Port<A, S>, lba: u64, out: &mut
         return Status::Refused(Refusal::NoSuchSector);
     }
     port.copy(lba, out);
+    Status::Done
+}
+
+/// Copies the numbers of the pages of eight sectors that may have changed since the journal began to the beginning of `pages`;
+/// `count` is how many there are.
+pub fn touched<A: Allocator>(
+    port: &Port<A, Sectors<A>>,
+    pages: &mut [u32],
+    count: &mut u64,
+) -> Status
+    ensures { AnswersTouched port.now result count.new pages.old pages.new }
+{
+    let Some(touched) = port.touched() else {
+        *count = 0;
+        return Status::BadKind;
+    };
+    *count = touched.len() as u64;
+    if pages.len() < touched.len() {
+        return Status::BufferTooSmall;
+    }
+    pages[..touched.len()].copy_from_slice(touched);
     Status::Done
 }
 

@@ -16,7 +16,7 @@ mod trimming;
 pub use flat::{FlatCapabilities, FlatHba};
 pub use held::HeldHba;
 pub use judging::{command_breaks, entry_breaks, length_breaks, write_breaks};
-pub use looking::{copy, entry, entry_bytes, look, port};
+pub use looking::{copy, entry, entry_bytes, look, port, touched};
 pub use making::{make, make_over, make_with};
 pub use moving::{bytes, supply, unmapped, written};
 pub use place::HbaPlace;

@@ -2,14 +2,14 @@
 
 ghost use Rattle.std.specs.Prelude.{◌≡◌, ◌<◌, ℕ, length, slice_index_or};
 ghost use Rattle.ncq_journal.specs.{Numbering.{entry_numbered}, Sector.{sector}};
-ghost use Rattle.ahci_ffi.specs.{Refusals.{copy_refusal}, Seen.{AnswersBytes, AnswersEntry, IsState, written_by}, Told.{Told}};
+ghost use Rattle.ahci_ffi.specs.{Refusals.{copy_refusal}, Seen.{AnswersBytes, AnswersEntry, AnswersTouched, IsState, written_by}, Told.{Told}};
 ghost use Rattle.ahci_hba.specs.{Moving.{want_of}, Stepping.{next_step}};
 ghost use Rattle.hba_ffi.specs.Looking.{IsLook, length_moved, step_number, want_number};
 
 use crate::flat::FlatHba;
 use ahci_ffi::{FlatEntry, FlatState, Status};
 use ahci_hba::{Hba, Slot, Step, Want};
-use sector_store::SectorStore;
+use sector_store::{SectorStore, Sectors};
 use std::alloc::Allocator;
 
 /// What the controller does next.
@@ -87,6 +87,18 @@ pub fn copy<A: Allocator, S: SectorStore>(hba: &Hba<A, S>, lba: u64, out: &mut [
     ensures { Told result (copy_refusal hba.now.port lba (length out.old)) (out.new ≡ sector hba.now.port.starting hba.now.port.past lba) (out.new ≡ out.old) }
 {
     ahci_ffi::copy(hba.port(), lba, out)
+}
+
+/// Copies the numbers of the pages of eight sectors that may have changed since the journal began to the beginning of `pages`;
+/// `count` is how many there are.
+pub fn touched<A: Allocator>(
+    hba: &Hba<A, Sectors<A>>,
+    pages: &mut [u32],
+    count: &mut u64,
+) -> Status
+    ensures { AnswersTouched hba.now.port result count.new pages.old pages.new }
+{
+    ahci_ffi::touched(hba.port(), pages, count)
 }
 
 /// The entry of a number of the journal.
