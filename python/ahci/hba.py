@@ -13,7 +13,7 @@ from __future__ import annotations
 import builtins
 import ctypes
 import mmap
-from typing import Optional, Union
+from typing import List, Optional, Union
 
 from .library import Bytes, CapabilitiesStruct, HbaPlace, LookStruct, Owner, fits, given, u32, u64
 from .names import Rule, Step, Want
