@@ -1,10 +1,10 @@
 //! The controller for C: how one is made and freed, a driver's accesses, and what the controller reads and writes.
 #![tactic(auto, using(hba_ffi::proofs::OverLemmas::none_changes, hba_ffi::proofs::OverLemmas::none_reads, hba_ffi::proofs::OverLemmas::some_changes, hba_ffi::proofs::OverLemmas::some_reads))]
 
-ghost use Rattle.std.specs.Prelude.{◌≡◌, length, ⊤};
+ghost use Rattle.std.specs.Prelude.{◌≡◌, length, true, ⊤};
 ghost use Rattle.ahci_ffi.specs.Making.{size_refusal};
 ghost use Rattle.sector_store.specs.Shown.{buffer_sector, joined};
-ghost use Rattle.ahci_hba.specs.{Moving.{put_done, unmapped}, States.{hba_with, new_hba}};
+ghost use Rattle.ahci_hba.specs.{Moving.{put_done, unmapped}, States.{hba_over, hba_with, new_hba}};
 ghost use Rattle.hba_ffi.specs.{
   Calls.{AnswersBytes, AnswersPowerOn, AnswersRead, AnswersSupply, AnswersWrite},
   Capable.{capabilities_for, making_refusal, over_making_refusal},
@@ -58,7 +58,7 @@ pub extern "C" fn ahci_hba_over(
     capabilities: &FlatCapabilities,
 ) -> u32
     ensures { Fills result (view_of hba.old) (view_of hba.new) (over_making_refusal sectors depth capabilities.now)
-        (hba_with (joined (buffer_sector base.now) sectors) depth (capabilities_for capabilities.now)) }
+        (hba_over true (joined (buffer_sector base.now) sectors) depth (capabilities_for capabilities.now)) }
 {
     if hba.is_full() {
         return Status::PortThere.code();

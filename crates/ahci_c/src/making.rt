@@ -1,7 +1,7 @@
 //! How ports are made and freed.
 
-ghost use Rattle.std.specs.Prelude.{◌*◌, length, replicate};
-ghost use Rattle.ahci_port.specs.PortView.{port_from};
+ghost use Rattle.std.specs.Prelude.{◌*◌, length, replicate, true};
+ghost use Rattle.ahci_port.specs.PortView.{port_from, port_over};
 ghost use Rattle.sector_store.specs.Shown.{buffer_sector, joined};
 ghost use Rattle.ahci_ffi.specs.{Making.{over_refusal, size_refusal}, Over.{Empties, Fills}, PlaceView.{view_of}};
 
@@ -63,7 +63,7 @@ pub extern "C" fn ahci_port_over(
     depth: u32,
     first: u64,
 ) -> u32
-    ensures { Fills result (view_of port.old) (view_of port.new) (over_refusal sectors depth first) (port_from first (joined (buffer_sector base.now) sectors) depth) }
+    ensures { Fills result (view_of port.old) (view_of port.new) (over_refusal sectors depth first) (port_over true first (joined (buffer_sector base.now) sectors) depth) }
 {
     if port.is_full() {
         return Status::PortThere.code();

@@ -1,9 +1,9 @@
 //! How ports are made.
 
-ghost use Rattle.std.specs.Prelude.{◌≡◌, ◌*◌, ◌/◌, ◌<◌, length, replicate, None};
+ghost use Rattle.std.specs.Prelude.{◌≡◌, ◌*◌, ◌/◌, ◌<◌, length, replicate, true, None};
 ghost use Rattle.sector_store.specs.Shown.{buffer_sector, joined};
 ghost use Rattle.ahci_port.specs.Faults as port;
-ghost use Rattle.ahci_port.specs.PortView.{port_from};
+ghost use Rattle.ahci_port.specs.PortView.{port_from, port_over};
 ghost use Rattle.ahci_ffi.specs.Making.{Makes, number_refusal, over_refusal, size_refusal};
 
 use crate::held::CPort;
@@ -56,7 +56,7 @@ pub fn make_over(
     depth: u32,
     first: u64,
 ) -> Result<Box<CPort>, Status>
-    ensures { Makes (over_refusal sectors depth first) result (λ box. box.value ≡ port_from first (joined (buffer_sector base.now) sectors) depth) }
+    ensures { Makes (over_refusal sectors depth first) result (λ box. box.value ≡ port_over true first (joined (buffer_sector base.now) sectors) depth) }
 {
     if let Some(refusal) = over_refusal(sectors, depth, first) {
         return Err(refusal);
@@ -122,7 +122,7 @@ fn boxed<A: Allocator + Copy>(
 ) -> Result<Box<Port<A, Sectors<A>>, A>, Status>
     requires kept { length (⟦<Sectors<A> as SectorStore>⟧.starting store) ≡ length (⟦<Sectors<A> as SectorStore>⟧.image store) }
     requires sizes { port.over_refusal (length (⟦<Sectors<A> as SectorStore>⟧.image store) / 512) depth first ≡ None }
-    ensures { Makes None result (λ box. box.value ≡ port_from first (⟦<Sectors<A> as SectorStore>⟧.image store) depth) }
+    ensures { Makes None result (λ box. box.value ≡ port_over (⟦<Sectors<A> as SectorStore>⟧.grows store) first (⟦<Sectors<A> as SectorStore>⟧.image store) depth) }
 {
     let port = match Port::resume_over(alloc, store, depth, first) {
         Ok(port) => port,

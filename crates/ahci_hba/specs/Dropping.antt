@@ -9,7 +9,7 @@ use Rattle.hba_regs.specs.declared.consequence.Consequence.TheVariants.{Nothing,
 use Rattle.ncq_journal.specs.Halted.{halted}
 use Rattle.ncq_journal.specs.History.{History}
 use Rattle.ahci_port.specs.Faults.{most_first}
-use Rattle.ahci_port.specs.PortView.{PortView, journal_in, next_number, port_from}
+use Rattle.ahci_port.specs.PortView.{PortView, journal_in, next_number, port_over}
 use Rattle.ahci_hba.specs.HbaView.{HbaView, WorkView, Idle, Block, Posting}
 use Rattle.ahci_hba.specs.Powering.{power_after}
 use Rattle.ahci_hba.specs.Queueing.{is_sent}
@@ -31,7 +31,7 @@ is_reset consequence h = drops_requests consequence h && not (is_spent h.port)
 
 -- the port once it is reset: as a new one over the image as it is, by the next number
 abbrev pub port_after : Bool → PortView → PortView
-port_after reset port = if reset then port_from (next_number port) port.image port.depth else port
+port_after reset port = if reset then port_over port.grows (next_number port) port.image port.depth else port
 
 -- and the journal that it hands out
 abbrev pub handed_out : Bool → PortView → Option History

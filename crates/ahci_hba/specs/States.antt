@@ -1,24 +1,28 @@
 -- The first state of a controller, and what every state keeps.
-use Rattle.std.specs.Prelude.{◌≡◌, ◌≤◌, ℕ, false, List, Option, None, length, replicate}
+use Rattle.std.specs.Prelude.{◌≡◌, ◌≤◌, ℕ, Bool, false, List, Option, None, length, replicate}
 use Rattle.hba_command.specs.declared.power.Power.TheVariants.{Active}
 use Rattle.hba_regs.specs.CapFields.{CapFields, usual}
 use Rattle.hba_regs.specs.HbaState.{power_on}
-use Rattle.ahci_port.specs.PortView.{PortView, new_port}
+use Rattle.ahci_port.specs.PortView.{PortView, port_over}
 use Rattle.ahci_table.specs.Fit.{IsFit}
 use Rattle.hba_memory.specs.Posting.{is_none, remaining}
 use Rattle.hba_memory.specs.Reading.{is_over}
 use Rattle.ahci_hba.specs.HbaView.{CommandView, HbaView, WorkView, Idle, Fetching, Served, Pio, Block, Posting}
 
--- a controller after power-on that can do this, in front of a disk with this image
-abbrev pub hba_with : List ℕ → ℕ → CapFields → HbaView
-hba_with image depth c = record {
+-- a controller after power-on that can do this, in front of a disk over a store with this image
+abbrev pub hba_over : (grows : Bool) → List ℕ → ℕ → CapFields → HbaView
+hba_over grows image depth c = record {
   registers = power_on c;
-  port = new_port image 32;
+  port = port_over grows 0 image 32;
   depth = depth;
   power = Active;
   slots = replicate 32 None;
   work = Idle;
 }
+
+-- the same of a disk with this image in memory
+abbrev pub hba_with : List ℕ → ℕ → CapFields → HbaView
+hba_with = hba_over false
 
 -- the same with the usual capabilities
 abbrev pub new_hba : List ℕ → ℕ → HbaView

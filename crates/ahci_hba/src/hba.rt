@@ -22,8 +22,8 @@ ghost use Rattle.std.specs.Prelude.{◌≡◌, ◌/◌, ◌≤◌, None, IfErr, 
 ghost use Rattle.hba_regs.specs.Accessing.{read_of};
 ghost use Rattle.hba_regs.specs.Interrupts.{interrupt};
 ghost use Rattle.ncq_core.specs.DiskState.{new_fault, over_fault};
-ghost use Rattle.ahci_port.specs.{Faults.{AnswersOr}, Headline.{Headline}, PortView.{new_port}};
-ghost use Rattle.ahci_hba.specs.States.{hba_with, new_hba};
+ghost use Rattle.ahci_port.specs.{Faults.{AnswersOr}, Headline.{Headline}, PortView.{new_port, port_over}};
+ghost use Rattle.ahci_hba.specs.States.{hba_over, hba_with, new_hba};
 
 use crate::command::Listed;
 use crate::work::Work;
@@ -79,7 +79,7 @@ fn port_for<A: Allocator + Copy>(
 }
 
 /// The same of a disk over a store.
-fn port_over<A: Allocator + Copy, S: SectorStore + Drop>(
+fn port_on<A: Allocator + Copy, S: SectorStore + Drop>(
     alloc: A,
     store: S,
     depth: u32,
@@ -87,7 +87,7 @@ fn port_over<A: Allocator + Copy, S: SectorStore + Drop>(
     requires { length (S.starting store) ≡ length (S.image store) }
     ensures some { OnOk result (1 ≤ depth) }
     ensures most { OnOk result (depth ≤ 32) }
-    ensures port { IfOk result (λ p. p ≡ new_port (S.image store) 32) }
+    ensures port { IfOk result (λ p. p ≡ port_over (S.grows store) 0 (S.image store) 32) }
     ensures fault { AnswersOr result (over_fault (length (S.image store) / 512) depth) DiskFault.OutOfMemory }
 {
     if depth == 0 || depth > SLOTS {
@@ -152,10 +152,10 @@ impl<A: Allocator + Copy, S: SectorStore + Drop> Hba<A, S> {
         capabilities: Capabilities,
     ) -> Result<Self, DiskFault>
         requires { length (S.starting store) ≡ length (S.image store) }
-        ensures ok { IfOk result (λ h. h ≡ hba_with (S.image store) depth capabilities) }
+        ensures ok { IfOk result (λ h. h ≡ hba_over (S.grows store) (S.image store) depth capabilities) }
         ensures fault { AnswersOr result (over_fault (length (S.image store) / 512) depth) DiskFault.OutOfMemory }
     {
-        let port = port_over(alloc, store, depth)?;
+        let port = port_on(alloc, store, depth)?;
         Hba::assembled(alloc, port, depth, capabilities)
     }
 
@@ -168,8 +168,8 @@ impl<A: Allocator + Copy, S: SectorStore + Drop> Hba<A, S> {
     ) -> Result<Self, DiskFault>
         requires some { 1 ≤ depth }
         requires most { depth ≤ 32 }
-        requires port { port ≡ new_port port.image 32 }
-        ensures ok { IfOk result (λ h. h ≡ hba_with port.image depth capabilities) }
+        requires port { port ≡ port_over port.grows 0 port.image 32 }
+        ensures ok { IfOk result (λ h. h ≡ hba_over port.grows port.image depth capabilities) }
         ensures err { IfErr result (λ e. e ≡ DiskFault.OutOfMemory) }
     {
         let slots = empty_slots(alloc)?;

@@ -1,10 +1,10 @@
 //! How a controller is made.
 
-ghost use Rattle.std.specs.Prelude.{◌≡◌, ◌/◌, length, None};
+ghost use Rattle.std.specs.Prelude.{◌≡◌, ◌/◌, length, true, None};
 ghost use Rattle.sector_store.specs.Shown.{buffer_sector, joined};
 ghost use Rattle.ncq_core.specs.DiskState.{over_fault};
 ghost use Rattle.ahci_ffi.specs.Making.{Makes, over_refusal, size_refusal};
-ghost use Rattle.ahci_hba.specs.States.{hba_with, new_hba};
+ghost use Rattle.ahci_hba.specs.States.{hba_over, hba_with, new_hba};
 ghost use Rattle.hba_ffi.specs.Capable.{capabilities_for, making_refusal, or_kind, over_making_refusal};
 
 use crate::capable::capabilities_of;
@@ -61,7 +61,7 @@ pub fn make_over(
     capabilities: &FlatCapabilities,
 ) -> Result<Box<CHba>, Status>
     ensures { Makes (over_making_refusal sectors depth capabilities.now) result
-        (λ box. box.value ≡ hba_with (joined (buffer_sector base.now) sectors) depth (capabilities_for capabilities.now)) }
+        (λ box. box.value ≡ hba_over true (joined (buffer_sector base.now) sectors) depth (capabilities_for capabilities.now)) }
 {
     if let Some(refusal) = over_refusal(sectors, depth, 0) {
         return Err(refusal);
@@ -98,7 +98,7 @@ fn boxed<A: Allocator + Copy>(
 ) -> Result<Box<Hba<A, Sectors<A>>, A>, Status>
     requires kept { length (⟦<Sectors<A> as SectorStore>⟧.starting store) ≡ length (⟦<Sectors<A> as SectorStore>⟧.image store) }
     requires sizes { over_fault (length (⟦<Sectors<A> as SectorStore>⟧.image store) / 512) depth ≡ None }
-    ensures { Makes None result (λ box. box.value ≡ hba_with (⟦<Sectors<A> as SectorStore>⟧.image store) depth capabilities) }
+    ensures { Makes None result (λ box. box.value ≡ hba_over (⟦<Sectors<A> as SectorStore>⟧.grows store) (⟦<Sectors<A> as SectorStore>⟧.image store) depth capabilities) }
 {
     let hba = match Hba::over(alloc, store, depth, capabilities) {
         Ok(hba) => hba,
