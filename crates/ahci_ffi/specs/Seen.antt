@@ -1,5 +1,5 @@
 -- What can be seen of a port: the entries of its journal, the pages that may have changed since it began, and all of its state at once.
-use Rattle.std.specs.Prelude.{◌≡◌, ◌×◌, ◌<◌, ℕ, not, if◌then◌else◌, List, length, take, nat_lt, slice_index_or, false, Option, None, Some}
+use Rattle.std.specs.Prelude.{◌≡◌, ◌<◌, ℕ, not, if◌then◌else◌, List, length, take, nat_lt, slice_index_or, false, Option, None, Some}
 use Rattle.std.specs.Option.{unwrap_or}
 use Rattle.word_bits.specs.Places.{bits}
 use Rattle.ahci_port.specs.Looking.{accepted_tags, held_tags, issued_tags}
