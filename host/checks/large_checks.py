@@ -32,8 +32,10 @@ class Command(NamedTuple):
 class FarLife(Life):
     """A life on a large disk, with what the disk has after each entry. Its commands are in some areas, and some pass the end of the disk."""
 
-    def __init__(self, probe: Probe, seed: int) -> None:
+    def __init__(self, probe: Probe, seed: int, parts: float = 0.05) -> None:
+        """`parts` is how often an idle queue begins another part."""
         super().__init__(probe, seed, most=30)
+        self.chance = parts
         self.first: Dict[int, bytes] = {}  # what the disk has at the start, by sector
         self.commands: List[Command] = []
         self.by_tag: Dict[int, Command] = {}
@@ -84,7 +86,7 @@ class FarLife(Life):
 
     def idle(self) -> None:
         super().idle()
-        if self.draw.random() < 0.05:
+        if self.draw.random() < self.chance:
             self.probe.tell(f"room {1 << 40}")
             self.parts.append(self.count)
 
@@ -258,11 +260,12 @@ def far_limit(room: str) -> str:
 
 def killed_far_record(room: str) -> str:
     """kill -9: what a record of a large disk has by then plays, up to its last whole entry."""
+    cuts = []
     for at in range(4):
         folder = os.path.join(room, f"record{at}")
         probe = Probe(["record", folder, "0", str(LARGEST)])
         probe.answer()
-        life = FarLife(probe, 20 + at)
+        life = FarLife(probe, 20 + at, 0)
         life.live(1500)
         probe.ask("sync")
         written = life.count
@@ -272,12 +275,13 @@ def killed_far_record(room: str) -> str:
         probe.kill()
         _, last, _ = bounds(Record(folder))
         expect(last + 1 >= written, f"{written} entries were written, and the record ends with {last}")
-        path = os.path.join(folder, sorted(os.listdir(folder))[-1])
+        path = os.path.join(folder, "part.000001")
         os.truncate(path, os.path.getsize(path) - 11 * at)  # as if it had been killed earlier
         _, last, cut = bounds(Record(folder))
-        expect(bool(cut) == bool(at), f"{cut} bytes of an entry that is cut")
+        cuts.append(cut)
         must_play(folder, room, life, last - 300, last)
-    return "four records play"
+    expect(all(cuts[1:]), f"the records end with {cuts} bytes of another entry")
+    return f"four records play, with {cuts} bytes of another entry"
 
 
 CHECKS = [Check(it) for it in (first_touches, far_stretches, far_images, too_many_sectors, far_limit, killed_far_record)]
