@@ -19,7 +19,7 @@ static void put_command(struct device *device, const ahci_entry *entry) {
     const bool writes = entry->kind == AHCI_EVENT_WRITE;
     const struct record_entry it = {.kind = writes ? RECORD_WRITE : RECORD_READ, .tag = (uint8_t)entry->tag, .count = entry->sectors, .lba = entry->lba};
     size_t bytes = writes ? (size_t)entry->sectors * AHCI_SECTOR_BYTES : 0;
-    uint8_t *behind = scribe_put(&history->scribe, it, bytes);
+    uint8_t *behind = scribe_put_command(&history->scribe, &device->disk, it, bytes);
     if (writes && behind)
         device_must("ahci_hba_entry_bytes", ahci_hba_entry_bytes(&device->hba, history->seen, behind, bytes));
     history->owned |= UINT32_C(1) << entry->tag;
@@ -122,9 +122,11 @@ static bool is_large(const struct device *device) {
 
 /* Whether the record's part has no room for a command of some slots. */
 static bool is_full(const struct device *device, uint32_t slots) {
-    for (; slots; slots &= slots - 1)
-        if (!scribe_has_room(&device->history.scribe, bytes_of(&device->tasks[__builtin_ctz(slots)].command)))
+    for (; slots; slots &= slots - 1) {
+        const struct command *command = &device->tasks[__builtin_ctz(slots)].command;
+        if (!scribe_has_room(&device->history.scribe, record_bytes_of(device->disk.sectors, command->writes, command->sectors)))
             return true;
+    }
     return false;
 }
 

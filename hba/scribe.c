@@ -20,7 +20,8 @@ static void do_work(void *of) {
         record_give_up(record, "there is no memory for the next entry");
     if (!scribe->begins_part)
         return;
-    record->disk = copying_disk(&scribe->part);
+    if (scribe->part.sectors)
+        record->disk = copying_disk(&scribe->part);
     record_next_part(record);
 }
 
@@ -54,8 +55,24 @@ uint8_t *scribe_put(struct scribe *scribe, struct record_entry entry, size_t byt
     memcpy(batch->bytes + batch->count, &entry, sizeof entry);
     uint8_t *behind = batch->bytes + batch->count + sizeof entry;
     batch->count += sizeof entry + bytes;
-    batch->entries++;
+    batch->entries += entry.kind != RECORD_SECTORS;
     return behind;
+}
+
+/* Appends sectors that a command touches first. */
+static int put_old(void *it, uint32_t lba, uint32_t count, const uint8_t *bytes) {
+    const struct record_entry entry = {.kind = RECORD_SECTORS, .count = count, .lba = lba};
+    uint8_t *behind = scribe_put(it, entry, (size_t)count * SECTOR_BYTES);
+    if (!behind)
+        return -1;
+    memcpy(behind, bytes, (size_t)count * SECTOR_BYTES);
+    return 0;
+}
+
+uint8_t *scribe_put_command(struct scribe *scribe, const struct disk *disk, struct record_entry entry, size_t bytes) {
+    if (!scribe->is_on || touched_take(&scribe->record.touched, disk, entry.lba, entry.count, put_old, scribe))
+        return NULL;
+    return scribe_put(scribe, entry, bytes);
 }
 
 static bool has_more(const struct scribe *scribe) {
@@ -110,18 +127,27 @@ bool scribe_has_room(const struct scribe *scribe, uint64_t bytes) {
     return !scribe->is_on || scribe->base + scribe->taken.count + scribe->filling.count + bytes <= record_room(&scribe->record);
 }
 
+/* Lets the thread, which is idle, begin the part. */
+static void give_part(struct scribe *scribe) {
+    scribe->is_copying = false;
+    scribe->begins_part = scribe->waits = true;
+    give(scribe);
+}
+
 bool scribe_next_part(struct scribe *scribe, const struct disk *disk) {
     scribe->waits = scribe->is_busy;
-    scribe->is_copying = !scribe->is_busy && copying_begin(&scribe->part, disk);
+    if (scribe->is_busy)
+        return true;
+    if (scribe->record.touched.bits)
+        give_part(scribe);
+    else
+        scribe->is_copying = copying_begin(&scribe->part, disk);
     return scribe->waits || scribe->is_copying;
 }
 
 void scribe_copy(struct scribe *scribe) {
-    if (!copying_go_on(&scribe->part))
-        return;
-    scribe->is_copying = false;
-    scribe->begins_part = scribe->waits = true;
-    give(scribe);
+    if (copying_go_on(&scribe->part))
+        give_part(scribe);
 }
 
 /* ---- beginning and end ---- */

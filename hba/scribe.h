@@ -19,7 +19,7 @@ struct batch {
 };
 
 struct scribe {
-    struct record record; /* the thread's while it is busy */
+    struct record record; /* the thread's while it is busy; but `touched` is the device's, except while the thread begins a part, for which the device waits */
     struct batch filling; /* what the device has put together since */
     struct batch taken;   /* what the thread writes, or has written */
     struct copying part;  /* the sectors that the next part begins with */
@@ -41,17 +41,20 @@ int scribe_begin(struct scribe *scribe, const char *folder, uint64_t limit, cons
    lack of memory. */
 uint8_t *scribe_put(struct scribe *scribe, struct record_entry entry, size_t bytes);
 
+/* The same for a command that can't have changed the disk yet. Sectors of a large disk that it touches first come before it: they are read now. */
+uint8_t *scribe_put_command(struct scribe *scribe, const struct disk *disk, struct record_entry entry, size_t bytes);
+
 /* Gives the thread what there is, if it is idle and there is much, or if it `must` be written soon. */
 void scribe_hand_over(struct scribe *scribe, bool must);
 
 /* Whether all is written that was put. If not, the device waits. */
 bool scribe_is_kept(struct scribe *scribe);
 
-/* Whether a command of so many bytes has room in the part. */
+/* Whether a command that adds so many bytes (record_bytes_of) has room in the part. */
 bool scribe_has_room(const struct scribe *scribe, uint64_t bytes);
 
-/* Begins the next part with the sectors of a disk, which stay as they are while scribe_copy copies them; or waits for the thread first, and is called
-   again. It returns false if there is no memory now. */
+/* Begins the next part with the sectors of a disk, which stay as they are while scribe_copy copies them; that of a large disk begins with none. Or waits for the thread
+   first, and is called again. It returns false if there is no memory now. */
 bool scribe_next_part(struct scribe *scribe, const struct disk *disk);
 void scribe_copy(struct scribe *scribe);
 

@@ -63,7 +63,7 @@ static const char help[] =
     "      --delay MICROSECONDS[+JITTER]\n"
     "                               The device waits so long before it answers a command, and up to JITTER more (default 0)\n"
     "      --record FOLDER          A record of all that the disk's queue does; ahci-stretch turns any part of it into a script of\n"
-    "                               `ahci replay`. The disk has 131072 sectors at most then\n"
+    "                               `ahci replay`\n"
     "      --record-limit BYTES     The oldest half of the record is dropped so that it has no more bytes\n"
     "      --most-journal BYTES     The size of the queue's journal at which it is trimmed (default: 4 times the disk's size, at\n"
     "                               least 4M and at most 256M). BYTES may have a unit: 512K, 64M, 1G\n"
@@ -235,7 +235,7 @@ static int look_at_command(const struct settings *settings) {
 static int settle(struct settings *settings) {
     if (look_at_command(settings))
         return -1;
-    if (mapped_open(&settings->mapped) || image_settle(&settings->mapped.image, &settings->sectors, LARGEST_DISK) || record_suits(settings->record, settings->sectors) || look_at_pairs(settings))
+    if (mapped_open(&settings->mapped) || image_settle(&settings->mapped.image, &settings->sectors, LARGEST_DISK) || look_at_pairs(settings))
         return -1;
     if (settings->most_journal == 0)
         settings->most_journal = usual_journal(settings->sectors);

@@ -5,7 +5,7 @@
 #include <stdint.h>
 
 #define SECTOR_BYTES 512
-#define MOST_SECTORS 131072     /* of a disk in memory, and of a script: 64 MiB */
+#define MOST_SECTORS 131072     /* of a disk in memory, and of a script: 64 MiB. One that has more is large */
 #define LARGEST_DISK UINT32_MAX /* of a disk over an image, in sectors */
 #define MOST_SLOTS 32
 

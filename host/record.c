@@ -8,6 +8,7 @@
 #include <inttypes.h>
 #include <limits.h>
 #include <stdio.h>
+#include <stdlib.h>
 #include <string.h>
 #include <sys/stat.h>
 #include <time.h>
@@ -16,7 +17,7 @@
 #define HEADER 64                  /* bytes of a part's header */
 #define PART (UINT64_C(512) << 20) /* bytes of a part, if there is no limit */
 #define SPARE (UINT64_C(1) << 20)  /* for the entries of the commands that are outstanding, and of a snapshot */
-#define RUN 64                     /* sectors of a snapshot's entry at most */
+#define OLD_ROOM ((size_t)1 << 20) /* bytes of old sectors that a group has at most */
 
 static const char magic[8] = "ahcirec1";
 
@@ -41,15 +42,13 @@ uint64_t record_room(const struct record *record) {
     return (record->limit ? record->limit / 2 : PART) - SPARE;
 }
 
-int record_suits(const char *folder, uint32_t sectors) {
-    if (!folder || sectors <= MOST_SECTORS)
-        return 0;
-    say_of("record", folder, "the disk has %" PRIu32 " sectors, and one with a record %d at most, since no script has a larger disk", sectors, MOST_SECTORS);
-    return -1;
+uint64_t record_bytes_of(uint32_t disk_sectors, bool writes, uint32_t sectors) {
+    return touched_most(disk_sectors, sectors, sizeof(struct record_entry)) + (writes ? (uint64_t)sectors * SECTOR_BYTES : 0);
 }
 
 uint64_t record_least_limit(uint32_t sectors, uint32_t most_count) {
-    return 2 * (((uint64_t)sectors + most_count) * SECTOR_BYTES + 2 * SPARE);
+    uint64_t snapshot = sectors > MOST_SECTORS ? 0 : (uint64_t)sectors * SECTOR_BYTES;
+    return 2 * (snapshot + record_bytes_of(sectors, true, most_count) + 2 * SPARE);
 }
 
 static bool part_path(const struct record *record, uint64_t number, char *path) {
@@ -98,7 +97,9 @@ static int write_pieces(int file, struct iovec *piece, unsigned count) {
 
 static void clear_group(struct record *record) {
     record->group = 0;
+    record->numbered = 0;
     record->pieces = 0;
+    record->old_bytes = 0;
     record->group_bytes = 0;
     record->time = 0;
 }
@@ -119,14 +120,14 @@ static void write_entries(struct record *record, struct iovec *piece, unsigned p
 
 void record_sync(struct record *record) {
     if (record->file >= 0 && record->group)
-        write_entries(record, record->piece, record->pieces, record->group_bytes, record->group);
+        write_entries(record, record->piece, record->pieces, record->group_bytes, record->numbered);
     clear_group(record);
 }
 
 void record_put(struct record *record, const uint8_t *bytes, size_t count, uint64_t entries) {
     struct iovec piece = {.iov_base = (void *)(uintptr_t)bytes, .iov_len = count};
     record_sync(record);
-    if (record->file >= 0 && entries)
+    if (record->file >= 0 && count)
         write_entries(record, &piece, 1, count, entries);
 }
 
@@ -143,13 +144,30 @@ static struct record_entry *add(struct record *record, enum record_kind kind) {
         record->time = record_now();
     struct record_entry *entry = &record->at[record->group++];
     *entry = (struct record_entry){.kind = (uint8_t)kind, .time = record->time};
+    record->numbered += kind != RECORD_SECTORS;
     add_piece(record, entry, sizeof *entry);
     return entry;
+}
+
+/* Appends sectors that a command touches first. The group gets a copy of their bytes, since they are the disk's. */
+static int add_old(void *it, uint32_t lba, uint32_t count, const uint8_t *bytes) {
+    struct record *record = it;
+    size_t size = (size_t)count * SECTOR_BYTES;
+    if (record->old_bytes + size > OLD_ROOM)
+        record_sync(record);
+    struct record_entry *entry = add(record, RECORD_SECTORS);
+    entry->count = count;
+    entry->lba = lba;
+    memcpy(record->old + record->old_bytes, bytes, size);
+    add_piece(record, record->old + record->old_bytes, size);
+    record->old_bytes += size;
+    return 0;
 }
 
 void record_command(struct record *record, bool writes, uint32_t tag, uint64_t lba, uint32_t sectors, bool fua, const uint8_t *bytes) {
     if (record->file < 0)
         return;
+    touched_take(&record->touched, &record->disk, lba, sectors, add_old, record);
     struct record_entry *entry = add(record, writes ? RECORD_WRITE : RECORD_READ);
     entry->tag = (uint8_t)tag;
     entry->flag = fua;
@@ -189,33 +207,17 @@ bool record_has_room(const struct record *record, uint64_t bytes) {
 }
 
 /* Writes a run of sectors of the snapshot. */
-static int put_run(struct record *record, uint64_t lba, uint32_t count, const uint8_t *bytes) {
+static int put_run(void *it, uint32_t lba, uint32_t count, const uint8_t *bytes) {
+    struct record *record = it;
     struct record_entry entry = {.kind = RECORD_SECTORS, .count = count, .lba = lba, .time = record_now()};
     struct iovec pieces[] = {{.iov_base = &entry, .iov_len = sizeof entry}, {.iov_base = (void *)(uintptr_t)bytes, .iov_len = (size_t)count * SECTOR_BYTES}};
-    if (!count)
-        return 0;
     record->bytes += sizeof entry + (uint64_t)count * SECTOR_BYTES;
     return write_pieces(record->file, pieces, 2);
 }
 
-/* Writes the sectors as they are, those of zeros left out. */
+/* Writes the sectors as they are. A part of a large disk begins with none. */
 static int put_snapshot(struct record *record) {
-    const struct disk *disk = &record->disk;
-    static const uint8_t zeros[SECTOR_BYTES];
-    uint8_t bytes[RUN * SECTOR_BYTES];
-    uint32_t count = 0;
-    for (uint32_t lba = 0; lba < disk->sectors; lba++) {
-        uint8_t *to = bytes + (size_t)count * SECTOR_BYTES;
-        disk->copy(disk->it, lba, to);
-        bool is_blank = !memcmp(to, zeros, sizeof zeros);
-        count += !is_blank;
-        if (count < RUN && !is_blank)
-            continue;
-        if (put_run(record, lba + !is_blank - count, count, bytes))
-            return -1;
-        count = 0;
-    }
-    return put_run(record, disk->sectors - count, count, bytes);
+    return record->touched.bits ? 0 : sectors_take(&record->disk, 0, record->disk.sectors, put_run, record);
 }
 
 /* Begins a part with its header and its snapshot. */
@@ -245,6 +247,7 @@ void record_next_part(struct record *record) {
     if (record->file < 0)
         return;
     close_part(record);
+    touched_clear(&record->touched);
     if (record->limit && record->parts > 1 && part_path(record, record->parts - 1, path))
         unlink(path);
     if (begin_part(record))
@@ -263,6 +266,20 @@ static int has_parts(const char *folder) {
     return has;
 }
 
+/* What a large disk needs. */
+static int take_memory(struct record *record) {
+    if (touched_begin(&record->touched, record->disk.sectors))
+        return -1;
+    record->old = record->touched.bits ? malloc(OLD_ROOM) : NULL;
+    return record->touched.bits && !record->old ? -1 : 0;
+}
+
+static void give_memory_back(struct record *record) {
+    touched_end(&record->touched);
+    free(record->old);
+    record->old = NULL;
+}
+
 int record_begin(struct record *record, const char *folder, uint64_t limit, const struct disk *disk, uint32_t depth) {
     *record = (struct record){.folder = folder, .limit = limit, .file = -1, .disk = *disk, .depth = depth};
     if (!folder)
@@ -272,15 +289,17 @@ int record_begin(struct record *record, const char *folder, uint64_t limit, cons
         say_of("record", folder, "the folder has a record already; remove it, or name another folder");
         return -1;
     }
-    if (!has && !begin_part(record))
+    if (!has && !take_memory(record) && !begin_part(record))
         return 0;
     say_of("record", folder, "%m");
     close_part(record);
+    give_memory_back(record);
     return -1;
 }
 
 int record_end(struct record *record) {
     record_sync(record);
     close_part(record);
+    give_memory_back(record);
     return record->has_failed ? -1 : 0;
 }

@@ -1,12 +1,15 @@
-/* The record: a folder of parts, each of which begins with the disk's sectors as they are then and goes on with all that happens. `stretch`
-   reads it. What a client or a guest has its answer for is in the record by then, so a killed server loses nothing of it.
+/* The record: a folder of parts, each of which has all that happens and the sectors that this needs. `stretch` reads it. What a client or a guest has
+   its answer for is in the record by then, so a killed server loses nothing of it.
 
    A part has a header of 64 bytes and then entries of 24 bytes, some with bytes of their own behind them; all numbers have their low byte
-   first. */
+   first. A part of a disk of at most MOST_SECTORS sectors begins with all of them as they are then, those of zeros left out (RECORD_SECTORS). A part of a larger disk
+   begins with none: before the first command of the part that touches a page of 8 sectors it has that page as the part found it, zeros left out. So the sectors that
+   a part's commands name are in the part, and no others. A page of which no sector comes before such a command is all zeros. */
 #ifndef AHCI_HOST_RECORD_H
 #define AHCI_HOST_RECORD_H
 
 #include "disk.h"
+#include "touched.h"
 
 #include <stdbool.h>
 #include <stddef.h>
@@ -15,7 +18,7 @@
 
 /* What an entry says. The numbers stay as they are: records are kept. */
 enum record_kind {
-    RECORD_SECTORS = 0,   /* the sectors that a part begins with, those of zeros left out: lba, count, and their bytes behind it */
+    RECORD_SECTORS = 0,   /* sectors as the part found them, 64 at most and none of zeros: lba, count, and their bytes behind it. It has no number */
     RECORD_READ = 1,      /* a command is issued: tag, lba, count */
     RECORD_WRITE = 2,     /* the same, its bytes behind it; `flag` is 1 for FUA */
     RECORD_ACCEPT = 3,    /* tag; a command that passes the last sector fails then */
@@ -52,12 +55,16 @@ struct record {
     uint32_t depth;
     uint64_t limit;   /* bytes of the whole record; 0: no limit */
     uint64_t parts;   /* how many were begun */
-    uint64_t entries; /* how many there were in all, those of dropped parts too */
+    uint64_t entries; /* how many there were in all, those of dropped parts too, and RECORD_SECTORS not */
     uint64_t bytes;   /* those of the part, without the group */
+    struct touched touched; /* the pages of a large disk that the part has */
     /* the group: what happened since the last record_sync */
     uint64_t time;
     uint64_t group_bytes;
     unsigned group, pieces;
+    unsigned numbered; /* entries of it that have a number */
+    uint8_t *old;      /* of a large disk: room for the bytes of sectors that commands touch first */
+    size_t old_bytes;
     struct record_entry at[RECORD_GROUP];
     struct iovec piece[2 * RECORD_GROUP];
     uint8_t tags[RECORD_GROUP][MOST_SLOTS];
@@ -66,8 +73,8 @@ struct record {
 /* The time of an entry that happens now. */
 uint64_t record_now(void);
 
-/* Whether a disk of so many sectors can have a record: 0, or -1 once it has printed that it is too large. With no folder each can. */
-int record_suits(const char *folder, uint32_t sectors);
+/* How many bytes a command of so many sectors adds to a part at most, without its answer: a write's own, and what its pages have if the disk is large. */
+uint64_t record_bytes_of(uint32_t disk_sectors, bool writes, uint32_t sectors);
 
 /* The smallest limit for a disk of so many sectors whose commands have at most so many. */
 uint64_t record_least_limit(uint32_t sectors, uint32_t most_count);
@@ -82,13 +89,14 @@ bool record_has_room(const struct record *record, uint64_t bytes);
 uint64_t record_room(const struct record *record);
 void record_next_part(struct record *record);
 
-/* Append an entry to the group. A write's bytes stay the caller's, and stay as they are until record_sync. */
+/* Append an entry to the group. A write's bytes stay the caller's, and stay as they are until record_sync. A command is appended before it can change
+   the disk, which is read if it is large. */
 void record_command(struct record *record, bool writes, uint32_t tag, uint64_t lba, uint32_t sectors, bool fua, const uint8_t *bytes);
 void record_tag(struct record *record, enum record_kind kind, uint32_t tag);
 void record_served(struct record *record, const uint8_t *tags, uint32_t count);
 void record_failed(struct record *record, uint32_t tag, uint8_t error, uint64_t lba);
 
-/* Writes entries that were put together elsewhere, with the bytes behind them, as the record has them: all of them, or none. */
+/* Writes entries that were put together elsewhere, with the bytes behind them, as the record has them: all of them, or none. `entries` of them have a number. */
 void record_put(struct record *record, const uint8_t *bytes, size_t count, uint64_t entries);
 
 /* Writes the group. If it can't be written, the record ends with the entry before the group, and the reason is printed once. */

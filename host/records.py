@@ -7,6 +7,8 @@ import struct
 from typing import Dict, Iterator, List, NamedTuple, Optional, Set, Tuple
 
 SECTOR = 512
+PAGE = 4096  # bytes
+MOST_SECTORS = 131_072  # of a disk whose parts begin with all of its sectors, and of a script; one that has more is large
 HEADER = struct.Struct("<8sIIQQ32x")
 ENTRY = struct.Struct("<BBBBIQQ")
 MAGIC = b"ahcirec1"
@@ -19,7 +21,7 @@ class Wrong(Exception):
 
 
 class Entry(NamedTuple):
-    """One entry: `number` counts from the record's beginning, and is -1 for the sectors that a part begins with."""
+    """One entry: `number` counts from the record's beginning, and is -1 for sectors as the part found them."""
     number: int
     kind: int
     tag: int
@@ -92,18 +94,69 @@ class Record:
         return found[-1]
 
     def entries(self, part: Optional[Part] = None) -> Iterator[Entry]:
-        """The entries from a part on (without one, from the oldest on), with the sectors that this part begins with."""
+        """The entries from a part on (without one, from the oldest on), with the sectors that this part begins with. A later part of a large disk has some that
+        no part before it has."""
         at = self.parts.index(part) if part else 0
         yield from self.parts[at].entries()
         for later in self.parts[at + 1:]:
-            yield from (it for it in later.entries() if it.kind != SECTORS)
+            yield from (it for it in later.entries() if it.kind != SECTORS or self.sectors > MOST_SECTORS)
+
+
+class Disk:
+    """A disk's sectors. Of a large disk those are known whose page a command has named; each of the others is zeros here."""
+
+    def __init__(self, sectors: int) -> None:
+        self.sectors, self.is_large = sectors, sectors > MOST_SECTORS
+        self.pages: Dict[int, bytearray] = {}  # those in which something was put
+        self.known: Set[int] = set()  # pages of a large disk
+
+    def put(self, lba: int, data: memoryview) -> None:
+        for page, first, part in pieces_of(lba, data):
+            if page not in self.pages:
+                self.pages[page] = bytearray(PAGE)
+            self.pages[page][first:first + len(part)] = part
+
+    def get(self, lba: int, count: int = 1) -> bytes:
+        first, end = SECTOR * lba, SECTOR * (lba + count)
+        found = b"".join(self.page(it) for it in range(first // PAGE, (end + PAGE - 1) // PAGE))
+        return found[first % PAGE:first % PAGE + end - first]
+
+    def page(self, number: int) -> bytes:
+        return bytes(self.pages.get(number, bytes(PAGE)))
+
+    def is_blank(self, lba: int) -> bool:
+        return SECTOR * lba // PAGE not in self.pages or not any(self.get(lba))
+
+    def learn(self, it: Entry) -> None:
+        """Takes sectors as a part found them, unless their page is known. That of a command is known from there on."""
+        if it.kind == SECTORS:
+            for page, first, part in pieces_of(it.lba, it.data):
+                if page not in self.known:
+                    self.put((PAGE * page + first) // SECTOR, part)
+        elif it.kind in (READ, WRITE) and self.is_large:
+            first, end = self.span_of(it)
+            self.known.update(range(SECTOR * first // PAGE, (SECTOR * end + PAGE - 1) // PAGE) if first < end else ())
+
+    def span_of(self, command: Entry) -> Tuple[int, int]:
+        """The first sector of a command, and the one behind its last on the disk: the same if it has none there."""
+        end = min(command.lba + command.count, self.sectors)
+        return min(command.lba, end), end
+
+
+def pieces_of(lba: int, data: memoryview) -> Iterator[Tuple[int, int, memoryview]]:
+    """The bytes from a sector on by pages: the page, where in it they begin, and they."""
+    at, place = 0, SECTOR * lba
+    while at < len(data):
+        page, first = divmod(place + at, PAGE)
+        yield page, first, data[at:at + PAGE - first]
+        at += PAGE - first
 
 
 class State:
     """The disk's sectors, and the commands that are outstanding."""
 
     def __init__(self, record: Record) -> None:
-        self.disk = bytearray(SECTOR * record.sectors)
+        self.disk = Disk(record.sectors)
         self.commands: Dict[int, Entry] = {}  # by tag: what issued it; tags in the order in which they were issued
         self.accepted: List[int] = []
         self.held: Set[int] = set()  # a failure has ended their commands
@@ -112,9 +165,8 @@ class State:
 
     def take(self, it: Entry) -> None:
         """What an entry does."""
-        if it.kind == SECTORS:
-            self.disk[SECTOR * it.lba:SECTOR * (it.lba + it.count)] = it.data
-        elif it.kind in (READ, WRITE):
+        self.disk.learn(it)
+        if it.kind in (READ, WRITE):
             self.commands.pop(it.tag, None)
             self.commands[it.tag] = it
         elif it.kind == ACCEPT:
@@ -147,7 +199,7 @@ class State:
         """A command is carried out."""
         it = self.commands[tag]
         if it.kind == WRITE:
-            self.disk[SECTOR * it.lba:SECTOR * (it.lba + it.count)] = it.data
+            self.disk.put(it.lba, it.data)
         self.accepted.remove(tag)
         self.done.add(tag)
 

@@ -1,17 +1,72 @@
 """Scripts of `ahci replay` as they are printed, line by line: the commands of the port, and writes of any bytes."""
 from __future__ import annotations
 
-from typing import BinaryIO, Dict, Iterator, List, Tuple
+import bisect
+from typing import BinaryIO, Dict, Iterable, Iterator, List, Tuple
 
-from records import SECTOR
+from records import MOST_SECTORS, SECTOR, Wrong
 
 MOST_SCRIPT = 67_108_864  # bytes
 LINE_SECTORS = 3  # of a raw line
 MOST_COUNT = 65_536  # sectors of a command
+MOST_LINES = 200  # comments that say which sectors are where
 
 
 class Full(Exception):
     """The script would have more bytes than `ahci replay` takes."""
+
+
+class Places:
+    """Where the sectors of a disk are on the disk of a script. A small disk is there as it is. Of a large one the script has the runs of sectors that its commands name, one
+    after the other."""
+
+    def __init__(self, sectors: int, spans: Iterable[Tuple[int, int]]) -> None:
+        """The spans have a first sector, and the one behind the last; they may overlap."""
+        self.end, self.is_large = sectors, sectors > MOST_SECTORS
+        self.runs = merged(spans) if self.is_large else [(0, sectors)]
+        self.places: List[int] = []  # by run
+        total = 0
+        for first, end in self.runs:
+            self.places.append(total)
+            total += end - first
+        self.sectors = max(total, 1)  # of the script's disk
+        if total > MOST_SECTORS:
+            raise Wrong(f"the commands of the stretch name {total} sectors, and the disk of a script has {MOST_SECTORS} at most: a shorter stretch would fit (--from, --to)")
+
+    def of(self, lba: int) -> int:
+        """The place of a sector. What is so far behind the disk's end is as far behind that of the script's disk."""
+        if lba >= self.end:
+            return self.sectors + lba - self.end
+        at = bisect.bisect_right(self.runs, (lba, self.end)) - 1
+        if at < 0 or lba >= self.runs[at][1]:
+            raise Wrong(f"sector {lba} is in no command of the stretch")
+        return self.places[at] + lba - self.runs[at][0]
+
+    def all(self) -> Iterator[int]:
+        """The sectors of the disk that have a place."""
+        for first, end in self.runs:
+            yield from range(first, end)
+
+    def comments(self) -> Iterator[str]:
+        """What a script of a large disk says of its sectors."""
+        if not self.is_large:
+            return
+        yield f"# a disk of {self.end} sectors, of which this one has those that the commands name"
+        for (first, end), place in list(zip(self.runs, self.places))[:MOST_LINES]:
+            yield f"# sectors {first}..{end - 1} of the disk are {place}..{place + end - first - 1} here"
+        if len(self.runs) > MOST_LINES:
+            yield f"# and so on, {len(self.runs) - MOST_LINES} runs of sectors more in the order of the disk"
+
+
+def merged(spans: Iterable[Tuple[int, int]]) -> List[Tuple[int, int]]:
+    """Spans that are in order, and neither overlap nor touch."""
+    found: List[Tuple[int, int]] = []
+    for first, end in sorted(it for it in spans if it[0] < it[1]):
+        if found and first <= found[-1][1]:
+            found[-1] = (found[-1][0], max(end, found[-1][1]))
+        else:
+            found.append((first, end))
+    return found
 
 
 class Script:

@@ -150,8 +150,8 @@ static void trim(struct driver *driver) {
 }
 
 /* What a request may add to the record. */
-static uint64_t bytes_of(const struct request *it) {
-    return it->kind == REQUEST_WRITE ? (uint64_t)it->sectors * AHCI_SECTOR_BYTES : 0;
+static uint64_t bytes_of(const struct driver *driver, const struct request *it) {
+    return record_bytes_of(driver->disk.sectors, it->kind == REQUEST_WRITE, it->sectors);
 }
 
 /* Every slot is free: writes the image back. A port over the image is trimmed before: it keeps each page that was written, and reads none of them from the image
@@ -195,13 +195,13 @@ static void flush(struct driver *driver, struct request *it) {
 static void settle(struct driver *driver) {
     if (driver->journal >= driver->settings->most_journal)
         trim(driver);
-    if (!record_has_room(&driver->record, bytes_of(driver->first)))
+    if (!record_has_room(&driver->record, bytes_of(driver, driver->first)))
         record_next_part(&driver->record);
 }
 
 /* Whether the next command waits until every slot is free. */
 static bool must_wait(const struct driver *driver) {
-    return driver->unsafe || driver->first->kind == REQUEST_FLUSH || driver->journal >= driver->settings->most_journal || !record_has_room(&driver->record, bytes_of(driver->first));
+    return driver->unsafe || driver->first->kind == REQUEST_FLUSH || driver->journal >= driver->settings->most_journal || !record_has_room(&driver->record, bytes_of(driver, driver->first));
 }
 
 void driver_issue(struct driver *driver) {

@@ -32,8 +32,7 @@ const char settings_help[] =
     "                     COUNT: ever). May be given up to 64 times\n"
     "most-journal=BYTES   size of the port's journal at which it is trimmed (default: 4 times the disk's\n"
     "                     size, at least 4M and at most 256M)\n"
-    "record=FOLDER        a record of all that happens; host/stretch turns any part of it into a script.\n"
-    "                     The disk has 131072 sectors at most then\n"
+    "record=FOLDER        a record of all that happens; host/stretch turns any part of it into a script\n"
     "record-limit=BYTES   the oldest half of the record is dropped so that it has no more bytes. BYTES may\n"
     "                     have a unit: 512K, 64M, 1G";
 
@@ -137,7 +136,7 @@ static int look_at_pairs(const struct settings *settings) {
 }
 
 int settings_complete(struct settings *settings) {
-    if (mapped_open(&settings->mapped) || image_settle(&settings->mapped.image, &settings->sectors, LARGEST_DISK) || record_suits(settings->record, settings->sectors) || look_at_pairs(settings))
+    if (mapped_open(&settings->mapped) || image_settle(&settings->mapped.image, &settings->sectors, LARGEST_DISK) || look_at_pairs(settings))
         return -1;
     if (settings->together == 0)
         settings->together = settings->pick == PICK_ALL ? AHCI_MOST_TAGS : 1;

@@ -2,11 +2,13 @@
 from __future__ import annotations
 
 import os
+import re
 import subprocess
-from typing import Any, List
+import sys
+from typing import Any, Dict, List, Set
 
 import pace
-from suite import Failed, Skipped
+from suite import Failed, Skipped, expect
 
 TOP = os.path.dirname(os.path.dirname(os.path.dirname(os.path.realpath(__file__))))
 STRETCH = os.path.join(TOP, "host", "stretch")
@@ -14,6 +16,11 @@ PROGRAM = os.path.join(TOP, "crates", "ahci", "out", "rlib", "ahci", "ahci")
 SECTOR = 512
 MOST_SCRIPT = 64 << 20
 SECONDS = 240
+
+sys.dont_write_bytecode = True
+sys.path.insert(0, os.path.dirname(STRETCH))
+
+from records import COLLECT, READ, RESET, WRITE, Entry, Record  # noqa: E402
 
 
 def stretch(words: List[str], **more: Any) -> "subprocess.CompletedProcess[Any]":
@@ -67,3 +74,47 @@ def by_program(script: str, image: bytes) -> None:
     wanted = [f"sector {lba} {image[SECTOR * lba]:02x}" for lba in range(len(image) // SECTOR)]
     if done.returncode or shown != wanted:
         raise Failed(f"ahci replay: status {done.returncode}, {done.stderr.decode()}; its sectors are {'the same' if shown == wanted else 'others'}")
+
+
+# ---- large disks
+
+
+def image_of(record: str, path: str, *words: str) -> None:
+    """A sparse file of a large disk after an entry of its record: what the record has of it, or with --base all."""
+    with open(path, "wb") as file:
+        done = stretch(["sectors", record, *words], stdout=file)
+    said = r"" if "--base" in words else r"stretch: the record has \d+ of the disk's \d+ sectors; the others are holes, and --base FILE takes them from a file\n"
+    expect(done.returncode == 0 and bool(re.fullmatch(said, done.stderr.decode())), f"stretch sectors {' '.join(words)}: status {done.returncode}, {done.stderr.decode()}")
+
+
+def names_of(record: Record, script: str) -> List[int]:
+    """The sectors of a large disk that a script has, in its order: those of the commands of its stretch, and of what was outstanding before it."""
+    with open(script, "rb") as text:
+        head = re.search(rb"^# entries (\d+) to (\d+) of a record", text.read(4096), re.MULTILINE)
+    if not head:
+        raise Failed(f"{script} does not say which entries it has")
+    first, last = int(head[1]), int(head[2])
+    outstanding: Dict[int, Entry] = {}
+    named: Set[int] = set()
+    for it in record.entries(record.before(first)):
+        if it.number > last:
+            break
+        if it.number == first:
+            named.update(lba for command in outstanding.values() for lba in range(command.lba, command.lba + command.count))
+        if it.kind in (READ, WRITE):
+            outstanding[it.tag] = it
+            named.update(range(it.lba, it.lba + it.count) if it.number >= first else ())
+        elif it.kind == COLLECT:
+            outstanding.pop(it.tag, None)
+        elif it.kind == RESET:
+            outstanding.clear()
+    return sorted(lba for lba in named if lba < record.sectors)
+
+
+def far_plays(record: str, script: str, image: str, player: str, *words: str) -> List[int]:
+    """A script of a large disk plays to the sectors that an image of the whole disk has. Which ones these are."""
+    played, names = replayed(scripted(record, script, *words), player), names_of(Record(record), script)
+    with open(image, "rb") as file:
+        wrong = [lba for at, lba in enumerate(names) if played[SECTOR * at:SECTOR * (at + 1)] != os.pread(file.fileno(), SECTOR, SECTOR * lba)]
+    expect(len(played) == SECTOR * len(names) and not wrong, f"{script}: a disk of {len(played) // SECTOR} sectors; {len(wrong)} of {len(names)} play to others: {wrong[:5]}")
+    return names

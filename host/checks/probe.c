@@ -5,7 +5,8 @@
      probe draws SEED COUNT             numbers of the generator
      probe pages                        lines "add LBA COUNT", "settle"
      probe mapped FILE SECTORS          lines "fill LBA COUNT BYTE", "save", "show LBA"; it is saved at the end
-     probe record FOLDER LIMIT SECTORS  lines of the record, see `record_line` */
+     probe record FOLDER LIMIT SECTORS  lines of the record, see `record_line`
+     probe least SECTORS COUNT          the smallest limit of a record */
 #include "generator.h"
 #include "mapped.h"
 #include "options.h"
@@ -17,6 +18,7 @@
 #include <stdio.h>
 #include <stdlib.h>
 #include <string.h>
+#include <sys/mman.h>
 
 static uint8_t *bytes; /* of the disk */
 static struct disk disk;
@@ -206,7 +208,13 @@ static void serve(char *tags) {
     record_served(&record, list, count);
 }
 
-/* "read TAG LBA COUNT", "write TAG LBA COUNT BYTE DIFFER FUA", "serve TAG ..", "fail TAG EE LBA", "entry KIND TAG", "sync", "room BYTES" */
+static void make_room(uint64_t count) {
+    if (!record_has_room(&record, count))
+        record_next_part(&record);
+}
+
+/* "read TAG LBA COUNT", "write TAG LBA COUNT BYTE DIFFER FUA", "serve TAG ..", "fail TAG EE LBA", "entry KIND TAG", "sync", "room BYTES", "space WRITES
+   COUNT", and "fill LBA COUNT BYTE", which is no entry: the disk has such sectors */
 static void record_line(char *line) {
     uint32_t tag, sectors, byte, differ, fua;
     uint64_t lba;
@@ -221,19 +229,28 @@ static void record_line(char *line) {
         serve(line + 6);
     else if (sscanf(line, "fail %" SCNu32 " %" SCNx32 " %" SCNu64, &tag, &byte, &lba) == 3)
         record_failed(&record, tag, (uint8_t)byte, lba);
+    else if (sscanf(line, "fill %" SCNu64 " %" SCNu32 " %" SCNu32, &lba, &sectors, &byte) == 3)
+        memset(bytes + lba * SECTOR_BYTES, (int)byte, (size_t)sectors * SECTOR_BYTES);
     else if (sscanf(line, "entry %" SCNu32 " %" SCNu32, &byte, &tag) == 2)
         record_tag(&record, (enum record_kind)byte, tag);
-    else if (sscanf(line, "room %" SCNu64, &lba) == 1) {
-        if (!record_has_room(&record, lba))
-            record_next_part(&record);
-    } else
+    else if (sscanf(line, "room %" SCNu64, &lba) == 1)
+        make_room(lba);
+    else if (sscanf(line, "space %" SCNu32 " %" SCNu32, &byte, &sectors) == 2)
+        make_room(record_bytes_of(disk.sectors, byte, sectors));
+    else
         record_sync(&record);
+}
+
+/* Memory for a disk of any size, of which only what is used is there. */
+static uint8_t *memory_of(uint32_t sectors) {
+    void *found = mmap(NULL, (size_t)sectors * SECTOR_BYTES, PROT_READ | PROT_WRITE, MAP_PRIVATE | MAP_ANONYMOUS | MAP_NORESERVE, -1, 0);
+    return found == MAP_FAILED ? NULL : found;
 }
 
 static int try_record(char **words) {
     char line[256];
     uint32_t sectors = (uint32_t)strtoul(words[2], NULL, 10);
-    bytes = calloc(sectors, SECTOR_BYTES);
+    bytes = memory_of(sectors);
     disk = (struct disk){.sectors = sectors, .copy = copy};
     if (!bytes || record_begin(&record, words[0], strtoull(words[1], NULL, 10), &disk, MOST_SLOTS))
         return 1;
@@ -246,7 +263,7 @@ static int try_record(char **words) {
     int status = record_end(&record);
     for (uint32_t tag = 0; tag < MOST_SLOTS; tag++)
         free(writes[tag].bytes);
-    free(bytes);
+    munmap(bytes, (size_t)sectors * SECTOR_BYTES);
     return status ? 2 : 0;
 }
 
@@ -266,5 +283,7 @@ int main(int count, char **words) {
         return try_mapped(words + 2);
     if (count == 5 && !strcmp(what, "record"))
         return try_record(words + 2);
+    if (count == 4 && !strcmp(what, "least"))
+        return printf("%" PRIu64 "\n", record_least_limit((uint32_t)strtoul(words[2], NULL, 10), (uint32_t)strtoul(words[3], NULL, 10))) < 0;
     return 9;
 }

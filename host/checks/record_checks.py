@@ -39,13 +39,22 @@ class Life:
         draw = self.draw
         tag = next(it for it in range(32) if it not in self.issued + self.accepted)
         count = draw.choice([1, 2, 3, 4, 8, draw.randrange(1, self.most)])
-        self.sectors[tag] = (draw.randrange(SECTORS - count), count)
-        lba = self.sectors[tag][0]
+        lba = self.place(count)
+        self.sectors[tag] = (lba, count)
         if draw.random() < 0.4:
             self.tell(f"read {tag} {lba} {count}")
         else:
             self.tell(f"write {tag} {lba} {count} {draw.randrange(256)} {int(draw.random() < 0.7)} {int(draw.random() < 0.1)}")
         self.issued.append(tag)
+
+    def place(self, count: int) -> int:
+        """Where a command of so many sectors begins."""
+        return self.draw.randrange(SECTORS - count)
+
+    def accept(self, tag: int) -> None:
+        self.issued.remove(tag)
+        self.accepted.append(tag)
+        self.entry(ACCEPT, tag)
 
     def fail(self, tag: int) -> None:
         """A command fails; then the port recovers and the rest is issued again, or a reset drops it."""
@@ -94,10 +103,7 @@ class Life:
         elif chance < 0.45 and len(self.issued + self.accepted) < 32:
             self.issue()
         elif chance < 0.7 and self.issued:
-            tag = self.draw.choice(self.issued)
-            self.issued.remove(tag)
-            self.accepted.append(tag)
-            self.entry(ACCEPT, tag)
+            self.accept(self.draw.choice(self.issued))
         elif chance < 0.72 and self.accepted:
             self.fail(self.draw.choice(self.accepted))
         elif self.accepted:

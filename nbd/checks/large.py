@@ -2,11 +2,19 @@
 from __future__ import annotations
 
 import os
+import random
 import re
 import resource
+import signal
+import subprocess
 import time
+from typing import List
 
-from harness import MIB, PLUGIN, Check, Failed, Server, counted, fio, must_be_clean, ran, serving, told, tool
+from harness import MIB, PLAYER, PLUGIN, SECTOR, Check, Failed, Server, counted, fio, must_be_clean, ran, serving, told, tool
+import pace
+from playing import far_plays, image_of
+from recording import size_of
+from records import Record, bounds
 from systems import fused
 
 GIB = 1 << 30
@@ -99,4 +107,114 @@ def flat(room: str) -> str:
     return "; ".join(times)
 
 
-CHECKS = [Check(a_terabyte, ["fio", "mkfs.ext4", "e2fsck", "nbdfuse"]), Check(both_ends, ["qemu-io"]), Check(no_memory, ["qemu-io"]), Check(flat, ["qemu-io"])]
+# ---- records
+
+AREAS = ((0, 64), (500 * GIB, 256), (TIB - 128 * 1024, 128))  # bytes from the start, and KiB
+FAILS = 700 * GIB // SECTOR + 3
+
+
+def areas_of(path: str) -> List[bytes]:
+    with open(path, "rb") as file:
+        return [os.pread(file.fileno(), kib << 10, at) for at, kib in AREAS]
+
+
+def read_by_client(server: Server, room: str, at: int, kib: int) -> bytes:
+    """What a client reads, in 4 KiB from a place on."""
+    path = os.path.join(room, "read")
+    ran(["qemu-img", "dd", "-f", "raw", "-O", "raw", "bs=4096", f"skip={at // 4096}", f"count={at // 4096 + kib // 4}", f"if={server.uri}", f"of={path}"])
+    with open(path, "rb") as file:
+        return file.read()
+
+
+def a_recorded_terabyte(room: str) -> str:
+    """The record of a disk of 1 TiB over an image: fio reads and writes at random at its beginning, in its middle and up to its last sector, and a read fails. The whole record and
+    stretches of it play to what the client has read; `stretch sectors --base` has the disk after each entry, the first one too."""
+    image, folder, draw = os.path.join(room, "disk"), os.path.join(room, "record"), random.Random(21)
+    sparse(image, TIB)
+    with open(image, "r+b") as file:
+        for at, kib in (*AREAS, (FAILS * SECTOR - 4096, 8)):
+            os.pwrite(file.fileno(), draw.randbytes(kib << 10), at)
+    before = areas_of(image)
+    with serving(room, f"image={image}", f"record={folder}", "pick=random", "together=3", f"fail={FAILS}:40:1,reads") as server:
+        for number, (at, kib) in enumerate(AREAS):
+            must_be_clean(fio(server, f"far{number}", "--rw=randrw", "--bsrange=512-12k", "--iodepth=16", f"--offset={at}", f"--size={kib}k", "--io_size=1m", "--norandommap",
+                              f"--randseed={number}"))
+        reads = [word for _ in range(2) for word in ("-c", f"read {(FAILS - 1) * SECTOR} 2k")]
+        said = ran(["qemu-io", "-f", "raw", *reads, "-c", f"write -P 9 {TIB - SECTOR} 512", "-c", f"read -P 9 {TIB - SECTOR} 512", server.uri], status=1)
+        if said.count("Input/output error") != 1 or said.count("read 2048/2048") != 1 or "Pattern verification failed" in said:
+            raise Failed(said)
+        found = [read_by_client(server, room, at, kib) for at, kib in AREAS]
+    if found != areas_of(image) or found == before:
+        raise Failed("the client has read other sectors than the image has")
+    return must_be_recorded(room, folder, image, before)
+
+
+def must_be_recorded(room: str, folder: str, image: str, before: List[bytes]) -> str:
+    """The record is that of an image, which had other bytes before."""
+    script, then = os.path.join(room, "script"), os.path.join(room, "then")
+    names = far_plays(folder, script, image, PLAYER)
+    with open(script, encoding="ascii") as file:
+        failures = re.findall(r"^fail \d+ 40 (\d+)$", file.read(), re.MULTILINE)
+    if failures != [str(names.index(FAILS))]:
+        raise Failed(f"the script has failures at {failures}, and sector {FAILS} is {names.index(FAILS)} there")
+    image_of(folder, then, "--to", "0", "--base", image)
+    if areas_of(then) != before or os.path.getsize(then) != TIB:
+        raise Failed("after the first entry, a request, the disk has other sectors than at the start")
+    _, last, _ = bounds(Record(folder))
+    draw = random.Random(22)
+    for _ in range(5):
+        first = draw.randrange(last - 300)
+        image_of(folder, then, "--to", str(first + 300), "--base", image)
+        far_plays(folder, script, then, PLAYER, "--from", str(first), "--to", str(first + 300))
+    return f"{last + 1} entries, {len(names)} sectors"
+
+
+def a_killed_terabyte(room: str) -> str:
+    """kill -9 in the middle of writes to a disk of 1 TiB: what the record has plays."""
+    folder, then = os.path.join(room, "record"), os.path.join(room, "then")
+    server = Server(room, PLUGIN, ["size=1T", f"record={folder}", "pick=random"])
+    job = subprocess.Popen(["fio", "--name=cut", "--ioengine=nbd", f"--uri={server.uri}", "--rw=randrw", "--bsrange=512-8k", "--iodepth=32", "--offset=900g", "--size=4m", "--time_based", "--runtime=60"],
+                           stdin=subprocess.DEVNULL, stdout=subprocess.DEVNULL, stderr=subprocess.DEVNULL, cwd=room)
+    limit = pace.Limit(20)
+    while not limit.has_passed() and (not os.path.exists(folder) or size_of(folder) < 8 * MIB):
+        time.sleep(0.02)
+    server.stop(signal.SIGKILL)
+    job.kill()
+    job.wait()
+    first, last, cut = bounds(Record(folder))
+    if last < 1000 or first:
+        raise Failed(f"entries {first} to {last}")
+    image_of(folder, then)
+    names = far_plays(folder, os.path.join(room, "script"), then, PLAYER, "--from", str(last - 2000))
+    return f"{last + 1} entries, and {cut} bytes of another; {len(names)} sectors"
+
+
+def a_limited_terabyte(room: str) -> str:
+    """record-limit= of a disk of 1 TiB: the record never has more bytes, the oldest part is dropped, and the others have the pages that their commands touch."""
+    folder, limit, largest, then = os.path.join(room, "record"), 24 * MIB, 0, os.path.join(room, "then")
+    with serving(room, "size=1T", f"record={folder}", "record-limit=24M") as server:
+        job = subprocess.Popen(["fio", "--name=limit", "--ioengine=nbd", f"--uri={server.uri}", "--rw=randwrite", "--bs=16k", "--iodepth=32", "--offset=300g", "--size=4m", "--io_size=100m", "--norandommap"],
+                               stdin=subprocess.DEVNULL, stdout=subprocess.DEVNULL, stderr=subprocess.DEVNULL, cwd=room)
+        while job.poll() is None:
+            largest = max(largest, size_of(folder))
+            time.sleep(0.005)
+        if job.returncode:
+            raise Failed(f"fio: status {job.returncode}")
+        found = read_by_client(server, room, 300 * GIB, 4096)
+    largest = max(largest, size_of(folder))
+    record = Record(folder)
+    first, last, _ = bounds(record)
+    if largest > limit or largest < limit // 3 or first == 0 or len(record.parts) != 2:
+        raise Failed(f"{largest} bytes at most, entries {first} to {last} in {len(record.parts)} parts")
+    image_of(folder, then)
+    with open(then, "rb") as file:
+        if os.pread(file.fileno(), 4 * MIB, 300 * GIB) != found:
+            raise Failed("the record ends with other sectors than the client read")
+    for asked in (record.parts[1].first - 100, record.parts[1].first):  # over a part's beginning, and from there
+        image_of(folder, then, "--to", str(asked + 300))
+        far_plays(folder, os.path.join(room, "script"), then, PLAYER, "--from", str(asked), "--to", str(asked + 300))
+    return f"{largest} bytes at most, entries {first} to {last} are left"
+
+
+CHECKS = [Check(a_terabyte, ["fio", "mkfs.ext4", "e2fsck", "nbdfuse"]), Check(both_ends, ["qemu-io"]), Check(no_memory, ["qemu-io"]), Check(flat, ["qemu-io"]),
+          Check(a_recorded_terabyte, ["fio", "qemu-io", "qemu-img"]), Check(a_killed_terabyte, ["fio"]), Check(a_limited_terabyte, ["fio", "qemu-img"])]

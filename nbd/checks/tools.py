@@ -30,8 +30,9 @@ def wrong_words(room: str) -> str:
     ]
     several = [([f"image={image}", "sectors=2"], "the image has 3 sectors"), (["fail=1:40"] * 65, "64 times at most"), (["sectors=8", "fail=8:40"], "the disk has 8 sectors"),
                (["sectors=8", "sectors=8"], "sectors= is given twice"), (["sectors=8", "size=4K"], "both say how large the disk is"), (["size=4K", "sectors=8"], "both say how large the disk is"),
-               (["size=2199023255040", "fail=4294967295:40"], "the disk has 4294967295 sectors"), ([f"record={room}/record", "sectors=131073"], "one with a record 131072 at most, since no script has a larger disk"), (["pick=low", "pick=high"], "pick= is given twice"),
-               ([f"record={room}/record", "record-limit=1K"], "at least")]
+               (["size=2199023255040", "fail=4294967295:40"], "the disk has 4294967295 sectors"), (["pick=low", "pick=high"], "pick= is given twice"),
+               ([f"record={room}/record", "record-limit=1K"], "at least"),
+               ([f"record={room}/record", "record-limit=20M", "size=1T"], "record-limit: a disk of 2147483648 sectors needs 21037152 bytes at least")]
     for words, told_of in [*(([word], text) for word, text in wrong), *several]:
         done = tool(["nbdkit", "-f", "-U", os.path.join(room, "socket"), PLUGIN, *words, "--run", "true"])
         if done.returncode != 1 or told_of not in done.stdout:
