@@ -51,6 +51,21 @@ def a_terabyte(room: str) -> str:
     return f"{early // MIB} MiB of memory, {formatted // MIB} after mkfs, {late // MIB} after fio, {written // MIB} MiB were written; {counts}"
 
 
+def a_terabyte_of_xfs(room: str) -> str:
+    """A sparse image of 1 TiB with XFS: its headers stand at four places of the whole disk. xfs_repair finds nothing on the served disk, nor in the file afterwards."""
+    image = os.path.join(room, "disk")
+    sparse(image, TIB)
+    with serving(room, f"image={image}", "most-journal=16M", "pick=random") as server:
+        with fused(room, server) as disk:
+            ran(["mkfs.xfs", "-q", "-f", disk])
+            ran(["xfs_repair", "-n", "-f", disk])
+    ran(["xfs_repair", "-n", "-f", image])
+    with open(image, "rb") as file:
+        if file.read(4) != b"XFSB" or os.path.getsize(image) != TIB:
+            raise Failed(f"the file is no file system of {os.path.getsize(image)} bytes")
+    return f"{os.stat(image).st_blocks // 2} KiB were written; {told(server)}"
+
+
 def both_ends(room: str) -> str:
     """The largest disk over zeros: its first and last sectors are written and read, rules apply to them, and the sector behind it is not there."""
     last = 4294967294 * 512
@@ -216,5 +231,5 @@ def a_limited_terabyte(room: str) -> str:
     return f"{largest} bytes at most, entries {first} to {last} are left"
 
 
-CHECKS = [Check(a_terabyte, ["fio", "mkfs.ext4", "e2fsck", "nbdfuse"]), Check(both_ends, ["qemu-io"]), Check(no_memory, ["qemu-io"]), Check(flat, ["qemu-io"]),
+CHECKS = [Check(a_terabyte, ["fio", "mkfs.ext4", "e2fsck", "nbdfuse"]), Check(a_terabyte_of_xfs, ["mkfs.xfs", "xfs_repair", "nbdfuse"]), Check(both_ends, ["qemu-io"]), Check(no_memory, ["qemu-io"]), Check(flat, ["qemu-io"]),
           Check(a_recorded_terabyte, ["fio", "qemu-io", "qemu-img"]), Check(a_killed_terabyte, ["fio"]), Check(a_limited_terabyte, ["fio", "qemu-img"])]
