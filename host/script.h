@@ -82,7 +82,7 @@ struct decision {
     struct line *line;
     const struct event *event;
 };
-struct verdict {
+struct decisions {
     struct decision of[EVENT_KINDS];
 };
 
@@ -123,7 +123,7 @@ void script_begin(struct script *script);
 bool script_has(const struct script *script, enum event_kind kind);
 
 /* Decides what becomes of a command. For each kind the first line decides that applies. */
-void script_decide(struct script *script, const struct occasion *occasion, struct verdict *verdict);
+void script_decide(struct script *script, const struct occasion *occasion, struct decisions *all);
 
 /* The driver has written the bytes from an offset of the registers on. */
 void script_wrote(struct script *script, uint32_t offset, uint32_t bytes, uint64_t since);

@@ -138,8 +138,8 @@ static struct decision decision_of(struct script *script, enum event_kind kind, 
     return (struct decision){.line = NULL};
 }
 
-void script_decide(struct script *script, const struct occasion *it, struct verdict *verdict) {
-    *verdict = (struct verdict){0};
+void script_decide(struct script *script, const struct occasion *it, struct decisions *all) {
+    *all = (struct decisions){0};
     for (unsigned at = 0; at < script->count; at++) {
         struct line *line = &script->lines[at];
         bool holds = is_about(line, it);
@@ -147,8 +147,8 @@ void script_decide(struct script *script, const struct occasion *it, struct verd
         line->answer = holds ? NOT_ASKED : APPLIES_NOT;
     }
     for (enum event_kind kind = 0; kind < EVENT_KINDS; kind++)
-        if (!verdict->of[EVENT_STALL].line || (kind != EVENT_SLOW && kind != EVENT_FAIL))
-            verdict->of[kind] = decision_of(script, kind, it->since);
+        if (!all->of[EVENT_STALL].line || (kind != EVENT_SLOW && kind != EVENT_FAIL))
+            all->of[kind] = decision_of(script, kind, it->since);
     for (unsigned at = 0; at < script->count; at++)
         if (script->lines[at].about_command < script->lines[at].count)
             applies(&script->lines[at], it->since); /* its other events come by themselves */

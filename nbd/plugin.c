@@ -66,6 +66,11 @@ static int ahci_after_fork(void) {
     return has_device ? 0 : -1;
 }
 
+/* A line of the script that never happened. */
+static void note(const char *line) {
+    fprintf(stderr, "ahci: %s\n", line);
+}
+
 /* nbdkit has answered every request by now. */
 static void ahci_cleanup(void) {
     if (has_device)
@@ -77,6 +82,7 @@ static void ahci_cleanup(void) {
             "ahci: %" PRIu64 " commands, %" PRIu64 " served, %" PRIu64 " of them out of order, %" PRIu64 " lists of several tags, %" PRIu32
             " tags at most, %" PRIu64 " failures, %" PRIu64 " recoveries, %" PRIu64 " trims\n",
             it->commands, it->served, it->out_of_order, it->lists, it->deepest, it->failed, it->recoveries, it->trims);
+    script_end(settings.script, note);
     if (driver_end(&driver))
         exit(EXIT_FAILURE);
 }

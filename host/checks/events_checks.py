@@ -66,7 +66,7 @@ def right_lines(room: str) -> str:
 
 
 HBA_EVENTS = "an event that hba has (stall, slow, fail, no_memory, lose_interrupt, late_interrupt, send_interrupt, power_on, wait)"
-NBD_EVENTS = "an event that nbd has (slow, fail, wait)"
+NBD_EVENTS = "an event that nbd has (slow, fail)"
 PLACE = "every, first, a place such as 3rd, or time"
 END = "\0"  # the end of the line
 # a line, the column that is named, what is expected, and what stands there
@@ -84,7 +84,7 @@ WRONG: Sequence[Tuple[str, int, str, str]] = (
     ("on 2nd any do slow 11s", 20, "a time of at most 10s, such as 20ms, perhaps with one to be added at random, such as 20ms+5ms", "11s"), ("on 2nd any do fail 40 wait 1s", 23, "then, repeat or the end of the line", "wait"),
     ("on 2nd any do fail 40 then wait 1.5us then send_interrupt", 33, "a time, such as 20ms or 2.5s", "1.5us"), ("on 2nd any do fail 40 then wait 1s", 35, "then and an event, for which to wait", END),
     ("on 2nd any do fail 40 repeat 0", 30, "a number from 1 on, or ever", "0"), ("on 2nd any do fail 40 repeat 2 times", 32, "the end of the line", "times"),
-    ("on 2nd any do fail 40 then fail 04", 28, "an event that can come beside those before it", "fail"), ("on 2nd any do stall then fail 04", 25, "an event that can come beside those before it", "fail"),
+    ("on 2nd any do fail 40 then fail 04", 28, "an event that can come beside those before it", "fail"), ("on 2nd any do stall then fail 04", 26, "an event that can come beside those before it", "fail"),
     ("on 2nd any do send_interrupt then fail 04", 35, "no event about the command after a wait or an event about the controller", "fail"),
     ("on time 2s do fail 40", 15, "an event that is about no command, since none is at hand", "fail"), ("on time 0s do power_on", 9, "a time since the start, such as 2.5s", "0s"),
     ("on 2nd write PxCMD do stall", 23, "an event that is about no command, since none is at hand", "stall"),

@@ -94,7 +94,7 @@ static void print_rule(enum event_kind kind, const struct decision *decision) {
 static int try_rules(char **words) {
     char line[256], kind;
     struct occasion it = {0};
-    struct verdict verdict;
+    struct decisions decided;
     enum event_kind event = rules_kind(words[0], SERVER_HBA);
     if (event == EVENT_KINDS || take_lines(event, words + 2) || script_complete(&script, strtoull(words[1], NULL, 10)))
         return 1;
@@ -102,8 +102,8 @@ static int try_rules(char **words) {
     while (line_of(line, sizeof line)) {
         sscanf(line, "%" SCNu64 " %" SCNu32 " %c %" SCNu64 " %" SCNu64, &it.lba, &it.sectors, &kind, &it.number, &it.since);
         it.writes = kind == 'w';
-        script_decide(&script, &it, &verdict);
-        print_rule(event, &verdict.of[event]);
+        script_decide(&script, &it, &decided);
+        print_rule(event, &decided.of[event]);
     }
     return 0;
 }

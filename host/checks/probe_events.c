@@ -34,7 +34,7 @@ static void print_event(const struct decision *it) {
 /* "command CODE TAG r|w LBA COUNT NUMBER TIME", "wrote OFFSET BYTES TIME", "time TIME": what is decided, or due. */
 static void happen(const char *line) {
     struct occasion it = {0};
-    struct verdict verdict;
+    struct decisions decided;
     struct decision due;
     uint32_t code, tag, offset, count;
     char kind;
@@ -42,10 +42,10 @@ static void happen(const char *line) {
         it.code = (uint8_t)code;
         it.tag = (uint8_t)tag;
         it.writes = kind == 'w';
-        script_decide(&script, &it, &verdict);
+        script_decide(&script, &it, &decided);
         for (unsigned at = 0; at < EVENT_KINDS; at++)
-            if (verdict.of[at].line)
-                print_event(&verdict.of[at]);
+            if (decided.of[at].line)
+                print_event(&decided.of[at]);
     } else if (sscanf(line, "wrote %" SCNx32 " %" SCNu32 " %" SCNu64, &offset, &count, &it.since) == 3)
         script_wrote(&script, offset, count, it.since);
     else if (sscanf(line, "time %" SCNu64, &it.since) == 1)
@@ -146,7 +146,7 @@ static bool is_kept(const struct line *line, unsigned server) {
 
 /* Lets a line meet some commands, writes and times. */
 static void meet(const struct line *line) {
-    struct verdict verdict;
+    struct decisions decided;
     struct decision due;
     script.count = 1;
     script.lines[0] = *line;
@@ -154,7 +154,7 @@ static void meet(const struct line *line) {
     script_begin(&script);
     for (uint64_t since = 0; since < 8000000; since += 1000000) {
         const struct occasion it = {.code = line->code, .tag = (uint8_t)drawn(32), .writes = drawn(2), .lba = line->first_lba, .sectors = (uint32_t)drawn(2), .number = drawn(9), .since = since};
-        script_decide(&script, &it, &verdict);
+        script_decide(&script, &it, &decided);
         script_wrote(&script, line->offset, 4, since);
         for (unsigned most = 0; most < 40 && script_take(&script, since, &due); most++)
             ;
