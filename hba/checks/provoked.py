@@ -113,11 +113,12 @@ def never(room: str) -> str:
 def judged(room: str) -> str:
     """--check-script prints the lines of a right script in one form; of a wrong one, and of one with an event that the other server hasn't, all that is wrong."""
     path = script_of(room, "on 1st reads do fail 4f\non time 2500ms do power_on")
-    cases = ((["--check-script", path], 0, ["on first read do fail 4F", "on time 2.5s do power_on"], []),
-             (["--check-script", path, "--for", "nbd"], 2, [], [f'ahci-hba: {path}:2:19: expected an event that nbd has (slow, fail), got "power_on"']),
-             (["--check-script"], 2, [], ["ahci-hba: expected --check-script FILE, or --check-script FILE --for hba or nbd"]),
-             (["--check-script", path, "--for", "qemu"], 2, [], ['ahci-hba: --for: expected hba or nbd, got "qemu"']),
-             (["run", "--script", path, "--sectors", "0"], 2, [], ['ahci-hba: --sectors: expected a decimal number from 1 to 4294967295, got "0"']))
+    cases: Sequence[Tuple[List[str], int, List[str], List[str]]] = (
+        (["--check-script", path], 0, ["on first read do fail 4F", "on time 2.5s do power_on"], []),
+        (["--check-script", path, "--for", "nbd"], 2, [], [f'ahci-hba: {path}:2:19: expected an event that nbd has (slow, fail), got "power_on"']),
+        (["--check-script"], 2, [], ["ahci-hba: expected --check-script FILE, or --check-script FILE --for hba or nbd"]),
+        (["--check-script", path, "--for", "qemu"], 2, [], ['ahci-hba: --for: expected hba or nbd, got "qemu"']),
+        (["run", "--script", path, "--sectors", "0"], 2, [], ['ahci-hba: --sectors: expected a decimal number from 1 to 4294967295, got "0"']))
     for words, status, printed, said in cases:
         done = pace.ran([SANITIZED, *words], SECONDS, stdout=subprocess.PIPE, stderr=subprocess.PIPE, text=True)
         expect((done.returncode, done.stdout.splitlines(), done.stderr.splitlines()) == (status, printed, said), f"{words}: {done}")

@@ -45,7 +45,7 @@ RIGHT: Dict[str, str] = {
 }
 RIGHT_FOR_HBA: Dict[str, str] = {
     "on first command ec do fail 04": "on first IDENTIFY DEVICE do fail 04", "on first command FF do stall": "on first command FF do stall", "on every READ DMA do stall": "on every READ DMA do stall",
-    "on every READ DMA EXT do stall": "on every READ DMA EXT do stall", "on every READ SECTOR(S) do stall": "on every READ SECTOR(S) do stall",
+    "on every READ DMA EXT do stall": "on every READ DMA EXT do stall", "on every READ SECTOR(S) do stall": "on every READ SECTOR(S) do stall", "on every READ SECTOR(S) EXT do stall": "on every READ SECTOR(S) EXT do stall",
     "on 2nd write PxSCTL during 1s-2s do lose_interrupt": "on 2nd write PxSCTL during 1s-2s do lose_interrupt", "on every write GHC do send_interrupt": "on every write GHC do send_interrupt",
     "on time 2500ms do power_on then wait 20ms then send_interrupt repeat 3": "on time 2.5s do power_on then wait 20ms then send_interrupt repeat 3",
     "on time 1us do late_interrupt 1000us repeat ever": "on time 1us do late_interrupt 1ms repeat ever", "on first write do no_memory then lose_interrupt": "on first write do no_memory then lose_interrupt",
@@ -149,7 +149,7 @@ def decisions(room: str) -> str:
         ("on first any do lose_interrupt then wait 1ms then lose_interrupt", [READ, "time 1000"], ["1 lose_interrupt", "1 lose_interrupt"]),
         ("on time 1s do power_on repeat 2", ["time 999999", "time 1000000", "time 1999999", "time 5000000"], ["", "1 power_on", "", "1 power_on"]),
         ("on time 1s do power_on then wait 3s then send_interrupt repeat 2", ["time 1000000", "time 4000000", "time 5000000", "time 9000000"], ["1 power_on", "1 send_interrupt", "1 power_on", "1 send_interrupt"]),
-        ("on 2nd write PxSCTL do late_interrupt 5us", ["wrote 12c 4 0", "wrote 128 4 0", "wrote 128 8 0", "time 0"], ["", "", "", "1 late_interrupt 5"]),
+        ("on 2nd write PxSCTL do late_interrupt 5us", ["wrote 12c 4 0", "wrote 128 4 0", "wrote 130 4 0", "time 0", "wrote 128 8 0", "time 0"], ["", "", "", "", "", "1 late_interrupt 5"]),
         ("on every any do wait 1ms then send_interrupt", [READ, READ, "time 1000", READ, "time 1000"], ["", "", "1 send_interrupt", "", "1 send_interrupt"]),
     )
     for script, lines, wanted in cases:

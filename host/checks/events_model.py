@@ -76,9 +76,10 @@ class Line:
     @staticmethod
     def some_events(rng: random.Random) -> List[Event]:
         times = {"slow": (rng.randrange(900), rng.randrange(1, 90)), "wait": (rng.randrange(1, 30000), 0), "late_interrupt": (rng.randrange(1, 900), 0)}
-        front = rng.sample([["stall"], ["slow"], ["fail"], ["slow", "fail"], ["fail", "no_memory"], ["lose_interrupt"], ["late_interrupt", "no_memory"], []], 1)[0]
-        rest = rng.choice([[], [], ["send_interrupt"], ["wait", "power_on"], ["wait", "lose_interrupt", "wait", "send_interrupt"], ["send_interrupt", "no_memory"]])
-        return [Event(it, rng.randrange(256), *times.get(it, (0, 0))) for it in (front + rest or ["fail"])]
+        fronts: List[List[str]] = [["stall"], ["slow"], ["fail"], ["slow", "fail"], ["fail", "no_memory"], ["lose_interrupt"], ["late_interrupt", "no_memory"], []]
+        rests: List[List[str]] = [[], [], ["send_interrupt"], ["wait", "power_on"], ["wait", "lose_interrupt", "wait", "send_interrupt"], ["send_interrupt", "no_memory"]]
+        names = (rng.choice(fronts) + rng.choice(rests)) or ["fail"]
+        return [Event(it, rng.randrange(256), *times.get(it, (0, 0))) for it in names]
 
     def text(self) -> str:
         ending = {1: "st", 2: "nd", 3: "rd"}.get(self.nth, "th")

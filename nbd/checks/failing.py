@@ -3,7 +3,7 @@ from __future__ import annotations
 
 import os
 import time
-from typing import List
+from typing import List, Tuple
 
 from harness import PLUGIN, SECTOR, Check, Failed, counted, fio, must_be_clean, ran, replayed, scripted, sectors_of, serving, told, tool
 import pace
@@ -75,7 +75,7 @@ def rules(room: str) -> str:
 def scripts(room: str) -> str:
     """script=: lines of a script fail the commands that they name, after those of fail=; what never happened is said at the end."""
     path, read, write = os.path.join(room, "it.events"), "read {} 512", "write -P 1 {} 512"
-    cases = [
+    cases: List[Tuple[str, List[str], List[Tuple[str, int]], str]] = [
         ("on 2nd read sectors 10-12 do fail 40", [], [(read, 10), (write, 10), (read, 12), (read, 11)], "yyNy"),
         ("on every WRITE FPDMA QUEUED do fail 04", [], [(read, 0), (write, 0), (write, 9)], "yNN"),
         ("from 2nd on any do fail 40", [], [(read, 0), (write, 1), (read, 2)], "yNN"),
