@@ -281,7 +281,8 @@ void device_write(struct device *device, uint32_t offset, uint32_t bytes, uint64
     if (is_slow)
         slow_write(&device->slow, offset, bytes, value, command, word_at(device, AHCI_REG_PXCMD));
     follow(device, entries);
-    script_wrote(device->settings->script, offset, bytes, provoke_since(device));
+    if (device->settings->script->count)
+        script_wrote(device->settings->script, offset, bytes, provoke_since(device));
 }
 
 void device_master(struct device *device, bool is_master) {

@@ -289,9 +289,9 @@ static int64_t shorter(int64_t one, int64_t other) {
 }
 
 static int64_t silence_left(const struct pci *pci) {
-    uint64_t now = device_now();
     if (!pci->silent || pci->silent == UINT64_MAX)
         return -1;
+    uint64_t now = device_now();
     return now >= pci->silent ? 0 : (int64_t)(pci->silent - now);
 }
 

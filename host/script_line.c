@@ -13,8 +13,6 @@
 #include "script.h"
 #include "words.h"
 
-#include <ctype.h>
-#include <inttypes.h>
 #include <stdio.h>
 #include <string.h>
 
