@@ -116,7 +116,7 @@ static void note_step(struct device *device, uint32_t slot, uint8_t kind) {
         *task = (struct task){.number = 0};
         judge_fetch(&device->judge, slot);
     }
-    if (kind == AHCI_STEP_DELIVER)
+    if (kind == AHCI_STEP_DELIVER || kind == AHCI_STEP_EXECUTE || kind == AHCI_STEP_RECOVER)
         provoke_answer(device, slot);
     if (kind == AHCI_STEP_SERVE && task->command.writes)
         mapped_wrote(&device->settings->mapped, (uint32_t)task->command.lba, task->command.sectors);

@@ -91,6 +91,7 @@ static bool fails_by_script(struct device *device, uint32_t slot) {
     if (status != AHCI_OK)
         return false;
     log_failure(device, slot, &failure, named);
+    provoke_answer(device, slot);
     return true;
 }
 

@@ -5,7 +5,8 @@ import os
 import subprocess
 from typing import List, Sequence, Tuple
 
-from harness import HERE, PROGRAM, SANITIZED
+import booting
+from harness import HERE, PROGRAM, SANITIZED, Guest
 from images import VFIO_USER
 import pace
 from suite import Check, expect
@@ -83,7 +84,8 @@ def steps(room: str) -> str:
         options = ["--script", script_of(room, script)]
         printed, said = run(options, [EVENTFUL, *(step for step, _ in wanted)])
         right = [f"{step}: {how}" for step, how in wanted]
-        expect(printed == right, f"{script}: {next((a, b) for a, b in zip([*printed, 'nothing'], [*right, 'nothing']) if a != b)} are what came and what is right")
+        wrong = [f"`{came}`, and `{it}` is right" for came, it in zip([*printed, *["nothing"] * len(right)], right) if came != it]
+        expect(printed == right, f"{script}: {(wrong or printed)[0]}")
         expect(not said, f"{script}: {said}")
     return f"{len(CASES)} scripts"
 
@@ -129,4 +131,32 @@ def judged(room: str) -> str:
     return f"{len(cases) + 1} command lines"
 
 
-CHECKS = [Check(steps, title="Events, step by step"), Check(as_options, title="Events and options"), Check(never, title="Events that never happen"), Check(judged, title="Scripts that are judged")]
+# ---- Linux ----
+
+READS = "requests 5000 compared 5000 errors 0 wrong 0"
+
+
+def interrupted(room: str, script: str, linux_says: Sequence[str]) -> Guest:
+    """5,000 reads of Linux while a script of interrupts goes on: all come right."""
+    guest = booting.troubled(room, "stall", ["--script", script_of(room, script), "--pick", "random"], [r"(lose|late|send)_interrupt.*", "an interrupt is lost"], linux_says)
+    expect(guest.told()["reads"] == READS, f"reads: {guest.told()['reads']}")
+    return guest
+
+
+def linux_strange(room: str) -> str:
+    """Interrupts are late, and others have no cause: Linux reads all, and says nothing."""
+    guest = interrupted(room, "on every 50th any do late_interrupt 20ms\non time 100ms do send_interrupt repeat ever", [])
+    late, without = (sum(it.startswith(name) for it in guest.log()) for name in ("late_interrupt", "send_interrupt"))
+    expect(late >= 50 and without >= 10, f"{late} interrupts were late, and {without} had no cause")
+    return f"{late} interrupts were late, {without} had no cause"
+
+
+def linux_lost(room: str) -> str:
+    """An interrupt is lost while the queue is full: Linux resets the link when a command's time is up, and reads all."""
+    guest = interrupted(room, "on 2000th any do lose_interrupt", [*booting.ENDED, r"ata1: hard resetting link"])
+    expect(sum(it == "an interrupt is lost" for it in guest.log()) == 1, "no interrupt was lost")
+    return "5,000 reads right after a lost interrupt"
+
+
+CHECKS = [Check(steps, title="Events, step by step"), Check(as_options, title="Events and options"), Check(never, title="Events that never happen"), Check(judged, title="Scripts that are judged"),
+          Check(linux_strange, title="Linux, strange interrupts"), Check(linux_lost, title="Linux, a lost interrupt")]
