@@ -77,12 +77,12 @@ static void ahci_cleanup(void) {
         device_end(&driver, thread);
     if (!has_port)
         return;
+    script_end(settings.script, note);
     const struct counts *it = &driver.counts;
     fprintf(stderr,
             "ahci: %" PRIu64 " commands, %" PRIu64 " served, %" PRIu64 " of them out of order, %" PRIu64 " lists of several tags, %" PRIu32
             " tags at most, %" PRIu64 " failures, %" PRIu64 " recoveries, %" PRIu64 " trims\n",
             it->commands, it->served, it->out_of_order, it->lists, it->deepest, it->failed, it->recoveries, it->trims);
-    script_end(settings.script, note);
     if (driver_end(&driver))
         exit(EXIT_FAILURE);
 }
