@@ -6,6 +6,8 @@
 
 #include <inttypes.h>
 
+#define MOST_AT_ONCE 16 /* events before the device's next step, so that a script with a short time doesn't stop it */
+
 static void lose_memory(struct device *device, const struct event *event) {
     (void)event;
     device->provoked.no_memory = true;
@@ -56,7 +58,8 @@ void provoke_take(struct pci *pci) {
     struct decision due;
     if (script_next(script) == UINT64_MAX)
         return;
-    while (script_take(script, provoke_since(pci->device), &due)) {
+    const uint64_t since = provoke_since(pci->device);
+    for (unsigned most = MOST_AT_ONCE; most && script_take(script, since, &due); most--) {
         const enum event_kind kind = due.event->kind;
         log_line("%s, by line %u", event_rows[kind].name, due.line->row);
         if (on_device[kind])

@@ -144,7 +144,23 @@ static int take_path(const char *name, const char *text, const char **path) {
     return 0;
 }
 
+/* Where the path that an option names is kept; NULL if it names none. */
+static const char **path_of(struct settings *settings, const char *name) {
+    const struct {
+        const char *name;
+        const char **path;
+    } paths[] = {{"socket", &settings->socket}, {"record", &settings->record}, {"log", &settings->log}, {"script", &settings->script_file}, {"json", &settings->json}};
+    for (unsigned at = 0; at < sizeof paths / sizeof *paths; at++)
+        if (!strcmp(name, paths[at].name))
+            return paths[at].path;
+    return NULL;
+}
+
 static int take_one(struct settings *settings, const char *name, const char *value) {
+    const char **path = path_of(settings, name);
+    settings->judge |= !strcmp(name, "json");
+    if (path)
+        return take_path(name, value, path);
     if (!strcmp(name, "sectors"))
         return option_small(name, value, 1, LARGEST_DISK, &settings->sectors);
     if (!strcmp(name, "size"))
@@ -155,8 +171,6 @@ static int take_one(struct settings *settings, const char *name, const char *val
         return capabilities_take(&settings->capabilities, value);
     if (!strcmp(name, "transport"))
         return take_way(value, &settings->way);
-    if (!strcmp(name, "socket"))
-        return take_path(name, value, &settings->socket);
     if (!strcmp(name, "hold"))
         return take_hold(settings, value);
     if (!strcmp(name, "pick"))
@@ -171,20 +185,11 @@ static int take_one(struct settings *settings, const char *name, const char *val
         return take_sync(value, &settings->sync);
     if (!strcmp(name, "most-journal"))
         return option_bytes(name, value, &settings->most_journal);
-    if (!strcmp(name, "record"))
-        return take_path(name, value, &settings->record);
     if (!strcmp(name, "record-limit"))
         return option_bytes(name, value, &settings->record_limit);
-    if (!strcmp(name, "script"))
-        return take_path(name, value, &settings->script_file);
-    if (!strcmp(name, "log"))
-        return take_path(name, value, &settings->log);
     if (!strcmp(name, "judge-from"))
         return option_small(name, value, 1, UINT32_MAX, &settings->judge_from);
-    if (!strcmp(name, "slow-bits"))
-        return option_small(name, value, 0, MOST_SLOW_READS, &settings->slow_bits);
-    settings->judge = true;
-    return take_path(name, value, &settings->json);
+    return option_small(name, value, 0, MOST_SLOW_READS, &settings->slow_bits);
 }
 
 /* Takes one option with its value. */

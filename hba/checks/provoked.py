@@ -39,6 +39,7 @@ CASES: Sequence[Case] = (
     ("on first read do late_interrupt 300ms", [("late", "late, done, 1 messages"), ("read", FINE)]),
     ("on first read do slow 300ms", [("late", "late, done, 1 messages")]),
     ("on time 50ms do send_interrupt repeat ever", [("awaited", "messages, PxIS 00000000")]),
+    ("on time 1us do send_interrupt repeat ever", [("awaited", "messages, PxIS 00000000"), ("again", "started")]),  # more often than they can come
     ("on 2nd write PxSCTL do send_interrupt", [("comreset", "1 messages"), ("comreset", "0 messages")]),
     ("on first write do wait 1ms then send_interrupt", [("read", FINE), ("two", "2 messages"), ("read", FINE)]),
     # the controller
@@ -46,7 +47,8 @@ CASES: Sequence[Case] = (
     ("on 3rd write PxCI do power_on", [("read", FINE), ("read", FINE), ("read", "done, 0 messages"), ("registers", "PxCLB 0, stopped"), ("read", FINE)]),
     # those that are shipped
     ("interrupts_without_a_cause.events", [("awaited", "messages, PxIS 00000000"), ("awaited", "messages, PxIS 00000000")]),
-    ("fails_again_during_recovery.events", [("read", FINE), ("read", FINE), ("read", "error 40, 1 messages"), ("recover", "the log can't be read, error 04"), ("comreset", "0 messages"), ("read", FINE)]),
+    ("fails_again_during_recovery.events", [("read", FINE), ("read", FINE), ("read", "error 40, 1 messages"), ("recover", "the log can't be read, error 04"),
+    ("comreset", "0 messages"), ("read", FINE)]),
     ("a_lost_interrupt.events", [("read", FINE)] * 19 + [("read", "done, 0 messages"), ("read", FINE)]),
     ("an_aborted_flush.events", [("flush", "error 04, 1 messages"), ("again", "started"), ("flush", FINE)]),
     ("identify_fails.events", [("identify", "error 04, 1 messages"), ("again", "started"), ("identify", FINE)]),
@@ -54,7 +56,8 @@ CASES: Sequence[Case] = (
     ("a_command_without_an_answer.events", [("read", FINE)] * 19 + [("unanswered", "no answer"), ("comreset", "0 messages"), ("read", FINE)]),
     ("memory_that_is_gone.events", [("read", FINE)] * 19 + [("read", "no memory, 1 messages"), ("again", "started"), ("read", FINE)]),
     ("two_errors_in_a_row.events",
-     [("read", FINE)] * 19 + [("read", "error 40, 1 messages"), ("recover", "tag 3, error 40 at 100"), ("read", "error 04, 1 messages"), ("recover", "tag 3, error 04 at 100"), ("read", FINE)]),
+     [("read", FINE)] * 19 + [("read", "error 40, 1 messages"), ("recover", "tag 3, error 40 at 100"), ("read", "error 04, 1 messages"), ("recover", "tag 3, error 04 at 100"),
+     ("read", FINE)]),
     ("a_tag_that_fails.events", [("full", "1 outstanding, error 04"), ("recover", "tag 31, error 04 at 248")] * 3 + [("full", "0 outstanding, done")]),
     ("error_in_a_full_queue.events", [("full", "0 outstanding, done"), ("full", "1 outstanding, error 40"), ("recover", "tag 31, error 40 at 248"), ("read", FINE)]),
 )

@@ -39,16 +39,21 @@ RIGHT: Dict[str, str] = {
     "on every any do fail 04 repeat 3": "on first any do fail 04 repeat 3", "on every 2nd any do fail 04 repeat 3": "on every 2nd any do fail 04 repeat 3",
     "on first READ FPDMA QUEUED do fail 40": "on first READ FPDMA QUEUED do fail 40", "on first command 60 do fail 40": "on first READ FPDMA QUEUED do fail 40",
     "on first command WRITE FPDMA QUEUED slot 31 do fail 84": "on first WRITE FPDMA QUEUED tag 31 do fail 84", "on first sector 5 do fail 40": "on first any sector 5 do fail 40",
-    "on first sectors 5-5 do fail 40": "on first any sector 5 do fail 40", "on first tags 0-7 sectors 1-2 numbers 3-4 write do fail 40": "on first write sectors 1-2 tags 0-7 numbers 3-4 do fail 40",
+    "on first sectors 5-5 do fail 40": "on first any sector 5 do fail 40",
+    "on first tags 0-7 sectors 1-2 numbers 3-4 write do fail 40": "on first write sectors 1-2 tags 0-7 numbers 3-4 do fail 40",
     "on every any during 0.5s-90.25s probability 1/100 seed 0 do fail 40": "on every any during 500ms-90.25s probability 1/100 seed 0 do fail 40",
-    "\ton  first any do fail 40 # why": "on first any do fail 40", "on first any do slow 1ms then fail 40 then wait 2s repeat 1".replace(" then wait 2s", ""): "on first any do slow 1ms then fail 40",
+    "\ton  first any do fail 40 # why": "on first any do fail 40", "on first any do slow 1ms then fail 40 repeat 1": "on first any do slow 1ms then fail 40",
 }
 RIGHT_FOR_HBA: Dict[str, str] = {
-    "on first command ec do fail 04": "on first IDENTIFY DEVICE do fail 04", "on first command FF do stall": "on first command FF do stall", "on every READ DMA do stall": "on every READ DMA do stall",
-    "on every READ DMA EXT do stall": "on every READ DMA EXT do stall", "on every READ SECTOR(S) do stall": "on every READ SECTOR(S) do stall", "on every READ SECTOR(S) EXT do stall": "on every READ SECTOR(S) EXT do stall",
-    "on 2nd write PxSCTL during 1s-2s do lose_interrupt": "on 2nd write PxSCTL during 1s-2s do lose_interrupt", "on every write GHC do send_interrupt": "on every write GHC do send_interrupt",
+    "on first command ec do fail 04": "on first IDENTIFY DEVICE do fail 04", "on first command FF do stall": "on first command FF do stall",
+    "on every READ DMA do stall": "on every READ DMA do stall",
+    "on every READ DMA EXT do stall": "on every READ DMA EXT do stall", "on every READ SECTOR(S) do stall": "on every READ SECTOR(S) do stall",
+    "on every READ SECTOR(S) EXT do stall": "on every READ SECTOR(S) EXT do stall",
+    "on 2nd write PxSCTL during 1s-2s do lose_interrupt": "on 2nd write PxSCTL during 1s-2s do lose_interrupt",
+    "on every write GHC do send_interrupt": "on every write GHC do send_interrupt",
     "on time 2500ms do power_on then wait 20ms then send_interrupt repeat 3": "on time 2.5s do power_on then wait 20ms then send_interrupt repeat 3",
-    "on time 1us do late_interrupt 1000us repeat ever": "on time 1us do late_interrupt 1ms repeat ever", "on first write do no_memory then lose_interrupt": "on first write do no_memory then lose_interrupt",
+    "on time 1us do late_interrupt 1000us repeat ever": "on time 1us do late_interrupt 1ms repeat ever",
+    "on first write do no_memory then lose_interrupt": "on first write do no_memory then lose_interrupt",
 }
 
 
@@ -72,19 +77,26 @@ END = "\0"  # the end of the line
 # a line, the column that is named, what is expected, and what stands there
 WRONG: Sequence[Tuple[str, int, str, str]] = (
     ("off first read do fail 40", 1, "on or from", "off"), ("on", 3, PLACE, END), ("on read do fail 40", 4, PLACE, "read"), ("on 0th read do fail 40", 4, PLACE, "0th"),
-    ("from 5 on read do fail 40", 6, "a place such as 5th", "5"), ("from 5th read do fail 40", 10, "on", "read"), ("on first do fail 40", 10, "a condition, such as any, write or sectors 100-199", "do"),
+    ("from 5 on read do fail 40", 6, "a place such as 5th", "5"), ("from 5th read do fail 40", 10, "on", "read"),
+    ("on first do fail 40", 10, "a condition, such as any, write or sectors 100-199", "do"),
     ("on 2nd command foo do fail 40", 16, "a command's name or number", "foo"), ("on 2nd command 6 do fail 40", 16, "a command's name or number", "6"),
     ("on 2nd READ FOO do fail 40", 8, "a condition, such as a command's name, or do", "READ"), ("on 2nd read fail 40", 13, "do, or a condition that is not given yet", "fail"),
     ("on 2nd read write do fail 40", 13, "do, or a condition that is not given yet", "write"), ("on 2nd sectors 2-1 do fail 40", 16, "a sector or a span of sectors, such as 100-199", "2-1"),
-    ("on 2nd sector 5 sector 6 do fail 40", 17, "do, or a condition that is not given yet", "sector"), ("on 2nd tag 32 do fail 40", 12, "a tag or slot from 0 to 31, or a span of them", "32"),
-    ("on 2nd number 0 do fail 40", 15, "a command's number from 1 on, or a span such as 5000-5009", "0"), ("on 2nd any during 2s-1s do fail 40", 19, "two times, the first one less, such as 10s-12.5s", "2s-1s"),
-    ("on 2nd any during 1-2 do fail 40", 19, "two times, the first one less, such as 10s-12.5s", "1-2"), ("on 2nd any probability 2/1 do fail 40", 24, "a fraction of at most 1, such as 1/100", "2/1"),
+    ("on 2nd sector 5 sector 6 do fail 40", 17, "do, or a condition that is not given yet", "sector"),
+    ("on 2nd tag 32 do fail 40", 12, "a tag or slot from 0 to 31, or a span of them", "32"),
+    ("on 2nd number 0 do fail 40", 15, "a command's number from 1 on, or a span such as 5000-5009", "0"),
+    ("on 2nd any during 2s-1s do fail 40", 19, "two times, the first one less, such as 10s-12.5s", "2s-1s"),
+    ("on 2nd any during 1-2 do fail 40", 19, "two times, the first one less, such as 10s-12.5s", "1-2"),
+    ("on 2nd any probability 2/1 do fail 40", 24, "a fraction of at most 1, such as 1/100", "2/1"),
     ("on 2nd any seed x do fail 40", 17, "a number", "x"), ("on 2nd any do", 14, HBA_EVENTS, END), ("on 2nd any do explode # now", 15, HBA_EVENTS, "explode"),
     ("on 2nd any do fail 4", 20, "an error byte of two hexadecimal digits, such as 40", "4"), ("on 2nd any do fail", 19, "an error byte of two hexadecimal digits, such as 40", END),
-    ("on 2nd any do slow 11s", 20, "a time of at most 10s, such as 20ms, perhaps with one to be added at random, such as 20ms+5ms", "11s"), ("on 2nd any do fail 40 wait 1s", 23, "then, repeat or the end of the line", "wait"),
-    ("on 2nd any do fail 40 then wait 1.5us then send_interrupt", 33, "a time, such as 20ms or 2.5s", "1.5us"), ("on 2nd any do fail 40 then wait 1s", 35, "then and an event, for which to wait", END),
+    ("on 2nd any do slow 11s", 20, "a time of at most 10s, such as 20ms, perhaps with one to be added at random, such as 20ms+5ms", "11s"),
+    ("on 2nd any do fail 40 wait 1s", 23, "then, repeat or the end of the line", "wait"),
+    ("on 2nd any do fail 40 then wait 1.5us then send_interrupt", 33, "a time, such as 20ms or 2.5s", "1.5us"),
+    ("on 2nd any do fail 40 then wait 1s", 35, "then and an event, for which to wait", END),
     ("on 2nd any do fail 40 repeat 0", 30, "a number from 1 on, or ever", "0"), ("on 2nd any do fail 40 repeat 2 times", 32, "the end of the line", "times"),
-    ("on 2nd any do fail 40 then fail 04", 28, "an event that can come beside those before it", "fail"), ("on 2nd any do stall then fail 04", 26, "an event that can come beside those before it", "fail"),
+    ("on 2nd any do fail 40 then fail 04", 28, "an event that can come beside those before it", "fail"),
+    ("on 2nd any do stall then fail 04", 26, "an event that can come beside those before it", "fail"),
     ("on 2nd any do send_interrupt then fail 04", 35, "no event about the command after a wait or an event about the controller", "fail"),
     ("on time 2s do fail 40", 15, "an event that is about no command, since none is at hand", "fail"), ("on time 0s do power_on", 9, "a time since the start, such as 2.5s", "0s"),
     ("on 2nd write PxCMD do stall", 23, "an event that is about no command, since none is at hand", "stall"),
@@ -93,7 +105,8 @@ WRONG: Sequence[Tuple[str, int, str, str]] = (
     ("on 2nd write PxFOO do power_on", 14, "a register, such as PxCMD", "PxFOO"),
 )
 WRONG_FOR_NBD: Sequence[Tuple[str, int, str, str]] = (
-    ("on 2nd any do stall", 15, NBD_EVENTS, "stall"), ("on time 1s do power_on", 15, NBD_EVENTS, "power_on"), ("on 2nd write PxCMD do fail 40", 14, "a condition of commands, since nbd has no registers", "PxCMD"),
+    ("on 2nd any do stall", 15, NBD_EVENTS, "stall"), ("on time 1s do power_on", 15, NBD_EVENTS, "power_on"),
+    ("on 2nd write PxCMD do fail 40", 14, "a condition of commands, since nbd has no registers", "PxCMD"),
     ("on 2nd IDENTIFY DEVICE do fail 40", 8, "READ FPDMA QUEUED or WRITE FPDMA QUEUED, which are all that nbd issues", "IDENTIFY"),
 )
 
@@ -116,7 +129,8 @@ def wrong_files(room: str) -> str:
     path = written(room, "")
     line, many = "on first any do fail 40", "on first any do fail 40 then " + " then ".join(["send_interrupt"] * 16)
     cases = ((b"\x00", "1:1: expected a character of ASCII, got the byte 00"), (f"# \u00e9\n{line} \u00e9".encode(), "2:25: expected a character of ASCII, got the byte c3"),
-             (f"{line} {' ' * 1000}x".encode(), "1:1001: expected a line of at most 1000 characters"), (f"{line}\n".encode() * 1025, '1025:1: expected at most 1024 lines with those of options, got "on"'),
+             (f"{line} {' ' * 1000}x".encode(), "1:1001: expected a line of at most 1000 characters"),
+             (f"{line}\n".encode() * 1025, '1025:1: expected at most 1024 lines with those of options, got "on"'),
              (b"#" * ((1 << 20) + 1), " a script has at most 1048576 bytes"), (many.encode(), '330: expected at most 16 events, got "send_interrupt"'))
     for text, wanted in cases:
         with open(path, "wb") as file:
@@ -140,11 +154,13 @@ READ, WRITE, FLUSH = "command 60 3 r 100 8 1 0", "command 61 4 w 200 8 2 0", "co
 def decisions(room: str) -> str:
     """What single lines decide: places, kinds of commands, registers, times, waits; and which lines never happened is said at the end."""
     cases: Sequence[Tuple[str, Sequence[str], Sequence[str]]] = (
-        ("on 2nd read do fail 40", [READ, WRITE, READ, READ], ["", "", "1 fail 40", ""]), ("on every 2nd any do fail 40 repeat 2", [READ] * 7, ["", "1 fail 40", "", "1 fail 40", "", "", ""]),
+        ("on 2nd read do fail 40", [READ, WRITE, READ, READ], ["", "", "1 fail 40", ""]),
+        ("on every 2nd any do fail 40 repeat 2", [READ] * 7, ["", "1 fail 40", "", "1 fail 40", "", "", ""]),
         ("from 3rd on any do fail 40", [READ] * 4, ["", "", "1 fail 40", "1 fail 40"]), ("on first any do fail 40 repeat 2", [READ] * 3, ["1 fail 40", "1 fail 40", ""]),
         ("on every FLUSH CACHE EXT do fail 04", [READ, FLUSH], ["", "1 fail 04"]), ("on every any do fail 04", [FLUSH, READ], ["", "1 fail 04"]),
         ("on every tag 4 do fail 04", [READ, WRITE], ["", "1 fail 04"]), ("on every WRITE FPDMA QUEUED sector 207 do fail 04", [READ, WRITE], ["", "1 fail 04"]),
-        ("on first any do stall\non every any do fail 40", [READ, READ], ["1 stall", "2 fail 40"]), ("on first any do slow 5us\non every any do slow 9us then fail 40", [READ, READ], ["1 slow 5; 2 fail 40", "2 slow 9; 2 fail 40"]),
+        ("on first any do stall\non every any do fail 40", [READ, READ], ["1 stall", "2 fail 40"]),
+        ("on first any do slow 5us\non every any do slow 9us then fail 40", [READ, READ], ["1 slow 5; 2 fail 40", "2 slow 9; 2 fail 40"]),
         ("on first any do fail 40 then wait 2ms then send_interrupt", [READ, "time 1999", "time 2000", "time 3000"], ["1 fail 40", "", "1 send_interrupt", ""]),
         ("on first any do lose_interrupt then wait 1ms then lose_interrupt", [READ, "time 1000"], ["1 lose_interrupt", "1 lose_interrupt"]),
         ("on time 1s do power_on repeat 2", ["time 999999", "time 1000000", "time 1999999", "time 5000000"], ["", "1 power_on", "", "1 power_on"]),

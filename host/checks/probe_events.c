@@ -38,7 +38,8 @@ static void happen(const char *line) {
     struct decision due;
     uint32_t code, tag, offset, count;
     char kind;
-    if (sscanf(line, "command %" SCNx32 " %" SCNu32 " %c %" SCNu64 " %" SCNu32 " %" SCNu64 " %" SCNu64, &code, &tag, &kind, &it.lba, &it.sectors, &it.number, &it.since) == 7) {
+    if (sscanf(line, "command %" SCNx32 " %" SCNu32 " %c %" SCNu64 " %" SCNu32 " %" SCNu64 " %" SCNu64, &code, &tag, &kind, &it.lba, &it.sectors, &it.number,
+               &it.since) == 7) {
         it.code = (uint8_t)code;
         it.tag = (uint8_t)tag;
         it.writes = kind == 'w';
@@ -153,7 +154,8 @@ static void meet(const struct line *line) {
     script_note(&script, line);
     script_begin(&script);
     for (uint64_t since = 0; since < 8000000; since += 1000000) {
-        const struct occasion it = {.code = line->code, .tag = (uint8_t)drawn(32), .writes = drawn(2), .lba = line->first_lba, .sectors = (uint32_t)drawn(2), .number = drawn(9), .since = since};
+        const struct occasion it = {.code = line->code, .tag = (uint8_t)drawn(32), .writes = drawn(2), .lba = line->first_lba, .sectors = (uint32_t)drawn(2),
+                                    .number = drawn(9), .since = since};
         script_decide(&script, &it, &decided);
         script_wrote(&script, line->offset, 4, since);
         for (unsigned most = 0; most < 40 && script_take(&script, since, &due); most++)
