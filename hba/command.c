@@ -52,6 +52,8 @@ struct command command_of(const uint8_t fis[COMMAND_FIS_BYTES]) {
     ahci_fis it;
     if (ahci_fis_decode(fis, COMMAND_FIS_BYTES, &it) != AHCI_OK || it.kind != H2D || !it.c)
         return command;
+    command.is_command = true;
+    command.code = it.command;
     command.flushes = it.command == AHCI_FLUSH_CACHE_EXT || it.command == 0xE7;
     command.lba = it.lba;
     switch (place_of(it.command, &command.writes)) {

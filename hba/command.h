@@ -8,6 +8,8 @@
 #define COMMAND_FIS_BYTES 20
 
 struct command {
+    bool is_command;  /* it is one, and no control */
+    uint8_t code;
     bool flushes;     /* FLUSH CACHE, with EXT or without */
     bool queued;      /* READ or WRITE FPDMA QUEUED */
     bool writes;      /* it writes the sectors that it names */

@@ -55,7 +55,7 @@ static bool is_answer(uint8_t kind) {
 
 static struct choice choice_of(const struct device *device) {
     struct choice choice = {.soonest = UINT64_MAX};
-    uint64_t then = device->settings->slow.count ? device_now() : UINT64_MAX;
+    uint64_t then = script_has(device->settings->script, EVENT_SLOW) ? device_now() : UINT64_MAX;
     uint32_t sends = 0;
     for (uint32_t slot = 0; slot < AHCI_MOST_TAGS; slot++) {
         uint8_t kind = device->state.next[slot];
@@ -116,6 +116,8 @@ static void note_step(struct device *device, uint32_t slot, uint8_t kind) {
         *task = (struct task){.number = 0};
         judge_fetch(&device->judge, slot);
     }
+    if (kind == AHCI_STEP_DELIVER || kind == AHCI_STEP_EXECUTE || kind == AHCI_STEP_RECOVER)
+        provoke_answer(device, slot);
     if (kind == AHCI_STEP_SERVE && task->command.writes)
         mapped_wrote(&device->settings->mapped, (uint32_t)task->command.lba, task->command.sectors);
 }
@@ -279,6 +281,8 @@ void device_write(struct device *device, uint32_t offset, uint32_t bytes, uint64
     if (is_slow)
         slow_write(&device->slow, offset, bytes, value, command, word_at(device, AHCI_REG_PXCMD));
     follow(device, entries);
+    if (device->settings->script->count)
+        script_wrote(device->settings->script, offset, bytes, provoke_since(device));
 }
 
 void device_master(struct device *device, bool is_master) {
@@ -377,6 +381,7 @@ int device_begin(struct device *device, struct settings *settings, struct memory
     judge_begin(&device->judge, settings, memory);
     writeback_begin(&device->writeback, &settings->mapped, &device->disk);
     device_look(device);
+    script_begin(settings->script);
     return 0;
 }
 

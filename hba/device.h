@@ -8,6 +8,7 @@
 #include "history.h"
 #include "judge.h"
 #include "memory.h"
+#include "provoke.h"
 #include "settings.h"
 #include "slow.h"
 #include "writeback.h"
@@ -25,8 +26,8 @@ enum kept { KEPT_NOT_YET, KEPT, KEPT_NOT };
 struct task {
     struct command command;
     uint64_t number;            /* of those that name sectors, the first being 1 */
-    bool is_decided;            /* the rules were applied */
-    const struct rule *failure; /* the rule by which the device fails it, or NULL */
+    bool is_decided;            /* the script was asked */
+    struct decisions decided;   /* what it has said and was not done yet */
     uint64_t ready;             /* a slow one goes on then, in nanoseconds of CLOCK_MONOTONIC; 0: at once */
     enum kept kept;             /* of a flush */
 };
@@ -41,6 +42,7 @@ struct device {
     struct history history;
     struct judge judge;
     struct slow slow;
+    struct provoked provoked;
     struct task tasks[AHCI_MOST_TAGS]; /* by slot */
     uint64_t commands; /* how many that name sectors were read */
     uint32_t reading; /* the slot whose command is read */

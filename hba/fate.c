@@ -5,46 +5,46 @@
 
 #include <inttypes.h>
 
-/* Whether the moment has come at which the rules are applied to the command of a slot. Rules are about commands that name sectors. */
+/* Whether the moment has come at which the script is asked about the command of a slot. */
 static bool is_moment(const struct device *device, uint32_t slot) {
     const struct task *task = &device->tasks[slot];
     uint8_t kind = device->state.next[slot];
-    if (task->is_decided || !task->command.sectors)
+    if (task->is_decided || !task->command.is_command)
         return false;
-    return task->command.queued ? kind == AHCI_STEP_SERVE : kind == AHCI_STEP_SEND || kind == AHCI_STEP_EXECUTE;
+    return task->command.queued ? kind == AHCI_STEP_SERVE : kind == AHCI_STEP_SEND || kind == AHCI_STEP_EXECUTE || kind == AHCI_STEP_RECOVER;
 }
 
-/* The first sector of a command that a rule is about. */
-static uint64_t sector_of(const struct rule *rule, const struct command *command) {
-    return rule->first_lba > command->lba ? rule->first_lba : command->lba;
+/* The first sector of a command that a line is about. */
+static uint64_t sector_of(const struct line *line, const struct command *command) {
+    return line->first_lba > command->lba ? line->first_lba : command->lba;
 }
 
 /* The command of a slot is not answered any more. */
-static void stall(struct device *device, uint32_t slot, const struct rule *rule) {
+static void stall(struct device *device, uint32_t slot, const struct line *line) {
+    const struct command *command = &device->tasks[slot].command;
     device->stalled |= UINT32_C(1) << slot;
-    log_line("stall %" PRIu32 " at sector %" PRIu64, slot, sector_of(rule, &device->tasks[slot].command));
+    if (command->sectors)
+        log_line("stall %" PRIu32 " at sector %" PRIu64, slot, sector_of(line, command));
+    else
+        log_line("stall %" PRIu32, slot);
 }
 
 static void decide(struct device *device, uint32_t slot) {
-    struct settings *settings = device->settings;
     struct task *task = &device->tasks[slot];
+    const struct command *command = &task->command;
     uint64_t time = device_now();
-    const struct occasion occasion = {.lba = task->command.lba, .sectors = task->command.sectors, .writes = task->command.writes, .number = task->number,
-                                      .since = (time - device->started) / 1000};
+    const struct occasion occasion = {.code = command->code, .tag = (uint8_t)slot, .writes = command->writes, .lba = command->lba, .sectors = command->sectors,
+                                      .number = task->number, .since = (time - device->started) / 1000};
     task->is_decided = true;
-    const struct rule *stalls = rules_apply(&settings->stalls, &occasion);
-    if (stalls) {
-        stall(device, slot, stalls);
-        return;
-    }
-    struct rule *slow = rules_apply(&settings->slow, &occasion);
-    task->failure = rules_apply(&settings->failures, &occasion);
-    task->ready = slow ? time + 1000 * delay_drawn(&slow->delay, &slow->random) : 0;
+    script_decide(device->settings->script, &occasion, &task->decided);
+    const struct decision *stalls = &task->decided.of[EVENT_STALL], *slow = &task->decided.of[EVENT_SLOW];
+    if (stalls->line)
+        stall(device, slot, stalls->line);
+    task->ready = slow->line ? time + 1000 * delay_drawn(&slow->event->delay, &slow->line->random) : 0;
 }
 
 void fate_decide(struct device *device) {
-    const struct settings *settings = device->settings;
-    if (settings->failures.count + settings->slow.count + settings->stalls.count == 0)
+    if (!device->settings->script->count)
         return;
     for (uint32_t slot = 0; slot < AHCI_MOST_TAGS; slot++)
         if (is_moment(device, slot))
@@ -69,19 +69,29 @@ static bool aborts(struct device *device, uint32_t slot) {
     return true;
 }
 
-/* Fails a command by a rule of --fail. The error of a read names the rule's sector, and the sectors before it have moved; that of a write names its
+/* Logs that a command has failed by a line of the script. */
+static void log_failure(const struct device *device, uint32_t slot, const struct decision *failure, uint64_t named) {
+    const struct command *command = &device->tasks[slot].command;
+    if (command->sectors)
+        log_line("fail %" PRIu32 " with %02x at sector %" PRIu64 ", by the rule for %" PRIu64, slot, failure->event->error, named, sector_of(failure->line, command));
+    else
+        log_line("fail %" PRIu32 " with %02x", slot, failure->event->error);
+}
+
+/* Fails a command by a line of the script. The error of a read names the line's sector, and the sectors before it have moved; that of a write names its
    first one, since a write is stored whole or not at all. It returns false if the library doesn't let it. */
-static bool fails_by_rule(struct device *device, uint32_t slot) {
+static bool fails_by_script(struct device *device, uint32_t slot) {
     struct task *task = &device->tasks[slot];
-    const struct rule *rule = task->failure;
-    uint64_t sector = sector_of(rule, &task->command), named = task->command.writes ? task->command.lba : sector;
-    uint32_t status = fail_at(device, slot, rule->error, named);
+    const struct decision failure = task->decided.of[EVENT_FAIL];
+    uint64_t named = task->command.writes || !task->command.sectors ? task->command.lba : sector_of(failure.line, &task->command);
+    uint32_t status = fail_at(device, slot, failure.event->error, named);
     if (status == AHCI_OUT_OF_MEMORY)
-        return true; /* the rule stays, and so it fails in a later turn */
-    task->failure = NULL;
+        return true; /* the decision stays, and so it fails in a later turn */
+    task->decided.of[EVENT_FAIL].line = NULL;
     if (status != AHCI_OK)
         return false;
-    log_line("fail %" PRIu32 " with %02x at sector %" PRIu64 ", by the rule for %" PRIu64, slot, rule->error, named, sector);
+    log_failure(device, slot, &failure, named);
+    provoke_answer(device, slot);
     return true;
 }
 
@@ -135,5 +145,5 @@ static bool refuses_log(struct device *device, uint32_t slot) {
 }
 
 bool fate_fails(struct device *device, uint32_t slot) {
-    return (device->tasks[slot].failure && fails_by_rule(device, slot)) || holds_flush(device, slot) || refuses_log(device, slot);
+    return (device->tasks[slot].decided.of[EVENT_FAIL].line && fails_by_script(device, slot)) || holds_flush(device, slot) || refuses_log(device, slot);
 }

@@ -136,6 +136,11 @@ static int run(struct settings *settings) {
     return broken ? 3 : 0;
 }
 
+/* A line of the script that never happened. */
+static void note(const char *line) {
+    say("%s", line);
+}
+
 static const struct voice voice = {.put = log_complaint, .before = "--", .between = " "};
 
 int main(int count, char **words) {
@@ -147,6 +152,7 @@ int main(int count, char **words) {
     if (log_begin(settings.log))
         return 1;
     int status = run(&settings);
+    script_end(settings.script, note);
     settings_end(&settings);
     if (log_end()) {
         say_of("log", settings.log, "it could not be written");

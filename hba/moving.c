@@ -27,6 +27,15 @@ static void report_unmapped(struct device *device) {
     device->mute = true;
 }
 
+/* Whether a script says that there is no memory for this run. */
+static bool is_provoked(struct device *device) {
+    bool is = device->provoked.no_memory;
+    device->provoked.no_memory = false;
+    if (is)
+        report_unmapped(device);
+    return is;
+}
+
 /* Keeps what the command asks, and logs its FIS. */
 static void note_command(struct device *device, const uint8_t *fis) {
     char text[2 * COMMAND_FIS_BYTES + 1];
@@ -87,7 +96,7 @@ static enum run move_out(struct device *device) {
 bool move(struct device *device) {
     enum run run = RUN_MOVED;
     while (run == RUN_MOVED && device->state.want != AHCI_WANT_NOTHING) {
-        run = device->state.want == AHCI_WANT_READ ? move_in(device) : move_out(device);
+        run = is_provoked(device) ? RUN_MOVED : device->state.want == AHCI_WANT_READ ? move_in(device) : move_out(device);
         device_look(device);
     }
     if (run == RUN_WITHOUT_ROOM)

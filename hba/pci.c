@@ -1,6 +1,7 @@
 #include "pci.h"
 
 #include "log.h"
+#include "names.h"
 
 #include <inttypes.h>
 #include <stdio.h>
@@ -106,14 +107,39 @@ static bool sends_messages(const struct pci *pci) {
     return has_messages(pci) && is_master(pci);
 }
 
+/* Whether the line is to be asserted. */
+static bool drives_line(const struct pci *pci) {
+    return pci->level && !pci->silent && !has_messages(pci) && !(get(pci->space + COMMAND, 2) & COMMAND_NO_LINE);
+}
+
 /* Brings the controller's interrupt to the guest: as a message if it comes, or as the level of the line. */
 static void settle(struct pci *pci) {
-    bool before = pci->level, level = pci->device->state.interrupt;
-    bool line = level && !has_messages(pci) && !(get(pci->space + COMMAND, 2) & COMMAND_NO_LINE);
-    pci->level = level;
-    set_line(pci, line);
-    if (level && !before && sends_messages(pci) && hold_takes(&pci->hold, device_now()))
+    bool before = pci->level;
+    pci->level = pci->device->state.interrupt;
+    if (!before || !pci->level)
+        pci->silent = pci->level ? provoke_interrupt(pci->device) : 0;
+    set_line(pci, drives_line(pci));
+    if (pci->level && !before && !pci->silent && sends_messages(pci) && hold_takes(&pci->hold, device_now()))
         send_message(pci);
+}
+
+/* Brings an interrupt that is late. */
+static void end_silence(struct pci *pci) {
+    if (!pci->silent || pci->silent > device_now())
+        return;
+    pci->silent = 0;
+    set_line(pci, drives_line(pci));
+    if (sends_messages(pci))
+        send_message(pci);
+}
+
+void pci_interrupt(struct pci *pci) {
+    if (sends_messages(pci)) {
+        send_message(pci);
+        return;
+    }
+    set_line(pci, !has_messages(pci));
+    set_line(pci, drives_line(pci));
 }
 
 /* Sends the message that is held, unless the driver has cleared its cause meanwhile. */
@@ -121,7 +147,7 @@ static void release(struct pci *pci) {
     if (!pci->hold.is_owed)
         return;
     hold_end(&pci->hold);
-    if (pci->level && sends_messages(pci))
+    if (pci->level && !pci->silent && sends_messages(pci))
         send_message(pci);
 }
 
@@ -184,16 +210,11 @@ void pci_config_write(struct pci *pci, uint32_t at, uint32_t bytes, uint32_t val
 
 /* ---- registers ---- */
 
-/* The name of a register (AHCI 1.3.1, sections 3.1 and 3.3), or its offset. */
+/* The name of a register, or its offset. */
 static const char *name_of(uint32_t at, char text[8]) {
-    static const char *const common[] = {"CAP", "GHC", "IS", "PI", "VS", "CCC_CTL", "CCC_PTS", "EM_LOC", "EM_CTL", "CAP2", "BOHC"};
-    static const char *const port[] = {"PxCLB", "PxCLBU", "PxFB",   "PxFBU",  "PxIS",   "PxIE",   "PxCMD", NULL,
-                                       "PxTFD", "PxSIG",  "PxSSTS", "PxSCTL", "PxSERR", "PxSACT", "PxCI",  "PxSNTF"};
-    uint32_t word = at / 4;
-    if (at % 4 == 0 && word < sizeof common / sizeof *common)
-        return common[word];
-    if (at % 4 == 0 && word >= 0x40 && word - 0x40 < sizeof port / sizeof *port && port[word - 0x40])
-        return port[word - 0x40];
+    const char *name = register_name(at);
+    if (name)
+        return name;
     snprintf(text, 8, "%03" PRIx32, at % 0x10000);
     return text;
 }
@@ -242,6 +263,7 @@ void pci_register_write(struct pci *pci, uint32_t at, uint32_t bytes, uint64_t v
     if (pci->hold.is_owed && issues(at, bytes))
         hold_issued(&pci->hold, device_now());
     device_write(pci->device, at, bytes, value);
+    provoke_take(pci);
     if (clears_is(at, bytes, value))
         pci->level = false;
     settle(pci);
@@ -250,17 +272,30 @@ void pci_register_write(struct pci *pci, uint32_t at, uint32_t bytes, uint64_t v
 /* ---- the device's turn ---- */
 
 void pci_turn(struct pci *pci) {
-    if (is_master(pci)) {
+    provoke_take(pci);
+    if (is_master(pci))
         device_turn(pci->device);
-        settle(pci);
-    }
+    settle(pci);
+    end_silence(pci);
     if (pci->hold.is_owed && hold_left(pci, step_waits(pci)) == 0)
         release(pci);
 }
 
+/* The shorter of two waits, of which -1 is none. */
+static int64_t shorter(int64_t one, int64_t other) {
+    if (one < 0 || other < 0)
+        return one < 0 ? other : one;
+    return one < other ? one : other;
+}
+
+static int64_t silence_left(const struct pci *pci) {
+    if (!pci->silent || pci->silent == UINT64_MAX)
+        return -1;
+    uint64_t now = device_now();
+    return now >= pci->silent ? 0 : (int64_t)(pci->silent - now);
+}
+
 int64_t pci_waits(const struct pci *pci) {
-    int64_t step = step_waits(pci), held = hold_left(pci, step);
-    if (step < 0 || held < 0)
-        return step < 0 ? held : step;
-    return step < held ? step : held;
+    int64_t step = step_waits(pci);
+    return shorter(shorter(step, hold_left(pci, step)), shorter(silence_left(pci), provoke_waits(pci->device)));
 }

@@ -27,6 +27,7 @@ struct pci {
     bool level;    /* the controller's interrupt when it was looked at last */
     bool asserted; /* INTA# */
     struct hold hold; /* of messages */
+    uint64_t silent;  /* the interrupt is not brought to the guest until then, in nanoseconds of CLOCK_MONOTONIC: by a script. UINT64_MAX: it is lost */
 };
 
 /* Makes the function of a device, after power-on. */
@@ -46,7 +47,10 @@ void pci_config_write(struct pci *pci, uint32_t at, uint32_t bytes, uint32_t val
 uint64_t pci_register_read(struct pci *pci, uint32_t at, uint32_t bytes);
 void pci_register_write(struct pci *pci, uint32_t at, uint32_t bytes, uint64_t value);
 
-/* Takes the device's next step if it is due, and brings its interrupt to the guest, or what was held of it. A function that is no bus master takes no
+/* An interrupt that has no cause. */
+void pci_interrupt(struct pci *pci);
+
+/* Lets happen what a script says, takes the device's next step if it is due, and brings its interrupt to the guest, or what was held of it. A function that is no bus master takes no
    step. */
 void pci_turn(struct pci *pci);
 

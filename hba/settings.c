@@ -3,6 +3,7 @@
 #include "capabilities.h"
 #include "options.h"
 #include "record.h"
+#include "rules.h"
 #include "say.h"
 
 #include <inttypes.h>
@@ -15,6 +16,7 @@ static const char help[] =
     "Usage: ahci-hba run [OPTIONS] -- qemu-system-x86_64 ARGUMENTS..\n"
     "       ahci-hba serve --socket PATH [OPTIONS]\n"
     "       ahci-hba uml [OPTIONS] -- KERNEL ARGUMENTS..\n"
+    "       ahci-hba --check-script FILE [--for nbd]\n"
     "\n"
     "Commands:\n"
     "  run    Starts QEMU with the controller as a PCI function of its guest. Added to the arguments is what is missing of:\n"
@@ -23,6 +25,8 @@ static const char help[] =
     "  serve  Waits at a socket for any client of vfio-user, one after the other, until a signal comes, and prints the\n"
     "         arguments by which QEMU is one\n"
     "  uml    Starts a kernel of User Mode Linux with the controller as its PCI function\n"
+    "  --check-script\n"
+    "         Judges a script of events without running it, and prints its lines in one form\n"
     "\n"
     "Options:\n"
     "      --transport WAY          How QEMU has the controller: by vfio-user, or by proxy, as QEMU before 10.1 does (default: vfio-user\n"
@@ -59,6 +63,8 @@ static const char help[] =
     "      --stall WHERE[:COUNT][,CONDITION]..\n"
     "                               The device never answers these commands; the driver has to drop them. --fail, --slow and\n"
     "                               --stall may be given up to 64 times each\n"
+    "      --script FILE            What happens and when, a line for each: `on 3rd write sectors 100-199 do fail 40`. host/README.md has\n"
+    "                               the language; what never happened is said at the end\n"
     "      --refuse-log             The device aborts each command that reads the log of a failed queued command\n"
     "      --delay MICROSECONDS[+JITTER]\n"
     "                               The device waits so long before it answers a command, and up to JITTER more (default 0)\n"
@@ -138,7 +144,23 @@ static int take_path(const char *name, const char *text, const char **path) {
     return 0;
 }
 
+/* Where the path that an option names is kept; NULL if it names none. */
+static const char **path_of(struct settings *settings, const char *name) {
+    const struct {
+        const char *name;
+        const char **path;
+    } paths[] = {{"socket", &settings->socket}, {"record", &settings->record}, {"log", &settings->log}, {"script", &settings->script_file}, {"json", &settings->json}};
+    for (unsigned at = 0; at < sizeof paths / sizeof *paths; at++)
+        if (!strcmp(name, paths[at].name))
+            return paths[at].path;
+    return NULL;
+}
+
 static int take_one(struct settings *settings, const char *name, const char *value) {
+    const char **path = path_of(settings, name);
+    settings->judge |= !strcmp(name, "json");
+    if (path)
+        return take_path(name, value, path);
     if (!strcmp(name, "sectors"))
         return option_small(name, value, 1, LARGEST_DISK, &settings->sectors);
     if (!strcmp(name, "size"))
@@ -149,8 +171,6 @@ static int take_one(struct settings *settings, const char *name, const char *val
         return capabilities_take(&settings->capabilities, value);
     if (!strcmp(name, "transport"))
         return take_way(value, &settings->way);
-    if (!strcmp(name, "socket"))
-        return take_path(name, value, &settings->socket);
     if (!strcmp(name, "hold"))
         return take_hold(settings, value);
     if (!strcmp(name, "pick"))
@@ -165,29 +185,21 @@ static int take_one(struct settings *settings, const char *name, const char *val
         return take_sync(value, &settings->sync);
     if (!strcmp(name, "most-journal"))
         return option_bytes(name, value, &settings->most_journal);
-    if (!strcmp(name, "record"))
-        return take_path(name, value, &settings->record);
     if (!strcmp(name, "record-limit"))
         return option_bytes(name, value, &settings->record_limit);
-    if (!strcmp(name, "log"))
-        return take_path(name, value, &settings->log);
     if (!strcmp(name, "judge-from"))
         return option_small(name, value, 1, UINT32_MAX, &settings->judge_from);
-    if (!strcmp(name, "slow-bits"))
-        return option_small(name, value, 0, MOST_SLOW_READS, &settings->slow_bits);
-    settings->judge = true;
-    return take_path(name, value, &settings->json);
+    return option_small(name, value, 0, MOST_SLOW_READS, &settings->slow_bits);
 }
 
 /* Takes one option with its value. */
 static int take_option(struct settings *settings, const char *word, const char *value) {
     static const char *const names[] = {"sectors", "depth", "cap", "pick", "seed", "delay", "image", "sync", "most-journal", "record", "record-limit", "log",
-                                        "judge-from", "slow-bits", "json", "transport", "socket", "hold", "size"};
-    struct rules *rules[] = {&settings->failures, &settings->slow, &settings->stalls};
+                                        "judge-from", "slow-bits", "json", "transport", "socket", "hold", "size", "script"};
     const char *name = word + 2;
-    for (unsigned at = 0; at < sizeof rules / sizeof *rules; at++)
-        if (!strcmp(name, rules_name(rules[at]->kind)))
-            return rules_take(rules[at], value);
+    enum event_kind rule = rules_kind(name, SERVER_HBA);
+    if (rule != EVENT_KINDS)
+        return rules_take(settings->script, rule, value);
     for (unsigned at = 0; at < sizeof names / sizeof *names; at++) {
         if (strcmp(name, names[at]))
             continue;
@@ -239,9 +251,9 @@ static int settle(struct settings *settings) {
         return -1;
     if (settings->most_journal == 0)
         settings->most_journal = usual_journal(settings->sectors);
-    bool fits = !rules_complete(&settings->failures, settings->sectors) && !rules_complete(&settings->slow, settings->sectors) &&
-                !rules_complete(&settings->stalls, settings->sectors);
-    return fits ? 0 : -1;
+    if (settings->script_file && script_read(settings->script, settings->script_file, SERVER_HBA))
+        return -1;
+    return script_complete(settings->script, settings->sectors);
 }
 
 /* Whether a word is an option without a value, which is taken. */
@@ -285,8 +297,23 @@ static enum asked write_version(void) {
     return ASKED_NOTHING;
 }
 
+/* --check-script FILE, perhaps with --for SERVER. */
+static enum asked check_script(char **words) {
+    static const char *const servers[] = {"hba", "nbd", NULL};
+    unsigned place = 0;
+    if (!words[0] || (words[1] && (strcmp(words[1], "--for") || !words[2] || words[3]))) {
+        say("expected --check-script FILE, or --check-script FILE --for hba or nbd");
+        return ASKED_WRONGLY;
+    }
+    if (words[1] && option_word("for", words[2], servers, "hba or nbd", &place))
+        return ASKED_WRONGLY;
+    return script_check(words[0], place ? SERVER_NBD : SERVER_HBA) ? ASKED_WRONGLY : ASKED_NOTHING;
+}
+
 enum asked settings_read(struct settings *settings, int count, char **words) {
-    *settings = (struct settings){.hold = {.longest = 2000, .gap = 300, .most = 16}, .depth = AHCI_MOST_TAGS, .capabilities = AHCI_HBA_USUAL, .seed = 1, .judge_from = 1, .sync = SYNC_FLUSH, .failures.kind = RULE_FAIL, .slow.kind = RULE_SLOW, .stalls.kind = RULE_STALL};
+    *settings = (struct settings){.hold = {.longest = 2000, .gap = 300, .most = 16}, .depth = AHCI_MOST_TAGS, .capabilities = AHCI_HBA_USUAL, .seed = 1, .judge_from = 1, .sync = SYNC_FLUSH};
+    static struct script script;
+    settings->script = &script;
     mapped_begin(&settings->mapped);
     const char *first = count > 1 ? words[1] : "";
     if (is_help(first) || (count > 2 && is_help(words[2]))) {
@@ -295,6 +322,8 @@ enum asked settings_read(struct settings *settings, int count, char **words) {
     }
     if (!strcmp(first, "--version"))
         return write_version();
+    if (!strcmp(first, "--check-script"))
+        return check_script(words + 2);
     static const char *const guests[] = {[GUEST_QEMU] = "run", [GUEST_UML] = "uml", [GUEST_CLIENT] = "serve"};
     unsigned guest = 0;
     while (guest <= GUEST_CLIENT && strcmp(first, guests[guest]))

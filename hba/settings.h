@@ -5,7 +5,7 @@
 #include "hold.h"
 #include "mapped.h"
 #include "numbers.h"
-#include "rules.h"
+#include "script.h"
 
 #include <ahci.h>
 #include <stdbool.h>
@@ -32,7 +32,8 @@ struct settings {
     ahci_order pick;  /* which of the commands that the device has taken it goes on with */
     uint64_t seed;    /* of AHCI_ORDER_DRAWN */
     struct delay delay; /* before the device answers a command */
-    struct rules failures, slow, stalls;
+    struct script *script; /* which commands fail, are slow or are never answered, and what else happens */
+    const char *script_file; /* NULL: all of it comes from --fail, --slow and --stall */
     bool refuse_log;    /* the log of a failed queued command can't be read */
     struct mapped mapped; /* a file with the disk's sectors */
     enum sync sync;

@@ -71,15 +71,52 @@ const char *take_seconds(const char *text, uint64_t *microseconds) {
     return text;
 }
 
-const char *take_delay(const char *text, struct delay *delay) {
+/* The digits after a point, which may be missing: `part` out of `of`. */
+static const char *take_part(const char *text, uint64_t *part, uint64_t *of) {
+    *part = 0;
+    *of = 1;
+    if (!text || *text != '.')
+        return text;
+    for (text++; isdigit((unsigned char)*text) && *of < 1000000; text++, *of *= 10)
+        *part = 10 * *part + (uint64_t)(*text - '0');
+    return *of > 1 ? text : NULL;
+}
+
+const char *take_time(const char *text, uint64_t *microseconds) {
+    static const struct {
+        const char *name;
+        uint64_t unit;
+    } units[] = {{"us", 1}, {"ms", 1000}, {"s", 1000000}};
+    uint64_t whole = 0, part = 0, of = 1;
+    text = take_part(take_digits(text, &whole), &part, &of);
+    for (unsigned at = 0; at < sizeof units / sizeof *units; at++) {
+        const char *rest = take_word(text, units[at].name);
+        if (!rest || whole > MOST_SECONDS * 1000000 / units[at].unit || part * units[at].unit % of)
+            continue;
+        *microseconds = whole * units[at].unit + part * units[at].unit / of;
+        return rest;
+    }
+    return NULL;
+}
+
+/* A time and what is added to it, each by a parser. */
+static const char *take_delay_by(const char *(*take)(const char *, uint64_t *), const char *text, struct delay *delay) {
     uint64_t least = 0, jitter = 0;
-    text = take_digits(text, &least);
+    text = take(text, &least);
     if (text && *text == '+')
-        text = take_digits(text + 1, &jitter);
+        text = take(text + 1, &jitter);
     if (!text || least > MOST_DELAY || jitter > MOST_DELAY)
         return NULL;
     *delay = (struct delay){.least = (uint32_t)least, .jitter = (uint32_t)jitter};
     return text;
+}
+
+const char *take_delay(const char *text, struct delay *delay) {
+    return take_delay_by(take_digits, text, delay);
+}
+
+const char *take_delay_with_units(const char *text, struct delay *delay) {
+    return take_delay_by(take_time, text, delay);
 }
 
 uint64_t delay_drawn(const struct delay *delay, uint64_t *random) {

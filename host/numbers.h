@@ -26,6 +26,9 @@ const char *take_error(const char *text, uint8_t *error);
 /* Seconds with up to six digits after a point, as microseconds. */
 const char *take_seconds(const char *text, uint64_t *microseconds);
 
+/* A time with its unit, us, ms or s, and up to six digits after a point: 20ms, 2.5s. Whole microseconds. */
+const char *take_time(const char *text, uint64_t *microseconds);
+
 /* A time to wait. */
 struct delay {
     uint32_t least;  /* microseconds */
@@ -34,6 +37,9 @@ struct delay {
 
 /* MICROSECONDS or MICROSECONDS+JITTER, each at most MOST_DELAY. */
 const char *take_delay(const char *text, struct delay *delay);
+
+/* TIME or TIME+JITTER, each with its unit and at most MOST_DELAY microseconds. */
+const char *take_delay_with_units(const char *text, struct delay *delay);
 
 /* The microseconds to wait this time, by the state of a generator. */
 uint64_t delay_drawn(const struct delay *delay, uint64_t *random);

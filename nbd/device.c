@@ -39,24 +39,27 @@ static size_t choose(struct driver *driver, uint32_t set, uint32_t failing, uint
     return count;
 }
 
-/* Applies the rules to a command, once: a command that is issued again keeps what was decided. */
-static void decide(struct driver *driver, struct command *it) {
-    struct settings *settings = driver->settings;
-    if (it->is_decided || settings->failures.count + settings->slow.count == 0)
+/* Asks the script about the command of a tag, once: a command that is issued again keeps what was decided. */
+static void decide(struct driver *driver, uint32_t tag) {
+    struct command *it = &driver->commands[tag];
+    if (it->is_decided || !driver->settings->script->count)
         return;
     uint64_t time = now();
-    const struct occasion occasion = {.lba = it->request->lba, .sectors = it->request->sectors, .writes = it->request->kind == REQUEST_WRITE,
-                                      .number = it->serial, .since = (time - driver->started) / 1000};
-    struct rule *slow = rules_apply(&settings->slow, &occasion);
+    struct decisions all;
+    bool writes = it->request->kind == REQUEST_WRITE;
+    const struct occasion occasion = {.code = writes ? AHCI_WRITE_FPDMA_QUEUED : AHCI_READ_FPDMA_QUEUED, .tag = (uint8_t)tag, .writes = writes, .lba = it->request->lba,
+                                      .sectors = it->request->sectors, .number = it->serial, .since = (time - driver->started) / 1000};
+    script_decide(driver->settings->script, &occasion, &all);
+    const struct decision *slow = &all.of[EVENT_SLOW];
     it->is_decided = true;
-    it->failure = rules_apply(&settings->failures, &occasion);
-    it->ready = slow ? time + 1000 * delay_drawn(&slow->delay, &slow->random) : 0;
+    it->failure = all.of[EVENT_FAIL];
+    it->ready = slow->line ? time + 1000 * delay_drawn(&slow->event->delay, &slow->line->random) : 0;
 }
 
 /* Those accepted commands that are not slow, or whose time has come. */
 static uint32_t ready_of(const struct driver *driver) {
     uint32_t ready = driver->accepted;
-    if (!driver->settings->slow.count)
+    if (!script_has(driver->settings->script, EVENT_SLOW))
         return ready;
     uint64_t time = now();
     for (uint32_t set = ready; set; set &= set - 1)
@@ -68,10 +71,10 @@ static uint32_t ready_of(const struct driver *driver) {
 /* Those commands of a set that the device is to fail. */
 static uint32_t failing_of(const struct driver *driver, uint32_t set) {
     uint32_t failing = 0;
-    if (!driver->settings->failures.count)
+    if (!script_has(driver->settings->script, EVENT_FAIL))
         return failing;
     for (; set; set &= set - 1)
-        if (driver->commands[lowest(set)].failure)
+        if (driver->commands[lowest(set)].failure.line)
             failing |= UINT32_C(1) << lowest(set);
     return failing;
 }
@@ -85,7 +88,7 @@ static void accept_all(struct driver *driver) {
         driver_must("ahci_choose_tag", ahci_choose_tag(AHCI_ORDER_LOWEST, driver->issued, 0, &tag));
         driver_must("ahci_port_accept", ahci_port_accept(&driver->port, tag, &done));
         record_tag(&driver->record, RECORD_ACCEPT, tag);
-        decide(driver, &driver->commands[tag]);
+        decide(driver, tag);
         driver->issued &= ~(UINT32_C(1) << tag);
         driver->accepted |= UINT32_C(1) << tag;
     }
@@ -96,10 +99,11 @@ static void accept_all(struct driver *driver) {
 
 static void fail(struct driver *driver, uint32_t tag) {
     const struct command *it = &driver->commands[tag];
-    uint64_t lba = it->failure->first_lba > it->request->lba ? it->failure->first_lba : it->request->lba;
+    uint64_t first = it->failure.line->first_lba, lba = first > it->request->lba ? first : it->request->lba;
+    uint8_t error = it->failure.event->error;
     ahci_stepped done;
-    driver_must("ahci_port_fail", ahci_port_fail(&driver->port, tag, it->failure->error, lba, &done));
-    record_failed(&driver->record, tag, it->failure->error, lba);
+    driver_must("ahci_port_fail", ahci_port_fail(&driver->port, tag, error, lba, &done));
+    record_failed(&driver->record, tag, error, lba);
     driver->counts.failed++;
     driver_recover(driver);
 }

@@ -16,8 +16,8 @@ struct command {
     struct request *request;
     uint64_t number;    /* that of its request in the port's journal */
     uint64_t serial;    /* the first command is number 1 */
-    bool is_decided;    /* the rules were applied */
-    const struct rule *failure; /* the rule by which the device fails it, or NULL */
+    bool is_decided;    /* the script was asked */
+    struct decision failure; /* the line by which the device fails it, if it has one */
     uint64_t ready;     /* when a slow command can be served, in nanoseconds of CLOCK_MONOTONIC; 0: at once */
 };
 

@@ -66,12 +66,18 @@ static int ahci_after_fork(void) {
     return has_device ? 0 : -1;
 }
 
+/* A line of the script that never happened. */
+static void note(const char *line) {
+    fprintf(stderr, "ahci: %s\n", line);
+}
+
 /* nbdkit has answered every request by now. */
 static void ahci_cleanup(void) {
     if (has_device)
         device_end(&driver, thread);
     if (!has_port)
         return;
+    script_end(settings.script, note);
     const struct counts *it = &driver.counts;
     fprintf(stderr,
             "ahci: %" PRIu64 " commands, %" PRIu64 " served, %" PRIu64 " of them out of order, %" PRIu64 " lists of several tags, %" PRIu32

@@ -2,6 +2,7 @@
 
 #include "options.h"
 #include "record.h"
+#include "rules.h"
 #include "say.h"
 #include "window.h"
 
@@ -30,6 +31,8 @@ const char settings_help[] =
     "                     commands=A-B, seconds=A-B, rate=N/M. May be given up to 64 times\n"
     "slow=WHERE:MICROSECONDS[+JITTER][:COUNT][,CONDITION]...  commands that take so long (default\n"
     "                     COUNT: ever). May be given up to 64 times\n"
+    "script=FILE          what happens and when, a line for each: on 3rd write sectors 100-199 do fail 40.\n"
+    "                     host/README.md has the language; what never happened is said at the end\n"
     "most-journal=BYTES   size of the port's journal at which it is trimmed (default: 4 times the disk's\n"
     "                     size, at least 4M and at most 256M)\n"
     "record=FOLDER        a record of all that happens; host/stretch turns any part of it into a script\n"
@@ -38,13 +41,15 @@ const char settings_help[] =
 
 
 void settings_begin(struct settings *settings) {
-    *settings = (struct settings){.depth = AHCI_MOST_TAGS, .seed = 1, .failures.kind = RULE_FAIL, .slow.kind = RULE_SLOW};
+    static struct script script;
+    *settings = (struct settings){.depth = AHCI_MOST_TAGS, .seed = 1, .script = &script};
     mapped_begin(&settings->mapped);
 }
 
 void settings_end(struct settings *settings) {
     mapped_end(&settings->mapped);
     free(settings->record);
+    free(settings->script_file);
 }
 
 static int take_pick(const char *text, enum pick *pick) {
@@ -77,6 +82,12 @@ static int take_path(const char *text, char **path) {
     return *path ? 0 : -1;
 }
 
+/* The name of a file, as it is. */
+static int take_file(const char *text, char **path) {
+    *path = strdup(text);
+    return *path ? 0 : -1;
+}
+
 static int take_one(struct settings *settings, const char *key, const char *value) {
     if (!strcmp(key, "sectors") || !strcmp(key, "size"))
         return take_sectors(key, value, &settings->sectors);
@@ -96,17 +107,18 @@ static int take_one(struct settings *settings, const char *key, const char *valu
         return image_find(&settings->mapped.image, value);
     if (!strcmp(key, "sync"))
         return take_sync(value, &settings->sync);
+    if (!strcmp(key, "script"))
+        return take_file(value, &settings->script_file);
     if (!strcmp(key, "record"))
         return take_path(value, &settings->record);
     return option_bytes(key, value, &settings->record_limit);
 }
 
 int settings_take(struct settings *settings, const char *key, const char *value) {
-    static const char *const keys[] = {"sectors", "size", "depth", "pick", "seed", "together", "delay", "most-journal", "image", "sync", "record", "record-limit"};
-    if (!strcmp(key, "fail"))
-        return rules_take(&settings->failures, value);
-    if (!strcmp(key, "slow"))
-        return rules_take(&settings->slow, value);
+    static const char *const keys[] = {"sectors", "size", "depth", "pick", "seed", "together", "delay", "most-journal", "image", "sync", "record", "record-limit", "script"};
+    enum event_kind rule = rules_kind(key, SERVER_NBD);
+    if (rule != EVENT_KINDS)
+        return rules_take(settings->script, rule, value);
     for (unsigned at = 0; at < sizeof keys / sizeof *keys; at++) {
         if (strcmp(key, keys[at]))
             continue;
@@ -142,9 +154,11 @@ int settings_complete(struct settings *settings) {
         settings->together = settings->pick == PICK_ALL ? AHCI_MOST_TAGS : 1;
     if (settings->most_journal == 0)
         settings->most_journal = usual_journal(settings->sectors);
-    return rules_complete(&settings->failures, settings->sectors) || rules_complete(&settings->slow, settings->sectors) ? -1 : 0;
+    if (settings->script_file && script_read(settings->script, settings->script_file, SERVER_NBD))
+        return -1;
+    return script_complete(settings->script, settings->sectors);
 }
 
 bool settings_have_waits(const struct settings *settings) {
-    return settings->delay.least || settings->delay.jitter || settings->slow.count;
+    return settings->delay.least || settings->delay.jitter || script_has(settings->script, EVENT_SLOW);
 }

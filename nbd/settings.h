@@ -3,7 +3,7 @@
 #define AHCI_NBD_SETTINGS_H
 
 #include "mapped.h"
-#include "rules.h"
+#include "script.h"
 
 #include <stdbool.h>
 #include <stdint.h>
@@ -26,7 +26,8 @@ struct settings {
     enum sync sync;
     char *record;          /* a folder for the record, or NULL */
     uint64_t record_limit; /* its bytes at most; 0: no limit */
-    struct rules failures, slow;
+    struct script *script;  /* which commands fail or are slow */
+    char *script_file;      /* NULL: all of it comes from fail= and slow= */
     uint32_t given; /* parameters that were given, as bits */
 };
 

@@ -6,10 +6,12 @@
      probe pages                        lines "add LBA COUNT", "settle"
      probe mapped FILE SECTORS          lines "fill LBA COUNT BYTE", "save", "show LBA"; it is saved at the end
      probe record FOLDER LIMIT SECTORS  lines of the record, see `record_line`
-     probe least SECTORS COUNT          the smallest limit of a record */
+     probe least SECTORS COUNT          the smallest limit of a record
+     probe events, fuzz                 scripts: see probe_events.h */
 #include "generator.h"
 #include "mapped.h"
 #include "options.h"
+#include "probe_events.h"
 #include "record.h"
 #include "rules.h"
 #include "say.h"
@@ -69,33 +71,41 @@ static int numbers(void) {
     return 0;
 }
 
-static struct rules rules = {0};
+static struct script script;
+
+/* Adds the lines of an option that is given so often. */
+static int take_lines(enum event_kind kind, char **values) {
+    for (; *values; values++)
+        if (rules_take(&script, kind, *values))
+            return 1;
+    return 0;
+}
+
+/* What is decided for a command of one option: the place of its rule, and what that says. */
+static void print_rule(enum event_kind kind, const struct decision *decision) {
+    if (!decision->line)
+        puts("-");
+    else if (kind == EVENT_FAIL)
+        printf("%td %02x\n", decision->line - script.lines, decision->event->error);
+    else if (kind == EVENT_SLOW)
+        printf("%td %" PRIu64 "\n", decision->line - script.lines, delay_drawn(&decision->event->delay, &decision->line->random));
+    else
+        printf("%td\n", decision->line - script.lines);
+}
 
 static int try_rules(char **words) {
-    static const char *const names[] = {"fail", "slow", "stall", NULL};
     char line[256], kind;
     struct occasion it = {0};
-    unsigned place = 0;
-    if (option_word("kind", words[0], names, "fail, slow or stall", &place))
+    struct decisions decided;
+    enum event_kind event = rules_kind(words[0], SERVER_HBA);
+    if (event == EVENT_KINDS || take_lines(event, words + 2) || script_complete(&script, strtoull(words[1], NULL, 10)))
         return 1;
-    rules.kind = (enum rule_kind)place;
-    for (char **rule = words + 2; *rule; rule++)
-        if (rules_take(&rules, *rule))
-            return 1;
-    if (rules_complete(&rules, strtoull(words[1], NULL, 10)))
-        return 1;
+    script_begin(&script);
     while (line_of(line, sizeof line)) {
         sscanf(line, "%" SCNu64 " %" SCNu32 " %c %" SCNu64 " %" SCNu64, &it.lba, &it.sectors, &kind, &it.number, &it.since);
         it.writes = kind == 'w';
-        struct rule *rule = rules_apply(&rules, &it);
-        if (!rule)
-            puts("-");
-        else if (rules.kind == RULE_FAIL)
-            printf("%td %02x\n", rule - rules.at, rule->error);
-        else if (rules.kind == RULE_SLOW)
-            printf("%td %" PRIu64 "\n", rule - rules.at, delay_drawn(&rule->delay, &rule->random));
-        else
-            printf("%td\n", rule - rules.at);
+        script_decide(&script, &it, &decided);
+        print_rule(event, &decided.of[event]);
     }
     return 0;
 }
@@ -285,5 +295,9 @@ int main(int count, char **words) {
         return try_record(words + 2);
     if (count == 4 && !strcmp(what, "least"))
         return printf("%" PRIu64 "\n", record_least_limit((uint32_t)strtoul(words[2], NULL, 10), (uint32_t)strtoul(words[3], NULL, 10))) < 0;
+    if (count == 5 && !strcmp(what, "events"))
+        return try_events(words + 2);
+    if (count == 4 && !strcmp(what, "fuzz"))
+        return try_fuzz(words + 2);
     return 9;
 }

@@ -1,11 +1,11 @@
-"""Checks of fail= and slow=: just the commands that a rule names fail, or are slow."""
+"""Checks of fail=, slow= and script=: just the commands that a rule or a line names fail, or are slow."""
 from __future__ import annotations
 
 import os
 import time
-from typing import List
+from typing import List, Tuple
 
-from harness import SECTOR, Check, Failed, counted, fio, must_be_clean, ran, replayed, scripted, sectors_of, serving, told, tool
+from harness import PLUGIN, SECTOR, Check, Failed, counted, fio, must_be_clean, ran, replayed, scripted, sectors_of, serving, told, tool
 import pace
 from records import ACCEPT, FAIL, READ, RECOVER, REISSUE, SERVE, WRITE, Entry, Record
 
@@ -70,6 +70,40 @@ def rules(room: str) -> str:
         if counted(server, "failures") != wanted.count("N") or counted(server, "recoveries") != wanted.count("N"):
             raise Failed(f"{' '.join(given)}: {told(server)}")
     return f"{len(cases)} rules"
+
+
+def scripts(room: str) -> str:
+    """script=: lines of a script fail the commands that they name, after those of fail=; what never happened is said at the end."""
+    path, read, write = os.path.join(room, "it.events"), "read {} 512", "write -P 1 {} 512"
+    cases: List[Tuple[str, List[str], List[Tuple[str, int]], str]] = [
+        ("on 2nd read sectors 10-12 do fail 40", [], [(read, 10), (write, 10), (read, 12), (read, 11)], "yyNy"),
+        ("on every WRITE FPDMA QUEUED do fail 04", [], [(read, 0), (write, 0), (write, 9)], "yNN"),
+        ("from 2nd on any do fail 40", [], [(read, 0), (write, 1), (read, 2)], "yNN"),
+        ("on 2nd any do fail 40 repeat 2", [], [(read, 0), (write, 1), (read, 2), (read, 3)], "yNNy"),
+        ("on every 2nd any do slow 1ms then fail 40", [], [(read, 0)] * 5, "yNyNy"),
+        ("on every sector 7 do fail 40", ["fail=7:10:1"], [(read, 7), (read, 7), (read, 8)], "NNy"),
+    ]
+    for script, given, commands, wanted in cases:
+        with open(path, "w", encoding="utf-8") as file:
+            file.write(f"{script}\non 900th any do fail 40\n")
+        with serving(room, "sectors=64", f"script={path}", *given, says=f"^ahci: {path}:2: it never happened: on 900th any do fail 40$") as server:
+            found = "".join("y" if it else "N" for it in outcomes(server.uri, [command.format(SECTOR * lba) for command, lba in commands]))
+        if found != wanted or counted(server, "failures") != wanted.count("N"):
+            raise Failed(f"{script}: {found}, and {wanted} is right; {told(server)}")
+    return f"{len(cases)} scripts"
+
+
+def wrong_scripts(room: str) -> str:
+    """A wrong script keeps the server from starting; each wrong line is told, with its place."""
+    path = os.path.join(room, "it.events")
+    with open(path, "w", encoding="utf-8") as file:
+        file.write("on 2nd read do stall\non first read do fail 40\non read do fail 40\n")
+    said = tool(["nbdkit", "-f", "-U", os.path.join(room, "socket"), PLUGIN, "sectors=64", f"script={path}"])
+    wanted = [f'{path}:1:16: expected an event that nbd has (slow, fail), got "stall"', f'{path}:3:4: expected every, first, a place such as 3rd, or time, got "read"']
+    lines = str(said.stdout).splitlines()
+    if said.returncode == 0 or len(lines) != 2 or not all(line.endswith(it) for line, it in zip(lines, wanted)):
+        raise Failed(f"status {said.returncode}: {said.stdout}")
+    return "two wrong lines"
 
 
 def rule_by_time(room: str) -> str:
@@ -167,5 +201,5 @@ def held_commands(room: str) -> str:
     return f"{reissued} commands were issued again; {told(server)}"
 
 
-CHECKS = [Check(a_failing_sector, ["fio", "qemu-io"]), Check(one_request_fails, ["qemu-io"]), Check(rules, ["qemu-io"]), Check(rule_by_time, ["qemu-io"]), Check(rates, ["fio"]),
+CHECKS = [Check(a_failing_sector, ["fio", "qemu-io"]), Check(one_request_fails, ["qemu-io"]), Check(rules, ["qemu-io"]), Check(scripts, ["qemu-io"]), Check(wrong_scripts), Check(rule_by_time, ["qemu-io"]), Check(rates, ["fio"]),
           Check(slow_commands, ["fio"]), Check(jitter, ["fio"]), Check(held_commands, ["fio"])]
