@@ -2,7 +2,9 @@ pub mod Accessing
 pub mod CapFields
 pub mod Fields
 pub mod HbaState
+pub mod InterfaceErrors
 pub mod Interrupts
+pub mod LinkEvents
 pub mod Linking
 pub mod PortStates
 pub mod Reading

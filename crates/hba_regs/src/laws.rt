@@ -2,7 +2,7 @@
 //! word to a register (`written`), which `words_are_written_to_their_registers` finds at the register's offset.
 ghost use Rattle.std.specs.Prelude.{◌≡◌, ◌≢◌, ◌+◌, ◌*◌, ◌/◌, ◌%◌, ◌^◌, ◌<◌, ◌≤◌, ℕ, Bool, true, false, not, ◌&&◌, ◌||◌};
 ghost use Rattle.word_bits.specs.Places.{bits, has_place, no_places, union, with_place};
-ghost use Rattle.hba_regs.specs.HbaState.{HbaPort, link_changed, power_on};
+ghost use Rattle.hba_regs.specs.HbaState.{HbaPort, link_changed, powered_with};
 ghost use Rattle.hba_regs.specs.Interrupts.{interrupts, is_pending};
 ghost use Rattle.hba_regs.specs.RegisterTable.{offset_of, takes_ones};
 ghost use Rattle.hba_regs.specs.Reading.{word_at};
@@ -53,11 +53,11 @@ pub fn a_byte_is_written_alone(word: u32, place: u32, value: u64)
         → part (with_part word (8 * place) 1 value) (8 * other) 1 ≡ part word (8 * other) 1 }
 {}
 
-/// After GHC.HR the registers are as after power-on of the same HBA, but for the bases, whatever was before.
+/// After GHC.HR the registers are as after power-on of the same HBA, with the same device or none, but for the bases, whatever was before.
 pub fn a_reset_leaves_the_bases(regs: &HbaRegs, value: u32)
     requires { has_place (bits value) 0 ≡ true }
     ensures { (written regs.now value Register.Ghc).state
-        ≡ (let first = power_on regs.now.port.capabilities in
+        ≡ (let first = powered_with regs.now.port.present regs.now.port.capabilities in
         record first { port = record first.port { clb = regs.now.port.clb; fb = regs.now.port.fb } }) }
 {}
 
@@ -121,10 +121,11 @@ pub fn ips_stays_until_it_is_cleared(regs: &HbaRegs)
     ensures cleared { (written regs.now 1 Register.Is).state.ips ≡ is_pending regs.now.port }
 {}
 
-/// PCS and PRCS of PxIS are DIAG.X and DIAG.N of PxSERR, and writing 1 to them in PxIS leaves them.
+/// PCS, PRCS and UFS of PxIS are DIAG.X, DIAG.N and DIAG.F of PxSERR, and writing 1 to them in PxIS leaves them.
 pub fn pcs_and_prcs_are_those_of_pxserr(regs: &HbaRegs, value: u32)
     ensures pcs { has_place (interrupts regs.now.port) 6 ≡ has_place regs.now.port.serr 26 }
     ensures prcs { has_place (interrupts regs.now.port) 22 ≡ has_place regs.now.port.serr 16 }
+    ensures ufs { has_place (interrupts regs.now.port) 4 ≡ has_place regs.now.port.serr 25 }
     ensures left { (written regs.now value Register.PxIs).state.port.serr ≡ regs.now.port.serr }
 {
     regs.keeps_its_rules();
@@ -148,7 +149,9 @@ pub fn a_comreset_brings_the_device_back(regs: &HbaRegs)
           signature = Due;
           soft = Off;
         } }
-{}
+{
+    regs.keeps_its_rules();
+}
 
 /// No write changes what the HBA can do.
 pub fn capabilities_stay(regs: &HbaRegs, register: Register, value: u32)
@@ -174,12 +177,12 @@ pub fn bases_are_in_reach(regs: &HbaRegs)
 }
 
 /// With staggered spin-up a device that waits goes on waiting while software writes 0 to SUD. With 1 the link comes up, and the signature
-/// is due.
+/// is due, if a device is plugged in.
 pub fn a_device_waits_for_sud(regs: &HbaRegs, value: u32)
     requires sss { regs.now.port.capabilities.sss ≡ true }
     requires sud { regs.now.port.sud ≡ false }
     requires link { regs.now.port.link ≡ Listening }
     ensures waits { has_place (bits value) 1 ≡ false → (written regs.now value Register.PxCmd).state.port.link ≡ Listening }
-    ensures up { has_place (bits value) 1 ≡ true → (written regs.now value Register.PxCmd).state.port.link ≡ Up }
-    ensures due { has_place (bits value) 1 ≡ true → (written regs.now value Register.PxCmd).state.port.signature ≡ Due }
+    ensures up { regs.now.port.present ≡ true → has_place (bits value) 1 ≡ true → (written regs.now value Register.PxCmd).state.port.link ≡ Up }
+    ensures due { regs.now.port.present ≡ true → has_place (bits value) 1 ≡ true → (written regs.now value Register.PxCmd).state.port.signature ≡ Due }
 {}
