@@ -226,7 +226,7 @@ link_dropped p Listening Offline n = (refl, refl)
 link_dropped p InReset Offline n = (refl, refl)
 
 -- PxCMD without SUD, ALPE and ASP, and the port before SUD has its effect
-abbrev next_power : HbaPort → ℕ → HbaPort
+abbrev pub next_power : HbaPort → ℕ → HbaPort
 next_power p value =
     record (commanded_by p value) {
       sud = not p.capabilities.sss || has_place (bits value) 1;

@@ -10,5 +10,6 @@ pub mod PortStates
 pub mod Reading
 pub mod Receiving
 pub mod RegisterTable
+pub mod Settings
 pub mod Writing
 pub use Rattle.word_bits.specs.Places
