@@ -3,7 +3,7 @@ use Rattle.std.proofs.Common.{◌≡◌, ℕ, Bool, true, false, not, ◌&&◌, 
 use Rattle.word_bits.specs.Places.{bits, has_place, with_place}
 use Rattle.word_bits.proofs.PlacesLemmas.{has_place-union, has_place-with_same}
 use Rattle.word_bits.proofs.BitsLemmas.{has_place-bits}
-use Rattle.hba_regs.specs.HbaState.{HbaPort, HbaState, IsKept, asked_link, link_changed, listening_port, reset_with, spun_link}
+use Rattle.hba_regs.specs.HbaState.{HbaPort, HbaState, IsKept, asked_link, link_changed, reset_with, spun_link}
 use Rattle.hba_regs.specs.InterfaceErrors.{accepts_fis, interface_failed, reported, unknown_received}
 use Rattle.hba_regs.specs.Interrupts.{interrupts, place_of}
 use Rattle.hba_regs.specs.LinkEvents.{cominit, found, lost, plugged, unplugged}
@@ -127,11 +127,13 @@ chosen : (b : Bool) (s t : HbaState) (P : HbaState → Type 0) → P s → P t �
 chosen true s t P h k = h
 chosen false s t P h k = k
 
+none_comes : (sss : Bool) → is_up (if not sss && false then Up else Listening) ≡ false
+none_comes true = refl
+none_comes false = refl
+
 reset_gone : (s : HbaState) → IsGone s.port → IsGone (reset_with s.port.present s.port.capabilities s.port.clb s.port.fb).port
 reset_gone s h =
-    subst (λ b. IsGone (reset_with b s.port.capabilities s.port.clb s.port.fb).port) (sym h.0)
-    (either s.port.capabilities.sss (listening_port false s.port.capabilities s.port.clb s.port.fb) (listening_port false s.port.capabilities s.port.clb s.port.fb)
-    IsGone (refl, refl) (refl, refl))
+    subst (λ b. IsGone (reset_with b s.port.capabilities s.port.clb s.port.fb).port) (sym h.0) (refl, none_comes s.port.capabilities.sss)
 
 pub stays_gone : (s : HbaState) (value : ℕ) (r : Register) → IsGone s.port → IsGone (changed s value r).port
 stays_gone s value Ghc h =

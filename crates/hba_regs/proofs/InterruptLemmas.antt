@@ -5,7 +5,7 @@ use Rattle.std.proofs.lemmas.Bool.{ne_eqb}
 use Rattle.word_bits.proofs.PlacesLemmas.{has_place-no_places, has_place-with_same, has_place-with_other, length-with_place, and_false}
 use Rattle.word_bits.proofs.BitsLemmas.{has_place-bits}
 use Rattle.hba_regs.specs.CapFields.{CapFields}
-use Rattle.hba_regs.specs.HbaState.{HbaPort, HbaState, IsKept, listening_port, reset_port, up_port}
+use Rattle.hba_regs.specs.HbaState.{HbaPort, HbaState, IsKept, reset_port}
 use Rattle.hba_regs.specs.Interrupts.{interrupts, is_pending, raised, settled}
 
 none_met : (s t : List Bool) → ((i : ℕ) → (has_place s i && has_place t i) ≡ false) → word_of (intersection s t) ≡ 0
@@ -38,20 +38,8 @@ pub either : (b : Bool) (p q : HbaPort) (P : HbaPort → Type 0) → P p → P q
 either true p q P h k = h
 either false p q P h k = k
 
--- what holds of a port with a device and of one that listens holds after a reset
-pub after_reset : (present : Bool) (c : CapFields) (clb fb : ℕ) (P : HbaPort → Type 0) → P (up_port c clb fb) → P (listening_port present c clb fb) → P (reset_port present c clb fb)
-after_reset present c clb fb P h k =
-    either c.sss (listening_port present c clb fb) (if present then up_port c clb fb else listening_port present c clb fb) P k
-    (either present (up_port c clb fb) (listening_port present c clb fb) P h k)
-
-nothing_pending : (p : HbaPort) → p.ie ≡ no_places → is_pending p ≡ false
-nothing_pending p e =
-    pending_of_none (interrupts p) p.ie
-    (λ i. ap (λ s. has_place (interrupts p) i && has_place s i) e ∙ ap (λ b. has_place (interrupts p) i && b) (has_place-no_places i) ∙ and_false _)
-
 pub pending-reset : (present : Bool) (c : CapFields) (clb fb : ℕ) → is_pending (reset_port present c clb fb) ≡ false
-pending-reset present c clb fb =
-    after_reset present c clb fb (λ p. is_pending p ≡ false) (nothing_pending (up_port c clb fb) refl) (nothing_pending (listening_port present c clb fb) refl)
+pending-reset present c clb fb = pending_of_none (interrupts (reset_port present c clb fb)) no_places (λ i. ap (λ b. has_place (interrupts (reset_port present c clb fb)) i && b) (has_place-no_places i) ∙ and_false _)
 
 -- ---- PCS and PRCS
 

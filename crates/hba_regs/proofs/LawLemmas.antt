@@ -5,8 +5,7 @@ use Rattle.std.proofs.lemmas.Nat.Bits.{bit_at_cat_high, bit_at_cat_low}
 use Rattle.word_bits.specs.Places.{bits, has_place, intersection, no_places, only_below}
 use Rattle.word_bits.proofs.PlacesLemmas.{has_place-union}
 use Rattle.word_bits.proofs.BitsLemmas.{has_place-bits, bits-word_of}
-use Rattle.hba_regs.specs.HbaState.{HbaPort, HbaState, HasWords, IsLawful, IsPowered, asked_link, enables, listening_port, powered_with, reset_with, up_port}
-use Rattle.hba_regs.specs.CapFields.{CapFields}
+use Rattle.hba_regs.specs.HbaState.{HbaPort, HbaState, HasWords, IsLawful, IsPowered, asked_link, enables, reset_with}
 use Rattle.hba_regs.specs.Interrupts.{is_pending, settled}
 use Rattle.hba_regs.specs.Linking.{came_up, goes_down, is_up, relinked, spun_up}
 use Rattle.hba_regs.specs.RegisterTable.{takes_ones}
@@ -19,7 +18,7 @@ use Rattle.hba_regs.specs.declared.link.Link.{Link}
 use Rattle.hba_regs.specs.declared.link.Link.TheVariants.{Up, Listening, InReset, Offline}
 use Rattle.hba_regs.specs.declared.register.Register.{Register}
 use Rattle.hba_regs.specs.declared.register.Register.TheVariants.{Ghc, Is, PxClb, PxClbu, PxFb, PxFbu, PxIs, PxIe, PxCmd, PxSctl, PxSerr, PxSact, PxCi}
-use Rattle.hba_regs.proofs.InterruptLemmas.{after_reset, either, pending-reset, settled_again}
+use Rattle.hba_regs.proofs.InterruptLemmas.{either, pending-reset, settled_again}
 
 -- ---- bytes of a word
 
@@ -75,19 +74,6 @@ pub reset_by_hr : (s : HbaState) (value : ℕ) → has_place (bits value) 0 ≡ 
 reset_by_hr s value e =
     ap (λ b. settled (if b then reset_with s.port.present s.port.capabilities s.port.clb s.port.fb else record s { ghc_ie = has_place (bits value) 1 })) e
     ∙ ap (λ b. record (reset_with s.port.present s.port.capabilities s.port.clb s.port.fb) { ips = b }) (pending-reset s.port.present s.port.capabilities s.port.clb s.port.fb)
-
--- the registers after a reset are those after power-on, but for the bases
-based_by : (b present : Bool) (p q r t : HbaPort) (clb fb : ℕ) → p ≡ record r { clb = clb; fb = fb } → q ≡ record t { clb = clb; fb = fb }
-    → (if b then p else if present then q else p) ≡ record (if b then r else if present then t else r) { clb = clb; fb = fb }
-based_by true present p q r t clb fb e f = e
-based_by false true p q r t clb fb e f = f
-based_by false false p q r t clb fb e f = e
-
-pub based : (present : Bool) (c : CapFields) (clb fb : ℕ)
-    → reset_with present c clb fb ≡ (let first = powered_with present c in record first { port = record first.port { clb = clb; fb = fb } })
-based present c clb fb =
-    ap (λ p. record (powered_with present c) { port = p })
-    (based_by c.sss present (listening_port present c clb fb) (up_port c clb fb) (listening_port present c 0 0) (up_port c 0 0) clb fb refl refl)
 
 -- ---- commands that stay
 
@@ -238,8 +224,7 @@ pub all_dropped : (s : HbaState) (value : ℕ) (r : Register) → consequence_of
     → ((changed s value r).port.sact ≡ no_places) × ((changed s value r).port.ci ≡ no_places)
 all_dropped s value Ghc n =
     reset_dropped (has_place (bits value) 0) (reset_with s.port.present s.port.capabilities s.port.clb s.port.fb) (record s { ghc_ie = has_place (bits value) 1 })
-    (λ t. (t.port.sact ≡ no_places) × (t.port.ci ≡ no_places)) n
-    (after_reset s.port.present s.port.capabilities s.port.clb s.port.fb (λ p. (p.sact ≡ no_places) × (p.ci ≡ no_places)) (refl, refl) (refl, refl))
+    (λ t. (t.port.sact ≡ no_places) × (t.port.ci ≡ no_places)) n (refl, refl)
 all_dropped s value PxCmd n =
     command_dropped (spins_up s.port value) (next_power s.port value) (s.port.st && not (has_place (bits value) 0)) s.port.sact s.port.ci refl refl n
 all_dropped s value PxSctl n =
@@ -316,8 +301,7 @@ reset_can false s t P h k = k
 pub can_stays : (s : HbaState) (value : ℕ) (r : Register) → (changed s value r).port.capabilities ≡ s.port.capabilities
 can_stays s value Ghc =
     reset_can (has_place (bits value) 0) (reset_with s.port.present s.port.capabilities s.port.clb s.port.fb) (record s { ghc_ie = has_place (bits value) 1 })
-    (λ t. t.port.capabilities ≡ s.port.capabilities)
-    (after_reset s.port.present s.port.capabilities s.port.clb s.port.fb (λ p. p.capabilities ≡ s.port.capabilities) refl refl) refl
+    (λ t. t.port.capabilities ≡ s.port.capabilities) refl refl
 can_stays s value PxClb = either s.port.st s.port _ (λ p. p.capabilities ≡ s.port.capabilities) refl refl
 can_stays s value PxClbu =
     either s.port.capabilities.s64a _ s.port (λ p. p.capabilities ≡ s.port.capabilities) (either s.port.st s.port _ (λ p. p.capabilities ≡ s.port.capabilities) refl refl) refl

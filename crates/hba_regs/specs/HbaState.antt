@@ -113,15 +113,19 @@ up_port c clb fb = record {
   soft = Off;
 }
 
--- the same while there is no link, and nothing to report: the port listens
-abbrev pub listening_port : (present : Bool) → CapFields → ℕ → ℕ → HbaPort
-listening_port present c clb fb =
-    record (up_port c clb fb) { present = present; sud = not c.sss; sts = 0x7f; link = Listening; serr = no_places; signature = Past }
-
--- the port after a reset of the HBA, with these bases. With staggered spin-up (CAP.SSS) a device waits for PxCMD.SUD, and there is no link; nor
--- is there one without a device
+-- the port after a reset of the HBA, with these bases. With staggered spin-up (CAP.SSS) a device waits for PxCMD.SUD: there is no link, and
+-- nothing to report; nor is there without a device
 abbrev pub reset_port : (present : Bool) → CapFields → ℕ → ℕ → HbaPort
-reset_port present c clb fb = if c.sss then listening_port present c clb fb else if present then up_port c clb fb else listening_port present c clb fb
+reset_port present c clb fb =
+    let comes = not c.sss && present in
+    record (up_port c clb fb) {
+      present = present;
+      sud = not c.sss;
+      sts = if comes then 0x80 else 0x7f;
+      link = if comes then Up else Listening;
+      serr = if comes then link_changed else no_places;
+      signature = if comes then Due else Past;
+    }
 
 -- the slot of a number
 abbrev pub slot_of : ℕ → Option ℕ

@@ -41,6 +41,7 @@ interface_failed error is_fatal p =
 abbrev pub accepts_fis : HbaPort → Bool
 accepts_fis p = is_up p.link && p.fre && not (p.st && p.halted)
 
--- UFIS: a FIS of a type that isn't known is accepted and posted at PxFB + 60h: DIAG.F (bit 25) is set, whose PxIS.UFS is, and the port goes on
+-- the UFIS states: a FIS of a type that isn't known is accepted and posted at PxFB + 60h. DIAG.F (bit 25), and so PxIS.UFS, is set, and the port
+-- goes on
 abbrev pub unknown_received : HbaPort → HbaPort
 unknown_received p = if accepts_fis p then record p { serr = with_place p.serr 25 } else p

@@ -10,10 +10,10 @@ use Rattle.hba_regs.specs.declared.link.Link.TheVariants.{Up, Listening}
 use Rattle.hba_regs.specs.declared.signature.Signature.TheVariants.{Past}
 use Rattle.hba_regs.specs.declared.soft_reset.SoftReset.TheVariants.{Off}
 
--- PhyRdy goes away: DET, SPD and IPM of PxSSTS are 0, and DIAG.N (bit 16) reports it, whose PxIS.PRCS is. Commands stay in PxSACT and PxCI until
--- software drops them. No FIS of the device is awaited, and a port with ST 1 processes no command until ST is cleared, since those in its list
--- aren't for a device that is found next (section 7.4) (profile). What was known of the device is gone, as with COMRESET (section 10.4.2)
--- (profile). Without a link nothing is lost
+-- PhyRdy goes away: DET, SPD and IPM of PxSSTS are 0. DIAG.N (bit 16), and so PxIS.PRCS, reports it. Commands stay in PxSACT and PxCI until
+-- software drops them. A port with ST 1 processes no command until ST is cleared, since those in its list aren't for the device that is found next
+-- (section 7.4) (profile). PxTFD, PxSIG and the signature that was due are as after COMRESET (section 10.4.2) (profile). A link that isn't up can't
+-- be lost
 abbrev pub lost : HbaPort → Link → HbaPort
 lost p Up =
     record (err_wait_for_clear p) {
@@ -27,9 +27,9 @@ lost p Up =
     }
 lost p link = p
 
--- COMINIT is received, which the device sends by itself (section 6.2.2.3, "Recovery of Unsolicited COMINIT"). A port that listens has its link
--- come up; with SUD 0 it only reports the device, by DIAG.X (bit 26), whose PxIS.PCS is (section 10.10.1). A link that DET holds in COMRESET, or
--- has disabled, detects nothing
+-- COMINIT is received, which the device sends by itself (section 6.2.2.3, "Recovery of Unsolicited COMINIT"). If the port listens, the link comes
+-- up; with SUD 0 the port only reports the device, by DIAG.X (bit 26) and so PxIS.PCS (section 10.10.1). While DET holds the link in COMRESET, or has
+-- disabled it, nothing is received
 abbrev pub cominit : HbaPort → Link → HbaPort
 cominit p Listening = if p.sud then came_up p else record p { serr = with_place p.serr 26 }
 cominit p link = p
