@@ -1,14 +1,15 @@
 -- A slot leaves PxCI and PxSACT exactly with the answer to its command.
 use Rattle.std.proofs.Common.{◌≡◌, ℕ, Bool, true, false, not, ◌&&◌, List, nat_eq, bit_and, bit_or, if◌then◌else◌, refl, ap, sym, ◌∙◌, ⊎_elim}
 use Rattle.std.proofs.lemmas.Bool.Decides.{eqb_tells}
-use Rattle.word_bits.specs.Places.{bits, has_place, minus, without_place}
+use Rattle.word_bits.specs.Places.{bits, has_place, minus, with_place, without_place}
 use Rattle.word_bits.proofs.PlacesLemmas.{and_false, and_true, has_place-minus, has_place-without_other, has_place-without_same}
 use Rattle.hba_regs.specs.HbaState.{HbaPort}
+use Rattle.hba_regs.specs.InterfaceErrors.{accepts_fis}
 use Rattle.hba_regs.specs.PortStates.{bsy_or_drq_of, cfis_success, ended_by_signature, err_fatal_taskfile, err_of, pio_clear_ci, pio_set_intr, reg_fis_clear_ci, reg_fis_set_intr, sdb_set_intr}
 use Rattle.hba_regs.specs.Receiving.{after_srst_cleared}
 use Rattle.hba_regs.specs.declared.soft_reset.SoftReset.{SoftReset}
 use Rattle.hba_regs.specs.declared.soft_reset.SoftReset.TheVariants.{Off, Held, Ending}
-use Rattle.ahci_hba.specs.Transitions.{Transition, CfisSuccess, DrOverflow, ErrFatal, PioEntry, PioUpdate, RegFisEntry, RegFisPostToMem, RegFisUpdate, SdbEntry, SelectCmd, SrstCleared, SrstSet, Stuck, after, answers_command, answers_tag, ends_reset}
+use Rattle.ahci_hba.specs.Transitions.{Transition, CfisSuccess, DrOverflow, ErrFatal, PioEntry, PioUpdate, RegFisEntry, RegFisPostToMem, RegFisUpdate, SdbEntry, SelectCmd, SrstCleared, SrstSet, Stuck, UnknownFis, after, answers_command, answers_tag, ends_reset}
 
 leaves : (s : List Bool) (a i : ℕ) → has_place (without_place s a) i ≡ (has_place s i && not (nat_eq a i))
 leaves s a i =
@@ -82,6 +83,12 @@ sets_bits p status error i sactive slot = by (err_of status)
     by true = (refl, has_place-minus p.sact (bits sactive) slot)
     by false = (refl, has_place-minus p.sact (bits sactive) slot)
 
+unknown : (p : HbaPort) (slot : ℕ) (b : Bool)
+    → (has_place (if b then record p { serr = with_place p.serr 25 } else p).ci slot ≡ has_place p.ci slot)
+    × (has_place (if b then record p { serr = with_place p.serr 25 } else p).sact slot ≡ has_place p.sact slot)
+unknown p slot true = (refl, refl)
+unknown p slot false = (refl, refl)
+
 pub issued : (t : Transition) (p : HbaPort) (slot : ℕ) → has_place (after t p).ci slot ≡ (has_place p.ci slot && not (answers_command t p slot))
 issued (SelectCmd s) p slot = stays (has_place p.ci slot)
 issued (CfisSuccess s c) p slot = sends p s slot c
@@ -96,6 +103,7 @@ issued RegFisUpdate p slot = signs p p.soft slot
 issued RegFisPostToMem p slot = stays (has_place p.ci slot)
 issued SrstSet p slot = stays (has_place p.ci slot)
 issued (SrstCleared s) p slot = (releases p s slot p.soft).0 ∙ stays (has_place p.ci slot)
+issued UnknownFis p slot = (unknown p slot (accepts_fis p)).0 ∙ stays (has_place p.ci slot)
 
 -- what stays in PxSACT
 keeps : (p : HbaPort) (s slot : ℕ) (c : Bool) → has_place (cfis_success s c p).sact slot ≡ has_place p.sact slot
@@ -138,3 +146,4 @@ active RegFisUpdate p slot = stays (has_place p.sact slot)
 active RegFisPostToMem p slot = stays (has_place p.sact slot)
 active SrstSet p slot = stays (has_place p.sact slot)
 active (SrstCleared s) p slot = (releases p s slot p.soft).1 ∙ stays (has_place p.sact slot)
+active UnknownFis p slot = (unknown p slot (accepts_fis p)).1 ∙ stays (has_place p.sact slot)

@@ -67,6 +67,18 @@ halted_stops p e = by p.st p.halted (is_up p.link) e
 pub halted_takes_none : (h : HbaView) (slot : ℕ) → h.registers.port.halted ≡ true → next_step h slot ≡ None
 halted_takes_none h slot e = rw (halted_stops h.registers.port e) refl
 
+-- nor does it without a link
+down_stops : (p : HbaPort) → is_up p.link ≡ false → is_running p ≡ false
+down_stops p e = by p.st p.halted (is_up p.link) e
+  where
+    by : (st halted up : Bool) → up ≡ false → (st && not halted && up) ≡ false
+    by true false up e = e
+    by true true up e = refl
+    by false halted up e = refl
+
+pub down_takes_none : (h : HbaView) (slot : ℕ) → is_up h.registers.port.link ≡ false → next_step h slot ≡ None
+down_takes_none h slot e = rw (down_stops h.registers.port e) refl
+
 -- in Sleep the device isn't ready, and each step with a command wants that it is, but for an answer that was begun
 asleep_waits : (h : HbaView) → h.power ≡ Sleep → is_ready h ≡ false
 asleep_waits h e = by (is_listening h) h.registers.port.fre (is_off h.registers.port.soft) h.power e

@@ -11,7 +11,7 @@ use Rattle.hba_memory.specs.Reading.{ReadingView, Header, Command, Entries, Cont
 use Rattle.ahci_hba.specs.HbaView.{HbaView, WorkView, Idle, Fetching, Served, Pio, Block, Posting}
 use Rattle.ahci_hba.specs.Moving.{after_block_of, after_data_in, answering, block_ended, blocking, ended, ended_by, overflowed, put_done, read_so_far, setup_taken, supplied, unmapped}
 use Rattle.ahci_hba.specs.Transfer.{TransferView, has_interrupt}
-use Rattle.ahci_hba.specs.Transitions.{Takes, Transition, CfisSuccess, DrOverflow, ErrFatal, PioEntry, PioUpdate, RegFisEntry, RegFisPostToMem, RegFisUpdate, SdbEntry, SelectCmd, SrstCleared, SrstSet, Stuck, after, after_all}
+use Rattle.ahci_hba.specs.Transitions.{Takes, Transition, CfisSuccess, DrOverflow, ErrFatal, PioEntry, PioUpdate, RegFisEntry, RegFisPostToMem, RegFisUpdate, SdbEntry, SelectCmd, SrstCleared, SrstSet, Stuck, UnknownFis, after, after_all}
 use Rattle.ahci_hba.specs.declared.ending.Ending.{Ending}
 use Rattle.ahci_hba.specs.declared.last_fis.LastFis.{LastFis}
 use Rattle.ahci_hba.specs.declared.last_fis.LastFis.TheVariants as last_fis
@@ -51,6 +51,7 @@ ends_by s (last_fis.Bits status error sactive) = one s (SdbEntry status error tr
 ends_by s (last_fis.Pio slot) =
     both s (setup_taken s) _ (one s (PioEntry 0x48 0)) (one (setup_taken s) (PioUpdate 0x40 true slot))
 ends_by s last_fis.Signature = takes_signature s (signature_moves s.port s.port.signature) s.port.signature refl
+ends_by s last_fis.Unknown = one s UnknownFis
 
 ends : (s : HbaState) (e : Ending) → Takes s (ended s e)
 ends s e = both s (overflowed s e.overflow) _ (overflows s e.overflow) (ends_by (overflowed s e.overflow) e.fis)

@@ -8,6 +8,7 @@ pub mod Dropping
 pub mod PoweringOn
 pub mod Delivering
 pub mod Failing
+pub mod Events
 pub mod Executing
 pub mod Resetting
 pub mod Recovering

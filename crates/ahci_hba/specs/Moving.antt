@@ -4,6 +4,7 @@ use Rattle.hba_memory.specs.Posting.{PostingView, advanced, is_none, remaining}
 use Rattle.hba_memory.specs.Reading.{ReadingView, Whole, Malformed, Short, after_bytes, allocates, next_run, no_run}
 use Rattle.hba_memory.specs.Runs.{Put, Run, first_put}
 use Rattle.hba_regs.specs.HbaState.{HbaState}
+use Rattle.hba_regs.specs.InterfaceErrors.{unknown_received}
 use Rattle.hba_regs.specs.PortStates.{cfis_success, dr_overflow, err_fatal, pio_entry, pio_update, reg_fis_entry, sdb_entry, stuck}
 use Rattle.hba_regs.specs.Receiving.{moved, signature_moves, signed}
 use Rattle.hba_regs.specs.declared.fatal.Fatal.{Fatal}
@@ -100,6 +101,7 @@ ended_by s (last_fis.Register status error i slot) = moved s (reg_fis_entry stat
 ended_by s (last_fis.Bits status error sactive) = moved s (sdb_entry status error true sactive s.port)
 ended_by s (last_fis.Pio slot) = after_data_in (moved s (pio_entry 0x48 0 s.port)) slot
 ended_by s last_fis.Signature = if signature_moves s.port s.port.signature then moved s (signed s.port s.port.signature) else s
+ended_by s last_fis.Unknown = moved s (unknown_received s.port)
 
 abbrev pub ended : HbaState → Ending → HbaState
 ended s e = ended_by (overflowed s e.overflow) e.fis

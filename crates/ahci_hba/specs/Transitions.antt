@@ -3,6 +3,7 @@
 use Rattle.std.specs.Prelude.{◌≡◌, ℕ, Bool, true, false, not, ◌&&◌, nat_eq, List, [], ◌∷◌}
 use Rattle.word_bits.specs.Places.{bits, has_place}
 use Rattle.hba_regs.specs.HbaState.{HbaPort, HbaState}
+use Rattle.hba_regs.specs.InterfaceErrors.{unknown_received}
 use Rattle.hba_regs.specs.PortStates.{bsy_or_drq_of, cfis_success, dr_overflow, err_fatal, err_of, p_reg_fis_post_to_mem, p_reg_fis_update, p_select_cmd, pio_entry, pio_update, reg_fis_entry, sdb_entry, stuck}
 use Rattle.hba_regs.specs.Receiving.{after_srst_cleared, after_srst_set, moved}
 use Rattle.hba_regs.specs.declared.fatal.Fatal.{Fatal}
@@ -35,6 +36,8 @@ pub data Transition : Type 0 where
   -- CFIS:Success of a control FIS: SRST is set in the device, or cleared
   SrstSet : Transition
   SrstCleared : (slot : ℕ) → Transition
+  -- NDR:Accept to the UFIS states
+  UnknownFis : Transition
 
 abbrev pub after : Transition → HbaPort → HbaPort
 after (SelectCmd slot) p = p_select_cmd slot p
@@ -50,6 +53,7 @@ after RegFisUpdate p = p_reg_fis_update p
 after RegFisPostToMem p = p_reg_fis_post_to_mem p
 after SrstSet p = after_srst_set p
 after (SrstCleared slot) p = after_srst_cleared p slot p.soft
+after UnknownFis p = unknown_received p
 
 -- the registers after some transitions, one after the other
 abbrev pub after_all : List Transition → HbaState → HbaState

@@ -2,6 +2,7 @@
 
 mod answering;
 mod delivering;
+mod events;
 mod executing;
 mod failing;
 mod fetching;

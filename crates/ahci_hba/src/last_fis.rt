@@ -22,4 +22,6 @@ pub enum LastFis {
     },
     /// The device's signature, in a D2H Register FIS.
     Signature,
+    /// A FIS of a type that isn't known.
+    Unknown,
 }

@@ -2,6 +2,7 @@
 ghost use Rattle.std.specs.Prelude.{◌≡◌, ◌<◌, ◌&&◌, ℕ, List, Option, None, Some, not, true, false};
 ghost use Rattle.std.specs.List.{list_any};
 ghost use Rattle.word_bits.specs.Places.{has_place};
+ghost use Rattle.hba_regs.specs.Linking.{is_up};
 ghost use Rattle.hba_regs.specs.PortStates.{p_idle_selects};
 ghost use Rattle.hba_command.specs.declared.power.Power.TheVariants.{Sleep};
 ghost use Rattle.ncq_journal.specs.History.{History};
@@ -40,13 +41,19 @@ pub fn a_halted_port_takes_no_step<A: Allocator, S: SectorStore>(hba: &Hba<A, S>
     ensures { (slot : ℕ) → next_step hba.now slot ≡ None }
 {}
 
+/// Without a link no slot has a step: neither once it is lost nor while the disk is unplugged.
+pub fn a_port_without_a_link_takes_no_step<A: Allocator, S: SectorStore>(hba: &Hba<A, S>)
+    requires { is_up hba.now.registers.port.link ≡ false }
+    ensures { (slot : ℕ) → next_step hba.now slot ≡ None }
+{}
+
 /// After power-on no slot has a step, whatever commands there were.
 pub fn no_slot_has_a_step_after_power_on<A: Allocator, S: SectorStore>(hba: &Hba<A, S>)
     ensures { (slot : ℕ) → next_step (powered_on hba.now) slot ≡ None }
 {}
 
-/// The device moves registers by the transitions of section 5.3 and by nothing else, whatever step it takes. `Hba::write` and
-/// `Hba::power_on` are no moves of the device: `state` of each names the registers that it leaves.
+/// The device moves registers by the transitions of section 5.3 and by nothing else, whatever step it takes. `Hba::write`,
+/// `Hba::power_on` and the events of the link and of the interface are no steps of the device: the contract of each names the registers that it leaves.
 pub fn a_step_takes_transitions<A: Allocator, S: SectorStore>(
     old: &Hba<A, S>,
     new: &Hba<A, S>,

@@ -1,5 +1,5 @@
 -- Lemmas on pending interrupts.
-use Rattle.std.proofs.Common.{◌≡◌, ◌≢◌, ℕ, zero, suc, ◌<◌, Bool, true, false, not, ◌&&◌, ◌||◌, List, [], ◌∷◌, length, ◌∙◌, refl, sym, ap, nat_eq, arith}
+use Rattle.std.proofs.Common.{◌≡◌, ◌≢◌, ℕ, zero, suc, ◌<◌, Bool, true, false, not, ◌&&◌, ◌||◌, if◌then◌else◌, List, [], ◌∷◌, length, ◌∙◌, refl, sym, ap, nat_eq, arith}
 use Rattle.word_bits.specs.Places.{bits, no_places, intersection, word_of, has_place}
 use Rattle.std.proofs.lemmas.Bool.{ne_eqb}
 use Rattle.word_bits.proofs.PlacesLemmas.{has_place-no_places, has_place-with_same, has_place-with_other, length-with_place, and_false}
@@ -34,8 +34,12 @@ pending_of_some s t i h k =
     let b : 0 < word_of (intersection s t) = some_met s t i h k in
     ap not (ne_eqb (word_of (intersection s t)) 0 (omega (arith, b)))
 
-pub pending-reset : (c : CapFields) (clb fb : ℕ) → is_pending (reset_port c clb fb) ≡ false
-pending-reset c clb fb = pending_of_none (interrupts (reset_port c clb fb)) no_places (λ i. ap (λ b. has_place (interrupts (reset_port c clb fb)) i && b) (has_place-no_places i) ∙ and_false _)
+pub either : (b : Bool) (p q : HbaPort) (P : HbaPort → Type 0) → P p → P q → P (if b then p else q)
+either true p q P h k = h
+either false p q P h k = k
+
+pub pending-reset : (present : Bool) (c : CapFields) (clb fb : ℕ) → is_pending (reset_port present c clb fb) ≡ false
+pending-reset present c clb fb = pending_of_none (interrupts (reset_port present c clb fb)) no_places (λ i. ap (λ b. has_place (interrupts (reset_port present c clb fb)) i && b) (has_place-no_places i) ∙ and_false _)
 
 -- ---- PCS and PRCS
 
@@ -51,13 +55,30 @@ raised_elsewhere : (b : Bool) (s : List Bool) (place i : ℕ) → i ≢ place �
 raised_elsewhere true s place i n = has_place-with_other s place i n
 raised_elsewhere false s place i n = refl
 
+-- PxIS without PCS and PRCS, and without PCS
+abbrev no_prcs : HbaPort → List Bool
+no_prcs p = raised (has_place p.serr 25) 4 p.is
+
+abbrev no_pcs : HbaPort → List Bool
+no_pcs p = raised (has_place p.serr 16) 22 (no_prcs p)
+
+length-no_prcs : (p : HbaPort) → length (no_prcs p) ≡ length p.is
+length-no_prcs p = length-raised (has_place p.serr 25) 4 p.is
+
 pub pcs_of_serr : (p : HbaPort) → length p.is ≡ 32 → IsKept p.is → has_place (interrupts p) 6 ≡ has_place p.serr 26
-pcs_of_serr p l h = raised_alone (has_place p.serr 26) (raised (has_place p.serr 16) 22 p.is) 6 (omega (arith, length-raised (has_place p.serr 16) 22 p.is))
-    (raised_elsewhere (has_place p.serr 16) p.is 22 6 (omega arith) ∙ h.no_pcs)
+pcs_of_serr p l h =
+    raised_alone (has_place p.serr 26) (no_pcs p) 6 (omega (arith, l, length-no_prcs p, length-raised (has_place p.serr 16) 22 (no_prcs p)))
+    (raised_elsewhere (has_place p.serr 16) (no_prcs p) 22 6 (omega arith) ∙ raised_elsewhere (has_place p.serr 25) p.is 4 6 (omega arith) ∙ h.no_pcs)
 
 pub prcs_of_serr : (p : HbaPort) → length p.is ≡ 32 → IsKept p.is → has_place (interrupts p) 22 ≡ has_place p.serr 16
-prcs_of_serr p l h = raised_elsewhere (has_place p.serr 26) (raised (has_place p.serr 16) 22 p.is) 6 22 (omega arith)
-    ∙ raised_alone (has_place p.serr 16) p.is 22 (omega arith) h.no_prcs
+prcs_of_serr p l h =
+    raised_elsewhere (has_place p.serr 26) (no_pcs p) 6 22 (omega arith)
+    ∙ raised_alone (has_place p.serr 16) (no_prcs p) 22 (omega (arith, l, length-no_prcs p)) (raised_elsewhere (has_place p.serr 25) p.is 4 22 (omega arith) ∙ h.no_prcs)
+
+pub ufs_of_serr : (p : HbaPort) → length p.is ≡ 32 → IsKept p.is → has_place (interrupts p) 4 ≡ has_place p.serr 25
+ufs_of_serr p l h =
+    raised_elsewhere (has_place p.serr 26) (no_pcs p) 6 4 (omega arith) ∙ raised_elsewhere (has_place p.serr 16) (no_prcs p) 22 4 (omega arith)
+    ∙ raised_alone (has_place p.serr 25) p.is 4 (omega (arith, l)) h.no_ufs
 
 -- ---- IS
 

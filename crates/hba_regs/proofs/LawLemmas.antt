@@ -18,7 +18,7 @@ use Rattle.hba_regs.specs.declared.link.Link.{Link}
 use Rattle.hba_regs.specs.declared.link.Link.TheVariants.{Up, Listening, InReset, Offline}
 use Rattle.hba_regs.specs.declared.register.Register.{Register}
 use Rattle.hba_regs.specs.declared.register.Register.TheVariants.{Ghc, Is, PxClb, PxClbu, PxFb, PxFbu, PxIs, PxIe, PxCmd, PxSctl, PxSerr, PxSact, PxCi}
-use Rattle.hba_regs.proofs.InterruptLemmas.{pending-reset, settled_again}
+use Rattle.hba_regs.proofs.InterruptLemmas.{either, pending-reset, settled_again}
 
 -- ---- bytes of a word
 
@@ -70,20 +70,16 @@ eight_as_two s off lower upper e h k =
 
 -- ---- GHC
 
-pub reset_by_hr : (s : HbaState) (value : ℕ) → has_place (bits value) 0 ≡ true → settled (with_ghc s value) ≡ reset_with s.port.capabilities s.port.clb s.port.fb
+pub reset_by_hr : (s : HbaState) (value : ℕ) → has_place (bits value) 0 ≡ true → settled (with_ghc s value) ≡ reset_with s.port.present s.port.capabilities s.port.clb s.port.fb
 reset_by_hr s value e =
-    ap (λ b. settled (if b then reset_with s.port.capabilities s.port.clb s.port.fb else record s { ghc_ie = has_place (bits value) 1 })) e
-    ∙ ap (λ b. record (reset_with s.port.capabilities s.port.clb s.port.fb) { ips = b }) (pending-reset s.port.capabilities s.port.clb s.port.fb)
+    ap (λ b. settled (if b then reset_with s.port.present s.port.capabilities s.port.clb s.port.fb else record s { ghc_ie = has_place (bits value) 1 })) e
+    ∙ ap (λ b. record (reset_with s.port.present s.port.capabilities s.port.clb s.port.fb) { ips = b }) (pending-reset s.port.present s.port.capabilities s.port.clb s.port.fb)
 
 -- ---- commands that stay
 
 sent_on : (b : Bool) (s : List Bool) (i : ℕ) → (if b then Stopped else Nothing) ≡ Nothing → has_place s i ≡ true → has_place (remaining b s) i ≡ true
 sent_on true s i e h = cc
 sent_on false s i e h = h
-
-either : (b : Bool) (p q : HbaPort) (P : HbaPort → Type 0) → P p → P q → P (if b then p else q)
-either true p q P h k = h
-either false p q P h k = k
 
 -- a link that doesn't go down keeps the commands
 linked : (p : HbaPort) (was next : Link) → (if goes_down was next then LinkReset else Nothing) ≡ Nothing
@@ -108,7 +104,7 @@ linked p Offline InReset e = cc
 -- a device that isn't reset by SUD keeps them too
 spun_kept : (p : HbaPort) (link : Link) → is_up link ≡ false → ((spun_up p link).sact ≡ p.sact) × ((spun_up p link).ci ≡ p.ci)
 spun_kept p Up e = cc
-spun_kept p Listening e = (refl, refl)
+spun_kept p Listening e = either p.present (came_up p) p (λ q. (q.sact ≡ p.sact) × (q.ci ≡ p.ci)) (refl, refl) (refl, refl)
 spun_kept p InReset e = (refl, refl)
 spun_kept p Offline e = (refl, refl)
 
@@ -135,7 +131,7 @@ reset_kept false s t P e h = h
 pub sact_stays : (s : HbaState) (value : ℕ) (r : Register) → consequence_of s value r ≡ Nothing → (i : ℕ) → has_place s.port.sact i ≡ true
     → has_place (changed s value r).port.sact i ≡ true
 sact_stays s value Ghc e i h =
-    reset_kept (has_place (bits value) 0) (reset_with s.port.capabilities s.port.clb s.port.fb) (record s { ghc_ie = has_place (bits value) 1 }) (λ t. has_place t.port.sact i ≡ true) e h
+    reset_kept (has_place (bits value) 0) (reset_with s.port.present s.port.capabilities s.port.clb s.port.fb) (record s { ghc_ie = has_place (bits value) 1 }) (λ t. has_place t.port.sact i ≡ true) e h
 sact_stays s value PxClb e i h = either s.port.st s.port _ (λ p. has_place p.sact i ≡ true) h h
 sact_stays s value PxClbu e i h =
     either s.port.capabilities.s64a _ s.port (λ p. has_place p.sact i ≡ true) (either s.port.st s.port _ (λ p. has_place p.sact i ≡ true) h h) h
@@ -147,7 +143,7 @@ sact_stays s value PxCmd e i h =
     ap (λ x. has_place x i) (powered_kept (commanded_by s.port value) (has_place (bits value) 1) (has_place (bits value) 26) (has_place (bits value) 27) d.0).0
     ∙ sent_on (s.port.st && not (has_place (bits value) 0)) s.port.sact i d.1 h
 sact_stays s value PxSctl e i h =
-    ap (λ x. has_place x i) (linked (record s.port { sctl = value % 2 ^ 12 }) s.port.link (asked_link (value % 2 ^ 4) s.port.sud s.port.link) e).0 ∙ h
+    ap (λ x. has_place x i) (linked (record s.port { sctl = value % 2 ^ 12 }) s.port.link (asked_link (value % 2 ^ 4) s.port.present s.port.sud s.port.link) e).0 ∙ h
 sact_stays s value PxSact e i h = either s.port.st _ s.port (λ p. has_place p.sact i ≡ true) (has_place-union s.port.sact (only_below s.port.capabilities.ncs (bits value)) i ∙ ap (λ x. x || has_place (only_below s.port.capabilities.ncs (bits value)) i) h) h
 sact_stays s value PxCi e i h = either s.port.st _ s.port (λ p. has_place p.sact i ≡ true) h h
 sact_stays s value r e i h = h
@@ -155,7 +151,7 @@ sact_stays s value r e i h = h
 pub ci_stays : (s : HbaState) (value : ℕ) (r : Register) → consequence_of s value r ≡ Nothing → (i : ℕ) → has_place s.port.ci i ≡ true
     → has_place (changed s value r).port.ci i ≡ true
 ci_stays s value Ghc e i h =
-    reset_kept (has_place (bits value) 0) (reset_with s.port.capabilities s.port.clb s.port.fb) (record s { ghc_ie = has_place (bits value) 1 }) (λ t. has_place t.port.ci i ≡ true) e h
+    reset_kept (has_place (bits value) 0) (reset_with s.port.present s.port.capabilities s.port.clb s.port.fb) (record s { ghc_ie = has_place (bits value) 1 }) (λ t. has_place t.port.ci i ≡ true) e h
 ci_stays s value PxClb e i h = either s.port.st s.port _ (λ p. has_place p.ci i ≡ true) h h
 ci_stays s value PxClbu e i h =
     either s.port.capabilities.s64a _ s.port (λ p. has_place p.ci i ≡ true) (either s.port.st s.port _ (λ p. has_place p.ci i ≡ true) h h) h
@@ -167,7 +163,7 @@ ci_stays s value PxCmd e i h =
     ap (λ x. has_place x i) (powered_kept (commanded_by s.port value) (has_place (bits value) 1) (has_place (bits value) 26) (has_place (bits value) 27) d.0).1
     ∙ sent_on (s.port.st && not (has_place (bits value) 0)) s.port.ci i d.1 h
 ci_stays s value PxSctl e i h =
-    ap (λ x. has_place x i) (linked (record s.port { sctl = value % 2 ^ 12 }) s.port.link (asked_link (value % 2 ^ 4) s.port.sud s.port.link) e).1 ∙ h
+    ap (λ x. has_place x i) (linked (record s.port { sctl = value % 2 ^ 12 }) s.port.link (asked_link (value % 2 ^ 4) s.port.present s.port.sud s.port.link) e).1 ∙ h
 ci_stays s value PxSact e i h = either s.port.st _ s.port (λ p. has_place p.ci i ≡ true) h h
 ci_stays s value PxCi e i h = either s.port.st _ s.port (λ p. has_place p.ci i ≡ true) (has_place-union s.port.ci (only_below s.port.capabilities.ncs (bits value)) i ∙ ap (λ x. x || has_place (only_below s.port.capabilities.ncs (bits value)) i) h) h
 ci_stays s value r e i h = h
@@ -182,7 +178,7 @@ spun_dropped : (p : HbaPort) (link : Link) (stops : Bool) (s t : List Bool) → 
     → (if is_up link then LinkReset else if stops then Stopped else Nothing) ≢ Nothing
     → ((spun_up p link).sact ≡ no_places) × ((spun_up p link).ci ≡ no_places)
 spun_dropped p Up stops s t e f n = (refl, refl)
-spun_dropped p Listening true s t e f n = (e, f)
+spun_dropped p Listening true s t e f n = either p.present (came_up p) p (λ q. (q.sact ≡ no_places) × (q.ci ≡ no_places)) (e, f) (e, f)
 spun_dropped p InReset true s t e f n = (e, f)
 spun_dropped p Offline true s t e f n = (e, f)
 spun_dropped p Listening false s t e f n = absurd (n refl)
@@ -216,7 +212,7 @@ link_dropped p Listening Offline n = (refl, refl)
 link_dropped p InReset Offline n = (refl, refl)
 
 -- PxCMD without SUD, ALPE and ASP, and the port before SUD has its effect
-abbrev next_power : HbaPort → ℕ → HbaPort
+abbrev pub next_power : HbaPort → ℕ → HbaPort
 next_power p value =
     record (commanded_by p value) {
       sud = not p.capabilities.sss || has_place (bits value) 1;
@@ -227,12 +223,12 @@ next_power p value =
 pub all_dropped : (s : HbaState) (value : ℕ) (r : Register) → consequence_of s value r ≢ Nothing
     → ((changed s value r).port.sact ≡ no_places) × ((changed s value r).port.ci ≡ no_places)
 all_dropped s value Ghc n =
-    reset_dropped (has_place (bits value) 0) (reset_with s.port.capabilities s.port.clb s.port.fb) (record s { ghc_ie = has_place (bits value) 1 })
+    reset_dropped (has_place (bits value) 0) (reset_with s.port.present s.port.capabilities s.port.clb s.port.fb) (record s { ghc_ie = has_place (bits value) 1 })
     (λ t. (t.port.sact ≡ no_places) × (t.port.ci ≡ no_places)) n (refl, refl)
 all_dropped s value PxCmd n =
     command_dropped (spins_up s.port value) (next_power s.port value) (s.port.st && not (has_place (bits value) 0)) s.port.sact s.port.ci refl refl n
 all_dropped s value PxSctl n =
-    link_dropped (record s.port { sctl = value % 2 ^ 12 }) s.port.link (asked_link (value % 2 ^ 4) s.port.sud s.port.link) n
+    link_dropped (record s.port { sctl = value % 2 ^ 12 }) s.port.link (asked_link (value % 2 ^ 4) s.port.present s.port.sud s.port.link) n
 all_dropped s value r n = absurd (n refl)
 
 -- ---- a port that is stopped
@@ -240,7 +236,8 @@ all_dropped s value r n = absurd (n refl)
 spun_none : (p : HbaPort) (link : Link) → p.sact ≡ no_places → p.ci ≡ no_places → p.halted ≡ false
     → ((spun_up p link).sact ≡ no_places) × (((spun_up p link).ci ≡ no_places) × ((spun_up p link).halted ≡ false))
 spun_none p Up e f g = (refl, (refl, refl))
-spun_none p Listening e f g = (e, (f, g))
+spun_none p Listening e f g =
+    either p.present (came_up p) p (λ q. (q.sact ≡ no_places) × ((q.ci ≡ no_places) × (q.halted ≡ false))) (e, (f, g)) (e, (f, g))
 spun_none p InReset e f g = (e, (f, g))
 spun_none p Offline e f g = (e, (f, g))
 
@@ -271,7 +268,7 @@ all_stopped s value h e =
 
 spun_can : (p : HbaPort) (link : Link) → (spun_up p link).capabilities ≡ p.capabilities
 spun_can p Up = refl
-spun_can p Listening = refl
+spun_can p Listening = either p.present (came_up p) p (λ q. q.capabilities ≡ p.capabilities) refl refl
 spun_can p InReset = refl
 spun_can p Offline = refl
 
@@ -303,7 +300,7 @@ reset_can false s t P h k = k
 
 pub can_stays : (s : HbaState) (value : ℕ) (r : Register) → (changed s value r).port.capabilities ≡ s.port.capabilities
 can_stays s value Ghc =
-    reset_can (has_place (bits value) 0) (reset_with s.port.capabilities s.port.clb s.port.fb) (record s { ghc_ie = has_place (bits value) 1 })
+    reset_can (has_place (bits value) 0) (reset_with s.port.present s.port.capabilities s.port.clb s.port.fb) (record s { ghc_ie = has_place (bits value) 1 })
     (λ t. t.port.capabilities ≡ s.port.capabilities) refl refl
 can_stays s value PxClb = either s.port.st s.port _ (λ p. p.capabilities ≡ s.port.capabilities) refl refl
 can_stays s value PxClbu =
@@ -312,7 +309,7 @@ can_stays s value PxFb = either s.port.fre s.port _ (λ p. p.capabilities ≡ s.
 can_stays s value PxFbu =
     either s.port.capabilities.s64a _ s.port (λ p. p.capabilities ≡ s.port.capabilities) (either s.port.fre s.port _ (λ p. p.capabilities ≡ s.port.capabilities) refl refl) refl
 can_stays s value PxCmd = power_can (spins_up s.port value) (next_power s.port value)
-can_stays s value PxSctl = link_can (record s.port { sctl = value % 2 ^ 12 }) s.port.link (asked_link (value % 2 ^ 4) s.port.sud s.port.link)
+can_stays s value PxSctl = link_can (record s.port { sctl = value % 2 ^ 12 }) s.port.link (asked_link (value % 2 ^ 4) s.port.present s.port.sud s.port.link)
 can_stays s value PxSact = either s.port.st _ s.port (λ p. p.capabilities ≡ s.port.capabilities) refl refl
 can_stays s value PxCi = either s.port.st _ s.port (λ p. p.capabilities ≡ s.port.capabilities) refl refl
 can_stays s value r = refl
@@ -329,11 +326,11 @@ pub still_waits : (p : HbaPort) (value : ℕ) → p.link ≡ Listening → p.sud
 still_waits p value l e f b =
     ap (λ x. (if x then spun_up (next_power p value) p.link else next_power p value).link) (edge p.sud p.capabilities.sss (has_place (bits value) 1) e f ∙ b) ∙ l
 
-pub spins : (p : HbaPort) (value : ℕ) → p.link ≡ Listening → p.sud ≡ false → p.capabilities.sss ≡ true → has_place (bits value) 1 ≡ true
+pub spins : (p : HbaPort) (value : ℕ) → p.present ≡ true → p.link ≡ Listening → p.sud ≡ false → p.capabilities.sss ≡ true → has_place (bits value) 1 ≡ true
     → with_command p value ≡ came_up (next_power p value)
-spins p value l e f b =
+spins p value d l e f b =
     ap (λ x. if x then spun_up (next_power p value) p.link else next_power p value) (edge p.sud p.capabilities.sss (has_place (bits value) 1) e f ∙ b)
-    ∙ ap (spun_up (next_power p value)) l
+    ∙ ap (spun_up (next_power p value)) l ∙ ap (λ x. if x then came_up (next_power p value) else next_power p value) d
 
 -- ---- what was read, written back
 
@@ -511,7 +508,7 @@ control_back p h =
 ghc_back : (s : HbaState) → with_ghc s (2 ^ 31 + bit_word s.ghc_ie 1) ≡ s
 ghc_back s =
     let b = ghc_word s.ghc_ie in
-    ap (λ x. if x then reset_with s.port.capabilities s.port.clb s.port.fb else record s { ghc_ie = has_place (bits (2 ^ 31 + bit_word s.ghc_ie 1)) 1 }) b.0 ∙ ap (λ x. record s { ghc_ie = x }) b.1
+    ap (λ x. if x then reset_with s.port.present s.port.capabilities s.port.clb s.port.fb else record s { ghc_ie = has_place (bits (2 ^ 31 + bit_word s.ghc_ie 1)) 1 }) b.0 ∙ ap (λ x. record s { ghc_ie = x }) b.1
 
 changed_back : (s : HbaState) (r : Register) → takes_ones r ≡ false → (s.port.halted && not s.port.st) ≡ false → IsLawful s.port → HasWords s.port
     → changed s (word_at s r) r ≡ s

@@ -1,3 +1,4 @@
+pub mod EventLemmas
 pub mod InterruptLemmas
 pub mod LawLemmas
 pub mod StateLemmas

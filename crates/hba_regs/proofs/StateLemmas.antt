@@ -7,7 +7,7 @@ use Rattle.word_bits.proofs.PlacesLemmas.{same_sets, length-intersection, has_pl
 use Rattle.word_bits.proofs.BitsLemmas.{bits_and, bits_zero}
 use Rattle.hba_regs.specs.HbaState.{IsBelow, IsKept, IsPowered, asked_link, enables, spun_link}
 use Rattle.hba_regs.specs.CapFields.{CapFields}
-use Rattle.hba_regs.specs.Interrupts.{raised, place_of, tfes}
+use Rattle.hba_regs.specs.Interrupts.{raised, place_of}
 use Rattle.hba_regs.specs.PortStates.{ended_by_signature}
 use Rattle.hba_regs.specs.Linking.{is_free_link}
 use Rattle.hba_regs.specs.Writing.{remaining}
@@ -21,27 +21,31 @@ use Rattle.hba_regs.specs.declared.fatal.Fatal.TheVariants.{HostBusFatal, HostBu
 -- ---- PxIS
 
 pub kept-none : IsKept no_places
-kept-none = record { no_pcs = has_place-no_places 6; no_prcs = has_place-no_places 22 }
+kept-none = record { no_ufs = has_place-no_places 4; no_pcs = has_place-no_places 6; no_prcs = has_place-no_places 22 }
 
 gone : (s t : List Bool) (i : ℕ) → has_place s i ≡ false → has_place (minus s t) i ≡ false
 gone s t i e = has_place-minus s t i ∙ ap (λ x. x && not (has_place t i)) e
 
 pub kept-minus : (s t : List Bool) → IsKept s → IsKept (minus s t)
-kept-minus s t h = record { no_pcs = gone s t 6 h.no_pcs; no_prcs = gone s t 22 h.no_prcs }
+kept-minus s t h = record { no_ufs = gone s t 4 h.no_ufs; no_pcs = gone s t 6 h.no_pcs; no_prcs = gone s t 22 h.no_prcs }
 
--- a place other than PCS and PRCS
-pub kept-with : (s : List Bool) (place : ℕ) → 6 ≢ place → 22 ≢ place → IsKept s → IsKept (with_place s place)
-kept-with s place p q h =
-    record { no_pcs = has_place-with_other s place 6 p ∙ h.no_pcs; no_prcs = has_place-with_other s place 22 q ∙ h.no_prcs }
+-- a place other than UFS, PCS and PRCS
+pub kept-with : (s : List Bool) (place : ℕ) → 4 ≢ place → 6 ≢ place → 22 ≢ place → IsKept s → IsKept (with_place s place)
+kept-with s place u p q h =
+    record {
+      no_ufs = has_place-with_other s place 4 u ∙ h.no_ufs;
+      no_pcs = has_place-with_other s place 6 p ∙ h.no_pcs;
+      no_prcs = has_place-with_other s place 22 q ∙ h.no_prcs;
+    }
 
-pub kept-raised : (b : Bool) (s : List Bool) (place : ℕ) → 6 ≢ place → 22 ≢ place → IsKept s → IsKept (raised b place s)
-kept-raised true s place p q h = kept-with s place p q h
-kept-raised false s place p q h = h
+pub kept-raised : (b : Bool) (s : List Bool) (place : ℕ) → 4 ≢ place → 6 ≢ place → 22 ≢ place → IsKept s → IsKept (raised b place s)
+kept-raised true s place u p q h = kept-with s place u p q h
+kept-raised false s place u p q h = h
 
 pub kept-fatal : (s : List Bool) (fatal : Fatal) → IsKept s → IsKept (with_place s (place_of fatal))
-kept-fatal s HostBusFatal h = kept-with s 29 (omega arith) (omega arith) h
-kept-fatal s HostBusData h = kept-with s 28 (omega arith) (omega arith) h
-kept-fatal s Interface h = kept-with s 27 (omega arith) (omega arith) h
+kept-fatal s HostBusFatal h = kept-with s 29 (omega arith) (omega arith) (omega arith) h
+kept-fatal s HostBusData h = kept-with s 28 (omega arith) (omega arith) (omega arith) h
+kept-fatal s Interface h = kept-with s 27 (omega arith) (omega arith) (omega arith) h
 
 -- ---- commands
 
@@ -101,6 +105,10 @@ and_none : (b : Bool) → (b && false) ≡ false
 and_none true = refl
 and_none false = refl
 
+pub or_twice : (b : Bool) → (b || b) ≡ b
+or_twice true = refl
+or_twice false = refl
+
 pub or_true : (b : Bool) → (b || true) ≡ true
 or_true true = refl
 or_true false = refl
@@ -124,56 +132,63 @@ and_kept a b r e = ap (λ x. a && x) e ∙ and_twice a b ∙ sym e
 
 -- ---- the link
 
-spun : (later : Bool) → spun_link later Up ≡ Up
-spun true = refl
-spun false = refl
+-- one that DET asks for stays so with any device and any SUD
+asked_by : (a b c present later sud next : Bool) (link : Link) → (if a then spun_link present sud link else if b then InReset else if c then Offline else link) ≡ link
+    → (if a then spun_link later next link else if b then InReset else if c then Offline else link) ≡ link
+asked_by true b c present later sud next Up e = refl
+asked_by true b c present later sud next Listening e = refl
+asked_by true b c true later true next InReset e = cc
+asked_by true b c true later false next InReset e = cc
+asked_by true b c false later sud next InReset e = cc
+asked_by true b c true later true next Offline e = cc
+asked_by true b c true later false next Offline e = cc
+asked_by true b c false later sud next Offline e = cc
+asked_by false b c present later sud next link e = e
 
--- a link that is up or listens may come up, whatever DET is
-come_up_by : (a b c sud later : Bool) (link : Link) → (if a then spun_link sud link else if b then InReset else if c then Offline else link) ≡ link
-    → is_free_link link ≡ true → (if a then spun_link later Up else if b then InReset else if c then Offline else Up) ≡ Up
-come_up_by true b c sud later link e f = spun later
-come_up_by false true c sud later Up e f = cc
-come_up_by false true c sud later Listening e f = cc
-come_up_by false true c sud later InReset e f = cc
-come_up_by false true c sud later Offline e f = cc
-come_up_by false false true sud later Up e f = cc
-come_up_by false false true sud later Listening e f = cc
-come_up_by false false true sud later InReset e f = cc
-come_up_by false false true sud later Offline e f = cc
-come_up_by false false false sud later link e f = refl
+pub stays_asked : (det : ℕ) (present later sud next : Bool) (link : Link) → asked_link det present sud link ≡ link → asked_link det later next link ≡ link
+stays_asked det present later sud next link e = asked_by (nat_eq det 0) (nat_eq det 1) (nat_eq det 4) present later sud next link e
 
-pub may_come_up : (det : ℕ) (sud later : Bool) (link : Link) → asked_link det sud link ≡ link → is_free_link link ≡ true → asked_link det later Up ≡ Up
-may_come_up det sud later link e f = come_up_by (nat_eq det 0) (nat_eq det 1) (nat_eq det 4) sud later link e f
+-- a link that is up or listens may come up, and be lost, whatever DET is
+free_by : (a b c present later sud next : Bool) (link other : Link) → (if a then spun_link present sud link else if b then InReset else if c then Offline else link) ≡ link
+    → is_free_link link ≡ true → is_free_link other ≡ true
+    → (if a then spun_link later next other else if b then InReset else if c then Offline else other) ≡ other
+free_by true b c present later sud next link Up e f g = refl
+free_by true b c present later sud next link Listening e f g = refl
+free_by true b c present later sud next link InReset e f g = cc
+free_by true b c present later sud next link Offline e f g = cc
+free_by false true c present later sud next Up other e f g = cc
+free_by false true c present later sud next Listening other e f g = cc
+free_by false true c present later sud next InReset other e f g = cc
+free_by false true c present later sud next Offline other e f g = cc
+free_by false false true present later sud next Up other e f g = cc
+free_by false false true present later sud next Listening other e f g = cc
+free_by false false true present later sud next InReset other e f g = cc
+free_by false false true present later sud next Offline other e f g = cc
+free_by false false false present later sud next link other e f g = refl
 
--- one that is not stays
-held_by : (a b c sud later : Bool) (link : Link) → (if a then spun_link sud link else if b then InReset else if c then Offline else link) ≡ link
-    → is_free_link link ≡ false → (if a then spun_link later link else if b then InReset else if c then Offline else link) ≡ link
-held_by true b c sud later Up e f = cc
-held_by true b c sud later Listening e f = cc
-held_by true b c true later InReset e f = cc
-held_by true b c false later InReset e f = cc
-held_by true b c true later Offline e f = cc
-held_by true b c false later Offline e f = cc
-held_by false b c sud later link e f = e
+pub may_come_up : (det : ℕ) (present later sud next : Bool) (link : Link) → asked_link det present sud link ≡ link → is_free_link link ≡ true
+    → asked_link det later next Up ≡ Up
+may_come_up det present later sud next link e f = free_by (nat_eq det 0) (nat_eq det 1) (nat_eq det 4) present later sud next link Up e f refl
 
-pub stays_held : (det : ℕ) (sud later : Bool) (link : Link) → asked_link det sud link ≡ link → is_free_link link ≡ false → asked_link det later link ≡ link
-stays_held det sud later link e f = held_by (nat_eq det 0) (nat_eq det 1) (nat_eq det 4) sud later link e f
+pub may_listen : (det : ℕ) (present later sud next : Bool) (link : Link) → asked_link det present sud link ≡ link → is_free_link link ≡ true
+    → asked_link det later next Listening ≡ Listening
+may_listen det present later sud next link e f = free_by (nat_eq det 0) (nat_eq det 1) (nat_eq det 4) present later sud next link Listening e f refl
 
--- and so does any one if SUD doesn't go from 0 to 1
-linked_by : (a b c sud later : Bool) (link : Link) → (not sud && later) ≡ false
-    → (if a then spun_link sud link else if b then InReset else if c then Offline else link) ≡ link
-    → (if a then spun_link later link else if b then InReset else if c then Offline else link) ≡ link
-linked_by false b c sud later link n e = e
-linked_by true b c true true link n e = e
-linked_by true b c true false Up n e = refl
-linked_by true b c true false Listening n e = cc
-linked_by true b c true false InReset n e = cc
-linked_by true b c true false Offline n e = cc
-linked_by true b c false true link n e = cc
-linked_by true b c false false link n e = e
+-- a link that DET brings up has a device
+present_by : (a b c present sud : Bool) (link : Link) → (if a then spun_link present sud link else if b then InReset else if c then Offline else link) ≡ Up
+    → (link ≡ Up → present ≡ true) → present ≡ true
+present_by true b c present sud Up e h = h refl
+present_by true b c present sud Listening e h = cc
+present_by true b c true sud InReset e h = refl
+present_by true b c false sud InReset e h = cc
+present_by true b c true sud Offline e h = refl
+present_by true b c false sud Offline e h = cc
+present_by false true c present sud link e h = cc
+present_by false false true present sud link e h = cc
+present_by false false false present sud link e h = h e
 
-pub stays_linked : (det : ℕ) (sud later : Bool) (link : Link) → (not sud && later) ≡ false → asked_link det sud link ≡ link → asked_link det later link ≡ link
-stays_linked det sud later link n e = linked_by (nat_eq det 0) (nat_eq det 1) (nat_eq det 4) sud later link n e
+pub brought_up : (det : ℕ) (present sud : Bool) (link : Link) → asked_link det present sud link ≡ Up → (link ≡ Up → present ≡ true) → present ≡ true
+brought_up det present sud link e h = present_by (nat_eq det 0) (nat_eq det 1) (nat_eq det 4) present sud link e h
 
 -- ---- a stopped port
 

@@ -26,6 +26,7 @@ port_of a = record {
   sig = a.signature;
   link = a.link;
   speed = a.speed;
+  present = a.present;
   sctl = a.control;
   serr = bits a.serr;
   sact = bits a.sact;

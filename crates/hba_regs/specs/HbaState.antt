@@ -37,6 +37,8 @@ pub record HbaPort : Type 0 where
   -- the link, which PxSSTS shows, with its generation while it is active, and PxSCTL
   pub link : Link
   pub speed : ℕ
+  -- a device is plugged in, whether its link is up or not
+  pub present : Bool
   pub sctl : ℕ
   -- PxSERR
   pub serr : List Bool
@@ -99,6 +101,7 @@ up_port c clb fb = record {
   sig = 0xffffffff;
   link = Up;
   speed = c.iss;
+  present = true;
   sctl = 0;
   serr = link_changed;
   sact = no_places;
@@ -110,43 +113,51 @@ up_port c clb fb = record {
   soft = Off;
 }
 
--- the port after a reset of the HBA, with these bases. With staggered spin-up (CAP.SSS) the device waits for PxCMD.SUD: there is no link, and
--- nothing to report
-abbrev pub reset_port : CapFields → ℕ → ℕ → HbaPort
-reset_port c clb fb =
+-- the port after a reset of the HBA, with these bases. With staggered spin-up (CAP.SSS) a device waits for PxCMD.SUD: there is no link, and
+-- nothing to report; nor is there without a device
+abbrev pub reset_port : (present : Bool) → CapFields → ℕ → ℕ → HbaPort
+reset_port present c clb fb =
+    let comes = not c.sss && present in
     record (up_port c clb fb) {
+      present = present;
       sud = not c.sss;
-      sts = if c.sss then 0x7f else 0x80;
-      link = if c.sss then Listening else Up;
-      serr = if c.sss then no_places else link_changed;
-      signature = if c.sss then Past else Due;
+      sts = if comes then 0x80 else 0x7f;
+      link = if comes then Up else Listening;
+      serr = if comes then link_changed else no_places;
+      signature = if comes then Due else Past;
     }
 
 -- the slot of a number
 abbrev pub slot_of : ℕ → Option ℕ
 slot_of n = if nat_lt n 32 then Some n else None
 
--- the HBA after a reset that keeps these bases; what it can do stays
-abbrev pub reset_with : CapFields → ℕ → ℕ → HbaState
-reset_with c clb fb = record { ghc_ie = false; ips = false; port = reset_port c clb fb }
+-- the HBA after a reset that keeps these bases; what it can do stays, and so does a device that is plugged in, or that there is none
+abbrev pub reset_with : (present : Bool) → CapFields → ℕ → ℕ → HbaState
+reset_with present c clb fb = record { ghc_ie = false; ips = false; port = reset_port present c clb fb }
 
--- the HBA after power-on
+-- the HBA after power-on, with a device and without one
+abbrev pub powered_with : (present : Bool) → CapFields → HbaState
+powered_with present c = reset_with present c 0 0
+
+-- the same with a device
 abbrev pub power_on : CapFields → HbaState
-power_on c = reset_with c 0 0
+power_on c = powered_with true c
 
--- the link while DET is 0: with SUD 1 it comes up; with SUD 0 the port listens, and a link that is up stays (section 10.10.1)
-abbrev pub spun_link : Bool → Link → Link
-spun_link true link = Up
-spun_link false Up = Up
-spun_link false link = Listening
+-- the link while DET is 0. One that DET held comes up if a device is plugged in and SUD is 1, else the port listens; a link that is up and a
+-- port that listens stay (section 10.10.1)
+abbrev pub spun_link : (present sud : Bool) → Link → Link
+spun_link present sud Up = Up
+spun_link present sud Listening = Listening
+spun_link present sud link = if present && sud then Up else Listening
 
 -- the link that a value of DET asks for: 0 a link, 1 COMRESET, 4 none; any other value leaves it
-abbrev pub asked_link : (det : ℕ) → (sud : Bool) → Link → Link
-asked_link det sud link =
-    if nat_eq det 0 then spun_link sud link else if nat_eq det 1 then InReset else if nat_eq det 4 then Offline else link
+abbrev pub asked_link : (det : ℕ) → (present sud : Bool) → Link → Link
+asked_link det present sud link =
+    if nat_eq det 0 then spun_link present sud link else if nat_eq det 1 then InReset else if nat_eq det 4 then Offline else link
 
--- the bits of PxIS that are kept: PCS (bit 6) and PRCS (bit 22) are not, since PxSERR has them
+-- the bits of PxIS that are kept: UFS (bit 4), PCS (bit 6) and PRCS (bit 22) are not, since PxSERR has them
 pub record IsKept (s : List Bool) : Type 0 where
+  pub no_ufs : has_place s 4 ≡ false
   pub no_pcs : has_place s 6 ≡ false
   pub no_prcs : has_place s 22 ≡ false
 
@@ -181,7 +192,9 @@ pub record IsLawful (p : HbaPort) : Type 0 where
   pub power : IsPowered p.capabilities p.sud p.alpe p.asp
   pub sctl : p.sctl < 2 ^ 12
   -- the link is the one that DET asks for
-  pub link : asked_link (p.sctl % 2 ^ 4) p.sud p.link ≡ p.link
+  pub link : asked_link (p.sctl % 2 ^ 4) p.present p.sud p.link ≡ p.link
+  -- a link that is up has a device
+  pub present : p.link ≡ Up → p.present ≡ true
   pub speed : p.speed ≤ p.capabilities.iss
   pub ccs : p.ccs < 32
   pub first : p.first < p.capabilities.ncs

@@ -15,6 +15,9 @@ pss = 1
 abbrev pub sdbs : ℕ
 sdbs = 3
 
+abbrev pub ufs : ℕ
+ufs = 4
+
 abbrev pub pcs : ℕ
 pcs = 6
 
@@ -23,6 +26,9 @@ prcs = 22
 
 abbrev pub ofs : ℕ
 ofs = 24
+
+abbrev pub infs : ℕ
+infs = 26
 
 abbrev pub tfes : ℕ
 tfes = 30
@@ -37,9 +43,11 @@ place_of Interface = 27
 abbrev pub raised : Bool → ℕ → List Bool → List Bool
 raised b place s = if b then with_place s place else s
 
--- PxIS as it reads: the bits that are kept, PCS while PxSERR.DIAG.X (bit 26) is 1, PRCS while PxSERR.DIAG.N (bit 16) is 1
+-- PxIS as it reads: the bits that are kept, PCS while PxSERR.DIAG.X (bit 26) is 1, PRCS while PxSERR.DIAG.N (bit 16) is 1, and UFS while
+-- PxSERR.DIAG.F (bit 25) is 1. The standard sets F when an unknown FIS is detected and UFS once it is posted; here it is posted first, so the
+-- two go together
 abbrev pub interrupts : HbaPort → List Bool
-interrupts p = raised (has_place p.serr 26) pcs (raised (has_place p.serr 16) prcs p.is)
+interrupts p = raised (has_place p.serr 26) pcs (raised (has_place p.serr 16) prcs (raised (has_place p.serr 25) ufs p.is))
 
 -- some bit of PxIS is enabled in PxIE
 abbrev pub is_pending : HbaPort → Bool

@@ -2,11 +2,14 @@ pub mod Accessing
 pub mod CapFields
 pub mod Fields
 pub mod HbaState
+pub mod InterfaceErrors
 pub mod Interrupts
+pub mod LinkEvents
 pub mod Linking
 pub mod PortStates
 pub mod Reading
 pub mod Receiving
 pub mod RegisterTable
+pub mod Settings
 pub mod Writing
 pub use Rattle.word_bits.specs.Places

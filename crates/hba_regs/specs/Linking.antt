@@ -1,5 +1,5 @@
 -- What PxSCTL.DET and PxCMD.SUD do to the link (AHCI 1.3.1, sections 3.3.7, 3.3.10, 3.3.11, 3.3.12, 10.1.1, 10.4.2 and 10.10).
-use Rattle.std.specs.Prelude.{Bool, true, false}
+use Rattle.std.specs.Prelude.{Bool, true, false, if◌then◌else◌}
 use Rattle.word_bits.specs.Places.{no_places, union}
 use Rattle.hba_regs.specs.HbaState.{HbaPort, link_changed, speed_for}
 use Rattle.hba_regs.specs.Interrupts.{raised}
@@ -57,10 +57,10 @@ goes_down Offline Offline = false
 goes_down was Up = false
 goes_down was next = true
 
--- the port once SUD goes from 0 to 1: COMRESET is sent (section 3.3.7, SUD). A port that listens has its link come up, and a link that is up
--- goes down before; a link that DET holds in COMRESET, or has disabled, stays
+-- the port once SUD goes from 0 to 1: COMRESET is sent (section 3.3.7, SUD). A port that listens has its link come up if a device is plugged in,
+-- and a link that is up goes down before; a link that DET holds in COMRESET, or has disabled, stays
 abbrev pub spun_up : HbaPort → Link → HbaPort
 spun_up p Up = came_up (went_down p InReset)
-spun_up p Listening = came_up p
+spun_up p Listening = if p.present then came_up p else p
 spun_up p InReset = p
 spun_up p Offline = p

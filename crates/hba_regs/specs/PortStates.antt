@@ -2,7 +2,7 @@
 -- the state's own name, and in it the rows of its table in their order, each of which goes on with the next state. A path ends in a state
 -- in which the port waits: P:NotRunning, P:Idle, ERR:WaitForClear, or one of the link's. What a driver can't see is left out: docs/LAYOUTS.md has
 -- the table of all states.
-use Rattle.std.specs.Prelude.{ℕ, ◌+◌, ◌%◌, Bool, true, false, not, ◌&&◌, ◌||◌, List, bit_and, bit_or, if◌then◌else◌}
+use Rattle.std.specs.Prelude.{ℕ, ◌+◌, ◌%◌, Bool, true, not, ◌||◌, List, bit_and, bit_or, if◌then◌else◌}
 use Rattle.word_bits.specs.Places.{bits, has_place, with_place, without_place, minus}
 use Rattle.hba_regs.specs.HbaState.{HbaPort}
 use Rattle.hba_regs.specs.Interrupts.{dhrs, pss, sdbs, ofs, tfes, place_of, raised}
@@ -28,6 +28,10 @@ err_fatal_taskfile p = record p { is = with_place p.is tfes; halted = true }
 -- ERR:Fatal: the error's bit of PxIS is set; then ERR:WaitForClear
 abbrev pub err_fatal : Fatal → HbaPort → HbaPort
 err_fatal fatal p = record p { is = with_place p.is (place_of fatal); halted = true }
+
+-- ERR:WaitForClear: a port with ST 1 processes no command until ST is cleared; with ST 0 there is nothing to wait for
+abbrev pub err_wait_for_clear : HbaPort → HbaPort
+err_wait_for_clear p = record p { halted = p.halted || p.st }
 
 -- ---- P, "Port Idle"
 

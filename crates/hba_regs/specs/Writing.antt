@@ -23,10 +23,10 @@ with_lower base value = base / 2 ^ 32 * 2 ^ 32 + value
 abbrev pub with_upper : ℕ → ℕ → ℕ
 with_upper base value = value * 2 ^ 32 + base % 2 ^ 32
 
--- GHC: HR (bit 0) resets the HBA, whose bases stay (section 10.4.3); else IE (bit 1) is taken
+-- GHC: HR (bit 0) resets the HBA, whose bases stay (section 10.4.3), and so does the device that is plugged in; else IE (bit 1) is taken
 abbrev pub with_ghc : HbaState → ℕ → HbaState
 with_ghc s value =
-    if has_place (bits value) 0 then reset_with s.port.capabilities s.port.clb s.port.fb else record s { ghc_ie = has_place (bits value) 1 }
+    if has_place (bits value) 0 then reset_with s.port.present s.port.capabilities s.port.clb s.port.fb else record s { ghc_ie = has_place (bits value) 1 }
 
 -- PxCLB and PxCLBU stay while ST is 1, PxFB and PxFBU while FRE is 1
 abbrev pub with_clb : HbaPort → ℕ → HbaPort
@@ -87,7 +87,7 @@ spins_up p value = not p.sud && (not p.capabilities.sss || has_place (bits value
 
 -- PxSCTL: bits 11:0 are kept, and DET (bits 3:0) moves the link
 abbrev pub with_control : HbaPort → ℕ → HbaPort
-with_control p value = relinked (record p { sctl = value % 2 ^ 12 }) p.link (asked_link (value % 2 ^ 4) p.sud p.link)
+with_control p value = relinked (record p { sctl = value % 2 ^ 12 }) p.link (asked_link (value % 2 ^ 4) p.present p.sud p.link)
 
 -- PxSACT and PxCI take commands while ST is 1, in the slots that the command list has: the standard forbids the others (section 5.5.1), which
 -- stay 0 (profile)
@@ -133,7 +133,7 @@ changed s value register = record s { port = port_changed s.port value register 
 abbrev pub port_consequence : HbaPort → ℕ → Register → Consequence
 port_consequence p value PxCmd =
     if spins_up p value && is_up p.link then LinkReset else if p.st && not (has_place (bits value) 0) then Stopped else Nothing
-port_consequence p value PxSctl = if goes_down p.link (asked_link (value % 2 ^ 4) p.sud p.link) then LinkReset else Nothing
+port_consequence p value PxSctl = if goes_down p.link (asked_link (value % 2 ^ 4) p.present p.sud p.link) then LinkReset else Nothing
 port_consequence p value register = Nothing
 
 abbrev pub consequence_of : HbaState → ℕ → Register → Consequence

@@ -2,7 +2,7 @@
 
 ghost use Rattle.std.specs.Prelude.{◌≡◌, ◌*◌, ◌/◌};
 ghost use Rattle.hba_regs.specs.CapFields.{usual};
-ghost use Rattle.hba_regs.specs.HbaState.{power_on};
+ghost use Rattle.hba_regs.specs.HbaState.{power_on, powered_with};
 ghost use Rattle.hba_regs.specs.RegisterTable.{register_at};
 ghost use Rattle.hba_regs.specs.Reading.{word_at, word_of_offset};
 ghost use Rattle.hba_regs.specs.Writing.{word_written, written};
@@ -17,6 +17,7 @@ use crate::words::{byte_of, lower, pair_of, upper, with_byte, with_pair};
 use std::marker::Model;
 use word_bits::is_set;
 
+mod events;
 mod moves;
 mod state;
 
@@ -52,19 +53,26 @@ impl HbaRegs {
     pub fn with_capabilities(capabilities: Capabilities) -> Self
         ensures { result ≡ power_on capabilities }
     {
-        HbaRegs {
-            enabled: false,
-            pending: false,
-            port: Port::new(capabilities),
-        }
+        HbaRegs::powered(capabilities, true)
     }
 
     /// Power-on of an HBA that can do the same: each register has its reset value (chapter 3), the bases too, which a reset of the HBA
-    /// leaves (section 10.4.3), and software has to initialize it anew (section 10.1).
+    /// leaves (section 10.4.3), and software has to initialize it anew (section 10.1). A device that is unplugged stays so.
     pub fn power_on(&mut self)
-        ensures { self.new ≡ power_on self.old.port.capabilities }
+        ensures { self.new ≡ powered_with self.old.port.present self.old.port.capabilities }
     {
-        *self = HbaRegs::with_capabilities(self.port.capabilities());
+        *self = HbaRegs::powered(self.port.capabilities(), self.port.is_present());
+    }
+
+    /// The registers after power-on, with a device or without one.
+    fn powered(capabilities: Capabilities, present: bool) -> Self
+        ensures { result ≡ powered_with present capabilities }
+    {
+        HbaRegs {
+            enabled: false,
+            pending: false,
+            port: Port::new(capabilities, present),
+        }
     }
 
     /// What a read answers, in the bytes of the size from the lowest on (AHCI 1.3.1, sections 3.1 and 3.3). The offset is in

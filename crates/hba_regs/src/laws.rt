@@ -2,13 +2,17 @@
 //! word to a register (`written`), which `words_are_written_to_their_registers` finds at the register's offset.
 ghost use Rattle.std.specs.Prelude.{◌≡◌, ◌≢◌, ◌+◌, ◌*◌, ◌/◌, ◌%◌, ◌^◌, ◌<◌, ◌≤◌, ℕ, Bool, true, false, not, ◌&&◌, ◌||◌};
 ghost use Rattle.word_bits.specs.Places.{bits, has_place, no_places, union, with_place};
-ghost use Rattle.hba_regs.specs.HbaState.{HbaPort, link_changed, power_on};
+ghost use Rattle.hba_regs.specs.HbaState.{HbaPort, link_changed, powered_with};
+ghost use Rattle.hba_regs.specs.InterfaceErrors.{accepts_fis, interface_failed, unknown_received};
 ghost use Rattle.hba_regs.specs.Interrupts.{interrupts, is_pending};
+ghost use Rattle.hba_regs.specs.LinkEvents.{found, lost, plugged, unplugged};
+ghost use Rattle.hba_regs.specs.Linking.{is_up};
 ghost use Rattle.hba_regs.specs.RegisterTable.{offset_of, takes_ones};
 ghost use Rattle.hba_regs.specs.Reading.{word_at};
 ghost use Rattle.hba_regs.specs.Writing.{written, both};
 ghost use Rattle.hba_regs.specs.Accessing.{part, read_of, with_part, write_of};
 ghost use Rattle.hba_regs.specs.Receiving.{moved};
+ghost use Rattle.hba_regs.specs.Settings.{settings};
 ghost use Rattle.hba_regs.specs.declared.consequence.Consequence.TheVariants.{Nothing};
 ghost use Rattle.hba_regs.specs.declared.link.Link.TheVariants.{Up, Listening};
 ghost use Rattle.hba_regs.specs.declared.signature.Signature.TheVariants.{Due};
@@ -16,6 +20,7 @@ ghost use Rattle.hba_regs.specs.declared.soft_reset.SoftReset.TheVariants.{Off};
 
 use crate::access_size::AccessSize;
 use crate::hba_regs::HbaRegs;
+use crate::interface_error::InterfaceError;
 use crate::register::Register;
 
 /// Reading changes nothing, at any offset and of any size.
@@ -53,11 +58,11 @@ pub fn a_byte_is_written_alone(word: u32, place: u32, value: u64)
         → part (with_part word (8 * place) 1 value) (8 * other) 1 ≡ part word (8 * other) 1 }
 {}
 
-/// After GHC.HR the registers are as after power-on of the same HBA, but for the bases, whatever was before.
+/// After GHC.HR the registers are as after power-on of the same HBA, with the same device or none, but for the bases, whatever was before.
 pub fn a_reset_leaves_the_bases(regs: &HbaRegs, value: u32)
     requires { has_place (bits value) 0 ≡ true }
     ensures { (written regs.now value Register.Ghc).state
-        ≡ (let first = power_on regs.now.port.capabilities in
+        ≡ (let first = powered_with regs.now.port.present regs.now.port.capabilities in
         record first { port = record first.port { clb = regs.now.port.clb; fb = regs.now.port.fb } }) }
 {}
 
@@ -121,10 +126,11 @@ pub fn ips_stays_until_it_is_cleared(regs: &HbaRegs)
     ensures cleared { (written regs.now 1 Register.Is).state.ips ≡ is_pending regs.now.port }
 {}
 
-/// PCS and PRCS of PxIS are DIAG.X and DIAG.N of PxSERR, and writing 1 to them in PxIS leaves them.
+/// PCS, PRCS and UFS of PxIS are DIAG.X, DIAG.N and DIAG.F of PxSERR, and writing 1 to them in PxIS leaves them.
 pub fn pcs_and_prcs_are_those_of_pxserr(regs: &HbaRegs, value: u32)
     ensures pcs { has_place (interrupts regs.now.port) 6 ≡ has_place regs.now.port.serr 26 }
     ensures prcs { has_place (interrupts regs.now.port) 22 ≡ has_place regs.now.port.serr 16 }
+    ensures ufs { has_place (interrupts regs.now.port) 4 ≡ has_place regs.now.port.serr 25 }
     ensures left { (written regs.now value Register.PxIs).state.port.serr ≡ regs.now.port.serr }
 {
     regs.keeps_its_rules();
@@ -148,7 +154,9 @@ pub fn a_comreset_brings_the_device_back(regs: &HbaRegs)
           signature = Due;
           soft = Off;
         } }
-{}
+{
+    regs.keeps_its_rules();
+}
 
 /// No write changes what the HBA can do.
 pub fn capabilities_stay(regs: &HbaRegs, register: Register, value: u32)
@@ -174,12 +182,73 @@ pub fn bases_are_in_reach(regs: &HbaRegs)
 }
 
 /// With staggered spin-up a device that waits goes on waiting while software writes 0 to SUD. With 1 the link comes up, and the signature
-/// is due.
+/// is due, if a device is plugged in.
 pub fn a_device_waits_for_sud(regs: &HbaRegs, value: u32)
     requires sss { regs.now.port.capabilities.sss ≡ true }
     requires sud { regs.now.port.sud ≡ false }
     requires link { regs.now.port.link ≡ Listening }
     ensures waits { has_place (bits value) 1 ≡ false → (written regs.now value Register.PxCmd).state.port.link ≡ Listening }
-    ensures up { has_place (bits value) 1 ≡ true → (written regs.now value Register.PxCmd).state.port.link ≡ Up }
-    ensures due { has_place (bits value) 1 ≡ true → (written regs.now value Register.PxCmd).state.port.signature ≡ Due }
+    ensures up { regs.now.port.present ≡ true → has_place (bits value) 1 ≡ true → (written regs.now value Register.PxCmd).state.port.link ≡ Up }
+    ensures due { regs.now.port.present ≡ true → has_place (bits value) 1 ≡ true → (written regs.now value Register.PxCmd).state.port.signature ≡ Due }
 {}
+
+/// Events leave what software has set, its commands too, and GHC.IE.
+pub fn events_leave_what_software_has_set(regs: &HbaRegs, error: InterfaceError, is_fatal: bool)
+    ensures lost { settings (lost regs.now.port regs.now.port.link) ≡ settings regs.now.port }
+    ensures found { settings (found regs.now.port) ≡ settings regs.now.port }
+    ensures unplugged { settings (unplugged regs.now.port) ≡ settings regs.now.port }
+    ensures plugged { settings (plugged regs.now.port) ≡ settings regs.now.port }
+    ensures failed { settings (interface_failed error is_fatal regs.now.port) ≡ settings regs.now.port }
+    ensures unknown { settings (unknown_received regs.now.port) ≡ settings regs.now.port }
+    ensures ie { (p : HbaPort) → (moved regs.now p).ghc_ie ≡ regs.now.ghc_ie }
+{}
+
+/// After an error from which the interface has recovered a port goes on as before; after a fatal one, a port with ST 1 processes no command.
+pub fn a_fatal_error_alone_stops_the_port(regs: &HbaRegs, error: InterfaceError)
+    ensures goes_on { (interface_failed error false regs.now.port).halted ≡ regs.now.port.halted }
+    ensures stops { regs.now.port.link ≡ Up → regs.now.port.st ≡ true → (interface_failed error true regs.now.port).halted ≡ true }
+{}
+
+/// The commands that were in the list of a port with ST 1 when its link was lost aren't sent to the device that is found or plugged in
+/// afterwards: the port processes none (AHCI 1.3.1, section 7.4).
+pub fn a_found_device_gets_no_old_command(regs: &HbaRegs)
+    requires link { regs.now.port.link ≡ Up }
+    requires st { regs.now.port.st ≡ true }
+    ensures found { (found (lost regs.now.port regs.now.port.link)).halted ≡ true }
+    ensures plugged { (plugged (unplugged regs.now.port)).halted ≡ true }
+{}
+
+/// A link that is lost is down, and so is that of a device that is unplugged.
+pub fn a_lost_link_is_down(regs: &HbaRegs)
+    ensures lost { is_up (lost regs.now.port regs.now.port.link).link ≡ false }
+    ensures unplugged { is_up (unplugged regs.now.port).link ≡ false }
+{}
+
+/// While no device is plugged in the link is down, and no write brings it up, or a device.
+pub fn no_write_finds_an_unplugged_device(regs: &HbaRegs, register: Register, value: u32)
+    requires { regs.now.port.present ≡ false }
+    ensures down { is_up regs.now.port.link ≡ false }
+    ensures absent { (written regs.now value register).state.port.present ≡ false }
+    ensures stays { is_up (written regs.now value register).state.port.link ≡ false }
+{
+    regs.keeps_its_rules();
+}
+
+/// PRCS reports a link that is lost, PCS a device that is plugged in while the port listens, and UFS a FIS of a type that isn't known.
+pub fn events_are_reported(regs: &HbaRegs)
+    ensures lost { regs.now.port.link ≡ Up → has_place (interrupts (lost regs.now.port regs.now.port.link)) 22 ≡ true }
+    ensures plugged { regs.now.port.link ≡ Listening → has_place (interrupts (plugged regs.now.port)) 6 ≡ true }
+    ensures unknown { accepts_fis regs.now.port ≡ true → has_place (interrupts (unknown_received regs.now.port)) 4 ≡ true }
+{
+    regs.keeps_its_rules();
+}
+
+/// COMRESET, by DET 1 and then 0 with SUD 1, finds a device whose link was lost: the state is as after one whose link was up.
+pub fn a_comreset_finds_a_lost_device(regs: &HbaRegs)
+    requires link { regs.now.port.link ≡ Up }
+    requires spun { regs.now.port.sud ≡ true }
+    ensures { (written (written (moved regs.now (lost regs.now.port regs.now.port.link)) 0x301 Register.PxSctl).state 0x300 Register.PxSctl).state.port
+        ≡ (written (written regs.now 0x301 Register.PxSctl).state 0x300 Register.PxSctl).state.port }
+{
+    regs.keeps_its_rules();
+}

@@ -2,12 +2,12 @@ ghost use Rattle.std.specs.Prelude.{◌≡◌};
 ghost use Rattle.hba_regs.specs.HbaState.{asked_link, spun_link};
 ghost use Rattle.hba_regs.specs.Reading.{link_word};
 
-/// The link to the device, as PxSCTL.DET and PxCMD.SUD have left it (AHCI 1.3.1, sections 3.3.10, 3.3.11 and 10.10).
+/// The link to the device, as PxSCTL.DET, PxCMD.SUD and the device have left it (AHCI 1.3.1, sections 3.3.10, 3.3.11 and 10.10).
 #[derive(Clone, Copy, PartialEq, Eq, Debug)]
 pub enum Link {
     /// The device is there, and the link is active.
     Up,
-    /// The device waits for SUD, and the port listens (section 10.10.1).
+    /// There is none, and the port listens: the device waits for SUD (section 10.10.1), or it is gone.
     Listening,
     /// COMRESET is sent, for as long as DET is 1.
     InReset,
@@ -16,26 +16,27 @@ pub enum Link {
 }
 
 impl Link {
-    /// The link after a value of PxSCTL.DET is written, with this SUD.
-    pub(crate) fn asked(self, det: u32, spun_up: bool) -> Link
-        ensures { result ≡ asked_link det spun_up self }
+    /// The link after a value of PxSCTL.DET is written, with a device or without one, and with this SUD.
+    pub(crate) fn asked(self, det: u32, present: bool, spun_up: bool) -> Link
+        ensures { result ≡ asked_link det present spun_up self }
     {
         match det {
-            0 => self.spun(spun_up),
+            0 => self.spun(present, spun_up),
             1 => Link::InReset,
             4 => Link::Offline,
             _ => self,
         }
     }
 
-    /// The link while DET is 0, with this SUD.
-    fn spun(self, spun_up: bool) -> Link
-        ensures { result ≡ spun_link spun_up self }
+    /// The link while DET is 0.
+    fn spun(self, present: bool, spun_up: bool) -> Link
+        ensures { result ≡ spun_link present spun_up self }
     {
         match self {
             Link::Up => Link::Up,
-            Link::Listening | Link::InReset | Link::Offline if spun_up => Link::Up,
-            Link::Listening | Link::InReset | Link::Offline => Link::Listening,
+            Link::Listening => Link::Listening,
+            Link::InReset | Link::Offline if present && spun_up => Link::Up,
+            Link::InReset | Link::Offline => Link::Listening,
         }
     }
 

@@ -18,6 +18,7 @@ use crate::words::{bit, two_bytes};
 use std::marker::Model;
 use word_bits::{is_set, with_bit};
 
+mod events;
 mod moves;
 mod writes;
 
@@ -30,16 +31,25 @@ const PSS: u8 = 1;
 
 const SDBS: u8 = 3;
 
+const UFS: u8 = 4;
+
 const PCS: u8 = 6;
 
 const PRCS: u8 = 22;
 
 const OFS: u8 = 24;
 
+const INFS: u8 = 26;
+
+const IFS: u8 = 27;
+
 const TFES: u8 = 30;
 
-/// DIAG.N and DIAG.X of PxSERR (section 3.3.12) by their places, and with DIAG.W, COMWAKE, in one word: what a link that comes up reports.
+/// DIAG.N, DIAG.F and DIAG.X of PxSERR (section 3.3.12) by their places, and DIAG.N, DIAG.X and DIAG.W, COMWAKE, in one word: what a link that comes
+/// up reports.
 const DIAG_N: u8 = 16;
+
+const DIAG_F: u8 = 25;
 
 const DIAG_X: u8 = 26;
 
@@ -68,6 +78,7 @@ pub struct Port {
     signature: u32,
     link: Link,
     speed: u8,
+    present: bool,
     control: u32,
     serr: u32,
     sact: u32,
@@ -92,30 +103,32 @@ impl Model for Port {
 }
 
 impl Port {
-    /// The port after power-on, of an HBA that can do this.
-    pub fn new(capabilities: Capabilities) -> Self
-        ensures { result ≡ reset_port capabilities 0 0 }
+    /// The port after power-on, of an HBA that can do this, with a device or without one.
+    pub fn new(capabilities: Capabilities, present: bool) -> Self
+        ensures { result ≡ reset_port present capabilities 0 0 }
     {
-        Port::with_bases(capabilities, 0, 0)
+        Port::with_bases(capabilities, 0, 0, present)
     }
 
-    /// The port after a reset of the HBA, which leaves the bases (section 10.4.3) and what the HBA can do.
+    /// The port after a reset of the HBA, which leaves the bases (section 10.4.3), what the HBA can do, and the device that is plugged in.
     pub fn reset(&mut self)
-        ensures { self.new ≡ reset_port self.old.capabilities self.old.clb self.old.fb }
+        ensures { self.new ≡ reset_port self.old.present self.old.capabilities self.old.clb self.old.fb }
     {
-        *self = Port::with_bases(self.capabilities, self.clb, self.fb);
+        *self = Port::with_bases(self.capabilities, self.clb, self.fb, self.present);
     }
 
     /// The port after a reset, with these bases.
-    fn with_bases(capabilities: Capabilities, clb: u64, fb: u64) -> Self
+    fn with_bases(capabilities: Capabilities, clb: u64, fb: u64, present: bool) -> Self
         requires clb { clb % 2 ^ 10 ≡ 0 }
         requires fb { fb % 2 ^ 8 ≡ 0 }
         requires reach { IsInReach capabilities.s64a clb fb }
-        ensures { result ≡ reset_port capabilities clb fb }
+        ensures { result ≡ reset_port present capabilities clb fb }
     {
         let mut port = Port::up(capabilities, clb, fb);
         if capabilities.sss {
-            port.listen();
+            port.listen(present);
+        } else if !present {
+            port.listen(present);
         }
         port
     }
@@ -147,6 +160,7 @@ impl Port {
             signature: NO_SIGNATURE,
             link: Link::Up,
             speed: capabilities.iss(),
+            present: true,
             control: 0,
             serr: LINK_CHANGED,
             sact: 0,
@@ -159,14 +173,14 @@ impl Port {
         }
     }
 
-    /// With CAP.SSS the device waits for PxCMD.SUD (section 10.1.1): there is no link, and nothing to report.
-    #[tactic(auto, using(word_bits::proofs::BitsLemmas::bits_zero))]
-    fn listen(&mut self)
-        requires sss { self.old.capabilities.sss ≡ true }
+    /// With CAP.SSS a device waits for PxCMD.SUD (section 10.1.1), or there is no device: there is no link, and nothing to report.
+    #[tactic(auto, using(word_bits::proofs::BitsLemmas::bits_zero, crate::proofs::StateLemmas::or_twice))]
+    fn listen(&mut self, present: bool)
         requires det { self.old.sctl ≡ 0 }
-        ensures { self.new ≡ record self.old { sud = false; sts = 0x7f; link = Listening; serr = no_places; signature = Past } }
+        ensures { self.new ≡ record self.old { present = present; sud = not self.old.capabilities.sss; sts = 0x7f; link = Listening; serr = no_places; signature = Past } }
     {
-        self.spun_up = false;
+        self.present = present;
+        self.spun_up = !self.capabilities.sss;
         self.status = 0x7f;
         self.link = Link::Listening;
         self.serr = 0;
@@ -202,11 +216,12 @@ impl Port {
         self.fb
     }
 
-    /// PxIS: the bits that are kept, with PCS and PRCS of PxSERR.
+    /// PxIS: the bits that are kept, with UFS, PCS and PRCS of PxSERR.
     pub fn is(&self) -> u32
         ensures { bits result ≡ interrupts self.now }
     {
-        let changed = raised(self.is, PRCS, is_set(self.serr, DIAG_N));
+        let unknown = raised(self.is, UFS, is_set(self.serr, DIAG_F));
+        let changed = raised(unknown, PRCS, is_set(self.serr, DIAG_N));
         raised(changed, PCS, is_set(self.serr, DIAG_X))
     }
 
@@ -260,6 +275,13 @@ impl Port {
         ensures { result ≡ self.now.link }
     {
         self.link
+    }
+
+    /// Whether a device is plugged in.
+    pub fn is_present(&self) -> bool
+        ensures { result ≡ self.now.present }
+    {
+        self.present
     }
 
     /// The generation of the active link.

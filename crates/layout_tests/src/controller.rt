@@ -2,11 +2,13 @@
 //! change, and the rows of real drivers.
 use crate::table::equal;
 use Row::{Bits, Commands, Does, Halted, Line, Read, Register, Signature, Write};
+use events::{Happens, take_place};
 use hba_regs::{AccessSize, Consequence, Fatal, HbaRegs, Slot};
 use std::process::Abort;
 
 mod capabilities;
 mod drivers;
+mod events;
 mod links;
 mod sizes;
 
@@ -114,6 +116,7 @@ enum Row {
     /// The list of the device's data has no room for them.
     Overflows,
     Fails(Fatal),
+    Event(Happens),
 }
 
 /// What is compared.
@@ -162,6 +165,7 @@ fn goes(rt: &impl Abort, regs: &mut HbaRegs, number: usize, row: Row) {
         Row::Pio(status, error) => regs.receive_pio(status, error),
         Row::Fails(fatal) => regs.fail_fatally(fatal),
         Row::Overflows => regs.overflow(),
+        Row::Event(event) => take_place(regs, event),
         Row::Signature => {
             assert!(rt; regs.signature_moves());
             regs.take_signature();

@@ -24,6 +24,8 @@ pub(super) const REGISTER: u8 = 0x40;
 
 pub(super) const SET_BITS: u8 = 0x58;
 
+pub(super) const UNKNOWN: u8 = 0x60;
+
 impl<A: Allocator, S: SectorStore> Hba<A, S> {
     /// The FIS of so many bytes at a place of the port's received FIS area, for the driver's; none while FRE is 0.
     pub(super) fn fis_put(&self, place: u8, length: usize) -> Option<SmallPut>

@@ -43,6 +43,7 @@ fn end_by(registers: &mut HbaRegs, fis: LastFis)
                 registers.take_signature();
             }
         }
+        LastFis::Unknown => registers.receive_unknown(),
     }
 }
 

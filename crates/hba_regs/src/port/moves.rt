@@ -115,9 +115,10 @@ impl Port {
         self.halted = true;
     }
 
-    /// Sets a bit of PxIS other than PCS and PRCS, if it is raised.
-    fn raise(&mut self, place: u8, is_raised: bool)
+    /// Sets a bit of PxIS other than UFS, PCS and PRCS, if it is raised.
+    pub(super) fn raise(&mut self, place: u8, is_raised: bool)
         requires place { place < 32 }
+        requires ufs { place ≢ 4 }
         requires pcs { place ≢ 6 }
         requires prcs { place ≢ 22 }
         ensures { self.new ≡ record self.old { is = raised is_raised place self.old.is } }

@@ -3,7 +3,7 @@
 ghost use Rattle.std.specs.Prelude.{◌≡◌, ◌%◌, ◌^◌, ◌<◌, ◌≤◌, false, true, not, ◌&&◌, ◌||◌, bit_and, if◌then◌else◌};
 ghost use Rattle.word_bits.specs.Places.{bits, has_place, intersection, minus, only_below, union};
 ghost use Rattle.hba_regs.specs.HbaState.{asked_link, enables, speed_for};
-ghost use Rattle.hba_regs.specs.Linking.{came_up, is_free_link, spun_up, went_down};
+ghost use Rattle.hba_regs.specs.Linking.{came_up, is_up, spun_up, went_down};
 ghost use Rattle.hba_regs.specs.Writing.{commanded_by, continued, port_changed, port_consequence, powered_by, remaining, spins_up, with_clb, with_clbu, with_command, with_control, with_fb, with_fbu};
 ghost use Rattle.hba_regs.specs.declared.link.Link.TheVariants.{Up};
 
@@ -180,7 +180,7 @@ impl Port {
         self.spun_up = spun_up;
     }
 
-    /// SUD goes from 0 to 1: COMRESET is sent, unless DET holds the link in it or has disabled it.
+    /// SUD goes from 0 to 1: COMRESET is sent, unless DET holds the link in it or has disabled it. Without a device nothing answers.
     #[tactic(auto, using(crate::proofs::StateLemmas::may_come_up))]
     fn spin_up(&mut self)
         ensures { self.new ≡ spun_up (record self.old { sud = true }) self.old.link }
@@ -190,14 +190,13 @@ impl Port {
                 self.lose_device();
                 self.come_up(self.control, true);
             }
-            Link::Listening => self.come_up(self.control, true),
-            Link::InReset | Link::Offline => self.wait_for_det(),
+            Link::Listening if self.present => self.come_up(self.control, true),
+            Link::Listening | Link::InReset | Link::Offline => self.only_spin(),
         }
     }
 
-    /// SUD is 1 while DET holds the link in COMRESET, or has disabled it.
-    fn wait_for_det(&mut self)
-        requires { is_free_link self.old.link ≡ false }
+    /// SUD is 1 while no device is there, or DET holds the link in COMRESET or has disabled it.
+    fn only_spin(&mut self)
         ensures { self.new ≡ record self.old { sud = true } }
     {
         self.spun_up = true;
@@ -209,7 +208,7 @@ impl Port {
         ensures consequence { result ≡ port_consequence self.old value Register.PxSctl }
     {
         let control = value & 0xfff;
-        let next = self.link.asked(value & 0xf, self.spun_up);
+        let next = self.link.asked(value & 0xf, self.present, self.spun_up);
         match (self.link, next) {
             (Link::Up, Link::Up)
             | (Link::Listening, Link::Listening)
@@ -255,9 +254,10 @@ impl Port {
     }
 
     /// The device is there again, and is busy until its signature is taken.
-    fn come_up(&mut self, control: u32, spun_up: bool)
+    pub(super) fn come_up(&mut self, control: u32, spun_up: bool)
+        requires present { self.old.present ≡ true }
         requires control { control < 2 ^ 12 }
-        requires link { asked_link (control % 2 ^ 4) spun_up Up ≡ Up }
+        requires link { asked_link (control % 2 ^ 4) self.old.present spun_up Up ≡ Up }
         requires power { (not self.old.capabilities.sss || spun_up) ≡ spun_up }
         ensures { self.new ≡ came_up (record self.old { sctl = control; sud = spun_up }) }
     {
@@ -274,7 +274,8 @@ impl Port {
     /// The link is gone, and the commands with it (section 10.4.2).
     fn go_down(&mut self, control: u32, link: Link)
         requires control { control < 2 ^ 12 }
-        requires link { asked_link (control % 2 ^ 4) self.old.sud link ≡ link }
+        requires link { asked_link (control % 2 ^ 4) self.old.present self.old.sud link ≡ link }
+        requires down { is_up link ≡ false }
         ensures { self.new ≡ went_down (record self.old { sctl = control }) link }
     {
         self.lose_device();

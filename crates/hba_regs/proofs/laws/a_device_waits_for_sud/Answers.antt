@@ -6,7 +6,7 @@ pub returns-clause-waits : goal.returns-clause-waits
 returns-clause-waits c = still_waits c.args.regs.now.port c.args.value c.requires.link c.requires.sud c.requires.sss
 
 pub returns-clause-up : goal.returns-clause-up
-returns-clause-up c = λ b. ap (λ p. p.link) (spins c.args.regs.now.port c.args.value c.requires.link c.requires.sud c.requires.sss b)
+returns-clause-up c = λ d b. ap (λ p. p.link) (spins c.args.regs.now.port c.args.value d c.requires.link c.requires.sud c.requires.sss b)
 
 pub returns-clause-due : goal.returns-clause-due
-returns-clause-due c = λ b. ap (λ p. p.signature) (spins c.args.regs.now.port c.args.value c.requires.link c.requires.sud c.requires.sss b)
+returns-clause-due c = λ d b. ap (λ p. p.signature) (spins c.args.regs.now.port c.args.value d c.requires.link c.requires.sud c.requires.sss b)

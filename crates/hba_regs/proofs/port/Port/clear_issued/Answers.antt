@@ -18,6 +18,7 @@ invariant_of-self c =
       power = h.power;
       sctl = h.sctl;
       link = h.link;
+      present = h.present;
       ccs = h.ccs;
       speed = h.speed;
       first = h.first;

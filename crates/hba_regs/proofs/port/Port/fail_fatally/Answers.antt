@@ -7,4 +7,4 @@ use Rattle.hba_regs.proofs.port.Port.fail_fatally.Goals as goal
 pub invariant_of-self : goal.invariant_of-self
 invariant_of-self c =
     let h = c.self.invariant in
-    record { capable = h.capable; clb = h.clb; fb = h.fb; reach = h.reach; is = subst IsKept (sym c.failed-self-inside.ensures) (kept-fatal _ c.args.fatal h.is); ie = h.ie; stopped = h.stopped; sact = h.sact; ci = h.ci; power = h.power; sctl = h.sctl; link = h.link; ccs = h.ccs; speed = h.speed; first = h.first }
+    record { capable = h.capable; clb = h.clb; fb = h.fb; reach = h.reach; is = subst IsKept (sym c.failed-self-inside.ensures) (kept-fatal _ c.args.fatal h.is); ie = h.ie; stopped = h.stopped; sact = h.sact; ci = h.ci; power = h.power; sctl = h.sctl; link = h.link; present = h.present; ccs = h.ccs; speed = h.speed; first = h.first }

@@ -19,6 +19,7 @@ invariant_of-result c = record {
   power = first_power _;
   sctl = omega arith;
   link = refl;
+  present = λ e. refl;
   ccs = omega arith;
   speed = omega (arith, c.iss.ensures.value);
   first = omega (arith, c.keeps_its_rules.ensures.0);

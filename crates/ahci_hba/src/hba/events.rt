@@ -1,0 +1,103 @@
+//! What the link, the device and the interface do by themselves (AHCI 1.3.1, sections 6.1.2, 6.2.2 and chapter 7). Each may happen at any time.
+
+ghost use Rattle.std.specs.Prelude.{◌≡◌, true, false, IfErr, OnOk};
+ghost use Rattle.ahci_hba.specs.Events.{device_plugged, device_unplugged, failed_at_interface, link_found, link_lost, lost_journal, may_receive_unknown, receiving_unknown, unplugged_journal};
+
+use crate::ending::Ending;
+use crate::fault::HbaFault;
+use crate::hba::Hba;
+use crate::hba::answering::UNKNOWN;
+use crate::last_fis::LastFis;
+use crate::work::Work;
+use ahci_port::Journal;
+use arrayvec::ArrayVec;
+use hba_regs::{Consequence, InterfaceError};
+use sector_store::SectorStore;
+use std::alloc::Allocator;
+
+impl<A: Allocator, S: SectorStore> Hba<A, S> {
+    /// The device that is plugged in makes itself known, as `HbaRegs::find_link` has it: the link comes up if the port listens and SUD is 1, and the
+    /// signature is due, as after a COMRESET. A port that was halted stays so until ST is cleared.
+    pub fn find_link(&mut self)
+        ensures { self.new ≡ link_found self.old }
+    {
+        self.registers.find_link();
+    }
+
+    /// The disk is plugged in, with the sectors that it had, as `HbaRegs::plug` has it.
+    pub fn plug(&mut self)
+        ensures { self.new ≡ device_plugged self.old }
+    {
+        self.registers.plug();
+    }
+
+    /// The interface fails under a FIS, as `HbaRegs::fail_interface` has it. A fatal error stops the transfer: of what was read or written nothing
+    /// more is. After one that isn't fatal the controller goes on.
+    pub fn fail_interface(&mut self, error: InterfaceError, is_fatal: bool)
+        ensures { self.new ≡ failed_at_interface self.old error is_fatal }
+    {
+        let stops = is_fatal && self.registers.link_is_up();
+        self.registers.fail_interface(error, is_fatal);
+        if stops {
+            self.turn_to(Work::Idle);
+        }
+    }
+}
+
+impl<A: Allocator + Copy, S: SectorStore> Hba<A, S> {
+    /// Whether a FIS of a type that isn't known can be received now: the port accepts it, and nothing is read or written just now.
+    pub fn may_receive_unknown(&self) -> bool
+        ensures { result ≡ may_receive_unknown self.now }
+    {
+        self.is_idle() && self.registers.accepts_fis()
+    }
+
+    /// The device sends a FIS of a type that isn't known: its bytes are written at 60h of the received FIS area, and then UFS and DIAG.F are set (AHCI
+    /// 1.3.1, sections 3.3.5, UFS, and 4.2.1), and the port goes on. The bytes are the caller's, from the type on.
+    ///
+    /// # Errors
+    /// `NotReady` exactly if `may_receive_unknown` is false.
+    pub fn receive_unknown(&mut self, fis: ArrayVec<u8, 28>) -> Result<(), HbaFault>
+        ensures ok { OnOk result ((may_receive_unknown self.old ≡ true) × (self.new ≡ receiving_unknown self.old fis.items)) }
+        ensures err { IfErr result (λ e. (e ≡ HbaFault.NotReady) × (may_receive_unknown self.old ≡ false) × (self.new ≡ self.old)) }
+    {
+        if !self.may_receive_unknown() {
+            return Err(HbaFault::NotReady);
+        }
+        let put = self.received_put(UNKNOWN, fis);
+        let posting = self.only_after(put);
+        self.answer(posting, Ending::of(true, LastFis::Unknown));
+        Ok(())
+    }
+
+    /// The link is lost, as `HbaRegs::lose_link` has it: a device whose link was up drops all commands, as by a reset of the link (profile). None of them
+    /// changes a sector or the driver's memory any more. If the port has requests or a failure has halted it, it is reset, and the journal that it hands
+    /// out is the answer; it goes on by number.
+    pub fn lose_link(&mut self) -> Option<Journal<A>>
+        ensures state { self.new ≡ link_lost self.old }
+        ensures journal { result ≡ lost_journal self.old }
+    {
+        if !self.registers.link_is_up() {
+            self.registers.lose_link();
+            return None;
+        }
+        let journal = self.reset_port(Consequence::LinkReset);
+        self.settle_power(Consequence::LinkReset);
+        self.registers.lose_link();
+        self.empty();
+        journal
+    }
+
+    /// The disk is pulled out, as `HbaRegs::unplug` has it: nothing brings the link up until `plug`. All commands are dropped, as by `power_on`, whose
+    /// answer it has. The disk keeps its sectors, and is Active once it is plugged in again.
+    pub fn unplug(&mut self) -> Option<Journal<A>>
+        ensures state { self.new ≡ device_unplugged self.old }
+        ensures journal { result ≡ unplugged_journal self.old }
+    {
+        let journal = self.reset_port(Consequence::Reset);
+        self.registers.unplug();
+        self.wake();
+        self.empty();
+        journal
+    }
+}
