@@ -377,6 +377,15 @@ typedef enum ahci_want {
     AHCI_WANT_WRITE = 2  /* it writes some bytes: ahci_hba_bytes copies them out, and ahci_hba_written confirms that they are written */
 } ahci_want;
 
+/* An error of the interface, by the number of its bit in PxSERR (section 3.3.12, DIAG). */
+typedef enum ahci_interface_error {
+    AHCI_INTERFACE_DECODE = 19,         /* B: a character that can't be decoded */
+    AHCI_INTERFACE_CRC = 21,            /* C: a FIS with a wrong CRC */
+    AHCI_INTERFACE_HANDSHAKE = 22,      /* H: the device answered a FIS with R_ERR */
+    AHCI_INTERFACE_LINK_SEQUENCE = 23,  /* S: an erroneous transition of the link layer */
+    AHCI_INTERFACE_TRANSPORT_STATE = 24 /* T: one of the transport layer */
+} ahci_interface_error;
+
 /* The next step with the command of a slot. Which of the slots comes first is the caller's choice. */
 typedef enum ahci_hba_step_kind {
     AHCI_STEP_NONE = 0,    /* there is none now */
@@ -620,6 +629,25 @@ uint32_t ahci_hba_write(ahci_hba *hba, uint32_t offset, uint32_t bytes, uint64_t
    by hot unplug, and may be another guest's next. It is as ahci_hba_new_with makes it with the same capabilities and depth, over the disk as it is;
    GHC.HR leaves PxCLB and PxFB, and doesn't make the disk Active. Doesn't allocate. */
 uint32_t ahci_hba_power_on(ahci_hba *hba, uint64_t *entries);
+
+/* Events: what the link, the disk and the interface do by themselves, each at any time (chapter 6, and 7, "Hot Plug Operation"). *entries as by a reset.
+
+   PhyRdy is lost: DET 0, DIAG.N and PRCS, and a port with ST 1 stops at its command; PxCI and PxSACT stay until the driver clears ST. The disk drops all
+   commands. Nothing changes while no link is up. */
+uint32_t ahci_hba_lose_link(ahci_hba *hba, uint64_t *entries);
+
+/* A disk that is plugged in makes itself known by COMINIT: DIAG.X and PCS, and the link comes up with the signature due if the port listens and SUD is 1. */
+uint32_t ahci_hba_find_link(ahci_hba *hba);
+
+/* The disk is pulled out: DET 0, and nothing that the driver writes brings the link up until ahci_hba_plug. It drops all commands and keeps its sectors. */
+uint32_t ahci_hba_unplug(ahci_hba *hba, uint64_t *entries);
+
+/* It is plugged in again. */
+uint32_t ahci_hba_plug(ahci_hba *hba);
+
+/* A FIS meets this ahci_interface_error (sections 6.1.2 and 6.2.2): DIAG's bit with one of ERR, and IFS if it is fatal, which stops the port, else INFS, after
+   which all goes on. Without a link nothing changes. AHCI_BAD_KIND for a number that is no error. */
+uint32_t ahci_hba_fail_interface(ahci_hba *hba, uint32_t error, uint32_t is_fatal);
 
 /* What the controller does next. Doesn't allocate. */
 uint32_t ahci_hba_look(ahci_hba *hba, ahci_hba_state *state);

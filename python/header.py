@@ -16,7 +16,7 @@ STRUCTS = {"port": library.PortPlace, "stepped": library.SteppedStruct, "reply":
            "tag_sets": library.SetsStruct, "entry": library.EntryStruct, "written": library.WrittenStruct, "state": library.StateStruct,
            "fis": library.FisStruct, "command": library.CommandStruct, "hba": library.HbaPlace,
            "hba_state": library.LookStruct, "hba_capabilities": library.CapabilitiesStruct}
-ENUMS = {"status": (ahci.Status, ""), "event": (ahci.Event, "EVENT_"), "phase": (ahci.Phase, "PHASE_"), "kind": (ahci.Kind, ""), "did": (ahci.Did, ""),
+ENUMS = {"status": (ahci.Status, ""), "event": (ahci.Event, "EVENT_"), "phase": (ahci.Phase, "PHASE_"), "interface_error": (ahci.InterfaceError, "INTERFACE_"), "kind": (ahci.Kind, ""), "did": (ahci.Did, ""),
          "order": (ahci.Order, "ORDER_"), "outcome": (ahci.Outcome, "DID_"), "wrote": (ahci.Wrote, "WROTE_"), "want": (ahci.Want, "WANT_"), "hba_step_kind": (ahci.Step, "STEP_"),
          "rule": (ahci.Rule, "RULE_")}
 

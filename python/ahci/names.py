@@ -85,6 +85,16 @@ class Phase(enum.IntEnum):
     DONE = 6
 
 
+class InterfaceError(enum.IntEnum):
+    """An error of the interface, by the number of its bit in PxSERR (ahci_interface_error)."""
+
+    DECODE = 19
+    CRC = 21
+    HANDSHAKE = 22
+    LINK_SEQUENCE = 23
+    TRANSPORT_STATE = 24
+
+
 class Order(enum.IntEnum):
     """In which order the device goes on with the tags of a set (ahci_order)."""
 

@@ -34,6 +34,7 @@ mod alone;
 mod controlled;
 mod controller;
 mod device;
+mod events;
 mod judging;
 mod looking;
 mod making;

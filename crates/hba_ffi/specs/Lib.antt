@@ -4,4 +4,5 @@ pub mod PlaceView
 pub mod Over
 pub mod Looking
 pub mod Calls
+pub mod Events
 pub mod Judging

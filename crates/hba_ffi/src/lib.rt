@@ -2,6 +2,7 @@
 #![tactic(auto)]
 
 mod capable;
+mod events;
 mod flat;
 mod held;
 mod judging;
@@ -13,6 +14,7 @@ mod registers;
 mod stepping;
 mod trimming;
 
+pub use events::{fail_interface, find_link, lose_link, plug, unplug};
 pub use flat::{FlatCapabilities, FlatHba};
 pub use held::HeldHba;
 pub use judging::{command_breaks, entry_breaks, length_breaks, write_breaks};

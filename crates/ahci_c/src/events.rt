@@ -1,0 +1,65 @@
+//! The controller for C: what the link, the disk and the interface do by themselves.
+#![tactic(auto, using(hba_ffi::proofs::OverLemmas::none_changes, hba_ffi::proofs::OverLemmas::none_reads, hba_ffi::proofs::OverLemmas::some_changes, hba_ffi::proofs::OverLemmas::some_reads))]
+
+ghost use Rattle.std.specs.Prelude.{◌≡◌, ◌==◌, not, ⊤};
+ghost use Rattle.ahci_hba.specs.Events.{device_plugged, device_unplugged, link_found, link_lost, lost_journal, unplugged_journal};
+ghost use Rattle.hba_ffi.specs.{
+  Events.{AnswersInterface, HasHandedOut, error_numbered},
+  Over.{Changes},
+  PlaceView.{view_of},
+};
+
+use ahci_ffi::Status;
+use hba_ffi::HbaPlace;
+use std::alloc::Global;
+
+/// The link is lost.
+#[unsafe(no_mangle)]
+pub extern "C" fn ahci_hba_lose_link(hba: &mut HbaPlace, heap: Global, entries: &mut u64) -> u32
+    ensures { Changes result (view_of hba.old) (view_of hba.new) (entries.new ≡ entries.old)
+        (λ answer old new. (answer ≡ Status.Done) × (new ≡ link_lost old) × HasHandedOut (lost_journal old) entries.new) }
+{
+    over!(hba, heap, |held| hba_ffi::lose_link(&mut held, entries))
+}
+
+/// The device makes itself known.
+#[unsafe(no_mangle)]
+pub extern "C" fn ahci_hba_find_link(hba: &mut HbaPlace, heap: Global) -> u32
+    ensures { Changes result (view_of hba.old) (view_of hba.new) ⊤ (λ answer old new. (answer ≡ Status.Done) × (new ≡ link_found old)) }
+{
+    over!(hba, heap, |held| hba_ffi::find_link(&mut held))
+}
+
+/// The disk is pulled out.
+#[unsafe(no_mangle)]
+pub extern "C" fn ahci_hba_unplug(hba: &mut HbaPlace, heap: Global, entries: &mut u64) -> u32
+    ensures { Changes result (view_of hba.old) (view_of hba.new) (entries.new ≡ entries.old)
+        (λ answer old new. (answer ≡ Status.Done) × (new ≡ device_unplugged old) × HasHandedOut (unplugged_journal old) entries.new) }
+{
+    over!(hba, heap, |held| hba_ffi::unplug(&mut held, entries))
+}
+
+/// The disk is plugged in.
+#[unsafe(no_mangle)]
+pub extern "C" fn ahci_hba_plug(hba: &mut HbaPlace, heap: Global) -> u32
+    ensures { Changes result (view_of hba.old) (view_of hba.new) ⊤ (λ answer old new. (answer ≡ Status.Done) × (new ≡ device_plugged old)) }
+{
+    over!(hba, heap, |held| hba_ffi::plug(&mut held))
+}
+
+/// The interface fails under a FIS; the error is fatal unless `is_fatal` is 0.
+#[unsafe(no_mangle)]
+pub extern "C" fn ahci_hba_fail_interface(
+    hba: &mut HbaPlace,
+    heap: Global,
+    error: u32,
+    is_fatal: u32,
+) -> u32
+    ensures { Changes result (view_of hba.old) (view_of hba.new) ⊤ (λ answer old new. AnswersInterface (error_numbered error) (not (is_fatal == 0)) answer old new) }
+{
+    over!(
+        hba,
+        heap,
+        |held| hba_ffi::fail_interface(&mut held, error, is_fatal != 0)
+    )
+}
