@@ -1,17 +1,16 @@
 -- What each call does to the registers is a list of transitions.
-use Rattle.std.proofs.Common.{◌≡◌, ℕ, Bool, true, false, ◌&&◌, List, [], ◌∷◌, ◌++◌, Option, Some, None, if◌then◌else◌, nat_eq, nat_lt, IsSomeAnd, refl, ap, subst, sym, ◌∙◌}
+use Rattle.std.proofs.Common.{◌≡◌, ℕ, Bool, true, false, List, [], ◌∷◌, ◌++◌, if◌then◌else◌, refl, ap, sym, ◌∙◌}
 use Rattle.hba_regs.specs.HbaState.{HbaState}
 use Rattle.hba_regs.specs.Receiving.{moved, signature_moves, signed}
-use Rattle.hba_regs.specs.declared.fatal.Fatal.{Fatal}
 use Rattle.hba_regs.specs.declared.fatal.Fatal.TheVariants as fatal
 use Rattle.hba_regs.specs.declared.signature.Signature.{Signature}
 use Rattle.hba_regs.specs.declared.signature.Signature.TheVariants.{Past, Due, Unposted}
 use Rattle.hba_memory.specs.Posting.{PostingView, advanced, is_none, remaining}
 use Rattle.hba_memory.specs.Reading.{ReadingView, Header, Command, Entries, Content, Whole, Malformed, Short, after_bytes}
 use Rattle.ahci_hba.specs.HbaView.{HbaView, WorkView, Idle, Fetching, Served, Pio, Block, Posting}
-use Rattle.ahci_hba.specs.Moving.{after_block_of, after_data_in, answering, block_ended, blocking, ended, ended_by, overflowed, put_done, read_so_far, setup_taken, supplied, unmapped}
+use Rattle.ahci_hba.specs.Moving.{answering, block_ended, blocking, ended, ended_by, overflowed, put_done, read_so_far, setup_taken, supplied, unmapped}
 use Rattle.ahci_hba.specs.Transfer.{TransferView, has_interrupt}
-use Rattle.ahci_hba.specs.Transitions.{Takes, Transition, CfisSuccess, DrOverflow, ErrFatal, PioEntry, PioUpdate, RegFisEntry, RegFisPostToMem, RegFisUpdate, SdbEntry, SelectCmd, SrstCleared, SrstSet, Stuck, UnknownFis, after, after_all}
+use Rattle.ahci_hba.specs.Transitions.{Takes, Transition, CfisSuccess, DrOverflow, ErrFatal, PioEntry, PioUpdate, RegFisEntry, RegFisPostToMem, RegFisUpdate, SdbEntry, Stuck, UnknownFis, after, after_all}
 use Rattle.ahci_hba.specs.declared.ending.Ending.{Ending}
 use Rattle.ahci_hba.specs.declared.last_fis.LastFis.{LastFis}
 use Rattle.ahci_hba.specs.declared.last_fis.LastFis.TheVariants as last_fis

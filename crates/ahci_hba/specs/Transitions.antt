@@ -1,6 +1,6 @@
 -- The transitions of the port's state machine that a call of the controller takes (AHCI 1.3.1, section 5.3). Nothing that the device does moves a register
 -- but by one of them.
-use Rattle.std.specs.Prelude.{◌≡◌, ℕ, Bool, true, false, not, ◌&&◌, nat_eq, List, [], ◌∷◌}
+use Rattle.std.specs.Prelude.{◌≡◌, ℕ, Bool, false, not, ◌&&◌, nat_eq, List, [], ◌∷◌}
 use Rattle.word_bits.specs.Places.{bits, has_place}
 use Rattle.hba_regs.specs.HbaState.{HbaPort, HbaState}
 use Rattle.hba_regs.specs.InterfaceErrors.{unknown_received}
