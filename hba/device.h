@@ -79,6 +79,13 @@ void device_master(struct device *device, bool is_master);
 /* The PCI function is reset, or taken out: the controller is as after power-on, bases and all, and the disk keeps its sectors. */
 void device_reset(struct device *device);
 
+/* What the link, the disk and the interface do by themselves, as ahci.h has it. */
+void device_lose_link(struct device *device);
+void device_find_link(struct device *device);
+void device_unplug(struct device *device);
+void device_plug(struct device *device);
+void device_fail_interface(struct device *device, ahci_interface_error error, bool is_fatal);
+
 /* Writes the image back if a command has written, without waiting for it. */
 void device_save(struct device *device);
 

@@ -27,12 +27,67 @@ static void power_on(struct device *device, const struct event *event) {
     device_reset(device);
 }
 
+static void lose_link(struct device *device, const struct event *event) {
+    (void)event;
+    device_lose_link(device);
+}
+
+static void find_link(struct device *device, const struct event *event) {
+    (void)event;
+    device_find_link(device);
+}
+
+static void unplug(struct device *device, const struct event *event) {
+    (void)event;
+    device_unplug(device);
+}
+
+static void plug(struct device *device, const struct event *event) {
+    (void)event;
+    device_plug(device);
+}
+
+/* The errors of the interface, each of which is an event of its own: how it is reported, and whether it stops the port. */
+static const struct {
+    ahci_interface_error error;
+    bool is_fatal;
+} interface_errors[EVENT_KINDS] = {
+    [EVENT_DECODE_ERROR] = {AHCI_INTERFACE_DECODE, false},
+    [EVENT_FATAL_DECODE_ERROR] = {AHCI_INTERFACE_DECODE, true},
+    [EVENT_CRC_ERROR] = {AHCI_INTERFACE_CRC, false},
+    [EVENT_FATAL_CRC_ERROR] = {AHCI_INTERFACE_CRC, true},
+    [EVENT_HANDSHAKE_ERROR] = {AHCI_INTERFACE_HANDSHAKE, false},
+    [EVENT_FATAL_HANDSHAKE_ERROR] = {AHCI_INTERFACE_HANDSHAKE, true},
+    [EVENT_SEQUENCE_ERROR] = {AHCI_INTERFACE_LINK_SEQUENCE, false},
+    [EVENT_FATAL_SEQUENCE_ERROR] = {AHCI_INTERFACE_LINK_SEQUENCE, true},
+    [EVENT_TRANSPORT_ERROR] = {AHCI_INTERFACE_TRANSPORT_STATE, false},
+    [EVENT_FATAL_TRANSPORT_ERROR] = {AHCI_INTERFACE_TRANSPORT_STATE, true},
+};
+
+static void fail_interface(struct device *device, const struct event *event) {
+    device_fail_interface(device, interface_errors[event->kind].error, interface_errors[event->kind].is_fatal);
+}
+
 /* What the events do, to the device or to the PCI function. */
 static void (*const on_device[EVENT_KINDS])(struct device *device, const struct event *event) = {
     [EVENT_NO_MEMORY] = lose_memory,
     [EVENT_LOSE_INTERRUPT] = lose_interrupt,
     [EVENT_LATE_INTERRUPT] = delay_interrupt,
     [EVENT_POWER_ON] = power_on,
+    [EVENT_LOSE_LINK] = lose_link,
+    [EVENT_FIND_LINK] = find_link,
+    [EVENT_UNPLUG] = unplug,
+    [EVENT_PLUG] = plug,
+    [EVENT_DECODE_ERROR] = fail_interface,
+    [EVENT_FATAL_DECODE_ERROR] = fail_interface,
+    [EVENT_CRC_ERROR] = fail_interface,
+    [EVENT_FATAL_CRC_ERROR] = fail_interface,
+    [EVENT_HANDSHAKE_ERROR] = fail_interface,
+    [EVENT_FATAL_HANDSHAKE_ERROR] = fail_interface,
+    [EVENT_SEQUENCE_ERROR] = fail_interface,
+    [EVENT_FATAL_SEQUENCE_ERROR] = fail_interface,
+    [EVENT_TRANSPORT_ERROR] = fail_interface,
+    [EVENT_FATAL_TRANSPORT_ERROR] = fail_interface,
 };
 static void (*const on_function[EVENT_KINDS])(struct pci *pci) = {
     [EVENT_SEND_INTERRUPT] = pci_interrupt,

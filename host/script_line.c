@@ -178,16 +178,16 @@ static bool take_condition(struct parsing *it) {
 /* ---- events ---- */
 
 /* The events that a server has, as a list. */
-static const char *events_of(unsigned server, char text[256]) {
+static const char *events_of(unsigned server, char text[512]) {
     size_t length = 0;
     for (enum event_kind kind = 0; kind < EVENT_KINDS; kind++)
         if (event_rows[kind].servers & server)
-            length += (size_t)snprintf(text + length, 256 - length, "%s%s", length ? ", " : "", event_rows[kind].name);
+            length += (size_t)snprintf(text + length, 512 - length, "%s%s", length ? ", " : "", event_rows[kind].name);
     return text;
 }
 
 static bool take_event_kind(struct parsing *it, enum event_kind *kind) {
-    char text[256];
+    char text[512];
     unsigned at = 0;
     while (at < EVENT_KINDS && !words_are_at(it->words, event_rows[at].name))
         at++;

@@ -8,7 +8,7 @@ import ahci
 from ahci import Rule, Step, Want, command_breaks, entry_breaks, length_breaks
 from ahci.hba import Hba
 
-PXCLB, PXFB, PXIS, PXIE, PXCMD, PXTFD, PXSIG, PXSERR, PXSACT, PXCI = 0x100, 0x108, 0x110, 0x114, 0x118, 0x120, 0x124, 0x130, 0x134, 0x138
+PXCLB, PXFB, PXIS, PXIE, PXCMD, PXTFD, PXSIG, PXSSTS, PXSCTL, PXSERR, PXSACT, PXCI = 0x100, 0x108, 0x110, 0x114, 0x118, 0x120, 0x124, 0x128, 0x12C, 0x130, 0x134, 0x138
 LIST, RECEIVED, TABLES, DATA = 0x1000, 0x400, 0x2000, 0x8000
 SECTORS = 64
 
@@ -154,6 +154,22 @@ with Hba(bytes(SECTORS * 512), depth=32) as hba:
     assert (hba.read(PXFB), hba.read(PXSACT)) == (RECEIVED, 8) and hba.power_on() == 2
     assert [hba.read(at) for at in (PXCLB, PXFB, PXCMD, PXTFD, PXSIG, PXSERR, PXSACT)] == [0, 0, 6, 0x80, 0xFFFFFFFF, 0x04050000, 0]
     assert hba.look().want == Want.NOTHING and not any(hba.look().next) and hba.copy(5) == b"\xAA" * 512 and hba.power_on() == 0
+
+    # the link is lost and found, a FIS meets an error, and the disk is pulled out and plugged in again
+    hba.write(PXSERR, 0xFFFFFFFF)
+    assert hba.lose_link() == 0 and (hba.read(PXSSTS), hba.read(PXSERR), hba.read(PXIS) & 0x400040) == (0, 0x10000, 0x400000)
+    hba.find_link()
+    assert (hba.read(PXSSTS) & 15, hba.read(PXSERR), hba.read(PXIS) & 0x400040) == (3, 0x04010000, 0x400040)
+    hba.fail_interface(ahci.InterfaceError.CRC, False)
+    assert (hba.read(PXSERR), hba.read(PXIS) & 0x0C000000) == (0x04210001, 0x04000000)
+    assert hba.unplug() == 0 and hba.read(PXSSTS) == 0
+    hba.find_link()
+    hba.write(PXSCTL, 0x301)
+    hba.write(PXSCTL, 0x300)
+    assert hba.read(PXSSTS) == 0 and hba.copy(5) == b"\xAA" * 512
+    hba.plug()
+    assert hba.read(PXSSTS) & 15 == 3
+    refused(ahci.Status.BAD_KIND, lambda: hba.fail_interface(20, True))  # type: ignore[arg-type]
 
 header, fis = struct.pack("<HHIQ16x", 5, 1, 0, TABLES), queued(0x60, 2, 5).ljust(20, b"\0")
 assert command_breaks(Rule.TAG_NOT_SLOT, 3, True, header, fis) and not command_breaks(Rule.TAG_NOT_SLOT, 2, True, header, fis)

@@ -45,6 +45,15 @@ CASES: Sequence[Case] = (
     # the controller
     ("on first read do no_memory", [("read", "no memory, 1 messages"), ("again", "started"), ("read", FINE)]),
     ("on 3rd write PxCI do power_on", [("read", FINE), ("read", FINE), ("read", "done, 0 messages"), ("registers", "PxCLB 0, stopped"), ("read", FINE)]),
+    # the link, the disk and the interface: PRCS is bit 22 of PxIS, PCS 6, IFS 27, INFS 26; DIAG.N is bit 16 of PxSERR, X 26, and ERR.I 0, T 8, P 10
+    ("on 2nd read do lose_link", [("read", FINE), ("unanswered", "no answer"), ("look", "PxIS 00400000, PxSERR 00010000, DET 0, 0 messages"), ("comreset", "0 messages"), ("read", FINE)]),
+    ("on first read do lose_link then wait 1ms then find_link", [("unanswered", "no answer"), ("up", "PxIS 00400040, PxSERR 04010000, DET 3, 0 messages"), ("comreset", "0 messages"), ("read", FINE)]),
+    ("on first read do unplug\non 3rd write PxSCTL do plug",
+     [("unanswered", "no answer"), ("look", "PxIS 00400000, PxSERR 00010000, DET 0, 0 messages"), ("link", "DET 0"), ("comreset", "0 messages"), ("read", FINE)]),
+    *((f"on first read do {name}_error\non 2nd read do fatal_{name}_error",
+       [("read", FINE), ("look", f"PxIS 00000000, PxSERR {1 << diag | 1 << least:08x}, DET 3, 0 messages"), ("unanswered", "no answer"),
+        ("look", f"PxIS 08000000, PxSERR {1 << diag | 1 << least | 1 << most:08x}, DET 3, 1 messages"), ("comreset", "0 messages"), ("read", FINE)])
+      for name, diag, least, most in (("decode", 19, 0, 8), ("crc", 21, 0, 8), ("handshake", 22, 0, 8), ("sequence", 23, 10, 10), ("transport", 24, 10, 10))),
     # those that are shipped
     ("interrupts_without_a_cause.events", [("awaited", "messages, PxIS 00000000"), ("awaited", "messages, PxIS 00000000")]),
     ("fails_again_during_recovery.events", [("read", FINE), ("read", FINE), ("read", "error 40, 1 messages"), ("recover", "the log can't be read, error 04"),
@@ -58,6 +67,10 @@ CASES: Sequence[Case] = (
     ("two_errors_in_a_row.events",
      [("read", FINE)] * 19 + [("read", "error 40, 1 messages"), ("recover", "tag 3, error 40 at 100"), ("read", "error 04, 1 messages"), ("recover", "tag 3, error 04 at 100"),
      ("read", FINE)]),
+    ("recovered_errors.events", [("read", FINE)] * 24 + [("look", "PxIS 00000000, PxSERR 00000000, DET 3, 0 messages"), ("read", FINE), ("look", "PxIS 00000000, PxSERR 00200001, DET 3, 0 messages")]
+     + [("write", FINE)] * 40 + [("look", "PxIS 00000000, PxSERR 00600001, DET 3, 0 messages")]),
+    ("crc_error_then_ok.events", [("read", FINE)] * 99 + [("unanswered", "no answer"), ("look", "PxIS 08000000, PxSERR 00200100, DET 3, 1 messages"), ("comreset", "0 messages"), ("read", FINE)]),
+    ("a_link_that_is_lost.events", [("read", FINE)] * 63 + [("unanswered", "no answer"), ("up", "PxIS 00400040, PxSERR 04010000, DET 3, 0 messages"), ("comreset", "0 messages"), ("read", FINE)]),
     ("a_tag_that_fails.events", [("full", "1 outstanding, error 04"), ("recover", "tag 31, error 04 at 248")] * 3 + [("full", "0 outstanding, done")]),
     ("error_in_a_full_queue.events", [("full", "0 outstanding, done"), ("full", "1 outstanding, error 40"), ("recover", "tag 31, error 40 at 248"), ("read", FINE)]),
 )

@@ -70,7 +70,9 @@ def right_lines(room: str) -> str:
     return f"{len(RIGHT) + len(RIGHT_FOR_HBA)} lines"
 
 
-HBA_EVENTS = "an event that hba has (stall, slow, fail, no_memory, lose_interrupt, late_interrupt, send_interrupt, power_on, wait)"
+HBA_EVENTS = ("an event that hba has (stall, slow, fail, no_memory, lose_interrupt, late_interrupt, send_interrupt, power_on, lose_link, find_link, unplug, plug, decode_error, "
+              "fatal_decode_error, crc_error, fatal_crc_error, handshake_error, fatal_handshake_error, sequence_error, fatal_sequence_error, transport_error, "
+              "fatal_transport_error, wait)")
 NBD_EVENTS = "an event that nbd has (slow, fail)"
 PLACE = "every, first, a place such as 3rd, or time"
 END = "\0"  # the end of the line

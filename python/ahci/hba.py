@@ -16,7 +16,7 @@ import mmap
 from typing import List, Optional, Union
 
 from .library import Bytes, CapabilitiesStruct, HbaPlace, LookStruct, Owner, fits, given, u32, u64
-from .names import Rule, Step, Want
+from .names import InterfaceError, Rule, Step, Want
 from .records import Capabilities, Entry, Look, State
 
 Memory = Union[bytearray, memoryview, mmap.mmap]
@@ -63,6 +63,26 @@ class Hba(Owner):
         """Power-on, as by a reset of the machine or of the PCI function: as a new controller with the same capabilities, over the disk as it is. Returns
         what `write` does."""
         return self._number("power_on", u64)
+
+    def lose_link(self) -> int:
+        """PhyRdy is lost: the disk drops its commands. Returns what `write` does."""
+        return self._number("lose_link", u64)
+
+    def find_link(self) -> None:
+        """A disk that is plugged in makes itself known by COMINIT."""
+        self._call("find_link")
+
+    def unplug(self) -> int:
+        """The disk is pulled out, and nothing brings the link up until `plug`. Returns what `write` does."""
+        return self._number("unplug", u64)
+
+    def plug(self) -> None:
+        """The disk is plugged in again, with the sectors that it had."""
+        self._call("plug")
+
+    def fail_interface(self, error: InterfaceError, is_fatal: bool) -> None:
+        """A FIS meets an error of the interface, which stops the port if it is fatal."""
+        self._call("fail_interface", fits(error, 32, "error"), int(is_fatal))
 
     def look(self) -> Look:
         """What the controller does next."""
