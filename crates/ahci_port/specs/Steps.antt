@@ -57,8 +57,8 @@ LacksRoom port = port.held < length port.past + call_room
 
 -- only then can the issue of a command lack memory, but for the bytes of a write that are copied: entries are too few, or it writes to a
 -- store that grows
-abbrev pub MayLack : PortView → Work → Type 0
-MayLack port work = ((is_write work && port.grows) ≡ false) → LacksRoom port
+abbrev pub MayLack : (can_grow : Bool) → PortView → Work → Type 0
+MayLack can_grow port work = ((is_write work && (can_grow && port.grows)) ≡ false) → LacksRoom port
 
 -- an entry is appended once there is room for so many. Memory is asked for only where less is held than they need
 pub record ReservesRoom (old new : PortView) : Type 0 where

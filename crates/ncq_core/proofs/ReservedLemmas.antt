@@ -1,5 +1,5 @@
 -- Which sectors are reserved, as a store says and as a disk lists it.
-use Rattle.std.proofs.Common.{◌≡◌, ℕ, ◌+◌, ◌<◌, ◌≤◌, Bool, true, false, ◌||◌, List, Option, None, Some, sym, subst, refl, ◌∙◌, arith, inl, inr, map}
+use Rattle.std.proofs.Common.{◌≡◌, ℕ, ◌+◌, ◌<◌, ◌≤◌, Bool, true, false, not, ◌&&◌, ◌||◌, List, Option, None, Some, sym, subst, refl, ◌∙◌, arith, inl, inr, map}
 use Rattle.std.specs.Option.{IfSome}
 use Rattle.std.proofs.lemmas.Bool.{cases_lt}
 use Rattle.std.proofs.lemmas.Option.{same_Some}
@@ -42,10 +42,11 @@ pub all_reserved : (f g : ℕ → Bool) (lba count : ℕ) → StayReserved f g �
 all_reserved f g lba count stay all s from below = stay s (all s from below)
 
 -- a store has the memory that a command needs, if it never grows or its sectors are listed
-pub may_move : (grows : Bool) (f : ℕ → Bool) (n : ℕ) (q : QueuedFields) → ((s : ℕ) → (grows || f s) ≡ true) → q.lba + q.sectors ≤ n → HasMemory grows n (reserved_of f n) q
+pub may_move : (can_grow grows : Bool) (f : ℕ → Bool) (n : ℕ) (q : QueuedFields) → ((s : ℕ) → (grows || f s) ≡ true) → (can_grow || not grows) ≡ true → q.lba + q.sectors ≤ n → HasMemory (can_grow && grows) n (reserved_of f n) q
     → q.write ≡ true → AreReserved f q.lba q.sectors
-may_move false f n q none fits has write = λ s from below. none s
-may_move true f n q none fits has write = λ s from below. unlisted f n s (subst (λ b. HasRoom n (reserved_of f n) b q.lba q.sectors) write has fits s from below)
+may_move can_grow false f n q none can fits has write = λ s from below. none s
+may_move false true f n q none can fits has write = absurd (cc)
+may_move true true f n q none can fits has write = λ s from below. unlisted f n s (subst (λ b. HasRoom n (reserved_of f n) b q.lba q.sectors) write has fits s from below)
 
 -- the memory is there for the command at a tag
 pub memory_at : (grows : Bool) (n : ℕ) (reserved : List Bool) (o : Option QueuedFields) (q : QueuedFields) → o ≡ Some q → HasRoom n reserved q.write q.lba q.sectors → IfSome o (HasMemory grows n reserved)

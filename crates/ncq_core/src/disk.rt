@@ -8,7 +8,7 @@ mod moving;
 mod serving;
 mod taking;
 
-ghost use Rattle.std.specs.Prelude.{◌≡◌, ◌+◌, ◌*◌, ◌/◌, ◌<◌, ◌≤◌, ◌^◌, None, Some, false, true, length, is_some, IfOk, IfErr, IfSome, OnOk, OnErr};
+ghost use Rattle.std.specs.Prelude.{◌≡◌, ◌+◌, ◌*◌, ◌/◌, ◌<◌, ◌≤◌, ◌^◌, None, Some, false, true, ◌&&◌, length, is_some, IfOk, IfErr, IfSome, OnOk, OnErr};
 ghost use Rattle.std.specs.Option.{option_copied};
 ghost use Rattle.word_bits.specs.Places.{bits};
 ghost use Rattle.ncq_journal.specs.Image.{sector_at};
@@ -230,7 +230,7 @@ impl<S: SectorStore> Disk<S> {
     /// If there is no memory, which only a write lacks, to a store that grows. Nothing but what is reserved has changed then.
     pub fn reserve(&mut self, command: &Queued) -> Result<(), AllocError>
         ensures ok { OnOk result (HasRoom (disk_sectors self.old) self.new.reserved command.now.write command.now.lba command.now.sectors) }
-        ensures lacking { OnErr result ((command.now.write ≡ true) × (self.old.grows ≡ true)) }
+        ensures lacking { OnErr result ((command.now.write ≡ true) × ((S.can_grow && self.old.grows) ≡ true)) }
         ensures stay { StayReserved (is_reserved_in self.old.reserved) (is_reserved_in self.new.reserved) }
         ensures state { self.new ≡ record self.old { reserved = self.new.reserved } }
     {
@@ -245,7 +245,7 @@ impl<S: SectorStore> Disk<S> {
     fn reserve_run(&mut self, lba: u64, sectors: u64) -> Result<(), AllocError>
         requires { lba + sectors ≤ disk_sectors self.old }
         ensures ok { OnOk result (AreReserved (is_reserved_in self.new.reserved) lba sectors) }
-        ensures lacking { OnErr result (self.old.grows ≡ true) }
+        ensures lacking { OnErr result ((S.can_grow && self.old.grows) ≡ true) }
         ensures stay { StayReserved (is_reserved_in self.old.reserved) (is_reserved_in self.new.reserved) }
         ensures state { self.new ≡ record self.old { reserved = self.new.reserved } }
     {

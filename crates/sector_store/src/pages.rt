@@ -68,7 +68,11 @@ impl<B: Base, A: Allocator + Copy> SectorStore for Pages<B, A> {
 
     ghost is_reserved = { λ p s. is_writable (slot_at p.table) s };
 
+    ghost can_grow = { true };
+
     ghost grows = { λ p. true };
+
+    ghost none_grows = { λ p. refl };
 
     ghost none_lacks = { λ p s. refl };
 

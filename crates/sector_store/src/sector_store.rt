@@ -1,6 +1,6 @@
 //! What a disk needs of what holds its sectors.
 
-ghost use Rattle.std.specs.Prelude.{◌≡◌, ℕ, ◌+◌, ◌*◌, ◌/◌, ◌<◌, ◌≤◌, Bool, true, ◌||◌, List, length, take, drop, OnOk, OnErr};
+ghost use Rattle.std.specs.Prelude.{◌≡◌, ℕ, ◌+◌, ◌*◌, ◌/◌, ◌<◌, ◌≤◌, Bool, true, not, ◌&&◌, ◌||◌, List, length, take, drop, OnOk, OnErr};
 ghost use Rattle.ncq_journal.specs.Image.{IsWrittenOver};
 ghost use Rattle.sector_store.specs.Reserved.{AreReserved, StayReserved};
 
@@ -17,7 +17,10 @@ pub trait SectorStore {
     // a sector can be written with no more memory
     ghost is_reserved: { Self → ℕ → Bool };
 
-    // a write may need more memory
+    // a write to some such store may need more memory
+    ghost can_grow: { Bool };
+
+    // a write to this one may
     ghost grows: { Self → Bool };
 
     /// How many sectors there are.
@@ -43,7 +46,7 @@ pub trait SectorStore {
     fn reserve(&mut self, lba: u64, sectors: u64) -> Result<(), AllocError>
         requires { 512 * (lba + sectors) ≤ length (image self.old) }
         ensures ok { OnOk result (AreReserved (is_reserved self.new) lba sectors) }
-        ensures lacking { OnErr result (grows self.old ≡ true) }
+        ensures lacking { OnErr result ((can_grow && grows self.old) ≡ true) }
         ensures kind { grows self.new ≡ grows self.old }
         ensures stay { StayReserved (is_reserved self.old) (is_reserved self.new) }
         ensures image { image self.new ≡ image self.old }
@@ -76,4 +79,7 @@ pub trait SectorStore {
 
     // a store that doesn't grow has reserved every sector
     ghost none_lacks: { (store : Self) (lba : ℕ) → (grows store || is_reserved store lba) ≡ true };
+
+    // none grows that can't
+    ghost none_grows: { (store : Self) → (can_grow || not (grows store)) ≡ true };
 }

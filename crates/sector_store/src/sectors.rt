@@ -71,6 +71,10 @@ impl<A: Allocator> SectorStore for Sectors<A> {
 
     ghost is_reserved = { λ s. elim s [ the.Whole w ↦ ⟦<Whole<A> as SectorStore>⟧.is_reserved w | the.Pages p ↦ ⟦<Pages<Buffer<'static>, Global> as SectorStore>⟧.is_reserved p ] };
 
+    ghost can_grow = { true };
+
+    ghost none_grows = { λ s. refl };
+
     ghost grows = { λ s. elim s [ the.Whole w ↦ false | the.Pages p ↦ true ] };
 
     ghost none_lacks = { λ s lba. elim s as (λ k. ((elim k as (λ x. Bool) [ the.Whole w ↦ false | the.Pages p ↦ true ]) || (elim k as (λ x. ℕ → Bool) [ the.Whole w ↦ ⟦<Whole<A> as SectorStore>⟧.is_reserved w | the.Pages p ↦ ⟦<Pages<Buffer<'static>, Global> as SectorStore>⟧.is_reserved p ]) lba) ≡ true) [ the.Whole w ↦ refl | the.Pages p ↦ refl ] };

@@ -38,7 +38,11 @@ impl<A: Allocator> SectorStore for Single<A> {
 
     ghost is_reserved = { λ s lba. true };
 
+    ghost can_grow = { false };
+
     ghost grows = { λ s. false };
+
+    ghost none_grows = { λ s. refl };
 
     ghost none_lacks = { λ s lba. refl };
 

@@ -45,7 +45,11 @@ impl<A: Allocator> SectorStore for Whole<A> {
 
     ghost is_reserved = { λ w s. true };
 
+    ghost can_grow = { false };
+
     ghost grows = { λ w. false };
+
+    ghost none_grows = { λ w. refl };
 
     ghost none_lacks = { λ w s. refl };
 

@@ -132,7 +132,7 @@ impl<A: Allocator + Clone, S: SectorStore> Port<A, S> {
         ensures issued { OnOk result (IsIssued window self.old self.new) }
         ensures taken { OnOk result (MayTake self.old window.tag × IsFit window) }
         ensures fault { IfErr result (λ e. RefusesIssue self.old window e.1) }
-        ensures lacking { IfErr result (λ e. e.1 ≡ IssueFault.OutOfMemory → MayLack self.old (op window)) }
+        ensures lacking { IfErr result (λ e. e.1 ≡ IssueFault.OutOfMemory → MayLack S.can_grow self.old (op window)) }
         ensures err { IfErr result (λ e. (e.0 ≡ window) × (self.new ≡ self.old)) }
     {
         match self.command_of(&window) {
@@ -157,7 +157,7 @@ impl<A: Allocator + Clone, S: SectorStore> Port<A, S> {
         ensures number { IfOk result (λ n. n ≡ next_number self.old) }
         ensures issued { OnOk result (IsIssued window self.old self.new) }
         ensures fault { IfErr result (λ e. e.1 ≡ IssueFault.OutOfMemory) }
-        ensures lacking { OnErr result (MayLack self.old (op window)) }
+        ensures lacking { OnErr result (MayLack S.can_grow self.old (op window)) }
         ensures err { IfErr result (λ e. (e.0 ≡ window) × (self.new ≡ self.old)) }
     {
         match self.enter(window, command, asked) {
@@ -184,7 +184,7 @@ impl<A: Allocator + Clone, S: SectorStore> Port<A, S> {
         requires asked { work_of asked ≡ op window }
         ensures number { IfOk result (λ n. n ≡ next_number self.old) }
         ensures issued { OnOk result (IsIssued window self.old self.new) }
-        ensures lacking { OnErr result (MayLack self.old (op window)) }
+        ensures lacking { OnErr result (MayLack S.can_grow self.old (op window)) }
         ensures err { IfErr result (λ e. (e.0 ≡ window) × (e.1 ≡ asked) × (self.new ≡ self.old)) }
     {
         let tag = window.tag();

@@ -1,6 +1,6 @@
 //! How the disk ends a command that is outstanding: by serving it, or by an error, which a page of the log tells.
 
-ghost use Rattle.std.specs.Prelude.{◌≡◌, ◌+◌, ◌<◌, ◌≤◌, slice_set, None, Some, Err, length, IfOk, IfErr, IfSome, IsOk, OnOk, OnErr, IsSome, IsSomeAnd, MatchOption};
+ghost use Rattle.std.specs.Prelude.{◌≡◌, ◌+◌, ◌<◌, ◌≤◌, ◌&&◌, slice_set, None, Some, Err, length, IfOk, IfErr, IfSome, IsOk, OnOk, OnErr, IsSome, IsSomeAnd, MatchOption};
 ghost use Rattle.ncq_core.specs.DiskState.{IsDisk, IsOutstanding, command_of, disk_sectors, is_reserved_in};
 ghost use Rattle.ncq_core.specs.DiskFis.{setup_bytes, failed_bytes};
 ghost use Rattle.ncq_core.specs.Verdict.{stopped_by};
@@ -36,7 +36,7 @@ impl<S: SectorStore> Disk<S> {
     /// `Stopped` where an error stands, `NotAccepted` where nothing is outstanding at the tag.
     pub fn serve<H: Host>(&mut self, tag: u8, host: &mut H) -> Result<(), ServeFault>
         requires room { IfSome (command_of self.old tag) (λ q. byte_count q ≤ length (H.text host.old)) }
-        requires reserved { IfSome (command_of self.old tag) (HasMemory self.old.grows (disk_sectors self.old) self.old.reserved) }
+        requires reserved { IfSome (command_of self.old tag) (HasMemory (S.can_grow && self.old.grows) (disk_sectors self.old) self.old.reserved) }
         ensures answer { MatchOption (serve_fault self.old tag) (IsOk result) (λ f. result ≡ Err f) }
         ensures state { OnOk result (self.new ≡ served self.old tag self.new.image self.new.reserved) }
         ensures stay { OnOk result (StayReserved (is_reserved_in self.old.reserved) (is_reserved_in self.new.reserved)) }
@@ -104,7 +104,7 @@ impl<S: SectorStore> Disk<S> {
     #[tactic(auto, using(crate::proofs::DiskLemmas::is_disk_moved, crate::proofs::ReservedLemmas::listed_stay, crate::proofs::ReservedLemmas::may_move))]
     fn move_sectors<H: Host>(&mut self, command: &Queued, host: &mut H)
         requires sectors { command.now.lba + command.now.sectors ≤ disk_sectors self.old }
-        requires reserved { HasMemory self.old.grows (disk_sectors self.old) self.old.reserved command.now }
+        requires reserved { HasMemory (S.can_grow && self.old.grows) (disk_sectors self.old) self.old.reserved command.now }
         requires start { H.offset host.old ≡ 0 }
         requires room { byte_count command.now ≤ length (H.text host.old) }
         ensures state { self.new ≡ record self.old { image = self.new.image; reserved = self.new.reserved } }
