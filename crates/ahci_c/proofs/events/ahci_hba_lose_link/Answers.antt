@@ -1,0 +1,8 @@
+use Rattle.std.proofs.Common.{Some, ap, sym, ◌∙◌}
+use Rattle.hba_ffi.proofs.OverLemmas.{some_changes}
+use Rattle.ahci_c.proofs.events.ahci_hba_lose_link.Goals as goal
+
+pub returns : goal.returns
+returns c =
+    some_changes _ _ _ _ c.lose_link-answer.result _ _ _ (sym c.in-Some.ensures.taken ∙ ap Some (sym c.deref_mut.ensures.value)) c.back.ensures.place c.back.ensures.headline
+    c.back.ensures.number (c.lose_link-answer.ensures.done, c.lose_link-answer.ensures.state, c.lose_link-answer.ensures.counted)
