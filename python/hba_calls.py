@@ -159,9 +159,9 @@ with Hba(bytes(SECTORS * 512), depth=32) as hba:
     hba.write(PXSERR, 0xFFFFFFFF)
     assert hba.lose_link() == 0 and (hba.read(PXSSTS), hba.read(PXSERR), hba.read(PXIS) & 0x400040) == (0, 0x10000, 0x400000)
     hba.find_link()
-    assert (hba.read(PXSSTS) & 15, hba.read(PXSERR), hba.read(PXIS) & 0x400040) == (3, 0x04010000, 0x400040)
+    assert (hba.read(PXSSTS) & 15, hba.read(PXSERR), hba.read(PXIS) & 0x400040) == (3, 0x04050000, 0x400040)
     hba.fail_interface(ahci.InterfaceError.CRC, False)
-    assert (hba.read(PXSERR), hba.read(PXIS) & 0x0C000000) == (0x04210001, 0x04000000)
+    assert (hba.read(PXSERR), hba.read(PXIS) & 0x0C000000) == (0x04250001, 0x04000000)
     assert hba.unplug() == 0 and hba.read(PXSSTS) == 0
     hba.find_link()
     hba.write(PXSCTL, 0x301)

@@ -45,9 +45,9 @@ CASES: Sequence[Case] = (
     # the controller
     ("on first read do no_memory", [("read", "no memory, 1 messages"), ("again", "started"), ("read", FINE)]),
     ("on 3rd write PxCI do power_on", [("read", FINE), ("read", FINE), ("read", "done, 0 messages"), ("registers", "PxCLB 0, stopped"), ("read", FINE)]),
-    # the link, the disk and the interface: PRCS is bit 22 of PxIS, PCS 6, IFS 27, INFS 26; DIAG.N is bit 16 of PxSERR, X 26, and ERR.I 0, T 8, P 10
+    # the link, the disk and the interface: PRCS is bit 22 of PxIS, PCS 6, IFS 27, INFS 26; DIAG.N is bit 16 of PxSERR, W 18, X 26, and ERR.I 0, T 8, P 10
     ("on 2nd read do lose_link", [("read", FINE), ("unanswered", "no answer"), ("look", "PxIS 00400000, PxSERR 00010000, DET 0, 0 messages"), ("comreset", "0 messages"), ("read", FINE)]),
-    ("on first read do lose_link then wait 1ms then find_link", [("unanswered", "no answer"), ("up", "PxIS 00400040, PxSERR 04010000, DET 3, 0 messages"), ("comreset", "0 messages"), ("read", FINE)]),
+    ("on first read do lose_link then wait 1ms then find_link", [("unanswered", "no answer"), ("up", "PxIS 00400040, PxSERR 04050000, DET 3, 0 messages"), ("comreset", "0 messages"), ("read", FINE)]),
     ("on first read do unplug\non 3rd write PxSCTL do plug",
      [("unanswered", "no answer"), ("look", "PxIS 00400000, PxSERR 00010000, DET 0, 0 messages"), ("link", "DET 0"), ("comreset", "0 messages"), ("read", FINE)]),
     *((f"on first read do {name}_error\non 2nd read do fatal_{name}_error",
@@ -70,7 +70,7 @@ CASES: Sequence[Case] = (
     ("recovered_errors.events", [("read", FINE)] * 24 + [("look", "PxIS 00000000, PxSERR 00000000, DET 3, 0 messages"), ("read", FINE), ("look", "PxIS 00000000, PxSERR 00200001, DET 3, 0 messages")]
      + [("write", FINE)] * 40 + [("look", "PxIS 00000000, PxSERR 00600001, DET 3, 0 messages")]),
     ("crc_error_then_ok.events", [("read", FINE)] * 99 + [("unanswered", "no answer"), ("look", "PxIS 08000000, PxSERR 00200100, DET 3, 1 messages"), ("comreset", "0 messages"), ("read", FINE)]),
-    ("a_link_that_is_lost.events", [("read", FINE)] * 63 + [("unanswered", "no answer"), ("up", "PxIS 00400040, PxSERR 04010000, DET 3, 0 messages"), ("comreset", "0 messages"), ("read", FINE)]),
+    ("a_link_that_is_lost.events", [("read", FINE)] * 63 + [("unanswered", "no answer"), ("up", "PxIS 00400040, PxSERR 04050000, DET 3, 0 messages"), ("comreset", "0 messages"), ("read", FINE)]),
     ("a_tag_that_fails.events", [("full", "1 outstanding, error 04"), ("recover", "tag 31, error 04 at 248")] * 3 + [("full", "0 outstanding, done")]),
     ("error_in_a_full_queue.events", [("full", "0 outstanding, done"), ("full", "1 outstanding, error 40"), ("recover", "tag 31, error 40 at 248"), ("read", FINE)]),
 )
