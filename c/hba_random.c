@@ -333,6 +333,100 @@ static void power_cycle(void)
         start();
 }
 
+/* ---- events ---- */
+
+/* PhyRdy is lost, or the disk is pulled out: a queue with requests hands its journal out. */
+static void lose(bool pulls)
+{
+    uint64_t entries = 77;
+    const bool busy = reg.link == UP && is_busy();
+    CHECK((pulls ? ahci_hba_unplug(&hba, &entries) : ahci_hba_lose_link(&hba, &entries)) == AHCI_OK && (entries != 0) == busy);
+    if (pulls)
+        is_pulled();
+    else
+        loses_link();
+    follow(entries);
+}
+
+static void lose_link(void) { lose(false); }
+static void unplug(void) { lose(true); }
+
+/* COMINIT, here and below not while the link is up: the shadow sets DIAG.X then, since any COMINIT does (section 3.3.12), and the library changes nothing. */
+static void find_link(void)
+{
+    if (reg.link == UP)
+        return;
+    CHECK(ahci_hba_find_link(&hba) == AHCI_OK);
+    finds_link();
+    follow(0);
+}
+
+static void plug(void)
+{
+    if (reg.link == UP)
+        return;
+    CHECK(ahci_hba_plug(&hba) == AHCI_OK);
+    is_plugged();
+    follow(0);
+}
+
+/* An error of the interface, or one that it doesn't have: DIAG.D is not AHCI's, and the other bits are no such errors. */
+static void fail_interface(void)
+{
+    const uint8_t pick = byte();
+    const uint32_t error = pick % 8 == 7 ? word() : 18u + pick % 8, is_fatal = pick >> 3 & 3;
+    const bool is_one = error == 19 || (error >= 21 && error <= 24);
+    CHECK(ahci_hba_fail_interface(&hba, error, is_fatal) == (is_one ? AHCI_OK : AHCI_BAD_KIND));
+    if (is_one)
+        meets_error(error, is_fatal != 0);
+    follow(0);
+}
+
+/* One of them, one time of four, so that runs get on. */
+static void event(void)
+{
+    static void (*const events[])(void) = { lose_link, find_link, unplug, plug, fail_interface, fail_interface };
+    if (byte() % 4 == 0)
+        events[byte() % (sizeof events / sizeof *events)]();
+}
+
+static bool is_lost(void) { return pulled || (reg.link == LISTENS && reg.sud); }
+
+/* What a driver has to bring a link up, each of which does nothing for a disk that is pulled out: PxSCTL.DET, PxCMD.SUD and GHC.HR. */
+static void try_link(void)
+{
+    const uint8_t pick = byte();
+    counted.tries += pulled;
+    switch (pick % 8) {
+    case 0: write(AHCI_REG_GHC, 0x80000001); break;
+    case 1: write(AHCI_REG_PXSCTL, 0x301); break;
+    case 2: write(AHCI_REG_PXSCTL, 0x304); break;
+    case 3: write(AHCI_REG_PXCMD, driven(AHCI_REG_PXCMD) & ~(uint32_t)AHCI_PXCMD_SUD); break;
+    case 4: write(AHCI_REG_PXCMD, driven(AHCI_REG_PXCMD) | AHCI_PXCMD_SUD); break;
+    case 5: find_link(); break;
+    default: write(AHCI_REG_PXSCTL, 0x300); break;
+    }
+    compare();
+}
+
+/* A link that is lost comes back before long: the disk is plugged in, or sends COMINIT, or the driver resets the link. */
+static void get_back(void)
+{
+    const uint8_t pick = byte();
+    if (pick % 8 > 1)
+        return;
+    if (pulled) {
+        plug();
+    } else if (pick % 8) {
+        find_link();
+    } else {
+        write(AHCI_REG_PXSCTL, 0x301);
+        compare();
+        write(AHCI_REG_PXSCTL, 0x300);
+    }
+    compare();
+}
+
 /* A write anywhere, of any size. Few of them reset the HBA. */
 static void write_any(void)
 {
@@ -396,8 +490,9 @@ int LLVMFuzzerTestOneInput(const uint8_t *bytes, size_t count)
 {
     static void (*const calls[])(void) = { command, command, command, command, step_any, step_any, step_any, step_any, step_any, step_any, step_any, step_any, move_all, move_all,
         move_all, move_all, move_all, move_one, move_one, step_this, fail, refuse, sign, sign, restart_if_halted, restart_if_halted, restart, reset, power_cycle, write_any, read_any,
-        trim, scribble, pause };
+        trim, scribble, pause, event, event };
     uint8_t sector[AHCI_SECTOR_BYTES];
+    uint64_t entries = 77;
     input = bytes;
     left = count;
     can = capabilities();
@@ -408,11 +503,18 @@ int LLVMFuzzerTestOneInput(const uint8_t *bytes, size_t count)
     while (left) {
         compare();
         calls[byte() % (sizeof calls / sizeof *calls)]();
+        if (is_lost()) {
+            compare();
+            try_link();
+            get_back();
+        }
     }
     compare();
     compare_image();
     CHECK(ahci_hba_copy(&hba, SECTORS, sector, sizeof sector) == AHCI_NO_SUCH_SECTOR && ahci_hba_copy(&hba, 0, sector, 511) == AHCI_WRONG_LENGTH);
     CHECK(ahci_hba_free(&hba) == AHCI_OK && ahci_hba_free(&hba) == AHCI_NO_PORT);
+    CHECK(ahci_hba_lose_link(&hba, &entries) == AHCI_NO_PORT && ahci_hba_find_link(&hba) == AHCI_NO_PORT && ahci_hba_unplug(&hba, &entries) == AHCI_NO_PORT);
+    CHECK(ahci_hba_plug(&hba) == AHCI_NO_PORT && ahci_hba_fail_interface(&hba, AHCI_INTERFACE_CRC, 1) == AHCI_NO_PORT && entries == 77);
     return 0;
 }
 
@@ -438,6 +540,8 @@ int main(int count, char **arguments)
         counted.trims, counted.halts);
     printf("of them %lu blocks by PIO, %lu reads that spilled, %lu writes that were stuck, %lu failures behind the first sector, %lu tags past the depth, and %lu times in Sleep\n", counted.blocks, counted.spilled,
         counted.stuck, counted.partial, counted.deep, counted.slept);
+    printf("the link was lost %lu times, and COMINIT came %lu times; the disk was pulled out %lu times, and the driver then tried the link %lu times; and %lu errors of the interface\n", counted.lost,
+        counted.found, counted.pulled, counted.tries, counted.broken);
     return 0;
 }
 #endif

@@ -14,9 +14,9 @@
 #define CHECK(it) do { if (!(it)) { fprintf(stderr, "%s, line %d: %s\n", __FILE__, __LINE__, #it); abort(); } } while (0)
 
 /* Bits of PxIS, PxTFD and PxSERR (AHCI 1.3.1, sections 3.3.5, 3.3.8 and 3.3.12). */
-enum { DHRS = 1, PSS = 2, SDBS = 8, OFS = 1 << 24, IFS = 1 << 27, HBFS = 1 << 29, TFES = 1 << 30 };
+enum { DHRS = 1, PSS = 2, SDBS = 8, OFS = 1 << 24, INFS = 1 << 26, IFS = 1 << 27, HBFS = 1 << 29, TFES = 1 << 30 };
 enum { BSY = 0x80, DRQ = 8, ERR = 1 };
-enum { DIAG_X = 1 << 26, DIAG_W = 1 << 18, DIAG_N = 1 << 16 };
+enum { DIAG_X = 1 << 26, DIAG_W = 1 << 18, DIAG_N = 1 << 16, ERR_P = 1 << 10, ERR_T = 1 << 8, ERR_I = 1 << 0 };
 
 static ahci_hba hba;
 static ahci_hba_state look;
@@ -40,6 +40,7 @@ static enum soft { OFF, HELD, ENDING } soft;
 static uint32_t soft_slot;
 static bool failed; /* a queued command has failed, and its log is not read */
 static enum power { ACTIVE, IDLE, STANDBY, SLEEP } power; /* the device's power mode (ACS-3, "Power Management feature set") */
+static bool pulled; /* the disk is pulled out */
 static uint8_t page[AHCI_PAGE_BYTES]; /* the log of that */
 
 /* A FIS of the device, or none, and whether it is still to be written to the received FIS area. */
@@ -64,7 +65,7 @@ static struct { bool on, clears; uint32_t slot, phase, entries, piece; uint64_t 
 static struct { bool on, counts, spills, signs; struct fis before, after; uint32_t slot; uint64_t left; } answer;
 static struct { bool on, begun; uint32_t slot, blocks, past; struct fis end; } transfer;
 
-static struct { unsigned long done, halts, dropped, trims, blocks, spilled, stuck, partial, deep, slept; } counted;
+static struct { unsigned long done, halts, dropped, trims, blocks, spilled, stuck, partial, deep, slept, lost, found, pulled, tries, broken; } counted;
 
 static uint8_t *memory(uint64_t at, uint64_t count)
 {
@@ -125,10 +126,14 @@ static void drop(void)
     fetch.on = answer.on = transfer.on = false;
 }
 
-/* The link comes up, at the speed that CAP and PxSCTL allow, and the device sends its signature. */
+/* A reset of the device, of whatever kind: it is what ends Sleep, and then the device is in Standby. */
+static void is_reset(void) { power = power == SLEEP ? STANDBY : power; }
+
+/* The link comes up, at the speed that CAP and PxSCTL allow, and the device, which is reset by COMRESET or before it sends COMINIT, sends its signature. */
 static void come_up(void)
 {
     const uint32_t limit = reg.sctl >> 4 & 15;
+    is_reset();
     reg.link = UP;
     reg.speed = limit >= 1 && limit <= 3 && limit < can.iss ? limit : can.iss;
     reg.tfd = BSY;
@@ -136,9 +141,6 @@ static void come_up(void)
     signature = DUE;
     soft = OFF;
 }
-
-/* A reset of the device, of whatever kind: it is what ends Sleep, and then the device is in Standby. */
-static void is_reset(void) { power = power == SLEEP ? STANDBY : power; }
 
 static void go_down(void)
 {
@@ -153,8 +155,12 @@ static void go_down(void)
     drop();
 }
 
+/* A disk that is pulled out answers no COMRESET, and then the link is as one that listens: PxSSTS is 0. That PxCI and PxSACT go with each change of DET is open
+   while ST is 1 (section 3.3.11). */
 static void link_to(enum link link)
 {
+    if (link == UP && pulled)
+        link = LISTENS;
     if (link != UP && link != reg.link)
         go_down();
     if (link == UP && reg.link != UP)
@@ -181,7 +187,7 @@ static void reset_hba(void)
     reg.on = reg.receiving = reg.enabled = reg.pending = false;
     reg.sud = !can.sss;
     reg.link = LISTENS;
-    if (!can.sss)
+    if (!can.sss && !pulled)
         come_up();
 }
 
@@ -196,6 +202,7 @@ static void power_on(void)
 static void begin(void)
 {
     memset(&reg, 0, sizeof reg);
+    pulled = false;
     power_on();
     memset(low, 0, sizeof low);
     memset(high, 0, sizeof high);
@@ -357,12 +364,76 @@ static void takes(uint32_t offset, uint32_t value)
         reg.sctl = value & 0xFFF;
         if ((value & 15) == RESET || (value & 15) == OFFLINE)
             link_to(value & 15);
-        else if ((value & 15) == 0)
-            link_to(reg.sud || reg.link == UP ? UP : LISTENS);
+        else if ((value & 15) == 0 && (reg.link == RESET || reg.link == OFFLINE)) /* 0 over 0 asks for nothing (section 3.3.11) */
+            link_to(reg.sud ? UP : LISTENS);
         break;
     case AHCI_REG_PXSERR: reg.serr &= ~value; break;
     case AHCI_REG_PXSACT: reg.sact |= reg.on ? listed(value) : 0; break;
     case AHCI_REG_PXCI: reg.ci |= reg.on ? listed(value) : 0; break;
     }
     interrupt();
+}
+
+/* ---- events: what the link, the disk and the interface do by themselves ---- */
+
+/* PhyRdy is lost: DET is 0 and DIAG.N tells it (sections 3.3.10 and 3.3.12; 7, "Hot Plug Operation"). A port that runs can't go on with its command, and waits for
+   the driver to clear ST, which clears PxCI and PxSACT (sections 3.3.13, 3.3.14 and 6.2.2). What AHCI leaves open: PxTFD and PxSIG are as without a device, whose
+   status is 7Fh (Serial ATA), and a signature that was taken and not posted is forgotten. The device has its commands no more. */
+static void loses_link(void)
+{
+    if (reg.link != UP)
+        return;
+    counted.lost++;
+    reg.link = LISTENS;
+    reg.serr |= DIAG_N;
+    reg.tfd = 0x7F;
+    reg.sig = 0xFFFFFFFF;
+    if (reg.on)
+        halts();
+    failed = false;
+    signature = PAST;
+    soft = OFF;
+    drop();
+}
+
+/* COMINIT comes: DIAG.X is set whenever it does (section 3.3.12), but none comes from a disk that is pulled out or is held in COMRESET, nor to a Phy that is
+   offline (section 3.3.11). A port that waits for it answers, and the link comes up; without SUD it only listens, and DET stays 0 (section 10.10). */
+static void finds_link(void)
+{
+    if (pulled || reg.link == RESET || reg.link == OFFLINE)
+        return;
+    counted.found++;
+    reg.serr |= DIAG_X;
+    if (reg.link == LISTENS && reg.sud)
+        link_to(UP);
+}
+
+/* The disk is pulled out: PhyRdy is lost, and the disk's power with it. A Phy that is offline stays so (section 3.3.10, DET). */
+static void is_pulled(void)
+{
+    loses_link();
+    counted.pulled += !pulled;
+    pulled = true;
+}
+
+/* It is plugged in: its power comes on, so that it is Active, and it sends COMINIT (Serial ATA, "Out of band signaling"); so does one that was not pulled out. */
+static void is_plugged(void)
+{
+    power = pulled ? ACTIVE : power;
+    pulled = false;
+    finds_link();
+}
+
+/* A FIS meets an error of the interface (sections 3.3.12 and 6.1.2): S and T are violations of the protocol; B, C and H are of the data's integrity, which the
+   interface recovers by sending the FIS again, or does not. An error that it does not recover is fatal. */
+static void meets_error(uint32_t error, bool is_fatal)
+{
+    if (reg.link != UP)
+        return;
+    counted.broken++;
+    reg.serr |= 1u << error | (error >= AHCI_INTERFACE_LINK_SEQUENCE ? ERR_P : is_fatal ? ERR_T : ERR_I);
+    if (is_fatal)
+        fatal(IFS);
+    else
+        reg.is |= INFS;
 }

@@ -258,7 +258,8 @@ static int over_a_base(void)
     return lacking;
 }
 
-/* A controller whose journal is trimmed, and that is powered on again. */
+/* A controller whose journal is trimmed, whose interface fails, whose link is lost and found, whose disk is pulled out and plugged in again, and that is powered
+   on again. */
 static int controlled(void)
 {
     ahci_hba hba = AHCI_HBA_EMPTY;
@@ -267,6 +268,11 @@ static int controlled(void)
     int lacking = 0;
     TRY(&none, image, ahci_hba_new(&hba, image, sizeof image, 32));
     NONE(ahci_hba_trim(&hba, &entries));
+    NONE(ahci_hba_fail_interface(&hba, AHCI_INTERFACE_CRC, 1));
+    NONE(ahci_hba_lose_link(&hba, &entries));
+    NONE(ahci_hba_find_link(&hba));
+    NONE(ahci_hba_unplug(&hba, &entries));
+    NONE(ahci_hba_plug(&hba));
     NONE(ahci_hba_power_on(&hba, &entries));
     NONE(ahci_hba_free(&hba));
     return lacking;
