@@ -632,17 +632,18 @@ uint32_t ahci_hba_power_on(ahci_hba *hba, uint64_t *entries);
 
 /* Events: what the link, the disk and the interface do by themselves, each at any time (chapter 6, and 7, "Hot Plug Operation"). *entries as by a reset.
 
-   PhyRdy is lost: DET 0, DIAG.N and PRCS, and a port with ST 1 stops at its command; PxCI and PxSACT stay until the driver clears ST. The disk drops all
+   PhyRdy is lost: DET 0, DIAG.N and PRCS, PxTFD and PxSIG as after COMRESET, and a port with ST 1 stops at its command; PxCI and PxSACT stay until the driver clears ST. The disk drops all
    commands. Nothing changes while no link is up. */
 uint32_t ahci_hba_lose_link(ahci_hba *hba, uint64_t *entries);
 
-/* A disk that is plugged in makes itself known by COMINIT: DIAG.X and PCS, and the link comes up with the signature due if the port listens and SUD is 1. */
+/* A disk that is plugged in and has no link makes itself known by COMINIT: DIAG.X and PCS, and the link comes up with the signature due if the port listens and SUD
+   is 1. Nothing changes while the link is up: a COMINIT of a link that is up isn't modelled. */
 uint32_t ahci_hba_find_link(ahci_hba *hba);
 
 /* The disk is pulled out: DET 0, and nothing that the driver writes brings the link up until ahci_hba_plug. It drops all commands and keeps its sectors. */
 uint32_t ahci_hba_unplug(ahci_hba *hba, uint64_t *entries);
 
-/* It is plugged in again. */
+/* It is plugged in again, and makes itself known. A disk that is in does no more than that. */
 uint32_t ahci_hba_plug(ahci_hba *hba);
 
 /* A FIS meets this ahci_interface_error (sections 6.1.2 and 6.2.2): DIAG's bit with one of ERR, and IFS if it is fatal, which stops the port, else INFS, after
