@@ -33,10 +33,7 @@ pub fn find_link<A: Allocator, S: SectorStore>(hba: &mut Hba<A, S>) -> Status
 }
 
 /// The disk is pulled out. `entries` is how many entries the journal has that is handed out, if the port is reset.
-pub fn unplug<A: Allocator + Copy, S: SectorStore>(
-    hba: &mut Hba<A, S>,
-    entries: &mut u64,
-) -> Status
+pub fn unplug<A: Allocator + Copy, S: SectorStore>(hba: &mut Hba<A, S>, entries: &mut u64) -> Status
     ensures done { result ≡ Status.Done }
     ensures state { hba.new ≡ device_unplugged hba.old }
     ensures counted { HasHandedOut (unplugged_journal hba.old) entries.new }

@@ -91,11 +91,7 @@ pub fn copy<A: Allocator, S: SectorStore>(hba: &Hba<A, S>, lba: u64, out: &mut [
 
 /// Copies the numbers of the pages of eight sectors that may have changed since the journal began to the beginning of `pages`;
 /// `count` is how many there are.
-pub fn touched<A: Allocator>(
-    hba: &Hba<A, Sectors<A>>,
-    pages: &mut [u32],
-    count: &mut u64,
-) -> Status
+pub fn touched<A: Allocator>(hba: &Hba<A, Sectors<A>>, pages: &mut [u32], count: &mut u64) -> Status
     ensures { AnswersTouched hba.now.port result count.new pages.old pages.new }
 {
     ahci_ffi::touched(hba.port(), pages, count)
