@@ -370,6 +370,14 @@ typedef struct ahci_hba_capabilities {
 } ahci_hba_capabilities;
 #define AHCI_HBA_USUAL { 32, 2, 1, 1, 0, 1, 0, 1 }
 
+/* What IDENTIFY DEVICE names the disk (ACS-3), without padding: texts of ASCII, 20h to 7Eh, filled up with spaces, in the order in which they are read. */
+typedef struct ahci_identity {
+    uint8_t serial[20];  /* serial number */
+    uint8_t firmware[8]; /* firmware revision */
+    uint8_t model[40];   /* model number */
+    uint32_t rotation;   /* nominal media rotation rate: 0 is not reported, 1 a disk that doesn't rotate, or 1,025 to 65,534 revolutions a minute */
+} ahci_identity;
+
 /* What the controller does next with the driver's memory. */
 typedef enum ahci_want {
     AHCI_WANT_NOTHING = 0,
@@ -385,6 +393,14 @@ typedef enum ahci_interface_error {
     AHCI_INTERFACE_LINK_SEQUENCE = 23,  /* S: an erroneous transition of the link layer */
     AHCI_INTERFACE_TRANSPORT_STATE = 24 /* T: one of the transport layer */
 } ahci_interface_error;
+
+/* What a device is, by its signature (section 3.3.9, PxSIG). */
+typedef enum ahci_device_kind {
+    AHCI_DEVICE_DISK = 0,             /* 00000101h */
+    AHCI_DEVICE_PACKET = 1,           /* EB140101h: an ATAPI device */
+    AHCI_DEVICE_ENCLOSURE_BRIDGE = 2, /* C33C0101h: an enclosure management bridge */
+    AHCI_DEVICE_PORT_MULTIPLIER = 3   /* 96690101h */
+} ahci_device_kind;
 
 /* The next step with the command of a slot. Which of the slots comes first is the caller's choice. */
 typedef enum ahci_hba_step_kind {
@@ -630,6 +646,19 @@ uint32_t ahci_hba_write(ahci_hba *hba, uint32_t offset, uint32_t bytes, uint64_t
    GHC.HR leaves PxCLB and PxFB, and doesn't make the disk Active. Doesn't allocate. */
 uint32_t ahci_hba_power_on(ahci_hba *hba, uint64_t *entries);
 
+/* What IDENTIFY DEVICE names the disk from now on: before the driver looks, as a rule. Power-on leaves it. AHCI_BAD_KIND if a character or the rotation rate is none of
+   the above: nothing has changed. Doesn't allocate. */
+uint32_t ahci_hba_identity(ahci_hba *hba, const ahci_identity *identity);
+
+/* The disk has a volatile write cache, which is enabled from now on, or has none if `supported` is 0, as a new one. IDENTIFY DEVICE reports it (ACS-3, words 82 and 85), and with it
+   SET FEATURES 02h and 82h enable and disable it; power-on and a hardware reset enable it again. The sectors are written at once all the same: with a cache a driver sends
+   FLUSH CACHE where it needs them to last, which is an entry of the journal. Doesn't allocate. */
+uint32_t ahci_hba_write_cache(ahci_hba *hba, uint32_t supported);
+
+/* *enabled is 1 if the disk has a volatile write cache that is enabled now, else 0. With one, whoever stores the sectors may lose those that were written since the last FLUSH CACHE;
+   SET FEATURES 82h, which disables it, wants them stored, and then each write before it is answered (ACS-3, "SET FEATURES"). Doesn't allocate. */
+uint32_t ahci_hba_write_cache_enabled(ahci_hba *hba, uint32_t *enabled);
+
 /* Events: what the link, the disk and the interface do by themselves, each at any time (chapter 6, and 7, "Hot Plug Operation"). *entries as by a reset.
 
    PhyRdy is lost: DET 0, DIAG.N and PRCS, PxTFD and PxSIG as after COMRESET, and a port with ST 1 stops at its command; PxCI and PxSACT stay until the driver clears ST. The disk drops all
@@ -637,7 +666,7 @@ uint32_t ahci_hba_power_on(ahci_hba *hba, uint64_t *entries);
 uint32_t ahci_hba_lose_link(ahci_hba *hba, uint64_t *entries);
 
 /* A disk that is plugged in and has no link makes itself known by COMINIT: DIAG.X and PCS, and the link comes up with the signature due if the port listens and SUD
-   is 1. Nothing changes while the link is up: a COMINIT of a link that is up isn't modelled. */
+   is 1. Nothing changes while the link is up: a disk that sends COMINIT then has lost PhyRdy before, so call ahci_hba_lose_link first. */
 uint32_t ahci_hba_find_link(ahci_hba *hba);
 
 /* The disk is pulled out: DET 0, and nothing that the driver writes brings the link up until ahci_hba_plug. It drops all commands and keeps its sectors. */
@@ -649,6 +678,18 @@ uint32_t ahci_hba_plug(ahci_hba *hba);
 /* A FIS meets this ahci_interface_error (sections 6.1.2 and 6.2.2): DIAG's bit with one of ERR, and IFS if it is fatal, which stops the port, else INFS, after
    which all goes on. Without a link nothing changes. AHCI_BAD_KIND for a number that is no error. */
 uint32_t ahci_hba_fail_interface(ahci_hba *hba, uint32_t error, uint32_t is_fatal);
+
+/* As ahci_hba_sign, with the signature of a device of this ahci_device_kind: what a driver meets where no disk is. The disk behind it answers commands as before.
+   AHCI_BAD_KIND for a number that is no kind, AHCI_NOT_READY. */
+uint32_t ahci_hba_sign_as(ahci_hba *hba, uint32_t kind);
+
+/* FISes that no command asks for, written to the received FIS area before they take effect: a Set Device Bits FIS with I that names no tag, and with N unless
+   `notification` is 0 (SDBS; N has no effect, since CAP.SSNTF is 0); a D2H Register FIS with I, status 50h and error 00h (DHRS); and one of a type that isn't known, of these
+   28 bytes at most, from the type on (UFS and DIAG.F). AHCI_NOT_READY while something is read or written, without a link, while FRE is 0 or the port waits for ST to be
+   cleared, and, of a Register FIS, while BSY or DRQ is 1. AHCI_WRONG_LENGTH. */
+uint32_t ahci_hba_receive_bits(ahci_hba *hba, uint32_t notification);
+uint32_t ahci_hba_receive_register(ahci_hba *hba);
+uint32_t ahci_hba_receive_unknown(ahci_hba *hba, const uint8_t *fis, size_t fis_bytes);
 
 /* What the controller does next. Doesn't allocate. */
 uint32_t ahci_hba_look(ahci_hba *hba, ahci_hba_state *state);
@@ -666,6 +707,9 @@ uint32_t ahci_hba_written(ahci_hba *hba);
 /* The address that the controller reads or writes is no memory: HBFS, and the port halts (sections 3.3.5 and 6.1). */
 uint32_t ahci_hba_unmapped(ahci_hba *hba);
 
+/* The memory there gives or takes wrong data, as by an error that its check bits can't correct: HBDS, and the port halts. */
+uint32_t ahci_hba_spoiled(ahci_hba *hba);
+
 /* Takes the next step with the command of a slot: the one that `next` names. AHCI_BAD_TAG, AHCI_NOT_READY if there is none,
    AHCI_OUT_OF_MEMORY: the step can be taken again. */
 uint32_t ahci_hba_step(ahci_hba *hba, uint32_t slot, uint64_t *entries);
@@ -681,6 +725,10 @@ uint32_t ahci_hba_fail(ahci_hba *hba, uint32_t slot, uint8_t error, uint64_t lba
    AHCI_OUT_OF_MEMORY: the call can be repeated. */
 uint32_t ahci_hba_refuse(ahci_hba *hba, uint32_t slot, uint8_t error, uint64_t lba);
 
+/* The same with any status in place of 41h: 61h has DF, a device fault, beside ERR, and with 60h, DF alone, the port doesn't halt; with 50h a read ends well that has
+   moved fewer bytes than its list has room for, as PRDBC says, and a write that has stored nothing; with D0h the disk stays busy. */
+uint32_t ahci_hba_end(ahci_hba *hba, uint32_t slot, uint8_t status, uint8_t error, uint64_t lba);
+
 /* The FIS of the disk's signature is taken, and written if FRE is 1; if not, `sign` is 1 again once FRE is 1. AHCI_NOT_READY if `sign` is 0. If
    its address is no memory (ahci_hba_unmapped), PxIS has HBFS and `sign` is 1 again: send it after the driver's next register write, not in a
    loop. */
@@ -693,6 +741,11 @@ uint32_t ahci_hba_trim(ahci_hba *hba, uint64_t *entries);
 
 /* Copies a sector of the disk as it is now. AHCI_WRONG_LENGTH if out_bytes is not 512, AHCI_NO_SUCH_SECTOR. */
 uint32_t ahci_hba_copy(ahci_hba *hba, uint64_t lba, uint8_t *out, size_t out_bytes);
+
+/* Whether a sector of a disk with a volatile write cache may have these 512 bytes after a loss of power. It may have those that the last flush has made durable, and those of a write
+   that was completed since or is outstanding (ACS-3, "Volatile write cache"). `was` are the 512 bytes that it had when the journal began. They are taken as durable; a reset begins
+   the journal anew and is no flush. *may is 1 or 0. AHCI_WRONG_LENGTH, AHCI_NO_SUCH_SECTOR. */
+uint32_t ahci_hba_may_be_left(ahci_hba *hba, const uint8_t *was, size_t was_bytes, uint64_t lba, const uint8_t *bytes, size_t bytes_bytes, uint32_t *may);
 
 /* Copies the numbers of the pages that may have changed since the journal began, as ahci_port_touched has it.
    AHCI_BAD_KIND, AHCI_BUFFER_TOO_SMALL. */

@@ -21,7 +21,10 @@ static void moves(bool gone)
         CHECK(ahci_hba_bytes(&hba, bytes, (size_t)count) == AHCI_OK && may_write(at, count, bytes));
     }
     if (look.want == AHCI_WANT_NOTHING) {
-        CHECK(ahci_hba_supply(&hba, bytes, 0) == AHCI_OK && ahci_hba_written(&hba) == AHCI_OK && ahci_hba_unmapped(&hba) == AHCI_OK);
+        CHECK(ahci_hba_supply(&hba, bytes, 0) == AHCI_OK && ahci_hba_written(&hba) == AHCI_OK && ahci_hba_unmapped(&hba) == AHCI_OK && ahci_hba_spoiled(&hba) == AHCI_OK);
+    } else if (place && gone && byte() % 2) {
+        CHECK(ahci_hba_spoiled(&hba) == AHCI_OK);
+        fatal(HBDS);
     } else if (!place || gone) {
         CHECK(ahci_hba_unmapped(&hba) == AHCI_OK);
         fatal(HBFS);
@@ -123,12 +126,66 @@ static void refuse(void)
     follow(0);
 }
 
+/* It ends one with any status, in place of doing it. */
+static void end(void)
+{
+    static const uint8_t statuses[] = { 0x61, 0x60, 0x50, 0xD0, 0x58, 0x41 };
+    const uint32_t slot = byte() % 4 ? slot_at(AHCI_STEP_SEND) : byte() % 34;
+    const struct command *it = &slots[slot % 32];
+    const uint8_t pick = byte(), error = byte(), status = byte() % 4 ? statuses[pick % 6] : byte();
+    const uint64_t lba = pick % 16 == 7 ? (uint64_t)1 << 48 : (it->lba + pick / 16 % 8 - 1) & 0xFFFFFFFFFFFF;
+    const bool fits = slot < 32 && is_ready() && it->there && !it->sent && !it->queued;
+    CHECK(ahci_hba_end(&hba, slot, status, error, lba) == (slot > 31 ? AHCI_BAD_TAG : lba >> 48 ? AHCI_BAD_LBA : fits ? AHCI_OK : AHCI_NOT_READY));
+    if (fits && !(lba >> 48)) {
+        counted.ended++;
+        needs_medium(it);
+        ends_alone(slot, status, error, lba);
+    }
+    follow(0);
+}
+
+/* The signature of a disk, or of what is none, or of no kind that there is. */
 static void sign(void)
 {
+    static const uint32_t signatures[] = { 0x00000101, 0xEB140101, 0xC33C0101, 0x96690101 };
+    const uint8_t pick = byte();
+    const uint32_t kind = pick % 4 ? 0 : pick / 4 % 5;
     CHECK(!look.sign || (reg.link == UP && look.want == AHCI_WANT_NOTHING));
-    CHECK(ahci_hba_sign(&hba) == (look.sign ? AHCI_OK : AHCI_NOT_READY));
-    if (look.sign)
-        signs();
+    if (kind > 3)
+        CHECK(ahci_hba_sign_as(&hba, pick % 8 ? 4 : word() | 4) == AHCI_BAD_KIND);
+    else
+        CHECK((kind || pick % 8 ? ahci_hba_sign_as(&hba, kind) : ahci_hba_sign(&hba)) == (look.sign ? AHCI_OK : AHCI_NOT_READY));
+    if (look.sign && kind < 4)
+        signs(signatures[kind]);
+    follow(0);
+}
+
+/* A FIS that no command asks for: it names no tag, has no fault, or is of a type that Serial ATA has not. */
+static void send(void)
+{
+    static const uint8_t bytes[32] = { 0x55, 1, 2, 3, 4, 5, 6, 7, 8, 9, 10, 11, 12, 13, 14, 15, 16, 17, 18, 19, 20, 21, 22, 23, 24, 25, 26, 27 };
+    const uint8_t pick = byte();
+    const bool may = accepts() && look.want == AHCI_WANT_NOTHING && !transfer.on && !answer.on;
+    struct fis fis = set_bits(0x40, 0, 0);
+    bool sent = may;
+    switch (pick % 3) {
+    case 0:
+        CHECK(ahci_hba_receive_bits(&hba, pick & 12) == (may ? AHCI_OK : AHCI_NOT_READY));
+        fis.bytes[1] |= pick & 12 ? 0x80 : 0;
+        break;
+    case 1:
+        sent = may && !is_busy_with_one();
+        fis = d2h(0x40, 0x50, 0, 0);
+        CHECK(ahci_hba_receive_register(&hba) == (sent ? AHCI_OK : AHCI_NOT_READY));
+        break;
+    default:
+        fis.size = 1 + pick / 8 % 28;
+        memcpy(fis.bytes, bytes, sizeof fis.bytes);
+        CHECK(ahci_hba_receive_unknown(&hba, bytes, 29 + pick % 3) == AHCI_WRONG_LENGTH);
+        CHECK(ahci_hba_receive_unknown(&hba, bytes, fis.size) == (may ? AHCI_OK : AHCI_NOT_READY));
+    }
+    if (sent)
+        sends(fis);
     follow(0);
 }
 
@@ -215,11 +272,28 @@ static uint32_t lay_list(uint8_t *to, uint32_t moved)
     return shape == NONE ? 0 : shape == ANY_LENGTH && byte() % 4 == 0 ? word() & 0xFFFF : shape == MORE ? count + byte() % 64 : count;
 }
 
+/* The fields of SET FEATURES, SMART and DATA SET MANAGEMENT: mostly those of a subcommand that there is. */
+static void asks_more(uint8_t *fis, uint8_t far, uint8_t many)
+{
+    static const uint8_t features[] = { 0x03, 0x02, 0x82, 0x05, 0x85, 0x55, 0xAA, 0x66, 0xCC, 0x03 }, smart[] = { 0xD0, 0xD1, 0xD2, 0xD4, 0xD5, 0xD8, 0xD8, 0xD9, 0xDA, 0xD4, 0xD5, 0xD3 },
+                         tests[] = { 0, 1, 2, 0x81, 0x82, 0x7F, 6, 3 };
+    if (fis[2] == 0xEF)
+        fis[3] = features[many % sizeof features], fis[12] = far;
+    if (fis[2] == 0x06)
+        fis[3] = many % 8 != 7, fis[12] = 1 + far % 2;
+    if (fis[2] == 0xB0) {
+        fis[3] = smart[many % sizeof smart];
+        fis[4] = tests[far % sizeof tests];
+        fis[5] = 0x4F, fis[6] = far % 32 == 9 ? 0xC3 : 0xC2;
+        fis[12] = fis[3] == 0xD2 && many & 1 ? 0xF1 : far % 16 != 3;
+    }
+}
+
 /* Lays out a command in a slot, and issues it. */
 static void command(void)
 {
     static const uint8_t codes[] = { 0x60, 0x61, 0x60, 0x61, 0x60, 0x61, 0x60, 0x61, 0xC8, 0xCA, 0x25, 0x35, 0x20, 0x20, 0x30, 0x24, 0x34, 0x34, 0xEC, 0x2F, 0x2F, 0x47, 0xEA, 0xE7, 0xEF, 0xA1,
-        0x40, 0x42, 0x27, 0x90, 0xE5, 0xE5, 0xE5, 0xE0, 0xE2, 0xE1, 0xE3, 0xE6, 0x00, 0xB0 };
+        0x40, 0x42, 0x27, 0x90, 0xE5, 0xE5, 0xE5, 0xE0, 0xE2, 0xE1, 0xE3, 0xE6, 0x00, 0xB0, 0xB0, 0xB0, 0xB0, 0xB0, 0xEF, 0xEF, 0xEF, 0xE4, 0xE8, 0xE8, 0xE9, 0xEB, 0x06, 0x06, 0x3D };
     const uint32_t slot = byte() % 8 == 7 ? 31 : byte() % 6, code = codes[byte() % sizeof codes], bit = 1u << slot;
     const uint8_t far = byte(), lba = far % 32 ? far % 12 : far / 32 + 10, many = byte(), count = many % 128 ? 1 + many % 5 : 0, odd = byte();
     const bool queued = code == 0x60 || code == 0x61, log = code == 0x2F || code == 0x47, is_control = odd % 32 == 30 || (soft == HELD && odd % 4 == 2);
@@ -228,17 +302,20 @@ static void command(void)
     uint8_t *header = memory(list_base() + 32 * slot, 32), *table = memory(at, 0x800);
     uint8_t fis[20] = { 0x27, 0x80, (uint8_t)code, queued ? count : 3, lba, 0, 0, 0x40, 0, 0, 0, 0, queued ? (uint8_t)(tag << 3) : count };
     if (log) {
-        fis[4] = many % 4 == 1 ? 0x30 : many % 8 ? 0x10 : 0;
-        fis[5] = many % 4 == 1 ? far % 4 : 0;
-        fis[12] = many % 4 == 1 ? 1 + far / 4 % 3 : many % 16 ? 1 : 2;
+        static const uint8_t logs[] = { 0x10, 0x30, 0x10, 0x00, 0x03, 0x04, 0x07, 0x11 };
+        const bool is_long = many % 4 == 1 || many % 8 == 5;
+        fis[4] = many % 4 == 1 ? 0x30 : logs[many % 8];
+        fis[5] = is_long ? far % 4 : 0;
+        fis[12] = is_long ? 1 + far / 4 % 3 : many % 16 ? 1 : 2;
     }
+    asks_more(fis, far, many);
     if (is_control) /* with SRST or without */
         fis[1] = 0, fis[15] = odd >> 5 & 4;
     if (odd % 64 == 28)
         fis[byte() % 20] = byte();
     if (header) {
         memcpy(table, fis, sizeof fis);
-        const uint32_t entries = lay_list(table + 0x80, code == 0xEC ? 512 : log ? 512u * fis[12] : count ? count * 512u : 0x2000);
+        const uint32_t entries = lay_list(table + 0x80, code == 0xEC || code == 0xB0 || code >> 4 == 0xE ? 512 : log || code == 0x06 ? 512u * fis[12] : count ? count * 512u : 0x2000);
         put(header, 5 | (odd & 0x40) | (is_control && many % 4 ? 0x500 : many % 64 == 33 ? 0x400 : 0) | entries << 16, 4);
         put(header + 4, 0, 4);
         put(header + 8, odd % 64 == 12 ? at + 0x20000 : at + (odd & 0x7F), 8);
@@ -331,6 +408,28 @@ static void power_cycle(void)
     compare();
     if (byte() % 8)
         start();
+}
+
+/* ---- a loss of power ---- */
+
+/* What a sector may hold then: what it has, what it had, what some write has for it, or something else. */
+static void lose_power(void)
+{
+    const uint32_t sector = byte() % SECTORS, pick = byte(), tag = byte() % 32;
+    const uint64_t at = (uint64_t)sector * AHCI_SECTOR_BYTES;
+    const bool goes = going[tag].on && sector >= going[tag].lba && sector < going[tag].lba + going[tag].sectors;
+    uint8_t bytes[AHCI_SECTOR_BYTES];
+    uint32_t may = 77;
+    memcpy(bytes, pick % 4 == 0 ? image + at : pick % 4 == 1 ? beginning + at : pick % 4 == 2 && chance_count ? chances[pick / 4 % chance_count].bytes : goes ? going[tag].bytes + at - going[tag].lba * AHCI_SECTOR_BYTES : durable + at,
+           sizeof bytes);
+    bytes[pick] ^= pick % 16 == 15;
+    CHECK(ahci_hba_may_be_left(&hba, beginning + at, AHCI_SECTOR_BYTES, SECTORS, bytes, sizeof bytes, &may) == AHCI_NO_SUCH_SECTOR && may == 77);
+    CHECK(ahci_hba_may_be_left(&hba, beginning + at, 511, sector, bytes, sizeof bytes, &may) == AHCI_WRONG_LENGTH && may == 77);
+    CHECK(ahci_hba_may_be_left(&hba, beginning + at, AHCI_SECTOR_BYTES, sector, bytes, 513, &may) == AHCI_WRONG_LENGTH && may == 77);
+    CHECK(ahci_hba_may_be_left(&hba, beginning + at, AHCI_SECTOR_BYTES, sector, bytes, sizeof bytes, &may) == AHCI_OK && may <= 1);
+    CHECK(!has_all || may == may_be_left(sector, bytes));
+    counted.left += may;
+    counted.lost_bytes += !may;
 }
 
 /* ---- events ---- */
@@ -489,8 +588,8 @@ int LLVMFuzzerTestOneInput(const uint8_t *bytes, size_t count);
 int LLVMFuzzerTestOneInput(const uint8_t *bytes, size_t count)
 {
     static void (*const calls[])(void) = { command, command, command, command, step_any, step_any, step_any, step_any, step_any, step_any, step_any, step_any, move_all, move_all,
-        move_all, move_all, move_all, move_one, move_one, step_this, fail, refuse, sign, sign, restart_if_halted, restart_if_halted, restart, reset, power_cycle, write_any, read_any,
-        trim, scribble, pause, event, event };
+        move_all, move_all, move_all, move_one, move_one, step_this, fail, refuse, end, send, sign, sign, restart_if_halted, restart_if_halted, restart, reset, power_cycle, write_any, read_any,
+        trim, scribble, pause, event, event, lose_power };
     uint8_t sector[AHCI_SECTOR_BYTES];
     uint64_t entries = 77;
     input = bytes;
@@ -514,6 +613,8 @@ int LLVMFuzzerTestOneInput(const uint8_t *bytes, size_t count)
     CHECK(ahci_hba_copy(&hba, SECTORS, sector, sizeof sector) == AHCI_NO_SUCH_SECTOR && ahci_hba_copy(&hba, 0, sector, 511) == AHCI_WRONG_LENGTH);
     CHECK(ahci_hba_free(&hba) == AHCI_OK && ahci_hba_free(&hba) == AHCI_NO_PORT);
     CHECK(ahci_hba_lose_link(&hba, &entries) == AHCI_NO_PORT && ahci_hba_find_link(&hba) == AHCI_NO_PORT && ahci_hba_unplug(&hba, &entries) == AHCI_NO_PORT);
+    CHECK(ahci_hba_end(&hba, 0, 0x61, 0, 0) == AHCI_NO_PORT && ahci_hba_sign_as(&hba, 1) == AHCI_NO_PORT && ahci_hba_spoiled(&hba) == AHCI_NO_PORT);
+    CHECK(ahci_hba_receive_bits(&hba, 1) == AHCI_NO_PORT && ahci_hba_receive_register(&hba) == AHCI_NO_PORT && ahci_hba_receive_unknown(&hba, sector, 4) == AHCI_NO_PORT);
     CHECK(ahci_hba_plug(&hba) == AHCI_NO_PORT && ahci_hba_fail_interface(&hba, AHCI_INTERFACE_CRC, 1) == AHCI_NO_PORT && entries == 77);
     return 0;
 }
@@ -542,6 +643,9 @@ int main(int count, char **arguments)
         counted.stuck, counted.partial, counted.deep, counted.slept);
     printf("the link was lost %lu times, and COMINIT came %lu times; the disk was pulled out %lu times, and the driver then tried the link %lu times; and %lu errors of the interface\n", counted.lost,
         counted.found, counted.pulled, counted.tries, counted.broken);
+    printf("and the disk took data that are no sectors %lu times\n", counted.stored);
+    printf("after a loss of power a sector might have had some bytes %lu times, and %lu times not\n", counted.left, counted.lost_bytes);
+    printf("%lu commands ended with another status, %lu signatures were not a disk's, and %lu FISes came that no command asks for\n", counted.ended, counted.foreign, counted.unasked);
     return 0;
 }
 #endif

@@ -14,7 +14,8 @@
 #define CHECK(it) do { if (!(it)) { fprintf(stderr, "%s, line %d: %s\n", __FILE__, __LINE__, #it); abort(); } } while (0)
 
 /* Bits of PxIS, PxTFD and PxSERR (AHCI 1.3.1, sections 3.3.5, 3.3.8 and 3.3.12). */
-enum { DHRS = 1, PSS = 2, SDBS = 8, OFS = 1 << 24, INFS = 1 << 26, IFS = 1 << 27, HBFS = 1 << 29, TFES = 1 << 30 };
+enum { DHRS = 1, PSS = 2, SDBS = 8, OFS = 1 << 24, INFS = 1 << 26, IFS = 1 << 27, HBDS = 1 << 28, HBFS = 1 << 29, TFES = 1 << 30 };
+enum { UFS = 1 << 4, DIAG_F = 1 << 25 };
 enum { BSY = 0x80, DRQ = 8, ERR = 1 };
 enum { DIAG_X = 1 << 26, DIAG_W = 1 << 18, DIAG_N = 1 << 16, ERR_P = 1 << 10, ERR_T = 1 << 8, ERR_I = 1 << 0 };
 
@@ -38,9 +39,12 @@ static struct {
 static enum signature { PAST, DUE, UNPOSTED } signature;
 static enum soft { OFF, HELD, ENDING } soft;
 static uint32_t soft_slot;
+static uint32_t told; /* the signature that was taken and not posted, as PxSIG has it */
 static bool failed; /* a queued command has failed, and its log is not read */
 static enum power { ACTIVE, IDLE, STANDBY, SLEEP } power; /* the device's power mode (ACS-3, "Power Management feature set") */
 static bool pulled; /* the disk is pulled out */
+/* What the disk keeps (ACS-3, SET FEATURES, SMART, WRITE BUFFER): the level of APM is 0 if it is disabled; the logs of self-tests are without their checksums. */
+static struct { bool has_cache, cache, ahead, reverts, smart; uint8_t level, tests[AHCI_PAGE_BYTES], more_tests[AHCI_PAGE_BYTES], buffer[AHCI_PAGE_BYTES]; } disk;
 static uint8_t page[AHCI_PAGE_BYTES]; /* the log of that */
 
 /* A FIS of the device, or none, and whether it is still to be written to the received FIS area. */
@@ -48,9 +52,9 @@ struct fis { uint8_t bytes[28]; uint32_t size; bool due; };
 static const struct fis no_fis;
 
 /* The commands that were read, by slot. Of the list: how many bytes it has, and which run and which of its bytes the data have come to. */
-enum kind { OTHER, QUEUE, READ, WRITE, PAGE, CONTROL };
+enum kind { OTHER, QUEUE, READ, WRITE, PAGE, STORE, CONTROL };
 static struct command {
-    bool there, sent, accepted, queued, writes, pio, error_log, identify_log, resets, has_48_bits;
+    bool there, sent, accepted, queued, writes, pio, error_log, long_log, is_smart, resets, has_48_bits;
     enum kind kind;
     uint8_t fis[20];
     uint64_t lba, moved, room, used, into;
@@ -62,10 +66,10 @@ static struct command {
 /* What is read: the command of a slot, up to a place. What is written: an answer, as long as any of it is left; `spills` if its data have no room. And
    a command whose sectors the queue has moved, or whose answer goes block by block: how many are left, and the FIS behind them. */
 static struct { bool on, clears; uint32_t slot, phase, entries, piece; uint64_t table, left; } fetch;
-static struct { bool on, counts, spills, signs; struct fis before, after; uint32_t slot; uint64_t left; } answer;
+static struct { bool on, counts, spills, signs, unasked; struct fis before, after; uint32_t slot, signature; uint64_t left; } answer;
 static struct { bool on, begun; uint32_t slot, blocks, past; struct fis end; } transfer;
 
-static struct { unsigned long done, halts, dropped, trims, blocks, spilled, stuck, partial, deep, slept, lost, found, pulled, tries, broken; } counted;
+static struct { unsigned long done, halts, dropped, trims, blocks, spilled, stuck, partial, deep, slept, lost, found, pulled, tries, broken, ended, foreign, unasked, stored, left, lost_bytes; } counted;
 
 static uint8_t *memory(uint64_t at, uint64_t count)
 {
@@ -108,8 +112,8 @@ static uint32_t driven(uint32_t offset)
 
 static bool is_busy_with_one(void) { return reg.tfd & (BSY | DRQ); }
 
-/* PxIS as a driver reads it: PCS is DIAG.X, and PRCS is DIAG.N (section 3.3.5). */
-static uint32_t interrupts(void) { return reg.is | (reg.serr & DIAG_X ? 0x40 : 0) | (reg.serr & DIAG_N ? 0x400000 : 0); }
+/* PxIS as a driver reads it: UFS is DIAG.F, PCS is DIAG.X, and PRCS is DIAG.N (section 3.3.5). */
+static uint32_t interrupts(void) { return reg.is | (reg.serr & DIAG_F ? UFS : 0) | (reg.serr & DIAG_X ? 0x40 : 0) | (reg.serr & DIAG_N ? 0x400000 : 0); }
 
 /* IPS is set if a bit of PxIS is enabled in PxIE. */
 static void interrupt(void) { reg.pending = reg.pending || interrupts() & reg.ie; }
@@ -128,6 +132,15 @@ static void drop(void)
 
 /* A reset of the device, of whatever kind: it is what ends Sleep, and then the device is in Standby. */
 static void is_reset(void) { power = power == SLEEP ? STANDBY : power; }
+
+/* A hardware reset or power-on: SET FEATURES is as at first. SMART stays enabled or disabled (ACS-3, SMART ENABLE OPERATIONS). */
+static void reverts(void)
+{
+    disk.cache = disk.has_cache;
+    disk.ahead = true;
+    disk.level = 0;
+    disk.reverts = false;
+}
 
 /* The link comes up, at the speed that CAP and PxSCTL allow, and the device, which is reset by COMRESET or before it sends COMINIT, sends its signature. */
 static void come_up(void)
@@ -152,6 +165,7 @@ static void go_down(void)
     signature = PAST;
     soft = OFF;
     is_reset();
+    reverts();
     drop();
 }
 
@@ -203,6 +217,9 @@ static void begin(void)
 {
     memset(&reg, 0, sizeof reg);
     pulled = false;
+    memset(&disk, 0, sizeof disk);
+    disk.tests[0] = disk.more_tests[0] = 1;
+    disk.smart = true;
     power_on();
     memset(low, 0, sizeof low);
     memset(high, 0, sizeof high);
@@ -237,6 +254,9 @@ static void is_judged(uint8_t status)
         fatal(TFES);
 }
 
+/* Whether the port accepts a FIS that it has not asked for (NDR:Accept; sections 3.3.7, FRE, and 6.2.2). */
+static bool accepts(void) { return reg.link == UP && reg.receiving && !(reg.on && reg.halted); }
+
 /* What a FIS of the device leaves once it is accepted (section 5.3, RegFIS, SDB and PIO:Entry). */
 static void receives(const struct fis *fis, uint32_t slot)
 {
@@ -246,7 +266,7 @@ static void receives(const struct fis *fis, uint32_t slot)
         reg.tfd = status | (uint32_t)error << 8;
         reg.is |= wants ? DHRS : 0;
         counted.done += wants && !(status & ERR);
-        reg.ci &= ~(status & (ERR | BSY | DRQ) ? 0 : 1u << slot);
+        reg.ci &= ~(status & (ERR | BSY | DRQ) || answer.unasked ? 0 : 1u << slot); /* without a command pIssueSlot is none */
         is_judged(status);
         break;
     case 0xA1:
@@ -259,6 +279,10 @@ static void receives(const struct fis *fis, uint32_t slot)
     case 0x5F:
         reg.tfd = status | (uint32_t)error << 8;
         is_judged(status);
+        break;
+    case 0x55: /* the UFIS states, for which it is posted first */
+        if (accepts())
+            reg.serr |= DIAG_F;
         break;
     }
 }
@@ -284,8 +308,8 @@ static bool signature_moves(void) { return signature == DUE ? !reg.on || (reg.re
 static void is_signed(void)
 {
     if (signature_moves() && signature == DUE) {
-        reg.tfd = 0x150;
-        reg.sig = 0x101;
+        reg.tfd = answer.after.bytes[2] | (uint32_t)answer.after.bytes[3] << 8;
+        reg.sig = told = answer.signature;
         reg.ci &= ~(soft == ENDING ? 1u << soft_slot : 0);
         soft = OFF;
         signature = reg.receiving ? PAST : UNPOSTED;
@@ -393,6 +417,7 @@ static void loses_link(void)
     failed = false;
     signature = PAST;
     soft = OFF;
+    reverts();
     drop();
 }
 
@@ -412,6 +437,7 @@ static void finds_link(void)
 static void is_pulled(void)
 {
     loses_link();
+    reverts();
     counted.pulled += !pulled;
     pulled = true;
 }

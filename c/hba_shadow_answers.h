@@ -1,5 +1,5 @@
 /* The answers of the shadow's disk: its FISes, which bytes are written and when, and what is next of each slot. */
-#include "hba_shadow_commands.h"
+#include "hba_shadow_settings.h"
 
 /* ---- the device's FISes ---- */
 
@@ -23,12 +23,16 @@ static struct fis at_lba(const struct command *it, uint8_t status, uint8_t error
 
 static struct fis bad(const struct command *it, uint8_t error, uint64_t lba) { return at_lba(it, 0x41, error, lba); }
 
-/* With the signature of a disk: count 1 and LBA 1. */
-static struct fis with_signature(struct fis it)
+/* With a signature, which PxSIG shows so: count 7:0 in bits 7:0, and LBA 23:0 in bits 31:8 (section 3.3.9). */
+static struct fis with(uint32_t signature, struct fis it)
 {
-    it.bytes[4] = it.bytes[12] = 1;
+    put(it.bytes + 4, signature >> 8, 3);
+    it.bytes[12] = (uint8_t)signature;
     return it;
 }
+
+/* That of a disk. */
+static struct fis with_signature(struct fis it) { return with(0x101, it); }
 
 /* It has the whole number of bytes: the device has not come to the sector that fails. */
 static struct fis dma_setup(const struct command *it, uint32_t slot)
@@ -69,22 +73,33 @@ static void answers(uint32_t slot, struct fis before, uint64_t data, bool counts
     answer.after = after;
     answer.before.due = before.size && reg.receiving;
     answer.after.due = after.size && reg.receiving;
-    answer.signs = false;
+    answer.signs = answer.unasked = false;
     if (is_over())
         ends();
 }
 
 static void answers_alone(uint32_t slot, struct fis fis) { answers(slot, no_fis, 0, false, fis); }
 
-/* The FIS of the signature is taken, or posted later. */
-static void signs(void)
+/* A FIS that no command asks for is sent. */
+static void sends(struct fis fis)
 {
+    answer = (__typeof__(answer)){ .on = true, .unasked = true, .before = no_fis, .after = fis };
+    answer.after.due = true;
+    counted.unasked++;
+}
+
+/* The FIS of a device's signature is taken, or posted later, as it was taken: a packet device is not ready for ATA's commands (Serial ATA, "Signature"). */
+static void signs(uint32_t signature_sent)
+{
+    const uint32_t it = signature == UNPOSTED ? told : signature_sent;
+    counted.foreign += it != 0x101;
+    answer.signature = it;
     answer.on = answer.signs = true;
-    answer.spills = answer.counts = false;
+    answer.spills = answer.counts = answer.unasked = false;
     answer.slot = 0;
     answer.left = 0;
     answer.before = no_fis;
-    answer.after = with_signature(d2h(0, 0x50, 1, 0));
+    answer.after = with(it, d2h(0, it == 0xEB140101 ? 0x00 : 0x50, 1, 0));
     answer.after.due = reg.receiving;
     if (is_over())
         ends();
@@ -122,7 +137,7 @@ static void delivers(uint32_t slot)
     transfer.on = false;
     if (it->kind == QUEUE)
         answers(slot, dma_setup(it, slot), data, false, set_bits(0x40, 0, 1u << slot));
-    else if (it->kind == PAGE && it->pio && !it->identify_log)
+    else if (it->kind == PAGE && it->pio && !it->long_log)
         answers(slot, pio_setup(false, true, true), data, true, no_fis);
     else if (it->pio)
         begins(slot, it->moved, it->writes ? good() : no_fis);
@@ -142,17 +157,19 @@ static uint64_t comes_before(struct command *it, uint64_t lba)
 }
 
 /* A command that is not queued fails at an LBA: a read has moved what comes before, and a write names its first sector. */
-static void fails_alone(uint32_t slot, uint8_t error, uint64_t lba)
+static void ends_alone(uint32_t slot, uint8_t status, uint8_t error, uint64_t lba)
 {
     struct command *it = &slots[slot];
     const uint64_t data = it->kind == READ ? comes_before(it, lba) : 0;
-    const struct fis fis = bad(it, error, it->kind == WRITE ? it->lba : lba);
+    const struct fis fis = at_lba(it, status, error, it->kind == WRITE ? it->lba : lba);
     it->there = false;
     if (data && it->pio)
         begins(slot, data, fis);
     else
         answers(slot, no_fis, data, data != 0, fis);
 }
+
+static void fails_alone(uint32_t slot, uint8_t error, uint64_t lba) { ends_alone(slot, 0x41, error, lba); }
 
 /* A queued command fails: refused as it is taken, or at one of its sectors. */
 static void fails(uint32_t slot, uint8_t error, uint64_t lba, bool is_refused)
@@ -176,9 +193,6 @@ static bool is_aborted(uint32_t slot)
     return aborted;
 }
 
-/* A transfer mode of SET FEATURES that the page of IDENTIFY DEVICE has: PIO default, PIO 0 to 4, multiword DMA 0 to 2, Ultra DMA 0 to 5. */
-static bool is_mode(uint8_t mode) { return mode < 2 || (mode >= 0x08 && mode <= 0x0C) || (mode >= 0x20 && mode <= 0x22) || (mode >= 0x40 && mode <= 0x45); }
-
 /* The D2H Register FIS of a command that moves no data. */
 static struct fis answer_to(const struct command *it)
 {
@@ -187,7 +201,11 @@ static struct fis answer_to(const struct command *it)
     case 0x40: case 0x42: return is_past(it) ? bad(it, 0x10, first_past(it)) : fis;
     case 0xF8: case 0x27: return at_lba(it, 0x40, 0, SECTORS - 1);
     case 0xE7: case 0xEA: case 0xE0: case 0xE1: case 0xE2: case 0xE3: case 0xE6: return fis;
-    case 0xEF: return it->fis[3] == 3 && is_mode(it->fis[12]) ? fis : bad(it, 4, 0);
+    case 0xEF: return sets_feature(it) ? fis : bad(it, 4, 0);
+    case 0xB0:
+        if (!is_smart(it))
+            return bad(it, 4, 0);
+        return it->fis[3] == 0xDA ? d2h(0x40, 0x40, 0, 0xC24F00) : fis; /* no threshold is exceeded */
     case 0xE5: fis.bytes[12] = power == STANDBY ? 0 : 0xFF; return fis;
     case 0x90: return with_signature(d2h(0x40, 0x40, 1, 0));
     case 0xA1: return with_signature(bad(it, 4, 0));
@@ -214,14 +232,31 @@ static void turns_by(const struct command *it)
     }
 }
 
+/* The disk takes data that are no sectors: its buffer, or ranges that are trimmed, which changes nothing. */
+static void stores(uint32_t slot)
+{
+    const struct command *it = &slots[slot];
+    const bool trims = it->fis[2] == 0x06, is_bad = trims && leaves_disk(it);
+    const struct fis end = is_bad ? d2h(0x40, 0x41, 0x14, 0) : good();
+    if (!trims)
+        memcpy(disk.buffer, it->bytes, AHCI_PAGE_BYTES);
+    counted.stored++;
+    if (it->pio)
+        begins(slot, it->moved, end);
+    else
+        answers(slot, no_fis, 0, true, end);
+}
+
 /* A command for which the queue moves no sectors is carried out, or aborted. */
 static void executes(uint32_t slot)
 {
     struct command *it = &slots[slot];
     const bool aborted = is_aborted(slot);
     it->there = false;
-    if (aborted)
+    if (aborted || (it->is_smart && !disk.smart))
         answers_alone(slot, bad(it, 4, 0));
+    else if (it->kind == STORE)
+        stores(slot);
     else if (it->kind == PAGE)
         delivers(slot);
     else if (it->kind == READ || it->kind == WRITE)
@@ -238,6 +273,8 @@ static void controls(uint32_t slot)
     if (slots[slot].resets) {
         drop();
         is_reset();
+        if (disk.reverts)
+            reverts();
         failed = false;
         signature = PAST;
         soft = HELD;
@@ -256,7 +293,7 @@ static bool may_write(uint64_t at, uint64_t count, const uint8_t *bytes)
 {
     const struct command *it = &slots[answer.slot];
     const struct fis *fis = answer.before.due ? &answer.before : &answer.after;
-    const uint32_t place = fis->bytes[0] == 0x41 ? 0 : fis->bytes[0] == 0x5F ? 0x20 : fis->bytes[0] == 0x34 ? 0x40 : 0x58;
+    const uint32_t place = fis->bytes[0] == 0x41 ? 0 : fis->bytes[0] == 0x5F ? 0x20 : fis->bytes[0] == 0x34 ? 0x40 : fis->bytes[0] == 0x55 ? 0x60 : 0x58;
     if (!answer.before.due && answer.left) {
         const uint64_t room = it->list[it->piece].bytes - it->into, size = room < answer.left ? room : answer.left;
         return at == reach(it->list[it->piece].at) + it->into && count == size && memcmp(bytes, it->bytes + it->used, size) == 0;

@@ -1,5 +1,6 @@
 /* The commands of the shadow: the journal that they leave, what a command FIS asks, and which bytes are read for it and when. */
 #include "hba_shadow.h"
+#include "hba_shadow_loss.h"
 
 /* The journal's new entries: a write's bytes are those that were read, and a completed command's are the image's. */
 static void follow(uint64_t entries)
@@ -8,6 +9,8 @@ static void follow(uint64_t entries)
     ahci_entry entry;
     static uint8_t bytes[KEPT];
     CHECK(ahci_hba_port(&hba, &state) == AHCI_OK && state.first == first + entries && state.halted == failed);
+    if (first != state.first || state.first == state.next)
+        loss_begins();
     first = state.first;
     for (seen = seen > first ? seen : first; seen < state.next; seen++) {
         CHECK(ahci_hba_entry(&hba, seen, &entry) == AHCI_OK);
@@ -17,7 +20,13 @@ static void follow(uint64_t entries)
             CHECK(entry.lba == it->lba && entry.sectors == it->sectors && (entry.kind == AHCI_EVENT_WRITE) == it->writes);
             if (it->writes && it->moved <= KEPT)
                 CHECK(ahci_hba_entry_bytes(&hba, seen, bytes, sizeof bytes) == AHCI_OK && memcmp(bytes, it->bytes, size) == 0);
+            loss_issues(entry.tag, it->writes, it->lba, it->sectors, it->bytes);
+        } else if (entry.kind == AHCI_EVENT_FAIL || entry.kind == AHCI_EVENT_COLLECT) {
+            going[entry.tag].on = false;
+        } else if (entry.kind == AHCI_EVENT_FLUSH) {
+            loss_flushes();
         } else if (entry.kind == AHCI_EVENT_COMPLETE) {
+            loss_completes(entry.tag);
             CHECK(it->sent && it->lba + it->sectors <= SECTORS);
             if (it->writes)
                 memcpy(image + it->lba * AHCI_SECTOR_BYTES, it->bytes, size);
@@ -48,23 +57,51 @@ static void write(uint32_t offset, uint32_t value) { writes(offset, 4, value); }
 
 /* ---- what a command FIS asks ---- */
 
-/* The first page that is read of a log, and whether the log has all pages that are read: logs 00h and 10h have one, and log 30h has three. */
+/* The first page that is read of a log, and whether the log has all pages that are read. */
 static uint64_t first_page(uint64_t lba) { return (lba >> 8 & 0xFF) | (lba >> 32 & 0xFF) << 8; }
+
+static uint32_t pages_of(uint64_t log)
+{
+    return log == 0 || log == 3 || log == 7 || log == 0x10 || log == 0x11 ? 1 : log == 4 ? 2 : log == 0x30 ? 3 : 0;
+}
 
 static bool reads_log(uint32_t code, uint64_t lba, uint32_t count)
 {
-    const uint64_t log = lba & 0xFF, there = log == 0 || log == 0x10 ? 1 : log == 0x30 ? 3 : 0;
-    return (code == 0x2F || code == 0x47) && count && first_page(lba) + count <= there;
+    return (code == 0x2F || code == 0x47) && count && first_page(lba) + count <= pages_of(lba & 0xFF);
 }
 
-/* The page of IDENTIFY DEVICE. */
+/* A page of SMART: READ DATA, READ THRESHOLDS, and READ LOG of the directory, of the errors and of the self-tests, a page each (ACS-3, SMART). */
+static bool reads_smart(const uint8_t *fis)
+{
+    const bool is_signed = fis[2] == 0xB0 && fis[5] == 0x4F && fis[6] == 0xC2, is_log = fis[4] == 0 || fis[4] == 1 || fis[4] == 6;
+    return is_signed && (fis[3] == 0xD0 || fis[3] == 0xD1 || (fis[3] == 0xD5 && fis[12] == 1 && is_log));
+}
+
+static bool is_buffer(uint32_t code) { return code == 0xE4 || code == 0xE9; }
+
+/* Byte 511 makes the sum of a page 0. */
+static void sums(uint8_t *to)
+{
+    uint32_t sum = 0;
+    for (uint32_t at = 0; at < AHCI_PAGE_BYTES - 1; at++)
+        sum += to[at];
+    to[AHCI_PAGE_BYTES - 1] = (uint8_t)-sum;
+}
+
+/* The page of IDENTIFY DEVICE: with words 47 to 50, 69, 76, 82 to 87, 91, 105, 119, 120 and 169 as the commands and logs are, and as SET FEATURES and SMART have them. */
 static void lays_identify(uint8_t *to)
 {
-    static const uint8_t words[][3] = { { 53, 6, 0 }, { 63, 7, 0 }, { 64, 3, 0 }, { 65, 120, 0 }, { 66, 120, 0 }, { 67, 120, 0 }, { 68, 120, 0 },
-        { 82, 8, 0 }, { 83, 0, 0x74 }, { 85, 8, 0 }, { 86, 0, 0xB4 }, { 88, 0x3F, 0x20 }, { 119, 8, 0x40 }, { 120, 8, 0x40 } };
+    static const uint8_t words[][3] = { { 47, 0, 0x80 }, { 48, 0, 0x40 }, { 49, 0, 0x0F }, { 50, 0, 0x40 },
+        { 53, 6, 0 }, { 63, 7, 0 }, { 64, 3, 0 }, { 65, 120, 0 }, { 66, 120, 0 }, { 67, 120, 0 }, { 68, 120, 0 }, { 69, 0, 0x0C },
+        { 76, 6, 5 }, { 82, 0x49, 0x30 }, { 83, 8, 0x74 }, { 84, 0x63, 0x40 }, { 85, 8, 0x30 }, { 86, 0, 0xB4 }, { 87, 0x63, 0x40 }, { 88, 0x3F, 0x20 },
+        { 105, 8, 0 }, { 119, 8, 0x40 }, { 120, 8, 0x40 }, { 169, 1, 0 } };
     CHECK(ahci_identify_page(SECTORS, depth, to, AHCI_PAGE_BYTES) == AHCI_OK);
     for (size_t i = 0; i < sizeof words / sizeof *words; i++)
         memcpy(to + 2 * words[i][0], words[i] + 1, 2);
+    to[2 * 82] |= disk.has_cache ? 0x20 : 0;
+    to[2 * 85] |= (uint8_t)((disk.smart ? 1 : 0) | (disk.cache ? 0x20 : 0) | (disk.ahead ? 0x40 : 0));
+    to[2 * 86] |= disk.level ? 8 : 0;
+    to[2 * 91] = disk.level;
 }
 
 /* A page of log 30h (ACS-3, "IDENTIFY DEVICE data log"): the pages that there are, the page of IDENTIFY DEVICE, or the capacity. */
@@ -84,21 +121,56 @@ static void lays_identify_log(uint8_t *to, uint64_t number)
     }
 }
 
-/* What a command reads that is no sector: IDENTIFY DEVICE, log 10h while nothing has failed, some of log 30h, or log 00h. */
+/* A page of log 04h (ACS-3, "Device Statistics log"): the two pages that there are, or the general one, of which the power-on hours are supported and valid. */
+static void lays_statistics(uint8_t *to, uint64_t number)
+{
+    to[0] = 1;
+    to[number ? 2 : 10] = 1;
+    to[number ? 23 : 8] = number ? 0xC0 : 2;
+}
+
+/* The directory of READ LOG EXT, or that of SMART READ LOG. */
+static void lays_directory(uint8_t *to, bool is_smart)
+{
+    static const uint8_t all[] = { 3, 4, 7, 0x10, 0x11, 0x30 }, own[] = { 1, 6 };
+    to[0] = 1;
+    for (size_t i = 0; i < (is_smart ? sizeof own : sizeof all); i++)
+        to[2 * (is_smart ? own[i] : all[i])] = (uint8_t)(is_smart ? 1 : pages_of(all[i]));
+}
+
+/* A page of SMART, or of a log of one page that has a checksum. */
+static void lays_checked(uint8_t *to, const struct command *it)
+{
+    const uint32_t log = it->fis[2] == 0xB0 ? (it->fis[3] == 0xD5 ? it->fis[4] : it->fis[3]) : 0x100 | it->fis[4];
+    to[0] = log != 0x111;
+    if (log == 0xD0) /* off-line data are collected; self-tests, saved data and a log of errors; a test takes a minute at most */
+        to[362] = 2, to[367] = 0x11, to[368] = 3, to[370] = to[372] = to[373] = 1;
+    if (log == 0x111) /* counters 001h and 00Ah, of a word each */
+        to[4] = 1, to[8] = 0x0A, to[5] = to[9] = 0x10;
+    if (log == 6 || log == 0x107)
+        memcpy(to, log == 6 ? disk.tests : disk.more_tests, AHCI_PAGE_BYTES);
+    sums(to);
+}
+
+/* What a command reads that is no sector: IDENTIFY DEVICE, a log while no queued command has failed, a page of SMART, or the buffer. */
 static void lays_pages(struct command *it)
 {
-    const uint64_t first = first_page(little(it->fis + 4, 3) | little(it->fis + 8, 3) << 24);
+    const uint64_t lba = little(it->fis + 4, 3) | little(it->fis + 8, 3) << 24;
+    const bool is_log = it->fis[2] == 0x2F || it->fis[2] == 0x47;
     memset(it->bytes, 0, it->pages * AHCI_PAGE_BYTES);
     if (it->fis[2] == 0xEC) {
         lays_identify(it->bytes);
-    } else if (it->identify_log) {
+    } else if (it->long_log) {
         for (uint32_t i = 0; i < it->pages; i++)
-            lays_identify_log(it->bytes + i * AHCI_PAGE_BYTES, first + i);
+            ((lba & 0xFF) == 4 ? lays_statistics : lays_identify_log)(it->bytes + i * AHCI_PAGE_BYTES, first_page(lba) + i);
     } else if (it->error_log) {
         it->bytes[0] = it->bytes[511] = 0x80;
+    } else if (is_buffer(it->fis[2])) {
+        memcpy(it->bytes, disk.buffer, AHCI_PAGE_BYTES);
+    } else if (is_log ? it->fis[4] == 0 : it->fis[3] == 0xD5 && it->fis[4] == 0) {
+        lays_directory(it->bytes, !is_log);
     } else {
-        it->bytes[0] = it->bytes[0x20] = 1;
-        it->bytes[0x60] = 3;
+        lays_checked(it->bytes, it);
     }
 }
 
@@ -110,7 +182,7 @@ static void asks(struct command *it, const uint8_t *fis)
     const uint64_t low_lba = little(fis + 4, 3), lba = low_lba | little(fis + 8, 3) << 24;
     const bool is_short = code == 0x20 || code == 0x30 || code == 0xC8 || code == 0xCA || code == 0x40;
     memcpy(it->fis, fis, sizeof it->fis);
-    it->sent = it->accepted = it->queued = it->writes = it->pio = it->error_log = it->identify_log = false;
+    it->sent = it->accepted = it->queued = it->writes = it->pio = it->error_log = it->long_log = it->is_smart = false;
     it->pieces = it->piece = it->sectors = 0;
     it->room = it->used = it->into = 0;
     it->kind = OTHER;
@@ -124,22 +196,29 @@ static void asks(struct command *it, const uint8_t *fis)
         it->writes = code == 0x61;
         it->sectors = features ? features : 65536;
         counted.deep += it->kind == OTHER;
-    } else if (is_short || code == 0x24 || code == 0x25 || code == 0x34 || code == 0x35 || code == 0x42) {
+    } else if (is_short || code == 0x24 || code == 0x25 || code == 0x34 || code == 0x35 || code == 0x3D || code == 0x42) {
         it->writes = (code & 0xF0) == 0x30 || code == 0xCA;
         it->kind = code == 0x40 || code == 0x42 ? OTHER : it->writes ? WRITE : READ;
         it->pio = code == 0x20 || code == 0x24 || code == 0x30 || code == 0x34;
         it->sectors = is_short ? (count & 0xFF ? count & 0xFF : 256) : count ? count : 65536;
-    } else if (code == 0xEC || reads_log(code, lba, count)) {
+    } else if (code == 0xEC || is_buffer(code) || reads_log(code, lba, count) || reads_smart(fis)) {
+        const bool is_log = reads_log(code, lba, count);
         it->kind = PAGE;
-        it->pio = code != 0x47;
-        it->error_log = code != 0xEC && (lba & 0xFF) == 0x10;
-        it->identify_log = code != 0xEC && (lba & 0xFF) == 0x30;
-        it->pages = code == 0xEC ? 1 : count;
+        it->pio = code != 0x47 && code != 0xE9;
+        it->error_log = is_log && (lba & 0xFF) == 0x10;
+        it->long_log = is_log && pages_of(lba & 0xFF) > 1;
+        it->is_smart = code == 0xB0 || (is_log && ((lba & 0xFF) == 3 || (lba & 0xFF) == 7));
+        it->pages = is_log ? count : 1;
         lays_pages(it);
+    } else if (code == 0xE8 || code == 0xEB || (code == 0x06 && features & 1 && count && count <= 8)) {
+        it->kind = STORE;
+        it->writes = true;
+        it->pio = code == 0xE8;
+        it->pages = code == 0x06 ? count : 1;
     }
-    it->has_48_bits = it->kind != CONTROL && (it->queued || (it->kind == PAGE && code != 0xEC) || code == 0x24 || code == 0x25 || code == 0x27
-        || code == 0x34 || code == 0x35 || code == 0x42 || code == 0xEA);
-    it->moved = it->kind == PAGE ? it->pages * AHCI_PAGE_BYTES : code == 0x40 || code == 0x42 ? 0 : (uint64_t)it->sectors * AHCI_SECTOR_BYTES;
+    it->has_48_bits = it->kind != CONTROL && (it->queued || (it->kind == PAGE && (code == 0x2F || code == 0x47)) || (it->kind == STORE && code == 0x06) || code == 0x24
+        || code == 0x25 || code == 0x27 || code == 0x34 || code == 0x35 || code == 0x3D || code == 0x42 || code == 0xEA);
+    it->moved = it->kind == PAGE || it->kind == STORE ? it->pages * AHCI_PAGE_BYTES : code == 0x40 || code == 0x42 ? 0 : (uint64_t)it->sectors * AHCI_SECTOR_BYTES;
 }
 
 /* Whether some sector of it is not on the disk, and the first one that is not. */

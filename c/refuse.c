@@ -258,14 +258,17 @@ static int over_a_base(void)
     return lacking;
 }
 
-/* A controller whose journal is trimmed, whose interface fails, whose link is lost and found, whose disk is pulled out and plugged in again, and that is powered
-   on again. */
+/* A controller whose journal is trimmed, whose interface fails, whose link is lost and found, whose disk is pulled out and plugged in again and is named, and that is
+   powered on again. */
 static int controlled(void)
 {
     ahci_hba hba = AHCI_HBA_EMPTY;
     ahci_port none = AHCI_PORT_EMPTY;
+    ahci_identity named = { .rotation = 1 };
     uint64_t entries;
+    uint32_t enabled;
     int lacking = 0;
+    memset(&named, ' ', sizeof named - sizeof named.rotation);
     TRY(&none, image, ahci_hba_new(&hba, image, sizeof image, 32));
     NONE(ahci_hba_trim(&hba, &entries));
     NONE(ahci_hba_fail_interface(&hba, AHCI_INTERFACE_CRC, 1));
@@ -273,6 +276,9 @@ static int controlled(void)
     NONE(ahci_hba_find_link(&hba));
     NONE(ahci_hba_unplug(&hba, &entries));
     NONE(ahci_hba_plug(&hba));
+    NONE(ahci_hba_identity(&hba, &named));
+    NONE(ahci_hba_write_cache(&hba, 1));
+    NONE(ahci_hba_write_cache_enabled(&hba, &enabled));
     NONE(ahci_hba_power_on(&hba, &entries));
     NONE(ahci_hba_free(&hba));
     return lacking;

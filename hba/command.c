@@ -4,6 +4,7 @@
 #include <stddef.h>
 
 #define H2D 0x27
+#define WRITE_DMA_FUA_EXT 0x3D
 
 /* Where a command has the number of its sectors. */
 enum place {
@@ -23,6 +24,7 @@ static enum place place_of(uint8_t code, bool *writes) {
         return PLACE_QUEUE;
     case 0x34: /* WRITE SECTOR(S) EXT */
     case 0x35: /* WRITE DMA EXT */
+    case WRITE_DMA_FUA_EXT:
         *writes = true;
         return PLACE_LONG;
     case 0x24: /* READ SECTOR(S) EXT */
@@ -55,13 +57,16 @@ struct command command_of(const uint8_t fis[COMMAND_FIS_BYTES]) {
     command.is_command = true;
     command.code = it.command;
     command.flushes = it.command == AHCI_FLUSH_CACHE_EXT || it.command == 0xE7;
+    command.reads_error_log = (it.command == 0x2F || it.command == 0x47) && (it.lba & 0xFF) == 0x10;
     command.lba = it.lba;
     switch (place_of(it.command, &command.writes)) {
     case PLACE_QUEUE:
         command.queued = true;
+        command.has_fua = command.writes && it.device & 0x80;
         command.sectors = count_of(it.features, 65536);
         break;
     case PLACE_LONG:
+        command.has_fua = it.command == WRITE_DMA_FUA_EXT;
         command.sectors = count_of(it.count, 65536);
         break;
     case PLACE_SHORT:

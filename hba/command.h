@@ -11,8 +11,10 @@ struct command {
     bool is_command;  /* it is one, and no control */
     uint8_t code;
     bool flushes;     /* FLUSH CACHE, with EXT or without */
+    bool reads_error_log; /* READ LOG EXT of log 10h, by PIO or by DMA */
     bool queued;      /* READ or WRITE FPDMA QUEUED */
     bool writes;      /* it writes the sectors that it names */
+    bool has_fua;     /* WRITE FPDMA QUEUED with FUA */
     uint64_t lba;     /* the sectors that it names; none for other commands */
     uint32_t sectors;
 };

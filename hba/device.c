@@ -28,6 +28,7 @@ void device_must(const char *call, uint32_t status) {
 
 void device_look(struct device *device) {
     device_must("ahci_hba_look", ahci_hba_look(&device->hba, &device->state));
+    provoke_signature(device);
 }
 
 void device_starve(struct device *device) {
@@ -106,6 +107,27 @@ static bool choose(struct device *device, uint32_t *slot) {
 
 /* ---- steps ---- */
 
+/* Whether a flush was carried out, and not aborted: it is the journal's newest entry then. */
+static bool has_flushed(struct device *device) {
+    ahci_state queue;
+    ahci_entry newest;
+    device_must("ahci_hba_port", ahci_hba_port(&device->hba, &queue));
+    return queue.next > queue.first && ahci_hba_entry(&device->hba, queue.next - 1, &newest) == AHCI_OK && newest.kind == AHCI_EVENT_FLUSH;
+}
+
+/* Whether the disk has a write cache that is enabled: SET FEATURES and resets change that. */
+static bool has_cache(struct device *device) {
+    uint32_t enabled;
+    device_must("ahci_hba_write_cache_enabled", ahci_hba_write_cache_enabled(&device->hba, &enabled));
+    return enabled;
+}
+
+/* A command was carried out that may have flushed the cache: FLUSH CACHE does, and so does SET FEATURES 82h, which disables it. */
+static void note_flush(struct device *device, const struct command *command) {
+    if (device->cache.is_on && ((command->flushes && has_flushed(device)) || !has_cache(device)))
+        cache_flush(&device->cache);
+}
+
 /* What the library's step of a slot means here. */
 static void note_step(struct device *device, uint32_t slot, uint8_t kind) {
     struct task *task = &device->tasks[slot];
@@ -116,22 +138,38 @@ static void note_step(struct device *device, uint32_t slot, uint8_t kind) {
         *task = (struct task){.number = 0};
         judge_fetch(&device->judge, slot);
     }
-    if (kind == AHCI_STEP_DELIVER || kind == AHCI_STEP_EXECUTE || kind == AHCI_STEP_RECOVER)
+    if (kind == AHCI_STEP_DELIVER || kind == AHCI_STEP_EXECUTE || kind == AHCI_STEP_RECOVER) {
+        device->answered = slot;
         provoke_answer(device, slot);
+    }
     if (kind == AHCI_STEP_SERVE && task->command.writes)
         mapped_wrote(&device->settings->mapped, (uint32_t)task->command.lba, task->command.sectors);
+    if (kind == AHCI_STEP_EXECUTE)
+        note_flush(device, &task->command);
+}
+
+/* Makes room for what a step of a slot's command adds to the image and to the cache. It returns false if there is no memory. */
+static bool reserve(struct device *device, uint32_t slot, uint8_t kind) {
+    const struct command *command = &device->tasks[slot].command;
+    if (kind != AHCI_STEP_SERVE)
+        return true;
+    if (!writeback_reserve(&device->writeback))
+        return false;
+    return !command->writes || !device->cache.is_on ||
+           cache_prepare(&device->cache, (uint32_t)command->lba, command->sectors, command->has_fua || !has_cache(device));
 }
 
 static void take_step(struct device *device, uint32_t slot) {
     uint8_t kind = device->state.next[slot];
     uint64_t entries = 0;
-    if (kind == AHCI_STEP_SERVE && !writeback_reserve(&device->writeback)) {
+    if (!reserve(device, slot, kind)) {
         device_starve(device);
         return;
     }
     if (is_answer(kind))
         judge_answer(&device->judge, slot);
     uint32_t status = ahci_hba_step(&device->hba, slot, &entries);
+    cache_settle(&device->cache, status == AHCI_OK);
     if (status == AHCI_OUT_OF_MEMORY) {
         device_starve(device);
         return;
@@ -154,12 +192,16 @@ static void go_on(struct device *device, uint32_t slot) {
 }
 
 static bool can_sign(const struct device *device) {
-    return device->state.sign && !device->mute;
+    uint64_t due = provoke_signs(device);
+    return due == 0 || (due != UINT64_MAX && device_now() >= due);
 }
 
 static void sign(struct device *device) {
-    device_must("ahci_hba_sign", ahci_hba_sign(&device->hba));
-    log_line("signature");
+    static const char *const names[] = {"", " of a packet device", " of an enclosure bridge", " of a port multiplier"};
+    const ahci_device_kind kind = device->provoked.kind;
+    device->provoked.kind = AHCI_DEVICE_DISK;
+    device_must("ahci_hba_sign_as", ahci_hba_sign_as(&device->hba, (uint32_t)kind));
+    log_line("signature%s", names[kind]);
 }
 
 static bool copies(const struct device *device) {
@@ -212,8 +254,9 @@ static uint64_t next_due(const struct device *device) {
     if (is_urgent)
         return device->wait == WAIT_MEMORY ? device->due : 0;
     if (choice.answers)
-        return device->wait == WAIT_NOTHING ? 0 : device->due;
-    return choice.soonest;
+        choice.soonest = device->wait == WAIT_NOTHING ? 0 : device->due;
+    uint64_t signs = provoke_signs(device);
+    return signs < choice.soonest ? signs : choice.soonest;
 }
 
 int64_t device_waits(const struct device *device) {
@@ -283,14 +326,17 @@ static uint32_t make_whole(ahci_hba *hba, const struct settings *settings) {
 }
 
 /* A small disk is in memory, since writes are faster there; the others are over the image. */
-static int make(struct device *device) {
+int device_make(struct device *device) {
     struct settings *settings = device->settings;
     if (mapped_map(&settings->mapped))
         return -1;
     device->is_over = settings->sectors > AHCI_MOST_SECTORS;
     uint32_t status = device->is_over ? make_over(&device->hba, settings) : make_whole(&device->hba, settings);
-    if (status == AHCI_OK)
+    if (status == AHCI_OK) {
+        device_must("ahci_hba_identity", ahci_hba_identity(&device->hba, &settings->identity));
+        device_must("ahci_hba_write_cache", ahci_hba_write_cache(&device->hba, settings->write_cache));
         return 0;
+    }
     say("the controller can't be made: status %" PRIu32 " of ahci.h", status);
     return -1;
 }
@@ -299,8 +345,9 @@ int device_begin(struct device *device, struct settings *settings, struct memory
     *device = (struct device){.settings = settings, .memory = memory, .hba = AHCI_HBA_EMPTY, .random = generator_of(settings->seed), .started = device_now(),
                                .slow.reads = settings->slow_bits};
     device->disk = (struct disk){.it = &device->hba, .sectors = settings->sectors, .copy = copy_sector};
-    if (make(device))
+    if (device_make(device))
         return -1;
+    cache_begin(&device->cache, &device->disk, script_has(settings->script, EVENT_POWER_LOSS));
     if (history_begin(device)) {
         ahci_hba_free(&device->hba);
         return -1;
@@ -321,6 +368,7 @@ int device_end(struct device *device, int *broken) {
     if (*broken < 0)
         failed = -1;
     ahci_hba_free(&device->hba);
+    cache_clear(&device->cache);
     free(device->buffer);
     return failed;
 }

@@ -3,6 +3,7 @@
 #ifndef AHCI_HBA_DEVICE_H
 #define AHCI_HBA_DEVICE_H
 
+#include "cache.h"
 #include "command.h"
 #include "disk.h"
 #include "history.h"
@@ -39,6 +40,8 @@ struct device {
     ahci_hba_state state;  /* what the controller does next */
     struct disk disk;      /* its sectors, for the image and the record */
     bool is_over;          /* the disk is over the image, and not in memory as a whole */
+    struct cache cache;    /* writes that a loss of power may lose */
+    uint64_t losses;       /* how many there were */
     struct history history;
     struct judge judge;
     struct slow slow;
@@ -47,6 +50,7 @@ struct device {
     uint64_t commands; /* how many that name sectors were read */
     uint32_t reading; /* the slot whose command is read */
     uint32_t runs;    /* how many runs of it were read */
+    uint32_t answered; /* the slot whose answer was begun last */
     uint32_t stuck;   /* slots whose step was refused, until the driver writes a register */
     uint32_t stalled; /* slots whose command is never answered, until the driver drops it */
     uint32_t flushing; /* slots whose flush waits for the image */
@@ -86,6 +90,9 @@ void device_unplug(struct device *device);
 void device_plug(struct device *device);
 void device_fail_interface(struct device *device, ahci_interface_error error, bool is_fatal);
 
+/* Sends a FIS that no command asks for. It returns false if the port doesn't accept it now. */
+bool device_receive(struct device *device, enum unasked fis);
+
 /* Writes the image back if a command has written, without waiting for it. */
 void device_save(struct device *device);
 
@@ -111,6 +118,9 @@ void device_must(const char *call, uint32_t status);
 /* Makes sure that the library reads no page from the image that was written since the start, so that the pages can be written back into it: a disk over an
    image keeps them once the queue's journal is trimmed. It returns false if the queue has a request. */
 bool device_can_save(struct device *device);
+
+/* Makes the controller in its empty place over the image's sectors. It returns 0, or -1 once it has printed why. */
+int device_make(struct device *device);
 
 /* Looks at what the controller does next. */
 void device_look(struct device *device);

@@ -5,6 +5,8 @@
 
 #include <inttypes.h>
 
+#define STATUS_ERR 1
+
 /* Whether the moment has come at which the script is asked about the command of a slot. */
 static bool is_moment(const struct device *device, uint32_t slot) {
     const struct task *task = &device->tasks[slot];
@@ -23,6 +25,7 @@ static uint64_t sector_of(const struct line *line, const struct command *command
 static void stall(struct device *device, uint32_t slot, const struct line *line) {
     const struct command *command = &device->tasks[slot].command;
     device->stalled |= UINT32_C(1) << slot;
+    recovery_event(&device->judge, &device->hba, EVENT_STALL, line->row, NO_SLOT);
     if (command->sectors)
         log_line("stall %" PRIu32 " at sector %" PRIu64, slot, sector_of(line, command));
     else
@@ -33,7 +36,7 @@ static void decide(struct device *device, uint32_t slot) {
     struct task *task = &device->tasks[slot];
     const struct command *command = &task->command;
     uint64_t time = device_now();
-    const struct occasion occasion = {.code = command->code, .tag = (uint8_t)slot, .writes = command->writes, .lba = command->lba, .sectors = command->sectors,
+    const struct occasion occasion = {.code = command->code, .tag = (uint8_t)slot, .is_queued = command->queued, .writes = command->writes, .lba = command->lba, .sectors = command->sectors,
                                       .number = task->number, .since = (time - device->started) / 1000};
     task->is_decided = true;
     script_decide(device->settings->script, &occasion, &task->decided);
@@ -91,6 +94,7 @@ static bool fails_by_script(struct device *device, uint32_t slot) {
     if (status != AHCI_OK)
         return false;
     log_failure(device, slot, &failure, named);
+    recovery_event(&device->judge, &device->hba, EVENT_FAIL, failure.line->row, slot);
     provoke_answer(device, slot);
     return true;
 }
@@ -144,6 +148,34 @@ static bool refuses_log(struct device *device, uint32_t slot) {
     return true;
 }
 
+/* Ends a command that isn't queued with a status of the script, in place of doing it: a read has moved the sectors before the line's. It returns false if the
+   library doesn't let it. */
+static bool ends_by_script(struct device *device, uint32_t slot) {
+    struct task *task = &device->tasks[slot];
+    const struct decision end = task->decided.of[EVENT_END];
+    const uint8_t word = end.event->error; /* the status */
+    uint64_t named = task->command.writes || !task->command.sectors ? task->command.lba : sector_of(end.line, &task->command);
+    uint32_t status = ahci_hba_end(&device->hba, slot, word, 0, named);
+    if (status == AHCI_OUT_OF_MEMORY) {
+        device_starve(device);
+        return true;
+    }
+    task->decided.of[EVENT_END].line = NULL;
+    if (status != AHCI_OK)
+        return false;
+    log_line("end %" PRIu32 " with status %02x, by line %u", slot, word, end.line->row);
+    if (word & STATUS_ERR)
+        recovery_event(&device->judge, &device->hba, EVENT_END, end.line->row, slot);
+    provoke_answer(device, slot);
+    return true;
+}
+
+/* Whether the script fails or ends a command. */
+static bool is_ended(struct device *device, uint32_t slot) {
+    const struct decisions *decided = &device->tasks[slot].decided;
+    return (decided->of[EVENT_FAIL].line && fails_by_script(device, slot)) || (decided->of[EVENT_END].line && ends_by_script(device, slot));
+}
+
 bool fate_fails(struct device *device, uint32_t slot) {
-    return (device->tasks[slot].decided.of[EVENT_FAIL].line && fails_by_script(device, slot)) || holds_flush(device, slot) || refuses_log(device, slot);
+    return is_ended(device, slot) || holds_flush(device, slot) || refuses_log(device, slot);
 }

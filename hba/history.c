@@ -4,6 +4,7 @@
 #include "log.h"
 
 #include <inttypes.h>
+#include <poll.h>
 #include <string.h>
 
 #define ENTRY_BYTES 256 /* about what the journal's entries of one command take, without a write's bytes */
@@ -17,7 +18,8 @@ static void put_tag(struct history *history, enum record_kind kind, uint32_t tag
 static void put_command(struct device *device, const ahci_entry *entry) {
     struct history *history = &device->history;
     const bool writes = entry->kind == AHCI_EVENT_WRITE;
-    const struct record_entry it = {.kind = writes ? RECORD_WRITE : RECORD_READ, .tag = (uint8_t)entry->tag, .count = entry->sectors, .lba = entry->lba};
+    const struct record_entry it = {.kind = writes ? RECORD_WRITE : RECORD_READ, .tag = (uint8_t)entry->tag, .flag = device->tasks[entry->tag].command.has_fua,
+                                    .count = entry->sectors, .lba = entry->lba};
     size_t bytes = writes ? (size_t)entry->sectors * AHCI_SECTOR_BYTES : 0;
     uint8_t *behind = scribe_put_command(&history->scribe, &device->disk, it, bytes);
     if (writes && behind)
@@ -95,12 +97,47 @@ void history_follow(struct device *device, uint64_t entries, bool has_recovered)
     scribe_hand_over(&history->scribe, entries != 0);
 }
 
+/* ---- a loss of power ---- */
+
+/* Records sectors that are in a run of pages, as a disk has them. */
+static void put_left(struct scribe *scribe, const struct disk *left, struct page_run run) {
+    const uint64_t last = ((uint64_t)run.first + run.count) * PAGE_SECTORS, end = last < left->sectors ? last : left->sectors;
+    for (uint64_t lba = (uint64_t)run.first * PAGE_SECTORS, count; lba < end; lba += count) {
+        count = end - lba < RUN_SECTORS ? end - lba : RUN_SECTORS;
+        const struct record_entry it = {.kind = RECORD_LEFT, .count = (uint32_t)count, .lba = lba};
+        uint8_t *behind = scribe_put(scribe, it, (size_t)count * SECTOR_BYTES);
+        for (uint32_t at = 0; behind && at < count; at++)
+            left->copy(left->it, (uint32_t)lba + at, behind + (size_t)at * SECTOR_BYTES);
+    }
+}
+
+void history_lose(struct device *device, const struct disk *left, const struct pages *pages) {
+    struct history *history = &device->history;
+    put_tag(history, RECORD_LOSS, 0);
+    for (size_t at = 0; at < pages->count; at++)
+        put_left(&history->scribe, left, pages->runs[at]);
+    history->owned = 0;
+    history->bytes = 0;
+}
+
 bool history_is_kept(struct history *history) {
     return scribe_is_kept(&history->scribe);
 }
 
 bool history_waits(const struct history *history) {
     return history->scribe.waits;
+}
+
+/* Waits until the record has the loss, unless the sectors are copied for a part that begins after it. */
+void history_go_on(struct device *device) {
+    struct history *history = &device->history;
+    history->seen = next_number(&device->hba);
+    scribe_copy_anew(&history->scribe);
+    while (!history_copies(history) && !history_is_kept(history)) {
+        struct pollfd written = {.fd = history_event(history), .events = POLLIN};
+        poll(&written, 1, -1);
+        history_take_event(history);
+    }
 }
 
 /* ---- the journal's size ---- */

@@ -3,6 +3,7 @@
 #ifndef AHCI_HBA_HISTORY_H
 #define AHCI_HBA_HISTORY_H
 
+#include "pages.h"
 #include "scribe.h"
 
 #include <ahci.h>
@@ -28,6 +29,10 @@ void history_count(struct device *device, uint32_t slot, uint8_t step);
 /* Hands what the queue has done since the last call to the record. If the journal was handed out (`entries` is not 0), by a reset that dropped
    commands or by a recovery, the record has that too. */
 void history_follow(struct device *device, uint64_t entries, bool has_recovered);
+
+/* The power is lost: what the sectors of these pages have then. The journal has ended; it goes on with that of a new controller once the record has the loss. */
+void history_lose(struct device *device, const struct disk *left, const struct pages *pages);
+void history_go_on(struct device *device);
 
 /* Whether commands have to wait that are to be sent to the queue: `sends` are their slots. */
 bool history_drains(const struct device *device, uint32_t sends);

@@ -102,7 +102,9 @@ static int write_json(const struct judge *judge) {
         fputs(i ? "," : "", file);
         write_breach(file, &judge->breaches[i]);
     }
-    fprintf(file, "\n]}\n");
+    fputs("\n], ", file);
+    recovery_write_json(&judge->recovery, file);
+    fputs("}\n", file);
     bool failed = ferror(file);
     return fclose(file) || failed ? -1 : 0;
 }
@@ -125,12 +127,16 @@ int judge_end(struct judge *judge) {
         free(judge->slots[slot].runs);
     if (!judge->on)
         return 0;
+    recovery_end(judge);
     write_table(judge);
+    recovery_write_table(&judge->recovery, stderr);
     if (judge->json && write_json(judge)) {
         say_of("json", judge->json, "it could not be written");
         broken = -1;
     }
     free(judge->breaches);
+    free(judge->recovery.reports);
     judge->breaches = NULL;
+    judge->recovery.reports = NULL;
     return broken;
 }

@@ -1,10 +1,12 @@
 /* The judge of drivers: which rules of AHCI 1.3.1 the guest breaks, as it breaks them, and a table at the end. The rules for one register
-   write, one command or one list are the library's, and proved; what takes memory or time is compared here (driver_rules.h). */
+   write, one command or one list are the library's, and proved; what takes memory or time is compared here (driver_rules.h). What the guest does about the
+   events of a script is followed (recovery.h). */
 #ifndef AHCI_HBA_JUDGE_H
 #define AHCI_HBA_JUDGE_H
 
 #include "driver_rules.h"
 #include "memory.h"
+#include "recovery.h"
 
 #include <stdbool.h>
 #include <stddef.h>
@@ -69,6 +71,7 @@ struct judge {
     uint64_t writes, commands;
     struct judged_port port;
     struct judged slots[AHCI_MOST_TAGS];
+    struct recovery recovery;
 };
 
 struct settings;
@@ -83,7 +86,7 @@ void judge_read(struct judge *judge, ahci_hba *hba, uint32_t offset, uint32_t by
 /* The driver makes the function a bus master, or none. */
 void judge_master(struct judge *judge, ahci_hba *hba, bool is_master);
 
-/* The PCI function was reset. */
+/* The controller is as after power-on. Whether the function is a bus master is configuration space's. */
 void judge_power_on(struct judge *judge);
 
 /* The command of a slot begins to be read; then each run of it, in order. */

@@ -173,6 +173,7 @@ static void judge_command(struct judge *judge, ahci_hba *hba, uint32_t slot) {
     const struct judged *judged = &judge->slots[slot];
     const uint8_t *fis = judged->fis;
     bool active = judge_peek(hba, AHCI_REG_PXSACT) >> slot & 1;
+    uint64_t bytes;
     judge_fis(judge, slot, active);
     if (is_queued(fis))
         judge_queued(judge, hba, slot, active, fis);
@@ -183,6 +184,7 @@ static void judge_command(struct judge *judge, ahci_hba *hba, uint32_t slot) {
         judge->port.is_resetting = false;
     }
     judge_recovery(judge, hba, slot, fis);
+    recovery_command(judge, slot, fis, table_of(judged, &bytes), judged->entries_left);
     end_list(judge, slot);
 }
 

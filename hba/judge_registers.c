@@ -24,7 +24,8 @@ static struct judged_port port_after_reset(const struct judged_port *before) {
 }
 
 void judge_power_on(struct judge *judge) {
-    judge->port = port_after_reset(&(struct judged_port){.has_list = false});
+    judge->port = port_after_reset(&(struct judged_port){.is_master = judge->port.is_master});
+    recovery_power_on(judge);
 }
 
 /* ---- each register ---- */
@@ -175,6 +176,7 @@ static void judge_word(struct judge *judge, ahci_hba *hba, uint32_t offset, uint
             judge_find(judge, rule, "%08" PRIx32 " at %03" PRIx32, word, offset);
     }
     take_word(judge, hba, offset, word);
+    recovery_write(judge, hba, offset, word);
 }
 
 /* Whether writing 1 to a register's bits clears or sets them, so that the bytes beside an access count as 0. */
@@ -225,6 +227,7 @@ void judge_master(struct judge *judge, ahci_hba *hba, bool is_master) {
 /* The driver has read some bits of a register, a mask. */
 static void see_word(struct judge *judge, ahci_hba *hba, uint32_t offset, uint32_t mask, uint32_t word) {
     struct judged_port *port = &judge->port;
+    recovery_read(judge, hba, offset, mask, word);
     switch (offset) {
     case AHCI_REG_GHC:
         port->awaits_reset &= !(mask & ~word & AHCI_GHC_HR);

@@ -21,19 +21,30 @@ static uint8_t *room_for(struct device *device, uint64_t bytes) {
     return device->buffer;
 }
 
+/* The memory has met wrong data, as a script says. */
+static void report_spoiled(struct device *device) {
+    log_line("wrong data at %" PRIx64 ", %" PRIu64 " bytes", device->state.address, device->state.length);
+    device_must("ahci_hba_spoiled", ahci_hba_spoiled(&device->hba));
+    device->mute = true;
+}
+
 static void report_unmapped(struct device *device) {
     log_line("no memory at %" PRIx64 ", %" PRIu64 " bytes", device->state.address, device->state.length);
     device_must("ahci_hba_unmapped", ahci_hba_unmapped(&device->hba));
     device->mute = true;
 }
 
-/* Whether a script says that there is no memory for this run. */
+/* Whether a script says that there is no memory for this run, or that it meets wrong data. */
 static bool is_provoked(struct device *device) {
-    bool is = device->provoked.no_memory;
-    device->provoked.no_memory = false;
-    if (is)
+    struct provoked *it = &device->provoked;
+    const bool is_gone = it->no_memory, is_spoiled = it->memory_error && !is_gone;
+    it->no_memory = false;
+    it->memory_error = it->memory_error && !is_spoiled;
+    if (is_gone)
         report_unmapped(device);
-    return is;
+    if (is_spoiled)
+        report_spoiled(device);
+    return is_gone || is_spoiled;
 }
 
 /* Keeps what the command asks, and logs its FIS. */
@@ -83,9 +94,11 @@ static enum run move_out(struct device *device) {
     if (!history_is_kept(&device->history))
         return RUN_LATER;
     device_must("ahci_hba_bytes", ahci_hba_bytes(&device->hba, bytes, count));
+    provoke_bytes(device, bytes, count);
     enum moved moved = memory_move(device->memory, true, device->state.address, bytes, count);
     if (moved == MOVED_LATER)
         return RUN_LATER;
+    provoke_written(device, count);
     if (moved == MOVED_ALL)
         device_must("ahci_hba_written", ahci_hba_written(&device->hba));
     else

@@ -165,6 +165,7 @@ static void power_on(struct pci *pci) {
     pci->hold.is_owed = false;
     fill_space(pci->space);
     device_reset(pci->device);
+    device_master(pci->device, false);
     settle(pci);
 }
 

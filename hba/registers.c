@@ -11,7 +11,8 @@ uint64_t device_read(struct device *device, uint32_t offset, uint32_t bytes) {
     uint32_t status = ahci_hba_read(&device->hba, offset, bytes, &value);
     if (status != AHCI_OK)
         log_line("a read of %" PRIu32 " bytes at %03" PRIx32 " was refused: status %" PRIu32, bytes, offset, status);
-    value = slow_read(&device->slow, offset, bytes, value);
+    if (slow_is_on(&device->slow))
+        value = slow_read(&device->slow, offset, bytes, value, device_now());
     judge_read(&device->judge, &device->hba, offset, bytes, value);
     return value;
 }
@@ -52,7 +53,7 @@ static void follow(struct device *device, uint64_t entries) {
 }
 
 void device_write(struct device *device, uint32_t offset, uint32_t bytes, uint64_t value) {
-    const bool is_slow = device->slow.reads != 0;
+    const bool is_slow = slow_is_on(&device->slow);
     uint64_t entries = 0;
     judge_write(&device->judge, &device->hba, offset, bytes, value);
     uint32_t command = is_slow ? word_at(device, AHCI_REG_PXCMD) : 0;
@@ -60,7 +61,9 @@ void device_write(struct device *device, uint32_t offset, uint32_t bytes, uint64
     if (status != AHCI_OK)
         log_line("a write of %" PRIu32 " bytes at %03" PRIx32 " was refused: status %" PRIu32, bytes, offset, status);
     if (is_slow)
-        slow_write(&device->slow, offset, bytes, value, command, word_at(device, AHCI_REG_PXCMD));
+        slow_write(&device->slow, offset, bytes, value, command, word_at(device, AHCI_REG_PXCMD), device_now());
+    if (slow_sets(SLOW_HR, offset, bytes, value))
+        device->provoked.is_due = false; /* another signature is due */
     follow(device, entries);
     if (device->settings->script->count)
         script_wrote(device->settings->script, offset, bytes, provoke_since(device));
@@ -74,6 +77,7 @@ void device_reset(struct device *device) {
     uint64_t entries = 0;
     device_must("ahci_hba_power_on", ahci_hba_power_on(&device->hba, &entries));
     slow_reset(&device->slow);
+    device->provoked.is_due = false;
     follow(device, entries);
     judge_power_on(&device->judge);
 }
@@ -111,4 +115,26 @@ void device_plug(struct device *device) {
 void device_fail_interface(struct device *device, ahci_interface_error error, bool is_fatal) {
     device_must("ahci_hba_fail_interface", ahci_hba_fail_interface(&device->hba, (uint32_t)error, is_fatal));
     follow(device, 0);
+}
+
+static uint32_t receive(ahci_hba *hba, enum unasked fis) {
+    static const uint8_t unknown[4] = {0x55}; /* a type that Serial ATA doesn't name */
+    switch (fis) {
+    case UNASKED_NOTIFICATION:
+    case UNASKED_BITS:
+        return ahci_hba_receive_bits(hba, fis == UNASKED_NOTIFICATION);
+    case UNASKED_REGISTER:
+        return ahci_hba_receive_register(hba);
+    default:
+        return ahci_hba_receive_unknown(hba, unknown, sizeof unknown);
+    }
+}
+
+bool device_receive(struct device *device, enum unasked fis) {
+    uint32_t status = receive(&device->hba, fis);
+    if (status == AHCI_NOT_READY)
+        return false;
+    device_must("ahci_hba_receive", status);
+    follow(device, 0);
+    return true;
 }

@@ -150,6 +150,11 @@ void scribe_copy(struct scribe *scribe) {
         give_part(scribe);
 }
 
+void scribe_copy_anew(struct scribe *scribe) {
+    if (scribe->is_copying)
+        copying_begin(&scribe->part, scribe->part.disk); /* it has its memory */
+}
+
 /* ---- beginning and end ---- */
 
 int scribe_begin(struct scribe *scribe, const char *folder, uint64_t limit, const struct disk *disk, uint32_t depth) {

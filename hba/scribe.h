@@ -58,6 +58,9 @@ bool scribe_has_room(const struct scribe *scribe, uint64_t bytes);
 bool scribe_next_part(struct scribe *scribe, const struct disk *disk);
 void scribe_copy(struct scribe *scribe);
 
+/* The disk has changed meanwhile: the copy begins anew. */
+void scribe_copy_anew(struct scribe *scribe);
+
 /* Takes what the thread has done. */
 void scribe_take(struct scribe *scribe);
 

@@ -1,6 +1,7 @@
 #include "settings.h"
 
 #include "capabilities.h"
+#include "identity.h"
 #include "options.h"
 #include "record.h"
 #include "rules.h"
@@ -51,6 +52,14 @@ static const char help[] =
     "                               link power management; pmd, PIO of several blocks. (default\n"
     "                               ncs=32,iss=2,s64a=1,sncq=1,sss=0,sclo=1,salp=0,pmd=1) A driver takes other paths then: with\n"
     "                               sncq=0,s64a=0 it queues no command and keeps its memory below 4 GiB\n"
+    "      --model TEXT             The model number that IDENTIFY DEVICE tells, of at most 40 characters (default SOFTWARE NCQ DISK)\n"
+    "      --serial TEXT            The serial number, of at most 20 (default 00000001)\n"
+    "      --firmware TEXT          The firmware revision, of at most 8 (default 1.0)\n"
+    "      --rpm N                  The rotation rate: 0, not told; 1, a disk that doesn't rotate; or 1025 to 65534 (default 0)\n"
+    "      --write-cache            The disk has a volatile write cache, which IDENTIFY DEVICE reports, so that the guest flushes it: with --sync\n"
+    "                               flush the image has then what the guest has flushed. A power_loss of a script may lose writes that were\n"
+    "                               answered, unless a flush came after them, they have FUA, or the\n"
+      "                               guest had disabled the cache\n"
     "      --pick WHICH             The command that the device goes on with: low, high or random slot (default low)\n"
     "      --seed N                 The seed of --pick random (default 1)\n"
     "      --fail WHERE:EE[:COUNT][,CONDITION]..\n"
@@ -75,8 +84,9 @@ static const char help[] =
     "                               least 4M and at most 256M). BYTES may have a unit: 512K, 64M, 1G\n"
     "      --log FILE               A line for each access of the guest\n"
     "      --judge                  Writes which rules of AHCI 1.3.1 the guest's driver breaks to standard error, as it breaks them,\n"
-    "                               and a table at the end\n"
-    "      --json FILE              The same table as JSON; judges also without --judge\n"
+    "                               and a table at the end; then what it did about each event of the script, and what became of its\n"
+    "                               commands\n"
+    "      --json FILE              The same tables as JSON; judges also without --judge\n"
     "      --judge-from N           Only the stretches from number N on count, in both tables and for the status. Stretch 1 begins\n"
     "                               with the guest, and another one with each reset of the HBA (GHC.HR) (default 1)\n"
     "      --slow-bits N            CR and FR of PxCMD change only after N reads of them, and CLO and HR go to 0 only then\n"
@@ -169,6 +179,9 @@ static int take_one(struct settings *settings, const char *name, const char *val
         return option_small(name, value, 1, AHCI_MOST_TAGS, &settings->depth);
     if (!strcmp(name, "cap"))
         return capabilities_take(&settings->capabilities, value);
+    int named = identity_take(&settings->identity, name, value);
+    if (named <= 0)
+        return named;
     if (!strcmp(name, "transport"))
         return take_way(value, &settings->way);
     if (!strcmp(name, "hold"))
@@ -195,7 +208,7 @@ static int take_one(struct settings *settings, const char *name, const char *val
 /* Takes one option with its value. */
 static int take_option(struct settings *settings, const char *word, const char *value) {
     static const char *const names[] = {"sectors", "depth", "cap", "pick", "seed", "delay", "image", "sync", "most-journal", "record", "record-limit", "log",
-                                        "judge-from", "slow-bits", "json", "transport", "socket", "hold", "size", "script"};
+                                        "judge-from", "slow-bits", "json", "transport", "socket", "hold", "size", "script", "model", "serial", "firmware", "rpm"};
     const char *name = word + 2;
     enum event_kind rule = rules_kind(name, SERVER_HBA);
     if (rule != EVENT_KINDS)
@@ -230,6 +243,20 @@ static int look_at_pairs(const struct settings *settings) {
     return -1;
 }
 
+/* What a loss of power leaves is in the image, and has no limit in the record. */
+static int look_at_losses(const struct settings *settings) {
+    const char *path = settings->script_file;
+    if (!script_has(settings->script, EVENT_POWER_LOSS))
+        return 0;
+    if (!settings->mapped.image.path)
+        say_of("script", path, "power_loss needs --image, where the sectors are that it leaves");
+    else if (settings->record_limit)
+        say_of("script", path, "power_loss and --record-limit: what it leaves of the sectors is in the record, and may have more bytes");
+    else
+        return 0;
+    return -1;
+}
+
 /* Whether the command is there that is needed, and the socket. */
 static int look_at_command(const struct settings *settings) {
     bool has_command = settings->command && settings->command[0];
@@ -253,15 +280,16 @@ static int settle(struct settings *settings) {
         settings->most_journal = usual_journal(settings->sectors);
     if (settings->script_file && script_read(settings->script, settings->script_file, SERVER_HBA))
         return -1;
-    return script_complete(settings->script, settings->sectors);
+    return look_at_losses(settings) ? -1 : script_complete(settings->script, settings->sectors);
 }
 
 /* Whether a word is an option without a value, which is taken. */
 static bool take_flag(struct settings *settings, const char *word) {
-    bool judges = !strcmp(word, "--judge"), refuses = !strcmp(word, "--refuse-log");
+    bool judges = !strcmp(word, "--judge"), refuses = !strcmp(word, "--refuse-log"), caches = !strcmp(word, "--write-cache");
     settings->judge |= judges;
     settings->refuse_log |= refuses;
-    return judges || refuses;
+    settings->write_cache |= caches;
+    return judges || refuses || caches;
 }
 
 /* Reads the words after the subcommand, --NAME VALUE or --NAME=VALUE, up to the guest's command. */
@@ -311,7 +339,7 @@ static enum asked check_script(char **words) {
 }
 
 enum asked settings_read(struct settings *settings, int count, char **words) {
-    *settings = (struct settings){.hold = {.longest = 2000, .gap = 300, .most = 16}, .depth = AHCI_MOST_TAGS, .capabilities = AHCI_HBA_USUAL, .seed = 1, .judge_from = 1, .sync = SYNC_FLUSH};
+    *settings = (struct settings){.hold = {.longest = 2000, .gap = 300, .most = 16}, .depth = AHCI_MOST_TAGS, .capabilities = AHCI_HBA_USUAL, .identity = identity_usual(), .seed = 1, .judge_from = 1, .sync = SYNC_FLUSH};
     static struct script script;
     settings->script = &script;
     mapped_begin(&settings->mapped);

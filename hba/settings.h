@@ -29,11 +29,13 @@ struct settings {
     uint32_t sectors; /* 1 to 2^32 - 1 */
     uint32_t depth;   /* 1 to 32: the queue depth of IDENTIFY DEVICE */
     ahci_hba_capabilities capabilities; /* of the controller */
+    ahci_identity identity; /* what IDENTIFY DEVICE names the disk */
     ahci_order pick;  /* which of the commands that the device has taken it goes on with */
     uint64_t seed;    /* of AHCI_ORDER_DRAWN */
     struct delay delay; /* before the device answers a command */
     struct script *script; /* which commands fail, are slow or are never answered, and what else happens */
     const char *script_file; /* NULL: all of it comes from --fail, --slow and --stall */
+    bool write_cache;   /* the disk has a volatile write cache: a loss of power may lose writes that were answered */
     bool refuse_log;    /* the log of a failed queued command can't be read */
     struct mapped mapped; /* a file with the disk's sectors */
     enum sync sync;

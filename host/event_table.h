@@ -8,11 +8,14 @@ enum event_kind {
     EVENT_STALL,
     EVENT_SLOW,
     EVENT_FAIL,
+    EVENT_END,
     EVENT_NO_MEMORY,
+    EVENT_MEMORY_ERROR,
     EVENT_LOSE_INTERRUPT,
     EVENT_LATE_INTERRUPT,
     EVENT_SEND_INTERRUPT,
     EVENT_POWER_ON,
+    EVENT_POWER_LOSS,
     EVENT_LOSE_LINK,
     EVENT_FIND_LINK,
     EVENT_UNPLUG,
@@ -27,6 +30,22 @@ enum event_kind {
     EVENT_FATAL_SEQUENCE_ERROR,
     EVENT_TRANSPORT_ERROR,
     EVENT_FATAL_TRANSPORT_ERROR,
+    EVENT_PACKET_SIGNATURE,
+    EVENT_BRIDGE_SIGNATURE,
+    EVENT_MULTIPLIER_SIGNATURE,
+    EVENT_NOTIFICATION,
+    EVENT_SPURIOUS_BITS,
+    EVENT_SPURIOUS_REGISTER,
+    EVENT_UNKNOWN_FIS,
+    EVENT_HOLD_SIGNATURE,
+    EVENT_LOSE_SIGNATURE,
+    EVENT_WRONG_LOG_TAG,
+    EVENT_WRONG_LOG_NQ,
+    EVENT_WRONG_LOG_SUM,
+    EVENT_SLOW_CR,
+    EVENT_SLOW_FR,
+    EVENT_SLOW_CLO,
+    EVENT_SLOW_HR,
     EVENT_WAIT, /* between others */
     EVENT_KINDS
 };
@@ -38,9 +57,11 @@ enum event_kind {
 /* What follows an event's name. */
 enum argument {
     ARGUMENT_NONE,
-    ARGUMENT_ERROR, /* EE: an error byte */
-    ARGUMENT_DELAY, /* TIME or TIME+JITTER, each at most MOST_DELAY */
-    ARGUMENT_TIME   /* TIME */
+    ARGUMENT_ERROR,  /* EE: an error byte */
+    ARGUMENT_STATUS, /* SS: a status byte */
+    ARGUMENT_DELAY,  /* TIME or TIME+JITTER, each at most MOST_DELAY */
+    ARGUMENT_TIME,   /* TIME */
+    ARGUMENT_SEED    /* nothing, or seed N */
 };
 
 /* What an event is about. */
@@ -62,7 +83,7 @@ struct event_row {
 
 extern const struct event_row event_rows[EVENT_KINDS];
 
-/* The arguments as they are written: "EE", "TIME[+JITTER]", "TIME" or "". */
+/* The arguments as they are written: "EE", "SS", "TIME[+JITTER]", "TIME", "[seed N]" or "". */
 const char *event_arguments(enum event_kind kind);
 
 /* The name of one server: "hba" or "nbd". */

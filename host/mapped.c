@@ -19,9 +19,14 @@ void mapped_begin(struct mapped *mapped) {
     *mapped = (struct mapped){.file = -1};
 }
 
-void mapped_end(struct mapped *mapped) {
+static void unmap(struct mapped *mapped) {
     if (mapped->bytes)
         munmap((void *)(uintptr_t)mapped->bytes, mapped->length);
+    mapped->bytes = NULL;
+}
+
+void mapped_end(struct mapped *mapped) {
+    unmap(mapped);
     if (mapped->file >= 0)
         close(mapped->file);
     pages_free(&mapped->changed);
@@ -140,6 +145,7 @@ int mapped_map(struct mapped *mapped) {
     struct image *image = &mapped->image;
     if (!image->path)
         return 0;
+    unmap(mapped);
     mapped->length = (size_t)(image->bytes + SECTOR_BYTES - 1) / SECTOR_BYTES * SECTOR_BYTES;
     if (!mapped->length)
         return 0;

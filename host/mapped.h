@@ -27,7 +27,7 @@ void mapped_begin(struct mapped *mapped);
    that return an int return 0, or -1 once they have printed why, if nothing else is said. Without an image they do nothing. */
 int mapped_open(struct mapped *mapped);
 
-/* Maps the image. */
+/* Maps the image, as it is now. */
 int mapped_map(struct mapped *mapped);
 
 /* All sectors of a small disk: those of the image, and zeros after them. The caller frees them. NULL once it has printed that there is no memory. */

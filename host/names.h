@@ -4,6 +4,9 @@
 
 #include <stdint.h>
 
+/* The queued commands. */
+enum { READ_FPDMA_QUEUED = 0x60, WRITE_FPDMA_QUEUED = 0x61 };
+
 /* The command whose name is the longest one at the beginning of some words, which end with NULL: its code, and how many words the name has; 0 if there is
    none. */
 unsigned command_named(char *const *words, uint8_t *code);

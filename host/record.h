@@ -31,7 +31,9 @@ enum record_kind {
     RECORD_TRIM = 10,
     RECORD_RESET = 11,    /* all commands that are outstanding are dropped, an error that stood is over, and the sectors stay as they are */
     RECORD_IDENTIFY = 12, /* IDENTIFY DEVICE was carried out */
-    RECORD_READ_LOG = 13  /* READ LOG EXT was carried out by itself */
+    RECORD_READ_LOG = 13, /* READ LOG EXT was carried out by itself */
+    RECORD_LOSS = 14,     /* the disk loses its power: as RECORD_RESET, and the sectors of the RECORD_LEFT that follow are others from here on */
+    RECORD_LEFT = 15      /* sectors that writes before a loss have touched, as it has left them, 64 at most: lba, count, and their bytes behind it */
 };
 
 struct record_entry {

@@ -12,8 +12,8 @@ MOST_SECTORS = 131_072  # of a disk whose parts begin with all of its sectors, a
 HEADER = struct.Struct("<8sIIQQ32x")
 ENTRY = struct.Struct("<BBBBIQQ")
 MAGIC = b"ahcirec1"
-SECTORS, READ, WRITE, ACCEPT, SERVE, FAIL, RECOVER, REISSUE, COLLECT, FLUSH, TRIM, RESET, IDENTIFY, READ_LOG = range(14)
-NAMES = ("sectors", "read", "write", "accept", "serve", "fail", "recover", "reissue", "collect", "flush", "trim", "reset", "identify", "read log")
+SECTORS, READ, WRITE, ACCEPT, SERVE, FAIL, RECOVER, REISSUE, COLLECT, FLUSH, TRIM, RESET, IDENTIFY, READ_LOG, LOSS, LEFT = range(16)
+NAMES = ("sectors", "read", "write", "accept", "serve", "fail", "recover", "reissue", "collect", "flush", "trim", "reset", "identify", "read log", "loss", "left")
 
 
 class Wrong(Exception):
@@ -34,7 +34,7 @@ class Entry(NamedTuple):
 
 def rest_of(kind: int, count: int) -> int:
     """How many bytes an entry has behind it."""
-    if kind in (SECTORS, WRITE):
+    if kind in (SECTORS, WRITE, LEFT):
         return SECTOR * count
     return (count + 7) // 8 * 8 if kind == SERVE else 0
 
@@ -186,11 +186,13 @@ class State:
         elif it.kind == COLLECT:
             self.done.discard(it.tag)
             self.commands.pop(it.tag, None)
-        elif it.kind == RESET:
+        elif it.kind in (RESET, LOSS):
             self.drop()
+        elif it.kind == LEFT:
+            self.disk.put(it.lba, it.data)
 
     def drop(self) -> None:
-        """A reset: nothing is outstanding any more."""
+        """A reset, or a loss of power: nothing is outstanding any more."""
         self.commands, self.accepted, self.is_halted = {}, [], False
         self.held.clear()
         self.done.clear()

@@ -18,9 +18,11 @@
 
 struct event {
     enum event_kind kind;
-    uint8_t error;      /* ARGUMENT_ERROR */
+    uint8_t error;      /* ARGUMENT_ERROR, ARGUMENT_STATUS */
     struct delay delay; /* ARGUMENT_DELAY */
     uint64_t time;      /* ARGUMENT_TIME: microseconds */
+    bool has_seed;      /* ARGUMENT_SEED */
+    uint64_t seed;      /* the line's, if none is given */
 };
 
 /* What a line waits for. */
@@ -60,7 +62,7 @@ struct line {
 
 struct script {
     unsigned count;
-    uint32_t events; /* the kinds that some line has, as bits */
+    uint64_t events; /* the kinds that some line has, as bits */
     unsigned given[EVENT_KINDS]; /* how many lines come from the option of this name */
     char path[MOST_PATH]; /* of the file that was read */
     struct line lines[MOST_LINES];
@@ -70,6 +72,7 @@ struct script {
 struct occasion {
     uint8_t code;
     uint8_t tag; /* or slot */
+    bool is_queued;
     bool writes;
     uint64_t lba;
     uint32_t sectors; /* 0: it names none */

@@ -16,7 +16,7 @@ struct line *script_add(struct script *script) {
 
 void script_note(struct script *script, const struct line *line) {
     for (unsigned at = 0; at < line->count; at++)
-        script->events |= UINT32_C(1) << line->events[at].kind;
+        script->events |= UINT64_C(1) << line->events[at].kind;
 }
 
 /* The bytes of a file, and how many there are; NULL after it has printed why there are none. */

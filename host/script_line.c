@@ -6,7 +6,7 @@
      PLACE     = "every" | "every" NTH | "first" | NTH
      CONDITION = "any" | "read" | "write" | NAME | "command" XX | "command" NAME | "write" REGISTER
                | "sectors" SPAN | "tag" SPAN | "number" SPAN | "during" TIME-TIME | "probability" N/M | "seed" S
-     EVENTS    = EVENT ("then" EVENT)..
+     EVENTS    = EVENT ("then" EVENT)..       EVENT has arguments as its row of event_table.c says
      REPEAT    = nothing | "repeat" COUNT | "repeat" "ever" */
 #include "generator.h"
 #include "names.h"
@@ -177,17 +177,19 @@ static bool take_condition(struct parsing *it) {
 
 /* ---- events ---- */
 
+#define MOST_NAMES 2048 /* characters of the list of events */
+
 /* The events that a server has, as a list. */
-static const char *events_of(unsigned server, char text[512]) {
+static const char *events_of(unsigned server, char text[MOST_NAMES]) {
     size_t length = 0;
     for (enum event_kind kind = 0; kind < EVENT_KINDS; kind++)
         if (event_rows[kind].servers & server)
-            length += (size_t)snprintf(text + length, 512 - length, "%s%s", length ? ", " : "", event_rows[kind].name);
+            length += (size_t)snprintf(text + length, MOST_NAMES - length, "%s%s", length ? ", " : "", event_rows[kind].name);
     return text;
 }
 
 static bool take_event_kind(struct parsing *it, enum event_kind *kind) {
-    char text[512];
+    char text[MOST_NAMES];
     unsigned at = 0;
     while (at < EVENT_KINDS && !words_are_at(it->words, event_rows[at].name))
         at++;
@@ -208,15 +210,18 @@ static bool has_event(const struct line *line, enum event_kind kind) {
 static bool fits(struct parsing *it, enum event_kind kind) {
     struct line *line = it->line;
     enum scope scope = event_rows[kind].scope;
-    bool is_answered = kind == EVENT_SLOW || kind == EVENT_FAIL;
+    bool is_ended = kind == EVENT_FAIL || kind == EVENT_END, is_answered = kind == EVENT_SLOW || is_ended;
     bool is_first = line->about == ABOUT_COMMAND && line->about_command == line->count;
     if (scope == SCOPE_COMMAND && line->about != ABOUT_COMMAND)
         return words_expected(it->words, "an event that is about no command, since none is at hand");
     if (scope == SCOPE_COMMAND && !is_first)
         return words_expected(it->words, "no event about the command after a wait or an event about the controller");
     if (is_first && (scope == SCOPE_COMMAND || scope == SCOPE_EITHER)) {
-        if (has_event(line, kind) || (is_answered && has_event(line, EVENT_STALL)) || (kind == EVENT_STALL && (has_event(line, EVENT_SLOW) || has_event(line, EVENT_FAIL))))
+        bool has_end = has_event(line, EVENT_FAIL) || has_event(line, EVENT_END);
+        if (has_event(line, kind) || (is_ended && has_end) || (is_answered && has_event(line, EVENT_STALL)) || (kind == EVENT_STALL && (has_event(line, EVENT_SLOW) || has_end)))
             return words_expected(it->words, "an event that can come beside those before it");
+        if (kind == EVENT_END && line->has_code && (line->code == READ_FPDMA_QUEUED || line->code == WRITE_FPDMA_QUEUED))
+            return words_expected(it->words, "an event that a queued command can have");
         line->about_command++;
     }
     return true;
@@ -227,10 +232,15 @@ static bool take_argument(struct parsing *it, struct event *event) {
     switch (event_rows[event->kind].argument) {
     case ARGUMENT_ERROR:
         return is_whole(it, take_error(word, &event->error), "an error byte of two hexadecimal digits, such as 40");
+    case ARGUMENT_STATUS:
+        return is_whole(it, take_error(word, &event->error), "a status byte of two hexadecimal digits, such as 61");
     case ARGUMENT_DELAY:
         return is_whole(it, take_delay_with_units(word, &event->delay), "a time of at most 10s, such as 20ms, perhaps with one to be added at random, such as 20ms+5ms");
     case ARGUMENT_TIME:
         return is_whole(it, take_time(word, &event->time), "a time, such as 20ms or 2.5s");
+    case ARGUMENT_SEED:
+        event->has_seed = words_take(it->words, "seed");
+        return !event->has_seed || is_whole(it, take_digits(words_next(it->words), &event->seed), "a number");
     default:
         return true;
     }
@@ -323,5 +333,8 @@ bool line_take(struct line *line, struct words *words, unsigned server, uint64_t
     if (!take_events(&it) || !take_repeat(&it))
         return false;
     line->random = generator_of(line->seed);
+    for (unsigned at = 0; at < line->count; at++)
+        if (event_rows[line->events[at].kind].argument == ARGUMENT_SEED && !line->events[at].has_seed)
+            line->events[at].seed = line->seed;
     return true;
 }

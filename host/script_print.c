@@ -108,6 +108,7 @@ static void add_event(struct text *text, const struct event *event) {
     add(text, " %s", event_rows[event->kind].name);
     switch (event_rows[event->kind].argument) {
     case ARGUMENT_ERROR:
+    case ARGUMENT_STATUS:
         add(text, " %02X", event->error);
         break;
     case ARGUMENT_DELAY:
@@ -121,6 +122,10 @@ static void add_event(struct text *text, const struct event *event) {
     case ARGUMENT_TIME:
         add(text, " ");
         add_time(text, event->time);
+        break;
+    case ARGUMENT_SEED:
+        if (event->has_seed)
+            add(text, " seed %" PRIu64, event->seed);
         break;
     default:
         break;

@@ -74,9 +74,19 @@ bool script_take(struct script *script, uint64_t since, struct decision *due) {
 
 /* ---- which lines apply ---- */
 
+/* The line's event of a kind that is about the command; NULL if it has none. */
+static const struct event *event_of(const struct line *line, enum event_kind kind) {
+    for (unsigned at = 0; at < line->about_command; at++)
+        if (line->events[at].kind == kind)
+            return &line->events[at];
+    return NULL;
+}
+
 static bool is_kind(const struct line *line, const struct occasion *it) {
     if (line->has_code ? line->code != it->code : !it->sectors)
         return false;
+    if (it->is_queued && event_of(line, EVENT_END))
+        return false; /* a queued command can't end so */
     return !it->sectors || (it->writes ? line->writes : line->reads);
 }
 
@@ -119,14 +129,6 @@ static bool applies(struct line *line, uint64_t since) {
     return line->answer == APPLIES;
 }
 
-/* The line's event of a kind that is about the command; NULL if it has none. */
-static const struct event *event_of(const struct line *line, enum event_kind kind) {
-    for (unsigned at = 0; at < line->about_command; at++)
-        if (line->events[at].kind == kind)
-            return &line->events[at];
-    return NULL;
-}
-
 /* The first line that applies and has an event of a kind decides it. */
 static struct decision decision_of(struct script *script, enum event_kind kind, uint64_t since) {
     for (unsigned at = 0; script_has(script, kind) && at < script->count; at++) {
@@ -147,7 +149,7 @@ void script_decide(struct script *script, const struct occasion *it, struct deci
         line->answer = holds ? NOT_ASKED : APPLIES_NOT;
     }
     for (enum event_kind kind = 0; kind < EVENT_KINDS; kind++)
-        if (!all->of[EVENT_STALL].line || (kind != EVENT_SLOW && kind != EVENT_FAIL))
+        if (!all->of[EVENT_STALL].line || (kind != EVENT_SLOW && kind != EVENT_FAIL && kind != EVENT_END))
             all->of[kind] = decision_of(script, kind, it->since);
     for (unsigned at = 0; at < script->count; at++)
         if (script->lines[at].about_command < script->lines[at].count)

@@ -79,7 +79,7 @@ bool words_take(struct words *words, const char *word) {
 
 bool words_expected(const struct words *words, const char *format, ...) {
     const char *word = words_next(words);
-    char what[640];
+    char what[1152];
     va_list rest;
     va_start(rest, format);
     vsnprintf(what, sizeof what, format, rest);

@@ -47,7 +47,7 @@ static void decide(struct driver *driver, uint32_t tag) {
     uint64_t time = now();
     struct decisions all;
     bool writes = it->request->kind == REQUEST_WRITE;
-    const struct occasion occasion = {.code = writes ? AHCI_WRITE_FPDMA_QUEUED : AHCI_READ_FPDMA_QUEUED, .tag = (uint8_t)tag, .writes = writes, .lba = it->request->lba,
+    const struct occasion occasion = {.code = writes ? AHCI_WRITE_FPDMA_QUEUED : AHCI_READ_FPDMA_QUEUED, .tag = (uint8_t)tag, .is_queued = true, .writes = writes, .lba = it->request->lba,
                                       .sectors = it->request->sectors, .number = it->serial, .since = (time - driver->started) / 1000};
     script_decide(driver->settings->script, &occasion, &all);
     const struct decision *slow = &all.of[EVENT_SLOW];

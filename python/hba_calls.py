@@ -187,6 +187,15 @@ with Hba(bytes(512), depth=32, capabilities=few) as hba:
     hba.write(0x118, 0x0C000002)
     assert (hba.read(0x118), hba.read(0x128)) == (0x0C000006, 0x00000113)
 refused(ahci.Status.BAD_DEPTH, lambda: Hba(bytes(512), 33))
+with Hba(bytes(512), depth=32) as hba:  # what names the disk, and its write cache
+    hba.identity(ahci.Identity("S1", "F", "A MODEL", 7200))
+    for wrong in (ahci.Identity(rotation=2), ahci.Identity(rotation=0xFFFF), ahci.Identity(model="\n"), ahci.Identity(serial="\u00e9")):
+        refused(ahci.Status.BAD_KIND, lambda: hba.identity(wrong))
+    assert not hba.write_cache_enabled
+    hba.write_cache(True)
+    assert hba.write_cache_enabled
+    hba.write_cache(False)
+    assert not hba.write_cache_enabled
 with Hba(bytes(512), depth=32) as hba:  # PxFB is no memory: HBFS, and no second signature before the driver's next write
     hba.write(PXFB, 0x100000)
     hba.write(PXCMD, 0x10)

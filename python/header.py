@@ -15,8 +15,8 @@ KINDS = {"uint8_t": ctypes.c_uint8, "uint16_t": ctypes.c_uint16, "uint32_t": cty
 STRUCTS = {"port": library.PortPlace, "stepped": library.SteppedStruct, "reply": library.ReplyStruct, "slot": library.SlotStruct,
            "tag_sets": library.SetsStruct, "entry": library.EntryStruct, "written": library.WrittenStruct, "state": library.StateStruct,
            "fis": library.FisStruct, "command": library.CommandStruct, "hba": library.HbaPlace,
-           "hba_state": library.LookStruct, "hba_capabilities": library.CapabilitiesStruct}
-ENUMS = {"status": (ahci.Status, ""), "event": (ahci.Event, "EVENT_"), "phase": (ahci.Phase, "PHASE_"), "interface_error": (ahci.InterfaceError, "INTERFACE_"), "kind": (ahci.Kind, ""), "did": (ahci.Did, ""),
+           "hba_state": library.LookStruct, "hba_capabilities": library.CapabilitiesStruct, "identity": library.IdentityStruct}
+ENUMS = {"status": (ahci.Status, ""), "event": (ahci.Event, "EVENT_"), "phase": (ahci.Phase, "PHASE_"), "interface_error": (ahci.InterfaceError, "INTERFACE_"), "device_kind": (ahci.DeviceKind, "DEVICE_"), "kind": (ahci.Kind, ""), "did": (ahci.Did, ""),
          "order": (ahci.Order, "ORDER_"), "outcome": (ahci.Outcome, "DID_"), "wrote": (ahci.Wrote, "WROTE_"), "want": (ahci.Want, "WANT_"), "hba_step_kind": (ahci.Step, "STEP_"),
          "rule": (ahci.Rule, "RULE_")}
 

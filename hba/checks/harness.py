@@ -25,6 +25,7 @@ PROGRAM = os.path.join(HERE, "out", "ahci-hba")
 SANITIZED = PROGRAM + ".sanitized"
 STARVED = PROGRAM + ".starved"
 STALLED = PROGRAM + ".stalled"
+FORGETFUL = PROGRAM + ".forgetful"
 LATENCY = os.path.join(HERE, "checks", "latency")
 PLAYER = os.path.join(HERE, "out", "play")
 SECTOR = 512

@@ -27,6 +27,13 @@ SECTOR = 512
 VFIO_USER, PROXY = "vfio-user", "proxy"  # the ways in which QEMU has the controller
 PARTITION = 2048  # the first sector of a GRUB image's partition
 
+# what some test of guests/ needs besides: modules, which it loads itself by /modules/more; programs by their packages; and those of guests/
+MORE_MODULES = {"losses": ["xfs"], "tools": ["sg", "xfs"]}
+MORE_PROGRAMS = {"losses": {"e2fsck": "e2fsprogs", "xfs_repair": "xfsprogs"},
+                 "tools": {"smartctl": "smartmontools", "hdparm": "hdparm", "sg_sat_identify": "sg3-utils", "sg_sat_read_gplog": "sg3-utils", "sg_sat_phy_event": "sg3-utils",
+                           "fstrim": "util-linux", "blkdiscard": "util-linux", "lsblk": "util-linux", "mkfs.xfs": "xfsprogs"}}
+MORE_COMPILED = {"losses": ["synced"]}
+
 # the modules of a kernel that the disk and a file system want; those that they use come with them. A kernel may have no such module, or have it built in
 MODULES = ["crc32c_generic", "crc64_rocksoft_generic", "crct10dif_generic", "sd_mod", "ahci", "ext4"]
 
@@ -249,11 +256,14 @@ def compiled(room: str, name: str) -> bytes:
     return read(path)
 
 
-def programs(room: str) -> Dict[str, bytes]:
+def programs(room: str, test: str) -> Dict[str, bytes]:
     """What a script of guests/ runs, for this machine."""
-    mkfs, busybox = program("mkfs.ext4", "e2fsprogs"), program("busybox", "busybox")
-    files = {"bin/busybox": read(busybox), "bin/requests": compiled(room, "requests"), "bin/merged": compiled(room, "merged"), "sbin/mkfs.ext4": read(mkfs)}
-    for path in libraries(mkfs) + libraries(busybox):
+    packages = {"mkfs.ext4": "e2fsprogs", **MORE_PROGRAMS.get(test, {})}
+    paths = {name: program(name, package) for name, package in packages.items()}
+    busybox = program("busybox", "busybox")
+    files = {"bin/busybox": read(busybox), **{f"sbin/{name}": read(path) for name, path in paths.items()}}
+    files.update({f"bin/{name}": compiled(room, name) for name in ["requests", "merged", *MORE_COMPILED.get(test, [])]})
+    for path in [it for of in [busybox, *paths.values()] for it in libraries(of)]:
         files[path.lstrip("/")] = read(os.path.realpath(path))
     return files
 
@@ -262,10 +272,11 @@ def initrd(room: str, test: str, data: bytes, modules: Optional[str], busybox: s
     """An initial RAM disk that runs guests/TEST.sh, with `data` as /data; with the modules of a folder if one is named. `busybox` is all that it has of programs
     for another machine."""
     files = {"init": read(os.path.join(GUESTS, "init")), "test": read(os.path.join(GUESTS, f"{test}.sh")), "data": data}
-    files.update({"bin/busybox": read(busybox)} if busybox else programs(room))
+    files.update({"bin/busybox": read(busybox)} if busybox else programs(room, test))
     if modules:
-        taken = modules_of(modules)
-        files.update({f"modules/{name}.ko": content for name, content in taken.items()})
+        taken, more = modules_of(modules), modules_of(modules, MORE_MODULES.get(test, []))
+        files.update({f"modules/{name}.ko": content for name, content in [*taken.items(), *more.items()]})
+        files["modules/more"] = "".join(f"{name}.ko\n" for name in more).encode()
         files["modules/order"] = "".join(f"{name}.ko\n" for name in taken).encode()
     path = os.path.join(room, f"{test}.initrd")
     with gzip.open(path, "wb", compresslevel=1) as file:

@@ -5,11 +5,11 @@ import struct
 
 from bus import MASTER, Guest
 
-GHC, IS, PXCLB, PXFB, PXIS, PXIE, PXCMD, PXTFD, PXSSTS, PXSCTL, PXSERR, PXSACT, PXCI = (
-    0x04, 0x08, 0x100, 0x108, 0x110, 0x114, 0x118, 0x120, 0x128, 0x12C, 0x130, 0x134, 0x138)
+GHC, IS, PXCLB, PXFB, PXIS, PXIE, PXCMD, PXTFD, PXSIG, PXSSTS, PXSCTL, PXSERR, PXSACT, PXCI = (
+    0x04, 0x08, 0x100, 0x108, 0x110, 0x114, 0x118, 0x120, 0x124, 0x128, 0x12C, 0x130, 0x134, 0x138)
 LIST, RECEIVED, TABLES, DATA, LOG = 0x1000, 0x400, 0x4000, 0x8000, 0xC000
-ST, FRE, CR, TFES, HBFS = 1, 0x10, 0x8000, 0x40000000, 0x20000000
-READ_QUEUED, WRITE_QUEUED, READ_DMA, READ_SECTORS, READ_LOG = 0x60, 0x61, 0xC8, 0x20, 0x2F
+ST, FRE, CR, TFES, HBFS, HBDS = 1, 0x10, 0x8000, 0x40000000, 0x20000000, 0x10000000
+READ_QUEUED, WRITE_QUEUED, READ_DMA, WRITE_DMA, READ_SECTORS, READ_LOG = 0x60, 0x61, 0xC8, 0xCA, 0x20, 0x2F
 QUEUED = (READ_QUEUED, WRITE_QUEUED)
 SECTOR = 512
 
@@ -39,7 +39,7 @@ class Port(Guest):
 
     def lay(self, slot: int, code: int, lba: int, count: int, data: int) -> None:
         """Lays out a command of a table of its own; one of 0 sectors has no data."""
-        table, writes = TABLES + 0x100 * slot, code == WRITE_QUEUED
+        table, writes = TABLES + 0x100 * slot, code in (WRITE_QUEUED, WRITE_DMA)
         fis = bytearray((0x27, 0x80, code, 0)) + lba.to_bytes(3, "little") + b"\x40" + bytes(12)
         fis[3 if code in QUEUED else 12] = count
         fis[12] |= slot << 3 if code in QUEUED else 0
@@ -59,7 +59,7 @@ class Port(Guest):
             pass
 
     def is_outstanding(self) -> bool:
-        return bool(self.read(PXCI) | self.read(PXSACT)) and not self.read(PXIS) & (TFES | HBFS)
+        return bool(self.read(PXCI) | self.read(PXSACT)) and not self.read(PXIS) & (TFES | HBFS | HBDS)
 
 
 def lba_of(fis: bytes) -> int:

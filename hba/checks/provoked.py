@@ -19,6 +19,13 @@ SECONDS = 60
 # a script, or the name of one that is shipped; the driver's steps, each with what comes of it
 Case = Tuple[str, Sequence[Tuple[str, str]]]
 FINE = "done, 1 messages"
+
+
+def slow_bits(slow: str = "") -> str:
+    """How the bits follow, of which one may be slow."""
+    return ", ".join(f"{name} {'late' if name == slow else 'at once'}" for name in ("CR", "FR", "CLO", "HR"))
+
+
 CASES: Sequence[Case] = (
     # commands
     ("on 2nd read sectors 100-199 do fail 40", [("read", FINE), ("read", "error 40, 1 messages"), ("recover", "tag 3, error 40 at 100"), ("read", FINE)]),
@@ -54,7 +61,36 @@ CASES: Sequence[Case] = (
        [("read", FINE), ("look", f"PxIS 00000000, PxSERR {1 << diag | 1 << least:08x}, DET 3, 0 messages"), ("unanswered", "no answer"),
         ("look", f"PxIS 08000000, PxSERR {1 << diag | 1 << least | 1 << most:08x}, DET 3, 1 messages"), ("comreset", "0 messages"), ("read", FINE)])
       for name, diag, least, most in (("decode", 19, 0, 8), ("crc", 21, 0, 8), ("handshake", 22, 0, 8), ("sequence", 23, 10, 10), ("transport", 24, 10, 10))),
+    # memory, statuses and signatures: HBDS is bit 28 of PxIS; PxTFD has the error byte above the status
+    ("on first read do memory_error", [("read", "wrong data, 1 messages"), ("again", "started"), ("read", FINE)]),
+    ("on first READ DMA do end 61", [("dma", "error 00, 1 messages"), ("moved", "0 bytes, PxTFD 00000061"), ("again", "started"), ("dma", FINE)]),
+    ("on first READ DMA do end 60", [("dma", FINE), ("moved", "0 bytes, PxTFD 00000060"), ("dma", FINE), ("moved", "4096 bytes, PxTFD 00000040")]),
+    ("on first read sector 104 do end 50", [("read", FINE), ("dma", FINE), ("moved", "2048 bytes, PxTFD 00000050"), ("dma", FINE), ("moved", "4096 bytes, PxTFD 00000040")]),
+    ("on first IDENTIFY DEVICE do end 61", [("identify", "error 00, 1 messages"), ("again", "started"), ("identify", FINE)]),
+    ("on first READ DMA do end D0", [("busy", "no answer"), ("moved", "0 bytes, PxTFD 000000d0"), ("comreset", "1 messages"), ("dma", FINE)]),  # the FIS has I
+    ("on first write PxSCTL do packet_signature", [("signature", "PxSIG eb140101, PxTFD 00000100"), ("signature", "PxSIG 00000101, PxTFD 00000150"), ("read", FINE)]),
+    ("on first write PxSCTL do bridge_signature", [("signature", "PxSIG c33c0101, PxTFD 00000150"), ("read", FINE)]),
+    ("on first write PxSCTL do multiplier_signature", [("signature", "PxSIG 96690101, PxTFD 00000150"), ("read", FINE)]),
+    # FISes that no command asks for: DHRS is bit 0 of PxIS, SDBS 3, UFS 4; DIAG.F is bit 25 of PxSERR
+    ("on 2nd write PxSERR do notification", [("knock", "PxIS 00000008, PxSERR 00000000, DET 3, 1 messages"), ("read", FINE)]),
+    ("on 2nd write PxSERR do spurious_bits", [("knock", "PxIS 00000008, PxSERR 00000000, DET 3, 1 messages"), ("read", FINE)]),
+    ("on 2nd write PxSERR do spurious_register", [("knock", "PxIS 00000001, PxSERR 00000000, DET 3, 1 messages"), ("read", FINE)]),
+    ("on 2nd write PxSERR do unknown_fis", [("knock", "PxIS 00000010, PxSERR 02000000, DET 3, 0 messages"), ("read", FINE)]),
+    ("on 20th READ FPDMA QUEUED do notification then spurious_bits then unknown_fis", [("full", "0 outstanding, done"), ("read", FINE)]),
+    # the signature, log 10h, slow bits
+    ("on first read do hold_signature 1s", [("read", FINE), ("reset", "late"), ("reset", "at once"), ("read", FINE)]),
+    ("on first read do lose_signature then lose_signature", [("read", FINE), ("reset", "BSY stays"), ("reset", "BSY stays"), ("reset", "at once"), ("read", FINE)]),
+    *((f"on 2nd read do fail 40 then wrong_log_{name}", [("read", FINE), ("read", "error 40, 1 messages"), ("read_log", how), ("read", FINE), ("read_log", "NQ, sum right")])
+      for name, how in (("tag", "tag 4, sum right"), ("nq", "NQ, sum right"), ("sum", "tag 3, sum wrong"))),
+    ("on first read do wrong_log_tag\non 2nd read do fail 40", [("read", FINE), ("read", "error 40, 1 messages"), ("read_log", "tag 4, sum right")]),
+    *((f"on 2nd read do slow_{name.lower()} 1s", [("bits", slow_bits()), ("read", FINE), ("read", FINE), ("bits", slow_bits(name)), ("bits", slow_bits()), ("read", FINE)])
+      for name in ("CR", "FR", "CLO", "HR")),
     # those that are shipped
+    *((f"a_log_{name}.events", [("read", FINE)] * 63 + [("read", "error 40, 1 messages"), ("read_log", how), ("read", FINE)])
+      for name, how in (("of_another_tag", "tag 4, sum right"), ("without_a_tag", "NQ, sum right"), ("with_a_wrong_sum", "tag 3, sum wrong"))),
+    ("three_resets_that_fail.events", [("read", FINE)] * 63 + [("unanswered", "no answer"), *[("reset", "BSY stays")] * 3, ("reset", "at once"), ("read", FINE)]),
+    ("a_late_signature.events", [("read", FINE)] * 63 + [("unanswered", "no answer"), ("patient", "late"), ("read", FINE)]),
+    ("a_port_that_stops_slowly.events", [("read", FINE)] * 63 + [("unanswered", "no answer"), ("bits", slow_bits("CR")), ("read", FINE)]),
     ("interrupts_without_a_cause.events", [("awaited", "messages, PxIS 00000000"), ("awaited", "messages, PxIS 00000000")]),
     ("fails_again_during_recovery.events", [("read", FINE), ("read", FINE), ("read", "error 40, 1 messages"), ("recover", "the log can't be read, error 04"),
     ("comreset", "0 messages"), ("read", FINE)]),

@@ -1,7 +1,7 @@
-/* requests DEVICE BLOCKS BLOCK_BYTES DEPTH COUNT WRITES [FILLED]: random reads and writes of whole blocks past the page cache, by the kernel's own
+/* requests DEVICE BLOCKS BLOCK_BYTES DEPTH COUNT WRITES [FILLED [KEPT]]: random reads and writes of whole blocks past the page cache, by the kernel's own
    asynchronous requests, DEPTH of them at once and WRITES in a hundred of them writes. Each block that is read is compared with what was
    written to it last; blocks that were not written yet are written first, unless FILLED says that each has its first text. It prints one line with what
-   came of it. */
+   came of it. With KEPT each block whose text is known is read once more at the end: `kept` have it, and `lost` have another one. */
 #define _GNU_SOURCE
 #include "text.h"
 
@@ -128,15 +128,31 @@ static void begin(char **words, bool filled) {
     }
 }
 
+/* Reads each block whose text is known, and prints how many have it. One that can't be read is in neither number. */
+static void read_all(void) {
+    uint64_t *words = (uint64_t *)(uintptr_t)all.requests[0].control.aio_buf, kept = 0, lost = 0;
+    for (uint64_t block = 0; block < all.blocks; block++) {
+        if (!all.versions[block] || pread(all.file, words, all.bytes, (off_t)(block * all.bytes)) != (ssize_t)all.bytes)
+            continue;
+        bool is = text_is(words, all.bytes, block, all.versions[block]);
+        kept += is;
+        lost += !is;
+    }
+    printf(" kept %llu lost %llu", (unsigned long long)kept, (unsigned long long)lost);
+}
+
 int main(int count, char **words) {
     aio_context_t context = 0;
-    if (count != 7 && count != 8)
+    if (count < 7 || count > 9)
         return 2;
-    begin(words, count == 8);
+    begin(words, count >= 8);
     if (syscall(SYS_io_setup, all.depth, &context))
         end("io_setup");
     run(context);
-    printf("requests %llu compared %llu errors %llu wrong %llu\n", (unsigned long long)all.done, (unsigned long long)all.compared,
+    printf("requests %llu compared %llu errors %llu wrong %llu", (unsigned long long)all.done, (unsigned long long)all.compared,
            (unsigned long long)all.errors, (unsigned long long)all.wrong);
+    if (count == 9)
+        read_all();
+    printf("\n");
     return 0;
 }

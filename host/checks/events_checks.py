@@ -53,6 +53,8 @@ RIGHT_FOR_HBA: Dict[str, str] = {
     "on every write GHC do send_interrupt": "on every write GHC do send_interrupt",
     "on time 2500ms do power_on then wait 20ms then send_interrupt repeat 3": "on time 2.5s do power_on then wait 20ms then send_interrupt repeat 3",
     "on time 1us do late_interrupt 1000us repeat ever": "on time 1us do late_interrupt 1ms repeat ever",
+    "on first write PxSIG do power_loss": "on first write PxSIG do power_loss", "on time 2s do power_loss seed 0 repeat 2": "on time 2s do power_loss seed 0 repeat 2",
+    "on every any seed 3 do power_loss seed 18446744073709551615 then power_loss": "on every any seed 3 do power_loss seed 18446744073709551615 then power_loss",
     "on first write do no_memory then lose_interrupt": "on first write do no_memory then lose_interrupt",
 }
 
@@ -70,9 +72,11 @@ def right_lines(room: str) -> str:
     return f"{len(RIGHT) + len(RIGHT_FOR_HBA)} lines"
 
 
-HBA_EVENTS = ("an event that hba has (stall, slow, fail, no_memory, lose_interrupt, late_interrupt, send_interrupt, power_on, lose_link, find_link, unplug, plug, decode_error, "
-              "fatal_decode_error, crc_error, fatal_crc_error, handshake_error, fatal_handshake_error, sequence_error, fatal_sequence_error, transport_error, "
-              "fatal_transport_error, wait)")
+HBA_EVENTS = ("an event that hba has (stall, slow, fail, end, no_memory, memory_error, lose_interrupt, late_interrupt, send_interrupt, power_on, power_loss, "
+              "lose_link, find_link, unplug, plug, decode_error, fatal_decode_error, crc_error, fatal_crc_error, handshake_error, fatal_handshake_error, "
+              "sequence_error, fatal_sequence_error, transport_error, fatal_transport_error, packet_signature, bridge_signature, multiplier_signature, notification, "
+              "spurious_bits, spurious_register, unknown_fis, hold_signature, lose_signature, wrong_log_tag, wrong_log_nq, wrong_log_sum, slow_cr, slow_fr, slow_clo, "
+              "slow_hr, wait)")
 NBD_EVENTS = "an event that nbd has (slow, fail)"
 PLACE = "every, first, a place such as 3rd, or time"
 END = "\0"  # the end of the line
@@ -96,6 +100,7 @@ WRONG: Sequence[Tuple[str, int, str, str]] = (
     ("on 2nd any do fail 40 wait 1s", 23, "then, repeat or the end of the line", "wait"),
     ("on 2nd any do fail 40 then wait 1.5us then send_interrupt", 33, "a time, such as 20ms or 2.5s", "1.5us"),
     ("on 2nd any do fail 40 then wait 1s", 35, "then and an event, for which to wait", END),
+    ("on time 1s do power_loss seed x", 31, "a number", "x"), ("on time 1s do power_loss 5", 26, "then, repeat or the end of the line", "5"),
     ("on 2nd any do fail 40 repeat 0", 30, "a number from 1 on, or ever", "0"), ("on 2nd any do fail 40 repeat 2 times", 32, "the end of the line", "times"),
     ("on 2nd any do fail 40 then fail 04", 28, "an event that can come beside those before it", "fail"),
     ("on 2nd any do stall then fail 04", 26, "an event that can come beside those before it", "fail"),
@@ -166,6 +171,7 @@ def decisions(room: str) -> str:
         ("on first any do fail 40 then wait 2ms then send_interrupt", [READ, "time 1999", "time 2000", "time 3000"], ["1 fail 40", "", "1 send_interrupt", ""]),
         ("on first any do lose_interrupt then wait 1ms then lose_interrupt", [READ, "time 1000"], ["1 lose_interrupt", "1 lose_interrupt"]),
         ("on time 1s do power_on repeat 2", ["time 999999", "time 1000000", "time 1999999", "time 5000000"], ["", "1 power_on", "", "1 power_on"]),
+        ("on first any do power_loss\non 2nd any seed 9 do power_loss then power_loss seed 4", [READ, "time 0", READ, "time 0"], ["", "1 power_loss 1", "", "2 power_loss 9; 2 power_loss 4"]),
         ("on time 1s do power_on then wait 3s then send_interrupt repeat 2", ["time 1000000", "time 4000000", "time 5000000", "time 9000000"], ["1 power_on", "1 send_interrupt", "1 power_on", "1 send_interrupt"]),
         ("on 2nd write PxSCTL do late_interrupt 5us", ["wrote 12c 4 0", "wrote 128 4 0", "wrote 130 4 0", "time 0", "wrote 128 8 0", "time 0"], ["", "", "", "", "", "1 late_interrupt 5"]),
         ("on every any do wait 1ms then send_interrupt", [READ, READ, "time 1000", READ, "time 1000"], ["", "", "1 send_interrupt", "", "1 send_interrupt"]),

@@ -6,9 +6,10 @@ from typing import Callable, Dict, Iterator, List, NamedTuple, Tuple
 
 MASK = (1 << 64) - 1
 NO_END = MASK
-ABOUT_COMMANDS = ("stall", "slow", "fail")
+ABOUT_COMMANDS = ("stall", "slow", "fail", "end")
+QUEUED = ("60", "61")
 EITHER = ("no_memory", "lose_interrupt", "late_interrupt")
-ORDER = (*ABOUT_COMMANDS, *EITHER, "send_interrupt", "power_on")
+ORDER = (*ABOUT_COMMANDS, *EITHER, "send_interrupt", "power_on", "power_loss")
 
 
 class Draws:
@@ -31,8 +32,8 @@ class Event(NamedTuple):
     jitter: int = 0
 
     def text(self) -> str:
-        if self.name == "fail":
-            return f"fail {self.error:02x}"
+        if self.name in ("fail", "end"):
+            return f"{self.name} {self.error:02x}"
         if self.name == "slow":
             return f"slow {self.time}us+{self.jitter}us"
         return f"{self.name} {self.time}us" if self.name in ("wait", "late_interrupt") else self.name
@@ -66,7 +67,7 @@ class Line:
         self.chance = (rng.randrange(1, 4), 4) if rng.random() < 0.3 else None
         self.seed = rng.randrange(50) if rng.random() < 0.5 else None
         self.repeat = rng.choice([None, None, 1, 3, NO_END])
-        self.events = self.some_events(rng)
+        self.events = self.some_events(rng, self.kind not in QUEUED)
         self.front = next((at for at, it in enumerate(self.events) if it.name not in ABOUT_COMMANDS + EITHER), len(self.events))
         self.draws = Draws(row if self.seed is None else self.seed)
         self.matched = self.happened = 0
@@ -74,9 +75,10 @@ class Line:
         self.due = 0
 
     @staticmethod
-    def some_events(rng: random.Random) -> List[Event]:
+    def some_events(rng: random.Random, may_end: bool) -> List[Event]:
         times = {"slow": (rng.randrange(900), rng.randrange(1, 90)), "wait": (rng.randrange(1, 30000), 0), "late_interrupt": (rng.randrange(1, 900), 0)}
         fronts: List[List[str]] = [["stall"], ["slow"], ["fail"], ["slow", "fail"], ["fail", "no_memory"], ["lose_interrupt"], ["late_interrupt", "no_memory"], []]
+        fronts += [["end"], ["slow", "end", "no_memory"]] if may_end else []
         rests: List[List[str]] = [[], [], ["send_interrupt"], ["wait", "power_on"], ["wait", "lose_interrupt", "wait", "send_interrupt"], ["send_interrupt", "no_memory"]]
         names = (rng.choice(fronts) + rng.choice(rests)) or ["fail"]
         return [Event(it, rng.randrange(256), *times.get(it, (0, 0))) for it in names]
@@ -95,7 +97,8 @@ class Line:
 
     def is_about(self, it: Command) -> bool:
         named = {"any": it.sectors > 0, "read": it.sectors > 0 and not it.writes, "write": it.sectors > 0 and it.writes}
-        return (named[self.kind] if self.kind in named else int(self.kind, 16) == it.code) and \
+        ends = any(event.name == "end" for event in self.events[:self.front])
+        return (named[self.kind] if self.kind in named else int(self.kind, 16) == it.code) and not (ends and f"{it.code:x}" in QUEUED) and \
             (not self.sectors or any(self.sectors[0] <= lba <= self.sectors[1] for lba in range(it.lba, it.lba + it.sectors))) and \
             (not self.tags or self.tags[0] <= it.tag <= self.tags[1]) and (not self.numbers or self.numbers[0] <= it.number <= self.numbers[1]) and \
             (not self.during or self.during[0] <= it.since < self.during[1])
@@ -125,8 +128,8 @@ class Line:
             self.due += self.left.pop(0).time
 
     def shown(self, event: Event) -> str:
-        if event.name == "fail":
-            return f"{self.row} fail {event.error:02X}"
+        if event.name in ("fail", "end"):
+            return f"{self.row} {event.name} {event.error:02X}"
         if event.name == "slow":
             return f"{self.row} slow {event.time + self.draws.next() % (event.jitter + 1)}"
         return f"{self.row} {event.name}" + (f" {event.time}" if event.name == "late_interrupt" else "")
@@ -154,7 +157,7 @@ def decided(lines: List[Line], it: Command) -> Iterator[str]:
 
     found: List[Tuple[Line, Event]] = []
     for name in ORDER:
-        if name in ("slow", "fail") and any(event.name == "stall" for _, event in found):
+        if name in ("slow", "fail", "end") and any(event.name == "stall" for _, event in found):
             continue
         found += first_of(((line, event) for line in about for event in line.events[:line.front] if event.name == name), applies)
     for line in about:

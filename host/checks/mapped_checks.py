@@ -299,7 +299,7 @@ def killed_at_random(room: str) -> str:
         counts["applied"] += sum("they are in the image now" in it for it in said)
         counts["removed"] += sum("is removed" in it for it in said)
         found, new = contents(image), filled(whole, *fills)
-        expect(found in (whole, new) and names(image) == [] and (at % 10 or found == new), f"seed 12, kill {at}: old and new sectors are mixed, or {names(image)} is left")
+        expect(found in (whole, new) and names(image) == [] and (at % 10 != 0 or found == new), f"seed 12, kill {at}: old and new sectors are mixed, or {names(image)} is left")
         counts["new" if found == new else "old"] += 1
         whole = found
     return ", ".join(f"{count} {what}" for what, count in counts.items())

@@ -20,7 +20,7 @@ SECONDS = 240
 sys.dont_write_bytecode = True
 sys.path.insert(0, os.path.dirname(STRETCH))
 
-from records import COLLECT, READ, RESET, WRITE, Entry, Record  # noqa: E402
+from records import COLLECT, LEFT, LOSS, READ, RESET, WRITE, Entry, Record  # noqa: E402
 
 
 def stretch(words: List[str], **more: Any) -> "subprocess.CompletedProcess[Any]":
@@ -101,12 +101,14 @@ def names_of(record: Record, script: str) -> List[int]:
             break
         if it.number == first:
             named.update(lba for command in outstanding.values() for lba in range(command.lba, command.lba + command.count))
-        if it.kind in (READ, WRITE):
+        if it.kind == LEFT and it.number >= first:
+            named.update(range(it.lba, it.lba + it.count))
+        elif it.kind in (READ, WRITE):
             outstanding[it.tag] = it
             named.update(range(it.lba, it.lba + it.count) if it.number >= first else ())
         elif it.kind == COLLECT:
             outstanding.pop(it.tag, None)
-        elif it.kind == RESET:
+        elif it.kind in (RESET, LOSS):
             outstanding.clear()
     return sorted(lba for lba in named if lba < record.sectors)
 

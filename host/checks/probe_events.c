@@ -1,6 +1,7 @@
 #include "probe_events.h"
 
 #include "generator.h"
+#include "names.h"
 #include "say.h"
 #include "script.h"
 #include "words.h"
@@ -22,12 +23,14 @@ static void put(const char *line) {
 static void print_event(const struct decision *it) {
     const struct event *event = it->event;
     printf("%u %s", it->line->row, event_rows[event->kind].name);
-    if (event->kind == EVENT_FAIL)
+    if (event->kind == EVENT_FAIL || event->kind == EVENT_END)
         printf(" %02X", event->error);
     if (event->kind == EVENT_SLOW)
         printf(" %" PRIu64, delay_drawn(&event->delay, &it->line->random));
     if (event->kind == EVENT_LATE_INTERRUPT)
         printf(" %" PRIu64, event->time);
+    if (event->kind == EVENT_POWER_LOSS)
+        printf(" %" PRIu64, event->seed);
     printf("; ");
 }
 
@@ -41,6 +44,7 @@ static void happen(const char *line) {
     if (sscanf(line, "command %" SCNx32 " %" SCNu32 " %c %" SCNu64 " %" SCNu32 " %" SCNu64 " %" SCNu64, &code, &tag, &kind, &it.lba, &it.sectors, &it.number,
                &it.since) == 7) {
         it.code = (uint8_t)code;
+        it.is_queued = code == READ_FPDMA_QUEUED || code == WRITE_FPDMA_QUEUED;
         it.tag = (uint8_t)tag;
         it.writes = kind == 'w';
         script_decide(&script, &it, &decided);

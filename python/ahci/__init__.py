@@ -16,13 +16,13 @@ from .layers import (
     tags_of, version, window_check,
 )
 from .library import OutOfMemory, Refused
-from .names import Did, Event, FisType, InterfaceError, Kind, Order, Outcome, Phase, Register, Rule, Status, Step, Want, Wrote
+from .names import DeviceKind, Did, Event, FisType, InterfaceError, Kind, Order, Outcome, Phase, Register, Rule, Status, Step, Want, Wrote
 from .port import Port
-from .records import Capabilities, Command, Entry, Fis, Look, Reply, Slot, State, Stepped, TagSets, Written
+from .records import Capabilities, Command, Entry, Fis, Identity, Look, Reply, Slot, State, Stepped, TagSets, Written
 
 __version__ = "1.0.0"
 __all__ = [
-    "Capabilities", "Command", "Did", "Entry", "Event", "Fis", "FisType", "InterfaceError", "Kind", "Look", "Order", "OutOfMemory", "Outcome", "Phase", "Port", "Refused",
+    "Capabilities", "Command", "DeviceKind", "Did", "Entry", "Event", "Fis", "FisType", "Identity", "InterfaceError", "Kind", "Look", "Order", "OutOfMemory", "Outcome", "Phase", "Port", "Refused",
     "Register", "Reply", "Rule", "Slot", "State", "Status", "Step", "Stepped", "TagSets", "Want", "Written", "Wrote", "choose_tag", "choose_tags",
     "command_breaks", "entry_breaks", "fis_decode", "fis_encode", "identify_page", "journal_check", "length_breaks", "log_page", "status_text", "tags_of", "version",
     "window_check",

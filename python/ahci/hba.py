@@ -15,12 +15,20 @@ import ctypes
 import mmap
 from typing import List, Optional, Union
 
-from .library import Bytes, CapabilitiesStruct, HbaPlace, LookStruct, Owner, fits, given, u32, u64
-from .names import InterfaceError, Rule, Step, Want
-from .records import Capabilities, Entry, Look, State
+from .library import Bytes, CapabilitiesStruct, HbaPlace, IdentityStruct, LookStruct, Owner, fits, given, u32, u64
+from .names import DeviceKind, InterfaceError, Rule, Step, Want
+from .records import Capabilities, Entry, Identity, Look, State
 
 Memory = Union[bytearray, memoryview, mmap.mmap]
 _STEPS = tuple(Step)  # by number
+
+
+def _text(text: str, name: str, characters: int) -> builtins.bytes:
+    """A text as IDENTIFY DEVICE has it, filled up with spaces. A character that is no ASCII is none that the library takes."""
+    spelt = text.encode("ascii", "replace") if text.isascii() else b"\x7f"
+    if len(spelt) > characters:
+        raise ValueError(f"{name} has more than {characters} characters")
+    return spelt.ljust(characters)
 
 
 class Hba(Owner):
@@ -64,6 +72,23 @@ class Hba(Owner):
         what `write` does."""
         return self._number("power_on", u64)
 
+    def identity(self, identity: Identity) -> None:
+        """What IDENTIFY DEVICE names the disk from now on."""
+        made = IdentityStruct()
+        for name, text, characters in (("serial", identity.serial, 20), ("firmware", identity.firmware, 8), ("model", identity.model, 40)):
+            ctypes.memmove(getattr(made, name), _text(text, name, characters), characters)
+        made.rotation = fits(identity.rotation, 32, "rotation")
+        self._call("identity", ctypes.byref(made))
+
+    def write_cache(self, supported: bool) -> None:
+        """The disk has a volatile write cache, which is enabled from now on, or it has none."""
+        self._call("write_cache", int(supported))
+
+    @property
+    def write_cache_enabled(self) -> bool:
+        """Whether the disk has a volatile write cache that is enabled: SET FEATURES and resets of the link change it."""
+        return bool(self._number("write_cache_enabled", u32))
+
     def lose_link(self) -> int:
         """PhyRdy is lost: the disk drops its commands. Returns what `write` does."""
         return self._number("lose_link", u64)
@@ -83,6 +108,22 @@ class Hba(Owner):
     def fail_interface(self, error: InterfaceError, is_fatal: bool) -> None:
         """A FIS meets an error of the interface, which stops the port if it is fatal."""
         self._call("fail_interface", fits(error, 32, "error"), int(is_fatal))
+
+    def sign_as(self, kind: DeviceKind) -> None:
+        """The disk sends the signature of a device of another kind."""
+        self._call("sign_as", fits(kind, 32, "kind"))
+
+    def receive_bits(self, notification: bool) -> None:
+        """The disk sends a Set Device Bits FIS that no command asks for, with N if it is a notification."""
+        self._call("receive_bits", int(notification))
+
+    def receive_register(self) -> None:
+        """The disk sends a D2H Register FIS that no command asks for."""
+        self._call("receive_register")
+
+    def receive_unknown(self, fis: Bytes) -> None:
+        """The disk sends a FIS of a type that isn't known: at most 28 bytes, from the type on."""
+        self._call("receive_unknown", *given(fis))
 
     def look(self) -> Look:
         """What the controller does next."""
@@ -112,6 +153,10 @@ class Hba(Owner):
         """The address that the controller reads or writes is no memory."""
         self._call("unmapped")
 
+    def spoiled(self) -> None:
+        """The memory there gives or takes wrong data."""
+        self._call("spoiled")
+
     def step(self, slot: int) -> int:
         """Takes the next step with the command of a slot. Returns what `write` does."""
         return self._number("step", u64, fits(slot, 32, "slot"))
@@ -124,6 +169,10 @@ class Hba(Owner):
         """The disk fails a command that was read and is not queued."""
         self._call("refuse", fits(slot, 32, "slot"), fits(error, 8, "error"), fits(lba, 64, "lba"))
 
+    def end(self, slot: int, status: int, error: int, lba: int) -> None:
+        """The disk ends a command that was read and is not queued with any status, in place of doing it."""
+        self._call("end", fits(slot, 32, "slot"), fits(status, 8, "status"), fits(error, 8, "error"), fits(lba, 64, "lba"))
+
     def sign(self) -> None:
         """The disk sends its signature."""
         self._call("sign")
@@ -135,6 +184,10 @@ class Hba(Owner):
     def copy(self, lba: int) -> builtins.bytes:
         """The 512 bytes of a sector as it is now."""
         return self._copied("copy", 512, fits(lba, 64, "lba"))
+
+    def may_be_left(self, was: Bytes, lba: int, data: Bytes) -> bool:
+        """Whether a sector may have these 512 bytes after a loss of power, where it had the bytes `was` when the journal began."""
+        return bool(self._number("may_be_left", u32, *given(was), fits(lba, 64, "lba"), *given(data)))
 
     def touched(self) -> List[int]:
         """The pages of eight sectors that may have changed since the journal began, as `Port.touched` has them."""

@@ -104,6 +104,10 @@ class CapabilitiesStruct(ctypes.Structure):
     _fields_ = [(name, u32) for name in ("ncs", "iss", "s64a", "sncq", "sss", "sclo", "salp", "pmd")]
 
 
+class IdentityStruct(ctypes.Structure):
+    _fields_ = [("serial", u8 * 20), ("firmware", u8 * 8), ("model", u8 * 40), ("rotation", u32)]
+
+
 def to(kind: Any) -> Any:
     return ctypes.POINTER(kind)
 
@@ -149,23 +153,33 @@ _HBA: Dict[str, List[Any]] = {
     "read": [u32, u32, to(u64)],
     "write": [u32, u32, u64, to(u64)],
     "power_on": [to(u64)],
+    "identity": [to(IdentityStruct)],
+    "write_cache": [u32],
+    "write_cache_enabled": [to(u32)],
     "lose_link": [to(u64)],
     "find_link": [],
     "unplug": [to(u64)],
     "plug": [],
     "fail_interface": [u32, u32],
+    "sign_as": [u32],
+    "receive_bits": [u32],
+    "receive_register": [],
+    "receive_unknown": [_text, size],
     "look": [to(LookStruct)],
     "supply": [_text, size],
     "bytes": [_text, size],
     "written": [],
     "unmapped": [],
+    "spoiled": [],
     "step": [u32, to(u64)],
     "fail": [u32, u8, u64],
     "refuse": [u32, u8, u64],
+    "end": [u32, u8, u8, u64],
     "sign": [],
     "trim": [to(u64)],
     "copy": [u64, _text, size],
     "touched": [to(u32), size, to(u64)],
+    "may_be_left": [_text, size, u64, _text, size, to(u32)],
     "entry": [u64, to(EntryStruct)],
     "entry_bytes": [u64, _text, size],
     "port": [to(StateStruct)],

@@ -95,6 +95,15 @@ class InterfaceError(enum.IntEnum):
     TRANSPORT_STATE = 24
 
 
+class DeviceKind(enum.IntEnum):
+    """What a device is, by its signature (ahci_device_kind)."""
+
+    DISK = 0
+    PACKET = 1
+    ENCLOSURE_BRIDGE = 2
+    PORT_MULTIPLIER = 3
+
+
 class Order(enum.IntEnum):
     """In which order the device goes on with the tags of a set (ahci_order)."""
 

@@ -125,6 +125,16 @@ class Capabilities(NamedTuple):
     pmd: bool = True
 
 
+class Identity(NamedTuple):
+    """What IDENTIFY DEVICE names a disk (ahci_identity): texts of ASCII, of at most 20, 8 and 40 characters, and the nominal media rotation rate. Without
+    arguments those of a disk that nobody has named."""
+
+    serial: str = "00000001"
+    firmware: str = "1.0"
+    model: str = "SOFTWARE NCQ DISK"
+    rotation: int = 0
+
+
 class Look(NamedTuple):
     """What a controller does next (ahci_hba_state)."""
 

@@ -5,7 +5,8 @@ ghost use Rattle.std.specs.Prelude.{◌≡◌, length, ⊤};
 ghost use Rattle.ncq_journal.specs.{Numbering.{entry_numbered}, Sector.{sector}};
 ghost use Rattle.ahci_ffi.specs.{Refusals.{copy_refusal}, Seen.{AnswersBytes, AnswersEntry, AnswersTouched, IsState, written_by}, Told.{Told}};
 ghost use Rattle.hba_ffi.specs.{
-  Calls.{AnswersFail, AnswersRefuse, AnswersSign, AnswersStep, AnswersTrim},
+  Calls.{AnswersEnd, AnswersFail, AnswersRefuse, AnswersSign, AnswersStep, AnswersTrim},
+  Looking.{AnswersLeft},
   Over.{Changes, Reads},
   PlaceView.{view_of},
 };
@@ -57,6 +58,25 @@ pub extern "C" fn ahci_hba_refuse(
         hba,
         heap,
         |held| hba_ffi::refuse(&mut held, slot, error, lba)
+    )
+}
+
+/// The device ends a command that is read and not queued with any status.
+#[unsafe(no_mangle)]
+pub extern "C" fn ahci_hba_end(
+    hba: &mut HbaPlace,
+    heap: Global,
+    slot: u32,
+    status: u8,
+    error: u8,
+    lba: u64,
+) -> u32
+    ensures { Changes result (view_of hba.old) (view_of hba.new) ⊤ (λ answer old new. AnswersEnd slot status error lba answer old new) }
+{
+    over!(
+        hba,
+        heap,
+        |held| hba_ffi::end(&mut held, slot, status, error, lba)
     )
 }
 
@@ -126,6 +146,26 @@ pub extern "C" fn ahci_hba_entry_bytes(
         (λ answer h. AnswersBytes (written_by (entry_numbered h.port.first h.port.past number)) answer out.old out.new) }
 {
     over!(hba, heap, |held| hba_ffi::entry_bytes(&held, number, out))
+}
+
+/// Whether a sector may have these bytes after a loss of power.
+#[unsafe(no_mangle)]
+pub extern "C" fn ahci_hba_may_be_left(
+    hba: &mut HbaPlace,
+    heap: Global,
+    was: &[u8],
+    lba: u64,
+    bytes: &[u8],
+    may: &mut u32,
+) -> u32
+    ensures { Reads result (view_of hba.old) (view_of hba.new) (may.new ≡ may.old)
+        (λ answer h. AnswersLeft h.port was.now lba bytes.now answer may.old may.new) }
+{
+    over!(
+        hba,
+        heap,
+        |held| hba_ffi::may_be_left(&held, was, lba, bytes, may)
+    )
 }
 
 /// All that can be seen of the queue behind the controller.

@@ -4,7 +4,7 @@
 ghost use Rattle.std.specs.Prelude.{◌≡◌, length, true, ⊤};
 ghost use Rattle.ahci_ffi.specs.Making.{size_refusal};
 ghost use Rattle.sector_store.specs.Shown.{buffer_sector, joined};
-ghost use Rattle.ahci_hba.specs.{Moving.{put_done, unmapped}, States.{hba_over, hba_with, new_hba}};
+ghost use Rattle.ahci_hba.specs.{Moving.{put_done, spoiled, unmapped}, States.{hba_over, hba_with, new_hba}};
 ghost use Rattle.hba_ffi.specs.{
   Calls.{AnswersBytes, AnswersPowerOn, AnswersRead, AnswersSupply, AnswersWrite},
   Capable.{capabilities_for, making_refusal, over_making_refusal},
@@ -159,4 +159,13 @@ pub extern "C" fn ahci_hba_unmapped(hba: &mut HbaPlace, heap: Global) -> u32
         (λ answer old new. (answer ≡ Status.Done) × (new ≡ unmapped old old.work)) }
 {
     over!(hba, heap, |held| hba_ffi::unmapped(&mut held))
+}
+
+/// The memory that the controller reads or writes gives or takes wrong data.
+#[unsafe(no_mangle)]
+pub extern "C" fn ahci_hba_spoiled(hba: &mut HbaPlace, heap: Global) -> u32
+    ensures { Changes result (view_of hba.old) (view_of hba.new) ⊤
+        (λ answer old new. (answer ≡ Status.Done) × (new ≡ spoiled old old.work)) }
+{
+    over!(hba, heap, |held| hba_ffi::spoiled(&mut held))
 }

@@ -4,7 +4,7 @@
 ghost use Rattle.std.specs.Prelude.{◌≡◌, ◌==◌, not, ⊤};
 ghost use Rattle.ahci_hba.specs.Events.{device_plugged, device_unplugged, link_found, link_lost, lost_journal, unplugged_journal};
 ghost use Rattle.hba_ffi.specs.{
-  Events.{AnswersInterface, HasHandedOut, error_numbered},
+  Events.{AnswersBits, AnswersInterface, AnswersRegister, AnswersSignAs, AnswersUnknown, HasHandedOut, error_numbered, kind_numbered},
   Over.{Changes},
   PlaceView.{view_of},
 };
@@ -62,4 +62,40 @@ pub extern "C" fn ahci_hba_fail_interface(
         heap,
         |held| hba_ffi::fail_interface(&mut held, error, is_fatal != 0)
     )
+}
+
+/// The device sends the signature of a device of another kind.
+#[unsafe(no_mangle)]
+pub extern "C" fn ahci_hba_sign_as(hba: &mut HbaPlace, heap: Global, kind: u32) -> u32
+    ensures { Changes result (view_of hba.old) (view_of hba.new) ⊤ (λ answer old new. AnswersSignAs (kind_numbered kind) answer old new) }
+{
+    over!(hba, heap, |held| hba_ffi::sign_as(&mut held, kind))
+}
+
+/// The device sends a Set Device Bits FIS that no command asks for, with N unless `notification` is 0.
+#[unsafe(no_mangle)]
+pub extern "C" fn ahci_hba_receive_bits(hba: &mut HbaPlace, heap: Global, notification: u32) -> u32
+    ensures { Changes result (view_of hba.old) (view_of hba.new) ⊤ (λ answer old new. AnswersBits (not (notification == 0)) answer old new) }
+{
+    over!(
+        hba,
+        heap,
+        |held| hba_ffi::receive_bits(&mut held, notification != 0)
+    )
+}
+
+/// The device sends a D2H Register FIS that no command asks for.
+#[unsafe(no_mangle)]
+pub extern "C" fn ahci_hba_receive_register(hba: &mut HbaPlace, heap: Global) -> u32
+    ensures { Changes result (view_of hba.old) (view_of hba.new) ⊤ (λ answer old new. AnswersRegister answer old new) }
+{
+    over!(hba, heap, |held| hba_ffi::receive_register(&mut held))
+}
+
+/// The device sends a FIS of a type that isn't known.
+#[unsafe(no_mangle)]
+pub extern "C" fn ahci_hba_receive_unknown(hba: &mut HbaPlace, heap: Global, fis: &[u8]) -> u32
+    ensures { Changes result (view_of hba.old) (view_of hba.new) ⊤ (λ answer old new. AnswersUnknown fis.now answer old new) }
+{
+    over!(hba, heap, |held| hba_ffi::receive_unknown(&mut held, fis))
 }

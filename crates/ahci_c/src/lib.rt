@@ -38,6 +38,7 @@ mod events;
 mod judging;
 mod looking;
 mod making;
+mod naming;
 mod registers;
 mod software;
 #[cfg(test)]

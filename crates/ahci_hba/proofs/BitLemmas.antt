@@ -9,7 +9,7 @@ use Rattle.hba_regs.specs.PortStates.{bsy_or_drq_of, cfis_success, ended_by_sign
 use Rattle.hba_regs.specs.Receiving.{after_srst_cleared}
 use Rattle.hba_regs.specs.declared.soft_reset.SoftReset.{SoftReset}
 use Rattle.hba_regs.specs.declared.soft_reset.SoftReset.TheVariants.{Off, Held, Ending}
-use Rattle.ahci_hba.specs.Transitions.{Transition, CfisSuccess, DrOverflow, ErrFatal, PioEntry, PioUpdate, RegFisEntry, RegFisPostToMem, RegFisUpdate, SdbEntry, SelectCmd, SrstCleared, SrstSet, Stuck, UnknownFis, after, answers_command, answers_tag, ends_reset}
+use Rattle.ahci_hba.specs.Transitions.{Transition, CfisSuccess, DrOverflow, ErrFatal, PioEntry, PioUpdate, RegFisEntry, RegFisPostToMem, RegFisUnsolicited, RegFisUpdate, SdbEntry, SelectCmd, SrstCleared, SrstSet, Stuck, UnknownFis, after, answers_command, answers_tag, ends_reset}
 
 leaves : (s : List Bool) (a i : ℕ) → has_place (without_place s a) i ≡ (has_place s i && not (nat_eq a i))
 leaves s a i =
@@ -99,7 +99,8 @@ issued (PioEntry status error) p slot = (sets_up p status error slot).0 ∙ stay
 issued (PioUpdate e_status i s) p slot = moves_data p e_status i s slot
 issued DrOverflow p slot = stays (has_place p.ci slot)
 issued (ErrFatal f) p slot = stays (has_place p.ci slot)
-issued RegFisUpdate p slot = signs p p.soft slot
+issued RegFisUnsolicited p slot = stays (has_place p.ci slot)
+issued (RegFisUpdate kind) p slot = signs p p.soft slot
 issued RegFisPostToMem p slot = stays (has_place p.ci slot)
 issued SrstSet p slot = stays (has_place p.ci slot)
 issued (SrstCleared s) p slot = (releases p s slot p.soft).0 ∙ stays (has_place p.ci slot)
@@ -142,7 +143,8 @@ active (PioEntry status error) p slot = (sets_up p status error slot).1 ∙ stay
 active (PioUpdate e_status i s) p slot = keeps_data p e_status i s slot ∙ stays (has_place p.sact slot)
 active DrOverflow p slot = stays (has_place p.sact slot)
 active (ErrFatal f) p slot = stays (has_place p.sact slot)
-active RegFisUpdate p slot = stays (has_place p.sact slot)
+active RegFisUnsolicited p slot = stays (has_place p.sact slot)
+active (RegFisUpdate kind) p slot = stays (has_place p.sact slot)
 active RegFisPostToMem p slot = stays (has_place p.sact slot)
 active SrstSet p slot = stays (has_place p.sact slot)
 active (SrstCleared s) p slot = (releases p s slot p.soft).1 ∙ stays (has_place p.sact slot)

@@ -4,21 +4,27 @@ use Rattle.sata_fis.specs.Encoding.{d2h_bytes}
 use Rattle.sata_fis.specs.Fields.{D2hFields, QueuedFields}
 use Rattle.hba_command.specs.Action.{action_of}
 use Rattle.hba_command.specs.Addressing.{addressing_of}
-use Rattle.hba_command.specs.Pages.{controller_page, directory_page, not_queued_page}
+use Rattle.hba_command.specs.Device.{after_store, allows_page}
+use Rattle.hba_command.specs.DiskPages.{ready_page}
+use Rattle.hba_command.specs.Pages.{controller_page, not_queued_page}
 use Rattle.hba_command.specs.Power.{needs_medium}
 use Rattle.hba_command.specs.Span.{SpanFields}
+use Rattle.hba_command.specs.Store.{blocks_of}
 use Rattle.hba_command.specs.declared.action.Action.{Action}
-use Rattle.hba_command.specs.declared.action.Action.TheVariants.{Queue, Sectors, Page, Flush, Reply, Control, Abort}
+use Rattle.hba_command.specs.declared.action.Action.TheVariants.{Queue, Sectors, Page, Store, Flush, Reply, Control, Abort}
+use Rattle.hba_command.specs.declared.disk_page.DiskPage.{DiskPage}
 use Rattle.hba_command.specs.declared.entry.PrdEntry.{PrdEntry}
 use Rattle.hba_command.specs.declared.log.Log.{Log}
-use Rattle.hba_command.specs.declared.log.Log.TheVariants.{Directory, IdentifyData, QueuedError}
+use Rattle.hba_command.specs.declared.log.Log.TheVariants.{Pages, QueuedError}
 use Rattle.hba_command.specs.declared.page.Page.TheVariants as page
 use Rattle.hba_command.specs.declared.protocol.Protocol.{Protocol}
 use Rattle.hba_command.specs.declared.protocol.Protocol.TheVariants.{Pio as ByPio, Dma as ByDma}
+use Rattle.hba_command.specs.declared.store.Store.{Store as Stores}
 use Rattle.hba_memory.specs.Blocks.{block_list}
 use Rattle.hba_memory.specs.Posting.{PostingView}
 use Rattle.hba_memory.specs.Runs.{placed}
 use Rattle.hba_regs.specs.Receiving.{after_srst_cleared, moved}
+use Rattle.hba_regs.specs.declared.device_kind.DeviceKind.{DeviceKind}
 use Rattle.hba_regs.specs.declared.soft_reset.SoftReset.{SoftReset}
 use Rattle.hba_regs.specs.declared.soft_reset.SoftReset.TheVariants as soft
 use Rattle.ncq_journal.specs.History.{History}
@@ -27,15 +33,17 @@ use Rattle.ahci_port.specs.Steps.{answer_to}
 use Rattle.ahci_port.specs.declared.step.Stepped.{Stepped}
 use Rattle.ahci_hba.specs.Delivering.{answer_with, answered, block_in, block_out, block_posting, bytes_for, closing, dma_answer, done, finishing, fis_ending, going_on, only_before, page_posting, queued_answer, queued_posting, read_answer, read_posting, received_put, setup_put}
 use Rattle.ahci_hba.specs.Dropping.{is_spent, port_after}
-use Rattle.ahci_hba.specs.Executing.{Executes, Performs, aborted, first_missing, identify_log_in, is_aborted, log_given, paged, pages_given, replied, reply_fis}
-use Rattle.ahci_hba.specs.Failing.{Fails, concluded, failed_posting, moved_before, moved_sectors, queue_failed, read_failed, refused, refused_at, refused_with, sectors_before, sectors_failed, sectors_of, vacated}
+use Rattle.ahci_hba.specs.Executing.{Executes, Performs, aborted, disk_page_given, first_missing, is_aborted, log_given, long_log_in, paged, pages_given, replied, reply_fis}
+use Rattle.ahci_hba.specs.Failing.{Fails, concluded, ended_at, ended_with, ending_fis, failed_posting, moved_before, moved_sectors, queue_failed, read_failed, sectors_before, sectors_ended, sectors_failed, sectors_of, vacated}
 use Rattle.ahci_hba.specs.HbaView.{CommandView, Fetched, Sent, HbaView, WorkView, Idle, Fetching, Served, Pio, Block, Posting}
+use Rattle.ahci_hba.specs.Keeping.{keeping}
 use Rattle.ahci_hba.specs.Moving.{answering, blocking, ending_of}
 use Rattle.ahci_hba.specs.Powering.{awake}
 use Rattle.ahci_hba.specs.Queueing.{Sends, accepting, after_acceptance, command_at, fis_put, has_alone, is_taken, list_in, only_after, task_in}
 use Rattle.ahci_hba.specs.Recovering.{Recovers, error_log_in, error_page}
-use Rattle.ahci_hba.specs.Resetting.{control_in, controlled, released, signature, signing}
+use Rattle.ahci_hba.specs.Resetting.{control_in, controlled, released, sent_by, signature, signing, signing_for}
 use Rattle.ahci_hba.specs.Stepping.{IsTaken}
+use Rattle.ahci_hba.specs.Storing.{content_in, store_fis, stored, taken_by}
 use Rattle.ahci_hba.specs.Transfer.{TransferView, fits, has_interrupt, is_last, moved_to, next_block}
 use Rattle.ahci_hba.specs.Transitions.{Takes, SelectCmd, SrstCleared, SrstSet}
 use Rattle.ahci_hba.specs.declared.ending.Ending.{Ending}
@@ -103,6 +111,7 @@ answers_with h slot list bytes (Queue q) = completes h slot list bytes (if q.wri
 answers_with h slot list bytes (Sectors write span ByDma) = closes_or_reads h slot write list bytes (512 * span.sectors)
 answers_with h slot list bytes (Sectors write span ByPio) = none h.registers
 answers_with h slot list bytes (Page page p) = closes h slot 0 done
+answers_with h slot list bytes (Store s p) = closes h slot 0 done
 answers_with h slot list bytes (Flush a) = closes h slot 0 done
 answers_with h slot list bytes (Reply r) = closes h slot 0 done
 answers_with h slot list bytes (Control reset) = closes h slot 0 done
@@ -164,29 +173,49 @@ reads_failing h slot p list first n fis = by (nat_eq n 0)
     by true = concludes h slot fis
     by false = moves_before (vacated h slot) slot p list (sectors_of h.port first n) n fis
 
+ends_sectors : (h : HbaView) (slot : ℕ) (list : List PrdEntry) (write : Bool) (span : SpanFields) (p : Protocol) (status error lba : ℕ)
+    → Takes h.registers (sectors_ended h slot list write span p status error lba).registers
+ends_sectors h slot list true span p status error lba = concludes h slot (ending_fis span.addressing status error span.lba)
+ends_sectors h slot list false span p status error lba =
+    reads_failing h slot p list span.lba (sectors_before h.port span.lba span.sectors lba) (ending_fis span.addressing status error lba)
+
 fails_sectors : (h : HbaView) (slot : ℕ) (list : List PrdEntry) (write : Bool) (span : SpanFields) (p : Protocol) (error lba : ℕ)
     → Takes h.registers (sectors_failed h slot list write span p error lba).registers
-fails_sectors h slot list true span p error lba = concludes h slot (refused span.addressing error span.lba)
-fails_sectors h slot list false span p error lba =
-    reads_failing h slot p list span.lba (sectors_before h.port span.lba span.sectors lba) (refused span.addressing error lba)
+fails_sectors h slot list write span p error lba = ends_sectors h slot list write span p 0x41 error lba
 
 gives_pages : (h : HbaView) (slot : ℕ) (p : Protocol) (list : List PrdEntry) (bytes : List ℕ) (n : ℕ) → Takes h.registers (pages_given h slot p list bytes n).registers
 gives_pages h slot ByPio list bytes n = none h.registers
 gives_pages h slot ByDma list bytes n = reads (vacated h slot) slot list bytes (512 * n) done
 
 gives_log : (h : HbaView) (slot : ℕ) (p : Protocol) (list : List PrdEntry) (log : Log) → Takes h.registers (log_given h slot p list log).registers
-gives_log h slot p list Directory = gives_page h slot p list directory_page
 gives_log h slot p list QueuedError = gives_page h slot p list not_queued_page
-gives_log h slot p list (IdentifyData pages) = gives_pages h slot p list (identify_log_in h pages) pages.count
+gives_log h slot p list (Pages log pages) = gives_pages h slot p list (long_log_in h log pages) pages.count
+
+gives_disk_page : (h : HbaView) (slot : ℕ) (p : Protocol) (list : List PrdEntry) (page : DiskPage) → Takes h.registers (disk_page_given h slot p list page).registers
+gives_disk_page h slot p list page = by (allows_page h.device page)
+  where
+    by : (b : Bool) → Takes h.registers (if b then paged h slot p list (ready_page h.device page) else concluded h slot aborted).registers
+    by true = gives_page h slot p list (ready_page h.device page)
+    by false = concludes h slot aborted
+
+takes_blocks : (h : HbaView) (slot : ℕ) (p : Protocol) (n : ℕ) (fis : D2hFields) → Takes h.registers (taken_by h slot p n fis).registers
+takes_blocks h slot ByPio n fis = none h.registers
+takes_blocks h slot ByDma n fis = closes h slot (512 * n) fis
+
+stores : (h : HbaView) (slot : ℕ) (s : Stores) (p : Protocol) (bytes : List ℕ) → Takes h.registers (stored h slot s p bytes).registers
+stores h slot s p bytes = takes_blocks (keeping (vacated h slot) (after_store s bytes h.device)) slot p (blocks_of s) (store_fis h.port s bytes)
 
 performs : (slot : ℕ) (a : Action) (list : List PrdEntry) (old new : HbaView) → Performs slot a list old new → Takes old.registers new.registers
 performs slot (Queue q) list old new h = made_by old new (concluded old slot aborted) h (concludes old slot aborted)
 performs slot (Sectors write span p) list old new h =
     made_by old new (awake (sectors_failed old slot list write span p 0x10 (first_missing old.port span))) h (fails_sectors old slot list write span p 0x10 (first_missing old.port span))
 performs slot (Page page.Identify p) list old new h =
-    let page = controller_page (sectors_in old.port) old.depth in
+    let page = controller_page (sectors_in old.port) old.depth old.device in
     made_by old new (paged (record old { port = h.port }) slot ByPio list page) h.answered (gives_page (record old { port = h.port }) slot ByPio list page)
 performs slot (Page (page.Log log) p) list old new h = made_by old new (log_given old slot p list log) h (gives_log old slot p list log)
+performs slot (Page (page.Disk ready) p) list old new h = made_by old new (disk_page_given old slot p list ready) h (gives_disk_page old slot p list ready)
+performs slot (Store s p) list old new h =
+    let bytes = content_in (command_at old slot) in made_by old new (stored old slot s p bytes) h (stores old slot s p bytes)
 performs slot (Flush a) list old new h =
     made_by old new (awake (concluded (record old { port = h.port }) slot done)) h.answered (concludes (record old { port = h.port }) slot done)
 performs slot (Reply r) list old new h = made_by old new (replied old slot r) h (concludes old slot (reply_fis old r))
@@ -236,8 +265,11 @@ takes_steps step.Control slot old new journal t = of_some (control_in (command_a
 takes_steps step.Recover slot old new journal t =
     of_some (error_log_in (command_at old slot)) (λ p r. recovers slot p (list_in (command_at old slot)) old new journal r) t
 
-pub signs : (old : HbaView) → Takes old.registers (signing old).registers
-signs old = answers old (only_after (received_put old.registers 0x40 (d2h_bytes signature))) (ending_of true last_fis.Signature)
+pub signs : (old : HbaView) (kind : DeviceKind) → Takes old.registers (signing old kind).registers
+signs old kind = by (sent_by old.registers.port.signature kind)
+  where
+    by : (sent : DeviceKind) → Takes old.registers (signing_for old sent).registers
+    by sent = answers old (only_after (received_put old.registers 0x40 (d2h_bytes (signature sent)))) (ending_of true (last_fis.Signature sent))
 
 pub fails : (slot error lba : ℕ) (q : Option QueuedFields) (old new : HbaView) → Fails slot error lba q old new → Takes old.registers new.registers
 fails slot error lba (Some q) old new f =
@@ -249,18 +281,19 @@ fails slot error lba (Some q) old new f =
     (answers (record old { port = port }) (failed_posting old.registers port slot q list bytes n) (ending_of (nat_eq n 0 || fits (512 * n) list) (last_fis.Bits 0x41 error 0)))
 fails slot error lba None old new f = absurd f
 
-refuses_with : (h : HbaView) (slot : ℕ) (list : List PrdEntry) (a : Action) (error lba : ℕ) → Takes h.registers (refused_with h slot list a error lba).registers
-refuses_with h slot list (Queue q) error lba = concludes h slot (refused (addressing_of (Queue q)) error lba)
-refuses_with h slot list (Sectors write span p) error lba = fails_sectors h slot list write span p error lba
-refuses_with h slot list (Page page p) error lba = concludes h slot (refused (addressing_of (Page page p)) error lba)
-refuses_with h slot list (Flush a) error lba = concludes h slot (refused (addressing_of (Flush a)) error lba)
-refuses_with h slot list (Reply r) error lba = concludes h slot (refused (addressing_of (Reply r)) error lba)
-refuses_with h slot list (Control reset) error lba = concludes h slot (refused (addressing_of (Control reset)) error lba)
-refuses_with h slot list Abort error lba = concludes h slot (refused (addressing_of Abort) error lba)
+ends_with : (h : HbaView) (slot : ℕ) (list : List PrdEntry) (a : Action) (status error lba : ℕ) → Takes h.registers (ended_with h slot list a status error lba).registers
+ends_with h slot list (Queue q) status error lba = concludes h slot (ending_fis (addressing_of (Queue q)) status error lba)
+ends_with h slot list (Sectors write span p) status error lba = ends_sectors h slot list write span p status error lba
+ends_with h slot list (Page page p) status error lba = concludes h slot (ending_fis (addressing_of (Page page p)) status error lba)
+ends_with h slot list (Store s p) status error lba = concludes h slot (ending_fis (addressing_of (Store s p)) status error lba)
+ends_with h slot list (Flush a) status error lba = concludes h slot (ending_fis (addressing_of (Flush a)) status error lba)
+ends_with h slot list (Reply r) status error lba = concludes h slot (ending_fis (addressing_of (Reply r)) status error lba)
+ends_with h slot list (Control reset) status error lba = concludes h slot (ending_fis (addressing_of (Control reset)) status error lba)
+ends_with h slot list Abort status error lba = concludes h slot (ending_fis (addressing_of Abort) status error lba)
 
-pub refuses : (h : HbaView) (slot error lba : ℕ) → Takes h.registers (refused_at h slot error lba).registers
-refuses h slot error lba =
-    wakes (needs_medium a) h (refused_with h slot list a error lba) (refuses_with h slot list a error lba)
+pub ends_at : (h : HbaView) (slot status error lba : ℕ) → Takes h.registers (ended_at h slot status error lba).registers
+ends_at h slot status error lba =
+    wakes (needs_medium a) h (ended_with h slot list a status error lba) (ends_with h slot list a status error lba)
   where
     a : Action
     a = action_of (task_in (command_at h slot))

@@ -2,15 +2,17 @@
 use Rattle.std.proofs.Common.{◌≡◌, ℕ, Bool, true, false, List, [], ◌∷◌, ◌++◌, if◌then◌else◌, refl, ap, sym, ◌∙◌}
 use Rattle.hba_regs.specs.HbaState.{HbaState}
 use Rattle.hba_regs.specs.Receiving.{moved, signature_moves, signed}
+use Rattle.hba_regs.specs.declared.device_kind.DeviceKind.{DeviceKind}
+use Rattle.hba_regs.specs.declared.fatal.Fatal.{Fatal}
 use Rattle.hba_regs.specs.declared.fatal.Fatal.TheVariants as fatal
 use Rattle.hba_regs.specs.declared.signature.Signature.{Signature}
 use Rattle.hba_regs.specs.declared.signature.Signature.TheVariants.{Past, Due, Unposted}
 use Rattle.hba_memory.specs.Posting.{PostingView, advanced, is_none, remaining}
 use Rattle.hba_memory.specs.Reading.{ReadingView, Header, Command, Entries, Content, Whole, Malformed, Short, after_bytes}
 use Rattle.ahci_hba.specs.HbaView.{HbaView, WorkView, Idle, Fetching, Served, Pio, Block, Posting}
-use Rattle.ahci_hba.specs.Moving.{answering, block_ended, blocking, ended, ended_by, overflowed, put_done, read_so_far, setup_taken, supplied, unmapped}
+use Rattle.ahci_hba.specs.Moving.{answering, block_ended, blocking, ended, ended_by, host_failed, overflowed, put_done, read_so_far, setup_taken, supplied}
 use Rattle.ahci_hba.specs.Transfer.{TransferView, has_interrupt}
-use Rattle.ahci_hba.specs.Transitions.{Takes, Transition, CfisSuccess, DrOverflow, ErrFatal, PioEntry, PioUpdate, RegFisEntry, RegFisPostToMem, RegFisUpdate, SdbEntry, Stuck, UnknownFis, after, after_all}
+use Rattle.ahci_hba.specs.Transitions.{Takes, Transition, CfisSuccess, DrOverflow, ErrFatal, PioEntry, PioUpdate, RegFisEntry, RegFisPostToMem, RegFisUnsolicited, RegFisUpdate, SdbEntry, Stuck, UnknownFis, after, after_all}
 use Rattle.ahci_hba.specs.declared.ending.Ending.{Ending}
 use Rattle.ahci_hba.specs.declared.last_fis.LastFis.{LastFis}
 use Rattle.ahci_hba.specs.declared.last_fis.LastFis.TheVariants as last_fis
@@ -37,11 +39,11 @@ overflows : (s : HbaState) (b : Bool) → Takes s (overflowed s b)
 overflows s true = one s DrOverflow
 overflows s false = none s
 
-takes_signature : (s : HbaState) (b : Bool) (g : Signature) → g ≡ s.port.signature → Takes s (if b then moved s (signed s.port g) else s)
-takes_signature s false g e = none s
-takes_signature s true Past e = one s RegFisPostToMem
-takes_signature s true Due e = one s RegFisUpdate
-takes_signature s true Unposted e = one s RegFisPostToMem
+takes_signature : (s : HbaState) (kind : DeviceKind) (b : Bool) (g : Signature) → g ≡ s.port.signature → Takes s (if b then moved s (signed kind s.port g) else s)
+takes_signature s kind false g e = none s
+takes_signature s kind true Past e = one s RegFisPostToMem
+takes_signature s kind true Due e = one s (RegFisUpdate kind)
+takes_signature s kind true (Unposted was) e = one s RegFisPostToMem
 
 ends_by : (s : HbaState) (f : LastFis) → Takes s (ended_by s f)
 unfolding ended_by
@@ -49,7 +51,8 @@ ends_by s (last_fis.Register status error i slot) = one s (RegFisEntry status er
 ends_by s (last_fis.Bits status error sactive) = one s (SdbEntry status error true sactive)
 ends_by s (last_fis.Pio slot) =
     both s (setup_taken s) _ (one s (PioEntry 0x48 0)) (one (setup_taken s) (PioUpdate 0x40 true slot))
-ends_by s last_fis.Signature = takes_signature s (signature_moves s.port s.port.signature) s.port.signature refl
+ends_by s (last_fis.Signature kind) = takes_signature s kind (signature_moves s.port s.port.signature) s.port.signature refl
+ends_by s last_fis.Unsolicited = one s RegFisUnsolicited
 ends_by s last_fis.Unknown = one s UnknownFis
 
 ends : (s : HbaState) (e : Ending) → Takes s (ended s e)
@@ -103,10 +106,10 @@ supplies h (Pio t) bytes = none h.registers
 supplies h (Block p t) bytes = none h.registers
 supplies h (Posting p e) bytes = none h.registers
 
-pub fails_memory : (h : HbaView) (w : WorkView) → Takes h.registers (unmapped h w).registers
-fails_memory h Idle = none h.registers
-fails_memory h (Fetching slot r) = one h.registers (ErrFatal fatal.HostBusFatal)
-fails_memory h (Served slot t window list) = none h.registers
-fails_memory h (Pio t) = none h.registers
-fails_memory h (Block p t) = one h.registers (ErrFatal fatal.HostBusFatal)
-fails_memory h (Posting p e) = one h.registers (ErrFatal fatal.HostBusFatal)
+pub fails_host : (f : Fatal) (h : HbaView) (w : WorkView) → Takes h.registers (host_failed f h w).registers
+fails_host f h Idle = none h.registers
+fails_host f h (Fetching slot r) = one h.registers (ErrFatal f)
+fails_host f h (Served slot t window list) = none h.registers
+fails_host f h (Pio t) = none h.registers
+fails_host f h (Block p t) = one h.registers (ErrFatal f)
+fails_host f h (Posting p e) = one h.registers (ErrFatal f)

@@ -117,6 +117,7 @@ answer_with h slot list bytes (action.Sectors write span ByDma) = dma_answer h s
 answer_with h slot list bytes (action.Sectors write span ByPio) =
     beginning h slot write span.sectors (record { list = list; bytes = bytes }) (finish_of write)
 answer_with h slot list bytes (action.Page page p) = closing h slot 0 done
+answer_with h slot list bytes (action.Store s p) = closing h slot 0 done
 answer_with h slot list bytes (action.Flush a) = closing h slot 0 done
 answer_with h slot list bytes (action.Reply r) = closing h slot 0 done
 answer_with h slot list bytes (action.Control reset) = closing h slot 0 done

@@ -11,6 +11,7 @@ use Rattle.ncq_journal.specs.History.{History}
 use Rattle.ahci_port.specs.Faults.{most_first}
 use Rattle.ahci_port.specs.PortView.{PortView, journal_in, next_number, port_over}
 use Rattle.ahci_hba.specs.HbaView.{HbaView, WorkView, Idle, Block, Posting}
+use Rattle.ahci_hba.specs.Keeping.{device_after}
 use Rattle.ahci_hba.specs.Powering.{power_after}
 use Rattle.ahci_hba.specs.Queueing.{is_sent}
 use Rattle.ahci_hba.specs.Moving.{answering, blocking}
@@ -54,7 +55,12 @@ settled_work h = if h.registers.port.fre then h else without_receiving h h.work
 abbrev pub after_write : Consequence → HbaView → HbaState → HbaView
 after_write Nothing h registers = settled_work (record h { registers = registers })
 after_write consequence h registers =
-    emptied (record h { registers = registers; port = port_after (is_reset consequence h) h.port; power = power_after consequence h.power })
+    emptied (record h {
+      registers = registers;
+      port = port_after (is_reset consequence h) h.port;
+      power = power_after consequence h.power;
+      device = device_after consequence h.device;
+    })
 
 -- the controller after the driver's write, and the journal that the port hands out if it is reset
 abbrev pub written : HbaView → Written → HbaView

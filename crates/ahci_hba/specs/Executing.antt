@@ -5,18 +5,24 @@ use Rattle.ncq_journal.specs.Halted.{halted}
 use Rattle.sata_fis.specs.Fields.{D2hFields}
 use Rattle.hba_command.specs.Action.{action_of}
 use Rattle.hba_command.specs.Addressing.{addressed}
-use Rattle.hba_command.specs.IdentifyLog.{identify_log_pages}
-use Rattle.hba_command.specs.IdentifyPages.{IdentifyPagesFields}
-use Rattle.hba_command.specs.Pages.{controller_page, directory_page, not_queued_page}
+use Rattle.hba_command.specs.Device.{allows, allows_page}
+use Rattle.hba_command.specs.DiskPages.{ready_page}
+use Rattle.hba_command.specs.LogPages.{LogPagesFields}
+use Rattle.hba_command.specs.LongLogs.{long_log_pages}
+use Rattle.hba_command.specs.Pages.{controller_page, not_queued_page}
 use Rattle.hba_command.specs.Power.{power_count}
 use Rattle.hba_command.specs.Span.{SpanFields}
 use Rattle.hba_command.specs.declared.action.Action.{Action}
-use Rattle.hba_command.specs.declared.action.Action.TheVariants.{Queue, Sectors, Page, Flush, Reply as Replies, Control, Abort}
+use Rattle.hba_command.specs.declared.action.Action.TheVariants.{Queue, Sectors, Page, Store, Flush, Reply as Replies, Control, Abort}
 use Rattle.hba_command.specs.declared.addressing.Addressing.{Addressing}
 use Rattle.hba_command.specs.declared.addressing.Addressing.TheVariants.{Bits28, Bits48}
+use Rattle.hba_command.specs.declared.change.Change.{Change}
+use Rattle.hba_command.specs.declared.device.Device.{Device}
+use Rattle.hba_command.specs.declared.disk_page.DiskPage.{DiskPage}
 use Rattle.hba_command.specs.declared.entry.PrdEntry.{PrdEntry}
 use Rattle.hba_command.specs.declared.log.Log.{Log}
-use Rattle.hba_command.specs.declared.log.Log.TheVariants.{Directory, IdentifyData, QueuedError}
+use Rattle.hba_command.specs.declared.log.Log.TheVariants.{Pages, QueuedError}
+use Rattle.hba_command.specs.declared.log.LongLog.{LongLog}
 use Rattle.hba_command.specs.declared.page.Page.TheVariants as page
 use Rattle.hba_command.specs.declared.protocol.Protocol.{Protocol}
 use Rattle.hba_command.specs.declared.protocol.Protocol.TheVariants.{Pio, Dma}
@@ -27,8 +33,10 @@ use Rattle.ahci_port.specs.Steps.{IsFlushed, IsIdentified, LacksRoom}
 use Rattle.ahci_hba.specs.Delivering.{beginning, d2h_fis, done, page_answer, read_answer}
 use Rattle.ahci_hba.specs.Failing.{concluded, moves_some, sectors_failed, vacated}
 use Rattle.ahci_hba.specs.HbaView.{CommandView, Fetched, HbaView}
+use Rattle.ahci_hba.specs.Keeping.{changed_by}
 use Rattle.ahci_hba.specs.Powering.{awake, turned}
 use Rattle.ahci_hba.specs.Queueing.{command_at, has_queued, is_alone, is_on, list_in, task_in}
+use Rattle.ahci_hba.specs.Storing.{content_in, stored}
 
 -- a command is aborted; the signature of a disk stands in LBA and count (Serial ATA, "Signature")
 abbrev pub aborted : D2hFields
@@ -50,6 +58,14 @@ abbrev pub native_max : Addressing → PortView → ℕ
 native_max Bits28 port = min 0x0FFFFFFF (sectors_in port - 1)
 native_max Bits48 port = sectors_in port - 1
 
+-- a change is made, or the command is aborted if it isn't possible; SMART RETURN STATUS tells by LBA 23:8 C24Fh that no attribute has exceeded its
+-- threshold, and is aborted while SMART operations are disabled
+abbrev pub changed_fis : Device → Change → D2hFields
+changed_fis d c = if allows d c then done else aborted
+
+abbrev pub smart_fis : Device → D2hFields
+smart_fis d = if d.smart then d2h_fis 0x40 0 0xC24F00 0 else aborted
+
 -- the answer to a command that moves nothing
 abbrev pub reply_fis : HbaView → Reply → D2hFields
 reply_fis h reply.Done = done
@@ -57,12 +73,14 @@ reply_fis h (reply.Entered mode) = done
 reply_fis h (reply.Verified span) = verified h.port span
 reply_fis h (reply.NativeMax a) = addressed a done (native_max a h.port)
 reply_fis h reply.PowerMode = d2h_fis 0x40 0 0 (power_count h.power)
+reply_fis h (reply.Changed c) = changed_fis h.device c
+reply_fis h reply.SmartStatus = smart_fis h.device
 reply_fis h reply.Diagnosed = signed 0x40 0x01
 reply_fis h reply.Packet = signed 0x41 0x04
 
--- and the power mode behind it
+-- and the power mode and what the disk keeps behind it
 abbrev pub replied : HbaView → ℕ → Reply → HbaView
-replied h slot r = turned r (concluded h slot (reply_fis h r))
+replied h slot r = changed_by r (turned r (concluded h slot (reply_fis h r)))
 
 -- a page of 512 bytes goes to the driver, by PIO or DMA
 abbrev pub page_by : HbaView → ℕ → Protocol → List PrdEntry → List ℕ → HbaView
@@ -90,7 +108,7 @@ is_alone_fetched other = false
 pub record Identifies (slot : ℕ) (list : List PrdEntry) (old new : HbaView) : Type 0 where
   pub port : PortView
   pub identified : IsIdentified old.port port
-  pub answered : new ≡ paged (record old { port = port }) slot Pio list (controller_page (sectors_in old.port) old.depth)
+  pub answered : new ≡ paged (record old { port = port }) slot Pio list (controller_page (sectors_in old.port) old.depth old.device)
 
 -- FLUSH CACHE: the port flushes, and the device is Active
 pub record Flushes (slot : ℕ) (old new : HbaView) : Type 0 where
@@ -106,15 +124,18 @@ pages_by h slot Dma list bytes n = read_answer h slot list bytes (512 * n) done
 abbrev pub pages_given : HbaView → ℕ → Protocol → List PrdEntry → List ℕ → ℕ → HbaView
 pages_given h slot p list bytes n = pages_by (vacated h slot) slot p list bytes n
 
--- some pages of log 30h
-abbrev pub identify_log_in : HbaView → IdentifyPagesFields → List ℕ
-identify_log_in h pages = identify_log_pages (sectors_in h.port) h.depth pages.first pages.count
+-- some pages of a log of several
+abbrev pub long_log_in : HbaView → LongLog → LogPagesFields → List ℕ
+long_log_in h log pages = long_log_pages log (sectors_in h.port) h.depth h.device pages.first pages.count
 
 -- a log, with no queued command failed
 abbrev pub log_given : HbaView → ℕ → Protocol → List PrdEntry → Log → HbaView
-log_given h slot p list Directory = paged h slot p list directory_page
 log_given h slot p list QueuedError = paged h slot p list not_queued_page
-log_given h slot p list (IdentifyData pages) = pages_given h slot p list (identify_log_in h pages) pages.count
+log_given h slot p list (Pages log pages) = pages_given h slot p list (long_log_in h log pages) pages.count
+
+-- a page that the disk has ready, or the command is aborted
+abbrev pub disk_page_given : HbaView → ℕ → Protocol → List PrdEntry → DiskPage → HbaView
+disk_page_given h slot p list page = if allows_page h.device page then paged h slot p list (ready_page h.device page) else concluded h slot aborted
 
 -- what the device does with a command that it doesn't abort and the port doesn't take. Sectors are not all on the disk then: those of a read
 -- that are there move, and the device is Active. A queued command has a tag that the device hasn't
@@ -123,6 +144,8 @@ Performs slot (Queue q) list old new = new ≡ concluded old slot aborted
 Performs slot (Sectors write span p) list old new = new ≡ awake (sectors_failed old slot list write span p 0x10 (first_missing old.port span))
 Performs slot (Page page.Identify p) list old new = Identifies slot list old new
 Performs slot (Page (page.Log log) p) list old new = new ≡ log_given old slot p list log
+Performs slot (Page (page.Disk ready) p) list old new = new ≡ disk_page_given old slot p list ready
+Performs slot (Store s p) list old new = new ≡ stored old slot s p (content_in (command_at old slot))
 Performs slot (Flush a) list old new = Flushes slot old new
 Performs slot (Replies r) list old new = new ≡ replied old slot r
 Performs slot (Control reset) list old new = ⊥

@@ -9,7 +9,7 @@ use Rattle.hba_command.specs.Action.{action_of}
 use Rattle.hba_command.specs.Addressing.{addressed, addressing_of}
 use Rattle.hba_command.specs.Span.{SpanFields}
 use Rattle.hba_command.specs.declared.action.Action.{Action}
-use Rattle.hba_command.specs.declared.action.Action.TheVariants.{Queue, Sectors, Page, Flush, Reply, Control, Abort}
+use Rattle.hba_command.specs.declared.action.Action.TheVariants.{Queue, Sectors, Page, Store, Flush, Reply, Control, Abort}
 use Rattle.hba_command.specs.declared.addressing.Addressing.{Addressing}
 use Rattle.hba_command.specs.declared.entry.PrdEntry.{PrdEntry}
 use Rattle.hba_command.specs.declared.protocol.Protocol.{Protocol}
@@ -37,9 +37,9 @@ abbrev pub concluded : HbaView → ℕ → D2hFields → HbaView
 concluded h slot fis =
     answering (vacated h slot) (only_after (received_put h.registers 0x40 (d2h_bytes fis))) (ending_of true (fis_ending slot fis))
 
--- an error at an LBA, which the FIS names as the command names its own
-abbrev pub refused : Addressing → (error lba : ℕ) → D2hFields
-refused a error lba = addressed a (d2h_fis 0x41 error 0 0) lba
+-- a status and an error at an LBA, which the FIS names as the command names its own
+abbrev pub ending_fis : Addressing → (status error lba : ℕ) → D2hFields
+ending_fis a status error lba = addressed a (d2h_fis status error 0 0) lba
 
 -- how many sectors from an LBA on a read has moved before another one, at most so many: those that the disk has
 abbrev pub sectors_before : PortView → (first sectors lba : ℕ) → ℕ
@@ -49,12 +49,12 @@ sectors_before port first sectors lba = min (lba - first) (min sectors (sectors_
 abbrev pub sectors_of : PortView → (first sectors : ℕ) → List ℕ
 sectors_of port first sectors = sectors_at port.starting port.past first sectors
 
--- some sectors go to the driver, and then the error
+-- some sectors go to the driver, and then the FIS
 abbrev pub moved_before : HbaView → ℕ → Protocol → List PrdEntry → List ℕ → ℕ → D2hFields → HbaView
 moved_before h slot Dma list bytes n fis = read_answer h slot list bytes (512 * n) fis
 moved_before h slot Pio list bytes n fis = beginning h slot false n (record { list = list; bytes = bytes }) (Some fis)
 
--- a command that fails at an LBA is a read that has moved sectors before it
+-- a command that ends at an LBA is a read that has moved sectors before it
 abbrev pub moves_some : PortView → Bool → SpanFields → ℕ → Bool
 moves_some port write span lba = not write && nat_lt 0 (sectors_before port span.lba span.sectors lba)
 
@@ -62,31 +62,40 @@ abbrev pub moves_before : PortView → Action → ℕ → Bool
 moves_before port (Sectors write span p) lba = moves_some port write span lba
 moves_before port other lba = false
 
--- a read that is not queued fails: with no sector before the LBA, the FIS comes alone
+-- a read that is not queued ends before it is done: with no sector before the LBA, the FIS comes alone
 abbrev pub read_failed : HbaView → ℕ → Protocol → List PrdEntry → (first n : ℕ) → D2hFields → HbaView
 read_failed h slot p list first n fis =
     if nat_eq n 0 then concluded h slot fis
     else moved_before (vacated h slot) slot p list (sectors_of h.port first n) n fis
 
-abbrev pub sectors_failed : HbaView → ℕ → List PrdEntry → Bool → SpanFields → Protocol → (error lba : ℕ) → HbaView
-sectors_failed h slot list write span p error lba =
-    if write then concluded h slot (refused span.addressing error span.lba)
-    else read_failed h slot p list span.lba (sectors_before h.port span.lba span.sectors lba) (refused span.addressing error lba)
+abbrev pub sectors_ended : HbaView → ℕ → List PrdEntry → Bool → SpanFields → Protocol → (status error lba : ℕ) → HbaView
+sectors_ended h slot list write span p status error lba =
+    if write then concluded h slot (ending_fis span.addressing status error span.lba)
+    else read_failed h slot p list span.lba (sectors_before h.port span.lba span.sectors lba) (ending_fis span.addressing status error lba)
 
--- the device fails a command that is not queued with an error at an LBA
-abbrev pub refused_with : HbaView → ℕ → List PrdEntry → Action → (error lba : ℕ) → HbaView
-refused_with h slot list (Sectors write span p) error lba = sectors_failed h slot list write span p error lba
-refused_with h slot list (Queue q) error lba = concluded h slot (refused (addressing_of (Queue q)) error lba)
-refused_with h slot list (Page page p) error lba = concluded h slot (refused (addressing_of (Page page p)) error lba)
-refused_with h slot list (Flush a) error lba = concluded h slot (refused (addressing_of (Flush a)) error lba)
-refused_with h slot list (Reply r) error lba = concluded h slot (refused (addressing_of (Reply r)) error lba)
-refused_with h slot list (Control reset) error lba = concluded h slot (refused (addressing_of (Control reset)) error lba)
-refused_with h slot list Abort error lba = concluded h slot (refused (addressing_of Abort) error lba)
+-- it fails: status 41h is DRDY with ERR
+abbrev pub sectors_failed : HbaView → ℕ → List PrdEntry → Bool → SpanFields → Protocol → (error lba : ℕ) → HbaView
+sectors_failed h slot list write span p error lba = sectors_ended h slot list write span p 0x41 error lba
+
+-- the device ends a command that is not queued with a status and an error at an LBA, in place of doing it
+abbrev pub ended_with : HbaView → ℕ → List PrdEntry → Action → (status error lba : ℕ) → HbaView
+ended_with h slot list (Sectors write span p) status error lba = sectors_ended h slot list write span p status error lba
+ended_with h slot list (Queue q) status error lba = concluded h slot (ending_fis (addressing_of (Queue q)) status error lba)
+ended_with h slot list (Page page p) status error lba = concluded h slot (ending_fis (addressing_of (Page page p)) status error lba)
+ended_with h slot list (Store s p) status error lba = concluded h slot (ending_fis (addressing_of (Store s p)) status error lba)
+ended_with h slot list (Flush a) status error lba = concluded h slot (ending_fis (addressing_of (Flush a)) status error lba)
+ended_with h slot list (Reply r) status error lba = concluded h slot (ending_fis (addressing_of (Reply r)) status error lba)
+ended_with h slot list (Control reset) status error lba = concluded h slot (ending_fis (addressing_of (Control reset)) status error lba)
+ended_with h slot list Abort status error lba = concluded h slot (ending_fis (addressing_of Abort) status error lba)
 
 -- that of a slot, of which one that needs the medium makes the device Active
+abbrev pub ended_at : HbaView → ℕ → (status error lba : ℕ) → HbaView
+ended_at h slot status error lba =
+    woken_for (action_of (task_in (command_at h slot)))
+    (ended_with h slot (list_in (command_at h slot)) (action_of (task_in (command_at h slot))) status error lba)
+
 abbrev pub refused_at : HbaView → ℕ → (error lba : ℕ) → HbaView
-refused_at h slot error lba =
-    woken_for (action_of (task_in (command_at h slot))) (refused_with h slot (list_in (command_at h slot)) (action_of (task_in (command_at h slot))) error lba)
+refused_at h slot error lba = ended_at h slot 0x41 error lba
 
 -- a queued command, if an LBA is one of its sectors
 abbrev pub owns : QueuedFields → ℕ → Bool
@@ -96,6 +105,7 @@ abbrev pub own_queued : Action → ℕ → Option QueuedFields
 own_queued (Queue q) lba = if owns q lba then Some q else None
 own_queued (Sectors write span p) lba = None
 own_queued (Page page p) lba = None
+own_queued (Store s p) lba = None
 own_queued (Flush a) lba = None
 own_queued (Reply r) lba = None
 own_queued (Control reset) lba = None

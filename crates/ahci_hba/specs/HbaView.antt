@@ -1,5 +1,6 @@
 -- What callers see of a controller.
 use Rattle.std.specs.Prelude.{ℕ, List, Option}
+use Rattle.hba_command.specs.declared.device.Device.{Device}
 use Rattle.hba_command.specs.declared.entry.PrdEntry.{PrdEntry}
 use Rattle.hba_command.specs.declared.power.Power.{Power}
 use Rattle.hba_command.specs.declared.task.Task.{Task}
@@ -50,6 +51,8 @@ pub record HbaView : Type 0 where
   pub depth : ℕ
   -- the disk's power mode
   pub power : Power
+  -- what the disk keeps between commands
+  pub device : Device
   -- by slot, the commands that were read and are not done
   pub slots : List (Option CommandView)
   -- what is read or written just now

@@ -1,6 +1,7 @@
 pub mod Transfer
 pub mod HbaView
 pub mod Powering
+pub mod Keeping
 pub mod States
 pub mod Moving
 pub mod Queueing
@@ -8,6 +9,7 @@ pub mod Dropping
 pub mod PoweringOn
 pub mod Delivering
 pub mod Failing
+pub mod Storing
 pub mod Events
 pub mod Executing
 pub mod Resetting

@@ -5,7 +5,7 @@ use Rattle.hba_memory.specs.Reading.{ReadingView, Whole, Malformed, Short, after
 use Rattle.hba_memory.specs.Runs.{Put, Run, first_put}
 use Rattle.hba_regs.specs.HbaState.{HbaState}
 use Rattle.hba_regs.specs.InterfaceErrors.{unknown_received}
-use Rattle.hba_regs.specs.PortStates.{cfis_success, dr_overflow, err_fatal, pio_entry, pio_update, reg_fis_entry, sdb_entry, stuck}
+use Rattle.hba_regs.specs.PortStates.{cfis_success, dr_overflow, err_fatal, pio_entry, pio_update, reg_fis_entry, reg_fis_unsolicited, sdb_entry, stuck}
 use Rattle.hba_regs.specs.Receiving.{moved, signature_moves, signed}
 use Rattle.hba_regs.specs.declared.fatal.Fatal.{Fatal}
 use Rattle.hba_regs.specs.declared.fatal.Fatal.TheVariants as fatal
@@ -100,7 +100,8 @@ unfoldable pub ended_by : HbaState → LastFis → HbaState
 ended_by s (last_fis.Register status error i slot) = moved s (reg_fis_entry status error i slot s.port)
 ended_by s (last_fis.Bits status error sactive) = moved s (sdb_entry status error true sactive s.port)
 ended_by s (last_fis.Pio slot) = after_data_in (moved s (pio_entry 0x48 0 s.port)) slot
-ended_by s last_fis.Signature = if signature_moves s.port s.port.signature then moved s (signed s.port s.port.signature) else s
+ended_by s (last_fis.Signature kind) = if signature_moves s.port s.port.signature then moved s (signed kind s.port s.port.signature) else s
+ended_by s last_fis.Unsolicited = moved s (reg_fis_unsolicited s.port)
 ended_by s last_fis.Unknown = moved s (unknown_received s.port)
 
 abbrev pub ended : HbaState → Ending → HbaState
@@ -130,10 +131,17 @@ put_done h (Block p t) = blocking h (advanced p) t
 put_done h (Posting p e) = answering h (advanced p) e
 put_done h other = h
 
--- the address is no memory: a pointer of the driver's that is bad, HBFS (sections 3.3.5, HBFS, and 6.1); HBDS is for data that memory
--- itself can't give or take, which this model has not
+-- an access to memory ends in a fatal error; where nothing is read or written, there is none
+abbrev pub host_failed : Fatal → HbaView → WorkView → HbaView
+host_failed fatal h (Fetching slot r) = failed_fatally h fatal
+host_failed fatal h (Block p t) = failed_fatally h fatal
+host_failed fatal h (Posting p e) = failed_fatally h fatal
+host_failed fatal h other = h
+
+-- the address is no memory: a pointer of the driver's that is bad, HBFS (sections 3.3.5, HBFS, and 6.1)
 abbrev pub unmapped : HbaView → WorkView → HbaView
-unmapped h (Fetching slot r) = failed_fatally h fatal.HostBusFatal
-unmapped h (Block p t) = failed_fatally h fatal.HostBusFatal
-unmapped h (Posting p e) = failed_fatally h fatal.HostBusFatal
-unmapped h other = h
+unmapped h w = host_failed fatal.HostBusFatal h w
+
+-- memory itself can't give or take the data, as with an error that its check bits can't correct: HBDS (sections 3.3.5, HBDS, and 6.1)
+abbrev pub spoiled : HbaView → WorkView → HbaView
+spoiled h w = host_failed fatal.HostBusData h w

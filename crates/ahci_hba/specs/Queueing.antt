@@ -6,7 +6,7 @@ use Rattle.word_bits.specs.Places.{has_place}
 use Rattle.hba_command.specs.Action.{action_of}
 use Rattle.hba_command.specs.Power.{is_awake}
 use Rattle.hba_command.specs.declared.action.Action.{Action}
-use Rattle.hba_command.specs.declared.action.Action.TheVariants.{Queue, Sectors, Page, Flush, Reply, Control, Abort}
+use Rattle.hba_command.specs.declared.action.Action.TheVariants.{Queue, Sectors, Page, Store, Flush, Reply, Control, Abort}
 use Rattle.hba_command.specs.declared.entry.PrdEntry.{PrdEntry}
 use Rattle.hba_command.specs.declared.task.Task.{Task}
 use Rattle.hba_command.specs.declared.task.Task.TheVariants.{Unknown}
@@ -48,6 +48,7 @@ abbrev pub acts_alone : Action → Bool
 acts_alone (Queue q) = false
 acts_alone (Sectors write span p) = true
 acts_alone (Page page p) = true
+acts_alone (Store s p) = true
 acts_alone (Flush a) = true
 acts_alone (Reply r) = true
 acts_alone (Control reset) = true
@@ -85,6 +86,7 @@ abbrev pub moves_sectors : HbaView → Action → Bool
 moves_sectors h (Queue q) = has_tag h q
 moves_sectors h (Sectors write span p) = is_on h.port span && not (list_any has_queued h.slots)
 moves_sectors h (Page page p) = false
+moves_sectors h (Store s p) = false
 moves_sectors h (Flush a) = false
 moves_sectors h (Reply r) = false
 moves_sectors h (Control reset) = false
@@ -176,6 +178,7 @@ abbrev pub work_of_action : Action → List ℕ → Work
 work_of_action (Queue q) bytes = work_for q.write q.lba q.sectors bytes
 work_of_action (Sectors write span p) bytes = work_for write span.lba span.sectors bytes
 work_of_action (Page page p) bytes = Read 0 0
+work_of_action (Store s p) bytes = Read 0 0
 work_of_action (Flush a) bytes = Read 0 0
 work_of_action (Reply r) bytes = Read 0 0
 work_of_action (Control reset) bytes = Read 0 0

@@ -1,5 +1,6 @@
 -- The first state of a controller, and what every state keeps.
 use Rattle.std.specs.Prelude.{◌≡◌, ◌≤◌, ℕ, Bool, false, List, Option, None, length, replicate}
+use Rattle.hba_command.specs.Device.{new_device}
 use Rattle.hba_command.specs.declared.power.Power.TheVariants.{Active}
 use Rattle.hba_regs.specs.CapFields.{CapFields, usual}
 use Rattle.hba_regs.specs.HbaState.{power_on}
@@ -16,6 +17,7 @@ hba_over grows image depth c = record {
   port = port_over grows 0 image 32;
   depth = depth;
   power = Active;
+  device = new_device;
   slots = replicate 32 None;
   work = Idle;
 }

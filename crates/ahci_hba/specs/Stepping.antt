@@ -4,8 +4,8 @@ use Rattle.std.specs.List.{list_any}
 use Rattle.hba_command.specs.Action.{action_of}
 use Rattle.hba_command.specs.declared.action.Action.{Action}
 use Rattle.hba_command.specs.declared.action.Action.TheVariants as action
-use Rattle.hba_command.specs.declared.log.Log.TheVariants.{Directory, IdentifyData, QueuedError}
-use Rattle.hba_command.specs.declared.page.Page.TheVariants.{Identify, Log}
+use Rattle.hba_command.specs.declared.log.Log.TheVariants.{Pages, QueuedError}
+use Rattle.hba_command.specs.declared.page.Page.TheVariants.{Disk, Identify, Log}
 use Rattle.ncq_journal.specs.Halted.{halted}
 use Rattle.ncq_journal.specs.History.{History}
 use Rattle.ncq_journal.specs.Phase.{phase}
@@ -69,9 +69,10 @@ abbrev pub is_answered : HbaView → Action → Bool
 is_answered h (action.Queue q) = halted h.port.past || not (has_tag h q)
 is_answered h (action.Sectors write span p) = is_aborted h (action.Sectors write span p) || not (is_on h.port span)
 is_answered h (action.Page Identify p) = is_aborted h (action.Page Identify p) || not (is_some (plain_refusal h.port))
-is_answered h (action.Page (Log Directory) p) = true
-is_answered h (action.Page (Log (IdentifyData pages)) p) = true
+is_answered h (action.Page (Log (Pages l pages)) p) = true
 is_answered h (action.Page (Log QueuedError) p) = list_any has_queued h.slots || not (halted h.port.past)
+is_answered h (action.Page (Disk page) p) = true
+is_answered h (action.Store s p) = true
 is_answered h (action.Flush a) = is_aborted h (action.Flush a) || not (is_some (plain_refusal h.port))
 is_answered h (action.Reply r) = true
 is_answered h (action.Control reset) = false

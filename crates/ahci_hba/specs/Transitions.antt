@@ -4,8 +4,9 @@ use Rattle.std.specs.Prelude.{◌≡◌, ℕ, Bool, false, not, ◌&&◌, nat_eq
 use Rattle.word_bits.specs.Places.{bits, has_place}
 use Rattle.hba_regs.specs.HbaState.{HbaPort, HbaState}
 use Rattle.hba_regs.specs.InterfaceErrors.{unknown_received}
-use Rattle.hba_regs.specs.PortStates.{bsy_or_drq_of, cfis_success, dr_overflow, err_fatal, err_of, p_reg_fis_post_to_mem, p_reg_fis_update, p_select_cmd, pio_entry, pio_update, reg_fis_entry, sdb_entry, stuck}
+use Rattle.hba_regs.specs.PortStates.{bsy_or_drq_of, cfis_success, dr_overflow, err_fatal, err_of, p_reg_fis_post_to_mem, p_reg_fis_update, p_select_cmd, pio_entry, pio_update, reg_fis_entry, reg_fis_unsolicited, sdb_entry, stuck}
 use Rattle.hba_regs.specs.Receiving.{after_srst_cleared, after_srst_set, moved}
+use Rattle.hba_regs.specs.declared.device_kind.DeviceKind.{DeviceKind}
 use Rattle.hba_regs.specs.declared.fatal.Fatal.{Fatal}
 use Rattle.hba_regs.specs.declared.soft_reset.SoftReset.{SoftReset}
 use Rattle.hba_regs.specs.declared.soft_reset.SoftReset.TheVariants.{Ending}
@@ -19,6 +20,8 @@ pub data Transition : Type 0 where
   Stuck : (slot : ℕ) → (c : Bool) → Transition
   -- NDR:Accept to RegFIS:Entry, RegFIS:ClearCI and RegFIS:SetIntr, or ERR:FatalTaskfile
   RegFisEntry : (status error : ℕ) → (i : Bool) → (slot : ℕ) → Transition
+  -- the same with a FIS that no command asks for
+  RegFisUnsolicited : Transition
   -- NDR:Accept to SDB:Entry and SDB:SetIntr, or ERR:FatalTaskfile
   SdbEntry : (status error : ℕ) → (i : Bool) → (sactive : ℕ) → Transition
   -- NDR:Accept to PIO:Entry
@@ -30,7 +33,7 @@ pub data Transition : Type 0 where
   -- any state to ERR:Fatal
   ErrFatal : Fatal → Transition
   -- P:NotRunning to P:RegFisUpdate, or RegFIS:UpdateSig
-  RegFisUpdate : Transition
+  RegFisUpdate : DeviceKind → Transition
   -- P:RegFisPostToMem
   RegFisPostToMem : Transition
   -- CFIS:Success of a control FIS: SRST is set in the device, or cleared
@@ -44,12 +47,13 @@ after (SelectCmd slot) p = p_select_cmd slot p
 after (CfisSuccess slot c) p = cfis_success slot c p
 after (Stuck slot c) p = stuck slot c p
 after (RegFisEntry status error i slot) p = reg_fis_entry status error i slot p
+after RegFisUnsolicited p = reg_fis_unsolicited p
 after (SdbEntry status error i sactive) p = sdb_entry status error i sactive p
 after (PioEntry status error) p = pio_entry status error p
 after (PioUpdate e_status i slot) p = pio_update e_status i slot p
 after DrOverflow p = dr_overflow p
 after (ErrFatal fatal) p = err_fatal fatal p
-after RegFisUpdate p = p_reg_fis_update p
+after (RegFisUpdate kind) p = p_reg_fis_update kind p
 after RegFisPostToMem p = p_reg_fis_post_to_mem p
 after SrstSet p = after_srst_set p
 after (SrstCleared slot) p = after_srst_cleared p slot p.soft
@@ -79,7 +83,7 @@ answers_command (CfisSuccess s c) p slot = c && nat_eq s slot
 answers_command (Stuck s c) p slot = c && nat_eq s slot
 answers_command (RegFisEntry status error i s) p slot = ends_well status && nat_eq s slot
 answers_command (PioUpdate e_status i s) p slot = ends_well e_status && nat_eq s slot
-answers_command RegFisUpdate p slot = ends_reset p.soft slot
+answers_command (RegFisUpdate kind) p slot = ends_reset p.soft slot
 answers_command other p slot = false
 
 -- and that of a tag, for PxSACT (section 3.3.13): a Set Device Bits FIS names it

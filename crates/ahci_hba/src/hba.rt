@@ -6,6 +6,7 @@ mod events;
 mod executing;
 mod failing;
 mod fetching;
+mod keeping;
 mod logging;
 mod moving;
 mod powering;
@@ -15,6 +16,7 @@ mod recovering;
 mod resetting;
 mod sending;
 mod stepping;
+mod storing;
 mod transferring;
 mod trimming;
 mod writing;
@@ -29,7 +31,7 @@ ghost use Rattle.ahci_hba.specs.States.{hba_over, hba_with, new_hba};
 use crate::command::Listed;
 use crate::work::Work;
 use ahci_port::{DiskFault, Port};
-use hba_command::Power;
+use hba_command::{Device, Power};
 use hba_regs::{AccessSize, Capabilities, HbaRegs};
 use sector_store::{SectorStore, Whole};
 use std::alloc::{AllocError, Allocator, Global};
@@ -46,6 +48,7 @@ pub struct Hba<A: Allocator = Global, S: SectorStore = Whole<A>> {
     port: Port<A, S>,
     depth: u32,
     power: Power,
+    device: Device,
     slots: Vec<Option<Listed<A>>, A>,
     work: Work<A>,
 }
@@ -57,7 +60,7 @@ impl<A: Allocator, S: SectorStore> Model for Hba<A, S> {
 
     ghost Value = { HbaView };
 
-    ghost view = { λ h. record { registers = h.registers; port = h.port; depth = h.depth; power = h.power; slots = h.slots.items; work = work_of h.work } };
+    ghost view = { λ h. record { registers = h.registers; port = h.port; depth = h.depth; power = h.power; device = h.device; slots = h.slots.items; work = work_of h.work } };
 
     ghost invariant = { λ h. IsSound h.port h.depth h.slots.items (work_of h.work) };
 }
@@ -180,6 +183,7 @@ impl<A: Allocator + Copy, S: SectorStore + Drop> Hba<A, S> {
             port,
             depth,
             power: Power::Active,
+            device: Device::new(),
             slots,
             work: Work::Idle,
         })

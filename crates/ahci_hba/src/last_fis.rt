@@ -1,4 +1,4 @@
-use hba_regs::Slot;
+use hba_regs::{DeviceKind, Slot};
 
 /// What the device's last FIS for an answer says to the registers.
 #[derive(Clone, Copy, Debug, PartialEq, Eq)]
@@ -20,8 +20,10 @@ pub enum LastFis {
     Pio {
         slot: Slot,
     },
-    /// The device's signature, in a D2H Register FIS.
-    Signature,
+    /// The signature of a device of some kind, in a D2H Register FIS.
+    Signature(DeviceKind),
+    /// A D2H Register FIS that no command asks for.
+    Unsolicited,
     /// A FIS of a type that isn't known.
     Unknown,
 }

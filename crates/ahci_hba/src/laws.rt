@@ -4,10 +4,11 @@ ghost use Rattle.std.specs.List.{list_any};
 ghost use Rattle.word_bits.specs.Places.{has_place};
 ghost use Rattle.hba_regs.specs.Linking.{is_up};
 ghost use Rattle.hba_regs.specs.PortStates.{p_idle_selects};
+ghost use Rattle.hba_regs.specs.declared.device_kind.DeviceKind.{DeviceKind};
 ghost use Rattle.hba_command.specs.declared.power.Power.TheVariants.{Sleep};
 ghost use Rattle.ncq_journal.specs.History.{History};
-ghost use Rattle.ahci_hba.specs.Failing.{Fails, own_in, refused_at};
-ghost use Rattle.ahci_hba.specs.Moving.{put_done, supplied, unmapped};
+ghost use Rattle.ahci_hba.specs.Failing.{Fails, ended_at, own_in};
+ghost use Rattle.ahci_hba.specs.Moving.{put_done, spoiled, supplied, unmapped};
 ghost use Rattle.ahci_hba.specs.PoweringOn.{powered_on};
 ghost use Rattle.ahci_hba.specs.Queueing.{has_alone, is_idle, is_listening, waits};
 ghost use Rattle.ahci_hba.specs.Resetting.{signing};
@@ -68,17 +69,18 @@ pub fn a_move_takes_transitions<A: Allocator, S: SectorStore>(hba: &Hba<A, S>)
     ensures read { (bytes : List ℕ) → Takes hba.now.registers (supplied hba.now hba.now.work bytes).registers }
     ensures written { Takes hba.now.registers (put_done hba.now hba.now.work).registers }
     ensures unmapped { Takes hba.now.registers (unmapped hba.now hba.now.work).registers }
-    ensures signed { Takes hba.now.registers (signing hba.now).registers }
+    ensures spoiled { Takes hba.now.registers (spoiled hba.now hba.now.work).registers }
+    ensures signed { (kind : DeviceKind) → Takes hba.now.registers (signing hba.now kind).registers }
 {}
 
-/// The same where it fails a command.
+/// The same where it fails a command, or ends one with another status.
 pub fn a_failure_takes_transitions<A: Allocator, S: SectorStore>(
     old: &Hba<A, S>,
     new: &Hba<A, S>,
     slot: Slot,
 )
     ensures failed { (error lba : ℕ) → Fails slot error lba (own_in old.now slot lba) old.now new.now → Takes old.now.registers new.now.registers }
-    ensures refused { (error lba : ℕ) → Takes old.now.registers (refused_at old.now slot error lba).registers }
+    ensures ended { (status error lba : ℕ) → Takes old.now.registers (ended_at old.now slot status error lba).registers }
 {}
 
 /// Whatever transition the device takes, a slot is in PxCI after it exactly if it was there before and the transition doesn't answer its command,

@@ -21,7 +21,7 @@ pub use ending::Ending;
 pub use fault::HbaFault;
 pub use hba::Hba;
 pub use hba_command::Power;
-pub use hba_regs::{AccessSize, Capabilities, InterfaceError, Slot};
+pub use hba_regs::{AccessSize, Capabilities, DeviceKind, InterfaceError, Slot};
 pub use last_fis::LastFis;
 pub use step::Step;
 pub use want::Want;

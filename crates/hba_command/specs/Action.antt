@@ -1,7 +1,8 @@
 -- What the disk does with each command (ACS-3, by the commands' titles): the one table by which the controller acts.
 use Rattle.std.specs.Prelude.{ℕ, ◌*◌, Bool, true, false}
+use Rattle.hba_command.specs.Store.{blocks_of}
 use Rattle.hba_command.specs.declared.action.Action.{Action}
-use Rattle.hba_command.specs.declared.action.Action.TheVariants.{Queue, Sectors, Page, Flush, Reply, Control, Abort}
+use Rattle.hba_command.specs.declared.action.Action.TheVariants.{Queue, Sectors, Page, Store, Flush, Reply, Control, Abort}
 use Rattle.hba_command.specs.declared.log.Log.{Log}
 use Rattle.hba_command.specs.declared.log.Log.TheVariants as log
 use Rattle.hba_command.specs.declared.page.Page.{Page as Pages}
@@ -20,6 +21,10 @@ action_of (task.Verify span) = Reply (reply.Verified span)  -- READ VERIFY SECTO
 action_of (task.Flush a) = Flush a  -- FLUSH CACHE, with EXT or without
 action_of task.Identify = Page page.Identify Pio  -- IDENTIFY DEVICE
 action_of (task.ReadLog log p) = Page (page.Log log) p  -- READ LOG EXT, READ LOG DMA EXT
+action_of (task.ReadPage ready p) = Page (page.Disk ready) p  -- READ LOG EXT, READ LOG DMA EXT, SMART, READ BUFFER
+action_of (task.Store s p) = Store s p  -- WRITE BUFFER, with DMA or without, DATA SET MANAGEMENT
+action_of (task.Change c) = Reply (reply.Changed c)  -- SET FEATURES, SMART
+action_of task.SmartStatus = Reply reply.SmartStatus  -- SMART RETURN STATUS
 action_of (task.NativeMax a) = Reply (reply.NativeMax a)  -- READ NATIVE MAX ADDRESS, with EXT or without
 action_of task.PowerMode = Reply reply.PowerMode  -- CHECK POWER MODE
 action_of task.Idle = Reply (reply.Entered power.Idle)  -- IDLE, IDLE IMMEDIATE
@@ -33,19 +38,20 @@ action_of task.Unknown = Abort  -- every other command
 
 -- how many pages of 512 bytes a page stands for
 abbrev pub pages_in_log : Log → ℕ
-pages_in_log log.Directory = 1
 pages_in_log log.QueuedError = 1
-pages_in_log (log.IdentifyData pages) = pages.count
+pages_in_log (log.Pages l pages) = pages.count
 
 abbrev pub pages_of : Pages → ℕ
 pages_of page.Identify = 1
 pages_of (page.Log l) = pages_in_log l
+pages_of (page.Disk p) = 1
 
 -- how many bytes of data move
 abbrev pub moved_by : Action → ℕ
 moved_by (Queue q) = 512 * q.sectors
 moved_by (Sectors write span p) = 512 * span.sectors
 moved_by (Page page p) = 512 * pages_of page
+moved_by (Store s p) = 512 * blocks_of s
 moved_by (Flush a) = 0
 moved_by (Reply r) = 0
 moved_by (Control reset) = 0
@@ -56,6 +62,7 @@ abbrev pub is_write : Action → Bool
 is_write (Queue q) = q.write
 is_write (Sectors write span p) = write
 is_write (Page page p) = false
+is_write (Store s p) = true
 is_write (Flush a) = false
 is_write (Reply r) = false
 is_write (Control reset) = false

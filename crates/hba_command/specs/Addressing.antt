@@ -2,6 +2,8 @@
 -- ATA, "Register FIS - Device to Host"): for a command of 28 bits LBA 27:24 are device 3:0, and the bytes of LBA 47:24 are 0.
 use Rattle.std.specs.Prelude.{ℕ, ◌/◌, ◌%◌, ◌^◌}
 use Rattle.sata_fis.specs.Fields.{D2hFields}
+use Rattle.hba_command.specs.DiskPage.{page_addressing}
+use Rattle.hba_command.specs.Store.{store_addressing}
 use Rattle.hba_command.specs.declared.action.Action.{Action}
 use Rattle.hba_command.specs.declared.action.Action.TheVariants as action
 use Rattle.hba_command.specs.declared.addressing.Addressing.{Addressing}
@@ -22,6 +24,8 @@ reply_addressing reply.Done = Bits28
 reply_addressing reply.PowerMode = Bits28
 reply_addressing (reply.Entered mode) = Bits28
 reply_addressing reply.Diagnosed = Bits28
+reply_addressing (reply.Changed c) = Bits28
+reply_addressing reply.SmartStatus = Bits28
 reply_addressing reply.Packet = Bits28
 
 abbrev pub addressing_of : Action → Addressing
@@ -29,6 +33,8 @@ addressing_of (action.Queue q) = Bits48  -- READ FPDMA QUEUED, WRITE FPDMA QUEUE
 addressing_of (action.Sectors write span p) = span.addressing  -- READ SECTOR(S), READ DMA, WRITE SECTOR(S), WRITE DMA, with EXT or without
 addressing_of (action.Page page.Identify p) = Bits28  -- IDENTIFY DEVICE
 addressing_of (action.Page (page.Log log) p) = Bits48  -- READ LOG EXT, READ LOG DMA EXT
+addressing_of (action.Page (page.Disk ready) p) = page_addressing ready
+addressing_of (action.Store s p) = store_addressing s  -- WRITE BUFFER, with DMA or without, DATA SET MANAGEMENT
 addressing_of (action.Flush a) = a  -- FLUSH CACHE, with EXT or without
 addressing_of (action.Reply r) = reply_addressing r
 addressing_of (action.Control reset) = Bits28  -- no command

@@ -1,34 +1,65 @@
 -- The pages that the controller's disk answers with (ACS-3, "IDENTIFY DEVICE", "General Purpose Log directory", "NCQ Command
--- Error log"). Word w stands in bytes 2w and 2w + 1, the low one first.
-use Rattle.std.specs.Prelude.{ℕ, ◌+◌, ◌*◌, List, [], ◌∷◌, ◌++◌, replicate}
-use Rattle.std.specs.List.{replace_range}
-use Rattle.ncq_core.specs.Identify.{identify_page, word_bytes}
-
--- a page with a word at its place
-abbrev pub with_word : ℕ → ℕ → List ℕ → List ℕ
-with_word w value page = replace_range page (2 * w) (2 * w + 2) (word_bytes value)
+-- Error log").
+use Rattle.std.specs.Prelude.{ℕ, ◌+◌, ◌==◌, List, [], ◌∷◌, ◌++◌, replicate, if◌then◌else◌}
+use Rattle.ncq_core.specs.Identify.{identify_page}
+use Rattle.hba_command.specs.Words.{with_text, with_word}
+use Rattle.hba_command.specs.declared.device.Device.{Device}
+use Rattle.hba_command.specs.declared.identity.Identity.{Identity}
 
 -- a page with the same word at places one after the other
 abbrev pub with_cycle_times : List ℕ → List ℕ
 with_cycle_times page = with_word 68 120 (with_word 67 120 (with_word 66 120 (with_word 65 120 page)))
 
--- a page with what the controller's commands support (words 82 and 83) and have enabled (85 and 86): the Power Management feature set
--- (bit 3) and FLUSH CACHE (bit 12), which are mandatory, beside the port's FLUSH CACHE EXT (13) and 48-bit addresses (10); and READ LOG DMA EXT
--- in words 119 and 120 (bit 3; bit 14 is 1), which bit 15 of word 86 says are valid
-abbrev pub with_features : List ℕ → List ℕ
-with_features page =
-    with_word 120 0x4008 (with_word 119 0x4008 (with_word 86 0xB400 (with_word 85 0x0008 (with_word 83 0x7400 (with_word 82 0x0008 page)))))
+-- a page with what names the disk: serial number, firmware revision, model number, nominal media rotation rate
+abbrev pub with_identity : Identity → List ℕ → List ℕ
+with_identity i page = with_word 217 i.rotation (with_text 27 i.model 20 (with_text 23 i.firmware 4 (with_text 10 i.serial 10 page)))
 
--- the port's page, with the words by which a driver chooses a transfer mode: which of them are valid, multiword DMA modes 0 to 2,
--- PIO modes 3 and 4, cycle times of 120 ns, Ultra DMA modes 0 to 5, of which mode 5 is selected (profile)
-abbrev pub controller_page : ℕ → ℕ → List ℕ
-controller_page s d =
+-- word 82: what is supported: the SMART feature set (bit 0), the Power Management feature set (3), the volatile write cache (5) if the disk has one, read
+-- look-ahead (6), WRITE BUFFER (12) and READ BUFFER (13)
+abbrev pub supported : Device → ℕ
+supported d = 0x3049 + (if d.has_cache then 0x0020 else 0)
+
+-- word 85: what of that is enabled now; Power Management, WRITE BUFFER and READ BUFFER always are
+abbrev pub enabled : Device → ℕ
+enabled d = 0x3008 + (if d.smart then 0x0001 else 0) + (if d.cache then 0x0020 else 0) + (if d.look_ahead then 0x0040 else 0)
+
+-- word 86: further ones that are enabled now: the Advanced Power Management feature set (bit 3), and always 48-bit addresses (10), FLUSH CACHE (12),
+-- FLUSH CACHE EXT (13); words 119 and 120 are valid (15)
+abbrev pub further_enabled : Device → ℕ
+further_enabled d = if d.power_level == 0 then 0xB400 else 0xB408
+
+-- a page with what the controller's commands support: beside word 82 in word 83 the same as in word 86, with bit 14, which is 1; in word 84 SMART error
+-- logging (0), SMART self-test (1), general purpose logging (5), WRITE DMA FUA EXT (6); in word 119 READ LOG DMA EXT (3); bit 14 is 1 in each
+abbrev pub with_supported : Device → List ℕ → List ℕ
+with_supported d page = with_word 119 0x4008 (with_word 84 0x4063 (with_word 83 0x7408 (with_word 82 (supported d) page)))
+
+-- and what they have enabled now; word 91 has the level of Advanced Power Management
+abbrev pub with_enabled : Device → List ℕ → List ℕ
+with_enabled d page =
+    with_word 120 0x4008 (with_word 91 d.power_level (with_word 87 0x4063 (with_word 86 (further_enabled d) (with_word 85 (enabled d) page))))
+
+-- a page with further commands and logs: READ BUFFER DMA (word 69, bit 11) and WRITE BUFFER DMA (10), the SATA Phy Event Counters log (word 76,
+-- bit 10) beside NCQ, Gen2 and Gen1, DATA SET MANAGEMENT with at most eight blocks (word 105) and TRIM (word 169, bit 0)
+abbrev pub with_commands : List ℕ → List ℕ
+with_commands page = with_word 169 0x0001 (with_word 105 0x0008 (with_word 76 0x0506 (with_word 69 0x0C00 page)))
+
+-- a page with capabilities: no block of READ and WRITE MULTIPLE in word 47, whose high byte is 80h; word 49, DMA (bit 8), LBA (9), and IORDY (11), which
+-- may be disabled (10) and goes with PIO modes 3 and 4; bit 14 is 1 in words 48 and 50
+abbrev pub with_capabilities : List ℕ → List ℕ
+with_capabilities page = with_word 50 0x4000 (with_word 49 0x0F00 (with_word 48 0x4000 (with_word 47 0x8000 page)))
+
+-- the port's page, with what names the disk, and with the words by which a driver chooses a transfer mode: which of them are valid, multiword DMA modes
+-- 0 to 2, PIO modes 3 and 4, cycle times of 120 ns, Ultra DMA modes 0 to 5, of which mode 5 is selected (profile)
+abbrev pub controller_page : ℕ → ℕ → Device → List ℕ
+controller_page s d device =
     with_word 88 0x203F
-    (with_features (with_cycle_times (with_word 64 0x0003 (with_word 63 0x0007 (with_word 53 0x0006 (identify_page s d))))))
+    (with_commands (with_enabled device (with_supported device (with_cycle_times (with_word 64 0x0003 (with_word 63 0x0007 (with_word 53 0x0006
+    (with_capabilities (with_identity device.identity (identify_page s d))))))))))
 
--- version 1 in word 0, one page in the word of log 10h, and three in that of log 30h
+-- version 1 in word 0, and in the word of each log how many pages it has
 abbrev pub directory_page : List ℕ
-directory_page = with_word 0x30 3 (with_word 0x10 1 (with_word 0x00 1 (replicate 512 0)))
+directory_page =
+    with_word 0x30 3 (with_word 0x11 1 (with_word 0x10 1 (with_word 0x07 1 (with_word 0x04 2 (with_word 0x03 1 (with_word 0x00 1 (replicate 512 0)))))))
 
 -- bit 7 of byte 0, NQ: no queued command has failed; byte 511 makes the sum 0 modulo 256
 abbrev pub not_queued_page : List ℕ

@@ -37,6 +37,8 @@ after_reply reply.Done p = p
 after_reply (reply.NativeMax a) p = p
 after_reply reply.PowerMode p = p
 after_reply reply.Diagnosed p = p
+after_reply (reply.Changed c) p = p
+after_reply reply.SmartStatus p = p
 after_reply reply.Packet p = p
 
 -- a command that needs the medium, whether it succeeds or fails: the device is Active from then on
@@ -47,12 +49,15 @@ reply_needs_medium reply.Done = false
 reply_needs_medium (reply.NativeMax a) = false
 reply_needs_medium reply.PowerMode = false
 reply_needs_medium reply.Diagnosed = false
+reply_needs_medium (reply.Changed c) = false
+reply_needs_medium reply.SmartStatus = false
 reply_needs_medium reply.Packet = false
 
 abbrev pub needs_medium : Action → Bool
 needs_medium (action.Queue q) = true
 needs_medium (action.Sectors write span p) = true
 needs_medium (action.Page page p) = false
+needs_medium (action.Store s p) = false
 needs_medium (action.Flush a) = true
 needs_medium (action.Reply r) = reply_needs_medium r
 needs_medium (action.Control reset) = false

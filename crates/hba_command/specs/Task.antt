@@ -1,15 +1,20 @@
 -- What a command FIS asks of the disk (ACS-3, by the commands' titles; Serial ATA, "Register FIS - Host to Device").
-use Rattle.std.specs.Prelude.{ℕ, ◌+◌, ◌*◌, ◌/◌, ◌%◌, ◌^◌, Bool, ◌==◌, ◌&&◌, ◌||◌, not, nat_le, Option, Some, None, if◌then◌else◌}
+use Rattle.std.specs.Prelude.{ℕ, ◌+◌, ◌*◌, ◌/◌, ◌%◌, ◌^◌, Bool, true, false, ◌==◌, ◌&&◌, ◌||◌, not, nat_le, Option, Some, None, if◌then◌else◌}
 use Rattle.sata_fis.specs.Command.{queued_in}
 use Rattle.sata_fis.specs.Fields.{H2dFields, QueuedFields}
 use Rattle.sata_fis.specs.Places.{bit}
+use Rattle.hba_command.specs.LogPages.{LogPagesFields}
 use Rattle.hba_command.specs.Span.{SpanFields}
 use Rattle.hba_command.specs.declared.addressing.Addressing.TheVariants.{Bits28, Bits48}
-use Rattle.hba_command.specs.declared.log.Log.TheVariants.{Directory, IdentifyData, QueuedError}
+use Rattle.hba_command.specs.declared.change.Change.TheVariants.{WriteCache, LookAhead, PowerLevel, Reverting, Smart, Test, NothingSmart}
+use Rattle.hba_command.specs.declared.disk_page.DiskPage.TheVariants.{Directory, Errors, Tests, PhyEvents, SmartData, SmartThresholds, SmartDirectory, SmartErrors, SmartTests, Buffer}
+use Rattle.hba_command.specs.declared.log.Log.TheVariants.{Pages, QueuedError}
+use Rattle.hba_command.specs.declared.log.LongLog.TheVariants.{Statistics, IdentifyData}
 use Rattle.hba_command.specs.declared.protocol.Protocol.{Protocol}
 use Rattle.hba_command.specs.declared.protocol.Protocol.TheVariants.{Pio, Dma}
+use Rattle.hba_command.specs.declared.store.Store.TheVariants as store
 use Rattle.hba_command.specs.declared.task.Task.{Task}
-use Rattle.hba_command.specs.declared.task.Task.TheVariants.{Queue, Read, Write, Verify, Flush, Identify, ReadLog, NativeMax, PowerMode, Idle, Standby, Sleep, Diagnose, Nothing, Control, Packet, Unknown}
+use Rattle.hba_command.specs.declared.task.Task.TheVariants.{Queue, Read, Write, Verify, Flush, Identify, ReadLog, ReadPage, Store, Change, SmartStatus, NativeMax, PowerMode, Idle, Standby, Sleep, Diagnose, Nothing, Control, Packet, Unknown}
 
 -- a count of 0 means the most that the field can name and one
 abbrev pub counted : ℕ → ℕ → ℕ
@@ -30,26 +35,91 @@ log_of f = f.lba % 256
 abbrev pub first_page : H2dFields → ℕ
 first_page f = f.lba / 2 ^ 8 % 256 + 256 * (f.lba / 2 ^ 32 % 256)
 
--- log 00h is the directory, log 10h the NCQ Command Error log, log 30h the IDENTIFY DEVICE data log; there is no other
+-- log 00h is the directory, log 03h the Extended Comprehensive SMART Error log, log 04h the Device Statistics log, log 07h the Extended SMART
+-- Self-Test log, log 10h the NCQ Command Error log, log 11h the SATA Phy Event Counters log, log 30h the IDENTIFY DEVICE data log; there is no other
 abbrev pub pages_in : ℕ → ℕ
-pages_in log = if log == 0x00 || log == 0x10 then 1 else (if log == 0x30 then 3 else 0)
+pages_in log =
+    if log == 0x00 || log == 0x03 || log == 0x07 || log == 0x10 || log == 0x11 then 1
+    else (if log == 0x04 then 2 else (if log == 0x30 then 3 else 0))
 
 -- the count is of pages that the log has, at least one
 abbrev pub is_in_log : H2dFields → Bool
 is_in_log f = not (f.count == 0) && nat_le (first_page f + f.count) (pages_in (log_of f))
 
+abbrev pub pages_asked : H2dFields → LogPagesFields
+pages_asked f = record { first = first_page f; count = f.count }
+
 abbrev pub log_task : H2dFields → Protocol → Task
 log_task f p =
     if not (is_in_log f) then Unknown
-    else (if log_of f == 0x00 then ReadLog Directory p
+    else (if log_of f == 0x00 then ReadPage Directory p
+    else (if log_of f == 0x03 then ReadPage Errors p
+    else (if log_of f == 0x04 then ReadLog (Pages Statistics (pages_asked f)) p
+    else (if log_of f == 0x07 then ReadPage Tests p
     else (if log_of f == 0x10 then ReadLog QueuedError p
-    else (if log_of f == 0x30 then ReadLog (IdentifyData (record { first = first_page f; count = f.count })) p
-    else Unknown)))
+    else (if log_of f == 0x11 then ReadPage PhyEvents p
+    else (if log_of f == 0x30 then ReadLog (Pages IdentifyData (pages_asked f)) p
+    else Unknown)))))))
 
 -- a transfer mode that the disk has, by the count of SET FEATURES (ACS-3, "Set transfer mode"): the default PIO mode, PIO modes 0 to 4,
 -- multiword DMA modes 0 to 2, Ultra DMA modes 0 to 5
 abbrev pub is_mode : ℕ → Bool
 is_mode m = m == 0x00 || m == 0x01 || (nat_le 0x08 m && nat_le m 0x0C) || (nat_le 0x20 m && nat_le m 0x22) || (nat_le 0x40 m && nat_le m 0x45)
+
+-- SET FEATURES, by its subcommand: the level of Advanced Power Management is 01h to FEh
+abbrev pub features_task : (subcommand count : ℕ) → Task
+features_task subcommand count =
+    if subcommand == 0x02 then Change (WriteCache true)  -- enable the volatile write cache
+    else (if subcommand == 0x03 && is_mode (count % 256) then Nothing  -- set transfer mode
+    else (if subcommand == 0x05 && not (count % 256 == 0) && not (count % 256 == 0xFF) then Change (PowerLevel (count % 256))  -- enable the APM feature set
+    else (if subcommand == 0x55 then Change (LookAhead false)  -- disable read look-ahead
+    else (if subcommand == 0x66 then Change (Reverting false)  -- disable reverting to defaults
+    else (if subcommand == 0x82 then Change (WriteCache false)  -- disable the volatile write cache
+    else (if subcommand == 0x85 then Change (PowerLevel 0)  -- disable the APM feature set
+    else (if subcommand == 0xAA then Change (LookAhead true)  -- enable read look-ahead
+    else (if subcommand == 0xCC then Change (Reverting true)  -- enable reverting to defaults
+    else Unknown))))))))
+
+-- SMART EXECUTE OFF-LINE IMMEDIATE, by its subcommand: the off-line routine and the abort of a self-test have nothing to do; the short and the extended
+-- self-test, off-line and captive
+abbrev pub offline_task : ℕ → Task
+offline_task subcommand =
+    if subcommand == 0x00 || subcommand == 0x7F then Change NothingSmart
+    else (if subcommand == 0x01 || subcommand == 0x02 || subcommand == 0x81 || subcommand == 0x82 then Change (Test subcommand)
+    else Unknown)
+
+-- SMART READ LOG, of one page
+abbrev pub smart_log_task : ℕ → Task
+smart_log_task log =
+    if log == 0x00 then ReadPage SmartDirectory Pio
+    else (if log == 0x01 then ReadPage SmartErrors Pio
+    else (if log == 0x06 then ReadPage SmartTests Pio
+    else Unknown))
+
+-- SMART, by its subcommand, with LBA 7:0 and the count
+abbrev pub smart_task : (subcommand low count : ℕ) → Task
+smart_task subcommand low count =
+    if subcommand == 0xD0 then ReadPage SmartData Pio  -- SMART READ DATA
+    else (if subcommand == 0xD1 then ReadPage SmartThresholds Pio  -- SMART READ THRESHOLDS
+    else (if subcommand == 0xD2 && (count % 256 == 0x00 || count % 256 == 0xF1) then Change NothingSmart  -- SMART ENABLE/DISABLE ATTRIBUTE AUTOSAVE
+    else (if subcommand == 0xD4 then offline_task low  -- SMART EXECUTE OFF-LINE IMMEDIATE
+    else (if subcommand == 0xD5 && count % 256 == 1 then smart_log_task low  -- SMART READ LOG
+    else (if subcommand == 0xD8 then Change (Smart true)  -- SMART ENABLE OPERATIONS
+    else (if subcommand == 0xD9 then Change (Smart false)  -- SMART DISABLE OPERATIONS
+    else (if subcommand == 0xDA then SmartStatus  -- SMART RETURN STATUS
+    else Unknown)))))))
+
+-- by the code of a command of settings, of SMART, whose LBA 23:8 is C24Fh, or of data that are no sectors
+abbrev pub settings_task : ℕ → H2dFields → Task
+settings_task code f =
+    if code == 0x06 && f.features % 256 % 2 == 1 && nat_le 1 f.count && nat_le f.count 8 then Store (store.Trim f.count) Dma  -- DATA SET MANAGEMENT with TRIM
+    else (if code == 0xB0 && f.lba / 2 ^ 8 % 2 ^ 16 == 0xC24F then smart_task (f.features % 256) (f.lba % 256) f.count  -- SMART
+    else (if code == 0xE4 then ReadPage Buffer Pio  -- READ BUFFER
+    else (if code == 0xE8 then Store store.Buffer Pio  -- WRITE BUFFER
+    else (if code == 0xE9 then ReadPage Buffer Dma  -- READ BUFFER DMA
+    else (if code == 0xEB then Store store.Buffer Dma  -- WRITE BUFFER DMA
+    else (if code == 0xEF then features_task (f.features % 256) f.count  -- SET FEATURES
+    else Unknown))))))
 
 -- by the code of a command that is not queued
 abbrev pub task_by : ℕ → H2dFields → Task
@@ -62,6 +132,7 @@ task_by code f =
     else (if code == 0x30 then Write (short_span f) Pio  -- WRITE SECTOR(S)
     else (if code == 0x34 then Write (long_span f) Pio  -- WRITE SECTOR(S) EXT
     else (if code == 0x35 then Write (long_span f) Dma  -- WRITE DMA EXT
+    else (if code == 0x3D then Write (long_span f) Dma  -- WRITE DMA FUA EXT
     else (if code == 0x40 then Verify (short_span f)  -- READ VERIFY SECTOR(S)
     else (if code == 0x42 then Verify (long_span f)  -- READ VERIFY SECTOR(S) EXT
     else (if code == 0x47 then log_task f Dma  -- READ LOG DMA EXT
@@ -76,9 +147,8 @@ task_by code f =
     else (if code == 0xE7 then Flush Bits28  -- FLUSH CACHE
     else (if code == 0xEA then Flush Bits48  -- FLUSH CACHE EXT
     else (if code == 0xEC then Identify  -- IDENTIFY DEVICE
-    else (if code == 0xEF && f.features % 256 == 0x03 && is_mode (f.count % 256) then Nothing  -- SET FEATURES, set transfer mode
     else (if code == 0xF8 then NativeMax Bits28  -- READ NATIVE MAX ADDRESS
-    else Unknown)))))))))))))))))))))))
+    else settings_task code f)))))))))))))))))))))))
 
 -- a queued command, else one that is not
 abbrev pub command_task : H2dFields → Option QueuedFields → Task

@@ -8,6 +8,7 @@ use crate::power::Power;
 use crate::protocol::Protocol;
 use crate::reply::Reply;
 use crate::span::Span;
+use crate::store::{Store, blocks_of};
 use crate::task::Task;
 use sata_fis::Queued;
 
@@ -24,6 +25,8 @@ pub enum Action {
     },
     /// It sends a page.
     Page(Page, Protocol),
+    /// It takes data that are no sectors.
+    Store(Store, Protocol),
     /// It writes its cache.
     Flush(Addressing),
     /// It answers, and moves nothing.
@@ -59,6 +62,10 @@ pub fn action_of(task: &Task) -> Action
         Task::Flush(addressing) => Action::Flush(*addressing),
         Task::Identify => Action::Page(Page::Identify, Protocol::Pio),
         Task::ReadLog(log, protocol) => Action::Page(Page::Log(*log), *protocol),
+        Task::ReadPage(page, protocol) => Action::Page(Page::Disk(*page), *protocol),
+        Task::Store(store, protocol) => Action::Store(*store, *protocol),
+        Task::Change(change) => Action::Reply(Reply::Changed(*change)),
+        Task::SmartStatus => Action::Reply(Reply::SmartStatus),
         Task::NativeMax(addressing) => Action::Reply(Reply::NativeMax(*addressing)),
         Task::PowerMode => Action::Reply(Reply::PowerMode),
         Task::Idle => Action::Reply(Reply::Entered(Power::Idle)),
@@ -80,6 +87,7 @@ pub fn moved_by(action: &Action) -> u32
         Action::Queue(queued) => 512 * queued.sectors,
         Action::Sectors { span, .. } => 512 * span.sectors,
         Action::Page(page, _) => 512 * pages_of(page),
+        Action::Store(store, _) => 512 * blocks_of(store),
         Action::Flush(_) | Action::Reply(_) | Action::Control { .. } | Action::Abort => 0,
     }
 }
@@ -91,6 +99,7 @@ pub fn is_write(action: &Action) -> bool
     match action {
         Action::Queue(queued) => queued.write,
         Action::Sectors { write, .. } => *write,
+        Action::Store(_, _) => true,
         Action::Page(_, _) | Action::Flush(_) | Action::Reply(_) | Action::Control { .. } => false,
         Action::Abort => false,
     }

@@ -2,8 +2,10 @@ ghost use Rattle.std.specs.Prelude.{◌≡◌, ◌<◌, ◌^◌};
 ghost use Rattle.hba_command.specs.Addressing.{addressed, addressing_of, reply_addressing};
 
 use crate::action::Action;
+use crate::disk_page::page_addressing;
 use crate::page::Page;
 use crate::reply::Reply;
+use crate::store::store_addressing;
 use sata_fis::D2h;
 
 /// How many bits the LBA of a command has (ACS-3, "28-bit and 48-bit commands"), by which its answer names an LBA too.
@@ -38,7 +40,8 @@ fn reply_addressing(reply: &Reply) -> Addressing
         Reply::Verified(span) => span.addressing,
         Reply::NativeMax(addressing) => *addressing,
         Reply::Done | Reply::PowerMode | Reply::Entered(_) => Addressing::Bits28,
-        Reply::Diagnosed | Reply::Packet => Addressing::Bits28,
+        Reply::Diagnosed | Reply::Packet | Reply::Changed(_) | Reply::SmartStatus =>
+            Addressing::Bits28,
     }
 }
 
@@ -51,6 +54,8 @@ pub fn addressing_of(action: &Action) -> Addressing
         Action::Sectors { span, .. } => span.addressing,
         Action::Page(Page::Identify, _) => Addressing::Bits28,
         Action::Page(Page::Log(_), _) => Addressing::Bits48,
+        Action::Page(Page::Disk(page), _) => page_addressing(*page),
+        Action::Store(store, _) => store_addressing(store),
         Action::Flush(addressing) => *addressing,
         Action::Reply(reply) => reply_addressing(reply),
         Action::Control { .. } | Action::Abort => Addressing::Bits28,

@@ -6,34 +6,50 @@
 
 mod action;
 mod addressing;
+mod change;
+mod device;
+mod disk_page;
+mod disk_pages;
 mod entry;
 mod fis;
 mod header;
-mod identify_log;
-mod identify_pages;
+mod identity;
 mod log;
+mod log_pages;
+mod long_logs;
 mod page;
 mod pages;
 mod power;
 mod protocol;
 mod reply;
 mod span;
+mod store;
 mod task;
 mod tasks;
+mod words;
 
 pub use action::{Action, action_of, is_write, moved_by};
 pub use addressing::{Addressing, addressed, addressing_of};
+pub use change::Change;
+pub use device::{
+    Device, after_srst, after_store, allows, allows_page, device_after_reply, named, reset_device,
+    with_cache,
+};
+pub use disk_page::DiskPage;
+pub use disk_pages::ready_page;
 pub use entry::PrdEntry;
 pub use fis::command_fis;
 pub use header::CommandHeader;
-pub use identify_log::identify_log_page;
-pub use identify_pages::IdentifyPages;
-pub use log::Log;
+pub use identity::Identity;
+pub use log::{Log, LongLog};
+pub use log_pages::LogPages;
+pub use long_logs::long_log_page;
 pub use page::Page;
-pub use pages::{controller_page, directory_page, not_queued_page};
+pub use pages::{controller_page, not_queued_page};
 pub use power::{Power, after_reply, after_reset, is_awake, needs_medium, power_count};
 pub use protocol::Protocol;
 pub use reply::Reply;
 pub use span::Span;
+pub use store::{Store, blocks_of, leaves_disk};
 pub use task::Task;
 pub use tasks::task_of;

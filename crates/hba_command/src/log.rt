@@ -1,12 +1,19 @@
-use crate::identify_pages::IdentifyPages;
+use crate::log_pages::LogPages;
 
-/// The logs that the disk has (ACS-3, "General Purpose Log directory", "NCQ Command Error log" and "IDENTIFY DEVICE data log").
+/// The logs of several pages (ACS-3, "Device Statistics log" and "IDENTIFY DEVICE data log").
+#[derive(Clone, Copy, Debug, PartialEq, Eq)]
+pub enum LongLog {
+    /// Log 04h, of two pages.
+    Statistics,
+    /// Log 30h, of three pages.
+    IdentifyData,
+}
+
+/// The logs for which the disk is asked more than a page that it has ready.
 #[derive(Clone, Copy, Debug, PartialEq, Eq)]
 pub enum Log {
-    /// Log 00h, of one page: how many pages each log has.
-    Directory,
-    /// Log 10h, of one page: which queued command failed.
+    /// Log 10h, of one page: which queued command failed (ACS-3, "NCQ Command Error log").
     QueuedError,
-    /// Log 30h, of three pages: some of them.
-    IdentifyData(IdentifyPages),
+    /// Some pages of a log of several.
+    Pages(LongLog, LogPages),
 }

@@ -1,6 +1,7 @@
 ghost use Rattle.std.specs.Prelude.{◌≡◌, ◌≤◌};
 ghost use Rattle.hba_command.specs.Action.{pages_in_log, pages_of};
 
+use crate::disk_page::DiskPage;
 use crate::log::Log;
 
 /// Pages of 512 bytes that the disk answers with (ACS-3, by the commands' titles).
@@ -10,6 +11,8 @@ pub enum Page {
     Identify,
     /// READ LOG EXT and READ LOG DMA EXT, of pages that there are.
     Log(Log),
+    /// A page that the disk has ready.
+    Disk(DiskPage),
 }
 
 /// How many pages are read of a log.
@@ -18,8 +21,8 @@ pub fn pages_in_log(log: &Log) -> u32
     ensures most { result ≤ 3 }
 {
     match log {
-        Log::Directory | Log::QueuedError => 1,
-        Log::IdentifyData(pages) => pages.count,
+        Log::QueuedError => 1,
+        Log::Pages(_, pages) => pages.count,
     }
 }
 
@@ -29,7 +32,7 @@ pub fn pages_of(page: &Page) -> u32
     ensures most { result ≤ 3 }
 {
     match page {
-        Page::Identify => 1,
+        Page::Identify | Page::Disk(_) => 1,
         Page::Log(log) => pages_in_log(log),
     }
 }

@@ -1,17 +1,12 @@
 //! The pages that the controller's disk answers with (ACS-3).
 
-ghost use Rattle.std.specs.Prelude.{◌≡◌, ◌<◌, ◌≤◌};
-ghost use Rattle.hba_command.specs.Pages.{controller_page, directory_page, not_queued_page, with_cycle_times, with_features, with_word};
+ghost use Rattle.std.specs.Prelude.{◌≡◌, ◌≤◌};
+ghost use Rattle.hba_command.specs.Pages.{controller_page, directory_page, enabled, further_enabled, not_queued_page, supported, with_capabilities, with_commands, with_cycle_times, with_enabled, with_identity, with_supported};
 
+use crate::device::Device;
+use crate::identity::Identity;
+use crate::words::{put_text, put_word};
 use ncq_core::identify_page;
-
-/// Puts a word into a page, its low byte first.
-pub(crate) fn put_word(page: &mut [u8; 512], number: usize, word: u16)
-    requires { number < 256 }
-    ensures { page.new ≡ with_word number word page.old }
-{
-    page[2 * number..2 * number + 2].copy_from_slice(&word.to_le_bytes());
-}
 
 /// Puts the cycle times of multiword DMA and PIO into a page, in nanoseconds.
 fn put_cycle_times(page: &mut [u8; 512])
@@ -23,42 +18,117 @@ fn put_cycle_times(page: &mut [u8; 512])
     put_word(page, 68, 120);
 }
 
-/// Puts the feature sets and commands that are supported, and those that are enabled, into a page.
-fn put_features(page: &mut [u8; 512])
-    ensures { page.new ≡ with_features page.old }
+/// Puts what names the disk into a page.
+fn put_identity(page: &mut [u8; 512], identity: &Identity)
+    ensures { page.new ≡ with_identity identity.now page.old }
 {
-    put_word(page, 82, 0x0008); // supported: the Power Management feature set
-    put_word(page, 83, 0x7400); // FLUSH CACHE EXT, FLUSH CACHE and 48-bit addresses
-    put_word(page, 85, 0x0008); // enabled: the same
-    put_word(page, 86, 0xB400); // and words 119 and 120 are valid
-    put_word(page, 119, 0x4008); // supported: READ LOG DMA EXT
-    put_word(page, 120, 0x4008); // enabled: the same
+    put_text(page, 10, &identity.serial, 10);
+    put_text(page, 23, &identity.firmware, 4);
+    put_text(page, 27, &identity.model, 20);
+    put_word(page, 217, identity.rotation);
 }
 
-/// What IDENTIFY DEVICE reads through the controller: the page of the port's disk, of so many sectors and 1 to 32 tags, with the
-/// words by which drivers choose a transfer mode (ACS-3, "IDENTIFY DEVICE").
-pub fn controller_page(sectors: u32, depth: u32) -> [u8; 512]
+/// Puts capabilities into a page.
+fn put_capabilities(page: &mut [u8; 512])
+    ensures { page.new ≡ with_capabilities page.old }
+{
+    put_word(page, 47, 0x8000); // no READ and WRITE MULTIPLE; the high byte is 80h
+    put_word(page, 48, 0x4000); // bit 14 is 1
+    put_word(page, 49, 0x0F00); // IORDY, which may be disabled, LBA, DMA
+    put_word(page, 50, 0x4000); // bit 14 is 1
+}
+
+/// Word 82: the feature sets and commands that are supported.
+fn supported(device: &Device) -> u16
+    ensures { result ≡ supported device.now }
+{
+    0x3049 + if device.has_cache { 0x0020 } else { 0 }
+}
+
+/// Word 85: those that are enabled.
+fn enabled(device: &Device) -> u16
+    ensures { result ≡ enabled device.now }
+{
+    let smart = if device.smart { 0x0001 } else { 0 };
+    let cache = if device.cache { 0x0020 } else { 0 };
+    let look_ahead = if device.look_ahead { 0x0040 } else { 0 };
+    0x3008 + smart + cache + look_ahead
+}
+
+/// Word 86: further ones that are enabled; words 119 and 120 are valid.
+fn further_enabled(device: &Device) -> u16
+    ensures { result ≡ further_enabled device.now }
+{
+    if device.power_level == 0 {
+        0xB400
+    } else {
+        0xB408
+    }
+}
+
+/// Puts the feature sets and commands that are supported into a page.
+fn put_supported(page: &mut [u8; 512], device: &Device)
+    ensures { page.new ≡ with_supported device.now page.old }
+{
+    put_word(page, 82, supported(device));
+    put_word(page, 83, 0x7408); // FLUSH CACHE EXT, FLUSH CACHE, 48-bit addresses, Advanced Power Management
+    put_word(page, 84, 0x4063); // WRITE DMA FUA EXT, general purpose logging, SMART self-test, SMART error logging
+    put_word(page, 119, 0x4008); // READ LOG DMA EXT
+}
+
+/// Puts those that are enabled now into a page.
+fn put_enabled(page: &mut [u8; 512], device: &Device)
+    ensures { page.new ≡ with_enabled device.now page.old }
+{
+    put_word(page, 85, enabled(device));
+    put_word(page, 86, further_enabled(device));
+    put_word(page, 87, 0x4063);
+    put_word(page, 91, u16::from(device.power_level));
+    put_word(page, 120, 0x4008);
+}
+
+/// Puts further commands and logs that are supported into a page.
+fn put_commands(page: &mut [u8; 512])
+    ensures { page.new ≡ with_commands page.old }
+{
+    put_word(page, 69, 0x0C00); // READ BUFFER DMA and WRITE BUFFER DMA
+    put_word(page, 76, 0x0506); // NCQ, Gen2, Gen1, and the SATA Phy Event Counters log
+    put_word(page, 105, 0x0008); // DATA SET MANAGEMENT: at most eight blocks
+    put_word(page, 169, 0x0001); // and its TRIM
+}
+
+/// What IDENTIFY DEVICE reads through the controller: the page of the port's disk, of so many sectors and 1 to 32 tags, with what names the disk,
+/// the words by which drivers choose a transfer mode, and what is supported and enabled now (ACS-3, "IDENTIFY DEVICE").
+pub fn controller_page(sectors: u32, depth: u32, device: &Device) -> [u8; 512]
     requires deep { 1 ≤ depth }
     requires shallow { depth ≤ 32 }
-    ensures { result ≡ controller_page sectors depth }
+    ensures { result ≡ controller_page sectors depth device.now }
 {
     let mut page = identify_page(sectors, depth);
+    put_identity(&mut page, &device.identity);
+    put_capabilities(&mut page);
     put_word(&mut page, 53, 0x0006); // words 64 to 70 and 88 are valid
     put_word(&mut page, 63, 0x0007); // multiword DMA modes 0 to 2
     put_word(&mut page, 64, 0x0003); // PIO modes 3 and 4
     put_cycle_times(&mut page);
-    put_features(&mut page);
+    put_supported(&mut page, device);
+    put_enabled(&mut page, device);
+    put_commands(&mut page);
     put_word(&mut page, 88, 0x203F); // Ultra DMA modes 0 to 5, and mode 5 is selected
     page
 }
 
-/// What READ LOG EXT reads of log 00h: version 1, and log 10h has one page, log 30h three (ACS-3, "General Purpose Log directory").
-pub fn directory_page() -> [u8; 512]
+/// What READ LOG EXT reads of log 00h: version 1, and how many pages each log has (ACS-3, "General Purpose Log directory").
+pub(crate) fn directory_page() -> [u8; 512]
     ensures { result ≡ directory_page }
 {
     let mut page = [0; 512];
     put_word(&mut page, 0x00, 0x0001);
+    put_word(&mut page, 0x03, 0x0001);
+    put_word(&mut page, 0x04, 0x0002);
+    put_word(&mut page, 0x07, 0x0001);
     put_word(&mut page, 0x10, 0x0001);
+    put_word(&mut page, 0x11, 0x0001);
     put_word(&mut page, 0x30, 0x0003);
     page
 }

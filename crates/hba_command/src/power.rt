@@ -58,6 +58,7 @@ pub fn after_reply(reply: &Reply, power: Power) -> Power
         Reply::Verified(_) => Power::Active,
         Reply::Done | Reply::NativeMax(_) | Reply::PowerMode | Reply::Diagnosed | Reply::Packet =>
             power,
+        Reply::Changed(_) | Reply::SmartStatus => power,
     }
 }
 
@@ -68,7 +69,7 @@ fn reply_needs_medium(reply: &Reply) -> bool
     match reply {
         Reply::Verified(_) => true,
         Reply::Entered(_) | Reply::Done | Reply::NativeMax(_) | Reply::PowerMode => false,
-        Reply::Diagnosed | Reply::Packet => false,
+        Reply::Diagnosed | Reply::Packet | Reply::Changed(_) | Reply::SmartStatus => false,
     }
 }
 
@@ -79,6 +80,6 @@ pub fn needs_medium(action: &Action) -> bool
     match action {
         Action::Queue(_) | Action::Sectors { .. } | Action::Flush(_) => true,
         Action::Reply(reply) => reply_needs_medium(reply),
-        Action::Page(_, _) | Action::Control { .. } | Action::Abort => false,
+        Action::Page(_, _) | Action::Store(_, _) | Action::Control { .. } | Action::Abort => false,
     }
 }

@@ -1,4 +1,5 @@
 use crate::addressing::Addressing;
+use crate::change::Change;
 use crate::power::Power;
 use crate::span::Span;
 
@@ -15,6 +16,10 @@ pub enum Reply {
     PowerMode,
     /// The command is done, and the device is in this power mode.
     Entered(Power),
+    /// The change is made, or the command is aborted if it isn't possible.
+    Changed(Change),
+    /// No attribute of SMART has exceeded its threshold; aborted while SMART operations are disabled.
+    SmartStatus,
     /// The signature of a disk: the device has passed its diagnostic.
     Diagnosed,
     /// The command is aborted with the signature of a disk.

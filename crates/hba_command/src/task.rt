@@ -1,7 +1,10 @@
 use crate::addressing::Addressing;
+use crate::change::Change;
+use crate::disk_page::DiskPage;
 use crate::log::Log;
 use crate::protocol::Protocol;
 use crate::span::Span;
+use crate::store::Store;
 use sata_fis::Queued;
 
 /// What a command FIS asks of the disk (ACS-3, by the commands' titles).
@@ -11,7 +14,7 @@ pub enum Task {
     Queue(Queued),
     /// READ SECTOR(S), READ DMA, with EXT or without.
     Read(Span, Protocol),
-    /// WRITE SECTOR(S), WRITE DMA, with EXT or without.
+    /// WRITE SECTOR(S), WRITE DMA, with EXT or without, and WRITE DMA FUA EXT.
     Write(Span, Protocol),
     /// READ VERIFY SECTOR(S), with EXT or without.
     Verify(Span),
@@ -19,8 +22,16 @@ pub enum Task {
     Flush(Addressing),
     /// IDENTIFY DEVICE.
     Identify,
-    /// READ LOG EXT and READ LOG DMA EXT, of one page that there is.
+    /// READ LOG EXT and READ LOG DMA EXT, of pages that there are and that the disk hasn't ready.
     ReadLog(Log, Protocol),
+    /// READ LOG EXT, READ LOG DMA EXT, SMART and READ BUFFER, of a page that the disk has ready.
+    ReadPage(DiskPage, Protocol),
+    /// WRITE BUFFER, with DMA or without, and DATA SET MANAGEMENT.
+    Store(Store, Protocol),
+    /// SET FEATURES, SMART ENABLE OPERATIONS and its kin: what is changed.
+    Change(Change),
+    /// SMART RETURN STATUS.
+    SmartStatus,
     /// READ NATIVE MAX ADDRESS, with EXT or without: the LBA of the last sector is answered.
     NativeMax(Addressing),
     /// CHECK POWER MODE: the count tells the power mode.

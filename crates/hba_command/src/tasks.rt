@@ -1,13 +1,16 @@
 //! The commands by their codes (ACS-3).
 
 ghost use Rattle.std.specs.Prelude.{◌≡◌, ◌%◌, ◌<◌, ◌^◌};
-ghost use Rattle.hba_command.specs.Task.{first_page, is_mode, log_task, long_span, pages_in, short_span, task_by, task_of};
+ghost use Rattle.hba_command.specs.Task.{features_task, first_page, is_mode, log_task, long_span, offline_task, pages_in, settings_task, short_span, smart_log_task, smart_task, task_by, task_of};
 
 use crate::addressing::Addressing;
-use crate::identify_pages::IdentifyPages;
-use crate::log::Log;
+use crate::change::Change;
+use crate::disk_page::DiskPage;
+use crate::log::{Log, LongLog};
+use crate::log_pages::LogPages;
 use crate::protocol::Protocol;
 use crate::span::Span;
+use crate::store::Store;
 use crate::task::Task;
 use sata_fis::{H2d, is_set, queued};
 
@@ -42,7 +45,8 @@ fn pages_in(log: u64) -> u32
     ensures { result ≡ pages_in log }
 {
     match log {
-        0x00 | 0x10 => 1,
+        0x00 | 0x03 | 0x07 | 0x10 | 0x11 => 1,
+        0x04 => 2,
         0x30 => 3,
         _ => 0,
     }
@@ -66,9 +70,21 @@ fn log_task(h2d: &H2d, protocol: Protocol) -> Task
         return Task::Unknown;
     }
     match log {
-        0x00 => Task::ReadLog(Log::Directory, protocol),
+        0x00 => Task::ReadPage(DiskPage::Directory, protocol),
+        0x03 => Task::ReadPage(DiskPage::Errors, protocol),
+        0x04 => Task::ReadLog(
+            Log::Pages(LongLog::Statistics, LogPages { first, count }),
+            protocol,
+        ),
+        0x07 => Task::ReadPage(DiskPage::Tests, protocol),
         0x10 => Task::ReadLog(Log::QueuedError, protocol),
-        0x30 => Task::ReadLog(Log::IdentifyData(IdentifyPages { first, count }), protocol),
+        0x11 => Task::ReadPage(DiskPage::PhyEvents, protocol),
+        0x30 => {
+            Task::ReadLog(
+                Log::Pages(LongLog::IdentifyData, LogPages { first, count }),
+                protocol,
+            )
+        }
         _ => Task::Unknown,
     }
 }
@@ -79,6 +95,87 @@ fn is_mode(count: u16) -> bool
     ensures { result ≡ is_mode (count % 256) }
 {
     matches!(count % 256, 0x00 | 0x01 | 0x08..=0x0C | 0x20..=0x22 | 0x40..=0x45)
+}
+
+/// SET FEATURES, by its subcommand.
+fn features_task(subcommand: u16, count: u16) -> Task
+    ensures { result ≡ features_task subcommand count }
+{
+    match subcommand {
+        0x02 => Task::Change(Change::WriteCache(true)),
+        0x03 if is_mode(count) => Task::Nothing, // set transfer mode
+        0x05 if count % 256 != 0 && count % 256 != 0xFF => {
+            Task::Change(Change::PowerLevel((count % 256) as u8))
+        }
+        0x55 => Task::Change(Change::LookAhead(false)),
+        0x66 => Task::Change(Change::Reverting(false)),
+        0x82 => Task::Change(Change::WriteCache(false)),
+        0x85 => Task::Change(Change::PowerLevel(0)),
+        0xAA => Task::Change(Change::LookAhead(true)),
+        0xCC => Task::Change(Change::Reverting(true)),
+        _ => Task::Unknown,
+    }
+}
+
+/// SMART EXECUTE OFF-LINE IMMEDIATE, by its subcommand.
+fn offline_task(subcommand: u8) -> Task
+    ensures { result ≡ offline_task subcommand }
+{
+    match subcommand {
+        0x00 | 0x7F => Task::Change(Change::NothingSmart), // the off-line routine; abort of a self-test
+        0x01 | 0x02 | 0x81 | 0x82 => Task::Change(Change::Test(subcommand)), // short and extended, off-line and captive
+        _ => Task::Unknown,
+    }
+}
+
+/// SMART READ LOG of one page, by the log.
+fn smart_log_task(log: u8) -> Task
+    ensures { result ≡ smart_log_task log }
+{
+    match log {
+        0x00 => Task::ReadPage(DiskPage::SmartDirectory, Protocol::Pio),
+        0x01 => Task::ReadPage(DiskPage::SmartErrors, Protocol::Pio),
+        0x06 => Task::ReadPage(DiskPage::SmartTests, Protocol::Pio),
+        _ => Task::Unknown,
+    }
+}
+
+/// SMART, by its subcommand.
+fn smart_task(subcommand: u16, low: u8, count: u16) -> Task
+    ensures { result ≡ smart_task subcommand low count }
+{
+    match subcommand {
+        0xD0 => Task::ReadPage(DiskPage::SmartData, Protocol::Pio), // SMART READ DATA
+        0xD1 => Task::ReadPage(DiskPage::SmartThresholds, Protocol::Pio), // SMART READ THRESHOLDS
+        0xD2 if count % 256 == 0x00 || count % 256 == 0xF1 => Task::Change(Change::NothingSmart), // SMART ENABLE/DISABLE ATTRIBUTE AUTOSAVE
+        0xD4 => offline_task(low), // SMART EXECUTE OFF-LINE IMMEDIATE
+        0xD5 if count % 256 == 1 => smart_log_task(low), // SMART READ LOG
+        0xD8 => Task::Change(Change::Smart(true)), // SMART ENABLE OPERATIONS
+        0xD9 => Task::Change(Change::Smart(false)), // SMART DISABLE OPERATIONS
+        0xDA => Task::SmartStatus, // SMART RETURN STATUS
+        _ => Task::Unknown,
+    }
+}
+
+/// What a command asks by its code that is of settings, of SMART, or of data that are no sectors.
+fn settings_task(code: u8, h2d: &H2d) -> Task
+    ensures { result ≡ settings_task code h2d.now }
+{
+    let subcommand = h2d.features % 256;
+    match code {
+        0x06 if subcommand % 2 == 1 && 1 <= h2d.count && h2d.count <= 8 => {
+            Task::Store(Store::Trim(h2d.count as u8), Protocol::Dma) // DATA SET MANAGEMENT with TRIM
+        }
+        0xB0 if h2d.lba / 256 % (1 << 16) == 0xC24F => {
+            smart_task(subcommand, (h2d.lba % 256) as u8, h2d.count)
+        }
+        0xE4 => Task::ReadPage(DiskPage::Buffer, Protocol::Pio), // READ BUFFER
+        0xE8 => Task::Store(Store::Buffer, Protocol::Pio), // WRITE BUFFER
+        0xE9 => Task::ReadPage(DiskPage::Buffer, Protocol::Dma), // READ BUFFER DMA
+        0xEB => Task::Store(Store::Buffer, Protocol::Dma), // WRITE BUFFER DMA
+        0xEF => features_task(subcommand, h2d.count), // SET FEATURES
+        _ => Task::Unknown,
+    }
 }
 
 /// What a command of this code asks, where it is not queued.
@@ -94,6 +191,7 @@ fn task_by(code: u8, h2d: &H2d) -> Task
         0x30 => Task::Write(short_span(h2d), Protocol::Pio), // WRITE SECTOR(S)
         0x34 => Task::Write(long_span(h2d), Protocol::Pio), // WRITE SECTOR(S) EXT
         0x35 => Task::Write(long_span(h2d), Protocol::Dma), // WRITE DMA EXT
+        0x3D => Task::Write(long_span(h2d), Protocol::Dma), // WRITE DMA FUA EXT
         0x40 => Task::Verify(short_span(h2d)), // READ VERIFY SECTOR(S)
         0x42 => Task::Verify(long_span(h2d)), // READ VERIFY SECTOR(S) EXT
         0x47 => log_task(h2d, Protocol::Dma), // READ LOG DMA EXT
@@ -108,9 +206,8 @@ fn task_by(code: u8, h2d: &H2d) -> Task
         0xE7 => Task::Flush(Addressing::Bits28), // FLUSH CACHE
         0xEA => Task::Flush(Addressing::Bits48), // FLUSH CACHE EXT
         0xEC => Task::Identify, // IDENTIFY DEVICE
-        0xEF if h2d.features % 256 == 0x03 && is_mode(h2d.count) => Task::Nothing, // SET FEATURES, set transfer mode
         0xF8 => Task::NativeMax(Addressing::Bits28), // READ NATIVE MAX ADDRESS
-        _ => Task::Unknown,
+        _ => settings_task(code, h2d),
     }
 }
 

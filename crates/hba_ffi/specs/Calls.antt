@@ -4,13 +4,14 @@ use Rattle.std.specs.Prelude.{◌≡◌, ℕ, ◌^◌, ◌⊎◌, List, length, 
 use Rattle.ncq_journal.specs.History.{History}
 use Rattle.hba_regs.specs.Accessing.{read_of, size_of, write_of}
 use Rattle.hba_regs.specs.declared.access_size.AccessSize.{AccessSize}
+use Rattle.hba_regs.specs.declared.device_kind.DeviceKind.TheVariants.{Disk}
 use Rattle.port_refusal.specs.declared.refusal.Refusal.TheVariants as refusal
 use Rattle.ahci_ffi.specs.Refusals.{trim_refused, with_length, with_tag}
 use Rattle.ahci_ffi.specs.Told.{Told, ToldOr}
 use Rattle.ahci_ffi.specs.declared.status.Status.{Status}
 use Rattle.ahci_ffi.specs.declared.status.Status.TheVariants as status
 use Rattle.ahci_hba.specs.Dropping.{journal_out, written}
-use Rattle.ahci_hba.specs.Failing.{Fails, own_in, refused_at}
+use Rattle.ahci_hba.specs.Failing.{Fails, ended_at, own_in, refused_at}
 use Rattle.ahci_hba.specs.HbaView.{HbaView}
 use Rattle.ahci_hba.specs.Moving.{put_next, run_read, supplied}
 use Rattle.ahci_hba.specs.PoweringOn.{power_on_journal, powered_on}
@@ -92,8 +93,12 @@ abbrev pub AnswersRefuse : (slot error lba : ℕ) → Status → (old new : HbaV
 AnswersRefuse slot error lba answer old new =
     ToldOr answer (refuse_refusal old slot lba) (new ≡ refused_at old slot error lba) (new ≡ old)
 
+abbrev pub AnswersEnd : (slot state error lba : ℕ) → Status → (old new : HbaView) → Type 0
+AnswersEnd slot state error lba answer old new =
+    ToldOr answer (refuse_refusal old slot lba) (new ≡ ended_at old slot state error lba) (new ≡ old)
+
 abbrev pub AnswersSign : Status → (old new : HbaView) → Type 0
-AnswersSign answer old new = Told answer (if may_sign old then None else Some status.NotReady) (new ≡ signing old) (new ≡ old)
+AnswersSign answer old new = Told answer (if may_sign old then None else Some status.NotReady) (new ≡ signing old Disk) (new ≡ old)
 
 abbrev pub AnswersTrim : Status → (old new : HbaView) → (before after : ℕ) → Type 0
 AnswersTrim answer old new before after =

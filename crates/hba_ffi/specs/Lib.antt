@@ -5,4 +5,5 @@ pub mod Over
 pub mod Looking
 pub mod Calls
 pub mod Events
+pub mod Naming
 pub mod Judging

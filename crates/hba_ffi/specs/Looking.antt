@@ -1,6 +1,11 @@
 -- What C sees of a controller.
-use Rattle.std.specs.Prelude.{◌≡◌, ◌<◌, ℕ, length, slice_index_or, Option, None, Some}
+use Rattle.std.specs.Prelude.{◌≡◌, ◌<◌, ◌⊎◌, ℕ, List, length, slice_index_or, Option, None, Some}
 use Rattle.ahci_ffi.specs.Flat.{number_if}
+use Rattle.ahci_ffi.specs.Refusals.{copy_refusal, with_length}
+use Rattle.ahci_ffi.specs.Told.{Told}
+use Rattle.ahci_ffi.specs.declared.status.Status.{Status}
+use Rattle.ahci_port.specs.PortView.{PortView}
+use Rattle.power_loss.specs.Leaving.{MayBeLeft}
 use Rattle.hba_memory.specs.Reading.{next_run}
 use Rattle.hba_memory.specs.Posting.{remaining}
 use Rattle.hba_memory.specs.Runs.{first_put}
@@ -47,3 +52,16 @@ pub record IsLook (h : HbaView) (look : FlatHba) : Type 0 where
   pub sign : look.sign ≡ number_if (may_sign h)
   pub depth : look.depth ≡ h.depth
   pub next : (slot : ℕ) → slot < 32 → slice_index_or look.next slot 0 ≡ step_number (next_step h slot)
+
+-- a word says by 1 that something holds, and by 0 that it doesn't
+pub record Says (holds : Type 0) (word : ℕ) : Type 0 where
+  pub yes : holds → word ≡ 1
+  pub no : (word ≡ 0) ⊎ holds
+
+-- both forms of a sector have 512 bytes, and the sector is there
+abbrev pub left_refusal : PortView → (lba was bytes : ℕ) → Option Status
+left_refusal port lba was bytes = with_length 512 was (copy_refusal port lba bytes)
+
+abbrev pub AnswersLeft : PortView → (was : List ℕ) → (lba : ℕ) → (bytes : List ℕ) → Status → (before after : ℕ) → Type 0
+AnswersLeft port was lba bytes answer before after =
+    Told answer (left_refusal port lba (length was) (length bytes)) (Says (MayBeLeft was port.past lba bytes) after) (after ≡ before)

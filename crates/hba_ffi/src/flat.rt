@@ -39,3 +39,17 @@ pub struct FlatCapabilities {
     /// PIO multiple DRQ block.
     pub pmd: u32,
 }
+
+/// What names the disk, as C says it: texts of ASCII, filled up with spaces, with no padding.
+#[repr(C)]
+#[derive(Clone, Copy)]
+pub struct FlatIdentity {
+    /// Serial number.
+    pub serial: [u8; 20],
+    /// Firmware revision.
+    pub firmware: [u8; 8],
+    /// Model number.
+    pub model: [u8; 40],
+    /// Nominal media rotation rate: 0 of a disk that doesn't tell it, 1 of one that doesn't rotate, or 1,025 to 65,534 revolutions a minute.
+    pub rotation: u32,
+}

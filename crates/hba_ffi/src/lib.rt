@@ -9,19 +9,24 @@ mod judging;
 mod looking;
 mod making;
 mod moving;
+mod naming;
 mod place;
 mod registers;
 mod stepping;
 mod trimming;
 
-pub use events::{fail_interface, find_link, lose_link, plug, unplug};
-pub use flat::{FlatCapabilities, FlatHba};
+pub use events::{
+    fail_interface, find_link, lose_link, plug, receive_bits, receive_register, receive_unknown,
+    sign_as, unplug,
+};
+pub use flat::{FlatCapabilities, FlatHba, FlatIdentity};
 pub use held::HeldHba;
 pub use judging::{command_breaks, entry_breaks, length_breaks, write_breaks};
-pub use looking::{copy, entry, entry_bytes, look, port, touched};
+pub use looking::{copy, entry, entry_bytes, look, may_be_left, port, touched};
 pub use making::{make, make_over, make_with};
-pub use moving::{bytes, supply, unmapped, written};
+pub use moving::{bytes, spoiled, supply, unmapped, written};
+pub use naming::{identity, write_cache, write_cache_enabled};
 pub use place::HbaPlace;
 pub use registers::{power_on, read, write};
-pub use stepping::{fail, refuse, sign, step};
+pub use stepping::{end, fail, refuse, sign, step};
 pub use trimming::trim;

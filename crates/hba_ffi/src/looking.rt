@@ -1,14 +1,17 @@
 //! What can be seen of a controller, and of the queue behind it.
 
-ghost use Rattle.std.specs.Prelude.{◌≡◌, ◌<◌, ℕ, length, slice_index_or};
+ghost use Rattle.std.specs.Prelude.{◌≡◌, ◌↔◌, ◌<◌, ℕ, IsTrue, length, slice_index_or};
 ghost use Rattle.ncq_journal.specs.{Numbering.{entry_numbered}, Sector.{sector}};
 ghost use Rattle.ahci_ffi.specs.{Refusals.{copy_refusal}, Seen.{AnswersBytes, AnswersEntry, AnswersTouched, IsState, written_by}, Told.{Told}};
 ghost use Rattle.ahci_hba.specs.{Moving.{want_of}, Stepping.{next_step}};
-ghost use Rattle.hba_ffi.specs.Looking.{IsLook, length_moved, step_number, want_number};
+ghost use Rattle.power_loss.specs.Leaving.{MayBeLeft};
+ghost use Rattle.hba_ffi.specs.Looking.{AnswersLeft, IsLook, Says, length_moved, step_number, want_number};
 
 use crate::flat::FlatHba;
 use ahci_ffi::{FlatEntry, FlatState, Status};
 use ahci_hba::{Hba, Slot, Step, Want};
+use ncq_journal::Journal;
+use port_refusal::Refusal;
 use sector_store::{SectorStore, Sectors};
 use std::alloc::Allocator;
 
@@ -125,4 +128,43 @@ pub fn port<A: Allocator, S: SectorStore>(hba: &Hba<A, S>, state: &mut FlatState
     ensures state { IsState hba.now.port state.new }
 {
     ahci_ffi::state(hba.port(), state)
+}
+
+/// Whether a sector may have these bytes after a loss of power, where it had the bytes `was` when the journal began.
+pub fn may_be_left<A: Allocator, S: SectorStore>(
+    hba: &Hba<A, S>,
+    was: &[u8],
+    lba: u64,
+    bytes: &[u8],
+    may: &mut u32,
+) -> Status
+    ensures { AnswersLeft hba.now.port was.now lba bytes.now result may.old may.new }
+{
+    let port = hba.port();
+    if was.len() != 512 || bytes.len() != 512 {
+        return Status::WrongLength;
+    }
+    if lba >= u64::from(port.sectors()) {
+        return Status::Refused(Refusal::NoSuchSector);
+    }
+    *may = left_word(was, port.journal(), lba, bytes);
+    Status::Done
+}
+
+/// 1 if a sector may have these bytes after a loss of power, else 0.
+fn left_word<A: Allocator>(was: &[u8], journal: &Journal<A>, lba: u64, bytes: &[u8]) -> u32
+    ensures { Says (MayBeLeft was.now journal.now.past lba bytes.now) result }
+{
+    if may_be_left_by(was, journal, lba, bytes) {
+        1
+    } else {
+        0
+    }
+}
+
+/// Whether a sector may have these bytes after a loss of power.
+fn may_be_left_by<A: Allocator>(was: &[u8], journal: &Journal<A>, lba: u64, bytes: &[u8]) -> bool
+    ensures { IsTrue result ↔ MayBeLeft was.now journal.now.past lba bytes.now }
+{
+    power_loss::may_be_left(was, journal.entries(), lba, bytes)
 }

@@ -1,7 +1,7 @@
 //! What the controller reads and writes in the driver's memory.
 
 ghost use Rattle.std.specs.Prelude.{◌≡◌};
-ghost use Rattle.ahci_hba.specs.Moving.{put_done, unmapped};
+ghost use Rattle.ahci_hba.specs.Moving.{put_done, spoiled, unmapped};
 ghost use Rattle.hba_ffi.specs.Calls.{AnswersBytes, AnswersSupply};
 
 use ahci_ffi::Status;
@@ -49,5 +49,14 @@ pub fn unmapped<A: Allocator, S: SectorStore>(hba: &mut Hba<A, S>) -> Status
     ensures state { hba.new ≡ unmapped hba.old hba.old.work }
 {
     hba.fail_memory();
+    Status::Done
+}
+
+/// The memory that the controller reads or writes gives or takes wrong data.
+pub fn spoiled<A: Allocator, S: SectorStore>(hba: &mut Hba<A, S>) -> Status
+    ensures done { result ≡ Status.Done }
+    ensures state { hba.new ≡ spoiled hba.old hba.old.work }
+{
+    hba.fail_data();
     Status::Done
 }

@@ -1,7 +1,7 @@
 //! The device's steps with the commands of the slots.
 
 ghost use Rattle.std.specs.Prelude.{◌≡◌};
-ghost use Rattle.hba_ffi.specs.Calls.{AnswersFail, AnswersRefuse, AnswersSign, AnswersStep};
+ghost use Rattle.hba_ffi.specs.Calls.{AnswersEnd, AnswersFail, AnswersRefuse, AnswersSign, AnswersStep};
 
 use crate::registers::entries_in;
 use ahci_ffi::Status;
@@ -68,6 +68,29 @@ pub fn refuse<A: Allocator + Copy, S: SectorStore>(
         return Status::Refused(Refusal::BadLba);
     }
     match hba.refuse(slot, error, lba) {
+        Ok(()) => Status::Done,
+        Err(HbaFault::NotReady) => Status::NotReady,
+        Err(HbaFault::OutOfMemory) => Status::Refused(Refusal::OutOfMemory),
+    }
+}
+
+/// The device ends a command that is read and not queued with a status and an error byte at an LBA, in place of doing it.
+pub fn end<A: Allocator + Copy, S: SectorStore>(
+    hba: &mut Hba<A, S>,
+    slot: u32,
+    status: u8,
+    error: u8,
+    lba: u64,
+) -> Status
+    ensures { AnswersEnd slot status error lba result hba.old hba.new }
+{
+    let Some(slot) = Slot::of(slot) else {
+        return Status::BadTag;
+    };
+    if lba >= LBA_LIMIT {
+        return Status::Refused(Refusal::BadLba);
+    }
+    match hba.end(slot, status, error, lba) {
         Ok(()) => Status::Done,
         Err(HbaFault::NotReady) => Status::NotReady,
         Err(HbaFault::OutOfMemory) => Status::Refused(Refusal::OutOfMemory),

@@ -11,5 +11,6 @@ pub mod Reading
 pub mod Receiving
 pub mod RegisterTable
 pub mod Settings
+pub mod Signatures
 pub mod Writing
 pub use Rattle.word_bits.specs.Places

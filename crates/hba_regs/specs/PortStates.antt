@@ -6,6 +6,8 @@ use Rattle.std.specs.Prelude.{ℕ, ◌+◌, ◌%◌, Bool, true, not, ◌||◌, 
 use Rattle.word_bits.specs.Places.{bits, has_place, with_place, without_place, minus}
 use Rattle.hba_regs.specs.HbaState.{HbaPort}
 use Rattle.hba_regs.specs.Interrupts.{dhrs, pss, sdbs, ofs, tfes, place_of, raised}
+use Rattle.hba_regs.specs.Signatures.{signature_of, signed_status}
+use Rattle.hba_regs.specs.declared.device_kind.DeviceKind.{DeviceKind}
 use Rattle.hba_regs.specs.declared.fatal.Fatal.{Fatal}
 use Rattle.hba_regs.specs.declared.signature.Signature.TheVariants.{Past, Unposted}
 use Rattle.hba_regs.specs.declared.soft_reset.SoftReset.{SoftReset}
@@ -44,21 +46,21 @@ p_idle_selects p = not (bsy_or_drq_of p.sts)
 abbrev pub p_select_cmd : ℕ → HbaPort → HbaPort
 p_select_cmd slot p = record p { ccs = slot; first = (slot + 1) % p.capabilities.ncs }
 
--- P:RegFisUpdate, and RegFIS:UpdateSig while ST is 1: PxTFD and PxSIG are those of the first D2H Register FIS after a reset, which has I 0;
+-- P:RegFisUpdate, and RegFIS:UpdateSig while ST is 1: PxTFD and PxSIG are those of the first D2H Register FIS after a reset, which has I 0, of a device;
 -- pUpdateSig is 0. While FRE is 1 it is posted (P:RegFisPostToMem), or else later. After a software reset, the command of its second control
 -- FIS ends (RegFIS:ClearCI)
 abbrev pub ended_by_signature : SoftReset → List Bool → List Bool
 ended_by_signature (Ending slot) s = without_place s slot
 ended_by_signature other s = s
 
-abbrev pub p_reg_fis_update : HbaPort → HbaPort
-p_reg_fis_update p =
+abbrev pub p_reg_fis_update : DeviceKind → HbaPort → HbaPort
+p_reg_fis_update kind p =
     record p {
-      sts = 0x50;
+      sts = signed_status kind;
       err = 0x01;
-      sig = 0x00000101;
+      sig = signature_of kind;
       ci = ended_by_signature p.soft p.ci;
-      signature = if p.fre then Past else Unposted;
+      signature = if p.fre then Past else Unposted kind;
       soft = Off;
     }
 
@@ -99,6 +101,10 @@ reg_fis_entry status error i slot p =
     if err_of status then err_fatal_taskfile (reg_fis_set_intr i q)
     else if bsy_or_drq_of status then reg_fis_set_intr i q
     else reg_fis_clear_ci i slot q
+
+-- RegFIS:Entry of a FIS that no command asks for, with I, status 50h and error 00h: pIssueSlot is none, so that RegFIS:ClearCI leaves PxCI
+abbrev pub reg_fis_unsolicited : HbaPort → HbaPort
+reg_fis_unsolicited p = reg_fis_set_intr true (record p { sts = 0x50; err = 0x00 })
 
 -- ---- SDB, "Set Device Bits FIS Receive"
 

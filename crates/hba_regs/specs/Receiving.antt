@@ -4,6 +4,7 @@ use Rattle.std.specs.Prelude.{ℕ, Bool, false, not, ◌&&◌, ◌||◌}
 use Rattle.hba_regs.specs.HbaState.{HbaPort, HbaState}
 use Rattle.hba_regs.specs.Interrupts.{settled}
 use Rattle.hba_regs.specs.PortStates.{p_reg_fis_post_to_mem, p_reg_fis_update}
+use Rattle.hba_regs.specs.declared.device_kind.DeviceKind.{DeviceKind}
 use Rattle.hba_regs.specs.declared.signature.Signature.{Signature}
 use Rattle.hba_regs.specs.declared.signature.Signature.TheVariants.{Past, Due, Unposted}
 use Rattle.hba_regs.specs.declared.soft_reset.SoftReset.{SoftReset}
@@ -19,12 +20,12 @@ takes_signature p = not p.st || (p.fre && not p.halted)
 abbrev pub signature_moves : HbaPort → Signature → Bool
 signature_moves p Past = false
 signature_moves p Due = takes_signature p
-signature_moves p Unposted = p.fre
+signature_moves p (Unposted kind) = p.fre
 
--- the FIS of the signature, which may have been taken before
-abbrev pub signed : HbaPort → Signature → HbaPort
-signed p Due = p_reg_fis_update p
-signed p other = p_reg_fis_post_to_mem p
+-- the FIS of the signature of a device, which may have been taken before
+abbrev pub signed : DeviceKind → HbaPort → Signature → HbaPort
+signed kind p Due = p_reg_fis_update kind p
+signed kind p other = p_reg_fis_post_to_mem p
 
 -- the device's side of a software reset (Serial ATA, "Software reset"): a control FIS with SRST 1 holds the device in it, and the next one
 -- with SRST 0 ends it, after which the device sends its signature; with SRST 0 alone nothing happens

@@ -5,6 +5,7 @@
 mod access_size;
 mod capabilities;
 mod consequence;
+mod device_kind;
 mod fatal;
 mod hba_regs;
 mod interface_error;
@@ -20,6 +21,7 @@ mod words;
 pub use access_size::AccessSize;
 pub use capabilities::Capabilities;
 pub use consequence::Consequence;
+pub use device_kind::DeviceKind;
 pub use fatal::Fatal;
 pub use hba_regs::HbaRegs;
 pub use interface_error::InterfaceError;

@@ -371,7 +371,7 @@ impl Port {
         match self.first_fis {
             Signature::Past => false,
             Signature::Due => !self.started || (self.receiving && !self.halted),
-            Signature::Unposted => self.receiving,
+            Signature::Unposted(_) => self.receiving,
         }
     }
 

@@ -3,7 +3,7 @@
 use crate::table::equal;
 use Row::{Bits, Commands, Does, Halted, Line, Read, Register, Signature, Write};
 use events::{Happens, take_place};
-use hba_regs::{AccessSize, Consequence, Fatal, HbaRegs, Slot};
+use hba_regs::{AccessSize, Consequence, DeviceKind, Fatal, HbaRegs, Slot};
 use std::process::Abort;
 
 mod capabilities;
@@ -168,7 +168,7 @@ fn goes(rt: &impl Abort, regs: &mut HbaRegs, number: usize, row: Row) {
         Row::Event(event) => take_place(regs, event),
         Row::Signature => {
             assert!(rt; regs.signature_moves());
-            regs.take_signature();
+            regs.take_signature(DeviceKind::Disk);
         }
         _ => of_a_slot(rt, regs, number, row),
     }

@@ -318,7 +318,7 @@ impl<A: Allocator + Copy, S: SectorStore> Hba<A, S> {
             Action::Page(_, _) | Action::Flush(_) | Action::Reply(_) | Action::Control { .. } => {
                 self.close(slot, 0, done())
             }
-            Action::Abort => self.close(slot, 0, done()),
+            Action::Store(_, _) | Action::Abort => self.close(slot, 0, done()),
         }
     }
 

@@ -4,7 +4,7 @@ ghost use Rattle.std.specs.Prelude.{◌≡◌, ◌-◌, ◌<◌, ◌^◌, true, 
 ghost use Rattle.ahci_hba.specs.Queueing.{command_at, list_in, task_in};
 ghost use Rattle.ahci_hba.specs.Stepping.{fault_if, is_answered, is_answered_at, may_execute};
 ghost use Rattle.ahci_port.specs.{Faults.{plain_refusal}, PortView.{sectors_in}, Steps.{LacksRoom}};
-ghost use Rattle.ahci_hba.specs.Executing.{Flushes, Identifies, IsExecuted, MayLack, MayLackAt, Performs, aborted, first_missing, is_aborted, is_alone_fetched, native_max, paged, reads_error_log, replied, reply_fis, signed, verified};
+ghost use Rattle.ahci_hba.specs.Executing.{Flushes, Identifies, IsExecuted, MayLack, MayLackAt, Performs, aborted, changed_fis, first_missing, is_aborted, is_alone_fetched, native_max, paged, reads_error_log, replied, reply_fis, signed, smart_fis, verified};
 
 use crate::command::Command;
 use crate::fault::HbaFault;
@@ -13,8 +13,8 @@ use crate::hba::delivering::{d2h_fis, done};
 use crate::hba::fetching::is_alone;
 use ahci_port::PlainFault;
 use hba_command::{
-    Action, Addressing, Log, Page, Protocol, Reply, Span, Task, action_of, addressed,
-    controller_page, power_count,
+    Action, Addressing, Change, Log, Page, Protocol, Reply, Span, Task, action_of, addressed,
+    allows, controller_page, power_count,
 };
 use hba_regs::Slot;
 use sata_fis::D2h;
@@ -22,7 +22,7 @@ use sector_store::SectorStore;
 use std::alloc::Allocator;
 
 /// A command is aborted.
-fn aborted() -> D2h
+pub(super) fn aborted() -> D2h
     ensures { result ≡ aborted }
 {
     d2h_fis(0x41, 0x04, 0, 0)
@@ -71,6 +71,28 @@ impl<A: Allocator, S: SectorStore> Hba<A, S> {
         }
     }
 
+    /// A change is made, or the command is aborted if it isn't possible.
+    fn changed_fis(&self, change: &Change) -> D2h
+        ensures { result ≡ changed_fis self.now.device change.now }
+    {
+        if allows(&self.device, change) {
+            done()
+        } else {
+            aborted()
+        }
+    }
+
+    /// SMART RETURN STATUS: no attribute has exceeded its threshold; aborted while SMART operations are disabled.
+    fn smart_fis(&self) -> D2h
+        ensures { result ≡ smart_fis self.now.device }
+    {
+        if self.device.smart {
+            d2h_fis(0x40, 0, 0xC2_4F00, 0)
+        } else {
+            aborted()
+        }
+    }
+
     /// The answer to a command that moves nothing.
     fn reply_fis(&self, reply: &Reply) -> D2h
         ensures { result ≡ reply_fis self.now reply.now }
@@ -82,6 +104,8 @@ impl<A: Allocator, S: SectorStore> Hba<A, S> {
                 addressed(*addressing, done(), self.native_max(*addressing))
             }
             Reply::PowerMode => d2h_fis(0x40, 0, 0, power_count(self.power)),
+            Reply::Changed(change) => self.changed_fis(change),
+            Reply::SmartStatus => self.smart_fis(),
             Reply::Diagnosed => signed(0x40, 0x01), // the device has passed
             Reply::Packet => signed(0x41, 0x04),
         }
@@ -127,11 +151,11 @@ impl<A: Allocator, S: SectorStore> Hba<A, S> {
             Action::Page(Page::Identify, _) | Action::Flush(_) => {
                 self.is_aborted(action) || self.port.plain_fault().is_none()
             }
-            Action::Page(Page::Log(Log::Directory | Log::IdentifyData(_)), _) => true,
+            Action::Page(Page::Log(Log::Pages(_, _)) | Page::Disk(_), _) => true,
             Action::Page(Page::Log(Log::QueuedError), _) => {
                 self.is_queueing() || !self.port.halted()
             }
-            Action::Reply(_) => true,
+            Action::Store(_, _) | Action::Reply(_) => true,
             Action::Control { .. } => false,
             Action::Abort => true,
         }
@@ -189,7 +213,7 @@ impl<A: Allocator + Copy, S: SectorStore> Hba<A, S> {
         ensures ok { OnOk result (Identifies slot (list_in (command_at self.old slot)) self.old self.new) }
         ensures err { IfErr result (λ e. (e ≡ HbaFault.OutOfMemory) × (self.new ≡ self.old)) }
     {
-        let page = controller_page(self.port.sectors(), self.depth);
+        let page = controller_page(self.port.sectors(), self.depth, &self.device);
         let page = Vec::from_slice(self.alloc, &page)?;
         match self.port.identify() {
             Ok(_) => {
@@ -226,6 +250,7 @@ impl<A: Allocator + Copy, S: SectorStore> Hba<A, S> {
         let fis = self.reply_fis(reply);
         self.conclude(slot, fis);
         self.turn_by(reply);
+        self.change_by(reply);
     }
 
     /// What the device does with a command that it doesn't abort, for a slot.
@@ -249,6 +274,13 @@ impl<A: Allocator + Copy, S: SectorStore> Hba<A, S> {
             }
             Action::Page(Page::Identify, _) => self.identify(slot),
             Action::Page(Page::Log(log), protocol) => self.read_log(slot, log, *protocol),
+            Action::Page(Page::Disk(page), protocol) => {
+                self.read_disk_page(slot, *page, *protocol)
+            }
+            Action::Store(store, protocol) => {
+                self.store(slot, store, *protocol);
+                Ok(())
+            }
             Action::Flush(_) => self.flush(slot),
             Action::Reply(reply) => {
                 self.reply(slot, reply);

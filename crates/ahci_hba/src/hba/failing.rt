@@ -5,7 +5,7 @@ ghost use Rattle.hba_memory.specs.Posting.{listed};
 ghost use Rattle.ncq_core.specs.DiskFis.{setup_bytes};
 ghost use Rattle.ahci_port.specs.PortView.{sectors_in};
 ghost use Rattle.ahci_hba.specs.Delivering.{received_put};
-ghost use Rattle.ahci_hba.specs.Failing.{concluded, failed_posting, fails_at, moved_before, moved_sectors, moves_before, moves_some, own_queued, owns, queue_failed, read_failed, refused, refused_with, sectors_before, sectors_failed, sectors_of, vacated};
+ghost use Rattle.ahci_hba.specs.Failing.{concluded, ended_with, ending_fis, failed_posting, fails_at, moved_before, moved_sectors, moves_before, moves_some, own_queued, owns, queue_failed, read_failed, sectors_before, sectors_ended, sectors_failed, sectors_of, vacated};
 ghost use Rattle.ahci_hba.specs.Queueing.{command_at, list_in};
 
 use crate::command::Command;
@@ -23,12 +23,12 @@ use sata_fis::{D2h, DmaSetup, Fis, Queued};
 use sector_store::SectorStore;
 use std::alloc::{AllocError, Allocator};
 
-/// The FIS of an error at an LBA, which it names as the command names its own.
-fn refused(addressing: Addressing, error: u8, lba: u64) -> D2h
+/// The FIS of a status and an error at an LBA, which it names as the command names its own.
+fn ending_fis(addressing: Addressing, status: u8, error: u8, lba: u64) -> D2h
     requires { lba < 2 ^ 48 }
-    ensures { result ≡ refused addressing error lba }
+    ensures { result ≡ ending_fis addressing status error lba }
 {
-    addressed(addressing, d2h_fis(0x41, error, 0, 0), lba)
+    addressed(addressing, d2h_fis(status, error, 0, 0), lba)
 }
 
 /// How many sectors from an LBA on a read has moved before another one, at most so many: those that the disk has.
@@ -98,7 +98,7 @@ impl<A: Allocator + Copy, S: SectorStore> Hba<A, S> {
         self.answer(posting, Ending::of(true, last));
     }
 
-    /// Some sectors go to the driver for a slot, and then an error.
+    /// Some sectors go to the driver for a slot, and then a FIS.
     fn move_before(
         &mut self,
         slot: Slot,
@@ -119,7 +119,7 @@ impl<A: Allocator + Copy, S: SectorStore> Hba<A, S> {
         }
     }
 
-    /// A read that is not queued fails, for a slot: so many sectors from the first one on have moved.
+    /// A read that is not queued ends before it is done, for a slot: so many sectors from the first one on have moved.
     fn fail_read(
         &mut self,
         slot: Slot,
@@ -160,8 +160,27 @@ impl<A: Allocator + Copy, S: SectorStore> Hba<A, S> {
         ensures err { IfErr result (λ e. (e ≡ HbaFault.OutOfMemory) × (self.new ≡ self.old)) }
         ensures lacking { OnErr result (moves_some self.old.port write span.now lba ≡ true) }
     {
+        self.end_sectors(slot, write, span, protocol, 0x41, error, lba)
+    }
+
+    /// A command that is not queued and moves sectors ends with a status and an error, for a slot, in place of being done.
+    fn end_sectors(
+        &mut self,
+        slot: Slot,
+        write: bool,
+        span: &Span,
+        protocol: Protocol,
+        status: u8,
+        error: u8,
+        lba: u64,
+    ) -> Result<(), HbaFault>
+        requires lba { lba < 2 ^ 48 }
+        ensures ok { OnOk result (self.new ≡ sectors_ended self.old slot (list_in (command_at self.old slot)) write span.now protocol status error lba) }
+        ensures err { IfErr result (λ e. (e ≡ HbaFault.OutOfMemory) × (self.new ≡ self.old)) }
+        ensures lacking { OnErr result (moves_some self.old.port write span.now lba ≡ true) }
+    {
         if write {
-            self.conclude(slot, refused(span.addressing, error, span.lba));
+            self.conclude(slot, ending_fis(span.addressing, status, error, span.lba));
             return Ok(());
         }
         let sectors = sectors_before(&self.port, span.lba, span.sectors, lba);
@@ -170,20 +189,21 @@ impl<A: Allocator + Copy, S: SectorStore> Hba<A, S> {
             protocol,
             span.lba,
             sectors,
-            refused(span.addressing, error, lba),
+            ending_fis(span.addressing, status, error, lba),
         )
     }
 
-    /// A command that is not queued fails, for a slot.
-    pub(super) fn refuse_with(
+    /// A command that is not queued ends with a status and an error, for a slot, in place of being done.
+    pub(super) fn end_with(
         &mut self,
         slot: Slot,
         action: &Action,
+        status: u8,
         error: u8,
         lba: u64,
     ) -> Result<(), HbaFault>
         requires lba { lba < 2 ^ 48 }
-        ensures ok { OnOk result (self.new ≡ refused_with self.old slot (list_in (command_at self.old slot)) action.now error lba) }
+        ensures ok { OnOk result (self.new ≡ ended_with self.old slot (list_in (command_at self.old slot)) action.now status error lba) }
         ensures err { IfErr result (λ e. (e ≡ HbaFault.OutOfMemory) × (self.new ≡ self.old)) }
         ensures lacking { OnErr result (moves_before self.old.port action.now lba ≡ true) }
     {
@@ -192,13 +212,13 @@ impl<A: Allocator + Copy, S: SectorStore> Hba<A, S> {
                 write,
                 span,
                 protocol,
-            } => self.fail_sectors(slot, *write, span, *protocol, error, lba),
+            } => self.end_sectors(slot, *write, span, *protocol, status, error, lba),
             Action::Queue(_) | Action::Page(_, _) | Action::Flush(_) | Action::Reply(_) => {
-                self.conclude(slot, refused(addressing_of(action), error, lba));
+                self.conclude(slot, ending_fis(addressing_of(action), status, error, lba));
                 Ok(())
             }
-            Action::Control { .. } | Action::Abort => {
-                self.conclude(slot, refused(addressing_of(action), error, lba));
+            Action::Store(_, _) | Action::Control { .. } | Action::Abort => {
+                self.conclude(slot, ending_fis(addressing_of(action), status, error, lba));
                 Ok(())
             }
         }
@@ -317,7 +337,7 @@ pub(super) fn own_queued(action: &Action, lba: u64) -> Option<Queued>
             None
         },
         Action::Sectors { .. } | Action::Page(_, _) | Action::Flush(_) | Action::Reply(_) => None,
-        Action::Control { .. } | Action::Abort => None,
+        Action::Store(_, _) | Action::Control { .. } | Action::Abort => None,
     }
 }
 

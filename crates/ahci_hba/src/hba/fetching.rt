@@ -23,7 +23,7 @@ pub(super) fn is_alone(task: &Task) -> bool
     match &action_of(task) {
         Action::Queue(_) => false,
         Action::Sectors { .. } | Action::Page(_, _) | Action::Flush(_) | Action::Reply(_) => true,
-        Action::Control { .. } | Action::Abort => true,
+        Action::Store(_, _) | Action::Control { .. } | Action::Abort => true,
     }
 }
 

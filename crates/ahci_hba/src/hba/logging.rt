@@ -1,37 +1,42 @@
-//! How the device answers with a log (ACS-3, "READ LOG EXT", "READ LOG DMA EXT" and "IDENTIFY DEVICE data log").
+//! How the device answers with pages: logs, SMART and its buffer (ACS-3, "READ LOG EXT", "READ LOG DMA EXT", "SMART" and "READ BUFFER").
 
 ghost use Rattle.std.specs.Prelude.{◌≡◌, ◌≤◌, ◌+◌, IfErr, IfOk, OnOk};
-ghost use Rattle.hba_command.specs.IdentifyLog.{identify_log_pages};
-ghost use Rattle.ahci_hba.specs.Executing.{identify_log_in, log_given, paged, pages_given};
+ghost use Rattle.hba_command.specs.LongLogs.{long_log_pages};
+ghost use Rattle.ahci_hba.specs.Executing.{disk_page_given, log_given, long_log_in, paged, pages_given};
 ghost use Rattle.ahci_hba.specs.Queueing.{command_at, list_in};
 
 use crate::fault::HbaFault;
 use crate::hba::Hba;
 use crate::hba::delivering::done;
+use crate::hba::executing::aborted;
 use hba_command::{
-    IdentifyPages, Log, Protocol, directory_page, identify_log_page, not_queued_page,
+    Device, DiskPage, Log, LogPages, LongLog, Protocol, allows_page, long_log_page,
+    not_queued_page, ready_page,
 };
 use hba_memory::Blocks;
 use hba_regs::Slot;
 use sector_store::SectorStore;
 use std::alloc::{AllocError, Allocator};
 
-/// Some pages of log 30h, one after the other.
-fn identify_log_pages<A: Allocator + Copy>(
+/// Some pages of a log of several, one after the other.
+fn long_log_pages<A: Allocator + Copy>(
     alloc: A,
+    log: LongLog,
     sectors: u32,
     depth: u32,
+    device: &Device,
     first: u32,
     count: u32,
 ) -> Result<Vec<u8, A>, AllocError>
     requires deep { 1 ≤ depth }
     requires shallow { depth ≤ 32 }
     requires pages { first + count ≤ 3 }
-    ensures { IfOk result (λ v. v.items ≡ identify_log_pages sectors depth first count) }
+    ensures { IfOk result (λ v. v.items ≡ long_log_pages log sectors depth device.now first count) }
 {
     let mut bytes = Vec::new(alloc);
     for index in 0..count {
-        bytes.extend_from_slice(&identify_log_page(first + index, sectors, depth))?;
+        let page = long_log_page(log, first + index, sectors, depth, device);
+        bytes.extend_from_slice(&page)?;
     }
     Ok(bytes)
 }
@@ -64,20 +69,23 @@ impl<A: Allocator + Copy, S: SectorStore> Hba<A, S> {
         }
     }
 
-    /// Some pages of log 30h.
-    fn read_identify_log(
+    /// Some pages of a log of several.
+    fn read_long_log(
         &mut self,
         slot: Slot,
+        log: LongLog,
         protocol: Protocol,
-        pages: &IdentifyPages,
+        pages: &LogPages,
     ) -> Result<(), HbaFault>
-        ensures ok { OnOk result (self.new ≡ pages_given self.old slot protocol (list_in (command_at self.old slot)) (identify_log_in self.old pages.now) pages.now.count) }
+        ensures ok { OnOk result (self.new ≡ pages_given self.old slot protocol (list_in (command_at self.old slot)) (long_log_in self.old log pages.now) pages.now.count) }
         ensures err { IfErr result (λ e. (e ≡ HbaFault.OutOfMemory) × (self.new ≡ self.old)) }
     {
-        let bytes = identify_log_pages(
+        let bytes = long_log_pages(
             self.alloc,
+            log,
             self.port.sectors(),
             self.depth,
+            &self.device,
             pages.first,
             pages.count,
         )?;
@@ -85,7 +93,7 @@ impl<A: Allocator + Copy, S: SectorStore> Hba<A, S> {
         Ok(())
     }
 
-    /// READ LOG EXT and READ LOG DMA EXT, with no queued command failed.
+    /// READ LOG EXT and READ LOG DMA EXT of a log that the disk hasn't ready, with no queued command failed.
     pub(super) fn read_log(
         &mut self,
         slot: Slot,
@@ -96,9 +104,26 @@ impl<A: Allocator + Copy, S: SectorStore> Hba<A, S> {
         ensures err { IfErr result (λ e. (e ≡ HbaFault.OutOfMemory) × (self.new ≡ self.old)) }
     {
         match log {
-            Log::Directory => self.read_page(slot, protocol, &directory_page()),
             Log::QueuedError => self.read_page(slot, protocol, &not_queued_page()),
-            Log::IdentifyData(pages) => self.read_identify_log(slot, protocol, pages),
+            Log::Pages(log, pages) => self.read_long_log(slot, *log, protocol, pages),
         }
+    }
+
+    /// A page that the disk has ready goes to the driver; one of the SMART feature set only while that is enabled, else the command is aborted.
+    pub(super) fn read_disk_page(
+        &mut self,
+        slot: Slot,
+        page: DiskPage,
+        protocol: Protocol,
+    ) -> Result<(), HbaFault>
+        ensures ok { OnOk result (self.new ≡ disk_page_given self.old slot protocol (list_in (command_at self.old slot)) page) }
+        ensures err { IfErr result (λ e. (e ≡ HbaFault.OutOfMemory) × (self.new ≡ self.old)) }
+    {
+        if !allows_page(&self.device, page) {
+            self.conclude(slot, aborted());
+            return Ok(());
+        }
+        let bytes = ready_page(&self.device, page);
+        self.read_page(slot, protocol, &bytes)
     }
 }

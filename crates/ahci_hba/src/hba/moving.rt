@@ -1,7 +1,7 @@
 //! How the controller reads and writes the driver's memory: it says what comes next, and is told once it is done.
 
 ghost use Rattle.std.specs.Prelude.{◌≡◌, true, length, OnErr, OnOk};
-ghost use Rattle.ahci_hba.specs.{HbaView.{command_of, work_of}, Moving.{address_of, allocates_with, block_ended, ended, ended_by, failed_fatally, overflowed, place_of, placed_in, put_done, put_next, read_so_far, run_read, stuck_with, supplied, unmapped, want_of}};
+ghost use Rattle.ahci_hba.specs.{HbaView.{command_of, work_of}, Moving.{address_of, allocates_with, block_ended, ended, ended_by, failed_fatally, host_failed, overflowed, place_of, placed_in, put_done, put_next, read_so_far, run_read, spoiled, stuck_with, supplied, unmapped, want_of}};
 ghost use Rattle.ahci_hba.specs.States.{IsSoundWork};
 
 use crate::command::{Command, Listed};
@@ -38,11 +38,12 @@ fn end_by(registers: &mut HbaRegs, fis: LastFis)
             registers.receive_pio(0x48, 0); // DRDY and DRQ
             registers.end_pio(0x40, true, slot);
         }
-        LastFis::Signature => {
+        LastFis::Signature(kind) => {
             if registers.signature_moves() {
-                registers.take_signature();
+                registers.take_signature(kind);
             }
         }
+        LastFis::Unsolicited => registers.receive_unsolicited(),
         LastFis::Unknown => registers.receive_unknown(),
     }
 }
@@ -153,9 +154,24 @@ impl<A: Allocator, S: SectorStore> Hba<A, S> {
     pub fn fail_memory(&mut self)
         ensures { self.new ≡ unmapped self.old self.old.work }
     {
+        self.fail_host(Fatal::HostBusFatal);
+    }
+
+    /// The memory that it reads or writes gives or takes wrong data, as by an error that its check bits can't correct: HBDS (sections 3.3.5 and 6.1). The
+    /// port halts.
+    pub fn fail_data(&mut self)
+        ensures { self.new ≡ spoiled self.old self.old.work }
+    {
+        self.fail_host(Fatal::HostBusData);
+    }
+
+    /// An access to memory ends in a fatal error; without one nothing changes.
+    fn fail_host(&mut self, fatal: Fatal)
+        ensures { self.new ≡ host_failed fatal self.old self.old.work }
+    {
         match &self.work {
             Work::Fetching(_, _) | Work::Block(_, _) | Work::Posting(_, _) => {
-                self.fail_fatally(Fatal::HostBusFatal)
+                self.fail_fatally(fatal)
             }
             Work::Idle | Work::Served(_, _, _, _) | Work::Pio(_) => {}
         }

@@ -3,10 +3,10 @@
 ghost use Rattle.std.specs.Prelude.{◌≡◌, ◌<◌, ◌^◌, true, false, IfErr, OnErr, OnOk, IfOk};
 ghost use Rattle.ahci_hba.specs.Dropping.{handed_out, is_reset};
 ghost use Rattle.hba_command.specs.Action.{action_of};
-ghost use Rattle.ahci_hba.specs.Failing.{moves_before, refused_at};
+ghost use Rattle.ahci_hba.specs.Failing.{ended_at, moves_before, refused_at};
 ghost use Rattle.ahci_hba.specs.Queueing.{command_at, task_in};
 ghost use Rattle.ahci_hba.specs.Stepping.{fault_if, may_control, may_refuse};
-ghost use Rattle.ahci_hba.specs.Resetting.{IsControlled, control_in, control_journal, control_of, held, may_sign, released, signature, signing};
+ghost use Rattle.ahci_hba.specs.Resetting.{IsControlled, control_in, control_journal, control_of, held, may_sign, released, sent_by, signature, signing, signing_for};
 ghost use Rattle.hba_regs.specs.declared.consequence.Consequence.TheVariants.{LinkReset};
 
 use crate::command::Command;
@@ -17,22 +17,33 @@ use crate::hba::answering::REGISTER;
 use crate::last_fis::LastFis;
 use ahci_port::Journal;
 use hba_command::{Action, action_of};
-use hba_regs::{Consequence, Slot, SoftReset};
+use hba_regs::{Consequence, DeviceKind, Signature, Slot, SoftReset};
 use sata_fis::{D2h, Fis};
 use sector_store::SectorStore;
 use std::alloc::Allocator;
 
-/// The FIS with the signature of a disk (Serial ATA, "Signature").
-fn signature() -> D2h
-    ensures { result ≡ signature }
+/// The FIS with the signature of a device (Serial ATA, "Signature").
+fn signature(kind: DeviceKind) -> D2h
+    ensures { result ≡ signature kind }
 {
+    let signature = kind.signature();
     D2h {
         i: false,
-        status: 0x50,
+        status: kind.signed_status(),
         error: 0x01,
-        lba: 1,
+        lba: u64::from(signature / 256),
         device: 0,
-        count: 1,
+        count: (signature % 256) as u16,
+    }
+}
+
+/// The device whose signature is sent: one that was taken before is posted as it was.
+fn sent_by(signature: Signature, kind: DeviceKind) -> DeviceKind
+    ensures { result ≡ sent_by signature kind }
+{
+    match signature {
+        Signature::Unposted(was) => was,
+        Signature::Past | Signature::Due => kind,
     }
 }
 
@@ -99,22 +110,42 @@ impl<A: Allocator, S: SectorStore> Hba<A, S> {
 }
 
 impl<A: Allocator + Copy, S: SectorStore> Hba<A, S> {
-    /// The FIS of the device's signature is taken: PxSIG and PxTFD have it once it is written. While FRE is 0 it isn't written, and a later
+    /// The FIS of the disk's signature is taken: PxSIG and PxTFD have it once it is written. While FRE is 0 it isn't written, and a later
     /// call writes it, once FRE is 1 (AHCI 1.3.1, sections 3.3.7, FRE, and 5.3.2).
     ///
     /// # Errors
     /// `NotReady` exactly if `may_sign` is false.
     pub fn sign(&mut self) -> Result<(), HbaFault>
-        ensures ok { OnOk result ((may_sign self.old ≡ true) × (self.new ≡ signing self.old)) }
+        ensures ok { OnOk result ((may_sign self.old ≡ true) × (self.new ≡ signing self.old DeviceKind.Disk)) }
+        ensures err { IfErr result (λ e. (e ≡ HbaFault.NotReady) × (may_sign self.old ≡ false) × (self.new ≡ self.old)) }
+    {
+        self.sign_as(DeviceKind::Disk)
+    }
+
+    /// The same with the signature of a device of another kind, as a driver finds it that meets what isn't a disk. What was taken before, while FRE was 0, is
+    /// written as it was. Behind it is the disk, which answers commands as before.
+    ///
+    /// # Errors
+    /// `NotReady` exactly if `may_sign` is false.
+    pub fn sign_as(&mut self, kind: DeviceKind) -> Result<(), HbaFault>
+        ensures ok { OnOk result ((may_sign self.old ≡ true) × (self.new ≡ signing self.old kind)) }
         ensures err { IfErr result (λ e. (e ≡ HbaFault.NotReady) × (may_sign self.old ≡ false) × (self.new ≡ self.old)) }
     {
         if !self.may_sign() {
             return Err(HbaFault::NotReady);
         }
-        let put = self.received_put(REGISTER, Fis::D2h(signature()).encode());
-        let posting = self.only_after(put);
-        self.answer(posting, Ending::of(true, LastFis::Signature));
+        let sent = sent_by(self.registers.signature(), kind);
+        self.send_signature(sent);
         Ok(())
+    }
+
+    /// The FIS with the signature of a device is written, and taken.
+    fn send_signature(&mut self, kind: DeviceKind)
+        ensures { self.new ≡ signing_for self.old kind }
+    {
+        let put = self.received_put(REGISTER, Fis::D2h(signature(kind)).encode());
+        let posting = self.only_after(put);
+        self.answer(posting, Ending::of(true, LastFis::Signature(kind)));
     }
 
     /// The device takes the control FIS of a slot (AHCI 1.3.1, section 10.4.1). One with SRST holds it in a reset and drops all
@@ -149,6 +180,7 @@ impl<A: Allocator + Copy, S: SectorStore> Hba<A, S> {
     {
         let journal = self.reset_port(Consequence::LinkReset);
         self.settle_power(Consequence::LinkReset);
+        self.settle_srst();
         self.registers.set_srst();
         self.empty();
         journal
@@ -167,11 +199,27 @@ impl<A: Allocator + Copy, S: SectorStore> Hba<A, S> {
         ensures err { IfErr result (λ e. (e ≡ fault_if (may_refuse self.old slot)) × (self.new ≡ self.old)) }
         ensures lacking { IfErr result (λ e. e ≡ HbaFault.OutOfMemory → moves_before self.old.port (action_of (task_in (command_at self.old slot))) lba ≡ true) }
     {
+        self.end(slot, 0x41, error, lba)
+    }
+
+    /// The same with any status in place of 41h (DRDY and ERR), which a driver may meet: 61h has DF, a device fault, beside ERR, and 60h has DF alone, for which
+    /// the port doesn't halt (section 5.3, RegFIS:Entry); with 50h a read ends well that has moved fewer bytes than its list has room for, as
+    /// PRDBC says (section 4.2.2), and a write that has stored nothing; with D0h the device stays busy (BSY).
+    ///
+    /// # Errors
+    /// Those of `refuse`.
+    pub fn end(&mut self, slot: Slot, status: u8, error: u8, lba: u64) -> Result<(), HbaFault>
+        requires lba { lba < 2 ^ 48 }
+        ensures ready { OnOk result (may_refuse self.old slot ≡ true) }
+        ensures ok { OnOk result (self.new ≡ ended_at self.old slot status error lba) }
+        ensures err { IfErr result (λ e. (e ≡ fault_if (may_refuse self.old slot)) × (self.new ≡ self.old)) }
+        ensures lacking { IfErr result (λ e. e ≡ HbaFault.OutOfMemory → moves_before self.old.port (action_of (task_in (command_at self.old slot))) lba ≡ true) }
+    {
         if !self.may_refuse(slot) {
             return Err(HbaFault::NotReady);
         }
         let action = action_of(&self.task_in(slot));
-        self.refuse_with(slot, &action, error, lba)?;
+        self.end_with(slot, &action, status, error, lba)?;
         self.wake_for(&action);
         Ok(())
     }

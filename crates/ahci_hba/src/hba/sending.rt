@@ -50,7 +50,7 @@ fn asked<A: Allocator + Copy>(alloc: A, task: &Task, bytes: Vec<u8, A>) -> (Op<A
         Action::Page(_, _) | Action::Flush(_) | Action::Reply(_) | Action::Control { .. } => {
             asked_at(false, 0, 0, bytes, none)
         }
-        Action::Abort => asked_at(false, 0, 0, bytes, none),
+        Action::Store(_, _) | Action::Abort => asked_at(false, 0, 0, bytes, none),
     }
 }
 
@@ -121,7 +121,7 @@ impl<A: Allocator, S: SectorStore> Hba<A, S> {
             Action::Sectors { span, .. } => self.is_on(span) && !self.is_queueing(),
             Action::Page(_, _) | Action::Flush(_) | Action::Reply(_) | Action::Control { .. } =>
                 false,
-            Action::Abort => false,
+            Action::Store(_, _) | Action::Abort => false,
         }
     }
 
@@ -159,7 +159,7 @@ fn action_fault<A: Allocator, S: SectorStore>(
         Action::Page(_, _) | Action::Flush(_) | Action::Reply(_) | Action::Control { .. } => {
             port.submit_fault(slot.number(), 0, 0)
         }
-        Action::Abort => port.submit_fault(slot.number(), 0, 0),
+        Action::Store(_, _) | Action::Abort => port.submit_fault(slot.number(), 0, 0),
     }
 }
 

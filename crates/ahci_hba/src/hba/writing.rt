@@ -111,6 +111,7 @@ impl<A: Allocator + Copy, S: SectorStore> Hba<A, S> {
         }
         let journal = self.reset_port(consequence);
         self.settle_power(consequence);
+        self.settle_device(consequence);
         self.empty();
         journal
     }

@@ -1,10 +1,11 @@
 //! What the device's FISes and errors do to the registers. Each ends as a write does: IS.IPS is set if an interrupt is pending.
 
 ghost use Rattle.std.specs.Prelude.{◌≡◌, true};
-ghost use Rattle.hba_regs.specs.PortStates.{cfis_success, dr_overflow, err_fatal, p_select_cmd, pio_entry, pio_update, reg_fis_entry, sdb_entry, stuck};
+ghost use Rattle.hba_regs.specs.PortStates.{cfis_success, dr_overflow, err_fatal, p_select_cmd, pio_entry, pio_update, reg_fis_entry, reg_fis_unsolicited, sdb_entry, stuck};
 ghost use Rattle.hba_regs.specs.Receiving.{after_srst_cleared, after_srst_set, moved, signature_moves, signed};
 
 use super::HbaRegs;
+use crate::device_kind::DeviceKind;
 use crate::fatal::Fatal;
 use crate::slot::Slot;
 
@@ -44,6 +45,15 @@ impl HbaRegs {
         self.pending = self.pending || self.port.is_pending();
     }
 
+    /// Takes a D2H Register FIS that no command asks for, with I, status 50h and error 00h (section 5.3, RegFIS:Entry): DHRS is set, and PxCI stays, since no
+    /// command is being issued.
+    pub fn receive_unsolicited(&mut self)
+        ensures { self.new ≡ moved self.old (reg_fis_unsolicited self.old.port) }
+    {
+        self.port.receive_unsolicited();
+        self.pending = self.pending || self.port.is_pending();
+    }
+
     /// Takes a Set Device Bits FIS (section 3.3.13): PxSACT loses the slots in `sactive`. BSY and DRQ stay as they are; a
     /// status with ERR halts the port.
     pub fn receive_bits(&mut self, status: u8, error: u8, i: bool, sactive: u32)
@@ -78,13 +88,13 @@ impl HbaRegs {
         self.pending = self.pending || self.port.is_pending();
     }
 
-    /// Takes the FIS of the device's signature, a D2H Register FIS without I, or posts it if it was taken while FRE was 0
+    /// Takes the FIS of the signature of a device of some kind, a D2H Register FIS without I, or posts it if it was taken while FRE was 0
     /// (`signature_moves`): with the signature of a software reset, PxCI loses the slot of its second control FIS.
-    pub fn take_signature(&mut self)
+    pub fn take_signature(&mut self, kind: DeviceKind)
         requires { signature_moves self.old.port self.old.port.signature ≡ true }
-        ensures { self.new ≡ moved self.old (signed self.old.port self.old.port.signature) }
+        ensures { self.new ≡ moved self.old (signed kind self.old.port self.old.port.signature) }
     {
-        self.port.take_signature();
+        self.port.take_signature(kind);
         self.pending = self.pending || self.port.is_pending();
     }
 

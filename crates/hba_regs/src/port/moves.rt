@@ -3,10 +3,11 @@
 ghost use Rattle.std.specs.Prelude.{◌≡◌, ◌≢◌, ◌<◌};
 ghost use Rattle.word_bits.specs.Places.{bits, minus, with_place, without_place};
 ghost use Rattle.hba_regs.specs.Interrupts.{place_of, raised};
-ghost use Rattle.hba_regs.specs.PortStates.{bsy_or_drq_of, cfis_success, dr_overflow, ended_by_signature, err_fatal, err_fatal_taskfile, err_of, p_reg_fis_update, p_select_cmd, pio_entry, pio_update, reg_fis_entry, sdb_entry, stuck};
+ghost use Rattle.hba_regs.specs.PortStates.{bsy_or_drq_of, cfis_success, dr_overflow, ended_by_signature, err_fatal, err_fatal_taskfile, err_of, p_reg_fis_update, p_select_cmd, pio_entry, pio_update, reg_fis_entry, reg_fis_unsolicited, sdb_entry, stuck};
 ghost use Rattle.hba_regs.specs.Receiving.{after_srst_cleared, after_srst_set, signed};
 
 use super::{DHRS, OFS, PSS, Port, SDBS, TFES, raised};
+use crate::device_kind::DeviceKind;
 use crate::fatal::Fatal;
 use crate::signature::Signature;
 use crate::slot::Slot;
@@ -54,6 +55,15 @@ impl Port {
         } else if !is_busy(status) {
             self.clear_issued(slot);
         }
+    }
+
+    /// RegFIS:Entry, of a D2H Register FIS that no command asks for.
+    pub fn receive_unsolicited(&mut self)
+        ensures { self.new ≡ reg_fis_unsolicited self.old }
+    {
+        self.status = 0x50;
+        self.error = 0x00;
+        self.raise(DHRS, true);
     }
 
     /// SDB:Entry, of a Set Device Bits FIS.
@@ -134,27 +144,27 @@ impl Port {
     }
 
     /// The FIS of the device's signature: it is taken, or posted if it was taken before.
-    pub fn take_signature(&mut self)
-        ensures { self.new ≡ signed self.old self.old.signature }
+    pub fn take_signature(&mut self, kind: DeviceKind)
+        ensures { self.new ≡ signed kind self.old self.old.signature }
     {
         match self.first_fis {
-            Signature::Due => self.become_ready(),
-            Signature::Past | Signature::Unposted => self.first_fis = Signature::Past,
+            Signature::Due => self.become_ready(kind),
+            Signature::Past | Signature::Unposted(_) => self.first_fis = Signature::Past,
         }
     }
 
-    /// The device's signature is taken.
-    fn become_ready(&mut self)
-        ensures { self.new ≡ p_reg_fis_update self.old }
+    /// The signature of a device is taken.
+    fn become_ready(&mut self, kind: DeviceKind)
+        ensures { self.new ≡ p_reg_fis_update kind self.old }
     {
-        self.status = 0x50;
+        self.status = kind.signed_status();
         self.error = 0x01;
-        self.signature = 0x0000_0101;
+        self.signature = kind.signature();
         self.ci = ended_by_signature(self.soft, self.ci);
         self.first_fis = if self.receiving {
             Signature::Past
         } else {
-            Signature::Unposted
+            Signature::Unposted(kind)
         };
         self.soft = SoftReset::Off;
     }

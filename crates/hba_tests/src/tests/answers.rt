@@ -13,7 +13,7 @@ use std::test::Fail;
 type Answered = ([u32; 4], u8, u8, u8, u8);
 
 /// Commands to a disk of 8 sectors, by their titles. None of them moves data.
-static ANSWERS: [(&str, Answered); 32] = [
+static ANSWERS: [(&str, Answered); 37] = [
     ("FLUSH CACHE", ([0x2780_E700, 0, 0, 0], 0x40, 0, 0, 0)),
     (
         "FLUSH CACHE EXT",
@@ -84,8 +84,28 @@ static ANSWERS: [(&str, Answered); 32] = [
     ),
     ("NOP", ([0x2780_0000, 0, 0, 0], 0x41, 4, 0, 0)),
     (
-        "SMART READ DATA",
-        ([0x2780_B0D0, 0x004F_C200, 0, 0], 0x41, 4, 0, 0),
+        "SMART READ DATA without its signature",
+        ([0x2780_B0D0, 0x004F_C300, 0, 0], 0x41, 4, 0, 0),
+    ),
+    (
+        "SMART DISABLE OPERATIONS",
+        ([0x2780_B0D9, 0x004F_C200, 0, 0], 0x40, 0, 0, 0),
+    ),
+    (
+        "SMART RETURN STATUS while SMART is disabled",
+        ([0x2780_B0DA, 0x004F_C200, 0, 0], 0x41, 4, 0, 0),
+    ),
+    (
+        "SMART ENABLE OPERATIONS",
+        ([0x2780_B0D8, 0x004F_C200, 0, 0], 0x40, 0, 0, 0),
+    ),
+    (
+        "SMART EXECUTE OFF-LINE IMMEDIATE, short self-test",
+        ([0x2780_B0D4, 0x014F_C200, 0, 0], 0x40, 0, 0, 0),
+    ),
+    (
+        "SET FEATURES 55h",
+        ([0x2780_EF55, 0xA0, 0, 0], 0x40, 0, 0, 0),
     ),
     (
         "READ LOG EXT of log 13h",
@@ -126,8 +146,8 @@ static ANSWERS: [(&str, Answered); 32] = [
         ([0x2780_4700, 0x3002_0000, 0, 0x0200_0000], 0x41, 4, 0, 0),
     ),
     (
-        "DATA SET MANAGEMENT",
-        ([0x2780_0601, 0x40, 0, 0x0100_0000], 0x41, 4, 0, 0),
+        "DATA SET MANAGEMENT without TRIM",
+        ([0x2780_0600, 0x40, 0, 0x0100_0000], 0x41, 4, 0, 0),
     ),
     ("DEVICE RESET", ([0x2780_0800, 0, 0, 0], 0x41, 4, 0, 0)),
 ];

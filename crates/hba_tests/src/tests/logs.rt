@@ -7,15 +7,16 @@ use crate::tests::registers::{PX_CI, PX_IS, PX_TFD};
 use crate::tests::setting::{DATA, IDENTIFY, LIST, MEMORY, ONE, RECEIVED, SECTOR, START, TABLE};
 use std::test::Fail;
 
-/// The directory, by PIO and by DMA: logs 10h and 30h, of one page and of three.
+/// The directory, by PIO and by DMA: logs 03h, 07h, 10h and 11h of one page, log 04h of two, log 30h of three.
 const DIRECTORY: &[Row] = &[
     Lays(0, ONE, TABLE, [0x2780_2F00, 0, 0, 0x0100_0000], SECTOR),
     Writes(PX_CI, 1),
     Does(0),
     Reads(PX_IS, 2),
-    Has(DATA, &[1, 0, 0, 0]),
-    Has(DATA + 0x20, &[1, 0]),
-    HasAll(DATA + 0x22, 0x3E, 0),
+    Has(DATA, &[1, 0, 0, 0, 0, 0, 1, 0, 2, 0, 0, 0, 0, 0, 1, 0]),
+    HasAll(DATA + 0x10, 0x10, 0),
+    Has(DATA + 0x20, &[1, 0, 1, 0]),
+    HasAll(DATA + 0x24, 0x3C, 0),
     Has(DATA + 0x60, &[3, 0]),
     HasAll(DATA + 0x62, 512 - 0x62, 0),
     Fills(DATA, 512, 0xEE),
@@ -28,13 +29,13 @@ const DIRECTORY: &[Row] = &[
     Has(LIST + 4, &[0, 2, 0, 0]),
 ];
 
-/// The words of IDENTIFY DEVICE that speak of logs: 84 and 87 (bit 5), 86 (bit 15), 119 and 120 (bit 3).
+/// The words of IDENTIFY DEVICE that speak of logs: 84 and 87 (bits 0, 1 and 5), 86 (bit 15), 119 and 120 (bit 3).
 const WORDS: &[Row] = &[
     Lays(0, ONE, TABLE, IDENTIFY, SECTOR),
     Writes(PX_CI, 1),
     Does(0),
-    Has(DATA + 2 * 84, &[0x20, 0x40]),
-    Has(DATA + 2 * 86, &[0x00, 0xB4, 0x20, 0x40]),
+    Has(DATA + 2 * 84, &[0x63, 0x40]),
+    Has(DATA + 2 * 86, &[0x00, 0xB4, 0x63, 0x40]),
     Has(DATA + 2 * 119, &[0x08, 0x40, 0x08, 0x40]),
 ];
 
@@ -76,7 +77,7 @@ const COPY: &[Row] = &[
     Has(DATA + 2 * 27, b"OSTFAWER"),
     Has(DATA + 2 * 60, &[8, 0, 0, 0]),
     Has(DATA + 2 * 75, &[31, 0]),
-    Has(DATA + 2 * 82, &[0x08, 0x00, 0x00, 0x74, 0x20, 0x40]),
+    Has(DATA + 2 * 82, &[0x49, 0x30, 0x08, 0x74, 0x63, 0x40]),
     Has(DATA + 2 * 88, &[0x3F, 0x20]),
     Has(DATA + 2 * 100, &[8, 0, 0, 0, 0, 0, 0, 0]),
     Has(DATA + 2 * 119, &[0x08, 0x40, 0x08, 0x40]),

@@ -73,7 +73,7 @@ const ROWS: &[Row] = &[
     Reads(PX_TFD, 0x441),
     Reads(PX_CMD, 0x4016),
     Writes(PX_CMD, 0x4017),
-    // IDENTIFY DEVICE: PRDBC, and words 49, 60 and 83
+    // IDENTIFY DEVICE: PRDBC, and words 47 to 50, 60 and 83
     Reads(PX_IS, 0),
     Lays(0, 0x0001_0005, EARLY, [0x2780_EC00, 0, 0, 0], PAGE),
     Writes(PX_CI, 1),
@@ -81,9 +81,12 @@ const ROWS: &[Row] = &[
     Reads(PX_IS, 2),
     Writes(PX_IS, 2),
     Has(0x1EFE_8804, &[0, 2, 0, 0]),
-    Has(0x1EFE_6DD8 + 2 * 49, &[0x00, 0x03]),
+    Has(
+        0x1EFE_6DD8 + 2 * 47,
+        &[0x00, 0x80, 0x00, 0x40, 0x00, 0x0F, 0x00, 0x40],
+    ),
     Has(0x1EFE_6DD8 + 2 * 60, &[0x00, 0x01, 0x00, 0x00]),
-    Has(0x1EFE_6DD8 + 2 * 83, &[0x00, 0x74]),
+    Has(0x1EFE_6DD8 + 2 * 83, &[0x08, 0x74]),
     // SET FEATURES, with W and an entry of 4 MiB that isn't used
     Reads(PX_IS, 0),
     Lays(

@@ -1,0 +1,58 @@
+/* What SET FEATURES, SMART and DATA SET MANAGEMENT do in the disk of the shadow (ACS-3, by the titles of subcommands). */
+#include "hba_shadow_commands.h"
+
+/* A transfer mode of SET FEATURES that the page of IDENTIFY DEVICE has: PIO default, PIO 0 to 4, multiword DMA 0 to 2, Ultra DMA 0 to 5. */
+static bool is_mode(uint8_t mode) { return mode < 2 || (mode >= 0x08 && mode <= 0x0C) || (mode >= 0x20 && mode <= 0x22) || (mode >= 0x40 && mode <= 0x45); }
+
+/* SET FEATURES: whether the subcommand is carried out. Without a volatile write cache there is none to enable or disable. */
+static bool sets_feature(const struct command *it)
+{
+    const uint8_t count = it->fis[12];
+    switch (it->fis[3]) {
+    case 0x02: case 0x82: disk.cache = disk.has_cache && it->fis[3] == 0x02; return disk.has_cache;
+    case 0x03: return is_mode(count);
+    case 0x05: disk.level = count && count != 0xFF ? count : disk.level; return count && count != 0xFF;
+    case 0x85: disk.level = 0; return true;
+    case 0x55: case 0xAA: disk.ahead = it->fis[3] == 0xAA; return true;
+    case 0x66: case 0xCC: disk.reverts = it->fis[3] == 0xCC; return true;
+    default: return false;
+    }
+}
+
+/* A self-test has passed: its number is in the next of 21 entries of log 06h, and of 19 of log 07h. */
+static void tests(uint8_t number)
+{
+    disk.tests[508] = (uint8_t)(disk.tests[508] % 21 + 1);
+    disk.tests[2 + 24 * (disk.tests[508] - 1)] = number;
+    disk.more_tests[2] = (uint8_t)(disk.more_tests[2] % 19 + 1);
+    disk.more_tests[4 + 26 * (disk.more_tests[2] - 1)] = number;
+}
+
+/* SMART without data: whether the subcommand is carried out. While it is disabled only SMART ENABLE OPERATIONS is. */
+static bool is_smart(const struct command *it)
+{
+    const uint8_t count = it->fis[12], low = it->fis[4];
+    if (it->fis[5] != 0x4F || it->fis[6] != 0xC2 || (!disk.smart && it->fis[3] != 0xD8))
+        return false;
+    switch (it->fis[3]) {
+    case 0xD2: return count == 0 || count == 0xF1;
+    case 0xD4:
+        if (low == 1 || low == 2 || low == 0x81 || low == 0x82)
+            tests(low);
+        return low <= 2 || low == 0x7F || low == 0x81 || low == 0x82;
+    case 0xD8: case 0xD9: disk.smart = it->fis[3] == 0xD8; return true;
+    case 0xDA: return true;
+    default: return false;
+    }
+}
+
+/* Whether a range of DATA SET MANAGEMENT has a sector that is not on the disk. */
+static bool leaves_disk(const struct command *it)
+{
+    for (uint64_t at = 0; at < it->moved && at < KEPT; at += 8) {
+        const uint64_t lba = little(it->bytes + at, 6), count = little(it->bytes + at + 6, 2);
+        if (count && lba + count > SECTORS)
+            return true;
+    }
+    return false;
+}

@@ -1,0 +1,79 @@
+//! What the disk keeps between commands (ACS-3, "SET FEATURES", "SMART" and "IDENTIFY DEVICE").
+
+ghost use Rattle.std.specs.Prelude.{◌≡◌};
+ghost use Rattle.hba_command.specs.Device.{after_srst};
+ghost use Rattle.ahci_hba.specs.Keeping.{cached, changed_by, device_after, keeping, renamed};
+
+use crate::hba::Hba;
+use hba_command::{
+    Device, Identity, Reply, after_srst, device_after_reply, named, reset_device, with_cache,
+};
+use hba_regs::Consequence;
+use sector_store::SectorStore;
+use std::alloc::Allocator;
+
+/// The disk behind a driver's write.
+fn device_after(consequence: Consequence, device: &Device) -> Device
+    ensures { result ≡ device_after consequence device.now }
+{
+    match consequence {
+        Consequence::Nothing | Consequence::Stopped => *device,
+        Consequence::LinkReset | Consequence::Reset => reset_device(device),
+    }
+}
+
+impl<A: Allocator, S: SectorStore> Hba<A, S> {
+    /// What the disk keeps between commands.
+    pub fn device(&self) -> &Device
+        ensures { result.now ≡ self.now.device }
+    {
+        &self.device
+    }
+
+    /// The disk keeps other things.
+    pub(super) fn keep(&mut self, device: Device)
+        ensures { self.new ≡ keeping self.old device }
+    {
+        self.device = device;
+    }
+
+    /// A command that moves nothing is answered.
+    pub(super) fn change_by(&mut self, reply: &Reply)
+        ensures { self.new ≡ changed_by reply.now self.old }
+    {
+        let device = device_after_reply(reply, &self.device);
+        self.keep(device);
+    }
+
+    /// A driver's write has this consequence, which may reset the device.
+    pub(super) fn settle_device(&mut self, consequence: Consequence)
+        ensures { self.new ≡ keeping self.old (device_after consequence self.old.device) }
+    {
+        let device = device_after(consequence, &self.device);
+        self.keep(device);
+    }
+
+    /// The device takes SRST 1.
+    pub(super) fn settle_srst(&mut self)
+        ensures { self.new ≡ keeping self.old (after_srst self.old.device) }
+    {
+        let device = after_srst(&self.device);
+        self.keep(device);
+    }
+
+    /// The disk has a volatile write cache, which is enabled from now on, or it has none. A new controller's has none.
+    pub fn set_cache(&mut self, has_cache: bool)
+        ensures { self.new ≡ cached has_cache self.old }
+    {
+        let device = with_cache(&self.device, has_cache);
+        self.keep(device);
+    }
+
+    /// IDENTIFY DEVICE names the disk so from now on.
+    pub fn set_identity(&mut self, identity: &Identity)
+        ensures { self.new ≡ renamed identity.now self.old }
+    {
+        let device = named(&self.device, identity);
+        self.keep(device);
+    }
+}

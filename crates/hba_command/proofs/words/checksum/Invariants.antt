@@ -1,0 +1,7 @@
+-- the sum so far
+use Rattle.std.proofs.Common.{◌≡◌, ◌%◌, take}
+use Rattle.std.specs.List.{sum}
+use Rattle.hba_command.proofs.words.checksum.Given as goal
+
+abbrev pub invariant-loop-byte : goal.invariant-loop-byte
+invariant-loop-byte l = l.sum ≡ sum (take l.byte-index l.bytes) % 256

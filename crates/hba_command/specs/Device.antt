@@ -1,0 +1,102 @@
+-- What the disk keeps between commands, and what changes it (ACS-3, "SET FEATURES", "SMART" and "WRITE BUFFER", by the titles of subcommands).
+use Rattle.std.specs.Prelude.{ℕ, ◌+◌, ◌-◌, ◌*◌, ◌%◌, Bool, true, false, not, ◌==◌, ◌||◌, List, length, replicate, slice_index, slice_set, if◌then◌else◌}
+use Rattle.hba_command.specs.DiskPage.{needs_smart}
+use Rattle.hba_command.specs.Identity.{usual_identity}
+use Rattle.hba_command.specs.Words.{with_word}
+use Rattle.hba_command.specs.declared.change.Change.{Change}
+use Rattle.hba_command.specs.declared.change.Change.TheVariants.{WriteCache, LookAhead, PowerLevel, Reverting, Smart, Test, NothingSmart}
+use Rattle.hba_command.specs.declared.device.Device.{Device}
+use Rattle.hba_command.specs.declared.disk_page.DiskPage.{DiskPage}
+use Rattle.hba_command.specs.declared.identity.Identity.{Identity}
+use Rattle.hba_command.specs.declared.reply.Reply.{Reply}
+use Rattle.hba_command.specs.declared.reply.Reply.TheVariants.{Changed}
+use Rattle.hba_command.specs.declared.store.Store.{Store}
+use Rattle.hba_command.specs.declared.store.Store.TheVariants.{Buffer, Trim}
+
+-- a disk that has never been used, without a volatile write cache; look-ahead and SMART operations are enabled, Advanced Power Management is
+-- not, and a software reset leaves the settings (profile)
+unfoldable pub new_device : Device
+new_device = record {
+  identity = usual_identity;
+  has_cache = false;
+  cache = false;
+  look_ahead = true;
+  power_level = 0;
+  reverts = false;
+  smart = true;
+  tests = with_word 0 0x0001 (replicate 512 0);
+  more_tests = with_word 0 0x0001 (replicate 512 0);
+  buffer = replicate 512 0;
+}
+
+-- a disk with a volatile write cache has it enabled (profile)
+abbrev pub with_cache : Bool → Device → Device
+with_cache has d = record d { has_cache = has; cache = has }
+
+abbrev pub named : Identity → Device → Device
+named identity d = record d { identity = identity }
+
+-- a hardware reset or power-on: the settings of SET FEATURES are the defaults. SMART stays enabled or disabled ("SMART ENABLE OPERATIONS"), and its
+-- logs stay
+abbrev pub reset_device : Device → Device
+reset_device d = record d { cache = d.has_cache; look_ahead = true; power_level = 0; reverts = false }
+
+-- a software reset: it reverts to the defaults only if SET FEATURES CCh has enabled that ("Enable/disable reverting to defaults")
+abbrev pub after_srst : Device → Device
+after_srst d = if d.reverts then reset_device d else d
+
+-- a volatile write cache that is not there can be neither enabled nor disabled; while SMART operations are disabled, SMART ENABLE OPERATIONS is the
+-- only subcommand of SMART that is not aborted
+abbrev pub allows : Device → Change → Bool
+allows d (WriteCache enabled) = d.has_cache
+allows d (LookAhead enabled) = true
+allows d (PowerLevel level) = true
+allows d (Reverting reverts) = true
+allows d (Smart enabled) = enabled || d.smart
+allows d (Test test) = d.smart
+allows d NothingSmart = d.smart
+
+-- the log of one more self-test: the entries of 24 bytes from byte 2 on are written in turn, 21 of them, and byte 508 has the number of the newest
+-- ("SMART Self-Test log"). An entry begins with the number of the test; its status and its other bytes are 0: completed without error
+abbrev pub newest_of_21 : List ℕ → ℕ
+newest_of_21 log = slice_index log 508 % 21 + 1
+
+abbrev pub tested : ℕ → List ℕ → List ℕ
+tested test log = slice_set (slice_set log (24 * newest_of_21 log - 22) test) 508 (newest_of_21 log)
+
+-- the entries of 26 bytes from byte 4 on are written in turn, 19 of them, and byte 2 has the number of the newest ("Extended SMART Self-Test log")
+abbrev pub newest_of_19 : List ℕ → ℕ
+newest_of_19 log = slice_index log 2 % 19 + 1
+
+abbrev pub more_tested : ℕ → List ℕ → List ℕ
+more_tested test log = slice_set (slice_set log (26 * newest_of_19 log - 22) test) 2 (newest_of_19 log)
+
+abbrev pub changed : Change → Device → Device
+changed (WriteCache enabled) d = record d { cache = enabled }
+changed (LookAhead enabled) d = record d { look_ahead = enabled }
+changed (PowerLevel level) d = record d { power_level = level }
+changed (Reverting reverts) d = record d { reverts = reverts }
+changed (Smart enabled) d = record d { smart = enabled }
+changed (Test test) d = record d { tests = tested test d.tests; more_tests = more_tested test d.more_tests }
+changed NothingSmart d = d
+
+abbrev pub after_change : Change → Device → Device
+after_change c d = if allows d c then changed c d else d
+
+-- the disk behind a command that moves nothing
+abbrev pub device_after_reply : Reply → Device → Device
+device_after_reply (Changed c) d = after_change c d
+device_after_reply other d = d
+
+-- a page of the SMART feature set is read while SMART operations are enabled
+abbrev pub allows_page : Device → DiskPage → Bool
+allows_page d page = d.smart || not (needs_smart page)
+
+-- WRITE BUFFER has 512 bytes
+abbrev pub buffered : List ℕ → Device → Device
+buffered bytes d = if length bytes == 512 then record d { buffer = bytes } else d
+
+-- a trim is advice, and leaves the sectors as they are (profile)
+abbrev pub after_store : Store → List ℕ → Device → Device
+after_store Buffer bytes d = buffered bytes d
+after_store (Trim blocks) bytes d = d

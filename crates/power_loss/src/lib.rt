@@ -1,0 +1,7 @@
+//! What a disk with a volatile write cache may hold after a loss of power, by the journal of its port.
+#![tactic(auto)]
+
+pub mod laws;
+mod leaving;
+
+pub use leaving::may_be_left;
