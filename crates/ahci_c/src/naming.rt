@@ -46,7 +46,9 @@ pub extern "C" fn ahci_hba_write_cache_enabled(
     ensures { Reads result (view_of hba.old) (view_of hba.new) (enabled.new ≡ enabled.old)
         (λ answer now. (answer ≡ Status.Done) × (enabled.new ≡ number_if now.device.cache)) }
 {
-    over!(hba, heap, |held| hba_ffi::write_cache_enabled(
-        &held, enabled
-    ))
+    over!(
+        hba,
+        heap,
+        |held| hba_ffi::write_cache_enabled(&held, enabled)
+    )
 }
