@@ -84,15 +84,30 @@ def count_is_partial(it: Moment, found: Difference) -> bool:
     return False
 
 
+def is_identify_page(page: bytes) -> bool:
+    """A page of such a disk, whatever its other words are (ACS-3, "IDENTIFY DEVICE")."""
+    word = [int.from_bytes(page[at : at + 2], "little") for at in range(0, 512, 2)]
+    size = word[60] | word[61] << 16
+    return size == layout.SECTORS == word[100] and not any(word[101:104]) and word[49] & 0x300 == 0x300 and not word[0] & 0x8000 and word[83] >> 14 == 1
+
+
+def is_directory(page: bytes) -> bool:
+    """Version 1, and a log 10h of one page, whatever other logs there are (ACS-3, "General Purpose Log Directory")."""
+    return page[:2] == b"\1\0" and page[0x20:0x22] == b"\1\0"
+
+
+def reads_directory(fis: bytes) -> bool:
+    """READ LOG EXT or READ LOG DMA EXT of log 00h, its one page."""
+    return fis[2] in (0x2F, 0x47) and not fis[4] and not fis[5] | fis[9] and fis[12] | fis[13] << 8 == 1
+
+
 def page_of_disk(it: Moment) -> bool:
-    """IDENTIFY DEVICE has put a page of such a disk where the PRDT says, whatever its other words are (ACS-3, IDENTIFY DEVICE)."""
+    """A page of a disk of its own is where the PRDT says: that of IDENTIFY DEVICE, or the directory of logs."""
     for one in it.issued:
-        page = gathered(it.emulator, one, 512) if one.command.fis[2] == 0xEC else None
-        if page is None or len(page) < 512:
-            continue
-        word = [int.from_bytes(page[at : at + 2], "little") for at in range(0, 512, 2)]
-        size = word[60] | word[61] << 16
-        if size == layout.SECTORS == word[100] and not any(word[101:104]) and word[49] & 0x300 == 0x300 and not word[0] & 0x8000 and word[83] >> 14 == 1:
+        fis = one.command.fis.ljust(20, b"\0")
+        is_right = is_identify_page if fis[2] == 0xEC else is_directory if reads_directory(fis) else None
+        page = gathered(it.emulator, one, 512) if is_right else None
+        if is_right and page is not None and len(page) == 512 and is_right(page):
             return True
     return False
 
