@@ -100,14 +100,16 @@ delivers_for other slot = false
 abbrev pub may_deliver : HbaView → ℕ → Bool
 may_deliver h slot = is_running h.registers.port && (h.registers.port.fre && delivers_for h.work slot)
 
+abbrev pub delivery : HbaView → ℕ → Option Step
+delivery h slot = if may_deliver h slot then Some step.Deliver else None
+
 -- the next step with the command of a slot: there is one at most but for the order of these lines, which decides
 abbrev pub queue_step : HbaView → ℕ → Option Step
 queue_step h slot =
     if may_send h slot then Some step.Send
     else if may_accept h slot then Some step.Accept
     else if may_serve h slot then Some step.Serve
-    else if may_deliver h slot then Some step.Deliver
-    else None
+    else delivery h slot
 
 abbrev pub next_step : HbaView → ℕ → Option Step
 next_step h slot =

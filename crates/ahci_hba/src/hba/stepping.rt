@@ -1,7 +1,8 @@
 //! Which step the device can take next with the command of a slot, and that step.
 
-ghost use Rattle.std.specs.Prelude.{◌≡◌, ◌<◌, IfErr, IfOk, IsSomeAnd, is_some};
-ghost use Rattle.ahci_hba.specs.Stepping.{IsTaken, StepMayLack, delivers_for, fault_if, may_deliver, next_step, queue_step};
+ghost use Rattle.std.specs.Prelude.{◌≡◌, ◌<◌, None, IfErr, IfOk, IsSomeAnd, is_some};
+ghost use Rattle.ahci_hba.specs.Queueing.{command_at};
+ghost use Rattle.ahci_hba.specs.Stepping.{IsTaken, StepMayLack, delivers_for, delivery, fault_if, may_deliver, next_step, queue_step};
 
 use crate::fault::HbaFault;
 use crate::hba::Hba;
@@ -32,6 +33,17 @@ impl<A: Allocator, S: SectorStore> Hba<A, S> {
         self.is_running() && self.registers.is_receiving() && self.delivers_for(slot)
     }
 
+    /// The step with what the port has done for a slot.
+    fn delivery(&self, slot: Slot) -> Option<Step>
+        ensures { result ≡ delivery self.now slot }
+    {
+        if self.may_deliver(slot) {
+            Some(Step::Deliver)
+        } else {
+            None
+        }
+    }
+
     /// The next step with a command that goes to the port.
     fn queue_step(&self, slot: Slot) -> Option<Step>
         ensures { result ≡ queue_step self.now slot }
@@ -42,16 +54,25 @@ impl<A: Allocator, S: SectorStore> Hba<A, S> {
             Some(Step::Accept)
         } else if self.may_serve(slot) {
             Some(Step::Serve)
-        } else if self.may_deliver(slot) {
-            Some(Step::Deliver)
         } else {
-            None
+            self.delivery(slot)
         }
     }
 
-    /// The next step that the device can take with the command of a slot; which slot comes first is the caller's choice. A command
-    /// that may be served may also be failed, and one that is executed, refused.
-    pub fn next(&self, slot: Slot) -> Option<Step>
+    /// The next step with a slot that has no command: one is read, or the answer to the last one is put together.
+    fn empty_step(&self, slot: Slot) -> Option<Step>
+        requires { command_at self.now slot ≡ None }
+        ensures { result ≡ next_step self.now slot }
+    {
+        if self.may_fetch(slot) {
+            Some(Step::Fetch)
+        } else {
+            self.delivery(slot)
+        }
+    }
+
+    /// The next step with the command of a slot.
+    fn command_step(&self, slot: Slot) -> Option<Step>
         ensures { result ≡ next_step self.now slot }
     {
         if self.may_fetch(slot) {
@@ -64,6 +85,20 @@ impl<A: Allocator, S: SectorStore> Hba<A, S> {
             Some(Step::Recover)
         } else {
             self.queue_step(slot)
+        }
+    }
+
+    /// The next step that the device can take with the command of a slot; which slot comes first is the caller's choice. A command
+    /// that may be served may also be failed, and one that is executed, refused.
+    pub fn next(&self, slot: Slot) -> Option<Step>
+        ensures { result ≡ next_step self.now slot }
+    {
+        if !self.is_listening() {
+            return self.delivery(slot);
+        }
+        match &self.slots[slot.index()] {
+            None => self.empty_step(slot),
+            Some(_) => self.command_step(slot),
         }
     }
 }
