@@ -47,13 +47,6 @@ class Package(unittest.TestCase):
         self.assertIn("std_heap", used)
         self.assertNotIn("word_bits", used)
 
-    def test_the_exports_that_a_soname_keeps_are_the_header_s(self) -> None:
-        with open(f"{TOP}/tools/debian/libahci0.symbols", encoding="ascii") as file:
-            symbols = [line.split("@")[0].strip() for line in file.read().splitlines()[1:]]
-        with open(f"{TOP}/c/ahci.h", encoding="utf-8") as file:
-            declared = [line[len("uint32_t "):].split("(")[0] for line in file if line.startswith("uint32_t ahci_")]
-        self.assertEqual(sorted(declared), symbols)
-
 
 if __name__ == "__main__":
     unittest.main()

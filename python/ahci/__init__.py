@@ -16,9 +16,9 @@ from .layers import (
     tags_of, version, window_check,
 )
 from .library import OutOfMemory, Refused
-from .names import DeviceKind, Did, Event, FisType, InterfaceError, Kind, Order, Outcome, Phase, Register, Rule, Status, Step, Want, Wrote
+from .names import DeviceKind, Did, Event, InterfaceError, Kind, Order, Outcome, Phase, Register, Rule, Status, Step, Want, Wrote
 from .port import Port
-from .records import Capabilities, Command, Entry, Fis, Identity, Look, Reply, Slot, State, Stepped, TagSets, Written
+from .records import Capabilities, Command, Entry, Fis, FisType, Identity, Look, Reply, Slot, State, Stepped, TagSets, Written
 
 __version__ = "1.0.0"
 __all__ = [

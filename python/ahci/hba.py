@@ -15,8 +15,9 @@ import ctypes
 import mmap
 from typing import List, Optional, Union
 
-from .library import Bytes, CapabilitiesStruct, HbaPlace, IdentityStruct, LookStruct, Owner, fits, given, u32, u64
+from .library import Bytes, Owner, fits, given
 from .names import DeviceKind, InterfaceError, Rule, Step, Want
+from .prototypes import HbaCapabilitiesStruct, HbaPlace, HbaStateStruct, IdentityStruct, u32, u64
 from .records import Capabilities, Entry, Identity, Look, State
 
 Memory = Union[bytearray, memoryview, mmap.mmap]
@@ -39,7 +40,7 @@ class Hba(Owner):
     def __init__(self, image: Bytes, depth: int, capabilities: Capabilities = Capabilities()) -> None:
         """After power-on, in front of a disk with a copy of an image of whole sectors. The controller can do what `capabilities` says."""
         super().__init__(HbaPlace())
-        words = CapabilitiesStruct(*(fits(it, 32, name) for name, it in zip(capabilities._fields, capabilities)))
+        words = HbaCapabilitiesStruct(*(fits(it, 32, name) for name, it in zip(capabilities._fields, capabilities)))
         self._call("new_with", *given(image), fits(depth, 32, "depth"), ctypes.byref(words))
 
     @classmethod
@@ -48,7 +49,7 @@ class Hba(Owner):
         made = cls.__new__(cls)
         Owner.__init__(made, HbaPlace())
         where, count = made._base = given(base)
-        words = CapabilitiesStruct(*(fits(it, 32, name) for name, it in zip(capabilities._fields, capabilities)))
+        words = HbaCapabilitiesStruct(*(fits(it, 32, name) for name, it in zip(capabilities._fields, capabilities)))
         made._call("over", where, count, fits(sectors, 32, "sectors"), fits(depth, 32, "depth"), ctypes.byref(words))
         return made
 
@@ -127,7 +128,7 @@ class Hba(Owner):
 
     def look(self) -> Look:
         """What the controller does next."""
-        found = LookStruct()
+        found = HbaStateStruct()
         self._call("look", ctypes.byref(found))
         steps = tuple(map(_STEPS.__getitem__, found.next))
         return Look(found.address, found.length, Want(found.want), bool(found.interrupt), bool(found.sign), found.depth, steps)

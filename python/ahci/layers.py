@@ -4,9 +4,10 @@ from __future__ import annotations
 import ctypes
 from typing import List, Optional, Sequence
 
-from .library import Bytes, CommandStruct, EntryStruct, FisStruct, call, done, fits, given, loaded, size, u32, u64
-from .names import FisType, Kind, Order, Rule, Status
-from .records import Command, Entry, Fis
+from .library import Bytes, call, done, fits, given, loaded
+from .names import Kind, Order, Rule, Status
+from .prototypes import CommandStruct, EntryStruct, FisStruct, size, u32, u64
+from .records import Command, Entry, Fis, FisType
 
 MOST_FIS_BYTES = 8196  # a Data FIS with 8,192 bytes of payload
 

@@ -1,11 +1,11 @@
-"""The numbers of c/ahci.h by name: statuses, events, phases, registers and the rules for drivers. Each is an `int` too."""
+"""The enums and the registers of c/ahci.h by name. Each number is an `int` too. Written by tools/bindings from c/ahci.h."""
 from __future__ import annotations
 
 import enum
 
 
 class Status(enum.IntEnum):
-    """Why a call was refused (ahci_status)."""
+    """What a call returns. Each has one meaning (ahci_status)"""
 
     OK = 0
     NO_PORT = 1
@@ -57,53 +57,6 @@ class Status(enum.IntEnum):
     NOT_ALLOWED = 80
 
 
-class Event(enum.IntEnum):
-    """What an entry of the journal records (ahci_event)."""
-
-    READ = 0
-    WRITE = 1
-    ACCEPT = 2
-    COMPLETE = 3
-    FAIL = 4
-    RECOVER = 5
-    REISSUE = 6
-    COLLECT = 7
-    IDENTIFY = 8
-    FLUSH = 9
-    READ_LOG = 10
-
-
-class Phase(enum.IntEnum):
-    """How far the command of a tag is (ahci_phase)."""
-
-    FREE = 0
-    ISSUED = 1
-    ACCEPTED = 2
-    REJECTED = 3
-    BROKEN = 4
-    HELD = 5
-    DONE = 6
-
-
-class InterfaceError(enum.IntEnum):
-    """An error of the interface, by the number of its bit in PxSERR (ahci_interface_error)."""
-
-    DECODE = 19
-    CRC = 21
-    HANDSHAKE = 22
-    LINK_SEQUENCE = 23
-    TRANSPORT_STATE = 24
-
-
-class DeviceKind(enum.IntEnum):
-    """What a device is, by its signature (ahci_device_kind)."""
-
-    DISK = 0
-    PACKET = 1
-    ENCLOSURE_BRIDGE = 2
-    PORT_MULTIPLIER = 3
-
-
 class Order(enum.IntEnum):
     """In which order the device goes on with the tags of a set (ahci_order)."""
 
@@ -113,10 +66,22 @@ class Order(enum.IntEnum):
 
 
 class Kind(enum.IntEnum):
-    """The direction of a command (ahci_kind)."""
+    """What a command does (ahci_kind)."""
 
     READ = 0
     WRITE = 1
+
+
+class Phase(enum.IntEnum):
+    """How far a tag's command is (ahci_phase)."""
+
+    FREE = 0
+    ISSUED = 1
+    ACCEPTED = 2
+    REJECTED = 3
+    BROKEN = 4
+    HELD = 5
+    DONE = 6
 
 
 class Did(enum.IntEnum):
@@ -135,6 +100,22 @@ class Outcome(enum.IntEnum):
     FAIL = 2
 
 
+class Event(enum.IntEnum):
+    """What an entry of the journal records (ahci_event)."""
+
+    READ = 0
+    WRITE = 1
+    ACCEPT = 2
+    COMPLETE = 3
+    FAIL = 4
+    RECOVER = 5
+    REISSUE = 6
+    COLLECT = 7
+    IDENTIFY = 8
+    FLUSH = 9
+    READ_LOG = 10
+
+
 class Wrote(enum.IntEnum):
     """What a driver's write of a register did (ahci_wrote)."""
 
@@ -144,55 +125,35 @@ class Wrote(enum.IntEnum):
     SOME = 3
 
 
-class Register(enum.IntEnum):
-    """Offsets of registers from the HBA's base (AHCI 1.3.1, sections 3.1 and 3.3), in bytes."""
-
-    CAP = 0x000
-    GHC = 0x004
-    IS = 0x008
-    PI = 0x00C
-    VS = 0x010
-    CAP2 = 0x024
-    BOHC = 0x028
-    PXCLB = 0x100
-    PXCLBU = 0x104
-    PXFB = 0x108
-    PXFBU = 0x10C
-    PXIS = 0x110
-    PXIE = 0x114
-    PXCMD = 0x118
-    PXTFD = 0x120
-    PXSIG = 0x124
-    PXSSTS = 0x128
-    PXSCTL = 0x12C
-    PXSERR = 0x130
-    PXSACT = 0x134
-    PXCI = 0x138
-    PXSNTF = 0x13C
-
-
-class FisType(enum.IntEnum):
-    """Byte 0 of a FIS (Serial ATA, "FIS types")."""
-
-    H2D = 0x27
-    D2H = 0x34
-    DMA_ACTIVATE = 0x39
-    DMA_SETUP = 0x41
-    DATA = 0x46
-    PIO_SETUP = 0x5F
-    SET_DEVICE_BITS = 0xA1
-
-
 class Want(enum.IntEnum):
-    """What a controller does next with the driver's memory (ahci_want)."""
+    """What the controller does next with the driver's memory (ahci_want)."""
 
     NOTHING = 0
     READ = 1
     WRITE = 2
 
 
+class InterfaceError(enum.IntEnum):
+    """An error of the interface, by the number of its bit in PxSERR (section 3.3.12, DIAG) (ahci_interface_error)."""
+
+    DECODE = 19
+    CRC = 21
+    HANDSHAKE = 22
+    LINK_SEQUENCE = 23
+    TRANSPORT_STATE = 24
+
+
+class DeviceKind(enum.IntEnum):
+    """What a device is, by its signature (section 3.3.9, PxSIG) (ahci_device_kind)."""
+
+    DISK = 0
+    PACKET = 1
+    ENCLOSURE_BRIDGE = 2
+    PORT_MULTIPLIER = 3
+
+
 class Step(enum.IntEnum):
-    """The next step with the command of a slot (ahci_hba_step_kind)."""
+    """The next step with the command of a slot. Which of the slots comes first is the caller's choice (ahci_hba_step_kind)"""
 
     NONE = 0
     FETCH = 1
@@ -206,7 +167,7 @@ class Step(enum.IntEnum):
 
 
 class Rule(enum.IntEnum):
-    """A rule of AHCI 1.3.1 for the software that drives a controller, named for what breaks it (ahci_rule)."""
+    """The rules of AHCI 1.3.1 for the software that drives a controller, each named for what breaks it. Sections: crates/hba_rules (ahci_rule)"""
 
     START_WITHOUT_RECEIVING = 0
     START_WITH_RECEIVING = 1
@@ -254,3 +215,30 @@ class Rule(enum.IntEnum):
     RESERVED_FIS = 43
     RESERVED_ENTRY = 44
     SLOT_ABOVE_LIST = 45
+
+
+class Register(enum.IntEnum):
+    """Offsets from the HBA's base (sections 3.1 and 3.3), in bytes. The one port's registers begin at 100h (AHCI_REG_)"""
+
+    CAP = 0x000
+    GHC = 0x004
+    IS = 0x008
+    PI = 0x00C
+    VS = 0x010
+    CAP2 = 0x024
+    BOHC = 0x028
+    PXCLB = 0x100
+    PXCLBU = 0x104
+    PXFB = 0x108
+    PXFBU = 0x10C
+    PXIS = 0x110
+    PXIE = 0x114
+    PXCMD = 0x118
+    PXTFD = 0x120
+    PXSIG = 0x124
+    PXSSTS = 0x128
+    PXSCTL = 0x12C
+    PXSERR = 0x130
+    PXSACT = 0x134
+    PXCI = 0x138
+    PXSNTF = 0x13C

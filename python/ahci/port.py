@@ -4,8 +4,9 @@ from __future__ import annotations
 import ctypes
 from typing import List, Sequence, Tuple
 
-from .library import Bytes, Owner, PortPlace, ReplyStruct, SetsStruct, SlotStruct, SteppedStruct, WrittenStruct, done, fits, given, u32, u64
+from .library import Bytes, Owner, done, fits, given
 from .names import Did, Kind, Outcome, Phase, Wrote
+from .prototypes import PortPlace, ReplyStruct, SlotStruct, SteppedStruct, TagSetsStruct, WrittenStruct, u32, u64
 from .records import Entry, Reply, Slot, State, Stepped, TagSets, Written
 
 
@@ -128,7 +129,7 @@ class Port(Owner):
 
     def tag_sets(self) -> TagSets:
         """Tags by what they wait for."""
-        sets = SetsStruct()
+        sets = TagSetsStruct()
         self._call("tag_sets", ctypes.byref(sets))
         return TagSets(sets.issued, sets.accepted, sets.held)
 

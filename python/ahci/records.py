@@ -1,6 +1,7 @@
 """What the calls return."""
 from __future__ import annotations
 
+import enum
 from typing import Dict, NamedTuple, Tuple
 
 from .names import Did, Event, Kind, Outcome, Phase, Step, Want, Wrote
@@ -85,6 +86,18 @@ class Command(NamedTuple):
     kind: Kind
     tag: int
     pieces: int
+
+
+class FisType(enum.IntEnum):
+    """Byte 0 of a FIS (Serial ATA, "FIS types")."""
+
+    H2D = 0x27
+    D2H = 0x34
+    DMA_ACTIVATE = 0x39
+    DMA_SETUP = 0x41
+    DATA = 0x46
+    PIO_SETUP = 0x5F
+    SET_DEVICE_BITS = 0xA1
 
 
 class Fis(NamedTuple):
