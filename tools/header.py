@@ -6,11 +6,12 @@ from dataclasses import dataclass
 from typing import Dict, Iterator, List, Tuple
 
 COMMENT = r"(?:/\*(?P<about>(?:(?!\*/).)*)\*/\n)?"
-DECLARED = re.compile(
-    COMMENT + r"(?:typedef enum ahci_(?P<enum>\w+) \{\n(?P<members>.*?)\n\}[^\n]*;|typedef struct ahci_(?P<struct>\w+) \{\n(?P<fields>.*?)\n\}[^\n]*;|uint32_t (?P<call>ahci_\w+)\((?P<arguments>[^;]*)\);"
-    r"|(?P<registers>(?:#define AHCI_REG_\w+ \w+\n)+)|/\* ---- (?P<title>.*?) ----)",
-    re.S,
-)
+ENUM = r"typedef enum ahci_(?P<enum>\w+) \{\n(?P<members>.*?)\n\}[^\n]*;"
+STRUCT = r"typedef struct ahci_(?P<struct>\w+) \{\n(?P<fields>.*?)\n\}[^\n]*;"
+CALL = r"uint32_t (?P<call>ahci_\w+)\((?P<arguments>[^;]*)\);"
+REGISTERS = r"(?P<registers>(?:#define AHCI_REG_\w+ \w+\n)+)"
+TITLE = r"/\* ---- (?P<title>.*?) ----"
+DECLARED = re.compile(rf"{COMMENT}(?:{ENUM}|{STRUCT}|{CALL}|{REGISTERS}|{TITLE})", re.S)
 MEMBER = re.compile(r"    AHCI_(\w+) = (\d+),?(?: +/\* (.*?) \*/)?(?:\n|$)")
 FIELD = re.compile(r"    (\w+) (\*?)(\w+)(?:\[(\d+)\])?;")
 ARGUMENT = re.compile(r"(?:const )?(\w+) (\*?)(\w+)")
