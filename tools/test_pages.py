@@ -19,6 +19,7 @@ TESTS_HEAD = "1 test of [low](../low). First check: 9 s."
 SIZES = "| Crate | src | specs | proofs | must-fail | wrong-bodies |\n|---|---|---|---|---|---|\n"
 FILES: Dict[str, str] = {
     "README.md": "# The whole\n\nSee [the proofs](docs/PROOFS.md#wrong-bodies) and `crates/low/src/lib.rt`.\n\n```text\n[not a link](nowhere.md) `no/file.rt`\n```\n",
+    "docs/MAP.md": "# Map\n\n```mermaid\nflowchart BT\n    low\n```\n",
     "docs/PROOFS.md": "# Proofs\n\n## Wrong bodies\n\n"
     "| In the gate | Crate | Belief |\n|---|---|---|\n| `a_sum_is_0` | `low` | a sum |\n\n"
     "| Outside the gate | Crate | Belief |\n|---|---|---|\n| `a_sum_is_1` | `low` | a sum |\n\n"
@@ -44,7 +45,8 @@ class Pages(unittest.TestCase):
         for path, text in FILES.items():
             self.write(path, text)
         os.makedirs(os.path.join(self.room, "tools"))
-        shutil.copy(os.path.join(TOP, "tools/pages"), os.path.join(self.room, "tools/pages"))
+        for it in ("pages", "trusted.py", "drawing.py"):
+            shutil.copy(os.path.join(TOP, "tools", it), os.path.join(self.room, "tools", it))
         subprocess.run(["git", "init", "-q"], cwd=self.room, check=True)
 
     def write(self, path: str, text: str) -> None:
@@ -127,6 +129,26 @@ class Pages(unittest.TestCase):
         changed = before.replace("| 4 | 1 | 1 | 1 | 1 |", "| 4 | 2 | 1 | 1 | 1 |").replace("| 6 | 1 | 1 | 1 | 1 |", "| 6 | 2 | 1 | 1 | 1 |")
         self.assertEqual(changed, self.read("bench/PROVING.md"))
         self.finds([])
+
+    def test_a_picture_has_the_crates(self) -> None:
+        self.after("docs/MAP.md", "    low\n", "    high\n", "docs/MAP.md:1: the picture is not that of crates.txt (tools/pages --heads draws it)")
+
+    def test_a_picture_can_be_drawn(self) -> None:
+        before = self.read("docs/MAP.md")
+        self.write("docs/MAP.md", before.replace("    low\n", "    high\n    high --> low\n"))
+        self.assertEqual(0, self.run_with("--heads").returncode)
+        self.assertEqual(before, self.read("docs/MAP.md"))
+
+    def test_what_a_promise_rests_on_is_counted(self) -> None:
+        self.write("crates/low/specs/Sum.antt", "abbrev pub sum : ℕ → ℕ\n")
+        table = "\n| Definition | Definitions | Lines | Files | What it says |\n|---|---|---|---|---|\n| `sum` | 1 | 1 | 1 | a sum |\n| `low::sum` | 1 | 2 | 1 | the same |\n"
+        self.write("docs/PROOFS.md", FILES["docs/PROOFS.md"] + table)
+        last = self.read("docs/PROOFS.md").count("\n")
+        self.finds([f"docs/PROOFS.md:{last}: expected ['1', '1', '1']: tools/pages --sizes"])
+        self.assertEqual(0, self.run_with("--sizes").returncode)
+        self.finds([])
+        self.assertEqual("crates/low/specs/Sum.antt: 1\n1 definitions, 1 lines in 1 file\n", self.run_with("--trusted", "sum").stdout)
+        self.assertEqual((2, "tools/pages: difference: no definition of specs/ has that name\n"), ((ran := self.run_with("--trusted", "difference")).returncode, ran.stderr))
 
     def wants(self, crate: str, line: int, head: str) -> str:
         return f"crates/{crate}/README.md:{line}: the head is {head} (tools/pages --heads writes it)"
