@@ -11,6 +11,8 @@
 #include "vfio_user.h"
 #include "vhost.h"
 
+#include <limits.h>
+#include <malloc.h>
 #include <signal.h>
 #include <stdio.h>
 #include <sys/wait.h>
@@ -143,8 +145,15 @@ static void note(const char *line) {
 
 static const struct voice voice = {.put = log_complaint, .before = "--", .between = " "};
 
+/* The journal takes and frees the bytes of every write: the process keeps freed memory, and no page of it comes and goes. */
+static void keep_memory(void) {
+    mallopt(M_MMAP_THRESHOLD, 32 << 20);
+    mallopt(M_TRIM_THRESHOLD, INT_MAX);
+}
+
 int main(int count, char **words) {
     static struct settings settings; /* too large for the stack of a small thread */
+    keep_memory();
     say_begin(&voice);
     enum asked asked = settings_read(&settings, count, words);
     if (asked != ASKED_RUN)
