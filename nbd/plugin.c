@@ -190,6 +190,7 @@ static struct nbdkit_plugin plugin = {
     .config = ahci_config,
     .config_complete = ahci_config_complete,
     .config_help = settings_help,
+    .magic_config_key = "size", /* nbdkit ahci 1G */
     .get_ready = ahci_get_ready,
     .after_fork = ahci_after_fork,
     .cleanup = ahci_cleanup,

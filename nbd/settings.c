@@ -16,7 +16,7 @@
 
 const char settings_help[] =
     "sectors=N            sectors of 512 bytes, 1 to 4294967295 (default: those of the image, or 131072)\n"
-    "size=BYTES           the same in bytes, such as 100G or 1T\n"
+    "size=BYTES           the same in bytes, such as 100G or 1T; \"size=\" can be left out\n"
     "image=FILE           the sectors at the start; those that are written are written back to it\n"
     "sync=end|flush       when: at the end, or also at each flush (default end)\n"
     "depth=N              slots of the port, 1 to 32 (default 32)\n"
