@@ -94,7 +94,8 @@ static void write_breach(FILE *file, const struct breach *it) {
 }
 
 static int write_json(const struct judge *judge) {
-    FILE *file = fopen(judge->json, "w");
+    bool is_output = !strcmp(judge->json, "-");
+    FILE *file = is_output ? stdout : fopen(judge->json, "w");
     if (!file)
         return -1;
     fprintf(file, "{\"writes\": %" PRIu64 ", \"commands\": %" PRIu64 ", \"stretches\": %" PRIu32 ", \"rules\": [", judge->writes, judge->commands, judge->stretch);
@@ -106,7 +107,7 @@ static int write_json(const struct judge *judge) {
     recovery_write_json(&judge->recovery, file);
     fputs("}\n", file);
     bool failed = ferror(file);
-    return fclose(file) || failed ? -1 : 0;
+    return (is_output ? fflush(file) : fclose(file)) || failed ? -1 : 0;
 }
 
 /* How many rules were broken that the standard has. */

@@ -86,7 +86,7 @@ static const char help[] =
     "      --judge                  Writes which rules of AHCI 1.3.1 the guest's driver breaks to standard error, as it breaks them,\n"
     "                               and a table at the end; then what it did about each event of the script, and what became of its\n"
     "                               commands\n"
-    "      --json FILE              The same tables as JSON; judges also without --judge\n"
+    "      --json FILE              The same tables as JSON, to standard output if FILE is -; judges also without --judge\n"
     "      --judge-from N           Only the stretches from number N on count, in both tables and for the status. Stretch 1 begins\n"
     "                               with the guest, and another one with each reset of the HBA (GHC.HR) (default 1)\n"
     "      --slow-bits N            CR and FR of PxCMD change only after N reads of them, and CLO and HR go to 0 only then\n"
@@ -146,7 +146,7 @@ static int take_hold(struct settings *settings, const char *text) {
 }
 
 static int take_path(const char *name, const char *text, const char **path) {
-    if (!*text) {
+    if (!*text || (!strcmp(text, "-") && strcmp(name, "json"))) {
         say_expected(name, text, "%s", !strcmp(name, "record") ? "a folder" : !strcmp(name, "socket") ? "a path" : "a file");
         return -1;
     }
